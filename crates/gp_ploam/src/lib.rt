@@ -1,0 +1,12 @@
+// The messages of the activation protocol and their codes of thirteen octets.
+#![tactic(auto)]
+
+mod check;
+mod down;
+mod message;
+mod up;
+
+pub use check::{Mask, crc};
+pub use down::{decode_down, down_round_trip, encode_down};
+pub use message::{Down, PloamFault, Serial, Up};
+pub use up::{decode_up, encode_up, up_read_once, up_round_trip};
