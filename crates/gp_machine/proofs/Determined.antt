@@ -1,0 +1,36 @@
+-- One outcome for each reply.
+use Rattle.std.proofs.Common.{◌≡◌, ℕ, ◌≤◌, List, Option, None, Some, refl, sym, ap, ◌∙◌, arith}
+use Rattle.gp_ploam.specs.declared.message.Up.{Up}
+use Rattle.gp_ploam.specs.Mask.{mask_value}
+use Rattle.gp_ploam.specs.Up.{ReadsUp}
+use Rattle.gp_machine.specs.declared.event.Event.TheVariants.{Frame, Burst, Command}
+use Rattle.gp_machine.specs.State.{PortState, Rows, IsLeastRanging}
+use Rattle.gp_machine.specs.Outcomes.{Outcome}
+use Rattle.gp_machine.specs.Frame.{frame_outcome}
+use Rattle.gp_machine.specs.Burst.{burst_outcome}
+use Rattle.gp_machine.specs.Step.{Step, Hears, number_in}
+use Rattle.gp_machine.specs.OneStep.{IsDetermined}
+
+-- a code is read as one message at most
+abbrev pub OneReading : Type 0
+OneReading = (code : List ℕ) (mask : ℕ) (m n : Up) → ReadsUp code mask m → ReadsUp code mask n → m ≡ n
+
+pub one_least : (rows : Rows) (a b : Option ℕ) → IsLeastRanging rows a → IsLeastRanging rows b → a ≡ b
+one_least rows None None h k = refl
+one_least rows None (Some n) h k = absurd (h n k.0)
+one_least rows (Some n) None h k = absurd (k n h.0)
+one_least rows (Some m) (Some n) h k = let below = h.1 n k.0 in let above = k.1 m h.0 in let same : m ≡ n = omega arith in ap Some same
+
+pub one_hearing : OneReading → (mask : ℕ) (bytes : List ℕ) (a b : Option Up) → Hears mask bytes a → Hears mask bytes b → a ≡ b
+one_hearing one mask bytes None None h k = refl
+one_hearing one mask bytes None (Some n) h k = absurd (h k.check)
+one_hearing one mask bytes (Some m) None h k = absurd (k h.check)
+one_hearing one mask bytes (Some m) (Some n) h k = ap Some (one bytes mask m n h k)
+
+pub determined : OneReading → IsDetermined
+determined one u p Frame o q s t same_reply = s.2 ∙ ap (frame_outcome u p) (one_least p.rows s.0 t.0 s.1 t.1) ∙ sym t.2
+determined one u p (Burst at bytes) o q s t same_reply =
+    s.3 ∙ ap (λ (heard : Option Up). burst_outcome u p at heard (number_in o.answer.reply)) (one_hearing one (mask_value p.config.mask) bytes s.0 t.0 s.1 t.1)
+    ∙ ap (λ n. burst_outcome u p at t.0 n) (ap number_in same_reply)
+    ∙ sym t.3
+determined one u p (Command c) o q s t same_reply = s ∙ sym t

@@ -1,0 +1,2 @@
+pub mod SerialLists
+pub mod Determined

@@ -1,0 +1,92 @@
+-- A frame: the timer, the sending, the window, the decision.
+use Rattle.std.specs.Prelude.{ℕ, ◌+◌, ◌==◌, ◌&&◌, nat_lt, Bool, true, false, if◌then◌else◌, List, [], ◌∷◌, Option, None, Some, is_none}
+use Rattle.gp_ploam.specs.declared.message.Down.TheVariants.{UpstreamOverhead}
+use Rattle.gp_ploam.specs.declared.message.Down.{Down}
+use Rattle.gp_ranging.specs.declared.grant.Grant.{Grant}
+use Rattle.gp_ranging.specs.Window.{WindowState, fresh_window, window_after_frame}
+use Rattle.gp_common.specs.declared.common.Common.{Common}
+use Rattle.gp_common.specs.declared.common.Common.TheVariants.{Standby, Acquisition, Measuring}
+use Rattle.gp_common.specs.declared.decision.Decision.{Decision}
+use Rattle.gp_common.specs.declared.decision.Decision.TheVariants.{Nothing, Overhead, Ask}
+use Rattle.gp_common.specs.Decision.{decision_of}
+use Rattle.gp_machine.specs.declared.answer.Answer.{Answer}
+use Rattle.gp_machine.specs.declared.reply.Reply.TheVariants.{Ticked}
+use Rattle.gp_machine.specs.State.{PortState}
+use Rattle.gp_machine.specs.Outcomes.{Outcome, state_owing}
+
+-- in standby the timer rises, and at the search period it begins anew and a search is wanted
+abbrev pub state_after_timer : PortState → PortState
+state_after_timer p = by_common p.common
+  where
+    by_common : Common → PortState
+    by_common Standby =
+        if nat_lt 0 p.config.search_period
+        then (if p.timer + 1 == p.config.search_period then record p { timer = 0; wanted = true } else record p { timer = p.timer + 1 })
+        else p
+    by_common (Acquisition left) = p
+    by_common Measuring = p
+
+-- the first copy that is owed
+abbrev pub first_of : List Down → Option Down
+first_of [] = None
+first_of (m ∷ ms) = Some m
+
+-- the copies after the first
+abbrev pub rest_of : List Down → List Down
+rest_of [] = []
+rest_of (m ∷ ms) = ms
+
+-- the first copy is sent
+abbrev pub state_after_sending : PortState → PortState
+state_after_sending p = record p { owed = rest_of p.owed }
+
+-- the window after a frame: it has a frame less, and closes with its last
+abbrev pub window_left : Option WindowState → Option WindowState
+window_left None = None
+window_left (Some w) = window_after_frame w
+
+abbrev pub state_after_tick : PortState → PortState
+state_after_tick p = record p { window = window_left p.window }
+
+-- the state after the first three parts of a frame
+abbrev pub state_before_decision : PortState → PortState
+state_before_decision p = state_after_tick (state_after_sending (state_after_timer p))
+
+-- the port may decide: no window is open, and nothing is owed
+abbrev pub is_idle : PortState → Bool
+is_idle p = is_none p.window && is_none (first_of p.owed)
+
+-- what follows from a decision: Upstream_Overhead is owed, or a window opens
+abbrev pub state_after_decision : PortState → Common × Decision → PortState
+state_after_decision p (common, Nothing) = record p { common = common }
+state_after_decision p (common, Overhead) = state_owing (record p { common = common; wanted = false }) (UpstreamOverhead p.config.overhead)
+state_after_decision p (common, Ask grant) = record p { common = common; window = Some (fresh_window grant) }
+
+-- what a decision grants
+abbrev pub grant_of : Decision → Option Grant
+grant_of Nothing = None
+grant_of Overhead = None
+grant_of (Ask grant) = Some grant
+
+-- what a port decides after the first three parts of a frame, by the least ONU-ID of a ranging unit;
+-- no unit is polled
+abbrev pub decision_after : PortState → Option ℕ → Common × Decision
+decision_after p ranging = decision_of p.common p.wanted ranging None p.config.cycles
+
+-- the answer to a frame sends the first copy that was owed, and may grant
+abbrev pub frame_answer : PortState → Option Grant → Answer
+frame_answer p grant = record { reply = Ticked; sent = first_of p.owed; grant = grant; alarm = None }
+
+-- a frame; it decides where the port was idle when it began
+abbrev pub frame_outcome : ℕ → PortState → Option ℕ → Outcome
+frame_outcome u p ranging = by_idle (is_idle p)
+  where
+    before : PortState
+    before = state_before_decision p
+
+    decided : Common × Decision
+    decided = decision_after before ranging
+
+    by_idle : Bool → Outcome
+    by_idle true = record { answer = frame_answer p (grant_of decided.1); purse = u; state = state_after_decision before decided }
+    by_idle false = record { answer = frame_answer p None; purse = u; state = before }

@@ -1,0 +1,11 @@
+pub mod Refusals
+pub mod Config
+pub mod State
+pub mod Sound
+pub mod Outcomes
+pub mod Frame
+pub mod Burst
+pub mod Commands
+pub mod Step
+pub mod Run
+pub mod OneStep

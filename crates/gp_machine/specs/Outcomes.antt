@@ -1,0 +1,43 @@
+-- What a step gives, and the parts that the tables of all events share.
+use Rattle.std.specs.Prelude.{ℕ, ◌+◌, ◌==◌, ◌&&◌, nat_le, Bool, true, false, List, [], ◌∷◌, ◌++◌, length, Option, None, Some, option_map}
+use Rattle.gp_ploam.specs.declared.message.Down.{Down}
+use Rattle.gp_ranging.specs.Window.{marked_window}
+use Rattle.gp_machine.specs.declared.answer.Answer.{Answer}
+use Rattle.gp_machine.specs.declared.refusal.Refusal.{Refusal}
+use Rattle.gp_machine.specs.declared.reply.Reply.{Reply}
+use Rattle.gp_machine.specs.declared.reply.Reply.TheVariants.{Refused}
+use Rattle.gp_machine.specs.State.{PortState}
+
+-- what a step gives: its answer, the licences left in the purse, and the state after it
+pub record Outcome : Type 0 where
+  pub answer : Answer
+  pub purse : ℕ
+  pub state : PortState
+
+-- the outcome of a function that gives an answer and the licences left, and leaves the port so
+abbrev pub outcome_of : Answer × ℕ → PortState → Outcome
+outcome_of given p = record { answer = given.0; purse = given.1; state = p }
+
+-- an answer that sends, grants and raises nothing
+abbrev pub bare_answer : Reply → Answer
+bare_answer reply = record { reply = reply; sent = None; grant = None; alarm = None }
+
+-- nothing but a reply
+abbrev pub bare_outcome : ℕ → PortState → Reply → Outcome
+bare_outcome u p reply = record { answer = bare_answer reply; purse = u; state = p }
+
+-- the state that owes a message besides: three copies of it, after all that is owed
+abbrev pub state_owing : PortState → Down → PortState
+state_owing p message = record p { owed = p.owed ++ message ∷ message ∷ message ∷ [] }
+
+-- a burst or a command may owe a message: with it at most 189 copies are owed
+abbrev pub has_room : PortState → Bool
+has_room p = nat_le (length p.owed + 3) 189
+
+-- the state in which the open window has seen something
+abbrev pub state_seen : PortState → PortState
+state_seen p = record p { window = option_map marked_window p.window }
+
+-- a burst that is refused is seen by the window, and changes nothing else
+abbrev pub refused_burst : ℕ → PortState → Refusal → Outcome
+refused_burst u p refusal = bare_outcome u (state_seen p) (Refused refusal)
