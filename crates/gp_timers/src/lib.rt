@@ -5,3 +5,6 @@ mod tournament;
 mod wheel;
 
 pub use wheel::{TimerFault, Wheel};
+
+#[cfg(test)]
+mod tests;
