@@ -7,6 +7,6 @@ mod message;
 mod up;
 
 pub use check::{Mask, crc};
-pub use down::{decode_down, down_round_trip, encode_down};
+pub use down::{decode_down, down_read_once, down_round_trip, encode_down};
 pub use message::{Down, PloamFault, Serial, Up};
 pub use up::{decode_up, encode_up, up_read_once, up_round_trip};

@@ -24,7 +24,12 @@ fn up_octets(message: &Up) -> [u8; 12]
             let low = (random % 16) as u8 * 16 + flags;
             [onu, 1, a, b, c, d, e, f, g, h, high, low]
         }
+        Up::DyingGasp { onu } => [onu, 3, 0, 0, 0, 0, 0, 0, 0, 0, 0, 0],
         Up::NoMessage { onu } => [onu, 4, 0, 0, 0, 0, 0, 0, 0, 0, 0, 0],
+        Up::Acknowledge { onu, id, copy } => {
+            let [a, b, c, d, e, f, g, h, i] = copy;
+            [onu, 9, id, a, b, c, d, e, f, g, h, i]
+        }
         Up::Other { id, octet1, body } => {
             let [a, b, c, d, e, f, g, h, i, j] = body;
             [octet1, id, a, b, c, d, e, f, g, h, i, j]
@@ -49,7 +54,16 @@ fn up_from(octets: &[u8]) -> Up
             random: octets[10] as u16 * 16 + (octets[11] / 16) as u16,
             flags: octets[11] % 16,
         },
+        3 => Up::DyingGasp { onu: octet1 },
         4 => Up::NoMessage { onu: octet1 },
+        9 => Up::Acknowledge {
+            onu: octet1,
+            id: octets[2],
+            copy: [
+                octets[3], octets[4], octets[5], octets[6], octets[7], octets[8], octets[9],
+                octets[10], octets[11],
+            ],
+        },
         id => Up::Other {
             id,
             octet1,

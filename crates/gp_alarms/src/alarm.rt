@@ -1,0 +1,41 @@
+use std::fmt;
+
+use gp_ploam::Serial;
+
+/// What an alarm is about. The names are those of G.984.3, clause 11, without the unit's index; when
+/// each is given is this profile's own rule.
+#[derive(Clone, Copy, Debug, PartialEq, Eq)]
+pub enum AlarmKind {
+    /// Loss of signal: the unit did not answer its poll windows.
+    Los,
+    /// Loss of PLOAM: what came in its poll windows was no message of the unit.
+    Loam,
+    /// Loss of acknowledge: the unit answers, and acknowledges no Alloc-ID.
+    Loa,
+    /// Start-up failure: the unit was seen while ranging, and not ranged.
+    Suf,
+    /// A disabled unit asks for an ONU-ID.
+    Df,
+    /// Dying gasp: the unit said that its power fails.
+    Dg,
+}
+
+/// An alarm of the unit with this serial number.
+#[derive(Clone, Copy, Debug, PartialEq, Eq)]
+pub struct Alarm {
+    pub kind: AlarmKind,
+    pub serial: Serial,
+}
+
+impl fmt::Display for AlarmKind {
+    fn fmt<W: fmt::Write>(&self, f: &mut fmt::Formatter<W>) -> fmt::Result {
+        f.write_str(match self {
+            AlarmKind::Los => "LOS",
+            AlarmKind::Loam => "LOAM",
+            AlarmKind::Loa => "LOA",
+            AlarmKind::Suf => "SUF",
+            AlarmKind::Df => "DF",
+            AlarmKind::Dg => "DG",
+        })
+    }
+}

@@ -1,0 +1,12 @@
+-- The decisions of an acquisition.
+use Rattle.std.proofs.Common.{◌≡◌, List, [], ◌∷◌, length, refl, ap}
+use Rattle.std.specs.Prelude.{replicate}
+use Rattle.gp_ranging.specs.declared.grant.Grant.TheVariants.{Search}
+use Rattle.gp_common.specs.declared.common.Common.TheVariants.{Acquisition}
+use Rattle.gp_common.specs.declared.decision.Decision.TheVariants.{Ask}
+use Rattle.gp_common.specs.Laws.{Situation, OpensEachSearchWindow, decisions_in, common_after}
+
+-- with as many situations as search windows are left, each decision searches
+pub each_searches : OpensEachSearchWindow
+each_searches [] = (refl, refl)
+each_searches (now ∷ later) = (ap (λ ds. Ask Search ∷ ds) (each_searches later).0, (each_searches later).1)
