@@ -1,17 +1,17 @@
--- The rows of a unit's messages.
-use Rattle.std.proofs.Common.{◌≡◌, ℕ, zero, suc, ◌+◌, ◌*◌, ◌/◌, ◌%◌, ◌<◌, ◌≤◌, List, [], ◌∷◌, ◌++◌, length, map, refl, sym, ap, subst, ◌∙◌, arith, get_or, drop, take, length-append, replicate}
-use Rattle.std.proofs.Math.Seq.{take-append_seam, get_or-append_seam}
+-- The rows of a unit's messages: one case for each row.
+use Rattle.std.proofs.Common.{◌≡◌, ℕ, ◌+◌, ◌*◌, ◌/◌, ◌%◌, ◌≤◌, cond, eqb, List, [], ◌∷◌, length, map, refl, sym, ap, subst, ◌∙◌, arith, get_or, drop, take, length-append, ◌⊎◌, inl, inr}
 use Rattle.gp_ploam.specs.declared.message.Serial.{Serial}
 use Rattle.gp_ploam.specs.declared.message.Up.{Up}
-use Rattle.gp_ploam.specs.declared.message.Up.TheVariants.{SerialNumber, NoMessage, Other}
-use Rattle.gp_ploam.specs.Crc.{crc_of}
-use Rattle.gp_ploam.specs.Row.{Cell, Is, Free, Even, Upper, octet_of, written, AgreesAt, Agrees, with_check, HasRightCheck}
-use Rattle.gp_ploam.specs.Up.{up_row, IsFittingUp, IsProperUp, IsNamedUp, MatchesNoNamed, ReadsUp, code_of_up}
-use Rattle.gp_ploam.proofs.Rows.{agrees_exact, agrees-written, length-written, length-exact, agrees-split, Splits}
+use Rattle.gp_ploam.specs.declared.message.Up.TheVariants.{SerialNumber, DyingGasp, NoMessage, Acknowledge, Other}
+use Rattle.gp_ploam.specs.Row.{Cell, Is, Free, Agrees, AgreesAt}
+use Rattle.gp_ploam.specs.Up.{up_row, IsFittingUp, IsProperUp, IsNamedUp, ReadsUp, code_of_up}
+use Rattle.gp_ploam.proofs.Rows.{agrees_at, agrees_after, agrees_exact, agrees-split, code_reads, length-exact}
 
 pub proper_fits : (m : Up) → IsProperUp m → IsFittingUp m
 proper_fits (SerialNumber onu serial random flags) h = h
+proper_fits (DyingGasp onu) h = h
 proper_fits (NoMessage onu) h = h
+proper_fits (Acknowledge onu id copy) h = h
 proper_fits (Other id octet1 body) h = h.0
 
 pub length-up_row : (m : Up) → IsFittingUp m → length (up_row m) ≡ 12
@@ -19,80 +19,102 @@ length-up_row (SerialNumber onu serial random flags) h =
     let a = length-exact serial.0 in
     let b = length-append (map Is serial.0) (Is (random / 16) ∷ Is (random % 16 * 16 + flags) ∷ []) in
     let e = h.0 in omega arith
+length-up_row (DyingGasp onu) h = refl
 length-up_row (NoMessage onu) h = refl
+length-up_row (Acknowledge onu id copy) h = let a = length-exact copy in omega arith
 length-up_row (Other id octet1 body) h = let a = length-exact body in omega arith
 
--- two named messages that one list of octets agrees with are one
-serials : (a b : Serial) → a.0 ≡ b.0 → a ≡ b
-serials a b e = ap (λ (xs : List ℕ). let s : Serial = record { 0 = xs } in s) e
+abbrev serial_of : List ℕ → Serial
+serial_of xs = record { 0 = xs }
 
-not_named : (id octet1 : ℕ) (body octets : List ℕ) (m : Up) → IsNamedUp m → IsFittingUp m → IsProperUp (Other id octet1 body) → Agrees (up_row (Other id octet1 body)) octets → Agrees (up_row m) octets → ⊥
-not_named id octet1 body octets m named fits proper other row =
-    let e : octets ≡ octet1 ∷ id ∷ body = agrees_exact (octet1 ∷ id ∷ body) octets other in
-    proper.1 m named fits (subst (λ (bs : List ℕ). Agrees (up_row m) bs) e row)
+-- each octet of a code agrees with its cell
+octet_at : (m : Up) (bs : List ℕ) (i : ℕ) → Agrees (up_row m) bs → AgreesAt (get_or (up_row m) i (Free 0)) (get_or bs i 0)
+octet_at m = agrees_at (up_row m)
 
-tails : (r f q g : ℕ) (ds : List ℕ) → f < 16 → g < 16 → Agrees (Is (r / 16) ∷ Is (r % 16 * 16 + f) ∷ []) ds → Agrees (Is (q / 16) ∷ Is (q % 16 * 16 + g) ∷ []) ds → (r ≡ q) × (f ≡ g)
-tails r f q g [] h k x y = absurd x
-tails r f q g (a ∷ []) h k x y = absurd x.1
-tails r f q g (a ∷ b ∷ []) h k x y =
-    let e = x.0 in let e2 = x.1.0 in let e3 = y.0 in let e4 = y.1.0 in (omega arith, omega arith)
-tails r f q g (a ∷ b ∷ c ∷ ds) h k x y = absurd x.1.1
+-- a serial number with what stands after it
+abbrev serial_number : ℕ → List ℕ → List ℕ → Up
+serial_number onu serial rest =
+    SerialNumber onu (serial_of serial) (get_or rest 0 0 * 16 + get_or rest 1 0 / 16) (get_or rest 1 0 % 16)
 
-apart : (o p : ℕ) (m n : ℕ) (cells cells2 : List Cell) (bs : List ℕ) → m < n → Agrees (Is o ∷ Is m ∷ cells) bs → Agrees (Is p ∷ Is n ∷ cells2) bs → ⊥
-apart o p m n cells cells2 [] l x y = absurd x
-apart o p m n cells cells2 (a ∷ []) l x y = absurd x.1
-apart o p m n cells cells2 (a ∷ b ∷ bs) l x y = let e = x.1.0 in let f = y.1.0 in omega arith
+-- the named message with this identifier and these octets
+abbrev message_of : ℕ → List ℕ → Up
+message_of id bs =
+    cond (eqb id 1) (serial_number (get_or bs 0 0) (take 8 (drop 2 bs)) (drop 8 (drop 2 bs)))
+    (cond (eqb id 3) (DyingGasp (get_or bs 0 0))
+    (cond (eqb id 4) (NoMessage (get_or bs 0 0)) (Acknowledge (get_or bs 0 0) (get_or bs 2 0) (drop 3 bs))))
 
-heads : (o p : ℕ) (cells cells2 : List Cell) (bs : List ℕ) → Agrees (Is o ∷ cells) bs → Agrees (Is p ∷ cells2) bs → o ≡ p
-heads o p cells cells2 [] x y = absurd x
-heads o p cells cells2 (b ∷ bs) x y = let e = x.0 in let f = y.0 in cc
+abbrev message_at : List ℕ → Up
+message_at bs = message_of (get_or bs 1 0) bs
 
-same_serial : (o p r q f g : ℕ) (s t : Serial) (bs : List ℕ) → IsFittingUp (SerialNumber o s r f) → IsFittingUp (SerialNumber p t q g) →
-    Agrees (up_row (SerialNumber o s r f)) bs → Agrees (up_row (SerialNumber p t q g)) bs → SerialNumber o s r f ≡ SerialNumber p t q g
-same_serial o p r q f g s t [] h k x y = absurd x
-same_serial o p r q f g s t (a ∷ []) h k x y = absurd x.1
-same_serial o p r q f g s t (a ∷ b ∷ bs) h k x y =
-    let u = agrees-split s.0 bs (Is (r / 16) ∷ Is (r % 16 * 16 + f) ∷ []) x.1.1 in
-    let v = agrees-split t.0 bs (Is (q / 16) ∷ Is (q % 16 * 16 + g) ∷ []) y.1.1 in
-    let ls = h.0 in let lt = k.0 in let uf = u.front in let vf = v.front in
-    let e : s.0 ≡ t.0 = cc in
-    let es = serials s t e in
-    let n : length s.0 ≡ length t.0 = cc in
-    let w : Agrees (Is (q / 16) ∷ Is (q % 16 * 16 + g) ∷ []) (drop (length s.0) bs) = subst (λ (n : ℕ). Agrees (Is (q / 16) ∷ Is (q % 16 * 16 + g) ∷ []) (drop n bs)) (sym n) v.back in
-    let ends = tails r f q g (drop (length s.0) bs) h.2 k.2 u.back w in
-    let er = ends.0 in let ef = ends.1 in
-    let eo = heads o p (Is 1 ∷ map Is s.0 ++ Is (r / 16) ∷ Is (r % 16 * 16 + f) ∷ []) (Is 1 ∷ map Is t.0 ++ Is (q / 16) ∷ Is (q % 16 * 16 + g) ∷ []) (a ∷ b ∷ bs) x y in
-    cc
+-- the random delay and the flags stand in two octets
+delay_and_flags : (r f a b : ℕ) → f ≤ 15 → a ≡ r / 16 → b ≡ r % 16 * 16 + f → (a * 16 + b / 16 ≡ r) × (b % 16 ≡ f)
+delay_and_flags r f a b h e1 e2 = (omega arith, omega arith)
 
--- what is read is one message
-pub reads_once : (octets : List ℕ) (m n : Up) → IsProperUp m → IsProperUp n → Agrees (up_row m) octets → Agrees (up_row n) octets → m ≡ n
-reads_once bs (SerialNumber o s r f) (SerialNumber p t q g) h k x y = same_serial o p r q f g s t bs h k x y
-reads_once bs (SerialNumber o s r f) (NoMessage p) h k x y = absurd (apart o p 1 4 (map Is s.0 ++ Is (r / 16) ∷ Is (r % 16 * 16 + f) ∷ []) (replicate 10 (Free 0)) bs (omega arith) x y)
-reads_once bs (SerialNumber o s r f) (Other id one body) h k x y = absurd (not_named id one body bs (SerialNumber o s r f) tt h k y x)
-reads_once bs (NoMessage p) (SerialNumber o s r f) h k x y = absurd (apart o p 1 4 (map Is s.0 ++ Is (r / 16) ∷ Is (r % 16 * 16 + f) ∷ []) (replicate 10 (Free 0)) bs (omega arith) y x)
-reads_once bs (NoMessage o) (NoMessage p) h k x y = ap NoMessage (heads o p (Is 4 ∷ replicate 10 (Free 0)) (Is 4 ∷ replicate 10 (Free 0)) bs x y)
-reads_once bs (NoMessage o) (Other id one body) h k x y = absurd (not_named id one body bs (NoMessage o) tt h k y x)
-reads_once bs (Other id one body) (SerialNumber o s r f) h k x y = absurd (not_named id one body bs (SerialNumber o s r f) tt k h x y)
-reads_once bs (Other id one body) (NoMessage o) h k x y = absurd (not_named id one body bs (NoMessage o) tt k h x y)
-reads_once bs (Other id one body) (Other id2 one2 body2) h k x y =
-    let e : bs ≡ one ∷ id ∷ body = agrees_exact (one ∷ id ∷ body) bs x in
-    let f : bs ≡ one2 ∷ id2 ∷ body2 = agrees_exact (one2 ∷ id2 ∷ body2) bs y in
-    let g : one ∷ id ∷ body ≡ one2 ∷ id2 ∷ body2 = cc in
-    cc
+serial_at : (onu random flags : ℕ) (serial : Serial) (bs : List ℕ) → IsFittingUp (SerialNumber onu serial random flags) →
+    Agrees (up_row (SerialNumber onu serial random flags)) bs →
+    serial_number (get_or bs 0 0) (take 8 (drop 2 bs)) (drop 8 (drop 2 bs)) ≡ SerialNumber onu serial random flags
+serial_at onu random flags serial bs f h =
+    let m = SerialNumber onu serial random flags in
+    let ends : List Cell = Is (random / 16) ∷ Is (random % 16 * 16 + flags) ∷ [] in
+    let rest = drop 2 bs in
+    let first : get_or bs 0 0 ≡ onu = octet_at m bs 0 h in
+    let part = agrees-split serial.0 rest ends (agrees_after 2 (up_row m) bs h) in
+    let front : take 8 (drop 2 bs) ≡ serial.0 = subst (λ (k : ℕ). take k rest ≡ serial.0) f.0 part.front in
+    let back : Agrees ends (drop 8 rest) = subst (λ (k : ℕ). Agrees ends (drop k rest)) f.0 part.back in
+    let both = delay_and_flags random flags (get_or (drop 8 rest) 0 0) (get_or (drop 8 rest) 1 0) f.2 (agrees_at ends (drop 8 rest) 0 back) (agrees_at ends (drop 8 rest) 1 back) in
+    let delay : get_or (drop 8 (drop 2 bs)) 0 0 * 16 + get_or (drop 8 (drop 2 bs)) 1 0 / 16 ≡ random = both.0 in
+    let low : get_or (drop 8 (drop 2 bs)) 1 0 % 16 ≡ flags = both.1 in
+    rw (first, front, delay, low) refl
+
+-- what agrees with a named row is that row's message
+named_at : (m : Up) (bs : List ℕ) → IsNamedUp m → IsFittingUp m → Agrees (up_row m) bs → message_at bs ≡ m
+named_at (SerialNumber onu serial random flags) bs n f h =
+    ap (λ x. message_of x bs) (octet_at (SerialNumber onu serial random flags) bs 1 h) ∙ serial_at onu random flags serial bs f h
+named_at (DyingGasp onu) bs n f h = ap (λ x. message_of x bs) (octet_at (DyingGasp onu) bs 1 h) ∙ ap DyingGasp (octet_at (DyingGasp onu) bs 0 h)
+named_at (NoMessage onu) bs n f h = ap (λ x. message_of x bs) (octet_at (NoMessage onu) bs 1 h) ∙ ap NoMessage (octet_at (NoMessage onu) bs 0 h)
+named_at (Acknowledge onu id copy) bs n f h =
+    let first : get_or bs 0 0 ≡ onu = octet_at (Acknowledge onu id copy) bs 0 h in
+    let third : get_or bs 2 0 ≡ id = octet_at (Acknowledge onu id copy) bs 2 h in
+    let rest : drop 3 bs ≡ copy = agrees_exact copy (drop 3 bs) (agrees_after 3 (up_row (Acknowledge onu id copy)) bs h) in
+    ap (λ x. message_of x bs) (octet_at (Acknowledge onu id copy) bs 1 h) ∙ rw (first, third, rest) refl
+named_at (Other id octet1 body) bs n f h = absurd n
+
+-- a message is named, or an `Other`
+record IsOther (m : Up) : Type 0 where
+  id : ℕ
+  octet1 : ℕ
+  body : List ℕ
+  is : m ≡ Other id octet1 body
+
+kind : (m : Up) → IsNamedUp m ⊎ IsOther m
+kind (SerialNumber onu serial random flags) = inl tt
+kind (DyingGasp onu) = inl tt
+kind (NoMessage onu) = inl tt
+kind (Acknowledge onu id copy) = inl tt
+kind (Other id octet1 body) = inr (record { id = id; octet1 = octet1; body = body; is = refl })
+
+-- an `Other` and a named message are never read from the same octets
+other_apart : (id octet1 : ℕ) (body bs : List ℕ) (m : Up) → IsProperUp (Other id octet1 body) → Agrees (up_row (Other id octet1 body)) bs →
+    IsNamedUp m → IsFittingUp m → Agrees (up_row m) bs → ⊥
+other_apart id octet1 body bs m p x n f y =
+    let e : bs ≡ octet1 ∷ id ∷ body = agrees_exact (octet1 ∷ id ∷ body) bs x in
+    p.1 m n f (subst (λ (cs : List ℕ). Agrees (up_row m) cs) e y)
+
+-- no two messages are read from the same octets
+pub up_reads_once : (bs : List ℕ) (m n : Up) → IsProperUp m → IsProperUp n → Agrees (up_row m) bs → Agrees (up_row n) bs → m ≡ n
+up_reads_once bs m n p q x y = by_kind (kind m) (kind n)
+  where
+    by_kind : IsNamedUp m ⊎ IsOther m → IsNamedUp n ⊎ IsOther n → m ≡ n
+    by_kind (inl a) (inl b) = sym (named_at m bs a (proper_fits m p) x) ∙ named_at n bs b (proper_fits n q) y
+    by_kind (inl a) (inr b) = absurd (other_apart b.id b.octet1 b.body bs m (subst IsProperUp b.is q) (subst (λ (k : Up). Agrees (up_row k) bs) b.is y) a (proper_fits m p) x)
+    by_kind (inr a) (inl b) = absurd (other_apart a.id a.octet1 a.body bs n (subst IsProperUp a.is p) (subst (λ (k : Up). Agrees (up_row k) bs) a.is x) b (proper_fits n q) y)
+    by_kind (inr a) (inr b) =
+        let e : bs ≡ a.octet1 ∷ a.id ∷ a.body = agrees_exact (a.octet1 ∷ a.id ∷ a.body) bs (subst (λ (k : Up). Agrees (up_row k) bs) a.is x) in
+        let f : bs ≡ b.octet1 ∷ b.id ∷ b.body = agrees_exact (b.octet1 ∷ b.id ∷ b.body) bs (subst (λ (k : Up). Agrees (up_row k) bs) b.is y) in
+        let g : a.octet1 ∷ a.id ∷ a.body ≡ b.octet1 ∷ b.id ∷ b.body = sym e ∙ f in
+        let same : Other a.id a.octet1 a.body ≡ Other b.id b.octet1 b.body = cc in
+        a.is ∙ same ∙ sym b.is
 
 -- a code is read as its message
-pub code_reads : (m : Up) (mask : ℕ) → IsProperUp m → ReadsUp (code_of_up m mask) mask m
-code_reads m mask h =
-    let n = length-up_row m (proper_fits m h) in
-    let octets = written (up_row m) in
-    let long : length (written (up_row m)) ≡ 12 = length-written (up_row m) ∙ n in
-    let front : take 12 (code_of_up m mask) ≡ written (up_row m) =
-    subst (λ (n : ℕ). take n (code_of_up m mask) ≡ written (up_row m)) long (take-append_seam (written (up_row m)) (crc_of (written (up_row m)) mask ∷ [])) in
-    record {
-      long = length-append (written (up_row m)) (crc_of (written (up_row m)) mask ∷ []) ∙ ap (λ k. k + 1) long;
-      check =
-          subst (λ (n : ℕ). get_or (code_of_up m mask) n 0 ≡ crc_of (written (up_row m)) mask) long (get_or-append_seam (written (up_row m)) (crc_of (written (up_row m)) mask) [] 0)
-          ∙ ap (λ bs. crc_of bs mask) (sym front);
-      proper = h;
-      row = subst (λ (bs : List ℕ). Agrees (up_row m) bs) (sym front) (agrees-written (up_row m));
-    }
+pub up_code_reads : (m : Up) (mask : ℕ) → IsProperUp m → ReadsUp (code_of_up m mask) mask m
+up_code_reads m mask h = code_reads up_row IsProperUp m mask h (length-up_row m (proper_fits m h))

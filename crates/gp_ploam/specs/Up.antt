@@ -1,43 +1,48 @@
--- The messages of a unit, and the rows of their codes.
-use Rattle.std.specs.Prelude.{ℕ, ◌≡◌, ◌*◌, ◌+◌, ◌/◌, ◌%◌, ◌^◌, ◌<◌, ◌≤◌, List, [], ◌∷◌, ◌++◌, length, take, map, replicate}
+-- The messages of a unit, and the rows of their codes (G.984.3, clause 9).
+use Rattle.std.specs.Prelude.{ℕ, ◌≡◌, ◌*◌, ◌+◌, ◌/◌, ◌%◌, ◌≤◌, List, [], ◌∷◌, ◌++◌, length, map, replicate, slice_index}
 use Rattle.gp_ploam.specs.declared.message.Up.{Up}
-use Rattle.gp_ploam.specs.declared.message.Up.TheVariants.{SerialNumber, NoMessage, Other}
-use Rattle.gp_ploam.specs.Row.{Cell, Is, Free, Agrees, written, with_check, HasRightCheck}
+use Rattle.gp_ploam.specs.declared.message.Up.TheVariants.{SerialNumber, DyingGasp, NoMessage, Acknowledge, Other}
+use Rattle.gp_ploam.specs.Row.{Cell, Is, Free, Agrees, Reads, written, with_check}
 
+-- the table of codes: octet 1, the identifier, and octets 3 to 12
 abbrev pub up_row : Up → List Cell
 up_row (SerialNumber onu serial random flags) =
     Is onu ∷ Is 1 ∷ map Is serial.0 ++ Is (random / 16) ∷ Is (random % 16 * 16 + flags) ∷ []
+up_row (DyingGasp onu) = Is onu ∷ Is 3 ∷ replicate 10 (Free 0)
 up_row (NoMessage onu) = Is onu ∷ Is 4 ∷ replicate 10 (Free 0)
+up_row (Acknowledge onu id copy) = Is onu ∷ Is 9 ∷ Is id ∷ map Is copy
 up_row (Other id octet1 body) = Is octet1 ∷ Is id ∷ map Is body
 
--- a value of its type whose fields have room in their row
+-- each field has its length, and room in its row
 abbrev pub IsFittingUp : Up → Type 0
-IsFittingUp (SerialNumber onu serial random flags) = (length serial.0 ≡ 8) × (random < 4096) × (flags < 16)
+IsFittingUp (SerialNumber onu serial random flags) = (length serial.0 ≡ 8) × (random ≤ 4095) × (flags ≤ 15)
+IsFittingUp (DyingGasp onu) = Unit {0}
 IsFittingUp (NoMessage onu) = Unit {0}
+IsFittingUp (Acknowledge onu id copy) = length copy ≡ 9
 IsFittingUp (Other id octet1 body) = length body ≡ 10
 
+-- every message but `Other` has a row of its own
 abbrev pub IsNamedUp : Up → Type 0
-IsNamedUp (SerialNumber onu serial random flags) = Unit {0}
-IsNamedUp (NoMessage onu) = Unit {0}
 IsNamedUp (Other id octet1 body) = ⊥
+IsNamedUp _ = Unit {0}
 
 -- no named row agrees with these twelve octets
-abbrev pub MatchesNoNamed : List ℕ → Type 0
-MatchesNoNamed octets = (m : Up) → IsNamedUp m → IsFittingUp m → Agrees (up_row m) octets → ⊥
+abbrev pub MatchesNoNamedUp : List ℕ → Type 0
+MatchesNoNamedUp octets = (m : Up) → IsNamedUp m → IsFittingUp m → Agrees (up_row m) octets → ⊥
 
--- an `Other` matches no named row
+-- a message that its own code stands for: its fields fit, and an `Other` has the octets of no named message
 abbrev pub IsProperUp : Up → Type 0
-IsProperUp (SerialNumber onu serial random flags) = IsFittingUp (SerialNumber onu serial random flags)
-IsProperUp (NoMessage onu) = IsFittingUp (NoMessage onu)
-IsProperUp (Other id octet1 body) = (length body ≡ 10) × MatchesNoNamed (octet1 ∷ id ∷ body)
+IsProperUp (Other id octet1 body) = (length body ≡ 10) × MatchesNoNamedUp (octet1 ∷ id ∷ body)
+IsProperUp m = IsFittingUp m
 
 -- the thirteen octets of a message
 abbrev pub code_of_up : Up → ℕ → List ℕ
 code_of_up m mask = with_check (written (up_row m)) mask
 
--- the octets are read as this message
-pub record ReadsUp (code : List ℕ) (mask : ℕ) (m : Up) : Type 0 where
-  pub long : length code ≡ 13
-  pub check : HasRightCheck code mask
-  pub proper : IsProperUp m
-  pub row : Agrees (up_row m) (take 12 code)
+-- a code is read as this message
+abbrev pub ReadsUp : List ℕ → ℕ → Up → Type 0
+ReadsUp = Reads up_row IsProperUp
+
+-- octet 1 of a message's code
+abbrev pub octet1_of : Up → ℕ
+octet1_of m = slice_index (written (up_row m)) 0

@@ -1,0 +1,19 @@
+-- Serial numbers, compared.
+use Rattle.std.specs.Prelude.{ℕ, Bool, List, refl, nat_eq}
+use Rattle.std.specs.Ordering.{nat_cmp}
+use Rattle.std.specs.declared.cmp.Ordering.{Ordering}
+use Rattle.std.specs.Cmp.Lexicographic.{slice_cmp, pointwise}
+use Rattle.std.specs.Coded.{Coded, code_by, coded_list, coded_ℕ}
+use Rattle.gp_ploam.specs.declared.message.Serial.{Serial}
+
+-- the order of serial numbers: by the first octet that differs
+abbrev pub serial_cmp : Serial → Serial → Ordering
+serial_cmp a b = slice_cmp nat_cmp a.0 b.0
+
+-- whether two serial numbers are one
+abbrev pub same_serial : Serial → Serial → Bool
+same_serial a b = pointwise nat_eq a.0 b.0
+
+-- a serial number is stored as its octets
+abbrev pub coded_serial : Coded Serial
+coded_serial = code_by (List ℕ) (coded_list coded_ℕ) (λ s. s.0) (λ xs. record { 0 = xs }) (λ _. refl)
