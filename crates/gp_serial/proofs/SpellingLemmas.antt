@@ -34,7 +34,7 @@ fault_in (Err f) = f
 abbrev pub read_as : List ℕ → Read
 read_as octets = Ok (record { 0 = octets })
 
-drop_four : (front back : List ℕ) → length front ≡ 4 → drop 4 (front ++ back) ≡ back
+pub drop_four : (front back : List ℕ) → length front ≡ 4 → drop 4 (front ++ back) ≡ back
 drop_four front back four = subst (λ (n : ℕ). drop n (front ++ back) ≡ back) four (drop-append_seam front back)
 
 -- ---- what is read, by the text's length

@@ -42,9 +42,13 @@ HasFault text fault.Digit =
     ⊎ ((length text ≡ 16) × (list_all is_hex_digit text ≡ false))
 HasFault text fault.OutOfMemory = ⊥
 
+-- the serial number of these octets
+abbrev pub serial_with : List ℕ → Serial
+serial_with octets = record { 0 = octets }
+
 -- the vendor code, followed by what the digits say
 abbrev pub serial_or_fault : List ℕ → Result (List ℕ) FromHexError → Result Serial SerialFault
-serial_or_fault vendor (Ok octets) = Ok (record { 0 = vendor ++ octets })
+serial_or_fault vendor (Ok octets) = Ok (serial_with (vendor ++ octets))
 serial_or_fault vendor (Err e) = Err fault.Digit
 
 -- the serial number that a text spells, or its first fault

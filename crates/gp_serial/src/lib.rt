@@ -3,6 +3,8 @@
 
 mod fault;
 mod reading;
+mod text;
 
 pub use fault::SerialFault;
 pub use reading::{parse_serial, spellings_are_read};
+pub use text::{SerialText, push_serial_text, serial_text, text_spells_serial};
