@@ -43,24 +43,26 @@ newcomer_outcome u p s n =
     else (if has_room p then bare_outcome (u - 1) (state_assigned p s n) (Found n) else refused_burst u p Busy))
     else refused_burst u p NoId
 
--- a unit that is active already: where it is ranging it is told its own ONU-ID again
-abbrev pub known_outcome : ℕ → PortState → Serial → Row → Outcome
-known_outcome u p s row = by_phase row.phase
-  where
-    by_phase : Phase → Outcome
-    by_phase (Operating eqd dark garbled) = refused_burst u p WrongWindow
-    by_phase (Ranging attempts seen) =
-        if list_any (is_assign row.onu s) p.owed then bare_outcome u p (Repeat row.onu)
-        else (if has_room p then bare_outcome u (state_assigned p s row.onu) (Again row.onu) else refused_burst u p Busy)
+-- a ranging unit is told its own ONU-ID again, but where it is still to be told it
+abbrev pub again_outcome : ℕ → PortState → Serial → ℕ → Outcome
+again_outcome u p s n =
+    if list_any (is_assign n s) p.owed then bare_outcome u p (Repeat n)
+    else (if has_room p then bare_outcome u (state_assigned p s n) (Again n) else refused_burst u p Busy)
+
+-- a unit that is active already, by its phase
+abbrev pub active_outcome : ℕ → PortState → Serial → ℕ → Phase → Outcome
+active_outcome u p s n (Ranging attempts seen) = again_outcome u p s n
+active_outcome u p s n (Operating eqd dark garbled) = refused_burst u p WrongWindow
+
+-- an admitted unit in a search window, by the row that it has
+abbrev pub admitted_outcome : ℕ → PortState → Serial → ℕ → Option Row → Outcome
+admitted_outcome u p s n None = newcomer_outcome u p s n
+admitted_outcome u p s n (Some row) = active_outcome u p s row.onu row.phase
 
 -- a serial number in a search window
 abbrev pub serial_outcome : ℕ → PortState → Serial → ℕ → Outcome
 serial_outcome u p s n =
-    if list_any (same_serial s) p.config.admitted then by_row (get p.rows s) else refused_burst u p NotAdmitted
-  where
-    by_row : Option Row → Outcome
-    by_row None = newcomer_outcome u p s n
-    by_row (Some row) = known_outcome u p s row
+    if list_any (same_serial s) p.config.admitted then admitted_outcome u p s n (get p.rows s) else refused_burst u p NotAdmitted
 
 -- a message in a search window: it has to be a serial number from a unit without an ONU-ID
 abbrev pub search_outcome : ℕ → PortState → ℕ → Up → Outcome
@@ -82,31 +84,33 @@ measured_outcome u p at s n =
     if nat_lt p.config.teqd at then bare_outcome u (state_seen p) (TooFar n)
     else (if has_room p then bare_outcome u (state_ranged p s n (p.config.teqd - at)) (Ranged n (p.config.teqd - at)) else refused_burst u p Busy)
 
--- a message in the window of the ranging unit with ONU-ID n: octet 1 has to be n
-abbrev pub range_outcome : ℕ → PortState → ℕ → ℕ → Up → Outcome
-range_outcome u p at n m = if octet1_of m == n then by_message m else refused_burst u p WrongWindow
-  where
-    by_row : Serial → Option Row → Outcome
-    by_row s None = refused_burst u p WrongWindow
-    by_row s (Some row) = if row.onu == n then measured_outcome u p at s n else refused_burst u p WrongWindow
+-- a serial number in the window of the ranging unit with ONU-ID n, by the row that it has: it has to be that unit
+abbrev pub row_outcome : ℕ → PortState → ℕ → ℕ → Serial → Option Row → Outcome
+row_outcome u p at n s None = refused_burst u p WrongWindow
+row_outcome u p at n s (Some row) = if row.onu == n then measured_outcome u p at s n else refused_burst u p WrongWindow
 
-    by_message : Up → Outcome
-    by_message (SerialNumber onu s random flags) = by_row s (get p.rows s)
-    by_message _ = bare_outcome u (state_seen p) (StillRanging n)
+-- a message from the unit that is asked
+abbrev pub asked_outcome : ℕ → PortState → ℕ → ℕ → Up → Outcome
+asked_outcome u p at n (SerialNumber onu s random flags) = row_outcome u p at n s (get p.rows s)
+asked_outcome u p at n _ = bare_outcome u (state_seen p) (StillRanging n)
+
+-- a message in the window of the ranging unit with ONU-ID n: its octet 1 has to be n
+abbrev pub range_outcome : ℕ → PortState → ℕ → ℕ → Up → Outcome
+range_outcome u p at n m = if octet1_of m == n then asked_outcome u p at n m else refused_burst u p WrongWindow
 
 -- ---- any window
 
--- a burst that is read as this message, or None where its check octet is wrong; n is the ONU-ID that a
--- new unit gets
-abbrev pub burst_outcome : ℕ → PortState → ℕ → Option Up → ℕ → Outcome
-burst_outcome u p at heard n = by_window p.window
-  where
-    by_heard : Grant → Option Up → Outcome
-    by_heard grant None = refused_burst u p Garbled
-    by_heard Search (Some m) = search_outcome u p n m
-    by_heard (Range onu) (Some m) = range_outcome u p at onu m
-    by_heard (Poll onu) (Some m) = refused_burst u p WrongWindow
+-- a burst in the window of a grant, read as a message, or None where its check octet is wrong
+abbrev pub heard_outcome : ℕ → PortState → ℕ → ℕ → Grant → Option Up → Outcome
+heard_outcome u p at n grant None = refused_burst u p Garbled
+heard_outcome u p at n Search (Some m) = search_outcome u p n m
+heard_outcome u p at n (Range onu) (Some m) = range_outcome u p at onu m
+heard_outcome u p at n (Poll onu) (Some m) = refused_burst u p WrongWindow
 
-    by_window : Option WindowState → Outcome
-    by_window None = bare_outcome u p (Refused Stray)
-    by_window (Some w) = by_heard w.grant heard
+-- a burst, by the open window; n is the ONU-ID that a new unit gets
+abbrev pub window_outcome : ℕ → PortState → ℕ → Option Up → ℕ → Option WindowState → Outcome
+window_outcome u p at heard n None = bare_outcome u p (Refused Stray)
+window_outcome u p at heard n (Some w) = heard_outcome u p at n w.grant heard
+
+abbrev pub burst_outcome : ℕ → PortState → ℕ → Option Up → ℕ → Outcome
+burst_outcome u p at heard n = window_outcome u p at heard n p.window

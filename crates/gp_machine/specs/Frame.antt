@@ -14,17 +14,21 @@ use Rattle.gp_machine.specs.declared.reply.Reply.TheVariants.{Ticked}
 use Rattle.gp_machine.specs.State.{PortState}
 use Rattle.gp_machine.specs.Outcomes.{Outcome, state_owing}
 
--- in standby the timer rises, and at the search period it begins anew and a search is wanted
+-- the timer rises by one, and at the search period it begins anew and a search is wanted
+abbrev pub state_timed : PortState → PortState
+state_timed p = if p.timer + 1 == p.config.search_period then record p { timer = 0; wanted = true } else record p { timer = p.timer + 1 }
+
+abbrev pub is_standby : Common → Bool
+is_standby Standby = true
+is_standby (Acquisition left) = false
+is_standby Measuring = false
+
+-- the timer runs in standby alone, and only where there is a search period
+abbrev pub runs_timer : PortState → Bool
+runs_timer p = is_standby p.common && nat_lt 0 p.config.search_period
+
 abbrev pub state_after_timer : PortState → PortState
-state_after_timer p = by_common p.common
-  where
-    by_common : Common → PortState
-    by_common Standby =
-        if nat_lt 0 p.config.search_period
-        then (if p.timer + 1 == p.config.search_period then record p { timer = 0; wanted = true } else record p { timer = p.timer + 1 })
-        else p
-    by_common (Acquisition left) = p
-    by_common Measuring = p
+state_after_timer p = if runs_timer p then state_timed p else p
 
 -- the first copy that is owed
 abbrev pub first_of : List Down → Option Down
@@ -68,8 +72,7 @@ grant_of Nothing = None
 grant_of Overhead = None
 grant_of (Ask grant) = Some grant
 
--- what a port decides after the first three parts of a frame, by the least ONU-ID of a ranging unit;
--- no unit is polled
+-- what a port decides, by the least ONU-ID of a ranging unit; no unit is polled
 abbrev pub decision_after : PortState → Option ℕ → Common × Decision
 decision_after p ranging = decision_of p.common p.wanted ranging None p.config.cycles
 
@@ -77,9 +80,10 @@ decision_after p ranging = decision_of p.common p.wanted ranging None p.config.c
 abbrev pub frame_answer : PortState → Option Grant → Answer
 frame_answer p grant = record { reply = Ticked; sent = first_of p.owed; grant = grant; alarm = None }
 
--- a frame; it decides where the port was idle when it began
-abbrev pub frame_outcome : ℕ → PortState → Option ℕ → Outcome
-frame_outcome u p ranging = by_idle (is_idle p)
+-- a frame in which the port decides
+abbrev pub deciding_frame : ℕ → PortState → Option ℕ → Outcome
+deciding_frame u p ranging =
+    record { answer = frame_answer p (grant_of decided.1); purse = u; state = state_after_decision before decided }
   where
     before : PortState
     before = state_before_decision p
@@ -87,6 +91,10 @@ frame_outcome u p ranging = by_idle (is_idle p)
     decided : Common × Decision
     decided = decision_after before ranging
 
-    by_idle : Bool → Outcome
-    by_idle true = record { answer = frame_answer p (grant_of decided.1); purse = u; state = state_after_decision before decided }
-    by_idle false = record { answer = frame_answer p None; purse = u; state = before }
+-- a frame in which it does not
+abbrev pub waiting_frame : ℕ → PortState → Outcome
+waiting_frame u p = record { answer = frame_answer p None; purse = u; state = state_before_decision p }
+
+-- a frame, with the least ONU-ID of a ranging unit; the port decides where it was idle when the frame began
+abbrev pub frame_outcome : ℕ → PortState → Option ℕ → Outcome
+frame_outcome u p ranging = if is_idle p then deciding_frame u p ranging else waiting_frame u p

@@ -16,7 +16,7 @@ pub use admitted::Admitted;
 pub use answer::Answer;
 pub use config::PortConfig;
 pub use entry::{Entry, Receipt};
-pub use one_step::one_outcome;
+pub use one_step::{one_outcome, sound_step, step_keeps_licences};
 pub use event::{Command, Event};
 pub use refusal::Refusal;
 pub use reply::Reply;

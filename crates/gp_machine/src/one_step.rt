@@ -1,4 +1,4 @@
-ghost use Rattle.gp_machine.specs.OneStep.{IsDetermined};
+ghost use Rattle.gp_machine.specs.OneStep.{IsDetermined, KeepsLicences, KeepsSound};
 
 use gp_ploam::up_read_once;
 
@@ -8,3 +8,13 @@ pub fn one_outcome()
 {
     up_read_once();
 }
+
+/// A step from a sound state ends in a sound one.
+pub fn sound_step()
+    ensures { KeepsSound }
+{}
+
+/// A step neither makes nor loses a licence.
+pub fn step_keeps_licences()
+    ensures { KeepsLicences }
+{}
