@@ -4,3 +4,8 @@ pub mod Cases
 pub mod Licences
 pub mod SoundRows
 pub mod SoundSteps
+pub mod StepCases
+pub mod RunParts
+pub mod OwedMessages
+pub mod MeasuredDelays
+pub mod ProperMessages

@@ -9,3 +9,6 @@ pub mod Commands
 pub mod Step
 pub mod Run
 pub mod OneStep
+pub mod Runs
+pub mod Messages
+pub mod Delays
