@@ -38,8 +38,8 @@ impl<L: Ledger> LicenceBook<L> {
     /// `blank` is a new ledger of `MOST_LICENCES` parts, made by `Blank::new`, and `L` its name.
     pub fn new(blank: Blank, total: u32) -> LicenceBook<L>
         requires name { blank.name ≡ L.name }
-        requires parts { (blank.parts ≡ L.parts) × (L.parts ≡ 4064) }
-        requires total { total ≤ 4064 }
+        requires parts { (blank.parts ≡ L.parts) × (L.parts ≡ MOST_LICENCES) }
+        requires total { total ≤ MOST_LICENCES }
         ensures free { result.free ≡ total }
         ensures total { result.total ≡ total }
     {
@@ -61,7 +61,7 @@ impl<L: Ledger> LicenceBook<L> {
     /// How many licences the book was made with.
     pub fn total(&self) -> u32
         ensures total { result ≡ self.now.total }
-        ensures most { result ≤ 4064 }
+        ensures most { result ≤ MOST_LICENCES }
     {
         self.total
     }

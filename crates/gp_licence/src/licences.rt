@@ -109,12 +109,12 @@ impl<L: Ledger> Licences<L> {
         ensures one { result ≡ 1 }
         ensures rest { self.new + 1 ≡ self.old }
     {
-        let Some(stake) = &mut self.stake else {
+        let Licences { count, stake } = self;
+        let Some(stake) = stake else {
             unreachable!();
         };
-        let one = stake.split_one();
-        self.count -= 1;
-        Licences::on_stake(1, one)
+        *count -= 1;
+        Licences::on_stake(1, stake.split_one())
     }
 
     /// Ends a value that holds no licence.

@@ -4,9 +4,10 @@
 mod check;
 mod down;
 mod message;
+mod octets;
 mod up;
 
 pub use check::{Mask, crc};
-pub use down::{decode_down, down_read_once, down_round_trip, encode_down};
+pub use down::{decode_down, down_read_once, down_round_trip, encode_down, is_proper};
 pub use message::{Down, PloamFault, Serial, Up};
-pub use up::{decode_up, encode_up, up_read_once, up_round_trip};
+pub use up::{decode_up, encode_up, is_proper_up, up_read_once, up_round_trip};

@@ -1,0 +1,14 @@
+use Rattle.std.proofs.Common.{◌≡◌, ◌≤◌, false, length}
+use Rattle.std.specs.Io.KnownBytes.{Consumes}
+use Rattle.gp_stream.specs.Source.{reader_of, reads_left, has_failed}
+use Rattle.gp_stream.specs.declared.reading.TheConstants.{MOST_BYTES}
+use Rattle.gp_stream.proofs.reading.read_all.Given as goal
+
+abbrev pub invariant-reads : goal.invariant-reads
+invariant-reads g l = record {
+  consumed : Consumes (g.R.Read.remaining (reader_of l.fn.source)) (g.R.Read.remaining (reader_of l.source)) l.bytes.items;
+  short : length l.bytes.items ≤ MOST_BYTES;
+}
+
+abbrev pub decreases-reads : goal.decreases-reads
+decreases-reads g l = reads_left l.source

@@ -1,0 +1,14 @@
+//! Reading a whole input within bounds, and writing that gathers and stops at its first fault.
+#![tactic(auto)]
+
+mod reading;
+mod sink;
+mod source;
+
+#[cfg(test)]
+mod tests;
+
+
+pub use reading::{MOST_BYTES, SourceFault, read_all};
+pub use sink::{GATHERED_BYTES, Sink, WriteStopped};
+pub use source::{MOST_READS, Source};

@@ -1,0 +1,60 @@
+ghost use Rattle.std.specs.Prelude.{◌≡◌, ◌≢◌, ◌<◌, ◌≤◌, ◌⊎◌, ◌↔◌, IfOk, List, ℕ, length, vec_len, true, false};
+ghost use Rattle.gp_stream.specs.Source.{source_state, ReadsWhole, ReadsTooMuch, WasReadable};
+
+use crate::source::Source;
+use std::alloc::Global;
+use std::io::Read;
+use thiserror::Error;
+
+/// The most bytes that an input may have.
+pub const MOST_BYTES: usize = 1_048_576;
+
+/// How many bytes are asked for in one read.
+const BLOCK_BYTES: usize = 16_384;
+
+/// Why the whole input was not read.
+#[derive(Clone, Copy, Debug, PartialEq, Eq, Error)]
+pub enum SourceFault {
+    #[error("a read failed, or the input took too many reads")]
+    Read,
+    #[error("the input is too long")]
+    TooLong,
+    #[error("out of memory")]
+    OutOfMemory,
+}
+
+/// All bytes of the input.
+///
+/// Reading stops at the first read that fails, whatever its error, and where more than
+/// [`MOST_BYTES`] bytes have come. Of a source with a failed read nothing more is read.
+pub fn read_all<R: Read>(alloc: Global, source: &mut Source<R>) -> Result<Vec<u8>, SourceFault>
+    ensures whole { IfOk result (λ bytes. ReadsWhole (source_state R.remaining source.old) (source_state R.remaining source.new) bytes.items) }
+    ensures short { IfOk result (λ bytes. vec_len bytes ≤ MOST_BYTES) }
+    ensures too_long { result ≡ Err SourceFault.TooLong → ReadsTooMuch MOST_BYTES (source_state R.remaining source.old) (source_state R.remaining source.new) }
+
+    // A failed read is always answered, and only it and the bound of reads are.
+    ensures read { result ≡ Err SourceFault.Read → let now = source_state R.remaining source.new in (now.has_failed ≡ true) ⊎ (now.reads_left ≡ 0) }
+    ensures failed { let now = source_state R.remaining source.new in now.has_failed ≡ true → result ≡ Err SourceFault.Read }
+
+    // Of a known input, memory aside, the length alone decides.
+    ensures exact { (input : List ℕ) → WasReadable (source_state R.remaining source.old) (source_state R.remaining source.new) input
+        → result ≢ Err SourceFault.OutOfMemory → (MOST_BYTES < length input) ↔ (result ≡ Err SourceFault.TooLong) }
+{
+    let mut bytes = Vec::new(alloc);
+    let mut block = [0u8; BLOCK_BYTES];
+    'reads: while source.can_read() {
+        match source.read(&mut block) {
+            Err(_) => return Err(SourceFault::Read),
+            Ok(0) => return Ok(bytes),
+            Ok(count) => {
+                if bytes.extend_from_slice(&block[..count]).is_err() {
+                    return Err(SourceFault::OutOfMemory);
+                }
+                if bytes.len() > MOST_BYTES {
+                    return Err(SourceFault::TooLong);
+                }
+            }
+        }
+    }
+    Err(SourceFault::Read)
+}

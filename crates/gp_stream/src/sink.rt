@@ -1,0 +1,130 @@
+ghost use Rattle.std.specs.Prelude.{◌≡◌, ◌+◌, ◌≤◌, ◌||◌, [], IfOk, OnOk, OnErr, IsOk, IsErr, IsTrue, ℕ, false, length, take, is_err};
+ghost use Rattle.std.specs.Io.KnownBytes.{Appends, Keeps};
+
+use std::alloc::{AllocError, Global};
+use std::io::Write;
+use thiserror::Error;
+
+/// How many bytes a sink gathers before it writes them.
+pub const GATHERED_BYTES: usize = 65_536;
+
+/// A write failed or took nothing.
+#[derive(Clone, Copy, Debug, PartialEq, Eq, Error)]
+#[error("a write failed or took nothing")]
+pub struct WriteStopped;
+
+/// A writer that is given bytes in large pieces, and nothing more once a write failed or took
+/// nothing.
+///
+/// What is gathered when the sink goes is lost: call [`Sink::finish`] first.
+#[derive(Drop)]
+pub struct Sink<W> {
+    inner: W,
+    gathered: Vec<u8>,
+    stopped: bool,
+}
+
+/// Writes all the bytes, in as many writes as it takes. Where one fails or takes nothing, those
+/// before it stand and none comes after it.
+fn write_all<W: Write>(writer: &mut W, bytes: &[u8]) -> Result<(), WriteStopped>
+    ensures ok { OnOk result (Appends (W.contents writer.old) (W.contents writer.new) bytes.now) }
+    ensures err { OnErr result ((count : ℕ) × Appends (W.contents writer.old) (W.contents writer.new) (take count bytes.now)) }
+{
+    let mut at = 0;
+    'writes: while at < bytes.len() {
+        match writer.write(&bytes[at..]) {
+            Ok(count) if count > 0 => at += count,
+            _ => return Err(WriteStopped),
+        }
+    }
+    Ok(())
+}
+
+impl<W: Write> Sink<W> {
+    ghost use Rattle.gp_stream.specs.Sink.{writer_of, gathered_of, has_stopped, room_of, sink_state, Takes, TakesFront};
+
+    /// A sink with room for [`GATHERED_BYTES`] bytes. Nothing allocates after it.
+    pub fn new(alloc: Global, inner: W) -> Result<Self, AllocError>
+    where
+        W: Drop,
+        ensures writer { IfOk result (λ sink. writer_of sink ≡ inner) }
+        ensures gathered { IfOk result (λ sink. gathered_of sink ≡ []) }
+        ensures stopped { IfOk result (λ sink. has_stopped sink ≡ false) }
+        ensures room { IfOk result (λ sink. room_of sink ≡ GATHERED_BYTES) }
+    {
+        let gathered = Vec::with_capacity(alloc, GATHERED_BYTES)?;
+        Ok(Sink {
+            inner,
+            gathered,
+            stopped: false,
+        })
+    }
+
+    /// The writer below. What is gathered is lost.
+    pub fn into_inner(self) -> W
+        ensures { result ≡ writer_of self }
+    {
+        let Sink { inner, .. } = self;
+        inner
+    }
+
+    /// Writes out what is gathered.
+    pub fn finish(&mut self) -> Result<(), WriteStopped>
+        ensures ok { OnOk result (Takes (sink_state W.contents self.old) (sink_state W.contents self.new) []) }
+        ensures empty { OnOk result (gathered_of self.new ≡ []) }
+        ensures err { OnErr result (TakesFront (sink_state W.contents self.old) (sink_state W.contents self.new) []) }
+        ensures stopped { has_stopped self.new ≡ (has_stopped self.old || is_err result) }
+        ensures refused { IsTrue (has_stopped self.old) → IsErr result × Keeps (W.contents (writer_of self.old)) (W.contents (writer_of self.new)) }
+        ensures room { room_of self.old ≤ room_of self.new }
+    {
+        if self.stopped {
+            return Err(WriteStopped);
+        }
+        let outcome = write_all(&mut self.inner, self.gathered.as_slice());
+        match outcome {
+            Ok(()) => self.gathered.clear(),
+            Err(_) => self.stopped = true,
+        }
+        outcome
+    }
+
+    /// Hands in bytes. Where there is room for them they are gathered, and nothing is written;
+    /// else what was gathered goes out first.
+    pub fn put(&mut self, bytes: &[u8]) -> Result<(), WriteStopped>
+        ensures ok { OnOk result (Takes (sink_state W.contents self.old) (sink_state W.contents self.new) bytes.now) }
+        ensures err { OnErr result (TakesFront (sink_state W.contents self.old) (sink_state W.contents self.new) bytes.now) }
+        ensures stopped { has_stopped self.new ≡ (has_stopped self.old || is_err result) }
+        ensures refused { IsTrue (has_stopped self.old) → IsErr result × Keeps (W.contents (writer_of self.old)) (W.contents (writer_of self.new)) }
+        ensures fits { has_stopped self.old ≡ false → length (gathered_of self.old) + length bytes.now ≤ room_of self.old
+            → IsOk result × (writer_of self.new ≡ writer_of self.old) }
+        ensures room { room_of self.old ≤ room_of self.new }
+    {
+        if self.stopped {
+            return Err(WriteStopped);
+        }
+        if bytes.len() > self.gathered.capacity() - self.gathered.len() {
+            return self.put_behind(bytes);
+        }
+        self.gathered.extend_from_slice(bytes).unwrap();
+        Ok(())
+    }
+
+    /// Writes out what is gathered, and then gathers the bytes, or writes them too where there is
+    /// never room for so many.
+    fn put_behind(&mut self, bytes: &[u8]) -> Result<(), WriteStopped>
+        requires { has_stopped self.old ≡ false }
+        ensures ok { OnOk result (Takes (sink_state W.contents self.old) (sink_state W.contents self.new) bytes.now) }
+        ensures err { OnErr result (TakesFront (sink_state W.contents self.old) (sink_state W.contents self.new) bytes.now) }
+        ensures stopped { has_stopped self.new ≡ is_err result }
+        ensures room { room_of self.old ≤ room_of self.new }
+    {
+        self.finish()?;
+        if bytes.len() > self.gathered.capacity() {
+            let outcome = write_all(&mut self.inner, bytes);
+            self.stopped = outcome.is_err();
+            return outcome;
+        }
+        self.gathered.extend_from_slice(bytes).unwrap();
+        Ok(())
+    }
+}

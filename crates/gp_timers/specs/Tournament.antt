@@ -1,0 +1,39 @@
+-- The tree of timers in which each node has the earlier of its two children.
+use Rattle.std.specs.Prelude.{ℕ, suc, ◌+◌, ◌*◌, ◌^◌, ◌≡◌, ◌<◌, ◌==◌, ◌||◌, ◌&&◌, nat_lt, Bool, if◌then◌else◌, List, [], ◌∷◌, length, Option, None, Some, ◌≢◌}
+use Rattle.std.specs.Option.{ForSome}
+use Rattle.std.specs.List.{slice_index_or}
+use Rattle.std.specs.FinMap.{empty, insert}
+use Rattle.gp_timers.specs.declared.tournament.Timer.{Timer}
+use Rattle.gp_timers.specs.Timers.{Frames}
+
+-- due in an earlier frame, or in the same frame under a lesser name
+abbrev pub is_earlier : Timer → Timer → Bool
+is_earlier a b = nat_lt a.frame b.frame || (a.frame == b.frame && nat_lt a.name b.name)
+
+-- the earlier of two timers, where there are two
+abbrev pub earlier_of : Option Timer → Option Timer → Option Timer
+earlier_of None b = b
+earlier_of (Some a) None = Some a
+earlier_of (Some a) (Some b) = Some (if is_earlier b a then b else a)
+
+abbrev pub timer_at : List (Option Timer) → ℕ → Option Timer
+timer_at nodes i = slice_index_or nodes i None
+
+-- names leaves, those from `names` on, each with the timer of its own name, and above them the winners
+pub record IsTournament (names : ℕ) (nodes : List (Option Timer)) : Type 0 where
+  pub few : names < 2 ^ 16
+  pub size : length nodes ≡ 2 * names
+  pub leaf : (k : ℕ) → k < names → ForSome (timer_at nodes (names + k)) (λ t. t.name ≡ k)
+  pub inner : (i : ℕ) → 0 < i → i < names → timer_at nodes i ≡ earlier_of (timer_at nodes (2 * i)) (timer_at nodes (2 * i + 1))
+
+-- the frames of the leaves, whose names count from this one
+abbrev pub frames_from : ℕ → List (Option Timer) → Frames
+frames_from name [] = empty
+frames_from name (None ∷ leaves) = frames_from (suc name) leaves
+frames_from name (Some timer ∷ leaves) = insert (frames_from (suc name) leaves) name timer.frame
+
+-- a tournament again, with another timer at one leaf
+pub record Rewritten (names : ℕ) (old new : List (Option Timer)) (name : ℕ) (timer : Option Timer) : Type 0 where
+  pub tournament : IsTournament names new
+  pub here : timer_at new (names + name) ≡ timer
+  pub others : (k : ℕ) → k < names → k ≢ name → timer_at new (names + k) ≡ timer_at old (names + k)

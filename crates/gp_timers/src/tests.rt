@@ -1,0 +1,42 @@
+use super::{TimerFault, Wheel};
+use std::test::Fail;
+
+#[test]
+fn wheel(rt: HostRuntime) -> Result<(), Fail> {
+    let mut wheel = Wheel::begin(rt.alloc(), 3)?;
+    wheel.set(2, 5);
+    wheel.set(0, 5);
+    wheel.set(1, 9);
+    assert_eq!(rt; wheel.due(4), None);
+    assert_eq!(rt; wheel.due(7), Some(0));
+    assert_eq!(rt; wheel.due(7), Some(2));
+    assert_eq!(rt; wheel.due(7), None);
+    assert_eq!(rt; wheel.cancel(1), true);
+    assert_eq!(rt; wheel.cancel(1), false);
+    Ok(())
+}
+
+#[test]
+fn ends_of_the_range(rt: HostRuntime) -> Result<(), Fail> {
+    let mut none = Wheel::begin(rt.alloc(), 0)?;
+    assert_eq!(rt; none.cancel(0), false);
+    assert_eq!(rt; none.due(u64::MAX), None);
+    let mut one = Wheel::begin(rt.alloc(), 1)?;
+    one.set(0, u64::MAX);
+    assert_eq!(rt; one.due(u64::MAX - 1), None);
+    assert_eq!(rt; one.due(u64::MAX), Some(0));
+    let mut most = Wheel::begin(rt.alloc(), u16::MAX)?;
+    most.set(65534, 1);
+    most.set(65533, 1);
+    assert_eq!(rt; most.due(1), Some(65533));
+    assert_eq!(rt; most.due(1), Some(65534));
+    assert_eq!(rt; most.due(1), None);
+    Ok(())
+}
+
+#[test]
+fn fault_text(rt: HostRuntime) -> Result<(), Fail> {
+    let text = format!(in rt.alloc(); "{}", TimerFault::OutOfMemory)?;
+    assert_eq!(rt; text.as_str(), "out of memory");
+    Ok(())
+}
