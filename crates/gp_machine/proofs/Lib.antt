@@ -6,6 +6,7 @@ pub mod SoundRows
 pub mod SoundSteps
 pub mod StepCases
 pub mod RunParts
+pub mod OnuIds
 pub mod OwedMessages
 pub mod MeasuredDelays
 pub mod ProperMessages

@@ -1,6 +1,5 @@
 -- Runs, cut and joined; what every state of a run keeps.
 use Rattle.std.proofs.Common.{◌≡◌, ℕ, ◌+◌, ◌≤◌, List, [], ◌∷◌, ◌++◌, Option, None, Some, refl, sym, ap, subst, ◌∙◌, arith}
-use Rattle.std.specs.Prelude.{Contains}
 use Rattle.std.specs.FinMap.{get, len, empty, get-empty, len-empty}
 use Rattle.std.proofs.lemmas.List.Sums.{sum_by-cons}
 use Rattle.gp_ploam.specs.declared.message.Serial.{Serial}
@@ -15,7 +14,7 @@ use Rattle.gp_machine.specs.Sound.{IsSound}
 use Rattle.gp_machine.specs.Step.{Step}
 use Rattle.gp_machine.specs.Run.{Run, IsStep, entry_outcome}
 use Rattle.gp_machine.specs.OneStep.{KeepsSound, KeepsLicences}
-use Rattle.gp_machine.specs.Runs.{HasStep, IsReached, RunsInParts, EveryStateIsSound, KeepsConfiguration, NoSharedOnuId, AdmittedAlone, NoMoreThanMaxUnits, RunsKeepLicences, licences_in, licences_out}
+use Rattle.gp_machine.specs.Runs.{ RunsInParts, EveryStateIsSound, KeepsConfiguration, RunsKeepLicences, licences_in, licences_out}
 use Rattle.gp_machine.proofs.SoundSteps.{sound_opening}
 use Rattle.gp_machine.proofs.StepCases.{IsFrame, IsQuiet, IsTold, IsRanged, StepCase, step_case}
 
@@ -34,7 +33,7 @@ runs_in_parts p q es fs = (cut p q es fs, λ parts. joined p parts.0 q es fs par
 
 -- ---- the configuration
 
-config_step : (p q : PortState) (e : Entry) → IsStep p e q → q.config ≡ p.config
+pub config_step : (p q : PortState) (e : Entry) → IsStep p e q → q.config ≡ p.config
 config_step p q e h = by_case (step_case e.purse_in p e.event (entry_outcome e q) h)
   where
     by_case : StepCase p e.event (entry_outcome e q) → q.config ≡ p.config
@@ -58,15 +57,6 @@ sound_after keeps p q (e ∷ es) sound h = sound_after keeps h.0 q es (keeps e.p
 
 pub every_state : KeepsSound → EveryStateIsSound
 every_state keeps c p reached = sound_after keeps (opening_of c) p reached.0 (sound_opening c) reached.1
-
-pub apart : EveryStateIsSound → NoSharedOnuId
-apart sound c p reached s t q r a b differ same = differ ((sound c p reached).apart s t q r a b same)
-
-pub admitted : EveryStateIsSound → AdmittedAlone
-admitted sound c p reached s r has = subst (λ (x : PortConfig). Contains x.admitted s) (keeps_configuration c p reached) ((sound c p reached).admitted s r has)
-
-pub few : EveryStateIsSound → NoMoreThanMaxUnits
-few sound c p reached = subst (λ (x : PortConfig). rows_of p ≤ x.max_units) (keeps_configuration c p reached) (sound c p reached).few
 
 -- ---- licences
 

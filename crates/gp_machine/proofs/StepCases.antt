@@ -30,14 +30,15 @@ use Rattle.gp_machine.specs.declared.reply.Reply.TheVariants as reply
 use Rattle.gp_machine.specs.declared.row.Phase.{Phase}
 use Rattle.gp_machine.specs.declared.row.Phase.TheVariants.{Ranging, Operating}
 use Rattle.gp_machine.specs.declared.row.Row.{Row}
-use Rattle.gp_machine.specs.State.{PortState, rows_of}
+use Rattle.gp_machine.specs.State.{PortState, HasRow, rows_of}
 use Rattle.gp_machine.specs.Outcomes.{Outcome, bare_outcome, has_room, refused_burst}
 use Rattle.gp_machine.specs.Frame.{first_of, rest_of, frame_outcome, runs_timer, state_after_timer, state_after_decision, decision_after, is_idle, state_after_sending, state_after_tick, frame_answer, grant_of}
 use Rattle.gp_machine.specs.Burst.{new_row, is_assign, newcomer_outcome, active_outcome, admitted_outcome, serial_outcome, search_outcome, measured_outcome, row_outcome, asked_outcome, range_outcome, heard_outcome, window_outcome, burst_outcome}
 use Rattle.gp_machine.specs.Commands.{command_outcome, is_acquiring}
 use Rattle.gp_machine.specs.Step.{Step, Hears, number_in}
 use Rattle.gp_machine.specs.Messages.{HearsSerial, begins_acquisition, three_times}
-use Rattle.gp_machine.specs.Delays.{AsksToRange, HasOnuId}
+use Rattle.gp_machine.specs.Delays.{AsksToRange}
+use Rattle.gp_machine.specs.OnuIds.{HasOnuId}
 use Rattle.gp_machine.proofs.Cases.{by_test}
 
 -- ---- the cases
@@ -72,6 +73,7 @@ pub record IsFrame (p : PortState) (o : Outcome) : Type 0 where
 
 -- the unit s is told the ONU-ID n
 pub record IsTold (p : PortState) (s : Serial) (n : ℕ) (o : Outcome) : Type 0 where
+  pub same : (row : Row) → HasRow p.rows s row → row.onu ≡ n
   pub reply : (o.answer.reply ≡ reply.Found n) ⊎ (o.answer.reply ≡ reply.Again n)
   pub sent : o.answer.sent ≡ None
   pub owed : o.state.owed ≡ p.owed ++ three_times (AssignOnu n s ∷ [])
@@ -104,41 +106,47 @@ pub data BurstCase (p : PortState) (at : ℕ) (heard : Option Up) (o : Outcome) 
 refused : (u : ℕ) (p : PortState) (at : ℕ) (heard : Option Up) (r : Refusal) → BurstCase p at heard (refused_burst u p r)
 refused u p at heard r = quiet (record { reply = tt; sent = refl; owed = refl; rows = refl; config = refl })
 
+not_none : (row : Row) → None ≡ Some row → ⊥
+not_none row h = cc
+
+one_row : (row other : Row) → Some row ≡ Some other → other.onu ≡ row.onu
+one_row row other h = let same : row ≡ other = cc in ap (λ (r : Row). r.onu) (sym same)
+
 -- a serial number of a unit without an ONU-ID
 module _ (u : ℕ) (p : PortState) (at : ℕ) (s : Serial) (random flags : ℕ) where
   abbrev new_unit : Option Up
   new_unit = Some (up.SerialNumber 255 s random flags)
 
-  newcomer_case : (n : ℕ) → BurstCase p at new_unit (newcomer_outcome u p s n)
-  newcomer_case n =
+  newcomer_case : (n : ℕ) → get p.rows s ≡ None → BurstCase p at new_unit (newcomer_outcome u p s n)
+  newcomer_case n none =
       by_test (BurstCase p at new_unit) (nat_lt (rows_of p) p.config.max_units) _ _
       (λ few.
       by_test (BurstCase p at new_unit) (u == 0) _ _
       (λ empty. refused u p at new_unit refusal.NoLicence)
       (λ some.
       by_test (BurstCase p at new_unit) (has_room p) _ _
-      (λ room. told s n random flags refl (record { reply = inl refl; sent = refl; owed = refl; rows = refl; config = refl }))
+      (λ room. told s n random flags refl (record { same = λ row has. absurd (not_none row (sym none ∙ has)); reply = inl refl; sent = refl; owed = refl; rows = refl; config = refl }))
       (λ full. refused u p at new_unit refusal.Busy)))
       (λ many. refused u p at new_unit refusal.NoId)
 
-  active_case : (n : ℕ) (phase : Phase) → BurstCase p at new_unit (active_outcome u p s n phase)
-  active_case n (Operating eqd dark garbled) = refused u p at new_unit refusal.WrongWindow
-  active_case n (Ranging attempts seen) =
-      by_test (BurstCase p at new_unit) (list_any (is_assign n s) p.owed) _ _
+  active_case : (row : Row) (phase : Phase) → HasRow p.rows s row → BurstCase p at new_unit (active_outcome u p s row.onu phase)
+  active_case row (Operating eqd dark garbled) has = refused u p at new_unit refusal.WrongWindow
+  active_case row (Ranging attempts seen) has =
+      by_test (BurstCase p at new_unit) (list_any (is_assign row.onu s) p.owed) _ _
       (λ owed. quiet (record { reply = tt; sent = refl; owed = refl; rows = refl; config = refl }))
       (λ sent.
       by_test (BurstCase p at new_unit) (has_room p) _ _
-      (λ room. told s n random flags refl (record { reply = inr refl; sent = refl; owed = refl; rows = refl; config = refl }))
+      (λ room. told s row.onu random flags refl (record { same = λ other there. one_row row other (sym has ∙ there); reply = inr refl; sent = refl; owed = refl; rows = refl; config = refl }))
       (λ full. refused u p at new_unit refusal.Busy))
 
-  admitted_case : (n : ℕ) (row : Option Row) → BurstCase p at new_unit (admitted_outcome u p s n row)
-  admitted_case n None = newcomer_case n
-  admitted_case n (Some row) = active_case row.onu row.phase
+  admitted_case : (n : ℕ) (row : Option Row) → get p.rows s ≡ row → BurstCase p at new_unit (admitted_outcome u p s n row)
+  admitted_case n None none = newcomer_case n none
+  admitted_case n (Some row) has = active_case row row.phase has
 
   serial_case : (n : ℕ) → BurstCase p at new_unit (serial_outcome u p s n)
   serial_case n =
       by_test (BurstCase p at new_unit) (list_any (same_serial s) p.config.admitted) _ _
-      (λ admitted. admitted_case n (get p.rows s))
+      (λ admitted. admitted_case n (get p.rows s) refl)
       (λ foreign. refused u p at new_unit refusal.NotAdmitted)
 
 search_case : (u : ℕ) (p : PortState) (at n : ℕ) (m : Up) → BurstCase p at (Some m) (search_outcome u p n m)

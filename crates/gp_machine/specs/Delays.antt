@@ -16,15 +16,12 @@ use Rattle.gp_machine.specs.declared.row.Row.{Row}
 use Rattle.gp_machine.specs.State.{PortState, HasRow, opening_of}
 use Rattle.gp_machine.specs.Run.{Run}
 use Rattle.gp_machine.specs.Runs.{HasStep}
+use Rattle.gp_machine.specs.OnuIds.{HasOnuId}
 
 -- the open window asks the unit with the ONU-ID n for its round-trip delay
 abbrev pub AsksToRange : Option WindowState → ℕ → Type 0
 AsksToRange None n = ⊥
 AsksToRange (Some w) n = w.grant ≡ Range n
-
--- the serial number s has a row, with the ONU-ID n
-abbrev pub HasOnuId : PortState → Serial → ℕ → Type 0
-HasOnuId p s n = (row : Row) × HasRow p.rows s row × (row.onu ≡ n)
 
 -- In the state p the event measures the unit s: in a window that asks it, its Serial_Number_ONU arrives, and
 -- the round-trip delay and the equalization delay add up to teqd.

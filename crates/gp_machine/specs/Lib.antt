@@ -11,4 +11,5 @@ pub mod Run
 pub mod OneStep
 pub mod Runs
 pub mod Messages
+pub mod OnuIds
 pub mod Delays

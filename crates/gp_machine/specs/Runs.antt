@@ -1,11 +1,9 @@
--- Whole runs: the states that they lead to, and their licences.
-use Rattle.std.specs.Prelude.{◌≡◌, ◌≢◌, ◌↔◌, ℕ, ◌+◌, ◌≤◌, List, [], ◌∷◌, ◌++◌, Contains}
+-- Whole runs: their parts, the states that they lead to, and their licences.
+use Rattle.std.specs.Prelude.{◌≡◌, ◌↔◌, ℕ, ◌+◌, List, ◌∷◌, ◌++◌}
 use Rattle.std.specs.List.{sum_by}
-use Rattle.gp_ploam.specs.declared.message.Serial.{Serial}
 use Rattle.gp_machine.specs.declared.config.PortConfig.{PortConfig}
 use Rattle.gp_machine.specs.declared.entry.Entry.{Entry}
-use Rattle.gp_machine.specs.declared.row.Row.{Row}
-use Rattle.gp_machine.specs.State.{PortState, opening_of, rows_of, HasRow}
+use Rattle.gp_machine.specs.State.{PortState, opening_of, rows_of}
 use Rattle.gp_machine.specs.Sound.{IsSound}
 use Rattle.gp_machine.specs.Run.{Run, IsStep}
 
@@ -34,26 +32,6 @@ EveryStateIsSound = (c : PortConfig) (p : PortState) → IsReached c p → IsSou
 -- every state that is reached has the configuration of its opening
 abbrev pub KeepsConfiguration : Type 0
 KeepsConfiguration = (c : PortConfig) (p : PortState) → IsReached c p → p.config ≡ c
-
--- no two active units have one ONU-ID: where the serial numbers differ, the ONU-IDs differ
-abbrev pub SharesNoOnuId : PortState → Type 0
-SharesNoOnuId p = (s t : Serial) (q r : Row) → HasRow p.rows s q → HasRow p.rows t r → s ≢ t → q.onu ≢ r.onu
-
--- each active unit is among those that the configuration admits
-abbrev pub HasAdmittedAlone : PortConfig → PortState → Type 0
-HasAdmittedAlone c p = (s : Serial) (r : Row) → HasRow p.rows s r → Contains c.admitted s
-
--- in no state that is reached two active units have one ONU-ID
-abbrev pub NoSharedOnuId : Type 0
-NoSharedOnuId = (c : PortConfig) (p : PortState) → IsReached c p → SharesNoOnuId p
-
--- in every state that is reached each active unit is admitted
-abbrev pub AdmittedAlone : Type 0
-AdmittedAlone = (c : PortConfig) (p : PortState) → IsReached c p → HasAdmittedAlone c p
-
--- in every state that is reached no more units are active than the configuration allows
-abbrev pub NoMoreThanMaxUnits : Type 0
-NoMoreThanMaxUnits = (c : PortConfig) (p : PortState) → IsReached c p → rows_of p ≤ c.max_units
 
 -- ---- the licences
 

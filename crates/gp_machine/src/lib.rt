@@ -25,4 +25,5 @@ pub use row::{Phase, Row};
 pub use runs::{
     every_state_is_sound, keeps_configuration, no_shared_onu_id, ranged_with_what_is_left,
     runs_in_parts, runs_keep_licences, sends_each_message_three_times, sends_only_proper_messages,
+    tells_each_unit_its_onu_id,
 };

@@ -1,4 +1,5 @@
-ghost use Rattle.gp_machine.specs.Runs.{RunsInParts, EveryStateIsSound, KeepsConfiguration, NoSharedOnuId, AdmittedAlone, NoMoreThanMaxUnits, RunsKeepLicences};
+ghost use Rattle.gp_machine.specs.Runs.{RunsInParts, EveryStateIsSound, KeepsConfiguration, RunsKeepLicences};
+ghost use Rattle.gp_machine.specs.OnuIds.{NoSharedOnuId, OnlyAdmittedUnits, AtMostMaxUnits, KeepsOnuIds, AssignsWhatUnitsHave, AssignsOneToOne};
 ghost use Rattle.gp_machine.specs.Messages.{EveryRunOwes, SendsEachThreeTimes, SendsWhatWasOwedFirst, KeepsProperMessages, SendsOnlyProperMessages};
 ghost use Rattle.gp_machine.specs.Delays.{RangesWithWhatIsLeft, OperatesWithWhatWasMeasured};
 
@@ -27,8 +28,17 @@ pub fn every_state_is_sound()
 /// admitted, and there are no more of them than the configuration allows.
 pub fn no_shared_onu_id()
     ensures apart { NoSharedOnuId }
-    ensures admitted { AdmittedAlone }
-    ensures few { NoMoreThanMaxUnits }
+    ensures admitted { OnlyAdmittedUnits }
+    ensures few { AtMostMaxUnits }
+{
+    every_state_is_sound();
+}
+
+/// An active unit keeps its ONU-ID, and no unit is ever told another one.
+pub fn tells_each_unit_its_onu_id()
+    ensures keeps { KeepsOnuIds }
+    ensures tells { AssignsWhatUnitsHave }
+    ensures one_to_one { AssignsOneToOne }
 {
     every_state_is_sound();
 }

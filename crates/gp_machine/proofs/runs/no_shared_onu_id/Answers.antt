@@ -1,4 +1,4 @@
-use Rattle.gp_machine.proofs.RunParts.{apart, admitted, few}
+use Rattle.gp_machine.proofs.OnuIds.{apart, admitted, few}
 use Rattle.gp_machine.proofs.runs.no_shared_onu_id.Goals as goal
 
 pub returns : goal.returns
