@@ -1,5 +1,5 @@
 -- No step makes or loses a licence.
-use Rattle.std.proofs.Common.{◌≡◌, ℕ, ◌+◌, ◌<◌, ◌≤◌, ◌==◌, ◌||◌, cond, Option, None, Some, refl, sym, ap, ◌∙◌, subst, arith, is_some}
+use Rattle.std.proofs.Common.{◌≡◌, ℕ, ◌+◌, ◌==◌, ◌||◌, cond, Option, None, refl, sym, ap, ◌∙◌, subst, arith, is_some}
 use Rattle.std.specs.Prelude.{◌-◌}
 use Rattle.std.specs.FinMap.{get, insert, len, len-insert}
 use Rattle.gp_ploam.specs.declared.message.Serial.{Serial}
