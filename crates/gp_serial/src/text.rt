@@ -120,7 +120,7 @@ pub fn serial_text(alloc: Global, serial: &Serial) -> Result<String, SerialFault
     ensures memory { IfErr result (λ fault. fault ≡ SerialFault.OutOfMemory) }
 {
     text_spells_serial(serial);
-    String::from_str(alloc, SerialText::of(serial).as_str()).map_err(|_| SerialFault::OutOfMemory)
+    Ok(String::from_str(alloc, SerialText::of(serial).as_str())?)
 }
 
 /// Appends the text of a serial number to these octets, and changes nothing where memory is short.
