@@ -1,5 +1,5 @@
 -- The entries of the admission list, as the map that contracts see.
-use Rattle.std.proofs.Common.{◌≡◌, ◌≢◌, ℕ, zero, suc, ◌+◌, ◌<◌, ◌≤◌, ◌==◌, ◌&&◌, Bool, true, false, cond, List, [], ◌∷◌, ◌++◌, length, map, Option, None, Some, is_some, ◌⊎◌, inl, inr, refl, sym, ap, subst, ◌∙◌, get_or, arith}
+use Rattle.std.proofs.Common.{◌≡◌, ℕ, ◌+◌, ◌<◌, ◌≤◌, ◌==◌, ◌&&◌, Bool, true, false, cond, List, [], ◌∷◌, length, Option, None, Some, inl, inr, refl, sym, ap, subst, ◌∙◌, get_or, arith}
 use Rattle.std.specs.Prelude.{T}
 use Rattle.std.proofs.Math.ListN.{set}
 use Rattle.std.proofs.lemmas.Bool.{cases_eq}
@@ -10,12 +10,11 @@ use Rattle.std.proofs.lemmas.List.Sums.{sum_by-cons}
 use Rattle.std.specs.BTreeMap.{insert_entry, is_at}
 use Rattle.std.specs.FinMap as map
 use Rattle.std.specs.FinMap.Entries.{below_all}
-use Rattle.std.specs.FinMap.{FinMap, find, is_sorted, from_sorted, entries-from_sorted, get-from_sorted, get-empty, get-insert, same_map}
+use Rattle.std.specs.FinMap.{find, is_sorted, from_sorted, entries-from_sorted, get-from_sorted, get-empty, get-insert, same_map}
 use Rattle.std.specs.List.{AllByRecursion, count_by}
 use Rattle.std.specs.List.Sorted.{IsStrictlySortedBy}
 use Rattle.std.specs.Map.{keys_of, values_of, lookup, set_value}
 use Rattle.std.specs.Ordering.{eq_by_cmp, is_eq, is_lt, match_ordering}
-use Rattle.std.specs.declared.cmp.Ordering.{Ordering}
 use Rattle.std.specs.declared.cmp.Ordering.TheVariants.{Less, Equal, Greater}
 use Rattle.gp_ploam.specs.declared.message.Serial.{Serial}
 use Rattle.gp_ploam.specs.Serials.{serial_cmp}
@@ -95,7 +94,7 @@ pub count-insert_entry : (p : Admission → Bool) (k : Serial) (v : Admission) (
 count-insert_entry p k v [] none = count-cons p v []
 count-insert_entry p k v (e ∷ es) none =
     elim (serial_cmp k e.0) as (λ o. serial_cmp k e.0 ≡ o → cond (is_eq o) (Some e.1) (found k es) ≡ None
-        → count_by p (values_of (match_ordering o ((k, v) ∷ e ∷ es) ((e.0, v) ∷ es) (e ∷ insert_entry serial_cmp es k v))) ≡ cond (p v) 1 0 + count_by p (values_of (e ∷ es))) [
+    → count_by p (values_of (match_ordering o ((k, v) ∷ e ∷ es) ((e.0, v) ∷ es) (e ∷ insert_entry serial_cmp es k v))) ≡ cond (p v) 1 0 + count_by p (values_of (e ∷ es))) [
       | Less ↦ λ is absent. count-cons p v (values_of (e ∷ es))
       | Equal ↦ λ is absent. cc absent
       | Greater ↦ λ is absent.
@@ -111,7 +110,7 @@ pub count-set_value : (p : Admission → Bool) (test : Serial → Bool) (w : Adm
 count-set_value p test w [] alike = refl
 count-set_value p test w (e ∷ es) alike =
     elim (test e.0) as (λ b. ((a : Admission) → cond b (Some e.1) (lookup test es) ≡ Some a → p w ≡ p a)
-        → count_by p (values_of (cond b ((e.0, w) ∷ es) (e ∷ set_value test es w))) ≡ count_by p (values_of (e ∷ es))) [
+    → count_by p (values_of (cond b ((e.0, w) ∷ es) (e ∷ set_value test es w))) ≡ count_by p (values_of (e ∷ es))) [
       | true ↦ λ same.
           count-cons p w (values_of es) ∙ ap (λ b. cond b 1 0 + count_by p (values_of es)) (same e.1 refl) ∙ sym (count-cons p e.1 (values_of es))
       | false ↦ λ same.
@@ -147,19 +146,19 @@ counted_more old new counts port count kept long low is_count few grown =
     let within : port < length counts = omega (arith, long, low) in
     record {
       counted = λ q below.
-        elim (cases_eq q port) [
-          | inl same ↦
-              subst (λ (x : ℕ). get_or (set counts port (count + 1)) x 0 ≡ count_on x new) (sym same)
-              (get_or-set_same counts port (count + 1) 0 within ∙ one_more count (count_on port old) (port == port) is_count (eqb-refl port) ∙ sym (grown port))
-          | inr other ↦ get_or-set_other counts port q (count + 1) 0 other ∙ kept.counted q below ∙ no_more (count_on q old) (port == q) (eqb-ne port q (λ e. other (sym e))) ∙ sym (grown q)
-        ];
+          elim (cases_eq q port) [
+            | inl same ↦
+                subst (λ (x : ℕ). get_or (set counts port (count + 1)) x 0 ≡ count_on x new) (sym same)
+                (get_or-set_same counts port (count + 1) 0 within ∙ one_more count (count_on port old) (port == port) is_count (eqb-refl port) ∙ sym (grown port))
+            | inr other ↦ get_or-set_other counts port q (count + 1) 0 other ∙ kept.counted q below ∙ no_more (count_on q old) (port == q) (eqb-ne port q (λ e. other (sym e))) ∙ sym (grown q)
+          ];
       most = λ q below.
-        elim (cases_eq q port) [
-          | inl same ↦
-              subst (λ (x : ℕ). get_or (set counts port (count + 1)) x 0 ≤ 512) (sym same)
-              (let written = get_or-set_same counts port (count + 1) 0 within in omega (arith, written, few))
-          | inr other ↦ let stays = get_or-set_other counts port q (count + 1) 0 other in let most = kept.most q below in omega (arith, stays, most)
-        ];
+          elim (cases_eq q port) [
+            | inl same ↦
+                subst (λ (x : ℕ). get_or (set counts port (count + 1)) x 0 ≤ 512) (sym same)
+                (let written = get_or-set_same counts port (count + 1) 0 within in omega (arith, written, few))
+            | inr other ↦ let stays = get_or-set_other counts port q (count + 1) 0 other in let most = kept.most q below in omega (arith, stays, most)
+          ];
     }
   where
     one_more : (n m : ℕ) (b : Bool) → n ≡ m → b ≡ true → n + 1 ≡ cond b 1 0 + m

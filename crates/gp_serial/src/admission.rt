@@ -93,7 +93,9 @@ impl AdmissionList {
     pub fn is_disabled(&self, serial: &Serial) -> bool
         ensures { MatchOption (map.get self.now serial.now) (result ≡ false) (λ a. result ≡ a.disabled) }
     {
-        self.index.get(serial).is_some_and(|admission| admission.disabled)
+        self.index
+            .get(serial)
+            .is_some_and(|admission| admission.disabled)
     }
 
     /// Disables an admitted serial number, or enables it, and says whether it is admitted.

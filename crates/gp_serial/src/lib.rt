@@ -5,10 +5,9 @@ mod admission;
 mod fault;
 mod index;
 mod reading;
-mod text;
-
 #[cfg(test)]
 mod tests;
+mod text;
 
 pub use admission::{AdmissionList, MOST_ON_A_PORT};
 pub use fault::{AdmitFault, SerialFault};

@@ -1,5 +1,8 @@
 //! Worked spellings, printed faults, and what only a run shows: that memory suffices, or is told.
-use crate::{AdmissionList, AdmitFault, MOST_ON_A_PORT, SerialFault, SerialText, parse_serial, push_serial_text, serial_text};
+use crate::{
+    AdmissionList, AdmitFault, MOST_ON_A_PORT, SerialFault, SerialText, parse_serial,
+    push_serial_text, serial_text,
+};
 use gp_ploam::Serial;
 use std::alloc::Global;
 use std::test::Fail;
@@ -17,7 +20,10 @@ fn serial_texts(rt: HostRuntime) -> Result<(), Fail> {
     assert_eq!(rt; parse_serial("ABCD0000000G"), Err(SerialFault::Digit));
     assert_eq!(rt; parse_serial("4142434400000001"), Ok(UNIT));
     assert_eq!(rt; serial_text(rt.alloc(), &UNIT)?.as_str(), "ABCD00000001");
-    assert_eq!(rt; serial_text(rt.alloc(), &Serial([0; 8]))?.as_str(), "0000000000000000");
+    assert_eq!(rt;
+        serial_text(rt.alloc(), &Serial([0; 8]))?.as_str(),
+        "0000000000000000"
+    );
     Ok(())
 }
 
@@ -42,7 +48,11 @@ fn admissions(rt: HostRuntime) -> Result<(), Fail> {
     for high in 1..3 {
         for low in 0..=255 {
             let admitted = list.admit(0, numbered(high, low));
-            let expected = if high == 2 && low == 255 { Err(AdmitFault::Full) } else { Ok(()) };
+            let expected = if high == 2 && low == 255 {
+                Err(AdmitFault::Full)
+            } else {
+                Ok(())
+            };
             assert_eq!(rt; admitted, expected);
         }
     }
@@ -79,16 +89,31 @@ fn memory_short_or_ample(rt: HostRuntime) -> Result<(), Fail> {
 fn printed_faults(rt: HostRuntime) -> Result<(), Fail> {
     let alloc = rt.alloc();
     for (fault, text) in [
-        (SerialFault::Length, "a serial number has 12 or 16 characters"),
-        (SerialFault::Vendor, "a vendor code has letters A to Z and digits 0 to 9"),
-        (SerialFault::Digit, "a serial number's octets are hex digits"),
+        (
+            SerialFault::Length,
+            "a serial number has 12 or 16 characters",
+        ),
+        (
+            SerialFault::Vendor,
+            "a vendor code has letters A to Z and digits 0 to 9",
+        ),
+        (
+            SerialFault::Digit,
+            "a serial number's octets are hex digits",
+        ),
         (SerialFault::OutOfMemory, "out of memory"),
     ] {
         assert_eq!(rt; format!(in alloc; "{fault}")?.as_str(), text);
     }
     for (fault, text) in [
-        (AdmitFault::Duplicate, "the serial number is admitted already"),
-        (AdmitFault::Full, "512 serial numbers are admitted on the port"),
+        (
+            AdmitFault::Duplicate,
+            "the serial number is admitted already",
+        ),
+        (
+            AdmitFault::Full,
+            "512 serial numbers are admitted on the port",
+        ),
         (AdmitFault::OutOfMemory, "out of memory"),
     ] {
         assert_eq!(rt; format!(in alloc; "{fault}")?.as_str(), text);

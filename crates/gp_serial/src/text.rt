@@ -144,5 +144,4 @@ pub fn text_spells_serial(serial: &Serial)
 fn octets_are_spelled(octets: &[u8])
     requires { length octets.now ≡ 8 }
     ensures { Spells (text_of_serial (serial_with octets.now)) (serial_with octets.now) }
-{
-}
+{}

@@ -12,7 +12,7 @@ returns-clause-ok c =
 pub returns-clause-counts : goal.returns-clause-counts
 returns-clause-counts c =
     let none : found c.args.serial c.self.inside.admissions.entries ≡ None =
-        sym (get_found c.self.inside.admissions.entries c.args.serial c.self.invariant) ∙ ap (λ m. map.get m c.args.serial) c.self.view_is ∙ c.requires in
+    sym (get_found c.self.inside.admissions.entries c.args.serial c.self.invariant) ∙ ap (λ m. map.get m c.args.serial) c.self.view_is ∙ c.requires in
     λ port.
-      count_inserted port c.self.inside.admissions.entries c.insert.new.self.entries c.args.serial c.args.admission c.self.invariant c.insert.ensures.ordered none c.in_ok-insert.ensures.entries
-      ∙ ap (λ m. cond (c.args.admission.port == port) 1 0 + count_on port m) c.self.view_is
+    count_inserted port c.self.inside.admissions.entries c.insert.new.self.entries c.args.serial c.args.admission c.self.invariant c.insert.ensures.ordered none c.in_ok-insert.ensures.entries
+    ∙ ap (λ m. cond (c.args.admission.port == port) 1 0 + count_on port m) c.self.view_is
