@@ -1,11 +1,10 @@
 -- The lowest place with a 0 in both of two lists of words.
-use Rattle.std.proofs.Common.{◌≡◌, ℕ, ◌+◌, ◌-◌, ◌*◌, ◌/◌, ◌%◌, ◌^◌, ◌<◌, ◌≤◌, Bool, true, false, ◌||◌, List, get_or, refl, sym, ap, subst, ◌∙◌, inl, inr, arith, eq-eqb, w64, max, nat_eq}
+use Rattle.std.proofs.Common.{◌≡◌, ℕ, ◌+◌, ◌-◌, ◌*◌, ◌/◌, ◌%◌, ◌^◌, ◌<◌, ◌≤◌, true, false, ◌||◌, List, get_or, sym, ap, subst, ◌∙◌, inl, inr, arith, eq-eqb, w64, max, nat_eq}
 use Rattle.std.proofs.lemmas.Bool.{cases_eq, cases_lt, ne_eqb, false≢true}
 use Rattle.std.proofs.lemmas.Nat.Bits.{bit_at_or, bit_at_ones, bit_at-trailing_ones}
 use Rattle.std.specs.Prelude.{bit_or}
 use Rattle.std.specs.Int.{bit_at, trailing_ones}
-use Rattle.std.specs.Ordering.{nat_cmp}
-use Rattle.std.specs.FinSet.{FinSet, contains}
+use Rattle.std.specs.FinSet.{contains}
 use Rattle.gp_pools.specs.Numbers.{has_place, numbers_in, IsIn, AreAllIn, IsLeastOutside}
 use Rattle.gp_pools.proofs.Places.{numbers_in-place}
 
@@ -60,8 +59,8 @@ pub full_word : (a b : List ℕ) (i : ℕ) → IsFullBelow a b (64 * i) → bit_
 full_word a b i full ones k small = elim (cases_lt k (64 * i)) [
   | inl before ↦ full k before
   | inr from ↦
-    let word : k / 64 ≡ i = omega arith in
-    ap (λ j. bit_at (bit_or (get_or a j 0) (get_or b j 0)) (k % 64)) word ∙ ap (λ w. bit_at w (k % 64)) ones ∙ bit_at_ones 64 (k % 64) (omega arith)
+      let word : k / 64 ≡ i = omega arith in
+      ap (λ j. bit_at (bit_or (get_or a j 0) (get_or b j 0)) (k % 64)) word ∙ ap (λ w. bit_at w (k % 64)) ones ∙ bit_at_ones 64 (k % 64) (omega arith)
 ]
 
 -- the lowest 0 of word i, behind words of ones
@@ -77,7 +76,7 @@ lowest_zero a b i bit full small is =
     let lowest = bit_at-trailing_ones w64 word small in
     let in_word : bit < 64 = omega (arith, lowest.0) in
     let here : (k : ℕ) → k / 64 ≡ i → joined_bit a b k ≡ bit_at word (k % 64) =
-        λ k e. ap (λ j. bit_at (bit_or (get_or a j 0) (get_or b j 0)) (k % 64)) e in
+    λ k e. ap (λ j. bit_at (bit_or (get_or a j 0) (get_or b j 0)) (k % 64)) e in
     let at : (64 * i + bit) % 64 ≡ trailing_ones w64 word = omega arith in
     record {
       in_word = in_word;

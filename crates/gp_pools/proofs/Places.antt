@@ -1,10 +1,9 @@
 -- The numbers whose places have a 1, after a place is set or cleared.
-use Rattle.std.proofs.Common.{◌≡◌, ℕ, zero, suc, ◌+◌, ◌-◌, ◌*◌, ◌/◌, ◌%◌, ◌^◌, ◌<◌, ◌≤◌, Bool, true, false, ◌||◌, List, set, get_or, length, replicate, refl, sym, ap, ◌∙◌, inl, inr, arith, eq-eqb, w64}
-use Rattle.std.proofs.lemmas.Bool.{cases_eq, cases_lt, ne_eqb}
+use Rattle.std.proofs.Common.{◌≡◌, ℕ, zero, suc, ◌+◌, ◌-◌, ◌/◌, ◌%◌, ◌<◌, ◌≤◌, Bool, true, false, List, set, get_or, length, refl, sym, ap, ◌∙◌, inl, inr, arith}
+use Rattle.std.proofs.lemmas.Bool.{cases_eq, cases_lt}
 use Rattle.std.proofs.lemmas.List.{get_or-set_same, get_or-set_other}
-use Rattle.std.proofs.lemmas.Nat.Bits.{bit_at_set_same, bit_at_set_other, bit_at_clear_same, bit_at_clear_other, bit_at-zero, bit_at_or, bit_at-lt}
-use Rattle.std.specs.Prelude.{bit_and, bit_or, if◌then◌else◌, ◌==◌}
-use Rattle.std.specs.Int.{bit_at, bit_not}
+use Rattle.std.specs.Prelude.{if◌then◌else◌, ◌==◌}
+use Rattle.std.specs.Int.{bit_at}
 use Rattle.std.specs.Ordering.{nat_cmp}
 use Rattle.std.specs.FinSet.{FinSet, empty, insert, remove, contains, contains-empty}
 use Rattle.gp_pools.specs.Numbers.{has_place, numbers_in}
@@ -89,9 +88,9 @@ has_place-write words p word within same = (
   ap (λ w. bit_at w (p % 64) == 1) (get_or-set_same words (p / 64) word 0 within),
   λ k other. elim (cases_eq (k / 64) (p / 64)) [
     | inl here ↦
-      ap (λ w. bit_at w (k % 64) == 1) (ap (λ i. get_or (set words (p / 64) word) i 0) here ∙ get_or-set_same words (p / 64) word 0 within)
-      ∙ ap (λ b. b == 1) (same (k % 64) (omega arith) (λ e. other (omega arith)))
-      ∙ ap (λ i. bit_at (get_or words i 0) (k % 64) == 1) (sym here)
+        ap (λ w. bit_at w (k % 64) == 1) (ap (λ i. get_or (set words (p / 64) word) i 0) here ∙ get_or-set_same words (p / 64) word 0 within)
+        ∙ ap (λ b. b == 1) (same (k % 64) (omega arith) (λ e. other (omega arith)))
+        ∙ ap (λ i. bit_at (get_or words i 0) (k % 64) == 1) (sym here)
     | inr there ↦ ap (λ w. bit_at w (k % 64) == 1) (get_or-set_other words (p / 64) (k / 64) word 0 there)
   ],
 )

@@ -1,8 +1,8 @@
 -- What each call of a pool keeps.
-use Rattle.std.proofs.Common.{◌≡◌, ℕ, ◌+◌, ◌-◌, ◌^◌, ◌<◌, ◌≤◌, ◌⊎◌, Bool, true, false, ◌||◌, refl, sym, ap, subst, ◌∙◌, inl, inr, arith}
+use Rattle.std.proofs.Common.{◌≡◌, ℕ, ◌+◌, ◌-◌, ◌^◌, ◌<◌, ◌≤◌, Bool, true, false, ◌||◌, refl, sym, ap, ◌∙◌, inl, inr, arith}
 use Rattle.std.proofs.lemmas.Bool.{cases_Bool, cases_lt, false≢true}
 use Rattle.std.specs.Ordering.{nat_cmp}
-use Rattle.std.specs.FinSet.{FinSet, empty, insert, remove, contains, len, contains-empty, len-empty}
+use Rattle.std.specs.FinSet.{empty, insert, contains, contains-empty, len-empty}
 use Rattle.gp_pools.specs.Numbers.{AreAllIn, IsLeastOutside}
 use Rattle.gp_pools.specs.Pool.{Pool, AreAllOut, IsFree, IsLeased, IsOut, IsKept, IsSettled, IsSound, count_out, full_pool, pool_with_lease, pool_with_settled, pool_with_settled_leased, pool_without_lease}
 use Rattle.gp_pools.proofs.Members.{of_insert, of_remove, len-insert_new, len-remove_member}
@@ -151,23 +151,23 @@ pub all_at_limit : (pool : Pool) → IsSound pool → pool.limit ≡ pool.last +
 all_at_limit pool sound size full n low high = elim (cases_Bool (contains pool.leased n || contains pool.settled n)) [
   | inl out ↦ out
   | inr is_not ↦
-    let free : IsFree pool n = (low, high, λ out. false≢true (sym is_not ∙ out)) in
-    let apart : IsApart (insert pool.leased n) pool.settled = record {
-      members = λ q a b. elim (of_insert pool.leased n q a) [
-        | inl same ↦ false≢true (sym (ap (λ k. contains pool.settled k) same ∙ not_settled pool n free.2) ∙ b)
-        | inr was ↦ sound.apart q was b
-      ];
-    } in
-    let leased : IsWithin (insert pool.leased n) pool.first (pool.last + 1 - pool.first) = record {
-      members = λ q a. elim (of_insert pool.leased n q a) [
-        | inl same ↦ (omega arith, omega arith)
-        | inr was ↦ let at : (pool.first ≤ q) × (q ≤ pool.last) = sound.leased q was in (omega arith, omega arith)
-      ];
-    } in
-    let settled : IsWithin pool.settled pool.first (pool.last + 1 - pool.first) = record {
-      members = λ q b. let at : (pool.first ≤ q) × (q ≤ pool.last) = sound.settled q b in (omega arith, omega arith);
-    } in
-    absurd (omega (arith, count-lease pool n free, room_for pool.first (pool.last + 1 - pool.first) (insert pool.leased n) pool.settled apart leased settled))
+      let free : IsFree pool n = (low, high, λ out. false≢true (sym is_not ∙ out)) in
+      let apart : IsApart (insert pool.leased n) pool.settled = record {
+        members = λ q a b. elim (of_insert pool.leased n q a) [
+          | inl same ↦ false≢true (sym (ap (λ k. contains pool.settled k) same ∙ not_settled pool n free.2) ∙ b)
+          | inr was ↦ sound.apart q was b
+        ];
+      } in
+      let leased : IsWithin (insert pool.leased n) pool.first (pool.last + 1 - pool.first) = record {
+        members = λ q a. elim (of_insert pool.leased n q a) [
+          | inl same ↦ (omega arith, omega arith)
+          | inr was ↦ let at : (pool.first ≤ q) × (q ≤ pool.last) = sound.leased q was in (omega arith, omega arith)
+        ];
+      } in
+      let settled : IsWithin pool.settled pool.first (pool.last + 1 - pool.first) = record {
+        members = λ q b. let at : (pool.first ≤ q) × (q ≤ pool.last) = sound.settled q b in (omega arith, omega arith);
+      } in
+      absurd (omega (arith, count-lease pool n free, room_for pool.first (pool.last + 1 - pool.first) (insert pool.leased n) pool.settled apart leased settled))
 ]
 
 -- the same, counted

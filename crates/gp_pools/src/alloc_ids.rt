@@ -1,9 +1,8 @@
 ghost use Rattle.std.specs.Prelude.{◌≡◌, ℕ, ◌+◌, ◌-◌, ◌≤◌, ◌↔◌, IsTrue, IsNone, IfNone, IfSome};
 ghost use Rattle.gp_pools.specs.Pool.{AreAllOut, IsFree, IsLeased, IsSettled, IsSound, full_pool, pool_with_lease, pool_with_settled, pool_with_settled_leased, pool_without_lease};
 
-use std::marker::Model;
-
 use super::number_pool::NumberPool;
+use std::marker::Model;
 
 /// The first Alloc-ID that is no unit's default one, which is its ONU-ID (G.984.3, clause 8).
 const FIRST: u16 = 256;

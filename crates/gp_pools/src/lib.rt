@@ -9,3 +9,6 @@ mod onu_ids;
 
 pub use alloc_ids::{AllocIds, AllocLease};
 pub use onu_ids::{OnuIds, OnuLease};
+
+#[cfg(test)]
+mod tests;

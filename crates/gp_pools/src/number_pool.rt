@@ -1,9 +1,8 @@
 ghost use Rattle.std.specs.Prelude.{◌≡◌, ℕ, ◌+◌, ◌-◌, ◌*◌, ◌^◌, ◌<◌, ◌≤◌, ◌↔◌, IsTrue, IsNone, IfNone, IfSome};
 ghost use Rattle.gp_pools.specs.Pool.{IsFree, IsLeased, IsSettled, IsSound, count_out, full_pool, pool_with_lease, pool_with_settled, pool_with_settled_leased, pool_without_lease};
 
-use std::marker::Model;
-
 use super::number_set::NumberSet;
+use std::marker::Model;
 
 /// The numbers from `FIRST` to `last`, of which at most `limit` are out: leased, or settled. It knows
 /// the numbers alone; the leases are those of the pools above it.

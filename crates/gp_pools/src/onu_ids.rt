@@ -1,9 +1,8 @@
 ghost use Rattle.std.specs.Prelude.{◌≡◌, ℕ, ◌≤◌, ◌↔◌, IsTrue, IsNone, IfNone, IfSome};
 ghost use Rattle.gp_pools.specs.Pool.{IsFree, IsLeased, IsSettled, IsSound, count_out, full_pool, pool_with_lease, pool_with_settled, pool_with_settled_leased, pool_without_lease};
 
-use std::marker::Model;
-
 use super::number_pool::NumberPool;
+use std::marker::Model;
 
 /// The last ONU-ID that a unit may get (G.984.3, clause 9: 254 is reserved, 255 is broadcast).
 const LAST: u16 = 253;

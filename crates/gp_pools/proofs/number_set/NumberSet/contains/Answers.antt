@@ -1,4 +1,4 @@
-use Rattle.std.proofs.Common.{◌≡◌, ℕ, ◌-◌, ◌*◌, ◌%◌, nat_eq, sym, ap, ◌∙◌}
+use Rattle.std.proofs.Common.{◌-◌, ◌*◌, ◌%◌, nat_eq, sym, ap, ◌∙◌}
 use Rattle.std.proofs.lemmas.Nat.Bits.{shr_and_one}
 use Rattle.std.specs.FinSet as set
 use Rattle.gp_pools.specs.Numbers.{has_place}
