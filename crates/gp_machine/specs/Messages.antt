@@ -10,7 +10,7 @@ use Rattle.gp_ploam.specs.Down.{IsProperDown}
 use Rattle.gp_ploam.specs.Mask.{mask_value}
 use Rattle.gp_ploam.specs.Up.{ReadsUp}
 use Rattle.gp_common.specs.declared.common.Common.{Common}
-use Rattle.gp_common.specs.declared.common.Common.TheVariants.{Standby, Acquisition, Measuring}
+use Rattle.gp_common.specs.declared.common.Common.TheVariants.{Standby, Acquisition}
 use Rattle.gp_machine.specs.declared.config.PortConfig.{PortConfig}
 use Rattle.gp_machine.specs.declared.entry.Entry.{Entry}
 use Rattle.gp_machine.specs.declared.event.Event.{Event}
