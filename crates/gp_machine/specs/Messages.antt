@@ -1,4 +1,4 @@
--- The messages of a run: those that its steps owe, and those that it sends.
+-- The messages of a run: those that its steps owe, and those that it sends (G.984.3, clauses 9 and 10).
 use Rattle.std.specs.Prelude.{◌≡◌, ℕ, ◌<◌, ◌^◌, Bool, true, false, if◌then◌else◌, List, [], ◌∷◌, ◌++◌, length, IfSome, All}
 use Rattle.std.specs.List.{flat_map}
 use Rattle.std.specs.Option.{option_to_list}
