@@ -1,25 +1,18 @@
 -- The equalization delays of a run come from its measurements.
-use Rattle.std.proofs.Common.{◌≡◌, ℕ, ◌+◌, ◌-◌, ◌≤◌, Bool, true, false, cond, List, [], ◌∷◌, ◌++◌, Option, None, Some, ◌⊎◌, inl, inr, refl, sym, ap, subst, ◌∙◌, arith}
-use Rattle.std.specs.FinMap.{get, insert, empty, get-insert, get-empty}
-use Rattle.std.proofs.lemmas.Bool.{cases_Bool}
+use Rattle.std.proofs.Common.{◌≡◌, ℕ, ◌-◌, List, [], ◌∷◌, ◌⊎◌, inl, inr, refl, sym, ap, subst, arith}
 use Rattle.gp_ploam.specs.declared.message.Serial.{Serial}
-use Rattle.gp_ploam.specs.Serials.{serial_cmp, same_serial}
-use Rattle.gp_ploam.proofs.Serials.{serials_total, by_cmp-same, same_serial-true}
 use Rattle.gp_machine.specs.declared.config.PortConfig.{PortConfig}
 use Rattle.gp_machine.specs.declared.entry.Entry.{Entry}
-use Rattle.gp_machine.specs.declared.event.Event.{Event}
 use Rattle.gp_machine.specs.declared.reply.Reply.{Reply}
 use Rattle.gp_machine.specs.declared.reply.Reply.TheVariants as reply
-use Rattle.gp_machine.specs.declared.row.Phase.{Phase}
-use Rattle.gp_machine.specs.declared.row.Phase.TheVariants.{Ranging, Operating}
+use Rattle.gp_machine.specs.declared.row.Phase.TheVariants.{Operating}
 use Rattle.gp_machine.specs.declared.row.Row.{Row}
 use Rattle.gp_machine.specs.State.{PortState, Rows, HasRow, opening_of}
 use Rattle.gp_machine.specs.Burst.{new_row}
 use Rattle.gp_machine.specs.Run.{Run, IsStep, entry_outcome}
-use Rattle.gp_machine.specs.Runs.{HasStep}
 use Rattle.gp_machine.specs.Delays.{IsMeasured, RangesWithWhatIsLeft, WasRanged, OperatesWithWhatWasMeasured}
 use Rattle.gp_machine.proofs.SoundRows.{has_put, no_row}
-use Rattle.gp_machine.proofs.StepCases.{IsFrame, IsQuiet, IsQuietReply, IsTold, IsRanged, StepCase, step_case, ranged_row}
+use Rattle.gp_machine.proofs.StepCases.{IsQuietReply, StepCase, step_case, ranged_row}
 use Rattle.gp_machine.proofs.RunParts.{config_after}
 
 -- ---- a step that ranges a unit
@@ -117,9 +110,14 @@ came p q e s n eqd h k = by_case (step_case e.purse_in p e.event (entry_outcome 
 
 later : (p mid q : PortState) (e : Entry) (es : List Entry) (s : Serial) (n eqd : ℕ) → IsStep p e mid → mid.config ≡ p.config → WasRanged mid es q s n eqd → WasRanged p (e ∷ es) q s n eqd
 later p mid q e es s n eqd step same w =
-    let has = w.3 in
-    (w.0, w.1, w.2, (e ∷ has.0, has.1, ap (λ (xs : List Entry). e ∷ xs) has.2, (mid, step, has.3), has.4, has.5), w.4,
-     subst (λ (c : PortConfig). IsMeasured c.teqd w.0 w.1.event s n eqd) same w.5)
+    let has = w.3 in (
+      w.0,
+      w.1,
+      w.2,
+      (e ∷ has.0, has.1, ap (λ (xs : List Entry). e ∷ xs) has.2, (mid, step, has.3), has.4, has.5),
+      w.4,
+      subst (λ (c : PortConfig). IsMeasured c.teqd w.0 w.1.event s n eqd) same w.5,
+    )
 
 was_ranged : (p q : PortState) (es : List Entry) (s : Serial) (n eqd : ℕ) → Run p es q → Operates q s n eqd → Operates p s n eqd ⊎ WasRanged p es q s n eqd
 was_ranged p q [] s n eqd h k = inl (subst (λ (x : PortState). Operates x s n eqd) h k)

@@ -1,6 +1,6 @@
 -- Each unit has one ONU-ID, keeps it, and is told no other.
 use Rattle.std.proofs.Common.{◌≡◌, ℕ, ◌-◌, ◌≤◌, Bool, true, false, cond, List, [], ◌∷◌, ◌++◌, Option, None, Some, inl, inr, refl, sym, ap, subst, ◌∙◌}
-use Rattle.std.specs.Prelude.{All, Contains, IfSome}
+use Rattle.std.specs.Prelude.{All, Contains}
 use Rattle.std.specs.FinMap.{get, insert, get-insert}
 use Rattle.std.specs.Option.{option_to_list}
 use Rattle.std.proofs.lemmas.Bool.{cases_Bool}
@@ -11,7 +11,6 @@ use Rattle.gp_ploam.specs.declared.message.Down.{Down}
 use Rattle.gp_ploam.specs.declared.message.Down.TheVariants as down
 use Rattle.gp_ploam.specs.Serials.{same_serial}
 use Rattle.gp_ploam.proofs.Serials.{serials_total, by_cmp-same, same_serial-true, same_serial-itself}
-use Rattle.gp_common.specs.declared.common.Common.{Common}
 use Rattle.gp_machine.specs.declared.config.PortConfig.{PortConfig}
 use Rattle.gp_machine.specs.declared.entry.Entry.{Entry}
 use Rattle.gp_machine.specs.declared.row.Row.{Row}
@@ -23,7 +22,7 @@ use Rattle.gp_machine.specs.Runs.{EveryStateIsSound}
 use Rattle.gp_machine.specs.Messages.{begins_acquisition, sent_in, three_times}
 use Rattle.gp_machine.specs.OnuIds.{HasOnuId, NoSharedOnuId, OnlyAdmittedUnits, AtMostMaxUnits, KeepsOnuIds, TellsTheTable, AssignsWhatUnitsHave, AssignsOneToOne}
 use Rattle.gp_machine.proofs.RunParts.{keeps_configuration}
-use Rattle.gp_machine.proofs.StepCases.{IsFrame, IsQuiet, IsTold, IsRanged, StepCase, step_case, owed_by_frame, ranged_row}
+use Rattle.gp_machine.proofs.StepCases.{StepCase, step_case, owed_by_frame, ranged_row}
 
 -- ---- sound states
 
@@ -126,17 +125,20 @@ step_tells p q e h owed = by_case (step_case e.purse_in p e.event (entry_outcome
     more before after is k l = subst (λ (ms : List Down). All (TellsTheTable q) ms) (sym is) (All-append (TellsTheTable q) before after k l)
 
     by_case : StepCase p e.event (entry_outcome e q) → All (TellsTheTable q) (option_to_list e.answer.sent) × All (TellsTheTable q) q.owed
-    by_case (StepCase.frame k) =
-        (subst (λ (x : Option Down). All (TellsTheTable q) (option_to_list x)) (sym k.sent) (first_tells q p.owed still),
-         more (rest_of p.owed) (three_times (owed_by_frame p q)) k.owed (rest_tells q p.owed still) (overhead_tells p q))
+    by_case (StepCase.frame k) = (
+      subst (λ (x : Option Down). All (TellsTheTable q) (option_to_list x)) (sym k.sent) (first_tells q p.owed still),
+      more (rest_of p.owed) (three_times (owed_by_frame p q)) k.owed (rest_tells q p.owed still) (overhead_tells p q),
+    )
     by_case (StepCase.quiet k) = (none k.sent, subst (λ (ms : List Down). All (TellsTheTable q) ms) (sym k.owed) still)
-    by_case (StepCase.told s m heard k) =
-        (none k.sent,
-         more p.owed (three_times (down.AssignOnu m s ∷ [])) k.owed still
-         (three_tell q (down.AssignOnu m s) (subst (λ (x : Rows). Has x s m) (sym k.rows) (there p.rows s (new_row m)))))
-    by_case (StepCase.ranged at bytes s m random flags burst read k) =
-        (none k.sent,
-         more p.owed (three_times (down.RangingTime m (p.config.teqd - at) ∷ [])) k.owed still (three_tell q (down.RangingTime m (p.config.teqd - at)) tt))
+    by_case (StepCase.told s m heard k) = (
+      none k.sent,
+      more p.owed (three_times (down.AssignOnu m s ∷ [])) k.owed still
+          (three_tell q (down.AssignOnu m s) (subst (λ (x : Rows). Has x s m) (sym k.rows) (there p.rows s (new_row m)))),
+    )
+    by_case (StepCase.ranged at bytes s m random flags burst read k) = (
+      none k.sent,
+      more p.owed (three_times (down.RangingTime m (p.config.teqd - at) ∷ [])) k.owed still (three_tell q (down.RangingTime m (p.config.teqd - at)) tt),
+    )
 
 run_tells : (p q : PortState) (es : List Entry) → Run p es q → All (TellsTheTable p) p.owed → All (TellsTheTable q) (sent_in es) × All (TellsTheTable q) q.owed
 run_tells p q [] h owed = (All-nil (TellsTheTable q), subst (λ (x : PortState). All (TellsTheTable x) x.owed) (sym h) owed)
@@ -144,10 +146,11 @@ run_tells p q (e ∷ es) h owed =
     let now = step_tells p h.0 e h.1 owed in
     let later = run_tells h.0 q es h.2 now.1 in
     let sent = option_to_list e.answer.sent in
-    let still = all_tell_more h.0 q (λ s n. keeps_onu_ids h.0 q es s n h.2) sent now.0 in
-    (subst (λ (ms : List Down). All (TellsTheTable q) ms) (sym (flat_map-cons (λ (x : Entry). option_to_list x.answer.sent) e es))
-     (All-append (TellsTheTable q) sent (sent_in es) still later.0),
-     later.1)
+    let still = all_tell_more h.0 q (λ s n. keeps_onu_ids h.0 q es s n h.2) sent now.0 in (
+      subst (λ (ms : List Down). All (TellsTheTable q) ms) (sym (flat_map-cons (λ (x : Entry). option_to_list x.answer.sent) e es))
+          (All-append (TellsTheTable q) sent (sent_in es) still later.0),
+      later.1,
+    )
 
 pub tells_the_table : AssignsWhatUnitsHave
 tells_the_table c q es h =
@@ -158,8 +161,9 @@ pub one_to_one : EveryStateIsSound → AssignsOneToOne
 one_to_one sound c q es s t m n h in_s in_t =
     let all = tells_the_table c q es h in
     let has_m : HasOnuId q s m = All-contains (TellsTheTable q) (sent_in es ++ q.owed) (down.AssignOnu m s) all in_s in
-    let has_n : HasOnuId q t n = All-contains (TellsTheTable q) (sent_in es ++ q.owed) (down.AssignOnu n t) all in_t in
-    (λ same.
-     let at_t : HasRow q.rows t has_m.0 = subst (λ (x : Serial). HasRow q.rows x has_m.0) same has_m.1 in
-     sym has_m.2 ∙ one_onu q.rows t has_n.0 has_m.0 has_n.1 at_t ∙ has_n.2,
-     λ same. (sound c q (es, h)).apart s t has_m.0 has_n.0 has_m.1 has_n.1 (has_m.2 ∙ same ∙ sym has_n.2))
+    let has_n : HasOnuId q t n = All-contains (TellsTheTable q) (sent_in es ++ q.owed) (down.AssignOnu n t) all in_t in (
+      λ same.
+          let at_t : HasRow q.rows t has_m.0 = subst (λ (x : Serial). HasRow q.rows x has_m.0) same has_m.1 in
+          sym has_m.2 ∙ one_onu q.rows t has_n.0 has_m.0 has_n.1 at_t ∙ has_n.2,
+      λ same. (sound c q (es, h)).apart s t has_m.0 has_n.0 has_m.1 has_n.1 (has_m.2 ∙ same ∙ sym has_n.2),
+    )

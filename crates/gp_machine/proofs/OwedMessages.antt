@@ -1,16 +1,13 @@
 -- The messages that the steps of a run owe are sent, each three times.
-use Rattle.std.proofs.Common.{◌≡◌, ℕ, ◌-◌, List, [], ◌∷◌, ◌++◌, Option, None, Some, ◌⊎◌, inl, inr, refl, sym, ap, subst, ◌∙◌, append_assoc}
+use Rattle.std.proofs.Common.{◌≡◌, ℕ, ◌-◌, List, [], ◌∷◌, ◌++◌, Option, None, ◌⊎◌, inl, inr, refl, sym, ap, subst, ◌∙◌, append_assoc}
 use Rattle.std.specs.Option.{option_to_list}
 use Rattle.std.proofs.lemmas.List.{append-nil}
 use Rattle.std.proofs.lemmas.List.Concat.{flat_map-cons}
 use Rattle.gp_ploam.specs.declared.message.Serial.{Serial}
 use Rattle.gp_ploam.specs.declared.message.Down.{Down}
 use Rattle.gp_ploam.specs.declared.message.Down.TheVariants.{AssignOnu, RangingTime}
-use Rattle.gp_ploam.specs.declared.message.Up.{Up}
 use Rattle.gp_ploam.specs.declared.message.Up.TheVariants as up
 use Rattle.gp_ploam.specs.Mask.{mask_value}
-use Rattle.gp_ploam.specs.Up.{ReadsUp}
-use Rattle.gp_machine.specs.declared.config.PortConfig.{PortConfig}
 use Rattle.gp_machine.specs.declared.entry.Entry.{Entry}
 use Rattle.gp_machine.specs.declared.event.Event.{Event}
 use Rattle.gp_machine.specs.declared.event.Event.TheVariants as event
@@ -18,10 +15,10 @@ use Rattle.gp_machine.specs.declared.reply.Reply.{Reply}
 use Rattle.gp_machine.specs.declared.reply.Reply.TheVariants as reply
 use Rattle.gp_machine.specs.State.{PortState, opening_of}
 use Rattle.gp_machine.specs.Frame.{first_of, rest_of}
-use Rattle.gp_machine.specs.Run.{Run, IsStep, entry_outcome}
-use Rattle.gp_machine.specs.Messages.{HearsSerial, Owes, RunOwing, EveryRunOwes, SendsEachThreeTimes, SendsWhatWasOwedFirst, sent_in, three_times}
+use Rattle.gp_machine.specs.Run.{IsStep, entry_outcome}
+use Rattle.gp_machine.specs.Messages.{HearsSerial, Owes, EveryRunOwes, SendsEachThreeTimes, SendsWhatWasOwedFirst, sent_in, three_times}
 use Rattle.gp_machine.proofs.Determined.{OneReading}
-use Rattle.gp_machine.proofs.StepCases.{IsFrame, IsQuiet, IsQuietReply, IsTold, IsRanged, StepCase, step_case, owed_by_frame}
+use Rattle.gp_machine.proofs.StepCases.{IsQuietReply, StepCase, step_case, owed_by_frame}
 
 first_and_rest : (ms : List Down) → option_to_list (first_of ms) ++ rest_of ms ≡ ms
 first_and_rest [] = refl

@@ -1,23 +1,20 @@
 -- Every message that is owed or sent has a code.
-use Rattle.std.proofs.Common.{◌≡◌, ℕ, ◌+◌, ◌-◌, ◌<◌, ◌≤◌, ◌^◌, Bool, true, false, cond, List, [], ◌∷◌, ◌++◌, length, Option, None, Some, ◌⊎◌, inl, inr, refl, sym, ap, subst, ◌∙◌, arith}
+use Rattle.std.proofs.Common.{◌≡◌, ℕ, ◌-◌, Bool, true, false, cond, List, [], ◌∷◌, ◌++◌, length, Option, None, refl, sym, subst, arith}
 use Rattle.std.specs.Prelude.{All, IfSome}
 use Rattle.std.proofs.lemmas.List.Elements.{All-append, All-nil, All-cons, All-head, All-tail}
 use Rattle.gp_ploam.specs.declared.message.Serial.{Serial}
 use Rattle.gp_ploam.specs.declared.message.Down.{Down}
 use Rattle.gp_ploam.specs.declared.message.Down.TheVariants.{UpstreamOverhead, AssignOnu, RangingTime}
 use Rattle.gp_ploam.specs.Down.{IsProperDown}
-use Rattle.gp_ploam.specs.Up.{ReadsUp}
 use Rattle.gp_machine.specs.declared.config.PortConfig.{PortConfig}
 use Rattle.gp_machine.specs.declared.entry.Entry.{Entry}
 use Rattle.gp_machine.specs.declared.event.Event.{Event}
 use Rattle.gp_machine.specs.declared.event.Event.TheVariants as event
 use Rattle.gp_machine.specs.State.{PortState, opening_of}
-use Rattle.gp_machine.specs.Outcomes.{Outcome}
 use Rattle.gp_machine.specs.Frame.{first_of, rest_of}
-use Rattle.gp_machine.specs.Step.{Step}
-use Rattle.gp_machine.specs.Run.{Run, IsStep, entry_outcome}
+use Rattle.gp_machine.specs.Run.{Run, entry_outcome}
 use Rattle.gp_machine.specs.Messages.{HearsSerial, begins_acquisition, three_times, IsTyped, KeepsProperMessages, SendsProper, SendsOnlyProperMessages}
-use Rattle.gp_machine.proofs.StepCases.{IsFrame, IsQuiet, IsTold, IsRanged, StepCase, step_case, owed_by_frame}
+use Rattle.gp_machine.proofs.StepCases.{StepCase, step_case, owed_by_frame}
 use Rattle.gp_machine.proofs.RunParts.{config_after}
 
 first_proper : (ms : List Down) → All IsProperDown ms → IfSome (first_of ms) IsProperDown
@@ -55,18 +52,21 @@ pub step_proper : KeepsProperMessages
 step_proper u p e o typed owed h = by_case (step_case u p e o h)
   where
     by_case : StepCase p e o → IfSome o.answer.sent IsProperDown × All IsProperDown o.state.owed
-    by_case (StepCase.frame k) =
-        (subst (λ (x : Option Down). IfSome x IsProperDown) (sym k.sent) (first_proper p.owed owed),
-         with_more (rest_of p.owed) o.state.owed (three_times (owed_by_frame p o.state)) k.owed (rest_proper p.owed owed) (frame_proper p o.state typed))
+    by_case (StepCase.frame k) = (
+      subst (λ (x : Option Down). IfSome x IsProperDown) (sym k.sent) (first_proper p.owed owed),
+      with_more (rest_of p.owed) o.state.owed (three_times (owed_by_frame p o.state)) k.owed (rest_proper p.owed owed) (frame_proper p o.state typed),
+    )
     by_case (StepCase.quiet k) =
         (none_proper o.answer.sent k.sent, subst (λ (ms : List Down). All IsProperDown ms) (sym k.owed) owed)
-    by_case (StepCase.told s n heard k) =
-        (none_proper o.answer.sent k.sent,
-         with_more p.owed o.state.owed (three_times (AssignOnu n s ∷ [])) k.owed owed (three_proper (AssignOnu n s) (serial_long p e 255 s heard)))
+    by_case (StepCase.told s n heard k) = (
+      none_proper o.answer.sent k.sent,
+      with_more p.owed o.state.owed (three_times (AssignOnu n s ∷ [])) k.owed owed (three_proper (AssignOnu n s) (serial_long p e 255 s heard)),
+    )
     by_case (StepCase.ranged at bytes s n random flags is read k) =
-        let below = typed.teqd in
-        (none_proper o.answer.sent k.sent,
-         with_more p.owed o.state.owed (three_times (RangingTime n (p.config.teqd - at) ∷ [])) k.owed owed (three_proper (RangingTime n (p.config.teqd - at)) (omega arith)))
+        let below = typed.teqd in (
+          none_proper o.answer.sent k.sent,
+          with_more p.owed o.state.owed (three_times (RangingTime n (p.config.teqd - at) ∷ [])) k.owed owed (three_proper (RangingTime n (p.config.teqd - at)) (omega arith)),
+        )
 
 run_proper : (p q : PortState) (es : List Entry) → IsTyped p.config → All IsProperDown p.owed → Run p es q → All SendsProper es × All IsProperDown q.owed
 run_proper p q [] typed owed h = (All-nil SendsProper, subst (λ (x : PortState). All IsProperDown x.owed) (sym h) owed)

@@ -1,8 +1,8 @@
 -- What a step can be, by the messages that it owes.
-use Rattle.std.proofs.Common.{◌≡◌, ℕ, zero, suc, ◌+◌, ◌-◌, ◌≤◌, Bool, true, false, cond, List, [], ◌∷◌, ◌++◌, Option, None, Some, ◌⊎◌, inl, inr, refl, sym, ap, subst, ◌∙◌, ◌&&◌, ◌||◌, eqb, nat_lt, arith}
-use Rattle.std.specs.Prelude.{◌==◌, is_none}
+use Rattle.std.proofs.Common.{◌≡◌, ℕ, zero, suc, ◌+◌, ◌-◌, ◌≤◌, Bool, true, false, cond, List, [], ◌∷◌, ◌++◌, Option, None, Some, ◌⊎◌, inl, inr, refl, sym, ap, subst, ◌∙◌, ◌||◌, nat_lt}
+use Rattle.std.specs.Prelude.{◌==◌}
 use Rattle.std.specs.List.{list_any}
-use Rattle.std.specs.FinMap.{get, insert, len}
+use Rattle.std.specs.FinMap.{get, insert}
 use Rattle.std.proofs.lemmas.List.{append-nil}
 use Rattle.std.proofs.lemmas.Bool.{eqb-true, ltb-false}
 use Rattle.gp_ploam.specs.declared.message.Serial.{Serial}
@@ -34,7 +34,7 @@ use Rattle.gp_machine.specs.State.{PortState, HasRow, rows_of}
 use Rattle.gp_machine.specs.Outcomes.{Outcome, bare_outcome, has_room, refused_burst}
 use Rattle.gp_machine.specs.Frame.{first_of, rest_of, frame_outcome, runs_timer, state_after_timer, state_after_decision, decision_after, is_idle, state_after_sending, state_after_tick, frame_answer, grant_of}
 use Rattle.gp_machine.specs.Burst.{new_row, is_assign, newcomer_outcome, active_outcome, admitted_outcome, serial_outcome, search_outcome, measured_outcome, row_outcome, asked_outcome, range_outcome, heard_outcome, window_outcome, burst_outcome}
-use Rattle.gp_machine.specs.Commands.{command_outcome, is_acquiring}
+use Rattle.gp_machine.specs.Commands.{is_acquiring}
 use Rattle.gp_machine.specs.Step.{Step, Hears, number_in}
 use Rattle.gp_machine.specs.Messages.{HearsSerial, begins_acquisition, three_times}
 use Rattle.gp_machine.specs.Delays.{AsksToRange}

@@ -1,4 +1,4 @@
--- The equalization delays of a run.
+-- The equalization delays of a run (G.984.3, clause 10).
 use Rattle.std.specs.Prelude.{◌≡◌, ℕ, ◌+◌, List, Option, None, Some}
 use Rattle.gp_ploam.specs.declared.message.Serial.{Serial}
 use Rattle.gp_ploam.specs.declared.message.Up.TheVariants.{SerialNumber}
@@ -23,17 +23,20 @@ abbrev pub AsksToRange : Option WindowState → ℕ → Type 0
 AsksToRange None n = ⊥
 AsksToRange (Some w) n = w.grant ≡ Range n
 
--- In the state p the event measures the unit s: in a window that asks it, its Serial_Number_ONU arrives, and
--- the round-trip delay and the equalization delay add up to teqd.
+-- in the state p the event measures the unit s, which has the ONU-ID n
 pub record IsMeasured (teqd : ℕ) (p : PortState) (event : Event) (s : Serial) (n eqd : ℕ) : Type 0 where
   pub at : ℕ
   pub bytes : List ℕ
   pub random : ℕ
   pub flags : ℕ
+  -- octets arrive after a round-trip delay
   pub burst : event ≡ Burst at bytes
-  pub asked : AsksToRange p.window n
+  -- they are the unit's Serial_Number_ONU, with its ONU-ID
   pub read : ReadsUp bytes (mask_value p.config.mask) (SerialNumber n s random flags)
   pub active : HasOnuId p s n
+  -- the open window asked it
+  pub asked : AsksToRange p.window n
+  -- its equalization delay makes its round-trip delay up to the equalized one
   pub adds_up : at + eqd ≡ teqd
 
 -- a step that ranges a unit gives it what its round-trip delay leaves of the equalized round-trip delay

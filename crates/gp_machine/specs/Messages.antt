@@ -1,4 +1,4 @@
--- The messages of a run: those that its steps owe, and those that it sends.
+-- The messages of a run: those that its steps owe, and those that it sends (G.984.3, clauses 9 and 10).
 use Rattle.std.specs.Prelude.{◌≡◌, ℕ, ◌<◌, ◌^◌, Bool, true, false, if◌then◌else◌, List, [], ◌∷◌, ◌++◌, length, IfSome, All}
 use Rattle.std.specs.List.{flat_map}
 use Rattle.std.specs.Option.{option_to_list}
@@ -10,7 +10,7 @@ use Rattle.gp_ploam.specs.Down.{IsProperDown}
 use Rattle.gp_ploam.specs.Mask.{mask_value}
 use Rattle.gp_ploam.specs.Up.{ReadsUp}
 use Rattle.gp_common.specs.declared.common.Common.{Common}
-use Rattle.gp_common.specs.declared.common.Common.TheVariants.{Standby, Acquisition, Measuring}
+use Rattle.gp_common.specs.declared.common.Common.TheVariants.{Standby, Acquisition}
 use Rattle.gp_machine.specs.declared.config.PortConfig.{PortConfig}
 use Rattle.gp_machine.specs.declared.entry.Entry.{Entry}
 use Rattle.gp_machine.specs.declared.event.Event.{Event}

@@ -3,9 +3,8 @@ ghost use Rattle.gp_machine.specs.OnuIds.{NoSharedOnuId, OnlyAdmittedUnits, AtMo
 ghost use Rattle.gp_machine.specs.Messages.{EveryRunOwes, SendsEachThreeTimes, SendsWhatWasOwedFirst, KeepsProperMessages, SendsOnlyProperMessages};
 ghost use Rattle.gp_machine.specs.Delays.{RangesWithWhatIsLeft, OperatesWithWhatWasMeasured};
 
-use gp_ploam::up_read_once;
-
 use super::one_step::{sound_step, step_keeps_licences};
+use gp_ploam::up_read_once;
 
 /// A run may be cut anywhere, and runs may be joined.
 pub fn runs_in_parts()
