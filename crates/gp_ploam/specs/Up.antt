@@ -30,7 +30,7 @@ IsNamedUp _ = Unit {0}
 abbrev pub MatchesNoNamedUp : List ℕ → Type 0
 MatchesNoNamedUp octets = (m : Up) → IsNamedUp m → IsFittingUp m → Agrees (up_row m) octets → ⊥
 
--- a message whose code is read back as that message: its fields fit, and an `Other` is no named message in disguise
+-- a message that its own code stands for: its fields fit, and an `Other` has the octets of no named message
 abbrev pub IsProperUp : Up → Type 0
 IsProperUp (Other id octet1 body) = (length body ≡ 10) × MatchesNoNamedUp (octet1 ∷ id ∷ body)
 IsProperUp m = IsFittingUp m

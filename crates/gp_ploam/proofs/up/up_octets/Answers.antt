@@ -4,12 +4,6 @@ use Rattle.gp_ploam.specs.Row.{written}
 use Rattle.gp_ploam.proofs.Rows.{drop-listed, written-exact}
 use Rattle.gp_ploam.proofs.up.up_octets.Goals as goal
 
-pub returns-in-Other : goal.returns-in-Other
-returns-in-Other c =
-    let long : length c.in-Other.body ≡ 10 = rw c.in-Other.is at c.requires in
-    ap (λ (r : List ℕ). c.in-Other.octet1 ∷ c.in-Other.id ∷ r) (sym (drop-listed c.in-Other.body 0 10 long) ∙ sym (written-exact c.in-Other.body))
-    ∙ ap (λ m. written (up_row m)) (sym c.in-Other.is)
-
 pub returns-in-Acknowledge : goal.returns-in-Acknowledge
 returns-in-Acknowledge c =
     let long : length c.in-Acknowledge.copy ≡ 9 = rw c.in-Acknowledge.is at c.requires in
