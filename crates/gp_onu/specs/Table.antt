@@ -13,6 +13,7 @@ use Rattle.gp_ranging.specs.declared.grant.Grant.{Grant}
 use Rattle.gp_ranging.specs.declared.grant.Grant.TheVariants.{Search, Range, Poll}
 use Rattle.gp_onu.specs.declared.state.State.{State}
 use Rattle.gp_onu.specs.declared.state.State.TheVariants as state
+use Rattle.gp_onu.specs.declared.state.State.TheVariants.{Initial as o1, Standby as o2, SerialNumber as o3, Ranging as o4, Operation as o5, Popup as o6, EmergencyStop as o7}
 use Rattle.gp_onu.specs.declared.stage.Stage.{Stage}
 use Rattle.gp_onu.specs.declared.stage.Stage.TheVariants.{Initial, Standby, SerialNumber, Ranging, Operation, Popup, EmergencyStop}
 use Rattle.gp_onu.specs.Stage.{state_of, number_of, owed_of, frames_of}
@@ -40,9 +41,6 @@ pub record Line : Type 0 where
   pub fits : UnitState → Input → Bool
   pub next : UnitState → Input → Stage
   pub answer : UnitState → Input → Option Up
-
-abbrev pub no_answer : UnitState → Input → Option Up
-no_answer u i = None
 
 -- the inputs
 
@@ -202,25 +200,32 @@ acknowledgement u _ = None
 
 -- the table
 
+-- a line without an answer
+abbrev pub line : List State → (UnitState → Input → Bool) → (UnitState → Input → Stage) → Line
+line states fits next = record { states = states; fits = fits; next = next; answer = λ u i. None }
+
+abbrev pub answering : List State → (UnitState → Input → Bool) → (UnitState → Input → Stage) → (UnitState → Input → Option Up) → Line
+answering states fits next answer = record { states = states; fits = fits; next = next; answer = answer }
+
 abbrev pub unit_table : List Line
 unit_table =
-    record { states = state.Initial ∷ []; fits = is_light; next = to_standby; answer = no_answer }
-    ∷ record { states = state.Standby ∷ state.SerialNumber ∷ state.Ranging ∷ []; fits = is_dark; next = to_initial; answer = no_answer }
-    ∷ record { states = state.Operation ∷ []; fits = is_dark; next = to_popup; answer = no_answer }
-    ∷ record { states = state.Initial ∷ []; fits = is_lit_frame; next = to_standby; answer = no_answer }
-    ∷ record { states = state.SerialNumber ∷ state.Ranging ∷ state.Popup ∷ []; fits = is_frame; next = to_next_count; answer = no_answer }
-    ∷ record { states = state.Standby ∷ []; fits = hears_overhead; next = to_serial_number; answer = no_answer }
-    ∷ record { states = state.SerialNumber ∷ []; fits = hears_own_assignment; next = to_ranging; answer = no_answer }
-    ∷ record { states = state.Ranging ∷ state.Operation ∷ []; fits = hears_own_ranging_time; next = to_operation; answer = no_answer }
-    ∷ record { states = state.Ranging ∷ state.Operation ∷ state.Popup ∷ []; fits = hears_deactivation; next = to_standby; answer = no_answer }
-    ∷ record { states = state.Standby ∷ state.SerialNumber ∷ state.Ranging ∷ state.Operation ∷ state.Popup ∷ []; fits = hears_own_disabling; next = to_emergency_stop; answer = no_answer }
-    ∷ record { states = state.EmergencyStop ∷ []; fits = hears_enabling; next = to_standby; answer = no_answer }
-    ∷ record { states = state.Popup ∷ []; fits = hears_own_popup; next = back_to_operation; answer = no_answer }
-    ∷ record { states = state.Popup ∷ []; fits = hears_popup_of_all; next = back_to_ranging; answer = no_answer }
-    ∷ record { states = state.Operation ∷ []; fits = hears_own_alloc; next = to_acknowledge; answer = no_answer }
-    ∷ record { states = state.SerialNumber ∷ []; fits = is_search; next = stays; answer = serial_number }
-    ∷ record { states = state.Ranging ∷ state.Operation ∷ []; fits = is_own_range; next = stays; answer = serial_number }
-    ∷ record { states = state.Operation ∷ []; fits = is_own_poll; next = to_owing_nothing; answer = acknowledgement }
+    line (o1 ∷ []) is_light to_standby
+    ∷ line (o2 ∷ o3 ∷ o4 ∷ []) is_dark to_initial
+    ∷ line (o5 ∷ []) is_dark to_popup
+    ∷ line (o1 ∷ []) is_lit_frame to_standby
+    ∷ line (o3 ∷ o4 ∷ o6 ∷ []) is_frame to_next_count
+    ∷ line (o2 ∷ []) hears_overhead to_serial_number
+    ∷ line (o3 ∷ []) hears_own_assignment to_ranging
+    ∷ line (o4 ∷ o5 ∷ []) hears_own_ranging_time to_operation
+    ∷ line (o4 ∷ o5 ∷ o6 ∷ []) hears_deactivation to_standby
+    ∷ line (o2 ∷ o3 ∷ o4 ∷ o5 ∷ o6 ∷ []) hears_own_disabling to_emergency_stop
+    ∷ line (o7 ∷ []) hears_enabling to_standby
+    ∷ line (o6 ∷ []) hears_own_popup back_to_operation
+    ∷ line (o6 ∷ []) hears_popup_of_all back_to_ranging
+    ∷ line (o5 ∷ []) hears_own_alloc to_acknowledge
+    ∷ answering (o3 ∷ []) is_search stays serial_number
+    ∷ answering (o4 ∷ o5 ∷ []) is_own_range stays serial_number
+    ∷ answering (o5 ∷ []) is_own_poll to_owing_nothing acknowledgement
     ∷ []
 
 -- how the table is read

@@ -1,8 +1,6 @@
 //! A simulated unit: the states O1 to O7 of an ONU (G.984.3, clause 10), and what it hears and answers.
 #![tactic(auto)]
 
-mod hearing;
-mod answers;
 mod law;
 mod stage;
 mod state;
@@ -11,3 +9,6 @@ mod unit;
 pub use law::heard_twice;
 pub use state::State;
 pub use unit::Unit;
+
+#[cfg(test)]
+mod tests;

@@ -50,9 +50,8 @@ impl Stage {
         ensures { result ≡ number_of self }
     {
         match self {
-            Stage::Ranging { onu, .. }
-            | Stage::Operation { onu, .. }
-            | Stage::Popup { onu, .. } => Some(onu),
+            Stage::Ranging { onu, .. } | Stage::Operation { onu, .. } | Stage::Popup { onu, .. } =>
+                Some(onu),
             _ => None,
         }
     }

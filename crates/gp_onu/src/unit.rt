@@ -1,15 +1,20 @@
-ghost use Rattle.std.specs.Prelude.{◌≡◌, ◌≤◌, ◌<◌, IfSome, IfNone, false};
-ghost use Rattle.std.specs.Option.{ForSome};
-ghost use Rattle.gp_onu.specs.Stage.{eqd_of, number_of, state_of};
-ghost use Rattle.gp_onu.specs.Table.{Light, Dark, Frame, unit_after};
+ghost use Rattle.std.specs.Prelude.{◌≡◌, ◌≤◌, ◌<◌, ℕ, Bool, false, List, IfNone, IfSome, IsTrue, take};
+ghost use Rattle.std.specs.Option.{ForSome, option_map};
+ghost use Rattle.gp_ploam.specs.declared.message.Down.{Down};
+ghost use Rattle.gp_ploam.specs.Down.{ReadsDown};
+ghost use Rattle.gp_ploam.specs.Mask.{mask_value};
+ghost use Rattle.gp_ploam.specs.Row.{HasRightCheck};
+ghost use Rattle.gp_ploam.specs.Up.{IsProperUp, code_of_up};
+ghost use Rattle.gp_ranging.specs.declared.grant.Grant.TheVariants.{Poll, Range, Search};
 ghost use Rattle.gp_onu.specs.Frames.{IsFirstChange, NeverChanges, frames_left, unit_after_frames};
-
-use std::marker::Model;
-
-use gp_ploam::{Mask, Serial};
+ghost use Rattle.gp_onu.specs.Stage.{eqd_of, number_of, state_of};
+ghost use Rattle.gp_onu.specs.Table.{Dark, Frame, Granted, Hears, Light, answer_to, unit_after};
 
 use super::stage::Stage;
 use super::state::State;
+use gp_ploam::{Down, Mask, Serial, Up, decode_down, encode_up};
+use gp_ranging::Grant;
+use std::marker::Model;
 
 /// How many frames O3 and O4 last together: ten seconds.
 const ACTIVATION_FRAMES: u32 = 80_000;
@@ -17,13 +22,22 @@ const ACTIVATION_FRAMES: u32 = 80_000;
 /// How many frames O6 lasts: a tenth of a second.
 const POPUP_FRAMES: u32 = 800;
 
+/// What stands in place of an ONU-ID in a message for every unit, and in one of a unit that has none.
+const NO_ONU: u8 = 255;
+
+/// The greatest ONU-ID.
+const GREATEST_ONU: u8 = 253;
+
+/// The identifier of an Alloc-ID assignment.
+const ASSIGN_ALLOC: u8 = 10;
+
 /// A simulated unit.
 #[derive(Debug, Drop)]
 pub struct Unit {
-    pub(crate) serial: Serial,
-    pub(crate) mask: Mask,
-    pub(crate) lit: bool,
-    pub(crate) stage: Stage,
+    serial: Serial,
+    mask: Mask,
+    lit: bool,
+    stage: Stage,
 }
 
 impl Model for Unit {
@@ -153,4 +167,262 @@ impl Unit {
     {
         self.stage = self.stage.with_more_frames(frames);
     }
+
+    /// The unit hears a code. One with a wrong check octet changes nothing.
+    pub fn hear(&mut self, code: &[u8; 13])
+        ensures read { (m : Down) → ReadsDown code.now (mask_value self.old.mask) m → self.new ≡ unit_after self.old (Hears code.now m) }
+        ensures unread { ¬ HasRightCheck code.now (mask_value self.old.mask) → self.new ≡ self.old }
+    {
+        if !self.lit {
+            return;
+        }
+        if let Ok(message) = decode_down(code, self.mask) {
+            self.heed(message, code);
+        }
+    }
+
+    fn heed(&mut self, message: Down, code: &[u8; 13])
+        requires { IsTrue self.old.lit }
+        ensures { self.new ≡ unit_after self.old (Hears code.now message) }
+    {
+        match message {
+            Down::UpstreamOverhead { .. } => self.heed_overhead(),
+            Down::AssignOnu { onu, serial } => self.heed_assignment(onu, &serial),
+            Down::RangingTime { onu, eqd } => self.heed_ranging_time(onu, eqd),
+            Down::Deactivate { onu } => self.heed_deactivation(onu),
+            Down::DisableSerial { serial } => self.heed_disabling(&serial),
+            Down::EnableSerial { serial } => self.heed_enabling(&serial),
+            Down::EnableAll => self.heed_enabling_of_all(),
+            Down::AssignAlloc { onu, .. } => self.heed_alloc(onu, front_of(code)),
+            Down::Popup { onu } => self.heed_popup(onu),
+            Down::NoMessage => {}
+            Down::Other { .. } => {}
+        }
+    }
+
+    fn heed_overhead(&mut self)
+        requires { IsTrue self.old.lit }
+        ensures { (code burst : List ℕ) → self.new ≡ unit_after self.old (Hears code (Down.UpstreamOverhead burst)) }
+    {
+        if let Stage::Standby = self.stage {
+            self.stage = Stage::SerialNumber { frames: 0 };
+        }
+    }
+
+    fn heed_assignment(&mut self, onu: u8, serial: &Serial)
+        requires { IsTrue self.old.lit }
+        ensures { (code : List ℕ) → self.new ≡ unit_after self.old (Hears code (Down.AssignOnu onu serial.now)) }
+    {
+        if let Stage::SerialNumber { frames } = self.stage {
+            if *serial == self.serial && onu <= GREATEST_ONU {
+                self.stage = Stage::Ranging { onu, frames };
+            }
+        }
+    }
+
+    fn heed_ranging_time(&mut self, onu: u8, eqd: u32)
+        requires { IsTrue self.old.lit }
+        ensures { (code : List ℕ) → self.new ≡ unit_after self.old (Hears code (Down.RangingTime onu eqd)) }
+    {
+        match self.stage {
+            Stage::Ranging { onu: own, .. } if own == onu => {
+                self.stage = Stage::Operation {
+                    onu,
+                    eqd,
+                    owed: None,
+                };
+            }
+            Stage::Operation { onu: own, owed, .. } if own == onu => {
+                self.stage = Stage::Operation { onu, eqd, owed };
+            }
+            _ => {}
+        }
+    }
+
+    fn heed_deactivation(&mut self, onu: u8)
+        requires { IsTrue self.old.lit }
+        ensures { (code : List ℕ) → self.new ≡ unit_after self.old (Hears code (Down.Deactivate onu)) }
+    {
+        if let Some(own) = self.stage.number() {
+            if onu == own || onu == NO_ONU {
+                self.stage = Stage::Standby;
+            }
+        }
+    }
+
+    fn heed_disabling(&mut self, serial: &Serial)
+        requires { IsTrue self.old.lit }
+        ensures { (code : List ℕ) → self.new ≡ unit_after self.old (Hears code (Down.DisableSerial serial.now)) }
+    {
+        match self.stage {
+            Stage::Initial | Stage::EmergencyStop => {}
+            _ => {
+                if *serial == self.serial {
+                    self.stage = Stage::EmergencyStop;
+                }
+            }
+        }
+    }
+
+    fn heed_enabling(&mut self, serial: &Serial)
+        requires { IsTrue self.old.lit }
+        ensures { (code : List ℕ) → self.new ≡ unit_after self.old (Hears code (Down.EnableSerial serial.now)) }
+    {
+        if let Stage::EmergencyStop = self.stage {
+            if *serial == self.serial {
+                self.stage = Stage::Standby;
+            }
+        }
+    }
+
+    fn heed_enabling_of_all(&mut self)
+        requires { IsTrue self.old.lit }
+        ensures { (code : List ℕ) → self.new ≡ unit_after self.old (Hears code Down.EnableAll) }
+    {
+        if let Stage::EmergencyStop = self.stage {
+            self.stage = Stage::Standby;
+        }
+    }
+
+    fn heed_alloc(&mut self, onu: u8, front: [u8; 9])
+        requires { IsTrue self.old.lit }
+        ensures { (code : List ℕ) (alloc : ℕ) (keep : Bool) → front ≡ take 9 code → self.new ≡ unit_after self.old (Hears code (Down.AssignAlloc onu alloc keep)) }
+    {
+        match self.stage {
+            Stage::Operation { onu: own, eqd, .. } if own == onu => {
+                self.stage = Stage::Operation {
+                    onu,
+                    eqd,
+                    owed: Some(front),
+                };
+            }
+            _ => {}
+        }
+    }
+
+    fn heed_popup(&mut self, onu: u8)
+        requires { IsTrue self.old.lit }
+        ensures { (code : List ℕ) → self.new ≡ unit_after self.old (Hears code (Down.Popup onu)) }
+    {
+        if let Stage::Popup {
+            onu: own,
+            eqd,
+            owed,
+            ..
+        } = self.stage
+        {
+            if onu == own {
+                self.stage = Stage::Operation { onu, eqd, owed };
+            } else if onu == NO_ONU {
+                self.stage = Stage::Ranging {
+                    onu: own,
+                    frames: 0,
+                };
+            }
+        }
+    }
+
+    /// The code of the unit's answer to a grant, if it answers. `random` is its random delay under a serial number
+    /// request, in units of 32 bytes.
+    pub fn grant(&mut self, grant: Grant, random: u16) -> Option<[u8; 13]>
+        requires { random ≤ 4095 }
+        ensures answer { result ≡ option_map (λ m. code_of_up m (mask_value self.old.mask)) (answer_to self.old (Granted grant random)) }
+        ensures after { self.new ≡ unit_after self.old (Granted grant random) }
+    {
+        if !self.lit {
+            return None;
+        }
+        let answer = self.answer(grant, random)?;
+        Some(encode_up(&answer, self.mask))
+    }
+
+    fn answer(&mut self, grant: Grant, random: u16) -> Option<Up>
+        requires lit { IsTrue self.old.lit }
+        requires random { random ≤ 4095 }
+        ensures answer { result ≡ answer_to self.old (Granted grant random) }
+        ensures after { self.new ≡ unit_after self.old (Granted grant random) }
+        ensures proper { IfSome result IsProperUp }
+    {
+        match grant {
+            Grant::Search => self.answer_search(random),
+            Grant::Range(onu) => self.answer_range(onu),
+            Grant::Poll(onu) => self.answer_poll(onu),
+        }
+    }
+
+    fn answer_search(&self, random: u16) -> Option<Up>
+        requires lit { IsTrue self.now.lit }
+        requires random { random ≤ 4095 }
+        ensures answer { result ≡ answer_to self.now (Granted Search random) }
+        ensures after { self.now ≡ unit_after self.now (Granted Search random) }
+        ensures proper { IfSome result IsProperUp }
+    {
+        match self.stage {
+            Stage::SerialNumber { .. } => Some(Up::SerialNumber {
+                onu: NO_ONU,
+                serial: self.serial,
+                random,
+                flags: 0,
+            }),
+            _ => None,
+        }
+    }
+
+    fn answer_range(&self, onu: u8) -> Option<Up>
+        requires { IsTrue self.now.lit }
+        ensures answer { (random : ℕ) → result ≡ answer_to self.now (Granted (Range onu) random) }
+        ensures after { (random : ℕ) → self.now ≡ unit_after self.now (Granted (Range onu) random) }
+        ensures proper { IfSome result IsProperUp }
+    {
+        match self.stage {
+            Stage::Ranging { onu: own, .. } | Stage::Operation { onu: own, .. } if own == onu => {
+                Some(Up::SerialNumber {
+                    onu,
+                    serial: self.serial,
+                    random: 0,
+                    flags: 0,
+                })
+            }
+            _ => None,
+        }
+    }
+
+    fn answer_poll(&mut self, onu: u8) -> Option<Up>
+        requires { IsTrue self.old.lit }
+        ensures answer { (random : ℕ) → result ≡ answer_to self.old (Granted (Poll onu) random) }
+        ensures after { (random : ℕ) → self.new ≡ unit_after self.old (Granted (Poll onu) random) }
+        ensures proper { IfSome result IsProperUp }
+    {
+        match self.stage {
+            Stage::Operation {
+                onu: own,
+                eqd,
+                owed,
+            } if own == onu => {
+                self.stage = Stage::Operation {
+                    onu,
+                    eqd,
+                    owed: None,
+                };
+                match owed {
+                    None => Some(Up::NoMessage { onu }),
+                    Some(copy) => Some(Up::Acknowledge {
+                        onu,
+                        id: ASSIGN_ALLOC,
+                        copy,
+                    }),
+                }
+            }
+            _ => None,
+        }
+    }
+}
+
+/// The first nine octets of a code.
+fn front_of(code: &[u8; 13]) -> [u8; 9]
+    ensures { result ≡ take 9 code.now }
+{
+    [
+        code[0], code[1], code[2], code[3], code[4], code[5], code[6], code[7], code[8],
+    ]
 }
