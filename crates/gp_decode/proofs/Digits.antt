@@ -13,7 +13,7 @@ use Rattle.hex.proofs.HexLemmas.{IsAscii-encode_with, decode_of-digits, decode_s
 pub IsAscii-encode_lower : (octets : List ℕ) → IsAscii (encode_lower octets)
 IsAscii-encode_lower octets =
     IsAscii-encode_with lower_digits octets (
-      IsAscii-from_all lower_digits (All-weaker (λ c. nat_lt c 128 ≡ true) (λ c. c < 128) (λ c below. grind (arith, nat_tests)) lower_digits (AllPass-from_list_all (λ c. nat_lt c 128) lower_digits refl))
+    IsAscii-from_all lower_digits (All-weaker (λ c. nat_lt c 128 ≡ true) (λ c. c < 128) (λ c below. grind (arith, nat_tests)) lower_digits (AllPass-from_list_all (λ c. nat_lt c 128) lower_digits refl))
     )
 
 -- a text of digits that is not read as thirteen octets has another length

@@ -9,6 +9,5 @@ mod message;
 pub use fault::{LineFault, line_report};
 pub use line::decode_line;
 
-
 #[cfg(test)]
 mod tests;

@@ -52,12 +52,7 @@ fn write_line<W: Write>(sink: &mut Sink<W>, line: &[u8]) -> Result<(), WriteStop
 }
 
 /// The line of the message that a text is the code of.
-fn line_for(
-    alloc: Global,
-    text: &str,
-    upstream: bool,
-    mask: Mask,
-) -> Result<String, LineFault>
+fn line_for(alloc: Global, text: &str, upstream: bool, mask: Mask) -> Result<String, LineFault>
     ensures line { IfOk result (λ line. Says upstream mask text.now (string_bytes line)) }
     ensures fault { IfErr result (LacksLine upstream mask text.now) }
 {
@@ -66,12 +61,7 @@ fn line_for(
 }
 
 /// The line of the message that a code is read as.
-fn line_of(
-    alloc: Global,
-    code: &[u8; 13],
-    upstream: bool,
-    mask: Mask,
-) -> Result<String, LineFault>
+fn line_of(alloc: Global, code: &[u8; 13], upstream: bool, mask: Mask) -> Result<String, LineFault>
     ensures line { IfOk result (λ line. SaysCode upstream mask code.now (string_bytes line)) }
     ensures fault { IfErr result (LacksLineOfCode upstream mask code.now) }
 {

@@ -21,9 +21,18 @@ fn decoded(
 #[test]
 fn downstream_lines(rt: HostRuntime) -> Result<(), Fail> {
     let rows = [
-        ("ff010000000000000000000058", "Upstream_Overhead 00000000000000000000\n"),
-        ("ff03004142434400000001001b", "Assign_ONU-ID 0 ABCD00000001\n"),
-        ("FF03004142434400000001001B", "Assign_ONU-ID 0 ABCD00000001\n"),
+        (
+            "ff010000000000000000000058",
+            "Upstream_Overhead 00000000000000000000\n",
+        ),
+        (
+            "ff03004142434400000001001b",
+            "Assign_ONU-ID 0 ABCD00000001\n",
+        ),
+        (
+            "FF03004142434400000001001B",
+            "Assign_ONU-ID 0 ABCD00000001\n",
+        ),
         ("0004000003386000000000009c", "Ranging_Time 0 211040\n"),
         ("00050000000000000000000063", "Deactivate_ONU-ID 0\n"),
         ("ff060f00000000000000000053", "Enable_All\n"),
@@ -41,11 +50,17 @@ fn downstream_lines(rt: HostRuntime) -> Result<(), Fail> {
 #[test]
 fn upstream_lines(rt: HostRuntime) -> Result<(), Fail> {
     let rows = [
-        ("ff01414243440000000100002c", "Serial_Number_ONU 255 ABCD00000001 0 0\n"),
+        (
+            "ff01414243440000000100002c",
+            "Serial_Number_ONU 255 ABCD00000001 0 0\n",
+        ),
         ("00030000000000000000000021", "Dying_Gasp 0\n"),
         ("0004000000000000000000007c", "No_message 0\n"),
         ("00090a0000000000000000007e", "Acknowledge 0 10\n"),
-        ("00000000000000000000000000", "Other 0 0 00000000000000000000\n"),
+        (
+            "00000000000000000000000000",
+            "Other 0 0 00000000000000000000\n",
+        ),
     ];
     for (text, line) in rows {
         let (written, outcome) = decoded(rt.alloc(), text, true, Mask::Plain)?;
@@ -111,7 +126,11 @@ fn a_writer_that_stops(rt: HostRuntime) -> Result<(), Fail> {
         let mut sink = Sink::new(rt.alloc(), short)?;
         let text = "ff0c00000000000000000000c3";
         let outcome = decode_line(rt.alloc(), text, false, Mask::Plain, &mut sink);
-        let wanted = if room < line.len() { Err(LineFault::Write) } else { Ok(()) };
+        let wanted = if room < line.len() {
+            Err(LineFault::Write)
+        } else {
+            Ok(())
+        };
         assert_eq!(rt; outcome, wanted);
         assert_eq!(rt; sink.into_inner().taken.as_slice(), &line[..room]);
     }
