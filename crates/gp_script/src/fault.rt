@@ -57,6 +57,6 @@ impl<T: Drop> From<AllocFailed<T>> for ScriptError {
     ghost from_gives = { λ _ e. e ≡ OutOfMemory };
 
     fn from(_error: AllocFailed<T>) -> ScriptError {
-        ScriptError::OutOfMemory
+        ScriptError::from(AllocError)
     }
 }

@@ -36,10 +36,8 @@ fn fault_of(alloc: Global, text: &str) -> Option<ScriptError> {
 }
 
 #[test]
-fn one_unit(rt: HostRuntime) {
-    let Ok(script) = read_script(rt.alloc(), ONE_UNIT.as_bytes()) else {
-        return;
-    };
+fn one_unit(rt: HostRuntime) -> Result<(), ScriptError> {
+    let script = read_script(rt.alloc(), ONE_UNIT.as_bytes())?;
     let anybody = *b"\xff\x01ABCD\x00\x00\x00\x01\x00\x00\x2c";
     let number_0 = *b"\x00\x01ABCD\x00\x00\x00\x01\x00\x00\x6b";
     let events = [
@@ -75,10 +73,11 @@ fn one_unit(rt: HostRuntime) {
         assert_eq!(rt; port.search_period, 0);
         assert_eq!(rt; port.admitted.as_slice(), serials.as_slice());
     }
+    Ok(())
 }
 
 #[test]
-fn other_forms(rt: HostRuntime) {
+fn other_forms(rt: HostRuntime) -> Result<(), ScriptError> {
     let text = "event = [{port = 0, at = 7, burst = \"0004000000000000000000007C\"},
         {port = 0, at = 8, say = \"none\", onu = 0}]
         unit = []
@@ -86,9 +85,7 @@ fn other_forms(rt: HostRuntime) {
         licences = 0
         mask = 85
         port = [{overhead = \"0102030405060708090A\"}]";
-    let Ok(script) = read_script(rt.alloc(), text.as_bytes()) else {
-        return;
-    };
+    let script = read_script(rt.alloc(), text.as_bytes())?;
     let events = [
         ScriptEvent::Burst {
             port: 0,
@@ -109,6 +106,7 @@ fn other_forms(rt: HostRuntime) {
         assert_eq!(rt; port.cycles, 3);
         assert_eq!(rt; port.overhead, [1, 2, 3, 4, 5, 6, 7, 8, 9, 10]);
     }
+    Ok(())
 }
 
 #[test]
@@ -356,6 +354,14 @@ fn many_of_a_kind(rt: HostRuntime) -> Result<(), AllocError> {
             want,
             "{count} serial numbers"
         );
+    }
+    for (licences, fault) in [("\"1\"", ScriptFault::Shape), ("1", ScriptFault::Range)] {
+        let text = format!(in rt.alloc();
+            "licences = {licences}\nport = [{}{{}}]",
+            "{}, ".repeat(rt.alloc(), 16)?
+        )?;
+        let found = fault_of(rt.alloc(), text.as_str());
+        assert_eq!(rt; found, Some(ScriptError::Fault(fault)), "17 ports");
     }
     let blank = vec![in rt.alloc(); b' '; 1_048_576]?;
     let fault = read_script(rt.alloc(), &blank).err();

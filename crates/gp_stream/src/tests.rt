@@ -109,7 +109,7 @@ fn longest_input(rt: HostRuntime) {
 }
 
 #[test]
-fn short_writes_and_faults(rt: HostRuntime) {
+fn short_writes_and_faults(rt: HostRuntime) -> Result<(), AllocError> {
     for (fails, room) in [
         (false, 0),
         (true, 0),
@@ -123,9 +123,7 @@ fn short_writes_and_faults(rt: HostRuntime) {
             room,
             fails,
         };
-        let Ok(mut sink) = Sink::new(rt.alloc(), short) else {
-            return;
-        };
+        let mut sink = Sink::new(rt.alloc(), short)?;
         assert_eq!(rt; sink.put(b"abc"), Ok(()));
         assert_eq!(rt; sink.put(b"def"), Ok(()));
         let want = if room < 6 { Err(WriteStopped) } else { Ok(()) };
@@ -134,18 +132,18 @@ fn short_writes_and_faults(rt: HostRuntime) {
         let taken = sink.into_inner().taken;
         assert_eq!(rt; taken.as_slice(), &b"abcdef"[..room]);
     }
+    Ok(())
 }
 
 #[test]
-fn larger_than_the_room(rt: HostRuntime) {
-    let Ok(mut sink) = Sink::new(rt.alloc(), Vec::new(rt.alloc())) else {
-        return;
-    };
+fn larger_than_the_room(rt: HostRuntime) -> Result<(), AllocError> {
+    let mut sink = Sink::new(rt.alloc(), Vec::new(rt.alloc()))?;
     assert_eq!(rt; sink.put(b"abc"), Ok(()));
     assert_eq!(rt; sink.put(&[7; 70_000]), Ok(()));
     assert_eq!(rt; sink.put(b"def"), Ok(()));
     let taken = sink.into_inner();
     assert_eq!(rt; taken.len(), 70_003);
+    Ok(())
 }
 
 #[test]
