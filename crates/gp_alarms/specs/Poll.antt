@@ -1,5 +1,5 @@
 -- What the end of a poll window does to the counts of its unit, and which alarm they give.
-use Rattle.std.specs.Prelude.{ℕ, ◌+◌, ◌≤◌, ◌==◌, if◌then◌else◌, Bool, true, false, Option, None, Some}
+use Rattle.std.specs.Prelude.{ℕ, ◌+◌, ◌≤◌, ◌==◌, if◌then◌else◌, Bool, Option, None, Some}
 use Rattle.gp_alarms.specs.declared.alarm.AlarmKind.{AlarmKind}
 use Rattle.gp_alarms.specs.declared.alarm.AlarmKind.TheVariants.{Los, Loam, Loa}
 use Rattle.gp_alarms.specs.declared.poll.PollCounts.{PollCounts}

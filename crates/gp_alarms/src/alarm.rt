@@ -1,6 +1,5 @@
-use std::fmt;
-
 use gp_ploam::Serial;
+use std::fmt;
 
 /// What an alarm is about. The names are those of G.984.3, clause 11, without the unit's index; when
 /// each is given is this profile's own rule.

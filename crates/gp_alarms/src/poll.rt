@@ -3,10 +3,10 @@ ghost use Rattle.gp_alarms.specs.Poll.{IsBelowEachLimit, alarm_of, counts_after}
 
 use super::alarm::AlarmKind;
 
-/// How many dark poll windows in a row give LOS, garbled windows aside, which end the row.
+/// How many dark poll windows in a row give LOS.
 const DARK_LIMIT: u8 = 4;
 
-/// How many garbled poll windows with no good one between give LOAM.
+/// How many garbled poll windows with no message of the unit between give LOAM.
 const GARBLED_LIMIT: u8 = 3;
 
 /// How many poll windows without an Acknowledge of a pending Alloc-ID give LOA.
@@ -41,7 +41,11 @@ pub enum Outcome {
 
 /// Counts a poll window of a unit that ended so: the counts then, and the alarm that they give, which
 /// is LOS, LOAM, LOA or none. `pending`: an Alloc-ID is pending.
-pub fn close_poll(counts: PollCounts, outcome: Outcome, pending: bool) -> (PollCounts, Option<AlarmKind>)
+pub fn close_poll(
+    counts: PollCounts,
+    outcome: Outcome,
+    pending: bool,
+) -> (PollCounts, Option<AlarmKind>)
     requires { IsBelowEachLimit counts }
     ensures counts { result.0 ≡ counts_after counts outcome pending }
     ensures alarm { result.1 ≡ alarm_of result.0 }

@@ -22,7 +22,11 @@ fn each_outcome_of_a_poll_window(rt: HostRuntime) {
             garbled,
             waiting,
         };
-        assert_eq!(rt; close_poll(COUNTS, outcome, true), (want, None), "{outcome:?}");
+        assert_eq!(rt;
+            close_poll(COUNTS, outcome, true),
+            (want, None),
+            "{outcome:?}"
+        );
     }
 }
 

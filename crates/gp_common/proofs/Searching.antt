@@ -1,10 +1,8 @@
 -- The decisions of an acquisition.
-use Rattle.std.proofs.Common.{◌≡◌, List, [], ◌∷◌, length, refl, ap}
-use Rattle.std.specs.Prelude.{replicate}
+use Rattle.std.proofs.Common.{[], ◌∷◌, refl, ap}
 use Rattle.gp_ranging.specs.declared.grant.Grant.TheVariants.{Search}
-use Rattle.gp_common.specs.declared.common.Common.TheVariants.{Acquisition}
 use Rattle.gp_common.specs.declared.decision.Decision.TheVariants.{Ask}
-use Rattle.gp_common.specs.Laws.{Situation, OpensEachSearchWindow, decisions_in, common_after}
+use Rattle.gp_common.specs.Laws.{OpensEachSearchWindow}
 
 -- with as many situations as search windows are left, each decision searches
 pub each_searches : OpensEachSearchWindow

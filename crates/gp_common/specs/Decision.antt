@@ -1,6 +1,5 @@
 -- What a port does in a frame in which no window is open and nothing is owed.
 use Rattle.std.specs.Prelude.{ℕ, zero, suc, Bool, true, false, Option, None, Some}
-use Rattle.gp_ranging.specs.declared.grant.Grant.{Grant}
 use Rattle.gp_ranging.specs.declared.grant.Grant.TheVariants.{Search, Range, Poll}
 use Rattle.gp_common.specs.declared.common.Common.{Common}
 use Rattle.gp_common.specs.declared.common.Common.TheVariants.{Standby, Acquisition, Measuring}

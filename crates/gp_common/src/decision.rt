@@ -1,9 +1,8 @@
 ghost use Rattle.std.specs.Prelude.{◌≡◌};
 ghost use Rattle.gp_common.specs.Decision.{decision_of, measurement_of, standby_decision_of};
 
-use gp_ranging::Grant;
-
 use super::common::Common;
+use gp_ranging::Grant;
 
 /// What a port does in a frame in which no window is open and nothing is owed.
 #[derive(Clone, Copy, Debug, PartialEq, Eq)]

@@ -4,12 +4,10 @@ ghost use Rattle.gp_common.specs.Laws.{AsksWhoIsThere, OpensEachSearchWindow};
 /// nothing else to do; it ranges only a ranging unit; it searches only while search windows are left.
 pub fn asks_who_is_there()
     ensures { AsksWhoIsThere }
-{
-}
+{}
 
 /// An acquisition with a number of search windows left opens that many with its next decisions, whatever
 /// the units do meanwhile, and then no more.
 pub fn opens_each_search_window()
     ensures { OpensEachSearchWindow }
-{
-}
+{}

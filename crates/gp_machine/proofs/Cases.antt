@@ -1,9 +1,9 @@
 -- What holds in each case of a definition holds of what it defines.
-use Rattle.std.proofs.Common.{◌≡◌, ℕ, zero, suc, ◌<◌, ◌≤◌, Bool, true, false, cond, nat_lt, ◌==◌, ◌&&◌, List, [], ◌∷◌, Option, None, Some, refl, sym, arith}
+use Rattle.std.proofs.Common.{◌≡◌, ℕ, zero, suc, ◌<◌, ◌≤◌, Bool, true, false, cond, nat_lt, ◌==◌, ◌&&◌, List, [], ◌∷◌, Option, None, Some, refl, arith}
 use Rattle.std.specs.Prelude.{◌-◌, is_none}
 use Rattle.std.specs.List.{list_any}
 use Rattle.std.specs.FinMap.{get}
-use Rattle.std.proofs.lemmas.Bool.{false≢true, leb-true, ltb-true, ltb-false, eqb-true, eqb-false}
+use Rattle.std.proofs.lemmas.Bool.{false≢true, ltb-true, ltb-false, eqb-true, eqb-false}
 use Rattle.gp_ploam.specs.declared.message.Serial.{Serial}
 use Rattle.gp_ploam.specs.declared.message.Down.{Down}
 use Rattle.gp_ploam.specs.declared.message.Up.{Up}
@@ -19,7 +19,7 @@ use Rattle.gp_machine.specs.declared.row.Row.{Row}
 use Rattle.gp_machine.specs.declared.refusal.Refusal.{Refusal}
 use Rattle.gp_machine.specs.declared.refusal.Refusal.TheVariants.{Stray, Garbled, WrongWindow, NotAdmitted, NoId, NoLicence, Busy}
 use Rattle.gp_machine.specs.declared.reply.Reply.TheVariants.{Refused, Found, Again, Repeat, Ranged, TooFar, StillRanging}
-use Rattle.gp_machine.specs.State.{PortState, HasRow, IsRanging, rows_of}
+use Rattle.gp_machine.specs.State.{PortState, HasRow, rows_of}
 use Rattle.gp_machine.specs.Outcomes.{Outcome, bare_outcome, has_room, state_seen, refused_burst}
 use Rattle.gp_machine.specs.Frame.{first_of, is_idle, deciding_frame, waiting_frame, frame_outcome}
 use Rattle.gp_machine.specs.Burst.{state_assigned, state_ranged, is_assign, newcomer_outcome, again_outcome, active_outcome, admitted_outcome, serial_outcome, search_outcome, measured_outcome, row_outcome, asked_outcome, range_outcome, heard_outcome, window_outcome, burst_outcome}
@@ -34,16 +34,16 @@ pub record OfEachBurst (P : Outcome → Type 0) (u : ℕ) (p : PortState) (at n 
   pub stray : P (bare_outcome u p (Refused Stray))
   pub refused : (refusal : Refusal) → P (refused_burst u p refusal)
   pub found : (w : WindowState) → p.window ≡ Some w → w.grant ≡ Search
-    → (s : Serial) → list_any (same_serial s) p.config.admitted ≡ true → get p.rows s ≡ None
-    → rows_of p < p.config.max_units → 0 < u → has_room p ≡ true → P (bare_outcome (u - 1) (state_assigned p s n) (Found n))
+      → (s : Serial) → list_any (same_serial s) p.config.admitted ≡ true → get p.rows s ≡ None
+      → rows_of p < p.config.max_units → 0 < u → has_room p ≡ true → P (bare_outcome (u - 1) (state_assigned p s n) (Found n))
   pub repeated : (s : Serial) (row : Row) → HasRow p.rows s row → P (bare_outcome u p (Repeat row.onu))
   pub again : (w : WindowState) → p.window ≡ Some w → w.grant ≡ Search
-    → (s : Serial) (row : Row) → HasRow p.rows s row → has_room p ≡ true → P (bare_outcome u (state_assigned p s row.onu) (Again row.onu))
+      → (s : Serial) (row : Row) → HasRow p.rows s row → has_room p ≡ true → P (bare_outcome u (state_assigned p s row.onu) (Again row.onu))
   pub too_far : (m : ℕ) → P (bare_outcome u (state_seen p) (TooFar m))
   pub still_ranging : (m : ℕ) → P (bare_outcome u (state_seen p) (StillRanging m))
   pub ranged : (w : WindowState) (m : ℕ) → p.window ≡ Some w → w.grant ≡ Range m
-    → (s : Serial) (row : Row) → HasRow p.rows s row → row.onu ≡ m
-    → at ≤ p.config.teqd → has_room p ≡ true → P (bare_outcome u (state_ranged p s m (p.config.teqd - at)) (Ranged m (p.config.teqd - at)))
+      → (s : Serial) (row : Row) → HasRow p.rows s row → row.onu ≡ m
+      → at ≤ p.config.teqd → has_room p ≡ true → P (bare_outcome u (state_ranged p s m (p.config.teqd - at)) (Ranged m (p.config.teqd - at)))
 
 positive : (u : ℕ) → (u == 0) ≡ false → 0 < u
 positive zero h = absurd (eqb-false zero 0 h refl)

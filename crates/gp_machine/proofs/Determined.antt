@@ -1,14 +1,13 @@
 -- One outcome for each reply.
-use Rattle.std.proofs.Common.{◌≡◌, ℕ, ◌≤◌, List, Option, None, Some, refl, sym, ap, ◌∙◌, arith}
+use Rattle.std.proofs.Common.{◌≡◌, ℕ, List, Option, None, Some, refl, sym, ap, ◌∙◌, arith}
 use Rattle.gp_ploam.specs.declared.message.Up.{Up}
 use Rattle.gp_ploam.specs.Mask.{mask_value}
 use Rattle.gp_ploam.specs.Up.{ReadsUp}
 use Rattle.gp_machine.specs.declared.event.Event.TheVariants.{Frame, Burst, Command}
-use Rattle.gp_machine.specs.State.{PortState, Rows, IsLeastRanging}
-use Rattle.gp_machine.specs.Outcomes.{Outcome}
+use Rattle.gp_machine.specs.State.{Rows, IsLeastRanging}
 use Rattle.gp_machine.specs.Frame.{frame_outcome}
 use Rattle.gp_machine.specs.Burst.{burst_outcome}
-use Rattle.gp_machine.specs.Step.{Step, Hears, number_in}
+use Rattle.gp_machine.specs.Step.{Hears, number_in}
 use Rattle.gp_machine.specs.OneStep.{IsDetermined}
 
 -- a code is read as one message at most

@@ -1,5 +1,5 @@
 -- No step makes or loses a licence.
-use Rattle.std.proofs.Common.{◌≡◌, ℕ, ◌+◌, ◌<◌, ◌≤◌, ◌==◌, ◌||◌, cond, Option, None, Some, refl, sym, ap, ◌∙◌, subst, arith, is_some}
+use Rattle.std.proofs.Common.{◌≡◌, ℕ, ◌+◌, ◌==◌, ◌||◌, cond, Option, None, refl, sym, ap, ◌∙◌, subst, arith, is_some}
 use Rattle.std.specs.Prelude.{◌-◌}
 use Rattle.std.specs.FinMap.{get, insert, len, len-insert}
 use Rattle.gp_ploam.specs.declared.message.Serial.{Serial}
@@ -25,10 +25,10 @@ use Rattle.gp_machine.proofs.Cases.{by_test, OfEachBurst, OfEachFrame, of_each_b
 abbrev pub Keeps : ℕ → PortState → Outcome → Type 0
 Keeps u p o = o.purse + rows_of o.state ≡ u + rows_of p
 
-len-known : (rows : Rows) (s : Serial) (row new : Row) → HasRow rows s row → len (insert rows s new) ≡ len rows
+pub len-known : (rows : Rows) (s : Serial) (row new : Row) → HasRow rows s row → len (insert rows s new) ≡ len rows
 len-known rows s row new has = len-insert serials_total rows s new ∙ ap (λ (o : Option Row). cond (is_some o) (len rows) (len rows + 1)) has
 
-len-new : (rows : Rows) (s : Serial) (new : Row) → get rows s ≡ None → len (insert rows s new) ≡ len rows + 1
+pub len-new : (rows : Rows) (s : Serial) (new : Row) → get rows s ≡ None → len (insert rows s new) ≡ len rows + 1
 len-new rows s new none = len-insert serials_total rows s new ∙ ap (λ (o : Option Row). cond (is_some o) (len rows) (len rows + 1)) none
 
 pub burst_keeps : (u : ℕ) (p : PortState) (at : ℕ) → (n : ℕ) → OfEachBurst (Keeps u p) u p at n

@@ -9,3 +9,7 @@ pub mod Commands
 pub mod Step
 pub mod Run
 pub mod OneStep
+pub mod Runs
+pub mod Messages
+pub mod OnuIds
+pub mod Delays

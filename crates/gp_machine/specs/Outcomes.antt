@@ -1,5 +1,5 @@
 -- What a step gives, and the parts that the tables of all events share.
-use Rattle.std.specs.Prelude.{ℕ, ◌+◌, ◌==◌, ◌&&◌, nat_le, Bool, true, false, List, [], ◌∷◌, ◌++◌, length, Option, None, Some, option_map}
+use Rattle.std.specs.Prelude.{ℕ, ◌+◌, nat_le, Bool, [], ◌∷◌, ◌++◌, length, None, option_map}
 use Rattle.gp_ploam.specs.declared.message.Down.{Down}
 use Rattle.gp_ranging.specs.Window.{marked_window}
 use Rattle.gp_machine.specs.declared.answer.Answer.{Answer}

@@ -3,10 +3,9 @@ ghost use Rattle.std.specs.List.{list_any};
 ghost use Rattle.gp_ploam.specs.Serials.{same_serial};
 ghost use Rattle.gp_machine.specs.Config.{is_distinct};
 
+use gp_ploam::Serial;
 use std::alloc::{AllocError, Global};
 use std::marker::Model;
-
-use gp_ploam::Serial;
 
 /// The serial numbers that a port admits. Contracts see them as a list.
 #[derive(Drop)]

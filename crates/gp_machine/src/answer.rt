@@ -1,8 +1,7 @@
+use super::reply::Reply;
 use gp_alarms::Alarm;
 use gp_ploam::Down;
 use gp_ranging::Grant;
-
-use super::reply::Reply;
 
 /// What a port gives for an event: its reply, the message that it sends downstream, the grant that it
 /// issues, and the alarm that it raises, where there is one.

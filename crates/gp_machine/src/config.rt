@@ -1,11 +1,9 @@
 ghost use Rattle.std.specs.Prelude.{◌≡◌, ◌↔◌, IfOk, IsTrue};
 ghost use Rattle.gp_machine.specs.Config.{is_within_limits};
 
-use std::alloc::{AllocError, Global};
-
-use gp_ploam::Mask;
-
 use super::admitted::Admitted;
+use gp_ploam::Mask;
+use std::alloc::{AllocError, Global};
 
 /// What a port is configured with.
 #[derive(Drop)]

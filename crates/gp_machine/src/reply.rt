@@ -1,6 +1,5 @@
-use std::fmt::{self, Display, Formatter, Write};
-
 use super::refusal::Refusal;
+use std::fmt::{self, Display, Formatter, Write};
 
 /// What a port replies to an event.
 #[derive(Clone, Copy, Debug, PartialEq, Eq)]

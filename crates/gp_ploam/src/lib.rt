@@ -1,10 +1,13 @@
-// The messages of the activation protocol and their codes of thirteen octets.
+//! The PLOAM messages of ITU-T G.984.3, clause 9, and their codes of thirteen
+//! octets.
 #![tactic(auto)]
 
 mod check;
 mod down;
 mod message;
 mod octets;
+#[cfg(test)]
+mod tests;
 mod up;
 
 pub use check::{Mask, crc};

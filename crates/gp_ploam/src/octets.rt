@@ -8,6 +8,7 @@ use super::message::Serial;
 pub const EVERY_UNIT: u8 = 0xff;
 
 /// A row that is spelled out: octet 1, the identifier, and ten octets.
+#[inline]
 pub fn with_body(octet1: u8, id: u8, body: [u8; 10]) -> [u8; 12]
     ensures { result ≡ written (Is octet1 ∷ Is id ∷ map Is body) }
 {
@@ -16,6 +17,7 @@ pub fn with_body(octet1: u8, id: u8, body: [u8; 10]) -> [u8; 12]
 }
 
 /// A row for every unit, with a serial number from octet 4 on.
+#[inline]
 pub fn with_serial(id: u8, octet3: u8, serial: Serial) -> [u8; 12]
     ensures { result ≡ written (Is 255 ∷ Is id ∷ Is octet3 ∷ map Is serial.0 ++ Free 0 ∷ []) }
 {
@@ -24,6 +26,7 @@ pub fn with_serial(id: u8, octet3: u8, serial: Serial) -> [u8; 12]
 }
 
 /// Octets 3 to 12.
+#[inline]
 pub fn body_of(octets: &[u8]) -> [u8; 10]
     requires { length octets.now ≡ 12 }
     ensures { result ≡ drop 2 octets.now }
@@ -35,6 +38,7 @@ pub fn body_of(octets: &[u8]) -> [u8; 10]
 }
 
 /// The serial number in eight octets.
+#[inline]
 pub fn serial_in(octets: &[u8]) -> Serial
     requires { length octets.now ≡ 8 }
     ensures { result.0 ≡ octets.now }

@@ -115,7 +115,8 @@ pub fn decode_up(code: &[u8], mask: Mask) -> Result<Up, PloamFault>
     ensures read { IfOk result (ReadsUp code.now (mask_value mask)) }
     ensures only { (m : Up) → ReadsUp code.now (mask_value mask) m → result ≡ Ok m }
     ensures length { IsErrOf result PloamFault.Length ↔ (length code.now ≢ 13) }
-    ensures crc { IsErrOf result PloamFault.Crc ↔ ((length code.now ≡ 13) × ¬ HasRightCheck code.now (mask_value mask)) }
+    ensures crc { IsErrOf result PloamFault.Crc
+        ↔ ((length code.now ≡ 13) × ¬ HasRightCheck code.now (mask_value mask)) }
 {
     Ok(up_from(checked(code, mask)?))
 }
@@ -127,5 +128,6 @@ pub fn up_round_trip()
 
 /// A code is read as one message at most.
 pub fn up_read_once()
-    ensures { (code : List ℕ) (mask : ℕ) (m n : Up) → ReadsUp code mask m → ReadsUp code mask n → m ≡ n }
+    ensures { (code : List ℕ) (mask : ℕ) (m n : Up) →
+        ReadsUp code mask m → ReadsUp code mask n → m ≡ n }
 {}

@@ -1,9 +1,8 @@
 ghost use Rattle.std.specs.Prelude.{◌≡◌, ◌≤◌, MatchOption};
 ghost use Rattle.gp_ranging.specs.Window.{fresh_window, marked_window, window_after_frame};
 
-use std::marker::Model;
-
 use super::grant::Grant;
+use std::marker::Model;
 
 /// How many frames a window stays open.
 const FRAMES: u8 = 3;

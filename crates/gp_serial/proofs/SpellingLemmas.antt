@@ -1,7 +1,7 @@
 -- Spellings and the serial numbers that they are read as.
-use Rattle.std.proofs.Common.{◌≡◌, ◌≢◌, ℕ, ◌+◌, ◌*◌, ◌%◌, ◌==◌, Bool, true, false, if◌then◌else◌, List, [], ◌∷◌, ◌++◌, length, take, drop, ◌⊎◌, inl, inr, Result, Ok, Err, refl, sym, ap, subst, ◌∙◌, arith, length-drop, length-append, append-nil}
+use Rattle.std.proofs.Common.{◌≡◌, ◌≢◌, ℕ, ◌*◌, ◌%◌, true, false, List, [], ◌∷◌, ◌++◌, length, take, drop, ◌⊎◌, inl, inr, Result, Ok, Err, refl, sym, ap, subst, ◌∙◌, arith, length-drop, length-append, append-nil}
 use Rattle.std.proofs.lemmas.Bool.{cases_eq, cases_Bool, false≢true}
-use Rattle.std.proofs.lemmas.List.{take-append-drop, take_at, drop_all, length-take-le}
+use Rattle.std.proofs.lemmas.List.{take-append-drop, take_at, length-take-le}
 use Rattle.std.proofs.lemmas.List.Sums.{AllPass-from_list_all, list_all-from_AllPass}
 use Rattle.std.proofs.Math.Seq.{drop-append_seam}
 use Rattle.std.specs.List.{list_all}
@@ -12,7 +12,7 @@ use Rattle.hex.proofs.HexLemmas.{decode_of-ok, decode_of-digits, decode_sized-tw
 use Rattle.gp_ploam.specs.declared.message.Serial.{Serial}
 use Rattle.gp_serial.specs.declared.fault.SerialFault.{SerialFault}
 use Rattle.gp_serial.specs.declared.fault.SerialFault.TheVariants as fault
-use Rattle.gp_serial.specs.Spelling.{Spells, SpellsByVendor, SpellsByDigits, HasFault, has_vendor_code, serial_or_fault, serial_of_text}
+use Rattle.gp_serial.specs.Spelling.{Spells, HasFault, has_vendor_code, serial_or_fault, serial_of_text}
 
 abbrev pub Read : Type 0
 Read = Result Serial SerialFault

@@ -1,5 +1,5 @@
 -- The texts of serial numbers: they are spellings, and of ASCII characters.
-use Rattle.std.proofs.Common.{◌≡◌, ℕ, ◌+◌, ◌*◌, ◌/◌, ◌%◌, ◌<◌, Bool, true, false, List, [], ◌∷◌, ◌++◌, length, take, drop, map, slice_index, ◌⊎◌, inl, inr, Result, Ok, Err, refl, sym, ap, subst, ◌∙◌, arith, length-drop, length-append, append_assoc, nat_lt}
+use Rattle.std.proofs.Common.{◌≡◌, ℕ, ◌+◌, ◌/◌, ◌%◌, ◌<◌, true, false, List, [], ◌∷◌, ◌++◌, length, take, drop, map, slice_index, inl, inr, Result, Ok, Err, refl, sym, ap, ◌∙◌, arith, length-drop, length-append, append_assoc, nat_lt}
 use Rattle.std.specs.Prelude.{IsOk, OnOk}
 use Rattle.std.proofs.Math.ListN.{get_or-map}
 use Rattle.std.proofs.lemmas.Bool.{cases_Bool}
@@ -7,16 +7,15 @@ use Rattle.std.proofs.lemmas.Bool.Decides.{nat_tests}
 use Rattle.std.proofs.lemmas.List.{take_at, length-take-le, get_or-drop}
 use Rattle.std.proofs.lemmas.List.Elements.{All-weaker}
 use Rattle.std.proofs.lemmas.List.Sums.{AllPass-from_list_all}
-use Rattle.std.proofs.lemmas.Str.{IsAscii-append}
 use Rattle.std.proofs.lemmas.Str.Ascii.{IsAscii-from_all}
 use Rattle.std.specs.Char.{to_ascii_uppercase}
 use Rattle.std.specs.List.{list_all}
 use Rattle.std.specs.Str.{IsAscii}
 use borrow.Rule.Slice.PartMut.{put_mid}
-use Rattle.hex.specs.Hex.{decode_of, encode_with, encode_lower, encode_upper, lower_digits, upper_digits, IsBytes}
+use Rattle.hex.specs.Hex.{decode_of, encode_with, encode_upper, lower_digits, upper_digits, IsBytes}
 use Rattle.hex.proofs.HexLemmas.{decode_of-encode_upper, length-encode_with, IsAscii-encode_with}
 use Rattle.gp_ploam.specs.declared.message.Serial.{Serial}
-use Rattle.gp_serial.specs.Spelling.{Spells, SpellsByVendor, SpellsByDigits, has_vendor_code, is_vendor_letter, text_of_serial}
+use Rattle.gp_serial.specs.Spelling.{Spells, SpellsByVendor, has_vendor_code, is_vendor_letter, text_of_serial}
 use Rattle.gp_serial.proofs.SpellingLemmas.{drop_four}
 
 -- ---- digits in upper case
@@ -40,7 +39,7 @@ written_if (Err e) holds ok = cc ok
 pub IsAscii-encode_upper : (octets : List ℕ) → IsAscii (encode_upper octets)
 IsAscii-encode_upper octets =
     IsAscii-encode_with upper_digits octets (
-      IsAscii-from_all upper_digits (All-weaker (λ c. nat_lt c 128 ≡ true) (λ c. c < 128) (λ c below. grind (arith, nat_tests)) upper_digits (AllPass-from_list_all (λ c. nat_lt c 128) upper_digits refl))
+    IsAscii-from_all upper_digits (All-weaker (λ c. nat_lt c 128 ≡ true) (λ c. c < 128) (λ c below. grind (arith, nat_tests)) upper_digits (AllPass-from_list_all (λ c. nat_lt c 128) upper_digits refl))
     )
 
 pub IsAscii-vendor : (vendor : List ℕ) → list_all is_vendor_letter vendor ≡ true → IsAscii vendor
@@ -78,10 +77,10 @@ spells_by_vendor octets eight bytes code =
     let same : take 4 (vendor ++ digits) ≡ vendor = take_at vendor digits 4 four in
     record {
       long =
-        let all = length-append vendor digits in
-        let some = length-encode_with upper_digits (drop 4 octets) in
-        let rest = length-drop 4 octets in
-        omega (arith, all, some, rest, four, eight);
+          let all = length-append vendor digits in
+          let some = length-encode_with upper_digits (drop 4 octets) in
+          let rest = length-drop 4 octets in
+          omega (arith, all, some, rest, four, eight);
       letters = ap (list_all is_vendor_letter) same ∙ code;
       vendor = same;
       digits = ap decode_of (drop_four vendor digits four) ∙ decode_of-encode_upper (drop 4 octets) (IsBytes-drop 4 octets bytes);
@@ -93,9 +92,9 @@ Spells-text_of_serial octets eight bytes =
       | inl code ↦ rw (text_of_serial-vendor (record { 0 = octets }) code) (inl (spells_by_vendor octets eight bytes code))
       | inr other ↦
           rw (text_of_serial-digits (record { 0 = octets }) other) (
-            inr record {
-              long = let len = length-encode_with upper_digits octets in omega (arith, len, eight);
-              digits = decode_of-encode_upper octets bytes;
-            }
+          inr record {
+            long = let len = length-encode_with upper_digits octets in omega (arith, len, eight);
+            digits = decode_of-encode_upper octets bytes;
+          }
           )
     ]

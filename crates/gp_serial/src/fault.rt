@@ -1,4 +1,7 @@
 //! What is wrong with a serial number, or with admitting one.
+ghost use Rattle.std.specs.Prelude.{◌≡◌};
+
+use std::alloc::AllocError;
 use thiserror::Error;
 
 /// Why a text spells no serial number. The first that applies is told, in this order.
@@ -16,4 +19,38 @@ pub enum SerialFault {
     /// No memory for a text. Reading one takes none.
     #[error("out of memory")]
     OutOfMemory,
+}
+
+/// Why a serial number isn't admitted. The first that applies is told, in this order.
+#[derive(Clone, Copy, Debug, PartialEq, Eq, Error)]
+pub enum AdmitFault {
+    /// It is admitted already, on this port or another.
+    #[error("the serial number is admitted already")]
+    Duplicate,
+    /// The port has 512 already.
+    #[error("512 serial numbers are admitted on the port")]
+    Full,
+    /// No memory for one more.
+    #[error("out of memory")]
+    OutOfMemory,
+}
+
+impl From<AllocError> for SerialFault {
+    ghost use Rattle.gp_serial.specs.declared.fault.SerialFault.{SerialFault};
+
+    ghost from_gives = { λ _ fault. fault ≡ SerialFault.OutOfMemory };
+
+    fn from(_: AllocError) -> SerialFault {
+        SerialFault::OutOfMemory
+    }
+}
+
+impl From<AllocError> for AdmitFault {
+    ghost use Rattle.gp_serial.specs.declared.fault.AdmitFault.{AdmitFault};
+
+    ghost from_gives = { λ _ fault. fault ≡ AdmitFault.OutOfMemory };
+
+    fn from(_: AllocError) -> AdmitFault {
+        AdmitFault::OutOfMemory
+    }
 }

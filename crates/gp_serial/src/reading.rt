@@ -24,8 +24,7 @@ pub fn parse_serial(text: &str) -> Result<Serial, SerialFault>
 pub fn spellings_are_read()
     ensures spelling { (text : List ℕ) (serial : AnySerial) → (serial_of_text text ≡ Ok serial) ↔ Spells text serial }
     ensures fault { (text : List ℕ) (fault : AnyFault) → (serial_of_text text ≡ Err fault) ↔ HasFault text fault }
-{
-}
+{}
 
 #[tactic(auto, unfolding(crate::specs::Spelling::serial_of_text))]
 fn read(text: &[u8]) -> Result<Serial, SerialFault>

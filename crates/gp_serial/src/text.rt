@@ -120,7 +120,7 @@ pub fn serial_text(alloc: Global, serial: &Serial) -> Result<String, SerialFault
     ensures memory { IfErr result (λ fault. fault ≡ SerialFault.OutOfMemory) }
 {
     text_spells_serial(serial);
-    String::from_str(alloc, SerialText::of(serial).as_str()).map_err(|_| SerialFault::OutOfMemory)
+    Ok(String::from_str(alloc, SerialText::of(serial).as_str())?)
 }
 
 /// Appends the text of a serial number to these octets, and changes nothing where memory is short.
@@ -144,5 +144,4 @@ pub fn text_spells_serial(serial: &Serial)
 fn octets_are_spelled(octets: &[u8])
     requires { length octets.now ≡ 8 }
     ensures { Spells (text_of_serial (serial_with octets.now)) (serial_with octets.now) }
-{
-}
+{}

@@ -1,4 +1,3 @@
-use Rattle.std.proofs.Common.{ℕ, length, ◌≡◌}
 use Rattle.gp_serial.proofs.SpellingLemmas.{halves_written}
 use Rattle.gp_serial.proofs.reading.joined.Goals as goal
 

@@ -1,4 +1,4 @@
-use Rattle.std.proofs.Common.{◌≡◌, ◌∙◌}
+use Rattle.std.proofs.Common.{◌∙◌}
 use Rattle.gp_machine.proofs.SerialLists.{tells_same}
 use Rattle.gp_machine.proofs.admitted.Admitted.same_as.Goals as goal
 

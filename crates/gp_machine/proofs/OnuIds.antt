@@ -1,0 +1,169 @@
+-- Each unit has one ONU-ID, keeps it, and is told no other.
+use Rattle.std.proofs.Common.{◌≡◌, ℕ, ◌-◌, ◌≤◌, Bool, true, false, cond, List, [], ◌∷◌, ◌++◌, Option, None, Some, inl, inr, refl, sym, ap, subst, ◌∙◌}
+use Rattle.std.specs.Prelude.{All, Contains}
+use Rattle.std.specs.FinMap.{get, insert, get-insert}
+use Rattle.std.specs.Option.{option_to_list}
+use Rattle.std.proofs.lemmas.Bool.{cases_Bool}
+use Rattle.std.proofs.lemmas.List.Concat.{flat_map-cons}
+use Rattle.std.proofs.lemmas.List.Elements.{All-append, All-nil, All-cons, All-head, All-tail, All-contains}
+use Rattle.gp_ploam.specs.declared.message.Serial.{Serial}
+use Rattle.gp_ploam.specs.declared.message.Down.{Down}
+use Rattle.gp_ploam.specs.declared.message.Down.TheVariants as down
+use Rattle.gp_ploam.specs.Serials.{same_serial}
+use Rattle.gp_ploam.proofs.Serials.{serials_total, by_cmp-same, same_serial-true, same_serial-itself}
+use Rattle.gp_machine.specs.declared.config.PortConfig.{PortConfig}
+use Rattle.gp_machine.specs.declared.entry.Entry.{Entry}
+use Rattle.gp_machine.specs.declared.row.Row.{Row}
+use Rattle.gp_machine.specs.State.{PortState, Rows, HasRow, opening_of, rows_of}
+use Rattle.gp_machine.specs.Frame.{first_of, rest_of}
+use Rattle.gp_machine.specs.Burst.{new_row}
+use Rattle.gp_machine.specs.Run.{Run, IsStep, entry_outcome}
+use Rattle.gp_machine.specs.Runs.{EveryStateIsSound}
+use Rattle.gp_machine.specs.Messages.{begins_acquisition, sent_in, three_times}
+use Rattle.gp_machine.specs.OnuIds.{HasOnuId, NoSharedOnuId, OnlyAdmittedUnits, AtMostMaxUnits, KeepsOnuIds, TellsTheTable, AssignsWhatUnitsHave, AssignsOneToOne}
+use Rattle.gp_machine.proofs.RunParts.{keeps_configuration}
+use Rattle.gp_machine.proofs.StepCases.{StepCase, step_case, owed_by_frame, ranged_row}
+
+-- ---- sound states
+
+pub apart : EveryStateIsSound → NoSharedOnuId
+apart sound c p s t m n reached h k differ same = differ ((sound c p reached).apart s t h.0 k.0 h.1 k.1 (h.2 ∙ same ∙ sym k.2))
+
+pub admitted : EveryStateIsSound → OnlyAdmittedUnits
+admitted sound c p s row reached has = subst (λ (x : PortConfig). Contains x.admitted s) (keeps_configuration c p reached) ((sound c p reached).admitted s row has)
+
+pub few : EveryStateIsSound → AtMostMaxUnits
+few sound c p reached = subst (λ (x : PortConfig). rows_of p ≤ x.max_units) (keeps_configuration c p reached) (sound c p reached).few
+
+-- ---- ONU-IDs are kept
+
+-- the unit t has the ONU-ID n by these rows
+abbrev Has : Rows → Serial → ℕ → Type 0
+Has rows t n = (row : Row) × HasRow rows t row × (row.onu ≡ n)
+
+-- the row at t after one was put at s
+found : (rows : Rows) (s t : Serial) (row : Row) → get (insert rows s row) t ≡ cond (same_serial t s) (Some row) (get rows t)
+found rows s t row = get-insert serials_total rows s row t ∙ ap (λ b. cond b (Some row) (get rows t)) (by_cmp-same t s)
+
+there : (rows : Rows) (s : Serial) (row : Row) → Has (insert rows s row) s row.onu
+there rows s row = (row, found rows s s row ∙ ap (λ b. cond b (Some row) (get rows s)) (same_serial-itself s), refl)
+
+-- a row that is put for a unit with its own ONU-ID takes none from any unit
+put_keeps : (rows : Rows) (s t : Serial) (row : Row) (n : ℕ) → ((old : Row) → HasRow rows s old → old.onu ≡ row.onu) → Has rows t n → Has (insert rows s row) t n
+put_keeps rows s t row n same h =
+    elim (cases_Bool (same_serial t s)) [
+      | inl is ↦
+          let at_s : HasRow rows s h.0 = subst (λ (x : Serial). HasRow rows x h.0) (same_serial-true t s is) h.1 in
+          (row, found rows s t row ∙ ap (λ b. cond b (Some row) (get rows t)) is, sym (same h.0 at_s) ∙ h.2)
+      | inr isnt ↦ (h.0, found rows s t row ∙ ap (λ b. cond b (Some row) (get rows t)) isnt ∙ h.1, h.2)
+    ]
+
+-- one row for a serial number
+one_onu : (rows : Rows) (s : Serial) (row old : Row) → HasRow rows s row → HasRow rows s old → old.onu ≡ row.onu
+one_onu rows s row old h k = let both : Some row ≡ Some old = sym h ∙ k in let same : row ≡ old = cc in ap (λ (r : Row). r.onu) (sym same)
+
+step_keeps : (p q : PortState) (e : Entry) (t : Serial) (n : ℕ) → IsStep p e q → HasOnuId p t n → HasOnuId q t n
+step_keeps p q e t n h has = by_case (step_case e.purse_in p e.event (entry_outcome e q) h)
+  where
+    by_rows : (rows : Rows) → q.rows ≡ rows → Has rows t n → HasOnuId q t n
+    by_rows rows is k = subst (λ (x : Rows). Has x t n) (sym is) k
+
+    by_case : StepCase p e.event (entry_outcome e q) → HasOnuId q t n
+    by_case (StepCase.frame k) = by_rows p.rows k.rows has
+    by_case (StepCase.quiet k) = by_rows p.rows k.rows has
+    by_case (StepCase.told s m heard k) = by_rows (insert p.rows s (new_row m)) k.rows (put_keeps p.rows s t (new_row m) n k.same has)
+    by_case (StepCase.ranged at bytes s m random flags burst read k) =
+        let active = k.active in
+        by_rows (insert p.rows s (ranged_row m (p.config.teqd - at))) k.rows
+        (put_keeps p.rows s t (ranged_row m (p.config.teqd - at)) n (λ old is. one_onu p.rows s active.0 old active.1 is ∙ active.2) has)
+
+pub keeps_onu_ids : KeepsOnuIds
+keeps_onu_ids p q [] s n h has = subst (λ (x : PortState). HasOnuId x s n) (sym h) has
+keeps_onu_ids p q (e ∷ es) s n h has = keeps_onu_ids h.0 q es s n h.2 (step_keeps p h.0 e s n h.1 has)
+
+-- ---- no other is told
+
+tells_more : (p q : PortState) → ((s : Serial) (n : ℕ) → HasOnuId p s n → HasOnuId q s n) → (m : Down) → TellsTheTable p m → TellsTheTable q m
+tells_more p q keeps (down.AssignOnu n s) h = keeps s n h
+tells_more p q keeps m h = tt
+
+all_tell_more : (p q : PortState) → ((s : Serial) (n : ℕ) → HasOnuId p s n → HasOnuId q s n) → (ms : List Down) → All (TellsTheTable p) ms → All (TellsTheTable q) ms
+all_tell_more p q keeps [] h = All-nil (TellsTheTable q)
+all_tell_more p q keeps (m ∷ ms) h =
+    All-cons (TellsTheTable q) m ms (tells_more p q keeps m (All-head (TellsTheTable p) m ms h)) (all_tell_more p q keeps ms (All-tail (TellsTheTable p) m ms h))
+
+rest_tells : (q : PortState) (ms : List Down) → All (TellsTheTable q) ms → All (TellsTheTable q) (rest_of ms)
+rest_tells q [] h = h
+rest_tells q (m ∷ ms) h = All-tail (TellsTheTable q) m ms h
+
+first_tells : (q : PortState) (ms : List Down) → All (TellsTheTable q) ms → All (TellsTheTable q) (option_to_list (first_of ms))
+first_tells q [] h = h
+first_tells q (m ∷ ms) h = All-cons (TellsTheTable q) m [] (All-head (TellsTheTable q) m ms h) (All-nil (TellsTheTable q))
+
+three_tell : (q : PortState) (m : Down) → TellsTheTable q m → All (TellsTheTable q) (three_times (m ∷ []))
+three_tell q m h =
+    All-cons (TellsTheTable q) m (m ∷ m ∷ []) h (All-cons (TellsTheTable q) m (m ∷ []) h (All-cons (TellsTheTable q) m [] h (All-nil (TellsTheTable q))))
+
+overhead_tells : (p q : PortState) → All (TellsTheTable q) (three_times (owed_by_frame p q))
+overhead_tells p q = by_test (begins_acquisition p.common q.common)
+  where
+    by_test : (b : Bool) → All (TellsTheTable q) (three_times (cond b (down.UpstreamOverhead p.config.overhead ∷ []) []))
+    by_test true = three_tell q (down.UpstreamOverhead p.config.overhead) tt
+    by_test false = All-nil (TellsTheTable q)
+
+-- what a step sends, and what is owed after it
+step_tells : (p q : PortState) (e : Entry) → IsStep p e q → All (TellsTheTable p) p.owed → All (TellsTheTable q) (option_to_list e.answer.sent) × All (TellsTheTable q) q.owed
+step_tells p q e h owed = by_case (step_case e.purse_in p e.event (entry_outcome e q) h)
+  where
+    still : All (TellsTheTable q) p.owed
+    still = all_tell_more p q (λ s n. step_keeps p q e s n h) p.owed owed
+
+    none : e.answer.sent ≡ None → All (TellsTheTable q) (option_to_list e.answer.sent)
+    none is = subst (λ (x : Option Down). All (TellsTheTable q) (option_to_list x)) (sym is) (All-nil (TellsTheTable q))
+
+    more : (before after : List Down) → q.owed ≡ before ++ after → All (TellsTheTable q) before → All (TellsTheTable q) after → All (TellsTheTable q) q.owed
+    more before after is k l = subst (λ (ms : List Down). All (TellsTheTable q) ms) (sym is) (All-append (TellsTheTable q) before after k l)
+
+    by_case : StepCase p e.event (entry_outcome e q) → All (TellsTheTable q) (option_to_list e.answer.sent) × All (TellsTheTable q) q.owed
+    by_case (StepCase.frame k) = (
+      subst (λ (x : Option Down). All (TellsTheTable q) (option_to_list x)) (sym k.sent) (first_tells q p.owed still),
+      more (rest_of p.owed) (three_times (owed_by_frame p q)) k.owed (rest_tells q p.owed still) (overhead_tells p q),
+    )
+    by_case (StepCase.quiet k) = (none k.sent, subst (λ (ms : List Down). All (TellsTheTable q) ms) (sym k.owed) still)
+    by_case (StepCase.told s m heard k) = (
+      none k.sent,
+      more p.owed (three_times (down.AssignOnu m s ∷ [])) k.owed still
+          (three_tell q (down.AssignOnu m s) (subst (λ (x : Rows). Has x s m) (sym k.rows) (there p.rows s (new_row m)))),
+    )
+    by_case (StepCase.ranged at bytes s m random flags burst read k) = (
+      none k.sent,
+      more p.owed (three_times (down.RangingTime m (p.config.teqd - at) ∷ [])) k.owed still (three_tell q (down.RangingTime m (p.config.teqd - at)) tt),
+    )
+
+run_tells : (p q : PortState) (es : List Entry) → Run p es q → All (TellsTheTable p) p.owed → All (TellsTheTable q) (sent_in es) × All (TellsTheTable q) q.owed
+run_tells p q [] h owed = (All-nil (TellsTheTable q), subst (λ (x : PortState). All (TellsTheTable x) x.owed) (sym h) owed)
+run_tells p q (e ∷ es) h owed =
+    let now = step_tells p h.0 e h.1 owed in
+    let later = run_tells h.0 q es h.2 now.1 in
+    let sent = option_to_list e.answer.sent in
+    let still = all_tell_more h.0 q (λ s n. keeps_onu_ids h.0 q es s n h.2) sent now.0 in (
+      subst (λ (ms : List Down). All (TellsTheTable q) ms) (sym (flat_map-cons (λ (x : Entry). option_to_list x.answer.sent) e es))
+          (All-append (TellsTheTable q) sent (sent_in es) still later.0),
+      later.1,
+    )
+
+pub tells_the_table : AssignsWhatUnitsHave
+tells_the_table c q es h =
+    let all = run_tells (opening_of c) q es h (All-nil (TellsTheTable (opening_of c))) in
+    All-append (TellsTheTable q) (sent_in es) q.owed all.0 all.1
+
+pub one_to_one : EveryStateIsSound → AssignsOneToOne
+one_to_one sound c q es s t m n h in_s in_t =
+    let all = tells_the_table c q es h in
+    let has_m : HasOnuId q s m = All-contains (TellsTheTable q) (sent_in es ++ q.owed) (down.AssignOnu m s) all in_s in
+    let has_n : HasOnuId q t n = All-contains (TellsTheTable q) (sent_in es ++ q.owed) (down.AssignOnu n t) all in_t in (
+      λ same.
+          let at_t : HasRow q.rows t has_m.0 = subst (λ (x : Serial). HasRow q.rows x has_m.0) same has_m.1 in
+          sym has_m.2 ∙ one_onu q.rows t has_n.0 has_m.0 has_n.1 at_t ∙ has_n.2,
+      λ same. (sound c q (es, h)).apart s t has_m.0 has_n.0 has_m.1 has_n.1 (has_m.2 ∙ same ∙ sym has_n.2),
+    )

@@ -1,0 +1,74 @@
+ghost use Rattle.gp_machine.specs.Runs.{RunsInParts, EveryStateIsSound, KeepsConfiguration, RunsKeepLicences};
+ghost use Rattle.gp_machine.specs.OnuIds.{NoSharedOnuId, OnlyAdmittedUnits, AtMostMaxUnits, KeepsOnuIds, AssignsWhatUnitsHave, AssignsOneToOne};
+ghost use Rattle.gp_machine.specs.Messages.{EveryRunOwes, SendsEachThreeTimes, SendsWhatWasOwedFirst, KeepsProperMessages, SendsOnlyProperMessages};
+ghost use Rattle.gp_machine.specs.Delays.{RangesWithWhatIsLeft, OperatesWithWhatWasMeasured};
+
+use super::one_step::{sound_step, step_keeps_licences};
+use gp_ploam::up_read_once;
+
+/// A run may be cut anywhere, and runs may be joined.
+pub fn runs_in_parts()
+    ensures { RunsInParts }
+{}
+
+/// The configuration of a port never changes.
+pub fn keeps_configuration()
+    ensures { KeepsConfiguration }
+{}
+
+/// Every state of every run from an opening is sound.
+pub fn every_state_is_sound()
+    ensures { EveryStateIsSound }
+{
+    sound_step();
+}
+
+/// In every state of every run from an opening no two active units have one ONU-ID, each active unit is
+/// admitted, and there are no more of them than the configuration allows.
+pub fn no_shared_onu_id()
+    ensures apart { NoSharedOnuId }
+    ensures admitted { OnlyAdmittedUnits }
+    ensures few { AtMostMaxUnits }
+{
+    every_state_is_sound();
+}
+
+/// An active unit keeps its ONU-ID, and no unit is ever told another one.
+pub fn tells_each_unit_its_onu_id()
+    ensures keeps { KeepsOnuIds }
+    ensures tells { AssignsWhatUnitsHave }
+    ensures one_to_one { AssignsOneToOne }
+{
+    every_state_is_sound();
+}
+
+/// The licences handed in along a run, and those of the units at its start, are as many as those handed
+/// back and those of the units at its end.
+pub fn runs_keep_licences()
+    ensures { RunsKeepLicences }
+{
+    step_keeps_licences();
+}
+
+/// The copies sent along a run, and after them those still owed, are the messages that its steps owe,
+/// in order, each three times; the copies that were owed at its start come first.
+pub fn sends_each_message_three_times()
+    ensures opening { SendsEachThreeTimes }
+    ensures any_start { SendsWhatWasOwedFirst }
+    ensures owes { EveryRunOwes }
+{
+    up_read_once();
+}
+
+/// A unit is ranged with what its round-trip delay leaves of the equalized round-trip delay, and each
+/// operating unit was.
+pub fn ranged_with_what_is_left()
+    ensures ranged { RangesWithWhatIsLeft }
+    ensures operating { OperatesWithWhatWasMeasured }
+{}
+
+/// Every message that is owed or sent has a code.
+pub fn sends_only_proper_messages()
+    ensures run { SendsOnlyProperMessages }
+    ensures step { KeepsProperMessages }
+{}

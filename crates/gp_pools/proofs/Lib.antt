@@ -1,0 +1,5 @@
+pub mod Members
+pub mod Places
+pub mod Least
+pub mod Counting
+pub mod Pools

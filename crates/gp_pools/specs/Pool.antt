@@ -1,0 +1,83 @@
+-- A pool of numbers as contracts see it.
+use Rattle.std.specs.Prelude.{◌≡◌, ℕ, ◌+◌, ◌-◌, ◌^◌, ◌<◌, ◌≤◌, IsTrue, refl}
+use Rattle.std.specs.Coded.{Coded, code_by, coded×, coded_ℕ}
+use Rattle.std.specs.Ordering.{nat_cmp}
+use Rattle.std.specs.FinSet as set
+use Rattle.gp_pools.specs.Numbers.{IsIn}
+
+-- its numbers go from `first` to `last`; those that are leased and those that are settled are out, at most `limit` in all
+pub record Pool : Type 0 where
+  pub first : ℕ
+  pub last : ℕ
+  pub limit : ℕ
+  pub leased : set.FinSet nat_cmp
+  pub settled : set.FinSet nat_cmp
+
+-- a pool is stored as pairs of its parts
+abbrev pub pool_code : Coded Pool
+pool_code = code_by (ℕ × (ℕ × (ℕ × (set.FinSet nat_cmp × set.FinSet nat_cmp))))
+    (coded× coded_ℕ (coded× coded_ℕ (coded× coded_ℕ (coded× (set.code coded_ℕ) (set.code coded_ℕ)))))
+    (λ p. (p.first, (p.last, (p.limit, (p.leased, p.settled)))))
+    (λ t. record { first = t.0; last = t.1.0; limit = t.1.1.0; leased = t.1.1.1.0; settled = t.1.1.1.1 })
+    (λ _. refl)
+
+-- the pool of these parts
+abbrev pub pool_of : ℕ → ℕ → ℕ → set.FinSet nat_cmp → set.FinSet nat_cmp → Pool
+pool_of first last limit leased settled = record { first = first; last = last; limit = limit; leased = leased; settled = settled }
+
+-- a pool with none of its numbers out
+abbrev pub full_pool : ℕ → ℕ → ℕ → Pool
+full_pool first last limit = pool_of first last limit set.empty set.empty
+
+abbrev pub IsLeased : Pool → ℕ → Type 0
+IsLeased pool n = IsTrue (set.contains pool.leased n)
+
+abbrev pub IsSettled : Pool → ℕ → Type 0
+IsSettled pool n = IsTrue (set.contains pool.settled n)
+
+abbrev pub IsOut : Pool → ℕ → Type 0
+IsOut pool n = IsIn pool.leased pool.settled n
+
+-- the number is one of the pool's, and not out
+abbrev pub IsFree : Pool → ℕ → Type 0
+IsFree pool n = (pool.first ≤ n) × (n ≤ pool.last) × ¬ (IsOut pool n)
+
+-- each of the pool's numbers is out
+abbrev pub AreAllOut : Pool → Type 0
+AreAllOut pool = (n : ℕ) → pool.first ≤ n → n ≤ pool.last → IsOut pool n
+
+-- how many numbers are out
+abbrev pub count_out : Pool → ℕ
+count_out pool = set.len pool.leased + set.len pool.settled
+
+-- the pool with one number leased that was not out
+abbrev pub pool_with_lease : Pool → ℕ → Pool
+pool_with_lease pool n = record pool { leased = set.insert pool.leased n }
+
+-- the pool with one leased number given back
+abbrev pub pool_without_lease : Pool → ℕ → Pool
+pool_without_lease pool n = record pool { leased = set.remove pool.leased n }
+
+-- the pool with one leased number settled
+abbrev pub pool_with_settled : Pool → ℕ → Pool
+pool_with_settled pool n = record pool { leased = set.remove pool.leased n; settled = set.insert pool.settled n }
+
+-- the pool with one settled number leased again
+abbrev pub pool_with_settled_leased : Pool → ℕ → Pool
+pool_with_settled_leased pool n = record pool { leased = set.insert pool.leased n; settled = set.remove pool.settled n }
+
+-- what every pool keeps: no number is both leased and settled, only the pool's own numbers are out, and no more than its
+-- limit, which its numbers reach
+pub record IsSound (pool : Pool) : Type 0 where
+  pub apart : (n : ℕ) → IsLeased pool n → IsSettled pool n → ⊥
+  pub leased : (n : ℕ) → IsLeased pool n → (pool.first ≤ n) × (n ≤ pool.last)
+  pub settled : (n : ℕ) → IsSettled pool n → (pool.first ≤ n) × (n ≤ pool.last)
+  pub few : count_out pool ≤ pool.limit
+  pub reach : pool.limit ≤ pool.last + 1 - pool.first
+
+-- the pool, counted, in sets that hold the numbers below `end`
+pub record IsKept (pool : Pool) (out end : ℕ) : Type 0 where
+  pub sound : IsSound pool
+  pub counted : out ≡ count_out pool
+  pub held : pool.last < end
+  pub fits : end ≤ 2 ^ 16

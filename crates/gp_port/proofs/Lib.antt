@@ -1,0 +1,4 @@
+pub mod Listing
+pub mod Least
+pub mod Free
+pub mod Kept

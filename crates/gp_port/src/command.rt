@@ -1,0 +1,35 @@
+ghost use Rattle.std.specs.Prelude.{◌≡◌};
+ghost use Rattle.gp_machine.specs.Outcomes.{outcome_of};
+ghost use Rattle.gp_machine.specs.Commands.{command_outcome};
+
+use std::sync::ledger::Ledger;
+
+use gp_common::Common;
+use gp_licence::Licences;
+use gp_machine::{Answer, Command, Refusal, Reply};
+
+use super::burst::bare_answer;
+use super::port_core::PortCore;
+
+impl<L: Ledger> PortCore<L> {
+    pub(super) fn command(&mut self, purse: Licences<L>, command: Command) -> (Answer, Licences<L>)
+        ensures { outcome_of result self.new ≡ command_outcome purse self.old command }
+    {
+        match command {
+            Command::Search => self.want_search(purse),
+        }
+    }
+
+    /// A search is wanted, but where one is wanted already or goes on.
+    fn want_search(&mut self, purse: Licences<L>) -> (Answer, Licences<L>)
+        ensures { outcome_of result self.new ≡ command_outcome purse self.old Command.Search }
+    {
+        let acquiring = matches!(self.common, Common::Acquisition(_));
+        if self.wanted || acquiring {
+            let reply = Reply::Refused(Refusal::AlreadySearching);
+            return (bare_answer(reply), purse);
+        }
+        self.wanted = true;
+        (bare_answer(Reply::Searching), purse)
+    }
+}

@@ -1,0 +1,95 @@
+ghost use Rattle.std.specs.Prelude.{◌≡◌, ◌+◌, ◌≤◌, [], ◌∷◌, ◌++◌, length, IfOk, is_none};
+ghost use Rattle.std.specs.List.{list_any};
+ghost use Rattle.gp_machine.specs.Frame.{first_of, rest_of};
+ghost use Rattle.gp_machine.specs.Burst.{is_assign};
+
+use std::alloc::{AllocError, Global};
+use std::marker::Model;
+
+use gp_ploam::{Down, Serial};
+
+/// The copies of messages that a port owes, in the order in which they are sent. Contracts see them as a
+/// list.
+#[derive(Drop)]
+pub struct Copies {
+    copies: Vec<Down>,
+}
+
+impl Model for Copies {
+    ghost use Rattle.std.specs.Prelude.{List, vec_capacity, ◌≤◌};
+    ghost use Rattle.gp_ploam.specs.declared.message.Down.{Down};
+
+    ghost Value = { List Down };
+
+    ghost view = { λ a. a.copies.items };
+
+    ghost invariant = { λ a. 192 ≤ vec_capacity a.copies };
+}
+
+impl Copies {
+    /// Nothing is owed, and there is room for 64 messages.
+    pub fn begin(alloc: Global) -> Result<Copies, AllocError>
+        ensures { IfOk result (λ owed. owed ≡ []) }
+    {
+        let copies = Vec::with_capacity(alloc, 192)?;
+        Ok(Copies { copies })
+    }
+
+    pub fn len(&self) -> usize
+        ensures { result ≡ length self.now }
+    {
+        self.copies.len()
+    }
+
+    pub fn is_empty(&self) -> bool
+        ensures { result ≡ is_none (first_of self.now) }
+    {
+        self.copies.is_empty()
+    }
+
+    /// Owes three copies of a message, after all others.
+    pub fn owe(&mut self, message: Down)
+        requires { length self.old + 3 ≤ 192 }
+        ensures { self.new ≡ self.old ++ message ∷ message ∷ message ∷ [] }
+    {
+        self.copies.push_reserved(message);
+        self.copies.push_reserved(message);
+        self.copies.push_reserved(message);
+    }
+
+    /// Takes out the first copy.
+    pub fn send_one(&mut self) -> Option<Down>
+        ensures first { result ≡ first_of self.old }
+        ensures rest { self.new ≡ rest_of self.old }
+    {
+        if self.copies.is_empty() {
+            return None;
+        }
+        Some(self.copies.remove(0))
+    }
+
+    /// Whether the unit is still to be told its ONU-ID.
+    pub fn owes_assign(&self, onu: u8, serial: &Serial) -> bool
+        ensures { result ≡ list_any (is_assign onu serial.now) self.now }
+    {
+        is_assign_among(onu, serial, &self.copies)
+    }
+}
+
+fn is_assign_among(onu: u8, serial: &Serial, copies: &[Down]) -> bool
+    ensures { result ≡ list_any (is_assign onu serial.now) copies.now }
+{
+    copies.iter().any(|message| assigns(message, onu, serial))
+}
+
+fn assigns(message: &Down, onu: u8, serial: &Serial) -> bool
+    ensures { result ≡ is_assign onu serial.now message.now }
+{
+    match message {
+        Down::AssignOnu {
+            onu: other,
+            serial: to,
+        } => onu == *other && *serial == *to,
+        _ => false,
+    }
+}

@@ -1,0 +1,86 @@
+ghost use Rattle.std.specs.Prelude.{◌≡◌, ℕ, ◌+◌, ◌<◌, ◌≤◌, ◌==◌, false, position, length, vec_len, vec_capacity};
+ghost use Rattle.std.specs.FinMap as map;
+ghost use Rattle.std.specs.List.{list_any};
+ghost use Rattle.gp_ploam.specs.declared.message.Serial.{Serial};
+ghost use Rattle.gp_machine.specs.declared.row.Row.{Row};
+ghost use Rattle.gp_port.specs.Listed.{IsApart, lesser_of, least_from};
+ghost use Rattle.gp_ploam.specs.Serials.{same_serial, serial_cmp};
+
+use gp_machine::{Phase, Row};
+use gp_ploam::Serial;
+
+/// Where the row of a serial number is.
+fn place_of(rows: &[(Serial, Row)], serial: &Serial) -> Option<usize>
+    ensures { result ≡ position (λ e. same_serial serial.now e.0) rows.now }
+{
+    rows.iter().position(|entry| *serial == entry.0)
+}
+
+/// The row of a serial number.
+pub fn row_of(rows: &[(Serial, Row)], serial: &Serial) -> Option<Row>
+    ensures { result ≡ map.find serial_cmp serial.now rows.now }
+{
+    match place_of(rows, serial) {
+        Some(place) => Some(rows[place].1),
+        None => None,
+    }
+}
+
+/// Gives a serial number this row.
+pub fn put_row(rows: &mut Vec<(Serial, Row)>, serial: Serial, row: Row)
+    requires apart { IsApart rows.old.items }
+    requires room { map.find serial_cmp serial rows.old.items ≡ None → vec_len rows.old < vec_capacity rows.old }
+    ensures rows { map.from_entries {R = serial_cmp} rows.new.items ≡ map.insert (map.from_entries rows.old.items) serial row }
+    ensures apart { IsApart rows.new.items }
+    ensures capacity { vec_capacity rows.new ≡ vec_capacity rows.old }
+{
+    match place_of(rows, &serial) {
+        Some(place) => rows[place] = (serial, row),
+        None => rows.push_reserved((serial, row)),
+    }
+}
+
+/// The lesser of an ONU-ID and that of a row, if its unit is ranging.
+fn lesser(least: Option<u8>, row: Row) -> Option<u8>
+    ensures { result ≡ lesser_of least row }
+{
+    match row.phase {
+        Phase::Ranging { .. } => match least {
+            Some(onu) if onu <= row.onu => Some(onu),
+            _ => Some(row.onu),
+        },
+        Phase::Operating { .. } => least,
+    }
+}
+
+/// The least ONU-ID of a ranging unit.
+pub fn least_ranging(rows: &[(Serial, Row)]) -> Option<u8>
+    ensures { result ≡ least_from None rows.now }
+{
+    let mut least: Option<u8> = None;
+    for entry in rows {
+        least = lesser(least, entry.1);
+    }
+    least
+}
+
+/// Whether a row has this ONU-ID.
+fn is_used(rows: &[(Serial, Row)], onu: u8) -> bool
+    ensures { result ≡ list_any (λ e. e.1.onu == onu) rows.now }
+{
+    rows.iter().any(|entry| entry.1.onu == onu)
+}
+
+/// An ONU-ID that no row has: the least one.
+pub fn free_onu(rows: &[(Serial, Row)]) -> u8
+    requires { length rows.now < 254 }
+    ensures low { result ≤ 253 }
+    ensures unused { list_any (λ e. e.1.onu == result) rows.now ≡ false }
+{
+    for onu in 0..254u8 {
+        if !is_used(rows, onu) {
+            return onu;
+        }
+    }
+    unreachable!()
+}

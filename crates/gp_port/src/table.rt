@@ -1,0 +1,84 @@
+ghost use Rattle.std.specs.Prelude.{◌≡◌, ℕ, ◌<◌, ◌≤◌, ◌≢◌, IfOk, vec_len, vec_capacity, IsSome, length};
+ghost use Rattle.std.specs.FinMap as map;
+ghost use Rattle.gp_ploam.specs.declared.message.Serial.{Serial};
+ghost use Rattle.gp_machine.specs.declared.row.Row.{Row};
+ghost use Rattle.gp_ploam.specs.Serials.{serial_cmp};
+ghost use Rattle.gp_machine.specs.State.{HasRow, IsLeastRanging};
+ghost use Rattle.gp_port.specs.Listed.{IsApart};
+
+use std::alloc::{AllocError, Global};
+use std::marker::Model;
+
+use gp_machine::Row;
+use gp_ploam::Serial;
+
+use super::rows::{free_onu, least_ranging, put_row, row_of};
+
+/// The units of a port, by serial number.
+#[derive(Drop)]
+pub struct UnitTable {
+    rows: Vec<(Serial, Row)>,
+}
+
+impl Model for UnitTable {
+    ghost use Rattle.std.specs.Prelude.{vec_capacity, ◌≤◌};
+    ghost use Rattle.std.specs.FinMap as map;
+    ghost use Rattle.gp_machine.specs.declared.row.Row.{Row};
+    ghost use Rattle.gp_ploam.specs.Serials.{serial_cmp, coded_serial};
+    ghost use Rattle.gp_port.specs.Listed.{IsApart};
+    ghost use Rattle.gp_machine.specs.contracts.row.Row as row;
+
+    ghost Value = { map.FinMap serial_cmp Row };
+
+    ghost coded = { map.code coded_serial row.the_row.coded };
+
+    ghost view = { λ a. map.from_entries a.rows.items };
+
+    ghost invariant = { λ a. IsApart a.rows.items × (254 ≤ vec_capacity a.rows) };
+}
+
+impl UnitTable {
+    /// An empty table with room for 254 units.
+    pub fn begin(alloc: Global) -> Result<UnitTable, AllocError>
+        ensures { IfOk result (λ t. t ≡ map.empty) }
+    {
+        let rows = Vec::with_capacity(alloc, 254)?;
+        Ok(UnitTable { rows })
+    }
+
+    pub fn len(&self) -> usize
+        ensures { result ≡ map.len self.now }
+    {
+        self.rows.len()
+    }
+
+    pub fn row_of(&self, serial: &Serial) -> Option<Row>
+        ensures { result ≡ map.get self.now serial.now }
+    {
+        row_of(&self.rows, serial)
+    }
+
+    /// Gives a unit this row.
+    pub fn put(&mut self, serial: Serial, row: Row)
+        requires { map.get self.old serial ≡ None → map.len self.old < 254 }
+        ensures { self.new ≡ map.insert self.old serial row }
+    {
+        put_row(&mut self.rows, serial, row);
+    }
+
+    /// The least ONU-ID of a ranging unit.
+    pub fn least_ranging(&self) -> Option<u8>
+        ensures { IsLeastRanging self.now result }
+    {
+        least_ranging(&self.rows)
+    }
+
+    /// An ONU-ID that no unit has: the least one.
+    pub fn free_onu(&self) -> u8
+        requires { map.len self.now < 254 }
+        ensures low { result ≤ 253 }
+        ensures unused { (s : Serial) (row : Row) → HasRow self.now s row → row.onu ≢ result }
+    {
+        free_onu(&self.rows)
+    }
+}

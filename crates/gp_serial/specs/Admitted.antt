@@ -1,0 +1,21 @@
+-- The serial numbers that are admitted: a map from each to its port, and to whether it is disabled.
+use Rattle.std.specs.Prelude.{◌≡◌, ℕ, ◌==◌, ◌<◌, ◌≤◌, false, List, slice_index, count_by}
+use Rattle.std.specs.FinMap.{FinMap, values}
+use Rattle.gp_ploam.specs.Serials.{serial_cmp}
+use Rattle.gp_serial.specs.declared.index.Admission.{Admission}
+
+abbrev pub Admissions : Type 0
+Admissions = FinMap serial_cmp Admission
+
+-- admitted on this port, and not disabled
+abbrev pub admission_on : ℕ → Admission
+admission_on port = record { port = port; disabled = false }
+
+-- how many serial numbers are admitted on this port
+abbrev pub count_on : ℕ → Admissions → ℕ
+count_on port admissions = count_by (λ a. a.port == port) (values admissions)
+
+-- these are the counts of all ports, none above 512
+pub record IsCounted (admissions : Admissions) (counts : List ℕ) : Type 0 where
+  pub counted : (port : ℕ) → port < 256 → slice_index counts port ≡ count_on port admissions
+  pub most : (port : ℕ) → port < 256 → slice_index counts port ≤ 512

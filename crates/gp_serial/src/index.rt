@@ -1,0 +1,82 @@
+//! The map of the admission list, ordered by serial number.
+ghost use Rattle.std.specs.Prelude.{◌≡◌, ℕ, ◌+◌, ◌==◌, ◌↔◌, if◌then◌else◌, None, IsSome, IsTrue, MatchOption, OnOk, OnErr};
+ghost use Rattle.std.specs.FinMap as map;
+ghost use Rattle.gp_serial.specs.Admitted.{count_on};
+
+use gp_ploam::Serial;
+use std::alloc::{AllocError, Global};
+use std::collections::BTreeMap;
+use std::marker::Model;
+
+/// Where a serial number is admitted, and whether its unit is disabled.
+#[derive(Clone, Copy, Debug, PartialEq, Eq)]
+pub struct Admission {
+    pub port: u8,
+    pub disabled: bool,
+}
+
+/// A map from serial number to admission.
+#[derive(Drop)]
+pub(crate) struct Index {
+    admissions: BTreeMap<Serial, Admission>,
+}
+
+impl Model for Index {
+    ghost use Rattle.std.specs.FinMap as map;
+    ghost use Rattle.std.specs.List.Sorted.{IsStrictlySortedBy};
+    ghost use Rattle.std.specs.Map.{keys_of};
+    ghost use Rattle.gp_ploam.specs.Serials.{serial_cmp, coded_serial};
+    ghost use Rattle.gp_serial.specs.declared.index.Admission.{Admission};
+    ghost use Rattle.gp_serial.specs.contracts.index.Admission as admission;
+
+    ghost Value = { map.FinMap serial_cmp Admission };
+
+    ghost coded = { map.code coded_serial admission.the_row.coded };
+
+    ghost view = { λ a. map.from_sorted a.admissions.entries };
+
+    ghost invariant = { λ a. IsStrictlySortedBy serial_cmp (keys_of a.admissions.entries) };
+}
+
+impl Index {
+    pub(crate) fn new(alloc: Global) -> Index
+        ensures { result ≡ map.empty }
+    {
+        Index {
+            admissions: BTreeMap::new(alloc),
+        }
+    }
+
+    /// The admission of a serial number.
+    pub(crate) fn get(&self, serial: &Serial) -> Option<Admission>
+        ensures { result ≡ map.get self.now serial.now }
+    {
+        self.admissions.get(serial).copied()
+    }
+
+    /// Adds a serial number, which counts on its port.
+    pub(crate) fn insert(&mut self, serial: Serial, admission: Admission) -> Result<(), AllocError>
+        requires { map.get self.old serial ≡ None }
+        ensures ok { OnOk result (self.new ≡ map.insert self.old serial admission) }
+        ensures counts { OnOk result ((port : ℕ) → count_on port self.new
+            ≡ (if admission.port == port then 1 else 0) + count_on port self.old) }
+        ensures err { OnErr result (self.new ≡ self.old) }
+    {
+        self.admissions.insert(serial, admission)?;
+        Ok(())
+    }
+
+    /// Disables or enables a serial number that is there, which changes no count.
+    pub(crate) fn set_disabled(&mut self, serial: &Serial, disabled: bool) -> bool
+        ensures known { IsTrue result ↔ IsSome (map.get self.old serial.now) }
+        ensures set { MatchOption (map.get self.old serial.now) (self.new ≡ self.old)
+            (λ a. self.new ≡ map.insert self.old serial.now (record a { disabled = disabled })) }
+        ensures counts { (port : ℕ) → count_on port self.new ≡ count_on port self.old }
+    {
+        let Some(admission) = self.admissions.get_mut(serial) else {
+            return false;
+        };
+        admission.disabled = disabled;
+        true
+    }
+}

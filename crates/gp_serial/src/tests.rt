@@ -1,0 +1,122 @@
+//! Worked spellings, printed faults, and what only a run shows: that memory suffices, or is told.
+use crate::{
+    AdmissionList, AdmitFault, MOST_ON_A_PORT, SerialFault, SerialText, parse_serial,
+    push_serial_text, serial_text,
+};
+use gp_ploam::Serial;
+use std::alloc::Global;
+use std::test::Fail;
+
+const UNIT: Serial = Serial([0x41, 0x42, 0x43, 0x44, 0, 0, 0, 1]);
+
+fn numbered(high: u8, low: u8) -> Serial {
+    Serial([0x41, 0x42, 0x43, 0x44, 0, 0, high, low])
+}
+
+#[test]
+fn serial_texts(rt: HostRuntime) -> Result<(), Fail> {
+    assert_eq!(rt; parse_serial("ABCD0000001"), Err(SerialFault::Length));
+    assert_eq!(rt; parse_serial("abCD00000001"), Err(SerialFault::Vendor));
+    assert_eq!(rt; parse_serial("ABCD0000000G"), Err(SerialFault::Digit));
+    assert_eq!(rt; parse_serial("4142434400000001"), Ok(UNIT));
+    assert_eq!(rt; serial_text(rt.alloc(), &UNIT)?.as_str(), "ABCD00000001");
+    assert_eq!(rt;
+        serial_text(rt.alloc(), &Serial([0; 8]))?.as_str(),
+        "0000000000000000"
+    );
+    Ok(())
+}
+
+#[test]
+fn texts_elsewhere(rt: HostRuntime) -> Result<(), Fail> {
+    let vendor_of_digits = Serial([0x30, 0x39, 0x5a, 0x41, 0xde, 0xad, 0xbe, 0xef]);
+    let text = format!(in rt.alloc(); "{}", SerialText::of(&vendor_of_digits))?;
+    assert_eq!(rt; text.as_str(), "09ZADEADBEEF");
+    let mut out = Vec::new(rt.alloc());
+    push_serial_text(&mut out, &Serial([0x5b, 0x42, 0x43, 0x44, 0, 0, 0, 0xa1]))?;
+    push_serial_text(&mut out, &UNIT)?;
+    assert_eq!(rt; out.as_slice(), b"5B424344000000A1ABCD00000001".as_slice());
+    Ok(())
+}
+
+#[test]
+fn admissions(rt: HostRuntime) -> Result<(), Fail> {
+    let mut list = AdmissionList::new(rt.alloc());
+    assert_eq!(rt; list.admit(0, UNIT), Ok(()));
+    assert_eq!(rt; list.admit(0, UNIT), Err(AdmitFault::Duplicate));
+    assert_eq!(rt; list.admit(1, UNIT), Err(AdmitFault::Duplicate));
+    for high in 1..3 {
+        for low in 0..=255 {
+            let admitted = list.admit(0, numbered(high, low));
+            let expected = if high == 2 && low == 255 {
+                Err(AdmitFault::Full)
+            } else {
+                Ok(())
+            };
+            assert_eq!(rt; admitted, expected);
+        }
+    }
+    assert_eq!(rt; list.admitted_on(0), MOST_ON_A_PORT);
+    assert_eq!(rt; list.admit(1, numbered(2, 255)), Ok(()));
+    assert_eq!(rt; list.port_of(&numbered(2, 255)), Some(1));
+    assert!(rt; list.set_disabled(&UNIT, true));
+    assert!(rt; list.is_disabled(&UNIT));
+    Ok(())
+}
+
+// Run with each allocation refused in turn (`rt try --test --fail-alloc N`).
+fn admitted(alloc: Global) -> (Result<(), AdmitFault>, Option<u8>) {
+    let mut list = AdmissionList::new(alloc);
+    (list.admit(3, UNIT), list.port_of(&UNIT))
+}
+
+#[test]
+fn memory_short_or_ample(rt: HostRuntime) -> Result<(), Fail> {
+    match admitted(rt.alloc()) {
+        (Ok(()), port) => assert_eq!(rt; port, Some(3)),
+        (Err(fault), port) => {
+            assert_eq!(rt; fault, AdmitFault::OutOfMemory);
+            assert_eq!(rt; port, None);
+        }
+    }
+    if let Err(fault) = serial_text(rt.alloc(), &UNIT) {
+        assert_eq!(rt; fault, SerialFault::OutOfMemory);
+    }
+    Ok(())
+}
+
+#[test]
+fn printed_faults(rt: HostRuntime) -> Result<(), Fail> {
+    let alloc = rt.alloc();
+    for (fault, text) in [
+        (
+            SerialFault::Length,
+            "a serial number has 12 or 16 characters",
+        ),
+        (
+            SerialFault::Vendor,
+            "a vendor code has letters A to Z and digits 0 to 9",
+        ),
+        (
+            SerialFault::Digit,
+            "a serial number's octets are hex digits",
+        ),
+        (SerialFault::OutOfMemory, "out of memory"),
+    ] {
+        assert_eq!(rt; format!(in alloc; "{fault}")?.as_str(), text);
+    }
+    for (fault, text) in [
+        (
+            AdmitFault::Duplicate,
+            "the serial number is admitted already",
+        ),
+        (
+            AdmitFault::Full,
+            "512 serial numbers are admitted on the port",
+        ),
+        (AdmitFault::OutOfMemory, "out of memory"),
+    ] {
+        assert_eq!(rt; format!(in alloc; "{fault}")?.as_str(), text);
+    }
+    Ok(())
+}

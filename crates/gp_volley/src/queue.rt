@@ -1,0 +1,109 @@
+ghost use Rattle.std.specs.Prelude.{◌≡◌, ◌+◌, ◌≤◌, ◌↔◌, [], ◌∷◌, ◌++◌, length, slice_get, Contains, IfOk, IsTrue};
+ghost use Rattle.gp_volley.specs.Queue.{first_of, all_but_first};
+
+use std::alloc::Global;
+use std::collections::VecDeque;
+use std::marker::Model;
+use thiserror::Error;
+
+use gp_ploam::Down;
+
+use super::volley::Volley;
+
+/// How many messages there is room for.
+const ROOM: usize = 64;
+
+/// Why no queue was made.
+#[derive(Clone, Copy, Debug, PartialEq, Eq, Error)]
+pub enum QueueFault {
+    #[error("out of memory")]
+    OutOfMemory,
+}
+
+/// The copies of messages that are owed, in the order in which they are sent. There is room for those of 64 messages.
+pub struct VolleyQueue {
+    volleys: VecDeque<Volley>,
+}
+
+impl Model for VolleyQueue {
+    ghost use Rattle.std.specs.Prelude.{List, ◌≤◌, length};
+    ghost use Rattle.std.specs.VecDeque.{deque_capacity};
+    ghost use Rattle.gp_ploam.specs.declared.message.Down.{Down};
+    ghost use Rattle.gp_volley.specs.Queue.{IsInOrder, copies_of};
+
+    ghost Value = { List Down };
+
+    ghost view = { λ q. copies_of q.volleys.items };
+
+    ghost invariant = { λ q. IsInOrder q.volleys.items × (length q.volleys.items ≤ 64) × (64 ≤ deque_capacity q.volleys) };
+}
+
+impl VolleyQueue {
+    /// A queue that owes nothing. No later call takes memory.
+    pub fn begin(alloc: Global) -> Result<VolleyQueue, QueueFault>
+        ensures { IfOk result (λ q. q ≡ []) }
+    {
+        let volleys = VecDeque::with_capacity(alloc, ROOM).map_err(|_| QueueFault::OutOfMemory)?;
+        Ok(VolleyQueue { volleys })
+    }
+
+    /// Owes a message: three copies after all others.
+    pub fn owe(&mut self, message: Down)
+        requires { length self.old + 3 ≤ 192 }
+        ensures { self.new ≡ self.old ++ message ∷ message ∷ message ∷ [] }
+    {
+        self.volleys.push_back_reserved(Volley::begin(message));
+    }
+
+    /// Takes out the first copy, to be sent.
+    pub fn send_one(&mut self) -> Option<Down>
+        ensures first { result ≡ first_of self.old }
+        ensures rest { self.new ≡ all_but_first self.old }
+    {
+        let (copy, rest) = self.volleys.pop_front()?.send();
+        if let Some(volley) = rest {
+            self.volleys.push_front_reserved(volley);
+        }
+        Some(copy)
+    }
+
+    /// How many copies are owed.
+    pub fn len_copies(&self) -> usize
+        ensures len { result ≡ length self.now }
+        ensures room { result ≤ 192 }
+    {
+        match self.volleys.front() {
+            Some(volley) => volley.left() as usize + 3 * (self.volleys.len() - 1),
+            None => 0,
+        }
+    }
+
+    /// The copy with `i` others before it.
+    pub fn copy_at(&self, i: usize) -> Option<Down>
+        ensures { result ≡ slice_get self.now i }
+    {
+        let first = self.volleys.front()?;
+        let left = first.left() as usize;
+        if i < left {
+            return Some(first.message());
+        }
+        let volley = self.volleys.get(1 + (i - left) / 3)?;
+        Some(volley.message())
+    }
+
+    /// Whether a copy of this message is owed. It looks at up to 64 messages.
+    pub fn owes(&self, message: &Down) -> bool
+        ensures { IsTrue result ↔ Contains self.now message.now }
+    {
+        self.volleys.iter().any(|volley| volley.message() == *message)
+    }
+
+    /// Ends the queue; what it still owes is not sent.
+    pub fn close(self) {
+        let VolleyQueue { mut volleys } = self;
+        while let Some(volley) = volleys.pop_front() {
+            let (_message, _left) = volley.close();
+        }
+        volleys.destroy_empty();
+    }
+}

@@ -1,0 +1,80 @@
+ghost use Rattle.std.specs.Prelude.{◌≡◌, ◌-◌, ◌≤◌};
+ghost use Rattle.gp_volley.specs.Volley.{volley_of, volley_after_copy};
+
+use std::marker::Model;
+
+use gp_ploam::Down;
+
+/// How many times a message is sent.
+const COPIES: u8 = 3;
+
+/// A message with the copies of it that are still to be sent. It is no `Drop`, so that a volley ends with its last
+/// copy, or is closed.
+pub struct Volley {
+    message: Down,
+    left: u8,
+}
+
+impl Model for Volley {
+    ghost use Rattle.std.specs.Prelude.{◌≤◌};
+    ghost use Rattle.gp_volley.specs.Volley.{VolleyState};
+
+    ghost Value = { VolleyState };
+
+    ghost view = { λ v. record { message = v.message; left = v.left } };
+
+    ghost invariant = { λ v. (1 ≤ v.left) × (v.left ≤ 3) };
+}
+
+impl Volley {
+    /// All copies of a message.
+    pub fn begin(message: Down) -> Volley
+        ensures { result ≡ volley_of message }
+    {
+        Volley {
+            message,
+            left: COPIES,
+        }
+    }
+
+    pub fn message(&self) -> Down
+        ensures { result ≡ self.now.message }
+    {
+        self.message
+    }
+
+    /// How many copies are still to be sent, 1 to 3.
+    pub fn left(&self) -> u8
+        ensures left { result ≡ self.now.left }
+        ensures some { 1 ≤ result }
+        ensures at_most { result ≤ 3 }
+    {
+        self.left
+    }
+
+    /// Sends a copy: the message, and what is left of the volley, if anything is.
+    pub fn send(self) -> (Down, Option<Volley>)
+        ensures copy { result.0 ≡ self.message }
+        ensures rest { result.1 ≡ volley_after_copy self }
+    {
+        let Volley { message, left } = self;
+        if left > 1 {
+            let rest = Volley {
+                message,
+                left: left - 1,
+            };
+            (message, Some(rest))
+        } else {
+            (message, None)
+        }
+    }
+
+    /// Ends the volley before its last copy: the message, and how many copies were left.
+    pub fn close(self) -> (Down, u8)
+        ensures message { result.0 ≡ self.message }
+        ensures left { result.1 ≡ self.left }
+    {
+        let Volley { message, left } = self;
+        (message, left)
+    }
+}
