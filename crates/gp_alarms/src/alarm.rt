@@ -27,6 +27,11 @@ pub struct Alarm {
 }
 
 impl fmt::Display for AlarmKind {
+    ghost use Rattle.std.specs.Prelude.{Some};
+    ghost use Rattle.gp_alarms.specs.Alarm.{alarm_name};
+
+    ghost output = { λ kind. Some (alarm_name kind) };
+
     fn fmt<W: fmt::Write>(&self, f: &mut fmt::Formatter<W>) -> fmt::Result {
         f.write_str(match self {
             AlarmKind::Los => "LOS",

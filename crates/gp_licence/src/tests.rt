@@ -1,10 +1,10 @@
 //! The generic code, once at a ledger of its own.
+ghost use Rattle.std.specs.Prelude.{◌≡◌};
+
 use crate::{LicenceBook, Licences, MOST_LICENCES};
 use std::marker::Brand;
 use std::sync::ledger::{Blank, Ledger};
 use std::test::Fail;
-
-ghost use Rattle.std.specs.Prelude.{◌≡◌};
 
 /// The numbers that a day with two licences shows.
 #[derive(Clone, Copy, Debug, PartialEq, Eq)]

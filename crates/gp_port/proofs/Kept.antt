@@ -14,9 +14,10 @@ use Rattle.gp_machine.specs.Sound.{IsAsked, IsSound}
 use Rattle.gp_machine.specs.Frame.{decision_after, state_after_decision}
 use Rattle.gp_common.specs.declared.common.Common.{Common}
 use Rattle.gp_common.specs.declared.decision.Decision.{Decision}
-use Rattle.gp_machine.specs.Outcomes.{has_room}
-use Rattle.gp_machine.specs.Burst.{new_row, state_assigned, state_ranged}
-use Rattle.gp_machine.proofs.Cases.{both_true}
+use Rattle.gp_machine.specs.Outcomes.{Outcome, has_room}
+use Rattle.gp_ploam.specs.declared.message.Up.{Up}
+use Rattle.gp_machine.specs.Burst.{burst_outcome, new_row, state_assigned, state_ranged}
+use Rattle.gp_machine.proofs.Cases.{both_true, of_each_burst}
 use Rattle.gp_machine.proofs.Licences.{len-known, len-new}
 use Rattle.gp_machine.proofs.SoundRows.{may_put_again}
 use Rattle.gp_machine.proofs.SoundSteps.{may_put_new, sound_assigned, sound_decision, sound_opening, sound_ranged}
@@ -79,3 +80,18 @@ pub sound_made : (p now : PortState) (ranging : Option ℕ) (made : Common × De
 sound_made p now ranging made same h nothing least is =
     subst (λ (d : Common × Decision). IsSound (state_after_decision now d)) (sym (is ∙ ap (λ (q : PortState). decision_after q ranging) same))
     (sound_decision now ranging (subst IsSound same h) nothing least)
+
+-- no burst makes the port send
+pub burst_sends_nothing : (u : ℕ) (p : PortState) (at : ℕ) (heard : Option Up) (n : ℕ) → (burst_outcome u p at heard n).answer.sent ≡ None
+burst_sends_nothing u p at heard n =
+    of_each_burst (λ (o : Outcome). o.answer.sent ≡ None) u p at heard n
+    (record {
+      stray = refl;
+      refused = λ refusal. refl;
+      found = λ w opened search s admitted none few some room. refl;
+      repeated = λ s row has. refl;
+      again = λ w opened search s row has room. refl;
+      too_far = λ m. refl;
+      still_ranging = λ m. refl;
+      ranged = λ w m opened range s row has same near room. refl;
+    })

@@ -1,3 +1,11 @@
+pub use Rattle.gp_machine.specs.Config
 pub use Rattle.gp_machine.specs.State
+pub use Rattle.gp_machine.specs.Sound
+pub use Rattle.gp_machine.specs.Outcomes
+pub use Rattle.gp_machine.specs.Frame
+pub use Rattle.gp_machine.specs.Burst
+pub use Rattle.gp_machine.specs.Commands
+pub use Rattle.gp_machine.specs.Step
+pub use Rattle.gp_machine.specs.Run
 pub mod Listed
 pub mod Core

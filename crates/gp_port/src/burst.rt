@@ -42,7 +42,8 @@ impl<L: Ledger> PortCore<L> {
         at: u32,
         bytes: [u8; 13],
     ) -> (Answer, Licences<L>)
-        ensures { Step purse self.old (event.Burst at bytes) (outcome_of result self.new) }
+        ensures step { Step purse self.old (event.Burst at bytes) (outcome_of result self.new) }
+        ensures sent { result.0.sent ≡ None }
     {
         let heard = decode_up(&bytes, self.config.mask).ok();
         self.receive(purse, at, heard)

@@ -1,4 +1,4 @@
-ghost use Rattle.std.specs.Prelude.{◌≡◌};
+ghost use Rattle.std.specs.Prelude.{◌≡◌, None};
 ghost use Rattle.gp_machine.specs.Outcomes.{outcome_of};
 ghost use Rattle.gp_machine.specs.Commands.{command_outcome};
 
@@ -13,7 +13,8 @@ use super::port_core::PortCore;
 
 impl<L: Ledger> PortCore<L> {
     pub(super) fn command(&mut self, purse: Licences<L>, command: Command) -> (Answer, Licences<L>)
-        ensures { outcome_of result self.new ≡ command_outcome purse self.old command }
+        ensures outcome { outcome_of result self.new ≡ command_outcome purse self.old command }
+        ensures sent { result.0.sent ≡ None }
     {
         match command {
             Command::Search => self.want_search(purse),
@@ -22,7 +23,8 @@ impl<L: Ledger> PortCore<L> {
 
     /// A search is wanted, but where one is wanted already or goes on.
     fn want_search(&mut self, purse: Licences<L>) -> (Answer, Licences<L>)
-        ensures { outcome_of result self.new ≡ command_outcome purse self.old Command.Search }
+        ensures outcome { outcome_of result self.new ≡ command_outcome purse self.old Command.Search }
+        ensures sent { result.0.sent ≡ None }
     {
         let acquiring = matches!(self.common, Common::Acquisition(_));
         if self.wanted || acquiring {

@@ -1,5 +1,7 @@
 ghost use Rattle.std.specs.Prelude.{◌≡◌, ◌+◌, ◌≤◌, [], ◌∷◌, ◌++◌, length, IfOk, is_none};
+ghost use Rattle.std.specs.Option.{ForSome};
 ghost use Rattle.std.specs.List.{list_any};
+ghost use Rattle.gp_ploam.specs.Down.{IsProperDown};
 ghost use Rattle.gp_machine.specs.Frame.{first_of, rest_of};
 ghost use Rattle.gp_machine.specs.Burst.{is_assign};
 
@@ -9,21 +11,22 @@ use std::marker::Model;
 use gp_ploam::{Down, Serial};
 
 /// The copies of messages that a port owes, in the order in which they are sent. Contracts see them as a
-/// list.
+/// list. Each of them has a code.
 #[derive(Drop)]
 pub struct Copies {
     copies: Vec<Down>,
 }
 
 impl Model for Copies {
-    ghost use Rattle.std.specs.Prelude.{List, vec_capacity, ◌≤◌};
+    ghost use Rattle.std.specs.Prelude.{All, List, vec_capacity, ◌≤◌};
     ghost use Rattle.gp_ploam.specs.declared.message.Down.{Down};
+    ghost use Rattle.gp_ploam.specs.Down.{IsProperDown};
 
     ghost Value = { List Down };
 
     ghost view = { λ a. a.copies.items };
 
-    ghost invariant = { λ a. 192 ≤ vec_capacity a.copies };
+    ghost invariant = { λ a. (192 ≤ vec_capacity a.copies) × All IsProperDown a.copies.items };
 }
 
 impl Copies {
@@ -49,7 +52,8 @@ impl Copies {
 
     /// Owes three copies of a message, after all others.
     pub fn owe(&mut self, message: Down)
-        requires { length self.old + 3 ≤ 192 }
+        requires room { length self.old + 3 ≤ 192 }
+        requires proper { IsProperDown message }
         ensures { self.new ≡ self.old ++ message ∷ message ∷ message ∷ [] }
     {
         self.copies.push_reserved(message);
@@ -61,6 +65,7 @@ impl Copies {
     pub fn send_one(&mut self) -> Option<Down>
         ensures first { result ≡ first_of self.old }
         ensures rest { self.new ≡ rest_of self.old }
+        ensures proper { ForSome result IsProperDown }
     {
         if self.copies.is_empty() {
             return None;

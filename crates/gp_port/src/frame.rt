@@ -1,4 +1,7 @@
 ghost use Rattle.std.specs.Prelude.{◌≡◌, []};
+ghost use Rattle.std.specs.Option.{ForSome};
+ghost use Rattle.gp_ploam.specs.declared.message.Down.TheVariants as down;
+ghost use Rattle.gp_ploam.specs.Down.{IsProperDown};
 ghost use Rattle.gp_machine.specs.State.{IsLeastRanging};
 ghost use Rattle.gp_machine.specs.Sound.{IsSound};
 ghost use Rattle.gp_machine.specs.Outcomes.{outcome_of};
@@ -20,7 +23,8 @@ use super::windows::{put_window, ticked};
 impl<L: Ledger> PortCore<L> {
     /// A frame: the timer, the sending, the window, and the decision where the port was idle.
     pub(super) fn frame(&mut self, purse: Licences<L>) -> (Answer, Licences<L>)
-        ensures { Step purse self.old event.Frame (outcome_of result self.new) }
+        ensures step { Step purse self.old event.Frame (outcome_of result self.new) }
+        ensures proper { ForSome result.0.sent IsProperDown }
     {
         let ranging = self.table.least_ranging();
         let idle = self.is_idle();
@@ -61,6 +65,7 @@ impl<L: Ledger> PortCore<L> {
     fn send(&mut self) -> Option<Down>
         ensures first { result ≡ spec.first_of self.old.owed }
         ensures rest { self.new ≡ spec.state_after_sending self.old }
+        ensures proper { ForSome result IsProperDown }
     {
         self.owed.send_one()
     }
@@ -102,12 +107,19 @@ impl<L: Ledger> PortCore<L> {
             Decision::Nothing => {}
             Decision::Overhead => {
                 self.wanted = false;
-                let burst = self.config.overhead;
-                self.owed.owe(Down::UpstreamOverhead { burst });
+                self.owed.owe(overhead_with(self.config.overhead));
             }
             Decision::Ask(grant) => put_window(&mut self.window, Some(Window::begin(grant))),
         }
     }
+}
+
+/// Upstream_Overhead with these ten octets.
+fn overhead_with(burst: [u8; 10]) -> Down
+    ensures message { result ≡ down.UpstreamOverhead burst }
+    ensures proper { IsProperDown result }
+{
+    Down::UpstreamOverhead { burst }
 }
 
 /// What a decision grants.

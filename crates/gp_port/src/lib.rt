@@ -10,6 +10,8 @@ mod open;
 mod port_core;
 mod rows;
 mod table;
+#[cfg(test)]
+mod tests;
 mod windows;
 
 pub use gp_machine::{

@@ -1,5 +1,7 @@
 ghost use Rattle.std.specs.Prelude.{◌≡◌, ◌+◌, false, true, [], length, IfOk, IsErrOf, ◌↔◌};
 ghost use Rattle.std.specs.FinMap as map;
+ghost use Rattle.std.specs.Option.{ForSome};
+ghost use Rattle.gp_ploam.specs.Down.{IsProperDown};
 ghost use Rattle.gp_machine.specs.Config.{is_within_limits};
 ghost use Rattle.gp_machine.specs.State.{opening_of, rows_of};
 ghost use Rattle.gp_machine.specs.Sound.{IsSound};
@@ -72,6 +74,7 @@ impl<L: Ledger> PortCore<L> {
         ensures step { Step purse self.old event (outcome_of result self.new) }
         ensures sound { IsSound self.new }
         ensures licences { result.1 + rows_of self.new ≡ purse + rows_of self.old }
+        ensures proper { ForSome result.0.sent IsProperDown }
     {
         let done = self.react(purse, event);
         let _ = &self.config;
@@ -79,7 +82,8 @@ impl<L: Ledger> PortCore<L> {
     }
 
     fn react(&mut self, purse: Licences<L>, event: Event) -> (Answer, Licences<L>)
-        ensures { Step purse self.old event (outcome_of result self.new) }
+        ensures step { Step purse self.old event (outcome_of result self.new) }
+        ensures proper { ForSome result.0.sent IsProperDown }
     {
         match event {
             Event::Frame => self.frame(purse),

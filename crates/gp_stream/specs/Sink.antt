@@ -2,10 +2,11 @@
 use Rattle.std.specs.Prelude.{◌≡◌, ℕ, Bool, List, ◌++◌, Option, vec_capacity}
 use Rattle.std.specs.Io.KnownBytes.{Appends}
 use Rattle.gp_stream.specs.declared.sink.Sink.{Sink}
+use Rattle.gp_stream.specs.Watched.{inner_of, is_stopped}
 
 -- the writer below
 abbrev pub writer_of : {W : Type 0} → Sink W → W
-writer_of s = s.inner
+writer_of s = inner_of s.writer
 
 -- what was handed in and is not yet written
 abbrev pub gathered_of : {W : Type 0} → Sink W → List ℕ
@@ -17,7 +18,7 @@ room_of s = vec_capacity s.gathered
 
 -- a write has failed or taken nothing
 abbrev pub has_stopped : {W : Type 0} → Sink W → Bool
-has_stopped s = s.stopped
+has_stopped s = is_stopped s.writer
 
 -- where a sink stands: what the writer holds, where that is known, and what is gathered for it
 pub record SinkState : Type 0 where

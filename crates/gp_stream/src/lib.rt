@@ -4,10 +4,9 @@
 mod reading;
 mod sink;
 mod source;
-
 #[cfg(test)]
 mod tests;
-
+mod watched;
 
 pub use reading::{MOST_BYTES, SourceFault, read_all};
 pub use sink::{GATHERED_BYTES, Sink, WriteStopped};

@@ -1,6 +1,8 @@
 ghost use Rattle.std.specs.Prelude.{◌≡◌, ◌+◌, ◌≤◌, ◌||◌, [], IfOk, OnOk, OnErr, IsOk, IsErr, IsTrue, ℕ, false, length, take, is_err};
-ghost use Rattle.std.specs.Io.KnownBytes.{Appends, Keeps};
+ghost use Rattle.std.specs.Io.KnownBytes.{Appends};
+ghost use Rattle.gp_stream.specs.Watched.{inner_of, is_stopped};
 
+use crate::watched::Watched;
 use std::alloc::{AllocError, Global};
 use std::io::Write;
 use thiserror::Error;
@@ -19,17 +21,21 @@ pub struct WriteStopped;
 /// What is gathered when the sink goes is lost: call [`Sink::finish`] first.
 #[derive(Drop)]
 pub struct Sink<W> {
-    inner: W,
+    writer: Watched<W>,
     gathered: Vec<u8>,
-    stopped: bool,
 }
 
 /// Writes all the bytes, in as many writes as it takes. Where one fails or takes nothing, those
 /// before it stand and none comes after it.
-fn write_all<W: Write>(writer: &mut W, bytes: &[u8]) -> Result<(), WriteStopped>
-    ensures ok { OnOk result (Appends (W.contents writer.old) (W.contents writer.new) bytes.now) }
-    ensures err { OnErr result ((count : ℕ) × Appends (W.contents writer.old) (W.contents writer.new) (take count bytes.now)) }
+fn write_all<W: Write>(writer: &mut Watched<W>, bytes: &[u8]) -> Result<(), WriteStopped>
+    ensures ok { OnOk result (Appends (W.contents (inner_of writer.old)) (W.contents (inner_of writer.new)) bytes.now) }
+    ensures err { OnErr result ((count : ℕ) × Appends (W.contents (inner_of writer.old)) (W.contents (inner_of writer.new)) (take count bytes.now)) }
+    ensures stopped { is_stopped writer.new ≡ (is_stopped writer.old || is_err result) }
+    ensures refused { IsTrue (is_stopped writer.old) → IsErr result × (writer.new ≡ writer.old) }
 {
+    if writer.is_stopped() {
+        return Err(WriteStopped);
+    }
     let mut at = 0;
     'writes: while at < bytes.len() {
         match writer.write(&bytes[at..]) {
@@ -53,53 +59,45 @@ impl<W: Write> Sink<W> {
         ensures room { IfOk result (λ sink. room_of sink ≡ GATHERED_BYTES) }
     {
         let gathered = Vec::with_capacity(alloc, GATHERED_BYTES)?;
-        Ok(Sink {
-            inner,
-            gathered,
-            stopped: false,
-        })
+        let writer = Watched::new(inner);
+        Ok(Sink { writer, gathered })
     }
 
     /// The writer below. What is gathered is lost.
     pub fn into_inner(self) -> W
         ensures { result ≡ writer_of self }
     {
-        let Sink { inner, .. } = self;
-        inner
+        let Sink { writer, .. } = self;
+        writer.into_inner()
     }
 
-    /// Writes out what is gathered.
+    /// Writes out what is gathered. Once a write failed or took nothing, nothing more is written.
     pub fn finish(&mut self) -> Result<(), WriteStopped>
         ensures ok { OnOk result (Takes (sink_state W.contents self.old) (sink_state W.contents self.new) []) }
         ensures empty { OnOk result (gathered_of self.new ≡ []) }
         ensures err { OnErr result (TakesFront (sink_state W.contents self.old) (sink_state W.contents self.new) []) }
         ensures stopped { has_stopped self.new ≡ (has_stopped self.old || is_err result) }
-        ensures refused { IsTrue (has_stopped self.old) → IsErr result × Keeps (W.contents (writer_of self.old)) (W.contents (writer_of self.new)) }
+        ensures refused { IsTrue (has_stopped self.old) → IsErr result × (writer_of self.new ≡ writer_of self.old) }
         ensures room { room_of self.old ≤ room_of self.new }
     {
-        if self.stopped {
-            return Err(WriteStopped);
-        }
-        let outcome = write_all(&mut self.inner, self.gathered.as_slice());
-        match outcome {
-            Ok(()) => self.gathered.clear(),
-            Err(_) => self.stopped = true,
-        }
-        outcome
+        write_all(&mut self.writer, self.gathered.as_slice())?;
+        self.gathered.clear();
+        Ok(())
     }
 
     /// Hands in bytes. Where there is room for them they are gathered, and nothing is written;
-    /// else what was gathered goes out first.
+    /// else what was gathered goes out first. Once a write failed or took nothing, nothing more is
+    /// written.
     pub fn put(&mut self, bytes: &[u8]) -> Result<(), WriteStopped>
         ensures ok { OnOk result (Takes (sink_state W.contents self.old) (sink_state W.contents self.new) bytes.now) }
         ensures err { OnErr result (TakesFront (sink_state W.contents self.old) (sink_state W.contents self.new) bytes.now) }
         ensures stopped { has_stopped self.new ≡ (has_stopped self.old || is_err result) }
-        ensures refused { IsTrue (has_stopped self.old) → IsErr result × Keeps (W.contents (writer_of self.old)) (W.contents (writer_of self.new)) }
+        ensures refused { IsTrue (has_stopped self.old) → IsErr result × (writer_of self.new ≡ writer_of self.old) }
         ensures fits { has_stopped self.old ≡ false → length (gathered_of self.old) + length bytes.now ≤ room_of self.old
             → IsOk result × (writer_of self.new ≡ writer_of self.old) }
         ensures room { room_of self.old ≤ room_of self.new }
     {
-        if self.stopped {
+        if self.writer.is_stopped() {
             return Err(WriteStopped);
         }
         if bytes.len() > self.gathered.capacity() - self.gathered.len() {
@@ -120,9 +118,7 @@ impl<W: Write> Sink<W> {
     {
         self.finish()?;
         if bytes.len() > self.gathered.capacity() {
-            let outcome = write_all(&mut self.inner, bytes);
-            self.stopped = outcome.is_err();
-            return outcome;
+            return write_all(&mut self.writer, bytes);
         }
         self.gathered.extend_from_slice(bytes).unwrap();
         Ok(())

@@ -110,7 +110,14 @@ fn longest_input(rt: HostRuntime) {
 
 #[test]
 fn short_writes_and_faults(rt: HostRuntime) {
-    for (fails, room) in [(false, 0), (true, 0), (false, 4), (true, 5), (false, 6), (true, 6)] {
+    for (fails, room) in [
+        (false, 0),
+        (true, 0),
+        (false, 4),
+        (true, 5),
+        (false, 6),
+        (true, 6),
+    ] {
         let short = Short {
             taken: Vec::new(rt.alloc()),
             room,
@@ -144,7 +151,10 @@ fn larger_than_the_room(rt: HostRuntime) {
 #[test]
 fn texts_of_faults(rt: HostRuntime) -> Result<(), AllocError> {
     let texts = [
-        (SourceFault::Read, "a read failed, or the input took too many reads"),
+        (
+            SourceFault::Read,
+            "a read failed, or the input took too many reads",
+        ),
         (SourceFault::TooLong, "the input is too long"),
         (SourceFault::OutOfMemory, "out of memory"),
     ];

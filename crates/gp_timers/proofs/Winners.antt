@@ -76,10 +76,10 @@ beaten_by_root names nodes good (suc n) i h pos low u is =
           let j = i / 2 in
           let won = good.inner (i / 2) (omega arith) (omega arith) in
           let up : IsBeaten (earlier_of (timer_at nodes (2 * (i / 2))) (timer_at nodes (2 * (i / 2) + 1))) u =
-              elim (even_or_odd i) [
-                | inl e ↦ beaten_left (timer_at nodes (2 * (i / 2))) (timer_at nodes (2 * (i / 2) + 1)) u (ap (timer_at nodes) (sym e) ∙ is)
-                | inr e ↦ beaten_right (timer_at nodes (2 * (i / 2))) (timer_at nodes (2 * (i / 2) + 1)) u (ap (timer_at nodes) (sym e) ∙ is)
-              ] in
+          elim (even_or_odd i) [
+            | inl e ↦ beaten_left (timer_at nodes (2 * (i / 2))) (timer_at nodes (2 * (i / 2) + 1)) u (ap (timer_at nodes) (sym e) ∙ is)
+            | inr e ↦ beaten_right (timer_at nodes (2 * (i / 2))) (timer_at nodes (2 * (i / 2) + 1)) u (ap (timer_at nodes) (sym e) ∙ is)
+          ] in
           let root = beaten_by_root names nodes good n (i / 2) (omega arith) (omega arith) (omega arith) up.0 (won ∙ up.1) in
           (root.0, root.1, joined_IsNoLater root.0 up.0 u root.2 up.2)
     ]

@@ -7,3 +7,6 @@ mod volley;
 
 pub use queue::{QueueFault, VolleyQueue};
 pub use volley::Volley;
+
+#[cfg(test)]
+mod tests;

@@ -1,14 +1,12 @@
 ghost use Rattle.std.specs.Prelude.{◌≡◌, ◌+◌, ◌≤◌, ◌↔◌, [], ◌∷◌, ◌++◌, length, slice_get, Contains, IfOk, IsTrue};
 ghost use Rattle.gp_volley.specs.Queue.{first_of, all_but_first};
 
+use super::volley::Volley;
+use gp_ploam::Down;
 use std::alloc::Global;
 use std::collections::VecDeque;
 use std::marker::Model;
 use thiserror::Error;
-
-use gp_ploam::Down;
-
-use super::volley::Volley;
 
 /// How many messages there is room for.
 const ROOM: usize = 64;
@@ -95,7 +93,9 @@ impl VolleyQueue {
     pub fn owes(&self, message: &Down) -> bool
         ensures { IsTrue result ↔ Contains self.now message.now }
     {
-        self.volleys.iter().any(|volley| volley.message() == *message)
+        self.volleys
+            .iter()
+            .any(|volley| volley.message() == *message)
     }
 
     /// Ends the queue; what it still owes is not sent.

@@ -1,9 +1,8 @@
 ghost use Rattle.std.specs.Prelude.{◌≡◌, ◌-◌, ◌≤◌};
 ghost use Rattle.gp_volley.specs.Volley.{volley_of, volley_after_copy};
 
-use std::marker::Model;
-
 use gp_ploam::Down;
+use std::marker::Model;
 
 /// How many times a message is sent.
 const COPIES: u8 = 3;

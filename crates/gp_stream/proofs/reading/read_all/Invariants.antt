@@ -1,6 +1,6 @@
-use Rattle.std.proofs.Common.{◌≡◌, ◌≤◌, false, length}
+use Rattle.std.proofs.Common.{◌≤◌, length}
 use Rattle.std.specs.Io.KnownBytes.{Consumes}
-use Rattle.gp_stream.specs.Source.{reader_of, reads_left, has_failed}
+use Rattle.gp_stream.specs.Source.{reader_of, reads_left}
 use Rattle.gp_stream.specs.declared.reading.TheConstants.{MOST_BYTES}
 use Rattle.gp_stream.proofs.reading.read_all.Given as goal
 

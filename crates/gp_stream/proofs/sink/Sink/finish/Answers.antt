@@ -1,6 +1,7 @@
-use Rattle.std.proofs.lemmas.Result.{on_err_weaker}
-use Rattle.gp_stream.proofs.SinkLemmas.{gathered_front}
+use Rattle.gp_stream.proofs.SinkLemmas.{on_err, gathered_front}
 use Rattle.gp_stream.proofs.sink.Sink.finish.Goals as goal
 
-pub returns-in-Err-clause-err : goal.returns-in-Err-clause-err
-returns-in-Err-clause-err g c = on_err_weaker _ (λ w. gathered_front _ _ w.0 (rw (← c.as_slice.ensures.value) w.1)) c.write_all-outcome.ensures.err
+pub returns-in_err-write_all-clause-err : goal.returns-in_err-write_all-clause-err
+returns-in_err-write_all-clause-err g c =
+    let front = c.in_err-write_all.ensures.err in
+    on_err _ (gathered_front _ _ front.0 (rw (← c.as_slice.ensures.value) front.1))

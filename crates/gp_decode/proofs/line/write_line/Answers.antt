@@ -1,0 +1,7 @@
+use Rattle.gp_stream.specs.Sink.{sink_state}
+use Rattle.gp_decode.proofs.Lines.{front_of_line}
+use Rattle.gp_decode.proofs.line.write_line.Goals as goal
+
+pub returns-clause-front : goal.returns-clause-front
+returns-clause-front g c =
+    front_of_line c.finish.result (sink_state g.W.Write.contents c.args.sink.now) (sink_state g.W.Write.contents c.put.new.self) (sink_state g.W.Write.contents c.finish.new.self) c.args.line.now c.in_ok-put.ensures.ok c.finish.ensures.err

@@ -1,0 +1,25 @@
+-- The faults of decoding a line, and how a program reports them.
+use Rattle.std.specs.Prelude.{ℕ, List, codes}
+use Rattle.gp_ploam.specs.declared.message.PloamFault.{PloamFault}
+use Rattle.gp_ploam.specs.declared.message.PloamFault.TheVariants as ploam
+use Rattle.gp_decode.specs.declared.fault.LineFault.{LineFault}
+use Rattle.gp_decode.specs.declared.fault.LineFault.TheVariants as fault
+
+-- a fault of the code as a fault of the line
+abbrev pub line_fault_of : PloamFault → LineFault
+line_fault_of ploam.Length = fault.Length
+line_fault_of ploam.Crc = fault.Crc
+
+-- the line on standard error
+abbrev pub report_line : LineFault → List ℕ
+report_line fault.Length = codes "oltctl: decode length"
+report_line fault.Digit = codes "oltctl: decode digit"
+report_line fault.Crc = codes "oltctl: decode crc"
+report_line fault.OutOfMemory = codes "oltctl: memory"
+report_line fault.Write = codes "oltctl: write"
+
+-- the exit status: 1 for a fault of the text, 3 for memory, 4 for the writer
+abbrev pub report_status : LineFault → ℕ
+report_status fault.OutOfMemory = 3
+report_status fault.Write = 4
+report_status _ = 1

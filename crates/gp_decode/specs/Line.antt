@@ -1,0 +1,56 @@
+-- What the hexadecimal digits of a code are decoded to, and what is wrong with a text that they aren't.
+use Rattle.std.specs.Prelude.{◌≡◌, ◌≢◌, ℕ, ◌%◌, Bool, true, false, List, ◌++◌, length, codes, ◌⊎◌, Ok}
+use Rattle.std.specs.List.{list_all}
+use Rattle.hex.specs.Hex.{decode_of, is_hex_digit}
+use Rattle.gp_ploam.specs.declared.message.Down.{Down}
+use Rattle.gp_ploam.specs.declared.message.Up.{Up}
+use Rattle.gp_ploam.specs.declared.check.Mask.{Mask}
+use Rattle.gp_ploam.specs.Mask.{mask_value}
+use Rattle.gp_ploam.specs.Row.{HasRightCheck}
+use Rattle.gp_ploam.specs.Down.{ReadsDown}
+use Rattle.gp_ploam.specs.Up.{ReadsUp}
+use Rattle.gp_decode.specs.declared.fault.LineFault.{LineFault}
+use Rattle.gp_decode.specs.declared.fault.LineFault.TheVariants as fault
+use Rattle.gp_decode.specs.Message.{down_text, up_text}
+
+-- the line says the message that a code is read as: upstream or downstream, under the mask
+abbrev pub SaysCode : Bool → Mask → List ℕ → List ℕ → Type 0
+SaysCode true mask code line = (m : Up) × ReadsUp code (mask_value mask) m × (line ≡ up_text m ++ codes "\n")
+SaysCode false mask code line = (m : Down) × ReadsDown code (mask_value mask) m × (line ≡ down_text m ++ codes "\n")
+
+-- the text is the hexadecimal digits of a code, and the line says the message that this is read as
+pub record Says (upstream : Bool) (mask : Mask) (text line : List ℕ) : Type 0 where
+  pub code : List ℕ
+  pub spelled : decode_of text ≡ Ok code
+  pub said : SaysCode upstream mask code line
+
+-- the first fault of a text: an odd number of characters, then a character that is no hexadecimal digit, then
+-- another number of octets than thirteen, then a check octet that is wrong
+abbrev pub HasLineFault : Mask → List ℕ → LineFault → Type 0
+HasLineFault mask text fault.Length =
+    (length text % 2 ≡ 1) ⊎ ((length text % 2 ≡ 0) × (list_all is_hex_digit text ≡ true) × (length text ≢ 26))
+HasLineFault mask text fault.Digit = (length text % 2 ≡ 0) × (list_all is_hex_digit text ≡ false)
+HasLineFault mask text fault.Crc =
+    (code : List ℕ) × (decode_of text ≡ Ok code) × (length code ≡ 13) × (HasRightCheck code (mask_value mask) → ⊥)
+HasLineFault mask text fault.OutOfMemory = ⊥
+HasLineFault mask text fault.Write = ⊥
+
+-- the fault is the text's own, and no matter of memory or of the writer
+abbrev pub IsOfText : LineFault → Type 0
+IsOfText fault.OutOfMemory = ⊥
+IsOfText fault.Write = ⊥
+IsOfText _ = Unit {0}
+
+-- why there is no line for a text: its own fault, or want of memory for the line that it says
+abbrev pub LacksLine : Bool → Mask → List ℕ → LineFault → Type 0
+LacksLine upstream mask text fault.OutOfMemory = (line : List ℕ) × Says upstream mask text line
+LacksLine upstream mask text fault.Write = ⊥
+LacksLine upstream mask text fault.Length = HasLineFault mask text fault.Length
+LacksLine upstream mask text fault.Digit = HasLineFault mask text fault.Digit
+LacksLine upstream mask text fault.Crc = HasLineFault mask text fault.Crc
+
+-- why there is no line for thirteen octets
+abbrev pub LacksLineOfCode : Bool → Mask → List ℕ → LineFault → Type 0
+LacksLineOfCode upstream mask code fault.OutOfMemory = (line : List ℕ) × SaysCode upstream mask code line
+LacksLineOfCode upstream mask code fault.Crc = HasRightCheck code (mask_value mask) → ⊥
+LacksLineOfCode upstream mask code _ = ⊥

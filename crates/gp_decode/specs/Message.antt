@@ -1,0 +1,42 @@
+-- Messages in words: the name of the message and its fields, numbers in decimal, octets in hexadecimal digits.
+use Rattle.std.specs.Prelude.{ℕ, Bool, true, false, List, ◌++◌, codes, decimal}
+use Rattle.hex.specs.Hex.{encode_lower}
+use Rattle.gp_ploam.specs.declared.message.Serial.{Serial}
+use Rattle.gp_ploam.specs.declared.message.Down.{Down}
+use Rattle.gp_ploam.specs.declared.message.Down.TheVariants as down
+use Rattle.gp_ploam.specs.declared.message.Up.{Up}
+use Rattle.gp_ploam.specs.declared.message.Up.TheVariants as up
+use Rattle.gp_serial.specs.Spelling.{text_of_serial}
+
+-- what becomes of an Alloc-ID
+abbrev pub purpose_text : Bool → List ℕ
+purpose_text true = codes "keep"
+purpose_text false = codes "back"
+
+-- a message of no named row: its identifier, its octet 1, and octets 3 to 12
+abbrev pub other_text : ℕ → ℕ → List ℕ → List ℕ
+other_text id octet1 body = codes "Other " ++ decimal id ++ codes " " ++ decimal octet1 ++ codes " " ++ encode_lower body
+
+-- a message of the line terminal
+abbrev pub down_text : Down → List ℕ
+down_text (down.UpstreamOverhead burst) = codes "Upstream_Overhead " ++ encode_lower burst
+down_text (down.AssignOnu onu serial) = codes "Assign_ONU-ID " ++ decimal onu ++ codes " " ++ text_of_serial serial
+down_text (down.RangingTime onu eqd) = codes "Ranging_Time " ++ decimal onu ++ codes " " ++ decimal eqd
+down_text (down.Deactivate onu) = codes "Deactivate_ONU-ID " ++ decimal onu
+down_text (down.DisableSerial serial) = codes "Disable_Serial_Number " ++ text_of_serial serial
+down_text (down.EnableSerial serial) = codes "Enable_Serial_Number " ++ text_of_serial serial
+down_text down.EnableAll = codes "Enable_All"
+down_text (down.AssignAlloc onu alloc keep) =
+    codes "Assign_Alloc-ID " ++ decimal onu ++ codes " " ++ decimal alloc ++ codes " " ++ purpose_text keep
+down_text down.NoMessage = codes "No_message"
+down_text (down.Popup onu) = codes "POPUP " ++ decimal onu
+down_text (down.Other id octet1 body) = other_text id octet1 body
+
+-- a message of a unit
+abbrev pub up_text : Up → List ℕ
+up_text (up.SerialNumber onu serial random flags) =
+    codes "Serial_Number_ONU " ++ decimal onu ++ codes " " ++ text_of_serial serial ++ codes " " ++ decimal random ++ codes " " ++ decimal flags
+up_text (up.DyingGasp onu) = codes "Dying_Gasp " ++ decimal onu
+up_text (up.NoMessage onu) = codes "No_message " ++ decimal onu
+up_text (up.Acknowledge onu id copy) = codes "Acknowledge " ++ decimal onu ++ codes " " ++ decimal id
+up_text (up.Other id octet1 body) = other_text id octet1 body

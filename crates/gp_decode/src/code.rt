@@ -1,0 +1,39 @@
+//! The octets of a code, from hexadecimal digits.
+ghost use Rattle.std.specs.Prelude.{◌≡◌, IfOk, IfErr, Ok};
+ghost use Rattle.std.specs.List.{list_all};
+ghost use Rattle.hex.specs.Hex.{decode_of, is_hex_digit};
+ghost use Rattle.gp_ploam.specs.declared.check.Mask.{Mask};
+ghost use Rattle.gp_decode.specs.Line.{HasLineFault};
+
+use super::fault::LineFault;
+use hex::FromHex;
+
+/// The thirteen octets that a text of 26 digits stands for, or the text's first fault.
+pub fn code_in(text: &[u8]) -> Result<[u8; 13], LineFault>
+    ensures code { IfOk result (λ code. decode_of text.now ≡ Ok code) }
+    ensures fault { IfErr result (λ fault. (mask : Mask) → HasLineFault mask text.now fault) }
+{
+    if text.len() % 2 == 1 {
+        return Err(LineFault::Length);
+    }
+    if !are_digits(text) {
+        return Err(LineFault::Digit);
+    }
+    match <[u8; 13] as FromHex>::from_hex(text) {
+        Ok(code) => Ok(code),
+        Err(_) => Err(LineFault::Length),
+    }
+}
+
+/// Whether each character is a hexadecimal digit.
+fn are_digits(text: &[u8]) -> bool
+    ensures { result ≡ list_all is_hex_digit text.now }
+{
+    text.iter().all(|character| is_digit(*character))
+}
+
+fn is_digit(character: u8) -> bool
+    ensures { result ≡ is_hex_digit character }
+{
+    matches!(character, b'A'..=b'F' | b'a'..=b'f' | b'0'..=b'9')
+}

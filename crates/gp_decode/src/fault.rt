@@ -1,0 +1,72 @@
+//! What is wrong with a line that is to be decoded, or with decoding it.
+ghost use Rattle.gp_decode.specs.declared.fault.LineFault.TheVariants as faults;
+ghost use Rattle.std.specs.Prelude.{◌≡◌};
+ghost use Rattle.gp_decode.specs.Faults.{report_line, report_status};
+
+use gp_ploam::PloamFault;
+use gp_stream::WriteStopped;
+use std::alloc::AllocError;
+use thiserror::Error;
+
+/// Why a code was not told in words. The faults of the text come in this order, and the first that
+/// applies is told; they come before any memory is taken and before anything is written.
+#[derive(Clone, Copy, Debug, PartialEq, Eq, Error)]
+pub enum LineFault {
+    /// An odd number of characters; or an even number of digits for another number of octets than 13.
+    #[error("a code has 26 hexadecimal digits")]
+    Length,
+    /// A character that is no hexadecimal digit.
+    #[error("a code is written in hexadecimal digits")]
+    Digit,
+    /// The check octet is wrong under the mask.
+    #[error("the check octet is wrong")]
+    Crc,
+    #[error("out of memory")]
+    OutOfMemory,
+    /// A write failed or took nothing.
+    #[error("the line was not written")]
+    Write,
+}
+
+impl From<PloamFault> for LineFault {
+    ghost use Rattle.gp_decode.specs.Faults.{line_fault_of};
+
+    ghost from_gives = { λ f e. e ≡ line_fault_of f };
+
+    fn from(fault: PloamFault) -> LineFault {
+        match fault {
+            PloamFault::Length => LineFault::Length,
+            PloamFault::Crc => LineFault::Crc,
+        }
+    }
+}
+
+impl From<AllocError> for LineFault {
+    ghost from_gives = { λ _ e. e ≡ faults.OutOfMemory };
+
+    fn from(_error: AllocError) -> LineFault {
+        LineFault::OutOfMemory
+    }
+}
+
+impl From<WriteStopped> for LineFault {
+    ghost from_gives = { λ _ e. e ≡ faults.Write };
+
+    fn from(_error: WriteStopped) -> LineFault {
+        LineFault::Write
+    }
+}
+
+/// The line on standard error and the exit status of a program that meets the fault.
+pub fn line_report(fault: &LineFault) -> (&'static str, u8)
+    ensures line { result.0.now ≡ report_line fault.now }
+    ensures status { result.1 ≡ report_status fault.now }
+{
+    match fault {
+        LineFault::Length => ("oltctl: decode length", 1),
+        LineFault::Digit => ("oltctl: decode digit", 1),
+        LineFault::Crc => ("oltctl: decode crc", 1),
+        LineFault::OutOfMemory => ("oltctl: memory", 3),
+        LineFault::Write => ("oltctl: write", 4),
+    }
+}

@@ -1,0 +1,95 @@
+//! The line of a code.
+ghost use Rattle.std.specs.Prelude.{◌≡◌, ◌≢◌, ◌↔◌, ℕ, List, [], OnOk, OnErr, IfOk, IfErr, IsErr, Err, true, false};
+ghost use Rattle.std.specs.String.{string_bytes};
+ghost use Rattle.gp_stream.specs.Sink.{Takes, TakesFront, gathered_of, has_stopped, sink_state};
+ghost use Rattle.gp_decode.specs.declared.fault.LineFault.{LineFault as AnyFault};
+ghost use Rattle.gp_decode.specs.Line.{HasLineFault, IsOfText, LacksLine, LacksLineOfCode, Says, SaysCode};
+
+use super::code::code_in;
+use super::fault::LineFault;
+use super::message::{DownText, UpText};
+use gp_ploam::{Mask, decode_down, decode_up};
+use gp_stream::{Sink, WriteStopped};
+use std::alloc::Global;
+use std::io::Write;
+
+/// Writes the line of the message that a text of hexadecimal digits is the code of: its name and its
+/// fields, downstream or upstream. Digits may stand in either case.
+///
+/// Nothing is written but the whole line, and nothing where the text has a fault. All that the sink
+/// gathers goes out.
+pub fn decode_line<W: Write>(
+    alloc: Global,
+    text: &str,
+    upstream: bool,
+    mask: Mask,
+    sink: &mut Sink<W>,
+) -> Result<(), LineFault>
+    ensures ok { OnOk result ((line : List ℕ) × Says upstream mask text.now line × Takes (sink_state W.contents sink.old) (sink_state W.contents sink.new) line) }
+    ensures written { OnOk result (gathered_of sink.new ≡ []) }
+
+    // Memory and the writer aside, the text alone decides, by its first fault.
+    ensures fault { (fault : AnyFault) → IsOfText fault → (result ≡ Err fault) ↔ HasLineFault mask text.now fault }
+
+    ensures write { result ≡ Err LineFault.Write → has_stopped sink.new ≡ true }
+    ensures front { result ≡ Err LineFault.Write → (line : List ℕ) × Says upstream mask text.now line × TakesFront (sink_state W.contents sink.old) (sink_state W.contents sink.new) line }
+    ensures kept { IfErr result (λ fault. fault ≢ LineFault.Write → sink.new ≡ sink.old) }
+{
+    let line = line_for(alloc, text, upstream, mask)?;
+    write_line(sink, line.as_bytes())?;
+    Ok(())
+}
+
+/// Hands in the line, and writes out all that the sink gathers.
+fn write_line<W: Write>(sink: &mut Sink<W>, line: &[u8]) -> Result<(), WriteStopped>
+    ensures ok { OnOk result (Takes (sink_state W.contents sink.old) (sink_state W.contents sink.new) line.now) }
+    ensures written { OnOk result (gathered_of sink.new ≡ []) }
+    ensures front { OnErr result (TakesFront (sink_state W.contents sink.old) (sink_state W.contents sink.new) line.now) }
+    ensures stopped { OnErr result (has_stopped sink.new ≡ true) }
+{
+    sink.put(line)?;
+    sink.finish()
+}
+
+/// The line of the message that a text is the code of.
+fn line_for(alloc: Global, text: &str, upstream: bool, mask: Mask) -> Result<String, LineFault>
+    ensures line { IfOk result (λ line. Says upstream mask text.now (string_bytes line)) }
+    ensures fault { IfErr result (LacksLine upstream mask text.now) }
+{
+    let code = code_in(text.as_bytes())?;
+    line_of(alloc, &code, upstream, mask)
+}
+
+/// The line of the message that a code is read as.
+fn line_of(alloc: Global, code: &[u8; 13], upstream: bool, mask: Mask) -> Result<String, LineFault>
+    ensures line { IfOk result (λ line. SaysCode upstream mask code.now (string_bytes line)) }
+    ensures fault { IfErr result (LacksLineOfCode upstream mask code.now) }
+{
+    if upstream {
+        up_line(alloc, code, mask)
+    } else {
+        down_line(alloc, code, mask)
+    }
+}
+
+fn up_line(alloc: Global, code: &[u8; 13], mask: Mask) -> Result<String, LineFault>
+    ensures line { IfOk result (λ line. SaysCode true mask code.now (string_bytes line)) }
+    ensures fault { IfErr result (LacksLineOfCode true mask code.now) }
+{
+    let message = UpText(decode_up(code, mask)?);
+    match format!(in alloc; "{message}\n") {
+        Ok(line) => Ok(line),
+        Err(_) => Err(LineFault::OutOfMemory),
+    }
+}
+
+fn down_line(alloc: Global, code: &[u8; 13], mask: Mask) -> Result<String, LineFault>
+    ensures line { IfOk result (λ line. SaysCode false mask code.now (string_bytes line)) }
+    ensures fault { IfErr result (LacksLineOfCode false mask code.now) }
+{
+    let message = DownText(decode_down(code, mask)?);
+    match format!(in alloc; "{message}\n") {
+        Ok(line) => Ok(line),
+        Err(_) => Err(LineFault::OutOfMemory),
+    }
+}

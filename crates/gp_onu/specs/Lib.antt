@@ -1,0 +1,3 @@
+pub mod Stage
+pub mod Table
+pub mod Frames

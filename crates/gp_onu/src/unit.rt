@@ -1,0 +1,428 @@
+ghost use Rattle.std.specs.Prelude.{◌≡◌, ◌≤◌, ◌<◌, ℕ, Bool, false, List, IfNone, IfSome, IsTrue, take};
+ghost use Rattle.std.specs.Option.{ForSome, option_map};
+ghost use Rattle.gp_ploam.specs.declared.message.Down.{Down};
+ghost use Rattle.gp_ploam.specs.Down.{ReadsDown};
+ghost use Rattle.gp_ploam.specs.Mask.{mask_value};
+ghost use Rattle.gp_ploam.specs.Row.{HasRightCheck};
+ghost use Rattle.gp_ploam.specs.Up.{IsProperUp, code_of_up};
+ghost use Rattle.gp_ranging.specs.declared.grant.Grant.TheVariants.{Poll, Range, Search};
+ghost use Rattle.gp_onu.specs.Frames.{IsFirstChange, NeverChanges, frames_left, unit_after_frames};
+ghost use Rattle.gp_onu.specs.Stage.{eqd_of, number_of, state_of};
+ghost use Rattle.gp_onu.specs.Table.{Dark, Frame, Granted, Hears, Light, answer_to, unit_after};
+
+use super::stage::Stage;
+use super::state::State;
+use gp_ploam::{Down, Mask, Serial, Up, decode_down, encode_up};
+use gp_ranging::Grant;
+use std::marker::Model;
+
+/// How many frames O3 and O4 last together: ten seconds.
+const ACTIVATION_FRAMES: u32 = 80_000;
+
+/// How many frames O6 lasts: a tenth of a second.
+const POPUP_FRAMES: u32 = 800;
+
+/// What stands in place of an ONU-ID in a message for every unit, and in one of a unit that has none.
+const NO_ONU: u8 = 255;
+
+/// The greatest ONU-ID.
+const GREATEST_ONU: u8 = 253;
+
+/// The identifier of an Alloc-ID assignment.
+const ASSIGN_ALLOC: u8 = 10;
+
+/// A simulated unit.
+#[derive(Debug, Drop)]
+pub struct Unit {
+    serial: Serial,
+    mask: Mask,
+    lit: bool,
+    stage: Stage,
+}
+
+impl Model for Unit {
+    ghost use Rattle.gp_onu.specs.Table.{UnitState};
+
+    ghost Value = { UnitState };
+
+    ghost use Rattle.std.specs.Prelude.{◌≡◌, length};
+    ghost use Rattle.gp_onu.specs.Frames.{IsWithinLimits};
+
+    ghost view = { λ u. record { serial = u.serial; mask = u.mask; lit = u.lit; stage = u.stage } };
+
+    ghost invariant = { λ u. (length u.serial.0 ≡ 8) × IsWithinLimits u.stage };
+}
+
+impl Unit {
+    /// A unit in O1 that no light reaches. Its codes have their check octets under `mask`.
+    pub fn new(serial: Serial, mask: Mask) -> Unit
+        ensures { result ≡ record { serial = serial; mask = mask; lit = false; stage = Stage.Initial } }
+    {
+        Unit {
+            serial,
+            mask,
+            lit: false,
+            stage: Stage::Initial,
+        }
+    }
+
+    pub fn state(&self) -> State
+        ensures { result ≡ state_of self.now.stage }
+    {
+        self.stage.state()
+    }
+
+    /// The ONU-ID, in O4, O5 and O6.
+    pub fn number(&self) -> Option<u8>
+        ensures value { result ≡ number_of self.now.stage }
+        ensures low { IfSome result (λ onu. onu ≤ 253) }
+    {
+        self.stage.number()
+    }
+
+    /// The equalization delay in bit times, in O5 and O6.
+    pub fn eqd(&self) -> Option<u32>
+        ensures { result ≡ eqd_of self.now.stage }
+    {
+        self.stage.eqd()
+    }
+
+    /// Light reaches the unit.
+    pub fn light(&mut self)
+        ensures { self.new ≡ unit_after self.old Light }
+    {
+        self.lit = true;
+        if let Stage::Initial = self.stage {
+            self.stage = Stage::Standby;
+        }
+    }
+
+    /// The light is lost.
+    pub fn dark(&mut self)
+        ensures { self.new ≡ unit_after self.old Dark }
+    {
+        self.lit = false;
+        self.stage = match self.stage {
+            Stage::Standby | Stage::SerialNumber { .. } | Stage::Ranging { .. } => Stage::Initial,
+            Stage::Operation { onu, eqd, owed } => Stage::Popup {
+                onu,
+                eqd,
+                owed,
+                frames: 0,
+            },
+            other => other,
+        };
+    }
+
+    /// A frame ends.
+    pub fn frame(&mut self)
+        ensures { self.new ≡ unit_after self.old Frame }
+    {
+        self.stage = match self.stage {
+            Stage::Initial if self.lit => Stage::Standby,
+            Stage::SerialNumber { frames } if frames + 1 < ACTIVATION_FRAMES => {
+                Stage::SerialNumber { frames: frames + 1 }
+            }
+            Stage::Ranging { onu, frames } if frames + 1 < ACTIVATION_FRAMES => Stage::Ranging {
+                onu,
+                frames: frames + 1,
+            },
+            Stage::SerialNumber { .. } | Stage::Ranging { .. } => Stage::Standby,
+            Stage::Popup {
+                onu,
+                eqd,
+                owed,
+                frames,
+            } if frames + 1 < POPUP_FRAMES => Stage::Popup {
+                onu,
+                eqd,
+                owed,
+                frames: frames + 1,
+            },
+            Stage::Popup { .. } => Stage::Initial,
+            other => other,
+        };
+    }
+
+    /// How many frames there are up to and with the one that ends the unit's state, if nothing else happens: 1 in O1
+    /// where light reaches it, up to 80,000 in O3 and O4, up to 800 in O6. None where no frame ends it.
+    pub fn ends_in(&self) -> Option<u32>
+        ensures value { result ≡ frames_left self.now }
+        ensures first { IfSome result (IsFirstChange self.now) }
+        ensures never { IfNone result (NeverChanges self.now) }
+    {
+        match self.stage {
+            Stage::Initial if self.lit => Some(1),
+            Stage::SerialNumber { frames } => Some(ACTIVATION_FRAMES - frames),
+            Stage::Ranging { frames, .. } => Some(ACTIVATION_FRAMES - frames),
+            Stage::Popup { frames, .. } => Some(POPUP_FRAMES - frames),
+            _ => None,
+        }
+    }
+
+    /// `frames` frames end, none of which ends the unit's state.
+    pub fn skip(&mut self, frames: u32)
+        requires { ForSome (frames_left self.old) (λ left. frames < left) }
+        ensures { self.new ≡ unit_after_frames frames self.old }
+    {
+        self.stage = self.stage.with_more_frames(frames);
+    }
+
+    /// The unit hears a code. One with a wrong check octet changes nothing.
+    pub fn hear(&mut self, code: &[u8; 13])
+        ensures read { (m : Down) → ReadsDown code.now (mask_value self.old.mask) m → self.new ≡ unit_after self.old (Hears code.now m) }
+        ensures unread { ¬ HasRightCheck code.now (mask_value self.old.mask) → self.new ≡ self.old }
+    {
+        if !self.lit {
+            return;
+        }
+        if let Ok(message) = decode_down(code, self.mask) {
+            self.heed(message, code);
+        }
+    }
+
+    fn heed(&mut self, message: Down, code: &[u8; 13])
+        requires { IsTrue self.old.lit }
+        ensures { self.new ≡ unit_after self.old (Hears code.now message) }
+    {
+        match message {
+            Down::UpstreamOverhead { .. } => self.heed_overhead(),
+            Down::AssignOnu { onu, serial } => self.heed_assignment(onu, &serial),
+            Down::RangingTime { onu, eqd } => self.heed_ranging_time(onu, eqd),
+            Down::Deactivate { onu } => self.heed_deactivation(onu),
+            Down::DisableSerial { serial } => self.heed_disabling(&serial),
+            Down::EnableSerial { serial } => self.heed_enabling(&serial),
+            Down::EnableAll => self.heed_enabling_of_all(),
+            Down::AssignAlloc { onu, .. } => self.heed_alloc(onu, front_of(code)),
+            Down::Popup { onu } => self.heed_popup(onu),
+            Down::NoMessage => {}
+            Down::Other { .. } => {}
+        }
+    }
+
+    fn heed_overhead(&mut self)
+        requires { IsTrue self.old.lit }
+        ensures { (code burst : List ℕ) → self.new ≡ unit_after self.old (Hears code (Down.UpstreamOverhead burst)) }
+    {
+        if let Stage::Standby = self.stage {
+            self.stage = Stage::SerialNumber { frames: 0 };
+        }
+    }
+
+    fn heed_assignment(&mut self, onu: u8, serial: &Serial)
+        requires { IsTrue self.old.lit }
+        ensures { (code : List ℕ) → self.new ≡ unit_after self.old (Hears code (Down.AssignOnu onu serial.now)) }
+    {
+        if let Stage::SerialNumber { frames } = self.stage {
+            if *serial == self.serial && onu <= GREATEST_ONU {
+                self.stage = Stage::Ranging { onu, frames };
+            }
+        }
+    }
+
+    fn heed_ranging_time(&mut self, onu: u8, eqd: u32)
+        requires { IsTrue self.old.lit }
+        ensures { (code : List ℕ) → self.new ≡ unit_after self.old (Hears code (Down.RangingTime onu eqd)) }
+    {
+        match self.stage {
+            Stage::Ranging { onu: own, .. } if own == onu => {
+                self.stage = Stage::Operation {
+                    onu,
+                    eqd,
+                    owed: None,
+                };
+            }
+            Stage::Operation { onu: own, owed, .. } if own == onu => {
+                self.stage = Stage::Operation { onu, eqd, owed };
+            }
+            _ => {}
+        }
+    }
+
+    fn heed_deactivation(&mut self, onu: u8)
+        requires { IsTrue self.old.lit }
+        ensures { (code : List ℕ) → self.new ≡ unit_after self.old (Hears code (Down.Deactivate onu)) }
+    {
+        if let Some(own) = self.stage.number() {
+            if onu == own || onu == NO_ONU {
+                self.stage = Stage::Standby;
+            }
+        }
+    }
+
+    fn heed_disabling(&mut self, serial: &Serial)
+        requires { IsTrue self.old.lit }
+        ensures { (code : List ℕ) → self.new ≡ unit_after self.old (Hears code (Down.DisableSerial serial.now)) }
+    {
+        match self.stage {
+            Stage::Initial | Stage::EmergencyStop => {}
+            _ => {
+                if *serial == self.serial {
+                    self.stage = Stage::EmergencyStop;
+                }
+            }
+        }
+    }
+
+    fn heed_enabling(&mut self, serial: &Serial)
+        requires { IsTrue self.old.lit }
+        ensures { (code : List ℕ) → self.new ≡ unit_after self.old (Hears code (Down.EnableSerial serial.now)) }
+    {
+        if let Stage::EmergencyStop = self.stage {
+            if *serial == self.serial {
+                self.stage = Stage::Standby;
+            }
+        }
+    }
+
+    fn heed_enabling_of_all(&mut self)
+        requires { IsTrue self.old.lit }
+        ensures { (code : List ℕ) → self.new ≡ unit_after self.old (Hears code Down.EnableAll) }
+    {
+        if let Stage::EmergencyStop = self.stage {
+            self.stage = Stage::Standby;
+        }
+    }
+
+    fn heed_alloc(&mut self, onu: u8, front: [u8; 9])
+        requires { IsTrue self.old.lit }
+        ensures { (code : List ℕ) (alloc : ℕ) (keep : Bool) → front ≡ take 9 code → self.new ≡ unit_after self.old (Hears code (Down.AssignAlloc onu alloc keep)) }
+    {
+        match self.stage {
+            Stage::Operation { onu: own, eqd, .. } if own == onu => {
+                self.stage = Stage::Operation {
+                    onu,
+                    eqd,
+                    owed: Some(front),
+                };
+            }
+            _ => {}
+        }
+    }
+
+    fn heed_popup(&mut self, onu: u8)
+        requires { IsTrue self.old.lit }
+        ensures { (code : List ℕ) → self.new ≡ unit_after self.old (Hears code (Down.Popup onu)) }
+    {
+        if let Stage::Popup {
+            onu: own,
+            eqd,
+            owed,
+            ..
+        } = self.stage
+        {
+            if onu == own {
+                self.stage = Stage::Operation { onu, eqd, owed };
+            } else if onu == NO_ONU {
+                self.stage = Stage::Ranging {
+                    onu: own,
+                    frames: 0,
+                };
+            }
+        }
+    }
+
+    /// The code of the unit's answer to a grant, if it answers. `random` is its random delay under a serial number
+    /// request, in units of 32 bytes.
+    pub fn grant(&mut self, grant: Grant, random: u16) -> Option<[u8; 13]>
+        requires { random ≤ 4095 }
+        ensures answer { result ≡ option_map (λ m. code_of_up m (mask_value self.old.mask)) (answer_to self.old (Granted grant random)) }
+        ensures after { self.new ≡ unit_after self.old (Granted grant random) }
+    {
+        if !self.lit {
+            return None;
+        }
+        let answer = self.answer(grant, random)?;
+        Some(encode_up(&answer, self.mask))
+    }
+
+    fn answer(&mut self, grant: Grant, random: u16) -> Option<Up>
+        requires lit { IsTrue self.old.lit }
+        requires random { random ≤ 4095 }
+        ensures answer { result ≡ answer_to self.old (Granted grant random) }
+        ensures after { self.new ≡ unit_after self.old (Granted grant random) }
+        ensures proper { IfSome result IsProperUp }
+    {
+        match grant {
+            Grant::Search => self.answer_search(random),
+            Grant::Range(onu) => self.answer_range(onu),
+            Grant::Poll(onu) => self.answer_poll(onu),
+        }
+    }
+
+    fn answer_search(&self, random: u16) -> Option<Up>
+        requires lit { IsTrue self.now.lit }
+        requires random { random ≤ 4095 }
+        ensures answer { result ≡ answer_to self.now (Granted Search random) }
+        ensures after { self.now ≡ unit_after self.now (Granted Search random) }
+        ensures proper { IfSome result IsProperUp }
+    {
+        match self.stage {
+            Stage::SerialNumber { .. } => Some(Up::SerialNumber {
+                onu: NO_ONU,
+                serial: self.serial,
+                random,
+                flags: 0,
+            }),
+            _ => None,
+        }
+    }
+
+    fn answer_range(&self, onu: u8) -> Option<Up>
+        requires { IsTrue self.now.lit }
+        ensures answer { (random : ℕ) → result ≡ answer_to self.now (Granted (Range onu) random) }
+        ensures after { (random : ℕ) → self.now ≡ unit_after self.now (Granted (Range onu) random) }
+        ensures proper { IfSome result IsProperUp }
+    {
+        match self.stage {
+            Stage::Ranging { onu: own, .. } | Stage::Operation { onu: own, .. } if own == onu => {
+                Some(Up::SerialNumber {
+                    onu,
+                    serial: self.serial,
+                    random: 0,
+                    flags: 0,
+                })
+            }
+            _ => None,
+        }
+    }
+
+    fn answer_poll(&mut self, onu: u8) -> Option<Up>
+        requires { IsTrue self.old.lit }
+        ensures answer { (random : ℕ) → result ≡ answer_to self.old (Granted (Poll onu) random) }
+        ensures after { (random : ℕ) → self.new ≡ unit_after self.old (Granted (Poll onu) random) }
+        ensures proper { IfSome result IsProperUp }
+    {
+        match self.stage {
+            Stage::Operation {
+                onu: own,
+                eqd,
+                owed,
+            } if own == onu => {
+                self.stage = Stage::Operation {
+                    onu,
+                    eqd,
+                    owed: None,
+                };
+                match owed {
+                    None => Some(Up::NoMessage { onu }),
+                    Some(copy) => Some(Up::Acknowledge {
+                        onu,
+                        id: ASSIGN_ALLOC,
+                        copy,
+                    }),
+                }
+            }
+            _ => None,
+        }
+    }
+}
+
+/// The first nine octets of a code.
+fn front_of(code: &[u8; 13]) -> [u8; 9]
+    ensures { result ≡ take 9 code.now }
+{
+    [
+        code[0], code[1], code[2], code[3], code[4], code[5], code[6], code[7], code[8],
+    ]
+}

@@ -1,0 +1,3 @@
+pub mod AdmitLemmas
+pub mod ItemsLemmas
+pub mod TextLemmas

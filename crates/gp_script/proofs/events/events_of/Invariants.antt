@@ -1,0 +1,11 @@
+use Rattle.std.proofs.Common.{◌≡◌, ◌<◌, [], drop, All}
+use Rattle.toml.specs.View.{items_view}
+use Rattle.gp_script.specs.Event.{events_from}
+use Rattle.gp_script.specs.View.{event_port}
+use Rattle.gp_script.proofs.events.events_of.Given as goal
+
+abbrev pub invariant-tables : goal.invariant-tables
+invariant-tables l = record {
+  value : events_from l.ports l.mask l.events.items (items_view (drop l.value-index l.tables)) ≡ events_from l.ports l.mask [] (items_view l.tables);
+  ports : All (λ e. event_port e < l.ports) l.events.items;
+}

@@ -1,0 +1,14 @@
+use Rattle.std.proofs.Common.{IsTrue, arith, rules}
+use Rattle.std.proofs.lemmas.Grind.{common_steps}
+use Rattle.std.proofs.lemmas.List.Elements.{All-push}
+use Rattle.gp_machine.specs.Config.{is_within_limits}
+use Rattle.gp_script.specs.Port.{ports_from}
+use Rattle.gp_script.proofs.ports.ports_of.Goals as goal
+
+pub tables-preserved : goal.tables-preserved
+unfolding ports_from
+tables-preserved c = record {
+  value = grind (arith, common_steps);
+  count = search rules;
+  limits = rw c.in_ok-push.ensures.items (All-push (λ port. IsTrue (is_within_limits port)) c.tables.ports.items c.in_ok-port.port c.tables.invariant.limits c.in_ok-port.ensures.limits);
+}

@@ -1,0 +1,104 @@
+-- The tables under `event`.
+use Rattle.std.specs.Prelude.{ℕ, List, [], ◌∷◌, ◌++◌, ◌-◌, Result, Ok, Err, if◌then◌else◌, codes, is_some}
+use Rattle.std.specs.Str.{bytes_eq}
+use Rattle.toml.specs.Data.{table, Items, no_items, item, Members, get_member}
+use Rattle.gp_ploam.specs.declared.check.Mask.{Mask}
+use Rattle.gp_ploam.specs.declared.message.Up.{Up}
+use Rattle.gp_ploam.specs.declared.message.Up.TheVariants.{SerialNumber, NoMessage}
+use Rattle.gp_ploam.specs.Mask.{mask_value}
+use Rattle.gp_ploam.specs.Up.{code_of_up}
+use Rattle.gp_machine.specs.declared.event.Command.TheVariants as commands
+use Rattle.gp_script.specs.declared.script.ScriptEvent.{ScriptEvent}
+use Rattle.gp_script.specs.declared.script.ScriptEvent.TheVariants.{Frames, Burst, Command}
+use Rattle.gp_script.specs.declared.fault.ScriptFault.{ScriptFault}
+use Rattle.gp_script.specs.declared.fault.ScriptFault.TheVariants as fault
+use Rattle.gp_script.specs.Fault.{◌>>=◌, needs}
+use Rattle.gp_script.specs.Keys.{has_only, number_at, needed_number, needed_text}
+use Rattle.gp_script.specs.Values.{in_range, in_range_or, serial_of, octets_of}
+
+-- so many frames at a port; each function is given how many ports there are
+unfoldable pub frames_event : ℕ → Members → Result ScriptEvent ScriptFault
+frames_event ports ms = do
+  _ ← needs fault.Shape (has_only (codes "port" ∷ codes "frames" ∷ []) ms)
+  port ← needed_number (codes "port") ms
+  frames ← needed_number (codes "frames") ms
+  port ← in_range 0 (ports - 1) port
+  count ← in_range 1 1000000 frames
+  Ok (Frames port count)
+
+-- thirteen octets that arrive at a port
+unfoldable pub burst_event : ℕ → Members → Result ScriptEvent ScriptFault
+burst_event ports ms = do
+  _ ← needs fault.Shape (has_only (codes "port" ∷ codes "at" ∷ codes "burst" ∷ []) ms)
+  port ← needed_number (codes "port") ms
+  at ← needed_number (codes "at") ms
+  burst ← needed_text (codes "burst") ms
+  port ← in_range 0 (ports - 1) port
+  at ← in_range 0 4294967295 at
+  bytes ← octets_of 13 burst
+  Ok (Burst port at bytes)
+
+-- a unit's message arrives at a port, encoded with the script's mask
+abbrev pub said : Mask → ℕ → ℕ → Up → ScriptEvent
+said mask port at message = Burst port at (code_of_up message (mask_value mask))
+
+-- a unit says its serial number
+unfoldable pub say_serial : ℕ → Mask → Members → Result ScriptEvent ScriptFault
+say_serial ports mask ms = do
+  _ ← needs fault.Shape (has_only (codes "port" ∷ codes "at" ∷ codes "say" ∷ codes "serial" ∷ codes "onu" ∷ []) ms)
+  port ← needed_number (codes "port") ms
+  at ← needed_number (codes "at") ms
+  serial ← needed_text (codes "serial") ms
+  onu ← number_at (codes "onu") ms
+  port ← in_range 0 (ports - 1) port
+  at ← in_range 0 4294967295 at
+  serial ← serial_of serial
+  onu ← in_range_or 255 0 255 onu
+  Ok (said mask port at (SerialNumber onu serial 0 0))
+
+-- a unit says that it has nothing to say
+unfoldable pub say_none : ℕ → Mask → Members → Result ScriptEvent ScriptFault
+say_none ports mask ms = do
+  _ ← needs fault.Shape (has_only (codes "port" ∷ codes "at" ∷ codes "say" ∷ codes "onu" ∷ []) ms)
+  port ← needed_number (codes "port") ms
+  at ← needed_number (codes "at") ms
+  onu ← needed_number (codes "onu") ms
+  port ← in_range 0 (ports - 1) port
+  at ← in_range 0 4294967295 at
+  onu ← in_range 0 255 onu
+  Ok (said mask port at (NoMessage onu))
+
+-- what a unit says is told by its word
+unfoldable pub say_event : ℕ → Mask → Members → Result ScriptEvent ScriptFault
+say_event ports mask ms = do
+  word ← needed_text (codes "say") ms
+  if bytes_eq word (codes "serial") then say_serial ports mask ms
+      else if bytes_eq word (codes "none") then say_none ports mask ms
+      else Err fault.Shape
+
+-- a search
+unfoldable pub command_event : ℕ → Members → Result ScriptEvent ScriptFault
+command_event ports ms = do
+  _ ← needs fault.Shape (has_only (codes "port" ∷ codes "command" ∷ []) ms)
+  port ← needed_number (codes "port") ms
+  word ← needed_text (codes "command") ms
+  _ ← needs fault.Shape (bytes_eq word (codes "search"))
+  port ← in_range 0 (ports - 1) port
+  Ok (Command port commands.Search)
+
+-- an event table; its form is told by the key that this form alone has
+unfoldable pub event_of : ℕ → Mask → Members → Result ScriptEvent ScriptFault
+event_of ports mask ms =
+    if is_some (get_member (codes "frames") ms) then frames_event ports ms
+    else if is_some (get_member (codes "burst") ms) then burst_event ports ms
+    else if is_some (get_member (codes "say") ms) then say_event ports mask ms
+    else if is_some (get_member (codes "command") ms) then command_event ports ms
+    else Err fault.Shape
+
+-- the events of the event tables, behind those before them
+unfoldable pub events_from : ℕ → Mask → List ScriptEvent → Items → Result (List ScriptEvent) ScriptFault
+events_from ports mask before no_items = Ok before
+events_from ports mask before (item (table ms) ds) = do
+  event ← event_of ports mask ms
+  events_from ports mask (before ++ event ∷ []) ds
+events_from ports mask before (item _ ds) = Err fault.Shape

@@ -1,0 +1,31 @@
+-- A walk that ends at its first fault, and what a function of the walk returned against it.
+use Rattle.std.specs.Prelude.{◌≡◌, Bool, true, false, Result, Ok, Err}
+use Rattle.gp_script.specs.declared.fault.ScriptFault.{ScriptFault}
+use Rattle.gp_script.specs.declared.fault.ScriptError.{ScriptError}
+use Rattle.gp_script.specs.declared.fault.ScriptError.TheVariants as errors
+
+-- the next step of the walk, unless there was a fault
+infixl 10 ◌>>=◌
+abbrev pub ◌>>=◌ : {A B : Type 0} → Result A ScriptFault → (A → Result B ScriptFault) → Result B ScriptFault
+(Ok x) >>= f = f x
+(Err e) >>= f = Err e
+
+-- a test that has to hold
+abbrev pub needs : ScriptFault → Bool → Result (Unit {0}) ScriptFault
+needs f true = Ok tt
+needs f false = Err f
+
+-- the fault, where it is none of memory
+abbrev pub Fails : {Y : Type 0} → ScriptError → Result Y ScriptFault → Type 0
+Fails errors.OutOfMemory says = Unit {0}
+Fails (errors.Fault f) says = says ≡ Err f
+
+-- what was returned, seen by view, is what the script says, unless memory ran out
+abbrev pub Gives : {X Y : Type 0} → (X → Y) → Result X ScriptError → Result Y ScriptFault → Type 0
+Gives view (Ok x) says = says ≡ Ok (view x)
+Gives view (Err e) says = Fails e says
+
+-- the same of a function that needs no memory
+abbrev pub Sees : {X Y : Type 0} → (X → Y) → Result X ScriptFault → Result Y ScriptFault → Type 0
+Sees view (Ok x) says = says ≡ Ok (view x)
+Sees view (Err f) says = says ≡ Err f

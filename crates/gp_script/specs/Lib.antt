@@ -1,0 +1,7 @@
+pub mod Fault
+pub mod Keys
+pub mod Values
+pub mod Port
+pub mod Event
+pub mod Script
+pub mod View

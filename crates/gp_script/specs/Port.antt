@@ -1,0 +1,90 @@
+-- The tables under `port`.
+use Rattle.std.specs.Prelude.{ℕ, ℤ, List, [], ◌∷◌, ◌++◌, ◌||◌, Bool, Option, Some, None, Result, Ok, Err, not, codes, replicate}
+use Rattle.std.specs.List.{list_any}
+use Rattle.toml.specs.Data.{Data, string, table, Items, no_items, item, Members}
+use Rattle.gp_ploam.specs.declared.check.Mask.{Mask}
+use Rattle.gp_ploam.specs.declared.message.Serial.{Serial}
+use Rattle.gp_ploam.specs.Serials.{same_serial}
+use Rattle.gp_machine.specs.declared.config.PortConfig.{PortConfig}
+use Rattle.gp_script.specs.declared.fault.ScriptFault.{ScriptFault}
+use Rattle.gp_script.specs.declared.fault.ScriptFault.TheVariants as fault
+use Rattle.gp_script.specs.Fault.{◌>>=◌, needs}
+use Rattle.gp_script.specs.Keys.{has_only, number_at, text_at, list_at, are_texts}
+use Rattle.gp_script.specs.Values.{in_range_or, count_in, serial_of, octets_of}
+
+-- the keys of a port table
+abbrev pub port_names : List (List ℕ)
+port_names = codes "teqd" ∷ codes "max_units" ∷ codes "alloc_last" ∷ codes "cycles" ∷ codes "search_period" ∷ codes "overhead" ∷ codes "admit" ∷ []
+
+-- what stands at the keys, each of its type
+pub record PortShape : Type 0 where
+  pub teqd : Option ℤ
+  pub max_units : Option ℤ
+  pub alloc_last : Option ℤ
+  pub cycles : Option ℤ
+  pub search_period : Option ℤ
+  pub overhead : Option (List ℕ)
+  pub admit : Items
+
+unfoldable pub port_shape : Members → Result PortShape ScriptFault
+port_shape ms = do
+  _ ← needs fault.Shape (has_only port_names ms)
+  teqd ← number_at (codes "teqd") ms
+  max_units ← number_at (codes "max_units") ms
+  alloc_last ← number_at (codes "alloc_last") ms
+  cycles ← number_at (codes "cycles") ms
+  search_period ← number_at (codes "search_period") ms
+  overhead ← text_at (codes "overhead") ms
+  admit ← list_at (codes "admit") ms
+  _ ← needs fault.Shape (are_texts admit)
+  Ok (record { teqd = teqd; max_units = max_units; alloc_last = alloc_last; cycles = cycles; search_period = search_period; overhead = overhead; admit = admit })
+
+-- the serial number is one of these
+abbrev pub is_among : Serial → List Serial → Bool
+is_among s serials = list_any (λ t. same_serial t s) serials
+
+-- the serial number is admitted on one of these ports
+abbrev pub is_admitted : Serial → List PortConfig → Bool
+is_admitted s ports = list_any (λ p. is_among s p.admitted) ports
+
+-- the serial number of a text of `admit`, new on this port and the ports before it
+unfoldable pub new_serial : List PortConfig → List Serial → Data → Result Serial ScriptFault
+new_serial ports before (string text) = do
+  serial ← serial_of text
+  _ ← needs fault.Duplicate (not (is_among serial before || is_admitted serial ports))
+  Ok serial
+new_serial ports before _ = Err fault.Shape
+
+-- the serial numbers of the texts of `admit`, behind those before them
+unfoldable pub serials_from : List PortConfig → List Serial → Items → Result (List Serial) ScriptFault
+serials_from ports before no_items = Ok before
+serials_from ports before (item d ds) = do
+  serial ← new_serial ports before d
+  serials_from ports (before ++ serial ∷ []) ds
+
+-- the ten octets of Upstream_Overhead, or zeros
+abbrev pub overhead_of : Option (List ℕ) → Result (List ℕ) ScriptFault
+overhead_of None = Ok (replicate 10 0)
+overhead_of (Some text) = octets_of 10 text
+
+-- the configuration of a port table, after the ports before it
+unfoldable pub port_of : Mask → List PortConfig → Members → Result PortConfig ScriptFault
+port_of mask before ms = do
+  shape ← port_shape ms
+  teqd ← in_range_or 311040 0 4294967295 shape.teqd
+  max_units ← in_range_or 254 1 254 shape.max_units
+  alloc_last ← in_range_or 4095 256 4095 shape.alloc_last
+  cycles ← in_range_or 3 1 10 shape.cycles
+  search_period ← in_range_or 0 0 1000000 shape.search_period
+  overhead ← overhead_of shape.overhead
+  _ ← count_in 0 512 shape.admit
+  admitted ← serials_from before [] shape.admit
+  Ok (record { mask = mask; teqd = teqd; overhead = overhead; max_units = max_units; alloc_last = alloc_last; cycles = cycles; search_period = search_period; admitted = admitted })
+
+-- the configurations of the port tables, behind those before them
+unfoldable pub ports_from : Mask → List PortConfig → Items → Result (List PortConfig) ScriptFault
+ports_from mask before no_items = Ok before
+ports_from mask before (item (table ms) ds) = do
+  port ← port_of mask before ms
+  ports_from mask (before ++ port ∷ []) ds
+ports_from mask before (item _ ds) = Err fault.Shape

@@ -1,0 +1,77 @@
+-- What a text says as a script, or its first fault.
+use Rattle.std.specs.Prelude.{ℕ, ℤ, List, [], ◌∷◌, Option, Some, None, Result, Ok, Err, if◌then◌else◌, codes}
+use Rattle.std.specs.Str.{is_utf8}
+use Rattle.toml.specs.Data.{Items, Members}
+use Rattle.toml.specs.Parse.{parse_document}
+use Rattle.gp_ploam.specs.declared.check.Mask.{Mask}
+use Rattle.gp_machine.specs.declared.config.PortConfig.{PortConfig}
+use Rattle.gp_script.specs.declared.script.ScriptEvent.{ScriptEvent}
+use Rattle.gp_script.specs.declared.fault.ScriptFault.{ScriptFault}
+use Rattle.gp_script.specs.declared.fault.ScriptFault.TheVariants as fault
+use Rattle.gp_script.specs.Fault.{◌>>=◌, needs}
+use Rattle.gp_script.specs.Keys.{has_only, number_at, needed_number, list_at, needed_list, are_tables, is_empty}
+use Rattle.gp_script.specs.Values.{in_range, count_in, mask_of}
+use Rattle.gp_script.specs.Port.{ports_from}
+use Rattle.gp_script.specs.Event.{events_from}
+
+-- how many ports a script may have: one for now
+abbrev pub most_ports : ℕ
+most_ports = 1
+
+-- what stands at the keys of the top, each of its type
+pub record TopShape : Type 0 where
+  pub licences : ℤ
+  pub mask : Option ℤ
+  pub ports : Items
+  pub events : Items
+
+-- tables under `unit` and `lose` aren't read yet, so those lists have to be empty
+unfoldable pub top_shape : Members → Result TopShape ScriptFault
+top_shape ms = do
+  _ ← needs fault.Shape (has_only (codes "licences" ∷ codes "mask" ∷ codes "port" ∷ codes "unit" ∷ codes "lose" ∷ codes "event" ∷ []) ms)
+  licences ← needed_number (codes "licences") ms
+  mask ← number_at (codes "mask") ms
+  ports ← needed_list (codes "port") ms
+  units ← list_at (codes "unit") ms
+  losses ← list_at (codes "lose") ms
+  events ← list_at (codes "event") ms
+  _ ← needs fault.Shape (are_tables ports)
+  _ ← needs fault.Shape (is_empty units)
+  _ ← needs fault.Shape (is_empty losses)
+  _ ← needs fault.Shape (are_tables events)
+  Ok (record { licences = licences; mask = mask; ports = ports; events = events })
+
+-- what a script says
+pub record ScriptView : Type 0 where
+  pub licences : ℕ
+  pub mask : Mask
+  pub ports : List PortConfig
+  pub events : List ScriptEvent
+
+-- the tables in their order: the top, the ports, the events
+unfoldable pub script_of_table : Members → Result ScriptView ScriptFault
+script_of_table ms = do
+  shape ← top_shape ms
+  licences ← in_range 0 4064 shape.licences
+  mask ← mask_of shape.mask
+  count ← count_in 1 most_ports shape.ports
+  _ ← count_in 0 1048576 shape.events
+  ports ← ports_from mask [] shape.ports
+  events ← events_from count mask [] shape.events
+  Ok (record { licences = licences; mask = mask; ports = ports; events = events })
+
+-- the text that bytes are
+abbrev pub text_of : List ℕ → Result (List ℕ) ScriptFault
+text_of bytes = if is_utf8 bytes then Ok bytes else Err fault.Syntax
+
+-- a table, where the text is TOML at all
+abbrev pub table_or_fault : Option Members → Result Members ScriptFault
+table_or_fault None = Err fault.Syntax
+table_or_fault (Some ms) = Ok ms
+
+-- what the bytes say as a script, or the first fault
+unfoldable pub script_of : List ℕ → Result ScriptView ScriptFault
+script_of bytes = do
+  text ← text_of bytes
+  ms ← table_or_fault (parse_document text)
+  script_of_table ms

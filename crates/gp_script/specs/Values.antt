@@ -1,0 +1,51 @@
+-- The values of keys, each in its range.
+use Rattle.std.specs.Prelude.{ℕ, ℤ, pos, negsuc, List, ◌&&◌, Option, Some, None, Result, Ok, Err, nat_le, ◌==◌, if◌then◌else◌}
+use Rattle.toml.specs.Data.{Items}
+use Rattle.hex.specs.Hex.{decode_sized}
+use Rattle.hex.specs.declared.error.FromHexError.{FromHexError}
+use Rattle.gp_ploam.specs.declared.check.Mask.{Mask}
+use Rattle.gp_ploam.specs.declared.check.Mask.TheVariants.{Plain, Coset}
+use Rattle.gp_ploam.specs.declared.message.Serial.{Serial}
+use Rattle.gp_serial.specs.declared.fault.SerialFault.{SerialFault}
+use Rattle.gp_serial.specs.Spelling.{serial_of_text}
+use Rattle.gp_script.specs.declared.fault.ScriptFault.{ScriptFault}
+use Rattle.gp_script.specs.declared.fault.ScriptFault.TheVariants as fault
+use Rattle.gp_script.specs.Keys.{item_count}
+
+-- a number within its range
+abbrev pub in_range : ℕ → ℕ → ℤ → Result ℕ ScriptFault
+in_range low high (pos n) = if nat_le low n && nat_le n high then Ok n else Err fault.Range
+in_range low high (negsuc n) = Err fault.Range
+
+-- a number within its range, or the default where it is left out
+abbrev pub in_range_or : ℕ → ℕ → ℕ → Option ℤ → Result ℕ ScriptFault
+in_range_or default low high None = Ok default
+in_range_or default low high (Some z) = in_range low high z
+
+-- as many items as a range allows
+abbrev pub count_in : ℕ → ℕ → Items → Result ℕ ScriptFault
+count_in low high ds = if nat_le low (item_count ds) && nat_le (item_count ds) high then Ok (item_count ds) else Err fault.Range
+
+-- the mask of a number: 0, which is also the default, or 85
+abbrev pub mask_of : Option ℤ → Result Mask ScriptFault
+mask_of None = Ok Plain
+mask_of (Some (pos n)) = if n == 0 then Ok Plain else if n == 85 then Ok Coset else Err fault.Range
+mask_of (Some (negsuc n)) = Err fault.Range
+
+-- a serial number, whatever is wrong with its text
+abbrev pub serial_or_fault : Result Serial SerialFault → Result Serial ScriptFault
+serial_or_fault (Ok serial) = Ok serial
+serial_or_fault (Err e) = Err fault.Serial
+
+-- the serial number that a text spells
+abbrev pub serial_of : List ℕ → Result Serial ScriptFault
+serial_of text = serial_or_fault (serial_of_text text)
+
+-- octets, whatever is wrong with their digits
+abbrev pub octets_or_fault : Result (List ℕ) FromHexError → Result (List ℕ) ScriptFault
+octets_or_fault (Ok octets) = Ok octets
+octets_or_fault (Err e) = Err fault.Hex
+
+-- so many octets, as twice as many hex digits
+abbrev pub octets_of : ℕ → List ℕ → Result (List ℕ) ScriptFault
+octets_of count text = octets_or_fault (decode_sized text count)

@@ -1,0 +1,155 @@
+ghost use Rattle.std.specs.Prelude.{◌≡◌, map, option_map};
+ghost use Rattle.toml.specs.Data.{get_member};
+ghost use Rattle.toml.specs.View.{table_view, array_view, items_view, view};
+ghost use Rattle.gp_script.specs.Fault.{Sees, needs as holds_or_fault};
+ghost use Rattle.gp_script.specs.Keys as spec;
+
+use crate::fault::ScriptFault;
+use toml::value::Array;
+use toml::{Table, Value};
+
+/// A test that has to hold.
+pub(crate) fn needs(fault: ScriptFault, test: bool) -> Result<(), ScriptFault>
+    ensures { result ≡ holds_or_fault fault test }
+{
+    if test { Ok(()) } else { Err(fault) }
+}
+
+/// Whether the key is one of these names.
+fn is_one_of(names: &[&str], key: &str) -> bool
+    ensures { result ≡ spec.is_one_of (map (λ n. n.now) names.now) key.now }
+{
+    for name in names {
+        if *name == key {
+            return true;
+        }
+    }
+    false
+}
+
+/// Whether each key of the table is one of these names.
+pub(crate) fn has_only(table: &Table, names: &[&str]) -> bool
+    ensures { result ≡ spec.has_only (map (λ n. n.now) names.now) (table_view table.now) }
+{
+    'members: for (key, _value) in table.iter() {
+        if !is_one_of(names, key.as_str()) {
+            return false;
+        }
+    }
+    true
+}
+
+/// The value at a key.
+pub(crate) fn member<'a>(table: &'a Table, key: &str) -> Option<&'a Value>
+    ensures { option_map (λ v. view v.now) result ≡ get_member key.now (table_view table.now) }
+{
+    table.get(key)
+}
+
+/// The number at a key that may be left out.
+pub(crate) fn number_at(table: &Table, key: &str) -> Result<Option<i64>, ScriptFault>
+    ensures { result ≡ spec.number_at key.now (table_view table.now) }
+{
+    match member(table, key) {
+        None => Ok(None),
+        Some(value) => match value.as_integer() {
+            Some(number) => Ok(Some(number)),
+            None => Err(ScriptFault::Shape),
+        },
+    }
+}
+
+/// The text at a key that may be left out.
+pub(crate) fn text_at<'a>(table: &'a Table, key: &str) -> Result<Option<&'a str>, ScriptFault>
+    ensures { Sees (option_map (λ s. s.now)) result (spec.text_at key.now (table_view table.now)) }
+{
+    match member(table, key) {
+        None => Ok(None),
+        Some(value) => match value.as_str() {
+            Some(text) => Ok(Some(text)),
+            None => Err(ScriptFault::Shape),
+        },
+    }
+}
+
+/// The items of a value that has to be a list.
+fn items_of(value: &Value) -> Result<&[Value], ScriptFault>
+    ensures { Sees (λ items. Some (items_view items.now)) result (spec.list_or_none (Some (view value.now))) }
+{
+    match value.as_array() {
+        Some(list) => Ok(list.as_slice()),
+        None => Err(ScriptFault::Shape),
+    }
+}
+
+/// The list at a key that may be left out; then there is no item.
+pub(crate) fn list_at<'a>(table: &'a Table, key: &str) -> Result<&'a [Value], ScriptFault>
+    ensures { Sees (λ items. items_view items.now) result (spec.list_at key.now (table_view table.now)) }
+{
+    match member(table, key) {
+        None => Ok(&[]),
+        Some(value) => items_of(value),
+    }
+}
+
+/// The number at a key that has to be there.
+pub(crate) fn needed_number(table: &Table, key: &str) -> Result<i64, ScriptFault>
+    ensures { result ≡ spec.needed_number key.now (table_view table.now) }
+{
+    match number_at(table, key)? {
+        Some(number) => Ok(number),
+        None => Err(ScriptFault::Shape),
+    }
+}
+
+/// The text at a key that has to be there.
+pub(crate) fn needed_text<'a>(table: &'a Table, key: &str) -> Result<&'a str, ScriptFault>
+    ensures { Sees (λ s. s.now) result (spec.needed_text key.now (table_view table.now)) }
+{
+    match text_at(table, key)? {
+        Some(text) => Ok(text),
+        None => Err(ScriptFault::Shape),
+    }
+}
+
+/// The list at a key that has to be there.
+pub(crate) fn needed_list<'a>(table: &'a Table, key: &str) -> Result<&'a [Value], ScriptFault>
+    ensures { Sees (λ items. items_view items.now) result (spec.needed_list key.now (table_view table.now)) }
+{
+    match member(table, key) {
+        Some(value) => items_of(value),
+        None => Err(ScriptFault::Shape),
+    }
+}
+
+/// Whether each item is a table.
+pub(crate) fn are_tables(items: &[Value]) -> bool
+    ensures { result ≡ spec.are_tables (items_view items.now) }
+{
+    for item in items {
+        if !item.is_table() {
+            return false;
+        }
+    }
+    true
+}
+
+/// Whether each item is a text.
+pub(crate) fn are_texts(items: &[Value]) -> bool
+    ensures { result ≡ spec.are_texts (items_view items.now) }
+{
+    for item in items {
+        if !item.is_str() {
+            return false;
+        }
+    }
+    true
+}
+
+/// Whether there is no item.
+#[tactic(auto, using(crate::proofs::ItemsLemmas::item_count_view))]
+pub(crate) fn is_empty(items: &[Value]) -> bool
+    ensures { result ≡ spec.is_empty (items_view items.now) }
+{
+    items.is_empty()
+}

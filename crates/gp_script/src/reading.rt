@@ -1,0 +1,121 @@
+ghost use Rattle.std.specs.Prelude.{◌≡◌, ◌<◌, ◌≤◌, IfOk, IsTrue, All, vec_len};
+ghost use Rattle.toml.specs.Parse.{parse_document};
+ghost use Rattle.toml.specs.View.{table_view};
+ghost use Rattle.gp_machine.specs.Config.{is_within_limits};
+ghost use Rattle.gp_script.specs.Fault.{Gives, Sees};
+ghost use Rattle.gp_script.specs.Script.{top_shape, script_of_table, script_of, text_of, table_or_fault, most_ports};
+ghost use Rattle.gp_script.specs.View.{top_keys_view, script_view, event_port};
+
+use crate::events::events_of;
+use crate::fault::{ScriptError, ScriptFault};
+use crate::keys::{
+    are_tables, has_only, is_empty, list_at, needed_list, needed_number, needs, number_at,
+};
+use crate::ports::ports_of;
+use crate::script::Script;
+use crate::values::{count_in, in_range, mask_of};
+use std::alloc::Global;
+use toml::{Table, Value};
+
+/// How many ports a script may have: one for now.
+const MOST_PORTS: u32 = 1;
+
+/// The keys of the top.
+const TOP_NAMES: [&str; 6] = ["licences", "mask", "port", "unit", "lose", "event"];
+
+/// What stands at the keys of the top, each of its type.
+#[derive(Clone, Copy)]
+struct TopKeys<'a> {
+    licences: i64,
+    mask: Option<i64>,
+    ports: &'a [Value],
+    events: &'a [Value],
+}
+
+#[tactic(auto, unfolding(crate::specs::Script::top_shape))]
+fn top_keys(table: &Table) -> Result<TopKeys<'_>, ScriptFault>
+    ensures { Sees top_keys_view result (top_shape (table_view table.now)) }
+{
+    needs(ScriptFault::Shape, has_only(table, &TOP_NAMES))?;
+    let licences = needed_number(table, "licences")?;
+    let mask = number_at(table, "mask")?;
+    let ports = needed_list(table, "port")?;
+    let units = list_at(table, "unit")?;
+    let losses = list_at(table, "lose")?;
+    let events = list_at(table, "event")?;
+    needs(ScriptFault::Shape, are_tables(ports))?;
+    needs(ScriptFault::Shape, is_empty(units))?;
+    needs(ScriptFault::Shape, is_empty(losses))?;
+    needs(ScriptFault::Shape, are_tables(events))?;
+    Ok(TopKeys {
+        licences,
+        mask,
+        ports,
+        events,
+    })
+}
+
+/// What the tables say.
+#[tactic(auto, unfolding(crate::specs::Script::script_of_table))]
+fn read_table(alloc: Global, table: &Table) -> Result<Script, ScriptError>
+    ensures value { Gives script_view result (script_of_table (table_view table.now)) }
+    ensures licences { IfOk result (λ s. s.licences ≤ 4064) }
+    ensures some_port { IfOk result (λ s. 0 < vec_len s.ports) }
+    ensures few_ports { IfOk result (λ s. vec_len s.ports ≤ most_ports) }
+    ensures limits { IfOk result (λ s. All (λ port. IsTrue (is_within_limits port)) s.ports.items) }
+    ensures events { IfOk result (λ s. All (λ e. event_port e < vec_len s.ports) s.events.items) }
+{
+    let shape = top_keys(table)?;
+    let licences = in_range(0, 4064, shape.licences)?;
+    let mask = mask_of(shape.mask)?;
+    let count = count_in(1, MOST_PORTS, shape.ports)? as u8;
+    count_in(0, 1_048_576, shape.events)?;
+    let ports = ports_of(alloc, mask, shape.ports)?;
+    let events = events_of(alloc, count, mask, shape.events)?;
+    Ok(Script {
+        licences,
+        mask,
+        ports,
+        events,
+    })
+}
+
+/// The text that bytes are.
+#[tactic(auto, using(crate::proofs::TextLemmas::utf8_yes, crate::proofs::TextLemmas::utf8_no))]
+fn read_text(bytes: &[u8]) -> Result<&str, ScriptFault>
+    ensures { Sees (λ s. s.now) result (text_of bytes.now) }
+{
+    match std::str::from_utf8(bytes) {
+        Ok(text) => Ok(text),
+        Err(_) => Err(ScriptFault::Syntax),
+    }
+}
+
+/// The table that a text stands for.
+fn parse_table(alloc: Global, text: &str) -> Result<Table, ScriptError>
+    ensures { Gives table_view result (table_or_fault (parse_document text.now)) }
+{
+    match toml::table_from_str(alloc, text) {
+        Ok(table) => Ok(table),
+        Err(error) if error.is_memory() => Err(ScriptError::OutOfMemory),
+        Err(_) => Err(ScriptError::Fault(ScriptFault::Syntax)),
+    }
+}
+
+/// What the bytes say as a script, or the first fault, before any event runs.
+///
+/// Of a script that is read, each number is within its range, each serial number is admitted once,
+/// and each event names a port that is there.
+#[tactic(auto, unfolding(crate::specs::Script::script_of))]
+pub fn read_script(alloc: Global, bytes: &[u8]) -> Result<Script, ScriptError>
+    ensures value { Gives script_view result (script_of bytes.now) }
+    ensures licences { IfOk result (λ s. s.licences ≤ 4064) }
+    ensures some_port { IfOk result (λ s. 0 < vec_len s.ports) }
+    ensures few_ports { IfOk result (λ s. vec_len s.ports ≤ most_ports) }
+    ensures limits { IfOk result (λ s. All (λ port. IsTrue (is_within_limits port)) s.ports.items) }
+    ensures events { IfOk result (λ s. All (λ e. event_port e < vec_len s.ports) s.events.items) }
+{
+    let text = read_text(bytes)?;
+    let table = parse_table(alloc, text)?;
+    read_table(alloc, &table)
+}

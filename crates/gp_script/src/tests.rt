@@ -1,0 +1,383 @@
+use crate::{ScriptError, ScriptEvent, ScriptFault, read_script};
+use gp_machine::Command;
+use gp_ploam::{Mask, Serial};
+use std::alloc::{AllocError, Global};
+
+/// One unit found and ranged.
+const ONE_UNIT: &str = "licences = 1
+[[port]]
+cycles = 1
+admit = [\"ABCD00000001\"]
+[[event]]
+port = 0
+command = \"search\"
+[[event]]
+port = 0
+frames = 5
+[[event]]
+port = 0
+at = 100000
+say = \"serial\"
+serial = \"ABCD00000001\"
+[[event]]
+port = 0
+frames = 4
+[[event]]
+port = 0
+at = 100000
+say = \"serial\"
+serial = \"ABCD00000001\"
+onu = 0
+";
+
+/// The fault of a script, if it has one.
+fn fault_of(alloc: Global, text: &str) -> Option<ScriptError> {
+    read_script(alloc, text.as_bytes()).err()
+}
+
+#[test]
+fn one_unit(rt: HostRuntime) {
+    let Ok(script) = read_script(rt.alloc(), ONE_UNIT.as_bytes()) else {
+        return;
+    };
+    let anybody = *b"\xff\x01ABCD\x00\x00\x00\x01\x00\x00\x2c";
+    let number_0 = *b"\x00\x01ABCD\x00\x00\x00\x01\x00\x00\x6b";
+    let events = [
+        ScriptEvent::Command {
+            port: 0,
+            command: Command::Search,
+        },
+        ScriptEvent::Frames { port: 0, count: 5 },
+        ScriptEvent::Burst {
+            port: 0,
+            at: 100_000,
+            bytes: anybody,
+        },
+        ScriptEvent::Frames { port: 0, count: 4 },
+        ScriptEvent::Burst {
+            port: 0,
+            at: 100_000,
+            bytes: number_0,
+        },
+    ];
+    assert_eq!(rt; script.licences, 1);
+    assert_eq!(rt; script.mask, Mask::Plain);
+    assert_eq!(rt; script.events.as_slice(), events.as_slice());
+    assert_eq!(rt; script.ports.len(), 1);
+    for port in &script.ports {
+        let serials = [Serial(*b"ABCD\x00\x00\x00\x01")];
+        assert_eq!(rt; port.mask, Mask::Plain);
+        assert_eq!(rt; port.teqd, 311_040);
+        assert_eq!(rt; port.overhead, [0; 10]);
+        assert_eq!(rt; port.max_units, 254);
+        assert_eq!(rt; port.alloc_last, 4095);
+        assert_eq!(rt; port.cycles, 1);
+        assert_eq!(rt; port.search_period, 0);
+        assert_eq!(rt; port.admitted.as_slice(), serials.as_slice());
+    }
+}
+
+#[test]
+fn other_forms(rt: HostRuntime) {
+    let text = "event = [{port = 0, at = 7, burst = \"0004000000000000000000007C\"},
+        {port = 0, at = 8, say = \"none\", onu = 0}]
+        unit = []
+        lose = []
+        licences = 0
+        mask = 85
+        port = [{overhead = \"0102030405060708090A\"}]";
+    let Ok(script) = read_script(rt.alloc(), text.as_bytes()) else {
+        return;
+    };
+    let events = [
+        ScriptEvent::Burst {
+            port: 0,
+            at: 7,
+            bytes: *b"\x00\x04\x00\x00\x00\x00\x00\x00\x00\x00\x00\x00\x7c",
+        },
+        // Under the other mask the check octet is 7c XOR 55.
+        ScriptEvent::Burst {
+            port: 0,
+            at: 8,
+            bytes: *b"\x00\x04\x00\x00\x00\x00\x00\x00\x00\x00\x00\x00\x29",
+        },
+    ];
+    assert_eq!(rt; script.mask, Mask::Coset);
+    assert_eq!(rt; script.events.as_slice(), events.as_slice());
+    for port in &script.ports {
+        assert_eq!(rt; port.mask, Mask::Coset);
+        assert_eq!(rt; port.cycles, 3);
+        assert_eq!(rt; port.overhead, [1, 2, 3, 4, 5, 6, 7, 8, 9, 10]);
+    }
+}
+
+#[test]
+fn faults_of_the_top_and_the_port(rt: HostRuntime) {
+    let scripts = [
+        ("", ScriptFault::Shape),
+        ("licences = ", ScriptFault::Syntax),
+        ("licences = 1", ScriptFault::Shape),
+        ("port = [{}]", ScriptFault::Shape),
+        ("licences = 1\nport = 3", ScriptFault::Shape),
+        ("licences = 1\nport = []", ScriptFault::Range),
+        ("licences = 1\nport = [{}, {}]", ScriptFault::Range),
+        ("licences = 1\nport = [{}, 3]", ScriptFault::Shape),
+        ("licences = 1\nport = [{}]\nmasks = 0", ScriptFault::Shape),
+        ("licences = 1\nport = [{}]\n[[unit]]", ScriptFault::Shape),
+        ("licences = 1\nport = [{}]\n[[lose]]", ScriptFault::Shape),
+        ("licences = 1\nport = [{}]\n[unit]", ScriptFault::Shape),
+        ("licences = 1\nport = [{}]\nevent = [1]", ScriptFault::Shape),
+        ("licences = 1\nport = [{}]\n[[event]]", ScriptFault::Shape),
+        ("licences = 1\nport = [{cycle = 1}]", ScriptFault::Shape),
+        ("licences = 1\nport = [{cycles = 1.0}]", ScriptFault::Shape),
+        (
+            "licences = 1\nport = [{admit = \"ABCD00000001\"}]",
+            ScriptFault::Shape,
+        ),
+        ("licences = 1\nport = [{admit = [1]}]", ScriptFault::Shape),
+        (
+            "licences = 1\nport = [{admit = [\"abCD00000001\"]}]",
+            ScriptFault::Serial,
+        ),
+        (
+            "licences = 1\nport = [{overhead = \"000000000000000000\"}]",
+            ScriptFault::Hex,
+        ),
+        (
+            "licences = 1\nport = [{admit = [\"ABCD0000000a\", \"414243440000000A\"]}]",
+            ScriptFault::Duplicate,
+        ),
+    ];
+    for (text, fault) in scripts {
+        assert_eq!(rt;
+            fault_of(rt.alloc(), text),
+            Some(ScriptError::Fault(fault)),
+            "{text}"
+        );
+    }
+    assert_eq!(rt;
+        read_script(rt.alloc(), b"\xff").err(),
+        Some(ScriptError::Fault(ScriptFault::Syntax))
+    );
+}
+
+#[test]
+fn faults_of_events(rt: HostRuntime) -> Result<(), AllocError> {
+    let events = [
+        ("port = 0", ScriptFault::Shape),
+        ("frames = 1", ScriptFault::Shape),
+        ("port = 0, frames = 1, at = 0", ScriptFault::Shape),
+        ("port = 0, frames = \"1\"", ScriptFault::Shape),
+        ("port = 1, frames = 1", ScriptFault::Range),
+        ("port = 0, burst = \"00\"", ScriptFault::Shape),
+        (
+            "port = 0, at = 0, burst = \"0004000000000000000000007\"",
+            ScriptFault::Hex,
+        ),
+        (
+            "port = 0, at = 0, burst = \"0004000000000000000000007g\"",
+            ScriptFault::Hex,
+        ),
+        (
+            "port = 0, at = 0, burst = \"0004000000000000000000007c7c\"",
+            ScriptFault::Hex,
+        ),
+        ("port = 0, at = 0, say = \"serial\"", ScriptFault::Shape),
+        (
+            "port = 0, at = 0, say = \"serial\", serial = \"ABCD0000001\"",
+            ScriptFault::Serial,
+        ),
+        ("port = 0, at = 0, say = \"none\"", ScriptFault::Shape),
+        (
+            "port = 0, at = 0, say = \"gasp\", onu = 0",
+            ScriptFault::Shape,
+        ),
+        (
+            "port = 0, at = 0, say = \"ack\", onu = 0, id = 10",
+            ScriptFault::Shape,
+        ),
+        ("port = 0, at = 0, say = 0, onu = 0", ScriptFault::Shape),
+        ("port = 0, command = \"enable-all\"", ScriptFault::Shape),
+        (
+            "port = 0, command = \"search\", serial = \"ABCD00000001\"",
+            ScriptFault::Shape,
+        ),
+        ("unit = 0, light = true", ScriptFault::Shape),
+    ];
+    for (event, fault) in events {
+        let text = format!(in rt.alloc(); "licences = 1\nport = [{{}}]\nevent = [{{{event}}}]")?;
+        let found = fault_of(rt.alloc(), text.as_str());
+        assert_eq!(rt; found, Some(ScriptError::Fault(fault)), "{event}");
+    }
+    Ok(())
+}
+
+#[test]
+fn two_faults_at_once(rt: HostRuntime) {
+    let scripts = [
+        ("licences = \"1\"\n[[port", ScriptFault::Syntax),
+        ("licences = 4065\nport = [{cycle = 1}]", ScriptFault::Range),
+        (
+            "licences = \"1\"\nmask = 1\nport = [{}]",
+            ScriptFault::Shape,
+        ),
+        (
+            "licences = 1\nport = [{cycles = 0, unit = 1}]",
+            ScriptFault::Shape,
+        ),
+        (
+            "licences = 1\nport = [{cycles = 0, admit = [\"A\"]}]",
+            ScriptFault::Range,
+        ),
+        (
+            "licences = 1\nport = [{overhead = \"0\", cycles = 0}]",
+            ScriptFault::Range,
+        ),
+        (
+            "licences = 1\nport = [{overhead = \"0\", admit = [\"A\"]}]",
+            ScriptFault::Hex,
+        ),
+        (
+            "licences = 1\nport = [{admit = [\"A\"]}]\n[[event]]",
+            ScriptFault::Serial,
+        ),
+        (
+            "licences = 1\nport = [{admit = [\"ABCD00000001\", \"A\", \"ABCD00000001\"]}]",
+            ScriptFault::Serial,
+        ),
+        (
+            "licences = 1\nport = [{admit = [\"ABCD00000001\", \"ABCD00000001\", \"A\"]}]",
+            ScriptFault::Duplicate,
+        ),
+        (
+            "licences = 1\nport = [{}]\nevent = [{port = 0, at = -1, burst = \"0\"}]",
+            ScriptFault::Range,
+        ),
+        (
+            "licences = 1\nport = [{}]\nevent = [{port = 0, at = 0, burst = \"0\"}, {}]",
+            ScriptFault::Hex,
+        ),
+        (
+            "licences = 1\nport = [{}]\nevent = [{port = 0, at = 0, say = \"serial\", serial = \"A\", onu = 256}]",
+            ScriptFault::Serial,
+        ),
+    ];
+    for (text, fault) in scripts {
+        assert_eq!(rt;
+            fault_of(rt.alloc(), text),
+            Some(ScriptError::Fault(fault)),
+            "{text}"
+        );
+    }
+}
+
+#[test]
+fn ends_of_ranges(rt: HostRuntime) -> Result<(), AllocError> {
+    let keys = [
+        ("licences", "0", "4064", "4065"),
+        ("mask", "0", "85", "86"),
+        ("teqd", "0", "4294967295", "4294967296"),
+        ("max_units", "1", "254", "255"),
+        ("alloc_last", "256", "4095", "4096"),
+        ("cycles", "1", "10", "11"),
+        ("search_period", "0", "1000000", "1000001"),
+        ("port", "0", "0", "1"),
+        ("at", "0", "4294967295", "4294967296"),
+        ("onu", "0", "255", "256"),
+        ("frames", "1", "1000000", "1000001"),
+    ];
+    for (key, least, most, above) in keys {
+        let below = if least == "1" {
+            "0"
+        } else if least == "256" {
+            "255"
+        } else {
+            "-1"
+        };
+        for value in [least, most] {
+            let text = script_with(rt.alloc(), key, value)?;
+            assert_eq!(rt;
+                fault_of(rt.alloc(), text.as_str()),
+                None,
+                "{key} = {value}"
+            );
+        }
+        for value in [below, above] {
+            let text = script_with(rt.alloc(), key, value)?;
+            let range = Some(ScriptError::Fault(ScriptFault::Range));
+            assert_eq!(rt;
+                fault_of(rt.alloc(), text.as_str()),
+                range,
+                "{key} = {value}"
+            );
+        }
+    }
+    Ok(())
+}
+
+/// A script in which one key has a value of its own.
+fn script_with(alloc: Global, key: &str, value: &str) -> Result<String, AllocError> {
+    let licences = if key == "licences" { value } else { "1" };
+    let mask = if key == "mask" { value } else { "0" };
+    let place = if key == "port" { value } else { "0" };
+    let at = if key == "at" { value } else { "0" };
+    let onu = if key == "onu" { value } else { "0" };
+    let frames = if key == "frames" { value } else { "1" };
+    let inside = ["teqd", "max_units", "alloc_last", "cycles", "search_period"];
+    let mut port = String::new(alloc);
+    for name in inside {
+        if name == key {
+            port = format!(in alloc; "{key} = {value}")?;
+        }
+    }
+    format!(in alloc;
+        "licences = {licences}
+mask = {mask}
+port = [{{{port}}}]
+event = [{{port = {place}, at = {at}, say = \"none\", onu = {onu}}}, {{port = 0, frames = {frames}}}]"
+    )
+}
+
+#[test]
+fn many_of_a_kind(rt: HostRuntime) -> Result<(), AllocError> {
+    for (count, want) in [
+        (512, None),
+        (513, Some(ScriptError::Fault(ScriptFault::Range))),
+    ] {
+        let mut text = String::new(rt.alloc());
+        text.push_str("licences = 1\nport = [{admit = [")?;
+        for number in 0..count {
+            let serial = format!(in rt.alloc(); "\"ABCD{number:08}\",")?;
+            text.push_str(serial.as_str())?;
+        }
+        text.push_str("]}]")?;
+        assert_eq!(rt;
+            fault_of(rt.alloc(), text.as_str()),
+            want,
+            "{count} serial numbers"
+        );
+    }
+    let blank = vec![in rt.alloc(); b' '; 1_048_576]?;
+    let fault = read_script(rt.alloc(), &blank).err();
+    assert_eq!(rt; fault, Some(ScriptError::Fault(ScriptFault::Shape)));
+    Ok(())
+}
+
+#[test]
+fn texts_of_faults(rt: HostRuntime) -> Result<(), AllocError> {
+    let texts = [
+        (ScriptFault::Syntax, "1 syntax"),
+        (ScriptFault::Shape, "2 shape"),
+        (ScriptFault::Range, "3 range"),
+        (ScriptFault::Serial, "4 serial"),
+        (ScriptFault::Hex, "5 hex"),
+        (ScriptFault::Duplicate, "6 duplicate"),
+    ];
+    for (fault, want) in texts {
+        let text = format!(in rt.alloc(); "{}", ScriptError::Fault(fault))?;
+        assert_eq!(rt; text.as_str(), want);
+    }
+    let text = format!(in rt.alloc(); "{}", ScriptError::OutOfMemory)?;
+    assert_eq!(rt; text.as_str(), "out of memory");
+    Ok(())
+}
