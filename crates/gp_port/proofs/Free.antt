@@ -1,9 +1,9 @@
 -- ONU-IDs that no row has.
-use Rattle.std.proofs.Common.{◌≡◌, ℕ, zero, suc, ◌+◌, ◌<◌, ◌≤◌, Bool, true, false, eqb, ltb, cond, List, [], ◌∷◌, length, Option, None, Some, ◌⊎◌, inl, inr, refl, sym, ap, subst, ◌∙◌, arith, ⊎_elim, ◌||◌, eq-eqb}
-use Rattle.std.proofs.lemmas.Bool.{cases_Bool, false≢true, eqb-true}
+use Rattle.std.proofs.Common.{◌≡◌, ℕ, zero, suc, ◌+◌, ◌<◌, ◌≤◌, Bool, true, false, eqb, ltb, cond, [], ◌∷◌, length, Some, inl, inr, refl, sym, ap, subst, ◌∙◌, arith, ◌||◌, eq-eqb}
+use Rattle.std.proofs.lemmas.Bool.{cases_Bool, false≢true}
 use Rattle.std.proofs.lemmas.Bool.Decides.{nat_tests}
 use Rattle.std.specs.List.{list_any}
-use Rattle.std.specs.FinMap.{get, from_entries, get-from_entries}
+use Rattle.std.specs.FinMap.{from_entries, get-from_entries}
 use Rattle.gp_ploam.specs.declared.message.Serial.{Serial}
 use Rattle.gp_machine.specs.declared.row.Row.{Row}
 use Rattle.gp_ploam.specs.Serials.{serial_cmp, same_serial}

@@ -1,7 +1,7 @@
 -- What keeps a port core's invariant.
-use Rattle.std.proofs.Common.{◌≡◌, ℕ, ◌+◌, ◌≤◌, Bool, true, false, ◌&&◌, Option, None, refl, sym, ap, subst, ◌∙◌, arith, ◌∷◌, []}
+use Rattle.std.proofs.Common.{◌≡◌, ℕ, ◌+◌, ◌≤◌, true, Option, None, refl, sym, ap, subst, ◌∙◌, arith, []}
 use Rattle.std.specs.List.{list_any}
-use Rattle.std.specs.FinMap.{empty, get, len, len-empty}
+use Rattle.std.specs.FinMap.{get, len-empty}
 use Rattle.std.proofs.lemmas.Bool.{leb-true}
 use Rattle.gp_ploam.specs.declared.message.Serial.{Serial}
 use Rattle.gp_ploam.specs.Serials.{serial_cmp, same_serial}

@@ -1,14 +1,14 @@
 -- The least ONU-ID of a ranging unit, over a list and over the map that it makes.
-use Rattle.std.proofs.Common.{◌≡◌, ℕ, zero, suc, ◌+◌, ◌<◌, ◌≤◌, Bool, true, false, nat_le, cond, List, [], ◌∷◌, length, Option, None, Some, ◌⊎◌, inl, inr, refl, sym, ap, subst, ◌∙◌, arith, ⊎_elim}
-use Rattle.std.proofs.lemmas.Bool.{cases_Bool, false≢true}
+use Rattle.std.proofs.Common.{◌≡◌, ℕ, ◌<◌, ◌≤◌, false, nat_le, cond, [], ◌∷◌, Option, None, Some, ◌⊎◌, inl, inr, refl, sym, ap, subst, ◌∙◌, arith, ⊎_elim}
+use Rattle.std.proofs.lemmas.Bool.{cases_Bool}
 use Rattle.std.proofs.lemmas.Bool.{leb-true, leb-false}
-use Rattle.std.specs.FinMap.{FinMap, get, from_entries, get-from_entries}
+use Rattle.std.specs.FinMap.{from_entries, get-from_entries}
 use Rattle.gp_ploam.specs.declared.message.Serial.{Serial}
 use Rattle.gp_machine.specs.declared.row.Phase.{Phase}
 use Rattle.gp_machine.specs.declared.row.Phase.TheVariants.{Ranging, Operating}
 use Rattle.gp_machine.specs.declared.row.Row.{Row}
 use Rattle.gp_ploam.specs.Serials.{serial_cmp, same_serial}
-use Rattle.gp_machine.specs.State.{Rows, HasRow, IsRanging, Ranges, IsLeastRanging}
+use Rattle.gp_machine.specs.State.{IsRanging, Ranges, IsLeastRanging}
 use Rattle.gp_port.specs.Listed.{IsApart, lesser_of, least_from}
 use Rattle.gp_ploam.proofs.Serials.{serials_total, same_serial-true}
 use Rattle.gp_port.proofs.Listing.{Entries, row_at, row_at-head, row_at-tail}

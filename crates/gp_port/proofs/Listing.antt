@@ -1,5 +1,5 @@
 -- A list of rows in which no serial number stands twice, and the map that it makes.
-use Rattle.std.proofs.Common.{◌≡◌, ℕ, zero, suc, ◌+◌, ◌<◌, ◌≤◌, Bool, true, false, not, cond, List, [], ◌∷◌, ◌++◌, length, Option, None, Some, ◌⊎◌, inl, inr, refl, sym, ap, subst, ◌∙◌, get_or, arith, is_some}
+use Rattle.std.proofs.Common.{◌≡◌, ℕ, zero, suc, ◌+◌, ◌<◌, ◌≤◌, Bool, true, false, not, cond, List, [], ◌∷◌, ◌++◌, length, Option, None, Some, inl, inr, refl, sym, ap, subst, ◌∙◌, get_or, arith, is_some}
 use Rattle.std.proofs.Math.ListN.{set}
 use Rattle.std.proofs.lemmas.Bool.{cases_Bool, false≢true}
 use Rattle.std.proofs.lemmas.List.Quantifiers.{position-Some}
@@ -7,9 +7,7 @@ use Rattle.std.proofs.lemmas.Bool.{ltb-false}
 use Rattle.gp_machine.specs.declared.row.Phase.TheVariants.{Operating}
 use Rattle.std.specs.Ordering.{eq_by_cmp}
 use Rattle.std.specs.List.{position, position_or_len}
-use Rattle.std.specs.List as list
-use Rattle.std.specs.FinMap as map
-use Rattle.std.specs.FinMap.{FinMap, find, get, insert, len, empty, from_entries, get-from_entries, get-insert, len-insert, len-empty, same_map, from_entries_push}
+use Rattle.std.specs.FinMap.{find, insert, len, from_entries, get-from_entries, get-insert, len-insert, len-empty, same_map, from_entries_push}
 use Rattle.std.specs.FinMap.Entries.{find-append}
 use Rattle.gp_ploam.specs.declared.message.Serial.{Serial}
 use Rattle.gp_machine.specs.declared.row.Row.{Row}

@@ -13,15 +13,13 @@ ghost use Rattle.gp_machine.specs.Burst.{active_outcome, again_outcome, asked_ou
 ghost use Rattle.gp_machine.specs.declared.event.Event.TheVariants as event;
 ghost use Rattle.gp_machine.specs.Step.{HandsOutFree, Step, number_in};
 
-use std::sync::ledger::Ledger;
-
+use super::port_core::PortCore;
+use super::windows::put_window;
 use gp_licence::Licences;
 use gp_machine::{Answer, Phase, Refusal, Reply, Row};
 use gp_ploam::{Down, Serial, Up, decode_up};
 use gp_ranging::{Grant, equalize};
-
-use super::port_core::PortCore;
-use super::windows::put_window;
+use std::sync::ledger::Ledger;
 
 /// An answer that sends, grants and raises nothing.
 pub(super) fn bare_answer(reply: Reply) -> Answer

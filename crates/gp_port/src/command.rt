@@ -2,14 +2,12 @@ ghost use Rattle.std.specs.Prelude.{◌≡◌, None};
 ghost use Rattle.gp_machine.specs.Outcomes.{outcome_of};
 ghost use Rattle.gp_machine.specs.Commands.{command_outcome};
 
-use std::sync::ledger::Ledger;
-
+use super::burst::bare_answer;
+use super::port_core::PortCore;
 use gp_common::Common;
 use gp_licence::Licences;
 use gp_machine::{Answer, Command, Refusal, Reply};
-
-use super::burst::bare_answer;
-use super::port_core::PortCore;
+use std::sync::ledger::Ledger;
 
 impl<L: Ledger> PortCore<L> {
     pub(super) fn command(&mut self, purse: Licences<L>, command: Command) -> (Answer, Licences<L>)

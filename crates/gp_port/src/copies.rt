@@ -5,10 +5,9 @@ ghost use Rattle.gp_ploam.specs.Down.{IsProperDown};
 ghost use Rattle.gp_machine.specs.Frame.{first_of, rest_of};
 ghost use Rattle.gp_machine.specs.Burst.{is_assign};
 
+use gp_ploam::{Down, Serial};
 use std::alloc::{AllocError, Global};
 use std::marker::Model;
-
-use gp_ploam::{Down, Serial};
 
 /// The copies of messages that a port owes, in the order in which they are sent. Contracts see them as a
 /// list. Each of them has a code.

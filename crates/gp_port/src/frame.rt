@@ -9,16 +9,14 @@ ghost use Rattle.gp_machine.specs.Frame as spec;
 ghost use Rattle.gp_machine.specs.declared.event.Event.TheVariants as event;
 ghost use Rattle.gp_machine.specs.Step.{Step};
 
-use std::sync::ledger::Ledger;
-
+use super::port_core::PortCore;
+use super::windows::{put_window, ticked};
 use gp_common::{Common, Decision, decide};
 use gp_licence::Licences;
 use gp_machine::{Answer, Reply};
 use gp_ploam::Down;
 use gp_ranging::{Grant, Window};
-
-use super::port_core::PortCore;
-use super::windows::{put_window, ticked};
+use std::sync::ledger::Ledger;
 
 impl<L: Ledger> PortCore<L> {
     /// A frame: the timer, the sending, the window, and the decision where the port was idle.

@@ -2,7 +2,6 @@ ghost use Rattle.std.specs.Prelude.{◌≡◌};
 ghost use Rattle.gp_port.specs.declared.open.OpenFault.TheVariants.{OutOfMemory};
 
 use std::alloc::AllocError;
-
 use thiserror::Error;
 
 /// Why a port is not opened.

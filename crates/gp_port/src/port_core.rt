@@ -8,20 +8,18 @@ ghost use Rattle.gp_machine.specs.Sound.{IsSound};
 ghost use Rattle.gp_machine.specs.Outcomes.{outcome_of};
 ghost use Rattle.gp_machine.specs.Step.{Step};
 
-use std::alloc::Global;
-use std::marker::Model;
-use std::sync::ledger::Ledger;
-
+use super::copies::Copies;
+use super::open::OpenFault;
+use super::table::UnitTable;
+use super::windows::put_window;
 use gp_common::Common;
 use gp_licence::Licences;
 use gp_machine::{Answer, Event, PortConfig, Row};
 use gp_ploam::Serial;
 use gp_ranging::Window;
-
-use super::copies::Copies;
-use super::open::OpenFault;
-use super::table::UnitTable;
-use super::windows::put_window;
+use std::alloc::Global;
+use std::marker::Model;
+use std::sync::ledger::Ledger;
 
 /// The activation machine of one port (G.984.3, clause 10). It holds a licence for each active unit, so it
 /// is ended by `close` and never dropped. Contracts see its state.

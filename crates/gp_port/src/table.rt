@@ -6,13 +6,11 @@ ghost use Rattle.gp_ploam.specs.Serials.{serial_cmp};
 ghost use Rattle.gp_machine.specs.State.{HasRow, IsLeastRanging};
 ghost use Rattle.gp_port.specs.Listed.{IsApart};
 
-use std::alloc::{AllocError, Global};
-use std::marker::Model;
-
+use super::rows::{free_onu, least_ranging, put_row, row_of};
 use gp_machine::Row;
 use gp_ploam::Serial;
-
-use super::rows::{free_onu, least_ranging, put_row, row_of};
+use std::alloc::{AllocError, Global};
+use std::marker::Model;
 
 /// The units of a port, by serial number.
 #[derive(Drop)]

@@ -1,25 +1,26 @@
 //! Worked runs of one port, and the ends of the limits.
+ghost use Rattle.std.specs.Prelude.{◌≡◌, ◌≤◌};
+
+use super::{OpenFault, PortCore};
+use gp_licence::{LicenceBook, Licences};
+use gp_machine::{Admitted, Answer, Command, Event, PortConfig, Refusal, Reply};
+use gp_ploam::{Down, Mask, Serial};
+use gp_ranging::Grant;
 use std::alloc::{AllocError, Global};
 use std::marker::Brand;
 use std::sync::ledger::{Blank, Ledger};
 use std::test::Fail;
 
-ghost use Rattle.std.specs.Prelude.{◌≡◌, ◌≤◌};
-
-use gp_licence::{LicenceBook, Licences};
-use gp_machine::{Admitted, Answer, Command, Event, PortConfig, Refusal, Reply};
-use gp_ploam::{Down, Mask, Serial};
-use gp_ranging::Grant;
-
-use super::{OpenFault, PortCore};
-
 /// ABCD00000001 and ABCD00000002.
 const A: Serial = Serial([0x41, 0x42, 0x43, 0x44, 0, 0, 0, 1]);
+
 const B: Serial = Serial([0x41, 0x42, 0x43, 0x44, 0, 0, 0, 2]);
 
 /// A's serial number without an ONU-ID, and with the ONU-ID 0; B's without an ONU-ID.
 const A_SEARCHED: [u8; 13] = [0xff, 1, 0x41, 0x42, 0x43, 0x44, 0, 0, 0, 1, 0, 0, 0x2c];
+
 const A_RANGED: [u8; 13] = [0, 1, 0x41, 0x42, 0x43, 0x44, 0, 0, 0, 1, 0, 0, 0x6b];
+
 const B_SEARCHED: [u8; 13] = [0xff, 1, 0x41, 0x42, 0x43, 0x44, 0, 0, 0, 2, 0, 0, 0x91];
 
 const OVERHEAD: Down = Down::UpstreamOverhead { burst: [0; 10] };
@@ -193,7 +194,10 @@ fn delay_limits(rt: HostRuntime) -> Result<(), Fail> {
         (Event::Frame, assign),
         (Event::Frame, grants(Grant::Range(0))),
         (burst(311_041, A_RANGED), replies(Reply::TooFar(0))),
-        (burst(311_040, A_RANGED), replies(Reply::Ranged { onu: 0, eqd: 0 })),
+        (
+            burst(311_040, A_RANGED),
+            replies(Reply::Ranged { onu: 0, eqd: 0 }),
+        ),
     ];
     let config = of_a_and_b(rt.alloc())?;
     assert_eq!(rt; surprise(rt.alloc(), &config, &steps)?, None);
@@ -221,8 +225,16 @@ fn limits(rt: HostRuntime) -> Result<(), Fail> {
             search_period,
             ..of_a_and_b(alloc)?
         };
-        let expected = if inside { Ok(None) } else { Err(OpenFault::Limit) };
-        assert_eq!(rt; surprise(alloc, &config, &[]), expected, "{max_units} {alloc_last} {cycles} {search_period}");
+        let expected = if inside {
+            Ok(None)
+        } else {
+            Err(OpenFault::Limit)
+        };
+        assert_eq!(rt;
+            surprise(alloc, &config, &[]),
+            expected,
+            "{max_units} {alloc_last} {cycles} {search_period}"
+        );
     }
     let twice = config_of([A, B, A].to_vec(alloc)?);
     assert_eq!(rt; surprise(alloc, &twice, &[]), Err(OpenFault::Limit));
@@ -247,7 +259,10 @@ fn many_admitted(rt: HostRuntime) -> Result<(), Fail> {
 #[test]
 fn fault_texts(rt: HostRuntime) -> Result<(), Fail> {
     let limit = format!(in rt.alloc(); "{}", OpenFault::Limit)?;
-    assert_eq!(rt; limit.as_str(), "a number is outside its range, or a serial number is admitted twice");
+    assert_eq!(rt;
+        limit.as_str(),
+        "a number is outside its range, or a serial number is admitted twice"
+    );
     let memory = format!(in rt.alloc(); "{}", OpenFault::OutOfMemory)?;
     assert_eq!(rt; memory.as_str(), "out of memory");
     Ok(())

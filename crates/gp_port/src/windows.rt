@@ -1,9 +1,8 @@
 ghost use Rattle.std.specs.Prelude.{◌≡◌};
 ghost use Rattle.gp_machine.specs.Frame.{window_left};
 
-use std::mem;
-
 use gp_ranging::{Ticked, Window};
+use std::mem;
 
 /// Puts a window, or none, in the place of the one that is there, which is closed.
 pub fn put_window(place: &mut Option<Window>, window: Option<Window>)

@@ -1,4 +1,4 @@
-use Rattle.std.proofs.Common.{◌≡◌, sym, subst, ap, ◌∙◌, arith}
+use Rattle.std.proofs.Common.{sym, ap, ◌∙◌, arith}
 use Rattle.std.specs.FinMap as map
 use Rattle.gp_ploam.proofs.Serials.{serials_total}
 use Rattle.gp_port.proofs.Listing.{len-from_entries}

@@ -1,4 +1,4 @@
-use Rattle.std.proofs.Common.{◌≡◌, sym, ap, ◌∙◌}
+use Rattle.std.proofs.Common.{sym, ap, ◌∙◌}
 use Rattle.std.specs.FinMap as map
 use Rattle.gp_ploam.specs.Serials.{serial_cmp}
 use Rattle.gp_ploam.proofs.Serials.{serials_total}
