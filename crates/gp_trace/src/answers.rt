@@ -3,15 +3,13 @@ ghost use Rattle.std.specs.Option.{ForSome};
 ghost use Rattle.gp_ploam.specs.Down.{IsProperDown};
 ghost use Rattle.gp_trace.specs.Text.{alarm_name, alarm_text, answer_text, grant_text, refusal_name, reply_text, sent_text};
 
-use std::alloc::AllocError;
-
+use super::pieces::{push_code, push_number};
 use gp_alarms::{Alarm, AlarmKind};
 use gp_machine::{Answer, Refusal, Reply};
 use gp_ploam::{Down, Mask};
 use gp_ranging::Grant;
 use gp_serial::SerialText;
-
-use super::pieces::{push_code, push_number};
+use std::alloc::AllocError;
 
 fn refusal_name(refusal: Refusal) -> &'static str
     ensures { result.now ≡ refusal_name refusal }
@@ -92,11 +90,7 @@ fn push_reply(out: &mut Vec<u8>, reply: &Reply) -> Result<(), AllocError>
 }
 
 /// Appends the code of the message that was sent, where there is one.
-fn push_sent(
-    out: &mut Vec<u8>,
-    mask: Mask,
-    sent: &Option<Down>,
-) -> Result<(), AllocError>
+fn push_sent(out: &mut Vec<u8>, mask: Mask, sent: &Option<Down>) -> Result<(), AllocError>
     requires { ForSome sent.now IsProperDown }
     ensures ok { OnOk result (out.new.items ≡ out.old.items ++ sent_text mask sent.now) }
     ensures full { OnErr result (vec_capacity out.old < vec_len out.old + length (sent_text mask sent.now)) }
@@ -140,11 +134,7 @@ fn push_alarm(out: &mut Vec<u8>, alarm: &Option<Alarm>) -> Result<(), AllocError
 
 /// Appends what the port gave for an event. The message that it sent is written as its code under
 /// the mask.
-pub(crate) fn push_answer(
-    out: &mut Vec<u8>,
-    mask: Mask,
-    answer: &Answer,
-) -> Result<(), AllocError>
+pub(crate) fn push_answer(out: &mut Vec<u8>, mask: Mask, answer: &Answer) -> Result<(), AllocError>
     requires { ForSome answer.now.sent IsProperDown }
     ensures ok { OnOk result (out.new.items ≡ out.old.items ++ answer_text mask answer.now) }
     ensures full { OnErr result (vec_capacity out.old < vec_len out.old + length (answer_text mask answer.now)) }

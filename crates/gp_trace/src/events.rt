@@ -1,11 +1,9 @@
 ghost use Rattle.std.specs.Prelude.{◌≡◌, ◌+◌, ◌<◌, ◌≤◌, ◌++◌, OnOk, OnErr, length, vec_len, vec_capacity};
 ghost use Rattle.gp_trace.specs.Text.{command_text, event_text};
 
-use std::alloc::AllocError;
-
-use gp_machine::{Command, Event};
-
 use super::pieces::{push_code, push_number};
+use gp_machine::{Command, Event};
+use std::alloc::AllocError;
 
 /// The words of a command.
 fn push_command(out: &mut Vec<u8>, command: &Command) -> Result<(), AllocError>

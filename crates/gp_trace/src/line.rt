@@ -3,14 +3,12 @@ ghost use Rattle.std.specs.Option.{ForSome};
 ghost use Rattle.gp_ploam.specs.Down.{IsProperDown};
 ghost use Rattle.gp_trace.specs.Text.{line_of};
 
-use std::alloc::AllocError;
-
-use gp_machine::Receipt;
-use gp_ploam::Mask;
-
 use super::answers::push_answer;
 use super::events::push_event;
 use super::pieces::push_number;
+use gp_machine::Receipt;
+use gp_ploam::Mask;
+use std::alloc::AllocError;
 
 /// Appends the line of an entry. The mask is that of the port's codes.
 #[tactic(auto, unfolding(crate::specs::Text::line_of))]

@@ -1,9 +1,8 @@
 ghost use Rattle.std.specs.Prelude.{◌≡◌, ◌+◌, ◌<◌, ◌≤◌, ◌++◌, OnOk, OnErr, length, vec_len, vec_capacity, decimal};
 ghost use Rattle.hex.specs.Hex.{encode_lower};
 
-use std::alloc::AllocError;
-
 use itoa::Buffer;
+use std::alloc::AllocError;
 
 /// Appends a number in decimal digits.
 pub(crate) fn push_number(out: &mut Vec<u8>, number: u64) -> Result<(), AllocError>
