@@ -1,0 +1,4 @@
+pub mod SinkLemmas
+pub mod TurnLemmas
+pub mod LawLemmas
+pub mod OutcomeLemmas

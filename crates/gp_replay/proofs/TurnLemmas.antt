@@ -1,0 +1,118 @@
+-- Turns taken one after the other, with what was handed to a sink of them.
+use Rattle.std.proofs.Common.{◌≡◌, ℕ, ◌+◌, ◌-◌, ◌<◌, List, [], ◌∷◌, ◌++◌, length, take, drop, get_or, replicate, Result, Ok, Err, OnErr, refl, sym, ap, ◌∙◌, append_assoc, arith}
+use Rattle.std.proofs.lemmas.Grind.{flat_map-append}
+use Rattle.std.proofs.lemmas.List.{append-nil, replicate-append-replicate, take_more, take-append-drop}
+use Rattle.gp_ploam.specs.declared.check.Mask.{Mask}
+use Rattle.gp_machine.specs.declared.entry.Receipt.{Receipt}
+use Rattle.gp_script.specs.declared.script.ScriptEvent.{ScriptEvent}
+use Rattle.gp_script.specs.Script.{ScriptView}
+use Rattle.gp_stream.specs.Sink.{SinkState, Takes, TakesFront}
+use Rattle.gp_trace.specs.Text.{line_of, trace_text}
+use Rattle.gp_replay.specs.declared.turn.Turn.{Turn}
+use Rattle.gp_replay.specs.Terminal.{TerminalState, opening_terminal}
+use Rattle.gp_replay.specs.Play.{TakesTurn, TakesTurns, all_turns, turns_of}
+use Rattle.gp_replay.specs.Writing.{WritesTurns, WritesFront, WritesScript}
+use Rattle.gp_replay.proofs.SinkLemmas.{takes_nothing, takes_more, takes_front_of_any, takes_front_after}
+
+pub on_err : {T E P : Type 0} (r : Result T E) → P → OnErr r P
+on_err (Ok x) p = tt
+on_err (Err e) p = p
+
+turns_append : (a b c : TerminalState) (ts us : List Turn) (rs ss : List Receipt) → TakesTurns a ts rs b → TakesTurns b us ss c → TakesTurns a (ts ++ us) (rs ++ ss) c
+turns_append a b c [] us [] ss h k = rw (← h) k
+turns_append a b c [] us (r ∷ rs) ss h k = absurd h
+turns_append a b c (t ∷ ts) us [] ss h k = absurd h
+turns_append a b c (t ∷ ts) us (r ∷ rs) ss h k = (h.0, h.1, turns_append h.0 b c ts us rs ss h.2 k)
+
+pub writes_nothing : (mask : Mask) (w : TerminalState) (x : SinkState) → WritesTurns mask w [] w x x
+writes_nothing mask w x = record { receipts = []; taken = refl; lines = takes_nothing x }
+
+pub writes_one : (mask : Mask) (old new : TerminalState) (turn : Turn) (receipt : Receipt) (x y : SinkState)
+    → TakesTurn old turn receipt new → Takes x y (line_of mask receipt) → WritesTurns mask old (turn ∷ []) new x y
+writes_one mask old new turn receipt x y h w = record {
+  receipts = receipt ∷ [];
+  taken = (new, h, refl);
+  lines = rw (append-nil (line_of mask receipt)) w;
+}
+
+-- turns, and then turns, where all of them are known by an equation
+pub writes_on : (mask : Mask) (a b c : TerminalState) (ts us all : List Turn) (x y z : SinkState) → all ≡ ts ++ us
+    → WritesTurns mask a ts b x y → WritesTurns mask b us c y z → WritesTurns mask a all c x z
+writes_on mask a b c ts us all x y z e p q = rw e (record {
+  receipts = p.receipts ++ q.receipts;
+  taken = turns_append a b c ts us p.receipts q.receipts p.taken q.taken;
+  lines = rw (flat_map-append (line_of mask) p.receipts q.receipts) (takes_more x y z _ _ p.lines q.lines);
+})
+
+-- no turn was taken
+pub front_nothing : (mask : Mask) (w : TerminalState) (ts : List Turn) (x : SinkState) → WritesFront mask w ts x x
+front_nothing mask w ts x = record { done = []; left = ts; split = refl; receipts = []; new = w; taken = refl; lines = takes_front_of_any x [] }
+
+pub front_one : (mask : Mask) (old new : TerminalState) (turn : Turn) (receipt : Receipt) (x y : SinkState)
+    → TakesTurn old turn receipt new → TakesFront x y (line_of mask receipt) → WritesFront mask old (turn ∷ []) x y
+front_one mask old new turn receipt x y h w = record {
+  done = turn ∷ [];
+  left = [];
+  split = refl;
+  receipts = receipt ∷ [];
+  new = new;
+  taken = (new, h, refl);
+  lines = rw (append-nil (line_of mask receipt)) w;
+}
+
+-- turns, then a front of further ones, and some that are left
+pub front_on : (mask : Mask) (a b : TerminalState) (ts us left all : List Turn) (x y z : SinkState) → all ≡ (ts ++ us) ++ left
+    → WritesTurns mask a ts b x y → WritesFront mask b us y z → WritesFront mask a all x z
+front_on mask a b ts us left all x y z e p q = record {
+  done = ts ++ q.done;
+  left = q.left ++ left;
+  split = e ∙ ap (λ (l : List Turn). (ts ++ l) ++ left) q.split ∙ ap (λ (l : List Turn). l ++ left) (sym (append_assoc ts q.done q.left)) ∙ append_assoc (ts ++ q.done) q.left left;
+  receipts = p.receipts ++ q.receipts;
+  new = q.new;
+  taken = turns_append a b q.new ts q.done p.receipts q.receipts p.taken q.taken;
+  lines = rw (flat_map-append (line_of mask) p.receipts q.receipts) (takes_front_after x y z _ _ p.lines q.lines);
+}
+
+-- all turns, and a front of what was gathered of them
+pub front_of_all : (mask : Mask) (a b : TerminalState) (ts : List Turn) (x y z : SinkState) → WritesTurns mask a ts b x y → TakesFront y z [] → WritesFront mask a ts x z
+front_of_all mask a b ts x y z p w = record {
+  done = ts;
+  left = [];
+  split = sym (append-nil ts);
+  receipts = p.receipts;
+  new = b;
+  taken = p.taken;
+  lines = rw (← append-nil (trace_text mask p.receipts)) (takes_front_after x y z _ _ p.lines w);
+}
+
+-- all turns of a script, and all that was gathered of them
+pub writes_script : (script : ScriptView) (end : TerminalState) (x y z : SinkState)
+    → WritesTurns script.mask (opening_terminal script) (all_turns script.events) end x y → Takes y z [] → z.gathered ≡ [] → WritesScript script x z
+writes_script script end x y z p w finished =
+    let all = takes_more x y z _ _ p.lines w in
+    let text : x.gathered ++ trace_text script.mask p.receipts ≡ all.written =
+    ap (λ (l : List ℕ). x.gathered ++ l) (sym (append-nil (trace_text script.mask p.receipts))) ∙ all.rest ∙ ap (λ (l : List ℕ). all.written ++ l) finished ∙ append-nil all.written in
+    record {
+      receipts = p.receipts;
+      plays = record { end = end; turns = p.taken };
+      written = rw text all.appended;
+      finished = finished;
+    }
+
+-- one more frame, and those that are left
+pub frames_more : (n : ℕ) (t : Turn) → replicate (n + 1) t ≡ replicate n t ++ t ∷ []
+frames_more n t = sym (replicate-append-replicate n 1 t)
+
+pub frames_rest : (i n : ℕ) (t : Turn) → i < n → replicate n t ≡ (replicate i t ++ t ∷ []) ++ replicate (n - (i + 1)) t
+frames_rest i n t h =
+    let e : n ≡ (i + 1) + (n - (i + 1)) = omega arith in
+    ap (λ (k : ℕ). replicate k t) e ∙ sym (replicate-append-replicate (i + 1) (n - (i + 1)) t) ∙ ap (λ (l : List Turn). l ++ replicate (n - (i + 1)) t) (frames_more i t)
+
+-- one more event, and those that are left
+pub events_more : (es : List ScriptEvent) (i : ℕ) (d : ScriptEvent) → i < length es → all_turns (take (i + 1) es) ≡ all_turns (take i es) ++ turns_of (get_or es i d)
+events_more es i d h =
+    ap all_turns (take_more es i d h) ∙ flat_map-append turns_of (take i es) (get_or es i d ∷ []) ∙ ap (λ (l : List Turn). all_turns (take i es) ++ l) (append-nil (turns_of (get_or es i d)))
+
+pub events_rest : (es : List ScriptEvent) (i : ℕ) (d : ScriptEvent) → i < length es → all_turns es ≡ (all_turns (take i es) ++ turns_of (get_or es i d)) ++ all_turns (drop (i + 1) es)
+events_rest es i d h =
+    ap all_turns (sym (take-append-drop (i + 1) es)) ∙ flat_map-append turns_of (take (i + 1) es) (drop (i + 1) es) ∙ ap (λ (l : List Turn). l ++ all_turns (drop (i + 1) es)) (events_more es i d h)

@@ -1,0 +1,11 @@
+use Rattle.std.proofs.Common.{◌≡◌, replicate, length}
+use Rattle.gp_stream.specs.Sink.{sink_state}
+use Rattle.gp_replay.specs.Play.{frame_turn}
+use Rattle.gp_replay.specs.Writing.{WritesTurns}
+use Rattle.gp_replay.proofs.playing.play_frames.Given as goal
+
+abbrev pub invariant-loop : goal.invariant-loop
+invariant-loop g l = record {
+  played : WritesTurns l.mask l.initial.terminal (replicate l.counter (frame_turn l.port)) l.terminal (sink_state g.W.Write.contents l.initial.sink) (sink_state g.W.Write.contents l.sink);
+  ports : length l.terminal.ports ≡ length l.initial.terminal.ports;
+}

@@ -1,0 +1,57 @@
+-- How a replay may end.
+use Rattle.std.specs.Prelude.{◌≡◌, ℕ, ◌≤◌, List, length, Ok, Err}
+use Rattle.gp_machine.specs.declared.entry.Receipt.{Receipt}
+use Rattle.gp_stream.specs.Source.{SourceState, ReadsWhole}
+use Rattle.gp_stream.specs.Sink.{SinkState, TakesFront, writer_of, gathered_of}
+use Rattle.gp_stream.specs.declared.reading.TheConstants.{MOST_BYTES}
+use Rattle.gp_stream.specs.declared.sink.Sink.{Sink}
+use Rattle.gp_script.specs.declared.fault.ScriptFault.{ScriptFault}
+use Rattle.gp_script.specs.Script.{ScriptView, script_of}
+use Rattle.gp_trace.specs.Text.{trace_text}
+use Rattle.gp_replay.specs.declared.fault.RunFault.{RunFault}
+use Rattle.gp_replay.specs.declared.fault.RunFault.TheVariants as runs
+use Rattle.gp_replay.specs.Play.{PlaysFront}
+use Rattle.gp_replay.specs.Writing.{WritesScript}
+
+-- the input was read to its end without a failed read, it is not too long, and this is the script that it says
+pub record ReadsScript (before after : SourceState) (script : ScriptView) : Type 0 where
+  pub bytes : List ℕ
+  pub read : ReadsWhole before after bytes
+  pub short : length bytes ≤ MOST_BYTES
+  pub says : script_of bytes ≡ Ok script
+
+-- the input was read to its end without a failed read, it is not too long, and this is its first fault
+pub record ReadsFault (before after : SourceState) (fault : ScriptFault) : Type 0 where
+  pub bytes : List ℕ
+  pub read : ReadsWhole before after bytes
+  pub short : length bytes ≤ MOST_BYTES
+  pub says : script_of bytes ≡ Err fault
+
+-- the input says a script, which was played, and the writer got the whole trace
+pub record WritesTrace (before after : SourceState) (old new : SinkState) : Type 0 where
+  pub script : ScriptView
+  pub input : ReadsScript before after script
+  pub trace : WritesScript script old new
+
+-- the input says a script, and the writer got no more than a front of what was gathered before and of the trace of
+-- entries that play the script from its first event on
+pub record LeavesFront (before after : SourceState) (old new : SinkState) : Type 0 where
+  pub script : ScriptView
+  pub input : ReadsScript before after script
+  pub receipts : List Receipt
+  pub plays : PlaysFront script receipts
+  pub written : TakesFront old new (trace_text script.mask receipts)
+
+-- the sink was handed nothing, and its writer got nothing
+pub record IsUntouched {W : Type 0} (old new : Sink W) : Type 0 where
+  pub writer : writer_of new ≡ writer_of old
+  pub gathered : gathered_of new ≡ gathered_of old
+
+-- the fault is one of the input, found before the first event is played
+abbrev pub IsOfInput : RunFault → Type 0
+IsOfInput runs.Read = Unit {0}
+IsOfInput runs.TooLong = Unit {0}
+IsOfInput (runs.Script fault) = Unit {0}
+IsOfInput runs.OutOfMemory = ⊥
+IsOfInput runs.Write = ⊥
+IsOfInput runs.Mismatch = ⊥

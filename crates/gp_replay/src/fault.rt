@@ -1,0 +1,87 @@
+ghost use Rattle.std.specs.Prelude.{◌≡◌};
+ghost use Rattle.gp_replay.specs.Fault.{fault_of_play, fault_of_script, fault_of_source};
+ghost use Rattle.gp_replay.specs.declared.fault.PlayFault.TheVariants.{OutOfMemory, Write};
+
+use gp_script::{ScriptError, ScriptFault};
+use gp_stream::{SourceFault, WriteStopped};
+use std::alloc::AllocError;
+use thiserror::Error;
+
+/// Why a script was not played and written to its end.
+#[derive(Clone, Copy, Debug, PartialEq, Eq)]
+pub(crate) enum PlayFault {
+    OutOfMemory,
+    Write,
+}
+
+impl From<AllocError> for PlayFault {
+    ghost from_gives = { λ _ fault. fault ≡ OutOfMemory };
+
+    fn from(_error: AllocError) -> PlayFault {
+        PlayFault::OutOfMemory
+    }
+}
+
+impl From<WriteStopped> for PlayFault {
+    ghost from_gives = { λ _ fault. fault ≡ Write };
+
+    fn from(_error: WriteStopped) -> PlayFault {
+        PlayFault::Write
+    }
+}
+
+/// Why a run of a script ended early.
+#[derive(Clone, Copy, Debug, PartialEq, Eq, Error)]
+pub enum RunFault {
+    /// A read failed, or the input took too many reads.
+    #[error("read")]
+    Read,
+    /// The input has more than 1,048,576 bytes.
+    #[error("too long")]
+    TooLong,
+    /// The input is no script.
+    #[error("script {0}")]
+    Script(ScriptFault),
+    #[error("memory")]
+    OutOfMemory,
+    /// A write failed or took nothing.
+    #[error("write")]
+    Write,
+    /// What several threads were told does not agree. A replay never answers it.
+    #[error("mismatch")]
+    Mismatch,
+}
+
+impl From<SourceFault> for RunFault {
+    ghost from_gives = { λ source fault. fault ≡ fault_of_source source };
+
+    fn from(fault: SourceFault) -> RunFault {
+        match fault {
+            SourceFault::Read => RunFault::Read,
+            SourceFault::TooLong => RunFault::TooLong,
+            SourceFault::OutOfMemory => RunFault::OutOfMemory,
+        }
+    }
+}
+
+impl From<ScriptError> for RunFault {
+    ghost from_gives = { λ error fault. fault ≡ fault_of_script error };
+
+    fn from(error: ScriptError) -> RunFault {
+        match error {
+            ScriptError::OutOfMemory => RunFault::OutOfMemory,
+            ScriptError::Fault(fault) => RunFault::Script(fault),
+        }
+    }
+}
+
+impl From<PlayFault> for RunFault {
+    ghost from_gives = { λ play fault. fault ≡ fault_of_play play };
+
+    fn from(fault: PlayFault) -> RunFault {
+        match fault {
+            PlayFault::OutOfMemory => RunFault::OutOfMemory,
+            PlayFault::Write => RunFault::Write,
+        }
+    }
+}

@@ -1,0 +1,20 @@
+//! What it means to play a script, and the engine that reads a script, plays it and writes its trace.
+#![tactic(auto)]
+
+mod fault;
+mod law;
+mod playing;
+mod replaying;
+mod report;
+mod terminal;
+mod turn;
+mod writing;
+
+pub use fault::RunFault;
+pub use law::{each_port_runs, licences_are_kept};
+pub use replaying::run_replay;
+pub use report::run_report;
+pub use turn::Turn;
+
+#[cfg(test)]
+mod tests;

@@ -1,0 +1,284 @@
+use crate::{RunFault, run_replay, run_report};
+use gp_script::ScriptFault;
+use gp_stream::{Sink, Source};
+use std::alloc::{AllocError, Global};
+use std::io;
+use std::io::{ErrorKind, Read, Write};
+use std::test::Fail;
+
+const ONE_UNIT: &str = r#"
+licences = 1
+[[port]]
+cycles = 1
+admit = ["ABCD00000001"]
+[[event]]
+port = 0
+command = "search"
+[[event]]
+port = 0
+frames = 5
+[[event]]
+port = 0
+at = 100000
+say = "serial"
+serial = "ABCD00000001"
+[[event]]
+port = 0
+frames = 4
+[[event]]
+port = 0
+at = 100000
+say = "serial"
+serial = "ABCD00000001"
+onu = 0
+[[event]]
+port = 0
+frames = 4
+"#;
+
+const ONE_UNIT_TRACE: &str = "\
+0 0 search = searching
+0 1 frame = ok
+0 2 frame = ok sent ff010000000000000000000058
+0 3 frame = ok sent ff010000000000000000000058
+0 4 frame = ok sent ff010000000000000000000058
+0 5 frame = ok grant search
+0 6 burst 100000 ff01414243440000000100002c = found 0
+0 7 frame = ok sent ff03004142434400000001001b
+0 8 frame = ok sent ff03004142434400000001001b
+0 9 frame = ok sent ff03004142434400000001001b
+0 10 frame = ok grant range 0
+0 11 burst 100000 0001414243440000000100006b = ranged 0 211040
+0 12 frame = ok sent 0004000003386000000000009c
+0 13 frame = ok sent 0004000003386000000000009c
+0 14 frame = ok sent 0004000003386000000000009c
+0 15 frame = ok
+";
+
+/// Gives one octet a read, and fails at one read, counted from 1.
+#[derive(Drop)]
+struct SlowReader<'a> {
+    rest: &'a [u8],
+    reads: usize,
+    fails_at: usize,
+}
+
+impl Read for SlowReader<'_> {
+    fn read(&mut self, buf: &mut [u8]) -> io::Result<usize> {
+        self.reads = self.reads.saturating_add(1);
+        if self.reads == self.fails_at {
+            return Err(io::Error::from(ErrorKind::Other));
+        }
+        match (self.rest.split_first(), buf.first_mut()) {
+            (Some((first, rest)), Some(place)) => {
+                *place = *first;
+                self.rest = rest;
+                Ok(1)
+            }
+            _ => Ok(0),
+        }
+    }
+}
+
+/// Takes one octet a write, and fails once it took so many.
+#[derive(Drop)]
+struct ShortWriter {
+    taken: Vec<u8>,
+    room: usize,
+}
+
+impl Write for ShortWriter {
+    fn write(&mut self, buf: &[u8]) -> io::Result<usize> {
+        if self.taken.len() >= self.room {
+            return Err(io::Error::from(ErrorKind::Other));
+        }
+        match buf.first() {
+            Some(first) => {
+                self.taken.push(*first)?;
+                Ok(1)
+            }
+            None => Ok(0),
+        }
+    }
+
+    fn flush(&mut self) -> io::Result<()> {
+        Ok(())
+    }
+}
+
+/// How a replay of these bytes ends, and what it writes.
+fn replay(alloc: Global, script: &[u8]) -> Result<(Result<(), RunFault>, Vec<u8>), AllocError> {
+    let mut source = Source::new(script);
+    let mut sink = Sink::new(alloc, Vec::new(alloc))?;
+    let outcome = run_replay(alloc, &mut source, &mut sink);
+    Ok((outcome, sink.into_inner()))
+}
+
+#[test]
+fn one_unit(rt: HostRuntime) -> Result<(), Fail> {
+    let (outcome, trace) = replay(rt.alloc(), ONE_UNIT.as_bytes())?;
+    if outcome == Err(RunFault::OutOfMemory) {
+        // Only where an allocation was made to fail.
+        assert!(rt; trace.is_empty());
+        return Ok(());
+    }
+    assert_eq!(rt; outcome, Ok(()));
+    assert_eq!(rt; trace.as_slice(), ONE_UNIT_TRACE.as_bytes());
+    Ok(())
+}
+
+#[test]
+fn empty_script(rt: HostRuntime) -> Result<(), Fail> {
+    let (outcome, trace) = replay(rt.alloc(), b"")?;
+    assert_eq!(rt; outcome, Err(RunFault::Script(ScriptFault::Shape)));
+    assert!(rt; trace.is_empty());
+    assert_eq!(rt;
+        run_report(&RunFault::Script(ScriptFault::Shape)),
+        ("oltctl: script 2 shape", 1)
+    );
+    Ok(())
+}
+
+/// A slow reader and a writer that stops: the writer has the first octets of the trace, as many as it
+/// takes.
+#[test]
+fn one_octet_at_a_time(rt: HostRuntime) -> Result<(), Fail> {
+    let trace = ONE_UNIT_TRACE.as_bytes();
+    for room in 0..=trace.len() {
+        let mut source = Source::new(SlowReader {
+            rest: ONE_UNIT.as_bytes(),
+            reads: 0,
+            fails_at: 0,
+        });
+        let writer = ShortWriter {
+            taken: Vec::new(rt.alloc()),
+            room,
+        };
+        let mut sink = Sink::new(rt.alloc(), writer)?;
+        let outcome = run_replay(rt.alloc(), &mut source, &mut sink);
+        let ends = if room < trace.len() {
+            Err(RunFault::Write)
+        } else {
+            Ok(())
+        };
+        assert_eq!(rt; outcome, ends, "{room}");
+        assert_eq!(rt;
+            sink.into_inner().taken.as_slice(),
+            &trace[..room],
+            "{room}"
+        );
+    }
+    Ok(())
+}
+
+#[test]
+fn a_third_read_that_fails(rt: HostRuntime) -> Result<(), Fail> {
+    let mut source = Source::new(SlowReader {
+        rest: ONE_UNIT.as_bytes(),
+        reads: 0,
+        fails_at: 3,
+    });
+    let mut sink = Sink::new(rt.alloc(), Vec::new(rt.alloc()))?;
+    let outcome = run_replay(rt.alloc(), &mut source, &mut sink);
+    assert_eq!(rt; outcome, Err(RunFault::Read));
+    assert!(rt; sink.into_inner().is_empty());
+    Ok(())
+}
+
+/// Scripts that are none: each ends with its fault, and nothing is written.
+#[test]
+fn malicious_scripts(rt: HostRuntime) -> Result<(), Fail> {
+    let rows: [(&[u8], ScriptFault); 9] = [
+        (b"\xff", ScriptFault::Syntax),
+        (b"licences = 4065\n[[port]]", ScriptFault::Range),
+        (b"licences = 1\nport = 3", ScriptFault::Shape),
+        (b"licences = 1\nport = []", ScriptFault::Range),
+        (
+            b"licences = \"1\"\nport = [{},{},{},{},{},{},{},{},{},{},{},{},{},{},{},{},{}]",
+            ScriptFault::Shape,
+        ),
+        (
+            b"licences = 1\n[[port]]\nadmit = [\"ABCD00000001\", \"ABCD00000001\"]",
+            ScriptFault::Duplicate,
+        ),
+        (
+            b"licences = 1\n[[port]]\nadmit = [\"abCD00000001\"]",
+            ScriptFault::Serial,
+        ),
+        (
+            b"licences = 1\n[[port]]\n[[event]]\nport = 0\nat = 0\nburst = \"0004000000000000000000007\"",
+            ScriptFault::Hex,
+        ),
+        (
+            b"licences = 1\n[[port]]\n[[event]]\nport = 0\nat = 0\nsay = \"ack\"\nonu = 0",
+            ScriptFault::Shape,
+        ),
+    ];
+    for (text, fault) in rows {
+        let (outcome, trace) = replay(rt.alloc(), text)?;
+        assert_eq!(rt; outcome, Err(RunFault::Script(fault)), "{text:?}");
+        assert!(rt; trace.is_empty());
+    }
+    Ok(())
+}
+
+#[test]
+fn as_long_as_may_be_and_longer(rt: HostRuntime) -> Result<(), Fail> {
+    let mut spaces = vec![in rt.alloc(); b' '; 1_048_576]?;
+    let (outcome, _) = replay(rt.alloc(), spaces.as_slice())?;
+    assert_eq!(rt; outcome, Err(RunFault::Script(ScriptFault::Shape)));
+    spaces.push(b' ')?;
+    let (outcome, trace) = replay(rt.alloc(), spaces.as_slice())?;
+    assert_eq!(rt; outcome, Err(RunFault::TooLong));
+    assert!(rt; trace.is_empty());
+    Ok(())
+}
+
+/// The line on standard error and the status of each fault; the line is the program's name and the
+/// fault's text.
+#[test]
+fn reports(rt: HostRuntime) -> Result<(), Fail> {
+    let rows = [
+        (RunFault::Read, "oltctl: read", 1),
+        (RunFault::TooLong, "oltctl: too long", 1),
+        (
+            RunFault::Script(ScriptFault::Syntax),
+            "oltctl: script 1 syntax",
+            1,
+        ),
+        (
+            RunFault::Script(ScriptFault::Shape),
+            "oltctl: script 2 shape",
+            1,
+        ),
+        (
+            RunFault::Script(ScriptFault::Range),
+            "oltctl: script 3 range",
+            1,
+        ),
+        (
+            RunFault::Script(ScriptFault::Serial),
+            "oltctl: script 4 serial",
+            1,
+        ),
+        (
+            RunFault::Script(ScriptFault::Hex),
+            "oltctl: script 5 hex",
+            1,
+        ),
+        (
+            RunFault::Script(ScriptFault::Duplicate),
+            "oltctl: script 6 duplicate",
+            1,
+        ),
+        (RunFault::OutOfMemory, "oltctl: memory", 3),
+        (RunFault::Write, "oltctl: write", 4),
+        (RunFault::Mismatch, "oltctl: mismatch", 5),
+    ];
+    for (fault, line, status) in rows {
+        assert_eq!(rt; run_report(&fault), (line, status));
+        let text = format!(in rt.alloc(); "oltctl: {fault}")?;
+        assert_eq!(rt; text.as_str(), line);
+    }
+    Ok(())
+}

@@ -1,0 +1,35 @@
+ghost use Rattle.std.specs.Prelude.{◌≡◌, ◌+◌, ◌<◌, ◌≤◌, ◌++◌, OnOk, OnErr, length, vec_len, vec_capacity};
+ghost use Rattle.gp_trace.specs.Text.{command_text, event_text};
+
+use super::pieces::{push_code, push_number};
+use gp_machine::{Command, Event};
+use std::alloc::AllocError;
+
+/// The words of a command.
+fn push_command(out: &mut Vec<u8>, command: &Command) -> Result<(), AllocError>
+    ensures ok { OnOk result (out.new.items ≡ out.old.items ++ command_text command.now) }
+    ensures full { OnErr result (vec_capacity out.old < vec_len out.old + length (command_text command.now)) }
+    ensures capacity { vec_capacity out.old ≤ vec_capacity out.new }
+{
+    match command {
+        Command::Search => out.extend_from_slice(b"search"),
+    }
+}
+
+/// Appends what happened at the port.
+pub(crate) fn push_event(out: &mut Vec<u8>, event: &Event) -> Result<(), AllocError>
+    ensures ok { OnOk result (out.new.items ≡ out.old.items ++ event_text event.now) }
+    ensures full { OnErr result (vec_capacity out.old < vec_len out.old + length (event_text event.now)) }
+    ensures capacity { vec_capacity out.old ≤ vec_capacity out.new }
+{
+    match event {
+        Event::Frame => out.extend_from_slice(b"frame"),
+        Event::Burst { at, bytes } => {
+            out.extend_from_slice(b"burst ")?;
+            push_number(out, u64::from(*at))?;
+            out.extend_from_slice(b" ")?;
+            push_code(out, bytes)
+        }
+        Event::Command(command) => push_command(out, command),
+    }
+}

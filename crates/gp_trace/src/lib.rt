@@ -1,0 +1,9 @@
+//! The text of a trace: one line for each entry of a port's journal.
+#![tactic(auto)]
+
+mod answers;
+mod events;
+mod line;
+mod pieces;
+
+pub use line::push_line;
