@@ -55,7 +55,7 @@ impl AdmissionList {
         ensures ok { OnOk result (self.new ≡ map.insert self.old serial (admission_on port)) }
         ensures duplicate { (result ≡ Err AdmitFault.Duplicate) ↔ IsSome (map.get self.old serial) }
         ensures full { (result ≡ Err AdmitFault.Full)
-            ↔ ((map.get self.old serial ≡ None) × (count_on port self.old ≡ 512)) }
+            ↔ ((map.get self.old serial ≡ None) × (count_on port self.old ≡ MOST_ON_A_PORT)) }
         ensures err { OnErr result (self.new ≡ self.old) }
     {
         if self.index.get(&serial).is_some() {
@@ -77,7 +77,7 @@ impl AdmissionList {
     /// How many serial numbers are admitted on a port.
     pub fn admitted_on(&self, port: u8) -> u16
         ensures count { result ≡ count_on port self.now }
-        ensures most { result ≤ 512 }
+        ensures most { result ≤ MOST_ON_A_PORT }
     {
         self.counts[usize::from(port)]
     }
