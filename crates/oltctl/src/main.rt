@@ -1,0 +1,116 @@
+//! `oltctl`: plays a script and writes its trace, and says in words which message a code is.
+#![tactic(auto)]
+
+mod words;
+
+use clap::error::ErrorKind;
+use clap::{ArgMatches, Error};
+use gp_decode::{LineFault, decode_line, line_report};
+use gp_ploam::Mask;
+use gp_replay::{RunFault, run_replay, run_report};
+use gp_stream::{Sink, Source};
+use std::io;
+use std::io::Read;
+use std::process::ExitCode;
+use std::rt::{Env, Files};
+
+/// The exit status for a command line that is none of this program's.
+const BAD_WORDS: u8 = 2;
+
+/// Says on standard error what went wrong, and answers the exit status, which says it too where
+/// standard error takes nothing.
+fn report<R: Eprint>(rt: &R, (line, status): (&'static str, u8)) -> u8 {
+    let _ = eprintln!(rt; "{line}");
+    status
+}
+
+/// Plays the script that a reader gives, to standard output.
+fn replay_from<R: AllocGlobal + Print, S: Read + Drop>(rt: &R, reader: S) -> Result<(), RunFault> {
+    let mut source = Source::new(reader);
+    let Ok(mut sink) = Sink::new(rt.alloc(), io::writer(rt)) else {
+        return Err(RunFault::OutOfMemory);
+    };
+    run_replay(rt.alloc(), &mut source, &mut sink)
+}
+
+/// Plays the script of a file, or of standard input.
+fn replay<R: AllocGlobal + Files + Print + Input>(
+    rt: &R,
+    file: Option<&str>,
+) -> Result<(), RunFault> {
+    match file {
+        None => replay_from(rt, rt.reader()),
+        Some(path) => match std::fs::open(rt, path) {
+            Ok(file) => replay_from(rt, file),
+            Err(_) => Err(RunFault::Read),
+        },
+    }
+}
+
+/// The mask that a word of the command line names.
+fn mask_of(word: Option<&str>) -> Mask {
+    match word {
+        Some("85") => Mask::Coset,
+        _ => Mask::Plain,
+    }
+}
+
+/// Says which message a code is, on standard output.
+fn decode<R: AllocGlobal + Print>(rt: &R, found: &ArgMatches<'_>) -> Result<(), LineFault> {
+    let Some(code) = found.get_str("code") else {
+        return Err(LineFault::Length);
+    };
+    let Ok(mut sink) = Sink::new(rt.alloc(), io::writer(rt)) else {
+        return Err(LineFault::OutOfMemory);
+    };
+    let mask = mask_of(found.get_str("mask"));
+    decode_line(rt.alloc(), code, found.get_flag("up"), mask, &mut sink)
+}
+
+/// Does what a command line asks for, and answers the exit status.
+fn obey<R: AllocGlobal + Files + Print + Eprint + Input>(rt: &R, matches: &ArgMatches<'_>) -> u8 {
+    match matches.subcommand() {
+        Some(("replay", found)) => match replay(rt, found.get_str("file")) {
+            Ok(()) => 0,
+            Err(fault) => report(rt, run_report(&fault)),
+        },
+        Some(("decode", found)) => match decode(rt, found) {
+            Ok(()) => 0,
+            Err(fault) => report(rt, line_report(&fault)),
+        },
+        _ => BAD_WORDS,
+    }
+}
+
+/// Shows the help that was asked for, or what is wrong with a command line, and answers the exit
+/// status.
+fn explain<R: Print + Eprint>(rt: &R, error: &Error) -> u8 {
+    if error.kind() == ErrorKind::OutOfMemory {
+        return report(rt, run_report(&RunFault::OutOfMemory));
+    }
+    match error.print(rt) {
+        Err(_) => report(rt, run_report(&RunFault::Write)),
+        Ok(()) if error.use_stderr() => BAD_WORDS,
+        Ok(()) => 0,
+    }
+}
+
+/// The words of the command line.
+fn words_of<R: AllocGlobal + Env>(rt: &R) -> io::Result<Vec<String>> {
+    Ok(std::env::args(rt)?.collect(rt.alloc())?)
+}
+
+/// Runs the command line, and answers the exit status.
+fn run<R: AllocGlobal + Env + Files + Print + Eprint + Input>(rt: &R) -> u8 {
+    let Ok(words) = words_of(rt) else {
+        return report(rt, run_report(&RunFault::OutOfMemory));
+    };
+    match words::parse(rt.alloc(), words.as_slice()) {
+        Ok(matches) => obey(rt, &matches),
+        Err(error) => explain(rt, &error),
+    }
+}
+
+fn main(rt: HostRuntime) -> ExitCode {
+    ExitCode::from(run(&rt))
+}
