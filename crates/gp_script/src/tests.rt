@@ -256,7 +256,7 @@ fn two_faults_at_once(rt: HostRuntime) {
             ScriptFault::Hex,
         ),
         (
-            "licences = 1\nport = [{}]\nevent = [{port = 0, at = 0, say = \"serial\", serial = \"A\", onu = 256}]",
+            "licences = 1\nport = [{}]\n[[event]]\nport = 0\nat = 0\nsay = \"serial\"\nserial = \"A\"\nonu = 256",
             ScriptFault::Serial,
         ),
     ];
@@ -271,69 +271,87 @@ fn two_faults_at_once(rt: HostRuntime) {
 
 #[test]
 fn ends_of_ranges(rt: HostRuntime) -> Result<(), AllocError> {
-    let keys = [
-        ("licences", "0", "4064", "4065"),
-        ("mask", "0", "85", "86"),
-        ("teqd", "0", "4294967295", "4294967296"),
-        ("max_units", "1", "254", "255"),
-        ("alloc_last", "256", "4095", "4096"),
-        ("cycles", "1", "10", "11"),
-        ("search_period", "0", "1000000", "1000001"),
-        ("port", "0", "0", "1"),
-        ("at", "0", "4294967295", "4294967296"),
-        ("onu", "0", "255", "256"),
-        ("frames", "1", "1000000", "1000001"),
+    // What stands before a value and behind it, two values outside its range, and its ends.
+    let rows = [
+        (
+            "licences = ",
+            "\nport = [{}]",
+            ["-1", "4065"],
+            ["0", "4064"],
+        ),
+        (
+            "licences = 1\nport = [{}]\nmask = ",
+            "",
+            ["84", "86"],
+            ["0", "85"],
+        ),
+        (
+            "licences = 1\nport = [{teqd = ",
+            "}]",
+            ["-1", "4294967296"],
+            ["0", "4294967295"],
+        ),
+        (
+            "licences = 1\nport = [{max_units = ",
+            "}]",
+            ["0", "255"],
+            ["1", "254"],
+        ),
+        (
+            "licences = 1\nport = [{alloc_last = ",
+            "}]",
+            ["255", "4096"],
+            ["256", "4095"],
+        ),
+        (
+            "licences = 1\nport = [{cycles = ",
+            "}]",
+            ["0", "11"],
+            ["1", "10"],
+        ),
+        (
+            "licences = 1\nport = [{search_period = ",
+            "}]",
+            ["-1", "1000001"],
+            ["0", "1000000"],
+        ),
+        (
+            "licences = 1\nport = [{}]\nevent = [{command = \"search\", port = ",
+            "}]",
+            ["-1", "1"],
+            ["0", "0"],
+        ),
+        (
+            "licences = 1\nport = [{}]\nevent = [{port = 0, frames = ",
+            "}]",
+            ["0", "1000001"],
+            ["1", "1000000"],
+        ),
+        (
+            "licences = 1\nport = [{}]\nevent = [{port = 0, say = \"none\", onu = 0, at = ",
+            "}]",
+            ["-1", "4294967296"],
+            ["0", "4294967295"],
+        ),
+        (
+            "licences = 1\nport = [{}]\nevent = [{port = 0, at = 0, say = \"none\", onu = ",
+            "}]",
+            ["-1", "256"],
+            ["0", "255"],
+        ),
     ];
-    for (key, least, most, above) in keys {
-        let below = if least == "1" {
-            "0"
-        } else if least == "256" {
-            "255"
-        } else {
-            "-1"
-        };
-        for value in [least, most] {
-            let text = script_with(rt.alloc(), key, value)?;
-            assert_eq!(rt;
-                fault_of(rt.alloc(), text.as_str()),
-                None,
-                "{key} = {value}"
-            );
+    let range = Some(ScriptError::Fault(ScriptFault::Range));
+    for (before, after, outside, inside) in rows {
+        for value in outside {
+            let text = format!(in rt.alloc(); "{before}{value}{after}")?;
+            assert_eq!(rt; fault_of(rt.alloc(), text.as_str()), range, "{text}");
         }
-        for value in [below, above] {
-            let text = script_with(rt.alloc(), key, value)?;
-            let range = Some(ScriptError::Fault(ScriptFault::Range));
-            assert_eq!(rt;
-                fault_of(rt.alloc(), text.as_str()),
-                range,
-                "{key} = {value}"
-            );
+        for value in inside {
+            let text = format!(in rt.alloc(); "{before}{value}{after}")?;
+            assert_eq!(rt; fault_of(rt.alloc(), text.as_str()), None, "{text}");
         }
     }
     Ok(())
-}
-
-/// A script in which one key has a value of its own.
-fn script_with(alloc: Global, key: &str, value: &str) -> Result<String, AllocError> {
-    let licences = if key == "licences" { value } else { "1" };
-    let mask = if key == "mask" { value } else { "0" };
-    let place = if key == "port" { value } else { "0" };
-    let at = if key == "at" { value } else { "0" };
-    let onu = if key == "onu" { value } else { "0" };
-    let frames = if key == "frames" { value } else { "1" };
-    let inside = ["teqd", "max_units", "alloc_last", "cycles", "search_period"];
-    let mut port = String::new(alloc);
-    for name in inside {
-        if name == key {
-            port = format!(in alloc; "{key} = {value}")?;
-        }
-    }
-    format!(in alloc;
-        "licences = {licences}
-mask = {mask}
-port = [{{{port}}}]
-event = [{{port = {place}, at = {at}, say = \"none\", onu = {onu}}}, {{port = 0, frames = {frames}}}]"
-    )
 }
 
 #[test]
