@@ -39,7 +39,7 @@ pub fn winner(nodes: &[Option<Timer>]) -> Option<Timer>
     nodes.get(1).copied().flatten()
 }
 
-/// Writes the leaf of a name, and each node above it anew.
+/// Writes the leaf of a name, and anew each node above it up to the first that keeps its timer.
 pub fn rewrite(nodes: &mut [Option<Timer>], names: usize, name: u16, timer: Option<Timer>)
     requires tournament { IsTournament names nodes.old }
     requires in_range { name < names }
@@ -50,6 +50,10 @@ pub fn rewrite(nodes: &mut [Option<Timer>], names: usize, name: u16, timer: Opti
     nodes[node] = timer;
     while node > 1 {
         node /= 2;
-        nodes[node] = earlier(nodes[2 * node], nodes[2 * node + 1]);
+        let won = earlier(nodes[2 * node], nodes[2 * node + 1]);
+        if nodes[node] == won {
+            return;
+        }
+        nodes[node] = won;
     }
 }
