@@ -1,5 +1,5 @@
 -- What holds in each case of a definition holds of what it defines.
-use Rattle.std.proofs.Common.{◌≡◌, ℕ, zero, suc, ◌<◌, ◌≤◌, Bool, true, false, cond, nat_lt, ◌==◌, ◌&&◌, List, [], ◌∷◌, Option, None, Some, refl, arith}
+use Rattle.std.proofs.Common.{◌≡◌, ℕ, zero, suc, ◌+◌, ◌<◌, ◌≤◌, Bool, true, false, cond, nat_lt, ◌==◌, ◌&&◌, List, [], ◌∷◌, Option, None, Some, refl, ap, ◌∙◌, arith}
 use Rattle.std.specs.Prelude.{◌-◌, is_none}
 use Rattle.std.specs.List.{list_any}
 use Rattle.std.specs.FinMap.{get}
@@ -7,7 +7,7 @@ use Rattle.std.proofs.lemmas.Bool.{false≢true, ltb-true, ltb-false, eqb-true, 
 use Rattle.gp_ploam.specs.declared.message.Serial.{Serial}
 use Rattle.gp_ploam.specs.declared.message.Down.{Down}
 use Rattle.gp_ploam.specs.declared.message.Up.{Up}
-use Rattle.gp_ploam.specs.declared.message.Up.TheVariants.{SerialNumber, DyingGasp, NoMessage, Acknowledge, Other}
+use Rattle.gp_ploam.specs.declared.message.Up.TheVariants.{SerialNumber}
 use Rattle.gp_ploam.specs.Serials.{same_serial}
 use Rattle.gp_ploam.specs.Up.{octet1_of}
 use Rattle.gp_ranging.specs.declared.grant.Grant.{Grant}
@@ -21,114 +21,137 @@ use Rattle.gp_machine.specs.declared.refusal.Refusal.TheVariants.{Stray, Garbled
 use Rattle.gp_machine.specs.declared.reply.Reply.TheVariants.{Refused, Found, Again, Repeat, Ranged, TooFar, StillRanging}
 use Rattle.gp_machine.specs.State.{PortState, HasRow, rows_of}
 use Rattle.gp_machine.specs.Outcomes.{Outcome, bare_outcome, has_room, state_seen, refused_burst}
-use Rattle.gp_machine.specs.Frame.{first_of, is_idle, deciding_frame, waiting_frame, frame_outcome}
-use Rattle.gp_machine.specs.Burst.{state_assigned, state_ranged, is_assign, newcomer_outcome, again_outcome, active_outcome, admitted_outcome, serial_outcome, search_outcome, measured_outcome, row_outcome, asked_outcome, range_outcome, heard_outcome, window_outcome, burst_outcome}
+use Rattle.gp_machine.specs.Frame.{runs_timer, state_after_timer, first_of, is_idle, deciding_frame, waiting_frame, frame_outcome}
+use Rattle.gp_machine.specs.Burst.{state_assigned, state_ranged, is_assign, newcomer_outcome, active_outcome, admitted_outcome, serial_outcome, search_outcome, measured_outcome, row_outcome, asked_outcome, range_outcome, heard_outcome, window_outcome, burst_outcome}
 
 pub by_test : {A : Type 0} (P : A → Type 0) (b : Bool) (x y : A) → (b ≡ true → P x) → (b ≡ false → P y) → P (cond b x y)
 by_test P true x y f g = f refl
 by_test P false x y f g = g refl
 
--- each outcome that a burst may have in the state p with u licences, at a round-trip delay; n is the ONU-ID
--- that a new unit gets
-pub record OfEachBurst (P : Outcome → Type 0) (u : ℕ) (p : PortState) (at n : ℕ) : Type 0 where
+-- the burst is read, in the open search window, as the serial number of the unit s, which has no ONU-ID
+pub record IsFromSearch (p : PortState) (heard : Option Up) (s : Serial) : Type 0 where
+  pub window : WindowState
+  pub random : ℕ
+  pub flags : ℕ
+  pub opened : p.window ≡ Some window
+  pub asked : window.grant ≡ Search
+  pub read : heard ≡ Some (SerialNumber 255 s random flags)
+
+-- the burst is read, in the open window of the unit with the ONU-ID n, as that unit's serial number
+pub record IsFromRange (p : PortState) (heard : Option Up) (n : ℕ) (s : Serial) : Type 0 where
+  pub window : WindowState
+  pub random : ℕ
+  pub flags : ℕ
+  pub row : Row
+  pub opened : p.window ≡ Some window
+  pub asked : window.grant ≡ Range n
+  pub read : heard ≡ Some (SerialNumber n s random flags)
+  pub has : HasRow p.rows s row
+  pub same : row.onu ≡ n
+
+-- the unit s may become active, with u licences in the purse
+pub record MayJoin (u : ℕ) (p : PortState) (s : Serial) : Type 0 where
+  pub admitted : list_any (same_serial s) p.config.admitted ≡ true
+  pub unknown : get p.rows s ≡ None
+  pub few : rows_of p < p.config.max_units
+  pub licensed : 0 < u
+  pub room : has_room p ≡ true
+
+-- each outcome that a burst may have in the state p with u licences, at a round-trip delay, where it is read
+-- as this message; n is the ONU-ID that a new unit gets
+pub record OfEachBurst (P : Outcome → Type 0) (u : ℕ) (p : PortState) (at : ℕ) (heard : Option Up) (n : ℕ) : Type 0 where
   pub stray : P (bare_outcome u p (Refused Stray))
   pub refused : (refusal : Refusal) → P (refused_burst u p refusal)
-  pub found : (w : WindowState) → p.window ≡ Some w → w.grant ≡ Search
-      → (s : Serial) → list_any (same_serial s) p.config.admitted ≡ true → get p.rows s ≡ None
-      → rows_of p < p.config.max_units → 0 < u → has_room p ≡ true → P (bare_outcome (u - 1) (state_assigned p s n) (Found n))
+  pub found : (s : Serial) → IsFromSearch p heard s → MayJoin u p s → P (bare_outcome (u - 1) (state_assigned p s n) (Found n))
   pub repeated : (s : Serial) (row : Row) → HasRow p.rows s row → P (bare_outcome u p (Repeat row.onu))
-  pub again : (w : WindowState) → p.window ≡ Some w → w.grant ≡ Search
-      → (s : Serial) (row : Row) → HasRow p.rows s row → has_room p ≡ true → P (bare_outcome u (state_assigned p s row.onu) (Again row.onu))
+  pub again : (s : Serial) (row : Row) → IsFromSearch p heard s → HasRow p.rows s row → has_room p ≡ true → P (bare_outcome u (state_assigned p s row.onu) (Again row.onu))
   pub too_far : (m : ℕ) → P (bare_outcome u (state_seen p) (TooFar m))
   pub still_ranging : (m : ℕ) → P (bare_outcome u (state_seen p) (StillRanging m))
-  pub ranged : (w : WindowState) (m : ℕ) → p.window ≡ Some w → w.grant ≡ Range m
-      → (s : Serial) (row : Row) → HasRow p.rows s row → row.onu ≡ m
-      → at ≤ p.config.teqd → has_room p ≡ true → P (bare_outcome u (state_ranged p s m (p.config.teqd - at)) (Ranged m (p.config.teqd - at)))
+  pub ranged : (m : ℕ) (s : Serial) → IsFromRange p heard m s → at ≤ p.config.teqd → has_room p ≡ true
+      → P (bare_outcome u (state_ranged p s m (p.config.teqd - at)) (Ranged m (p.config.teqd - at)))
 
 positive : (u : ℕ) → (u == 0) ≡ false → 0 < u
 positive zero h = absurd (eqb-false zero 0 h refl)
 positive (suc u) h = omega arith
 
-pub of_each_burst : (P : Outcome → Type 0) (u : ℕ) (p : PortState) (at : ℕ) (heard : Option Up) (n : ℕ) → OfEachBurst P u p at n → P (burst_outcome u p at heard n)
+pub of_each_burst : (P : Outcome → Type 0) (u : ℕ) (p : PortState) (at : ℕ) (heard : Option Up) (n : ℕ) → OfEachBurst P u p at heard n → P (burst_outcome u p at heard n)
 of_each_burst P u p at heard n each = by_window p.window refl
   where
-    newcomer : (w : WindowState) → p.window ≡ Some w → w.grant ≡ Search → (s : Serial) → list_any (same_serial s) p.config.admitted ≡ true → get p.rows s ≡ None → P (newcomer_outcome u p s n)
-    newcomer w opened search s admitted none =
+    newcomer : (s : Serial) → IsFromSearch p heard s → list_any (same_serial s) p.config.admitted ≡ true → get p.rows s ≡ None → P (newcomer_outcome u p s n)
+    newcomer s from admitted unknown =
         by_test P (nat_lt (rows_of p) p.config.max_units) _ _
         (λ few.
         by_test P (u == 0) _ _
         (λ empty. each.refused NoLicence)
         (λ some.
         by_test P (has_room p) _ _
-        (λ room. each.found w opened search s admitted none (ltb-true (rows_of p) p.config.max_units few) (positive u some) room)
+        (λ room.
+        each.found s from
+        (record { admitted = admitted; unknown = unknown; few = ltb-true (rows_of p) p.config.max_units few; licensed = positive u some; room = room }))
         (λ full. each.refused Busy)))
         (λ many. each.refused NoId)
 
-    known : (w : WindowState) → p.window ≡ Some w → w.grant ≡ Search → (s : Serial) (row : Row) → HasRow p.rows s row → P (again_outcome u p s row.onu)
-    known w opened search s row has =
+    by_phase : (s : Serial) (row : Row) → IsFromSearch p heard s → HasRow p.rows s row → (phase : Phase) → P (active_outcome u p s row.onu phase)
+    by_phase s row from has (Ranging attempts seen) =
         by_test P (list_any (is_assign row.onu s) p.owed) _ _
         (λ told. each.repeated s row has)
-        (λ untold.
-        by_test P (has_room p) _ _ (λ room. each.again w opened search s row has room) (λ full. each.refused Busy))
+        (λ untold. by_test P (has_room p) _ _ (λ room. each.again s row from has room) (λ full. each.refused Busy))
+    by_phase s row from has (Operating eqd dark garbled) = each.refused WrongWindow
 
-    by_phase : (w : WindowState) → p.window ≡ Some w → w.grant ≡ Search → (s : Serial) (row : Row) → HasRow p.rows s row → (phase : Phase) → P (active_outcome u p s row.onu phase)
-    by_phase w opened search s row has (Ranging attempts seen) = known w opened search s row has
-    by_phase w opened search s row has (Operating eqd dark garbled) = each.refused WrongWindow
+    by_row : (s : Serial) → IsFromSearch p heard s → list_any (same_serial s) p.config.admitted ≡ true → (o : Option Row) → get p.rows s ≡ o → P (admitted_outcome u p s n o)
+    by_row s from admitted None e = newcomer s from admitted e
+    by_row s from admitted (Some row) e = by_phase s row from e row.phase
 
-    by_row : (w : WindowState) → p.window ≡ Some w → w.grant ≡ Search → (s : Serial) → list_any (same_serial s) p.config.admitted ≡ true → (o : Option Row) → get p.rows s ≡ o → P (admitted_outcome u p s n o)
-    by_row w opened search s admitted None e = newcomer w opened search s admitted e
-    by_row w opened search s admitted (Some row) e = by_phase w opened search s row e row.phase
-
-    searched : (w : WindowState) → p.window ≡ Some w → w.grant ≡ Search → (s : Serial) → P (serial_outcome u p s n)
-    searched w opened search s =
+    searched : (s : Serial) → IsFromSearch p heard s → P (serial_outcome u p s n)
+    searched s from =
         by_test P (list_any (same_serial s) p.config.admitted) _ _
-        (λ admitted. by_row w opened search s admitted (get p.rows s) refl)
+        (λ admitted. by_row s from admitted (get p.rows s) refl)
         (λ foreign. each.refused NotAdmitted)
 
-    by_search : (w : WindowState) → p.window ≡ Some w → w.grant ≡ Search → (m : Up) → P (search_outcome u p n m)
-    by_search w opened search (SerialNumber onu s random flags) =
-        by_test P (onu == 255) _ _ (λ unassigned. searched w opened search s) (λ assigned. each.refused WrongWindow)
-    by_search w opened search (DyingGasp onu) = each.refused WrongWindow
-    by_search w opened search (NoMessage onu) = each.refused WrongWindow
-    by_search w opened search (Acknowledge onu id copy) = each.refused WrongWindow
-    by_search w opened search (Other id octet1 body) = each.refused WrongWindow
+    by_search : (w : WindowState) → p.window ≡ Some w → w.grant ≡ Search → (m : Up) → heard ≡ Some m → P (search_outcome u p n m)
+    by_search w opened asked (SerialNumber onu s random flags) read =
+        by_test P (onu == 255) _ _
+        (λ unassigned.
+        let unknown_unit = read ∙ ap (λ (x : ℕ). Some (SerialNumber x s random flags)) (eqb-true onu 255 unassigned) in
+        searched s (record { window = w; random = random; flags = flags; opened = opened; asked = asked; read = unknown_unit }))
+        (λ assigned. each.refused WrongWindow)
+    by_search w opened asked m read = each.refused WrongWindow
 
-    measured : (w : WindowState) (m : ℕ) → p.window ≡ Some w → w.grant ≡ Range m → (s : Serial) (row : Row) → HasRow p.rows s row → row.onu ≡ m → P (measured_outcome u p at s m)
-    measured w m opened range s row has same =
+    measured : (m : ℕ) (s : Serial) → IsFromRange p heard m s → P (measured_outcome u p at s m)
+    measured m s from =
         by_test P (nat_lt p.config.teqd at) _ _
         (λ far. each.too_far m)
-        (λ near.
-        by_test P (has_room p) _ _
-        (λ room. each.ranged w m opened range s row has same (ltb-false p.config.teqd at near) room)
-        (λ full. each.refused Busy))
+        (λ near. by_test P (has_room p) _ _ (λ room. each.ranged m s from (ltb-false p.config.teqd at near) room) (λ full. each.refused Busy))
 
-    by_asked_row : (w : WindowState) (m : ℕ) → p.window ≡ Some w → w.grant ≡ Range m → (s : Serial) (o : Option Row) → get p.rows s ≡ o → P (row_outcome u p at m s o)
-    by_asked_row w m opened range s None e = each.refused WrongWindow
-    by_asked_row w m opened range s (Some row) e =
-        by_test P (row.onu == m) _ _ (λ same. measured w m opened range s row e (eqb-true row.onu m same)) (λ other. each.refused WrongWindow)
+    by_asked : (w : WindowState) (m : ℕ) → p.window ≡ Some w → w.grant ≡ Range m → (message : Up) → heard ≡ Some message → octet1_of message ≡ m → P (asked_outcome u p at m message)
+    by_asked w m opened asked (SerialNumber onu s random flags) read is = by_asked_row (get p.rows s) refl
+      where
+        asked_unit : heard ≡ Some (SerialNumber m s random flags)
+        asked_unit = read ∙ ap (λ (x : ℕ). Some (SerialNumber x s random flags)) is
 
-    by_asked : (w : WindowState) (m : ℕ) → p.window ≡ Some w → w.grant ≡ Range m → (message : Up) → P (asked_outcome u p at m message)
-    by_asked w m opened range (SerialNumber onu s random flags) = by_asked_row w m opened range s (get p.rows s) refl
-    by_asked w m opened range (DyingGasp onu) = each.still_ranging m
-    by_asked w m opened range (NoMessage onu) = each.still_ranging m
-    by_asked w m opened range (Acknowledge onu id copy) = each.still_ranging m
-    by_asked w m opened range (Other id octet1 body) = each.still_ranging m
+        by_asked_row : (o : Option Row) → get p.rows s ≡ o → P (row_outcome u p at m s o)
+        by_asked_row None e = each.refused WrongWindow
+        by_asked_row (Some row) e =
+            by_test P (row.onu == m) _ _
+            (λ same. measured m s (record { window = w; random = random; flags = flags; row = row; opened = opened; asked = asked; read = asked_unit; has = e; same = eqb-true row.onu m same }))
+            (λ other. each.refused WrongWindow)
+    by_asked w m opened asked message read is = each.still_ranging m
 
-    by_range : (w : WindowState) (m : ℕ) → p.window ≡ Some w → w.grant ≡ Range m → (message : Up) → P (range_outcome u p at m message)
-    by_range w m opened range message =
-        by_test P (octet1_of message == m) _ _ (λ same. by_asked w m opened range message) (λ other. each.refused WrongWindow)
+    by_range : (w : WindowState) (m : ℕ) → p.window ≡ Some w → w.grant ≡ Range m → (message : Up) → heard ≡ Some message → P (range_outcome u p at m message)
+    by_range w m opened asked message read =
+        by_test P (octet1_of message == m) _ _
+        (λ same. by_asked w m opened asked message read (eqb-true (octet1_of message) m same))
+        (λ other. each.refused WrongWindow)
 
-    by_grant : (w : WindowState) → p.window ≡ Some w → (g : Grant) → w.grant ≡ g → (h : Option Up) → P (heard_outcome u p at n g h)
-    by_grant w opened Search is None = each.refused Garbled
-    by_grant w opened (Range m) is None = each.refused Garbled
-    by_grant w opened (Poll m) is None = each.refused Garbled
-    by_grant w opened Search is (Some message) = by_search w opened is message
-    by_grant w opened (Range m) is (Some message) = by_range w m opened is message
-    by_grant w opened (Poll m) is (Some message) = each.refused WrongWindow
+    by_grant : (w : WindowState) → p.window ≡ Some w → (g : Grant) → w.grant ≡ g → (h : Option Up) → heard ≡ h → P (heard_outcome u p at n g h)
+    by_grant w opened g asked None read = each.refused Garbled
+    by_grant w opened Search asked (Some message) read = by_search w opened asked message read
+    by_grant w opened (Range m) asked (Some message) read = by_range w m opened asked message read
+    by_grant w opened (Poll m) asked (Some message) read = each.refused WrongWindow
 
     by_window : (o : Option WindowState) → p.window ≡ o → P (window_outcome u p at heard n o)
     by_window None e = each.stray
-    by_window (Some w) e = by_grant w e w.grant refl heard
+    by_window (Some w) e = by_grant w e w.grant refl heard refl
 
 pub both_true : (a b : Bool) → (a && b) ≡ true → (a ≡ true) × (b ≡ true)
 both_true true b h = (refl, h)
@@ -152,3 +175,10 @@ of_each_frame P u p ranging each =
     by_test P (is_idle p) _ _
     (λ idle. let parts = both_true _ _ idle in each.deciding (no_window p.window parts.0) (no_copies p.owed parts.1))
     (λ busy. each.waiting)
+
+-- the timer changes nothing but itself and whether a search is wanted
+pub by_timer : (P : PortState → Type 0) (p : PortState) → ((timer : ℕ) (wanted : Bool) → P (record p { timer = timer; wanted = wanted })) → P (state_after_timer p)
+by_timer P p each =
+    by_test P (runs_timer p) _ _
+    (λ runs. by_test P (p.timer + 1 == p.config.search_period) _ _ (λ ended. each 0 true) (λ goes_on. each (p.timer + 1) p.wanted))
+    (λ stands. each p.timer p.wanted)

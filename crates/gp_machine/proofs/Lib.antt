@@ -10,3 +10,4 @@ pub mod OnuIds
 pub mod OwedMessages
 pub mod MeasuredDelays
 pub mod ProperMessages
+mod WorkedRuns

@@ -1,8 +1,9 @@
 -- No step makes or loses a licence.
-use Rattle.std.proofs.Common.{◌≡◌, ℕ, ◌+◌, ◌==◌, ◌||◌, cond, Option, None, refl, sym, ap, ◌∙◌, subst, arith, is_some}
+use Rattle.std.proofs.Common.{◌≡◌, ℕ, ◌+◌, ◌||◌, cond, Option, None, refl, sym, ap, ◌∙◌, subst, arith, is_some}
 use Rattle.std.specs.Prelude.{◌-◌}
 use Rattle.std.specs.FinMap.{get, insert, len, len-insert}
 use Rattle.gp_ploam.specs.declared.message.Serial.{Serial}
+use Rattle.gp_ploam.specs.declared.message.Up.{Up}
 use Rattle.gp_ploam.proofs.Serials.{serials_total}
 use Rattle.gp_common.specs.declared.common.Common.{Common}
 use Rattle.gp_common.specs.declared.decision.Decision.{Decision}
@@ -14,12 +15,12 @@ use Rattle.gp_machine.specs.declared.event.Command.{Command}
 use Rattle.gp_machine.specs.declared.event.Command.TheVariants.{Search}
 use Rattle.gp_machine.specs.State.{PortState, Rows, HasRow, rows_of}
 use Rattle.gp_machine.specs.Outcomes.{Outcome}
-use Rattle.gp_machine.specs.Frame.{runs_timer, state_after_timer, state_before_decision, state_after_decision}
+use Rattle.gp_machine.specs.Frame.{state_after_timer, state_before_decision, state_after_decision}
 use Rattle.gp_machine.specs.Burst.{new_row}
 use Rattle.gp_machine.specs.Commands.{command_outcome, is_acquiring}
 use Rattle.gp_machine.specs.Step.{number_in}
 use Rattle.gp_machine.specs.OneStep.{KeepsLicences}
-use Rattle.gp_machine.proofs.Cases.{by_test, OfEachBurst, OfEachFrame, of_each_burst, of_each_frame}
+use Rattle.gp_machine.proofs.Cases.{by_test, by_timer, OfEachBurst, OfEachFrame, of_each_burst, of_each_frame}
 
 -- as many licences in the purse and with units as before
 abbrev pub Keeps : ℕ → PortState → Outcome → Type 0
@@ -31,26 +32,23 @@ len-known rows s row new has = len-insert serials_total rows s new ∙ ap (λ (o
 pub len-new : (rows : Rows) (s : Serial) (new : Row) → get rows s ≡ None → len (insert rows s new) ≡ len rows + 1
 len-new rows s new none = len-insert serials_total rows s new ∙ ap (λ (o : Option Row). cond (is_some o) (len rows) (len rows + 1)) none
 
-pub burst_keeps : (u : ℕ) (p : PortState) (at : ℕ) → (n : ℕ) → OfEachBurst (Keeps u p) u p at n
-burst_keeps u p at n =
+pub burst_keeps : (u : ℕ) (p : PortState) (at : ℕ) (heard : Option Up) (n : ℕ) → OfEachBurst (Keeps u p) u p at heard n
+burst_keeps u p at heard n =
     record {
       stray = refl;
       refused = λ refusal. refl;
-      found = λ w opened search s admitted none few some room. let more = len-new p.rows s (new_row n) none in omega arith;
+      found = λ s from joins. let more = len-new p.rows s (new_row n) joins.unknown in let some = joins.licensed in omega arith;
       repeated = λ s row has. refl;
-      again = λ w opened search s row has room. ap (λ k. u + k) (len-known p.rows s row (new_row row.onu) has);
+      again = λ s row from has room. ap (λ k. u + k) (len-known p.rows s row (new_row row.onu) has);
       too_far = λ m. refl;
       still_ranging = λ m. refl;
-      ranged = λ w m opened range s row has same near room.
-          ap (λ k. u + k) (len-known p.rows s row (record { onu = m; phase = Operating (p.config.teqd - at) 0 0 }) has);
+      ranged = λ m s from near room.
+          ap (λ k. u + k) (len-known p.rows s from.row (record { onu = m; phase = Operating (p.config.teqd - at) 0 0 }) from.has);
     }
 
 -- neither the timer nor a decision touches a row
 timer_rows : (p : PortState) → (state_after_timer p).rows ≡ p.rows
-timer_rows p =
-    by_test (λ (q : PortState). q.rows ≡ p.rows) (runs_timer p) _ _
-    (λ runs. by_test (λ (q : PortState). q.rows ≡ p.rows) (p.timer + 1 == p.config.search_period) _ _ (λ ended. refl) (λ goes_on. refl))
-    (λ stands. refl)
+timer_rows p = by_timer (λ (q : PortState). q.rows ≡ p.rows) p (λ timer wanted. refl)
 
 decision_rows : (p : PortState) (c : Common) (d : Decision) → (state_after_decision p (c, d)).rows ≡ p.rows
 decision_rows p c Nothing = refl
@@ -69,5 +67,5 @@ command_keeps u p Search = by_test (Keeps u p) (p.wanted || is_acquiring p.commo
 
 pub step_keeps : KeepsLicences
 step_keeps u p event.Frame o s = subst (Keeps u p) (sym s.2) (of_each_frame (Keeps u p) u p s.0 (frame_keeps u p s.0))
-step_keeps u p (event.Burst at bytes) o s = subst (Keeps u p) (sym s.3) (of_each_burst (Keeps u p) u p at s.0 (number_in o.answer.reply) (burst_keeps u p at (number_in o.answer.reply)))
+step_keeps u p (event.Burst at bytes) o s = subst (Keeps u p) (sym s.3) (of_each_burst (Keeps u p) u p at s.0 (number_in o.answer.reply) (burst_keeps u p at s.0 (number_in o.answer.reply)))
 step_keeps u p (event.Command c) o s = subst (Keeps u p) (sym s) (command_keeps u p c)

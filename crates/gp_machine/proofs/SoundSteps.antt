@@ -6,6 +6,7 @@ use Rattle.std.proofs.lemmas.Bool.{leb-true, ltb-true, eqb-false}
 use Rattle.std.specs.FinMap.{insert}
 use Rattle.gp_ploam.specs.declared.message.Serial.{Serial}
 use Rattle.gp_ploam.specs.declared.message.Down.{Down}
+use Rattle.gp_ploam.specs.declared.message.Up.{Up}
 use Rattle.gp_ploam.specs.Serials.{same_serial}
 use Rattle.gp_ploam.specs.declared.message.Down.TheVariants.{AssignOnu, RangingTime, UpstreamOverhead}
 use Rattle.gp_ranging.specs.declared.grant.Grant.{Grant}
@@ -28,7 +29,7 @@ use Rattle.gp_machine.specs.Burst.{new_row, state_assigned, state_ranged}
 use Rattle.gp_machine.specs.Commands.{command_outcome, is_acquiring}
 use Rattle.gp_machine.specs.Step.{HandsOutFree, number_in}
 use Rattle.gp_machine.specs.OneStep.{KeepsSound}
-use Rattle.gp_machine.proofs.Cases.{by_test, both_true, OfEachBurst, OfEachFrame, of_each_burst, of_each_frame}
+use Rattle.gp_machine.proofs.Cases.{by_test, by_timer, both_true, IsFromSearch, OfEachBurst, OfEachFrame, of_each_burst, of_each_frame}
 use Rattle.gp_machine.proofs.SoundRows.{table_of, MayPut, sound_put, sound_empty, may_put_again, admitted_contains}
 
 pub sound_opening : (c : PortConfig) → IsSound (opening_of c)
@@ -217,18 +218,13 @@ decided p Measuring wanted ranging h nothing cycled least = measured p ranging h
 pub sound_decision : (p : PortState) (ranging : Option ℕ) → IsSound p → p.owed ≡ [] → IsLeastRanging p.rows ranging → IsSound (state_after_decision p (decision_after p ranging))
 sound_decision p ranging h nothing least = decided p p.common p.wanted ranging h nothing h.cycled least
 
--- the timer leaves all but itself and `wanted` as it was
-timer_keeps : (P : PortState → Type 0) (p : PortState) → ((t : ℕ) (w : Bool) → P (record p { timer = t; wanted = w })) → P (state_after_timer p)
-timer_keeps P p h =
-    by_test P (runs_timer p) _ _ (λ runs. by_test P (p.timer + 1 == p.config.search_period) _ _ (λ ended. h 0 true) (λ goes_on. h (p.timer + 1) p.wanted)) (λ stands. h p.timer p.wanted)
-
 pub sound_frame : (u : ℕ) (p : PortState) (ranging : Option ℕ) → IsSound p → IsLeastRanging p.rows ranging → OfEachFrame (λ (o : Outcome). IsSound o.state) u p ranging
 sound_frame u p ranging h least =
     record {
       deciding = λ shut nothing.
           sound_decision (state_before_decision p) ranging (sound_before_decision p h)
-          (ap rest_of (timer_keeps (λ q. q.owed ≡ p.owed) p (λ t w. refl) ∙ nothing))
-          (timer_keeps (λ q. IsLeastRanging q.rows ranging) p (λ t w. least));
+          (ap rest_of (by_timer (λ q. q.owed ≡ p.owed) p (λ t w. refl) ∙ nothing))
+          (by_timer (λ q. IsLeastRanging q.rows ranging) p (λ t w. least));
       waiting = sound_before_decision p h;
     }
 
@@ -281,9 +277,9 @@ sound_ranged p s row n eqd h room has same =
     }
 
 -- an open search window asks no unit that has an ONU-ID
-pub undirected : (p : PortState) (w : WindowState) → p.window ≡ Some w → w.grant ≡ Search → (rows : Rows) → IsAsked rows p.window
-undirected p w opened search rows =
-    subst (λ (o : Option WindowState). IsAsked rows o) (sym opened) (subst (λ (g : Grant). IsAsked rows (Some (record w { grant = g }))) (sym search) tt)
+undirected : (p : PortState) (heard : Option Up) (s : Serial) → IsFromSearch p heard s → (rows : Rows) → IsAsked rows p.window
+undirected p heard s from rows =
+    subst (λ (o : Option WindowState). IsAsked rows o) (sym from.opened) (subst (λ (g : Grant). IsAsked rows (Some (record from.window { grant = g }))) (sym from.asked) tt)
 
 -- a new unit may get a free ONU-ID
 pub may_put_new : (p : PortState) (s : Serial) (n : ℕ) → list_any (same_serial s) p.config.admitted ≡ true → IsFree p n → MayPut p.config p.rows s (new_row n)
@@ -300,18 +296,18 @@ may_put_new p s n admitted free =
 abbrev pub IsSoundIfFree : PortState → Outcome → Type 0
 IsSoundIfFree p o = HandsOutFree p o.answer.reply → IsSound o.state
 
-pub sound_burst : (u : ℕ) (p : PortState) (at n : ℕ) → IsSound p → OfEachBurst (IsSoundIfFree p) u p at n
-sound_burst u p at n h =
+pub sound_burst : (u : ℕ) (p : PortState) (at : ℕ) (heard : Option Up) (n : ℕ) → IsSound p → OfEachBurst (IsSoundIfFree p) u p at heard n
+sound_burst u p at heard n h =
     record {
       stray = λ free. h;
       refused = λ refusal free. sound_seen p h;
-      found = λ w opened search s admitted none few some room free. sound_assigned p s n h room (undirected p w opened search) (may_put_new p s n admitted free);
+      found = λ s from joins free. sound_assigned p s n h joins.room (undirected p heard s from) (may_put_new p s n joins.admitted free);
       repeated = λ s row has free. h;
-      again = λ w opened search s row has room free.
-          sound_assigned p s row.onu h room (undirected p w opened search) (may_put_again p s row (new_row row.onu) h has refl (omega arith));
+      again = λ s row from has room free.
+          sound_assigned p s row.onu h room (undirected p heard s from) (may_put_again p s row (new_row row.onu) h has refl (omega arith));
       too_far = λ m free. sound_seen p h;
       still_ranging = λ m free. sound_seen p h;
-      ranged = λ w m opened range s row has same near room free. sound_ranged p s row m (p.config.teqd - at) h room has same;
+      ranged = λ m s from near room free. sound_ranged p s from.row m (p.config.teqd - at) h room from.has from.same;
     }
 
 -- ---- a command, and a step
@@ -326,5 +322,5 @@ sound_step u p event.Frame o h s =
 sound_step u p (event.Burst at bytes) o h s =
     let free = subst (λ (x : Outcome). HandsOutFree p x.answer.reply) s.3 s.2 in
     subst (λ (x : Outcome). IsSound x.state) (sym s.3)
-    (of_each_burst (IsSoundIfFree p) u p at s.0 (number_in o.answer.reply) (sound_burst u p at (number_in o.answer.reply) h) free)
+    (of_each_burst (IsSoundIfFree p) u p at s.0 (number_in o.answer.reply) (sound_burst u p at s.0 (number_in o.answer.reply) h) free)
 sound_step u p (event.Command c) o h s = subst (λ (x : Outcome). IsSound x.state) (sym s) (sound_command u p c h)

@@ -1,20 +1,14 @@
 -- What a step can be, by the messages that it owes.
-use Rattle.std.proofs.Common.{◌≡◌, ℕ, zero, suc, ◌+◌, ◌-◌, ◌≤◌, Bool, true, false, cond, List, [], ◌∷◌, ◌++◌, Option, None, Some, ◌⊎◌, inl, inr, refl, sym, ap, subst, ◌∙◌, ◌||◌, nat_lt}
-use Rattle.std.specs.Prelude.{◌==◌}
-use Rattle.std.specs.List.{list_any}
-use Rattle.std.specs.FinMap.{get, insert}
+use Rattle.std.proofs.Common.{◌≡◌, ℕ, zero, suc, ◌-◌, ◌≤◌, Bool, true, false, cond, List, [], ◌∷◌, ◌++◌, Option, None, Some, ◌⊎◌, inl, inr, refl, sym, ap, subst, ◌∙◌, ◌||◌}
+use Rattle.std.specs.FinMap.{insert}
 use Rattle.std.proofs.lemmas.List.{append-nil}
-use Rattle.std.proofs.lemmas.Bool.{eqb-true, ltb-false}
 use Rattle.gp_ploam.specs.declared.message.Serial.{Serial}
 use Rattle.gp_ploam.specs.declared.message.Down.{Down}
 use Rattle.gp_ploam.specs.declared.message.Down.TheVariants.{UpstreamOverhead, AssignOnu, RangingTime}
 use Rattle.gp_ploam.specs.declared.message.Up.{Up}
 use Rattle.gp_ploam.specs.declared.message.Up.TheVariants as up
 use Rattle.gp_ploam.specs.Mask.{mask_value}
-use Rattle.gp_ploam.specs.Serials.{same_serial}
-use Rattle.gp_ploam.specs.Up.{ReadsUp, octet1_of}
-use Rattle.gp_ranging.specs.declared.grant.Grant.{Grant}
-use Rattle.gp_ranging.specs.declared.grant.Grant.TheVariants.{Search, Range, Poll}
+use Rattle.gp_ploam.specs.Up.{ReadsUp}
 use Rattle.gp_ranging.specs.Window.{WindowState}
 use Rattle.gp_common.specs.declared.common.Common.{Common}
 use Rattle.gp_common.specs.declared.common.Common.TheVariants.{Standby, Acquisition, Measuring}
@@ -22,24 +16,23 @@ use Rattle.gp_common.specs.declared.decision.Decision.{Decision}
 use Rattle.gp_common.specs.Decision.{decision_of}
 use Rattle.gp_machine.specs.declared.event.Event.{Event}
 use Rattle.gp_machine.specs.declared.event.Event.TheVariants as event
+use Rattle.gp_machine.specs.declared.event.Command.{Command}
 use Rattle.gp_machine.specs.declared.event.Command.TheVariants as command
-use Rattle.gp_machine.specs.declared.refusal.Refusal.{Refusal}
 use Rattle.gp_machine.specs.declared.refusal.Refusal.TheVariants as refusal
 use Rattle.gp_machine.specs.declared.reply.Reply.{Reply}
 use Rattle.gp_machine.specs.declared.reply.Reply.TheVariants as reply
-use Rattle.gp_machine.specs.declared.row.Phase.{Phase}
-use Rattle.gp_machine.specs.declared.row.Phase.TheVariants.{Ranging, Operating}
+use Rattle.gp_machine.specs.declared.row.Phase.TheVariants.{Operating}
 use Rattle.gp_machine.specs.declared.row.Row.{Row}
-use Rattle.gp_machine.specs.State.{PortState, HasRow, rows_of}
-use Rattle.gp_machine.specs.Outcomes.{Outcome, bare_outcome, has_room, refused_burst}
-use Rattle.gp_machine.specs.Frame.{first_of, rest_of, frame_outcome, runs_timer, state_after_timer, state_after_decision, decision_after, is_idle, state_after_sending, state_after_tick, frame_answer, grant_of}
-use Rattle.gp_machine.specs.Burst.{new_row, is_assign, newcomer_outcome, active_outcome, admitted_outcome, serial_outcome, search_outcome, measured_outcome, row_outcome, asked_outcome, range_outcome, heard_outcome, window_outcome, burst_outcome}
-use Rattle.gp_machine.specs.Commands.{is_acquiring}
+use Rattle.gp_machine.specs.State.{PortState, HasRow}
+use Rattle.gp_machine.specs.Outcomes.{Outcome, bare_outcome, state_seen}
+use Rattle.gp_machine.specs.Frame.{first_of, rest_of, state_after_decision, decision_after, state_after_sending, state_after_tick, frame_answer, grant_of}
+use Rattle.gp_machine.specs.Burst.{new_row}
+use Rattle.gp_machine.specs.Commands.{command_outcome, is_acquiring}
 use Rattle.gp_machine.specs.Step.{Step, Hears, number_in}
 use Rattle.gp_machine.specs.Messages.{HearsSerial, begins_acquisition, three_times}
 use Rattle.gp_machine.specs.Delays.{AsksToRange}
 use Rattle.gp_machine.specs.OnuIds.{HasOnuId}
-use Rattle.gp_machine.proofs.Cases.{by_test}
+use Rattle.gp_machine.proofs.Cases.{by_test, by_timer, IsFromSearch, IsFromRange, OfEachBurst, OfEachFrame, of_each_burst, of_each_frame}
 
 -- ---- the cases
 
@@ -95,120 +88,7 @@ pub record IsRanged (p : PortState) (at : ℕ) (s : Serial) (n : ℕ) (o : Outco
   pub rows : o.state.rows ≡ insert p.rows s (ranged_row n (p.config.teqd - at))
   pub config : o.state.config ≡ p.config
 
--- ---- bursts
-
--- a burst, by the message that it is read as
-pub data BurstCase (p : PortState) (at : ℕ) (heard : Option Up) (o : Outcome) : Type 0 where
-  quiet : IsQuiet p o → BurstCase p at heard o
-  told : (s : Serial) (n random flags : ℕ) → heard ≡ Some (up.SerialNumber 255 s random flags) → IsTold p s n o → BurstCase p at heard o
-  ranged : (s : Serial) (n random flags : ℕ) → heard ≡ Some (up.SerialNumber n s random flags) → IsRanged p at s n o → BurstCase p at heard o
-
-refused : (u : ℕ) (p : PortState) (at : ℕ) (heard : Option Up) (r : Refusal) → BurstCase p at heard (refused_burst u p r)
-refused u p at heard r = quiet (record { reply = tt; sent = refl; owed = refl; rows = refl; config = refl })
-
-not_none : (row : Row) → None ≡ Some row → ⊥
-not_none row h = cc
-
-one_row : (row other : Row) → Some row ≡ Some other → other.onu ≡ row.onu
-one_row row other h = let same : row ≡ other = cc in ap (λ (r : Row). r.onu) (sym same)
-
--- a serial number of a unit without an ONU-ID
-module _ (u : ℕ) (p : PortState) (at : ℕ) (s : Serial) (random flags : ℕ) where
-  abbrev new_unit : Option Up
-  new_unit = Some (up.SerialNumber 255 s random flags)
-
-  newcomer_case : (n : ℕ) → get p.rows s ≡ None → BurstCase p at new_unit (newcomer_outcome u p s n)
-  newcomer_case n none =
-      by_test (BurstCase p at new_unit) (nat_lt (rows_of p) p.config.max_units) _ _
-      (λ few.
-      by_test (BurstCase p at new_unit) (u == 0) _ _
-      (λ empty. refused u p at new_unit refusal.NoLicence)
-      (λ some.
-      by_test (BurstCase p at new_unit) (has_room p) _ _
-      (λ room. told s n random flags refl (record { same = λ row has. absurd (not_none row (sym none ∙ has)); reply = inl refl; sent = refl; owed = refl; rows = refl; config = refl }))
-      (λ full. refused u p at new_unit refusal.Busy)))
-      (λ many. refused u p at new_unit refusal.NoId)
-
-  active_case : (row : Row) (phase : Phase) → HasRow p.rows s row → BurstCase p at new_unit (active_outcome u p s row.onu phase)
-  active_case row (Operating eqd dark garbled) has = refused u p at new_unit refusal.WrongWindow
-  active_case row (Ranging attempts seen) has =
-      by_test (BurstCase p at new_unit) (list_any (is_assign row.onu s) p.owed) _ _
-      (λ owed. quiet (record { reply = tt; sent = refl; owed = refl; rows = refl; config = refl }))
-      (λ sent.
-      by_test (BurstCase p at new_unit) (has_room p) _ _
-      (λ room. told s row.onu random flags refl (record { same = λ other there. one_row row other (sym has ∙ there); reply = inr refl; sent = refl; owed = refl; rows = refl; config = refl }))
-      (λ full. refused u p at new_unit refusal.Busy))
-
-  admitted_case : (n : ℕ) (row : Option Row) → get p.rows s ≡ row → BurstCase p at new_unit (admitted_outcome u p s n row)
-  admitted_case n None none = newcomer_case n none
-  admitted_case n (Some row) has = active_case row row.phase has
-
-  serial_case : (n : ℕ) → BurstCase p at new_unit (serial_outcome u p s n)
-  serial_case n =
-      by_test (BurstCase p at new_unit) (list_any (same_serial s) p.config.admitted) _ _
-      (λ admitted. admitted_case n (get p.rows s) refl)
-      (λ foreign. refused u p at new_unit refusal.NotAdmitted)
-
-search_case : (u : ℕ) (p : PortState) (at n : ℕ) (m : Up) → BurstCase p at (Some m) (search_outcome u p n m)
-search_case u p at n (up.SerialNumber onu s random flags) =
-    by_test (BurstCase p at (Some (up.SerialNumber onu s random flags))) (onu == 255) _ _
-    (λ unassigned.
-    subst (λ (x : ℕ). BurstCase p at (Some (up.SerialNumber x s random flags)) (serial_outcome u p s n)) (sym (eqb-true onu 255 unassigned)) (serial_case u p at s random flags n))
-    (λ assigned. refused u p at (Some (up.SerialNumber onu s random flags)) refusal.WrongWindow)
-search_case u p at n m = refused u p at (Some m) refusal.WrongWindow
-
--- a message in the window of the ranging unit with the ONU-ID n
-module _ (u : ℕ) (p : PortState) (at n : ℕ) (asked : AsksToRange p.window n) where
-  measured_case : (s : Serial) (random flags : ℕ) → HasOnuId p s n → BurstCase p at (Some (up.SerialNumber n s random flags)) (measured_outcome u p at s n)
-  measured_case s random flags active =
-      by_test (BurstCase p at (Some (up.SerialNumber n s random flags))) (nat_lt p.config.teqd at) _ _
-      (λ far. quiet (record { reply = tt; sent = refl; owed = refl; rows = refl; config = refl }))
-      (λ near.
-      by_test (BurstCase p at (Some (up.SerialNumber n s random flags))) (has_room p) _ _
-      (λ room. ranged s n random flags refl (record { asked = asked; active = active; near = ltb-false p.config.teqd at near; reply = refl; sent = refl; owed = refl; rows = refl; config = refl }))
-      (λ full. refused u p at (Some (up.SerialNumber n s random flags)) refusal.Busy))
-
-  row_case : (s : Serial) (random flags : ℕ) (row : Option Row) → get p.rows s ≡ row → BurstCase p at (Some (up.SerialNumber n s random flags)) (row_outcome u p at n s row)
-  row_case s random flags None has = refused u p at (Some (up.SerialNumber n s random flags)) refusal.WrongWindow
-  row_case s random flags (Some row) has =
-      by_test (BurstCase p at (Some (up.SerialNumber n s random flags))) (row.onu == n) _ _
-      (λ same. measured_case s random flags (row, has, eqb-true row.onu n same))
-      (λ other. refused u p at (Some (up.SerialNumber n s random flags)) refusal.WrongWindow)
-
-  asked_case : (m : Up) → octet1_of m ≡ n → BurstCase p at (Some m) (asked_outcome u p at n m)
-  asked_case (up.SerialNumber onu s random flags) same =
-      subst (λ (x : ℕ). BurstCase p at (Some (up.SerialNumber x s random flags)) (row_outcome u p at n s (get p.rows s))) (sym same) (row_case s random flags (get p.rows s) refl)
-  asked_case m same = quiet (record { reply = tt; sent = refl; owed = refl; rows = refl; config = refl })
-
-  range_case : (m : Up) → BurstCase p at (Some m) (range_outcome u p at n m)
-  range_case m =
-      by_test (BurstCase p at (Some m)) (octet1_of m == n) _ _
-      (λ same. asked_case m (eqb-true (octet1_of m) n same))
-      (λ other. refused u p at (Some m) refusal.WrongWindow)
-
-pub burst_case : (u : ℕ) (p : PortState) (at : ℕ) (heard : Option Up) (n : ℕ) → BurstCase p at heard (burst_outcome u p at heard n)
-burst_case u p at heard n = by_window p.window refl
-  where
-    by_grant : (grant : Grant) → ((onu : ℕ) → grant ≡ Range onu → AsksToRange p.window onu) → (h : Option Up) → BurstCase p at h (heard_outcome u p at n grant h)
-    by_grant grant asked None = refused u p at None refusal.Garbled
-    by_grant Search asked (Some m) = search_case u p at n m
-    by_grant (Range onu) asked (Some m) = range_case u p at onu (asked onu refl) m
-    by_grant (Poll onu) asked (Some m) = refused u p at (Some m) refusal.WrongWindow
-
-    by_window : (w : Option WindowState) → p.window ≡ w → BurstCase p at heard (window_outcome u p at heard n w)
-    by_window None is = quiet (record { reply = tt; sent = refl; owed = refl; rows = refl; config = refl })
-    by_window (Some v) is = by_grant v.grant (λ onu range. subst (λ (w : Option WindowState). AsksToRange w onu) (sym is) range) heard
-
 -- ---- frames
-
--- the timer changes nothing but itself and whether a search is wanted
-timed : (p : PortState) → (timer : ℕ) × (wanted : Bool) × (state_after_timer p ≡ record p { timer = timer; wanted = wanted })
-timed p = by_tests (runs_timer p) (p.timer + 1 == p.config.search_period)
-  where
-    by_tests : (runs full : Bool) → (timer : ℕ) × (wanted : Bool) × (cond runs (cond full (record p { timer = 0; wanted = true }) (record p { timer = p.timer + 1 })) p ≡ record p { timer = timer; wanted = wanted })
-    by_tests true true = (0, true, refl)
-    by_tests true false = (p.timer + 1, p.wanted, refl)
-    by_tests false full = (p.timer, p.wanted, refl)
 
 -- what a decision changes in a state b, whose common state is given beside it
 record Decides (b : PortState) (common : Common) (q : PortState) : Type 0 where
@@ -263,12 +143,12 @@ module _ (u : ℕ) (p : PortState) (ranging : Option ℕ) where
         config = refl;
       }
 
-  pub frame_case : IsFrame p (frame_outcome u p ranging)
+  frame_case : OfEachFrame (IsFrame p) u p ranging
   frame_case =
-      let t = timed p in
-      by_test (IsFrame p) (is_idle p) _ _
-      (λ idle. subst (λ (x : PortState). IsFrame p (deciding x)) (sym t.2) (deciding_case t.0 t.1))
-      (λ busy. subst (λ (x : PortState). IsFrame p (waiting x)) (sym t.2) (waiting_case t.0 t.1))
+      record {
+        deciding = λ shut nothing. by_timer (λ (t : PortState). IsFrame p (deciding t)) p deciding_case;
+        waiting = by_timer (λ (t : PortState). IsFrame p (waiting t)) p waiting_case;
+      }
 
 -- ---- every step
 
@@ -279,21 +159,66 @@ pub data StepCase (p : PortState) (e : Event) (o : Outcome) : Type 0 where
   told : (s : Serial) (n : ℕ) → HearsSerial p e 255 s → IsTold p s n o → StepCase p e o
   ranged : (at : ℕ) (bytes : List ℕ) (s : Serial) (n random flags : ℕ) → e ≡ event.Burst at bytes → ReadsUp bytes (mask_value p.config.mask) (up.SerialNumber n s random flags) → IsRanged p at s n o → StepCase p e o
 
-burst_step : (p : PortState) (at : ℕ) (bytes : List ℕ) (heard : Option Up) (o : Outcome) → Hears (mask_value p.config.mask) bytes heard → BurstCase p at heard o → StepCase p (event.Burst at bytes) o
-burst_step p at bytes heard o hears (BurstCase.quiet h) = StepCase.quiet h
-burst_step p at bytes heard o hears (BurstCase.told s n random flags is h) =
-    StepCase.told s n (random, flags, subst (λ (x : Option Up). Hears (mask_value p.config.mask) bytes x) is hears) h
-burst_step p at bytes heard o hears (BurstCase.ranged s n random flags is h) =
-    StepCase.ranged at bytes s n random flags refl (subst (λ (x : Option Up). Hears (mask_value p.config.mask) bytes x) is hears) h
+-- an outcome that leaves all but the window, and whether a search is wanted, as it was
+quiet_outcome : (u : ℕ) (p : PortState) (w : Option WindowState) (wanted : Bool) (r : Reply) → IsQuietReply r → IsQuiet p (bare_outcome u (record p { window = w; wanted = wanted }) r)
+quiet_outcome u p w wanted r quiet_reply = record { reply = quiet_reply; sent = refl; owed = refl; rows = refl; config = refl }
 
-command_case : (u : ℕ) (p : PortState) (e : Event) (b : Bool) → StepCase p e (cond b (bare_outcome u p (reply.Refused refusal.AlreadySearching)) (bare_outcome u (record p { wanted = true }) reply.Searching))
-command_case u p e true = StepCase.quiet (record { reply = tt; sent = refl; owed = refl; rows = refl; config = refl })
-command_case u p e false = StepCase.quiet (record { reply = tt; sent = refl; owed = refl; rows = refl; config = refl })
+not_none : (row : Row) → None ≡ Some row → ⊥
+not_none row h = cc
+
+one_row : (row other : Row) → Some row ≡ Some other → other.onu ≡ row.onu
+one_row row other h = let same : row ≡ other = cc in ap (λ (r : Row). r.onu) (sym same)
+
+-- a burst whose octets are read as `heard`
+module _ (u : ℕ) (p : PortState) (at : ℕ) (bytes : List ℕ) (heard : Option Up) (hears : Hears (mask_value p.config.mask) bytes heard) where
+  abbrev e : Event
+  e = event.Burst at bytes
+
+  reads : (m : Up) → heard ≡ Some m → ReadsUp bytes (mask_value p.config.mask) m
+  reads m is = subst (λ (h : Option Up). Hears (mask_value p.config.mask) bytes h) is hears
+
+  hears_serial : (s : Serial) → IsFromSearch p heard s → HearsSerial p e 255 s
+  hears_serial s from = (from.random, from.flags, reads (up.SerialNumber 255 s from.random from.flags) from.read)
+
+  asks : (m : ℕ) (s : Serial) → IsFromRange p heard m s → AsksToRange p.window m
+  asks m s from = subst (λ (w : Option WindowState). AsksToRange w m) (sym from.opened) from.asked
+
+  quiet_case : (w : Option WindowState) (r : Reply) → IsQuietReply r → StepCase p e (bare_outcome u (record p { window = w }) r)
+  quiet_case w r quiet_reply = StepCase.quiet (quiet_outcome u p w p.wanted r quiet_reply)
+
+  abbrev seen : Option WindowState
+  seen = (state_seen p).window
+
+  burst_case : (n : ℕ) → OfEachBurst (StepCase p e) u p at heard n
+  burst_case n =
+      record {
+        stray = quiet_case p.window (reply.Refused refusal.Stray) tt;
+        refused = λ r. quiet_case seen (reply.Refused r) tt;
+        found = λ s from joins.
+            StepCase.told s n (hears_serial s from)
+            (record { same = λ row has. absurd (not_none row (sym joins.unknown ∙ has)); reply = inl refl; sent = refl; owed = refl; rows = refl; config = refl });
+        repeated = λ s row has. quiet_case p.window (reply.Repeat row.onu) tt;
+        again = λ s row from has room.
+            StepCase.told s row.onu (hears_serial s from)
+            (record { same = λ other there. one_row row other (sym has ∙ there); reply = inr refl; sent = refl; owed = refl; rows = refl; config = refl });
+        too_far = λ m. quiet_case seen (reply.TooFar m) tt;
+        still_ranging = λ m. quiet_case seen (reply.StillRanging m) tt;
+        ranged = λ m s from near room.
+            StepCase.ranged at bytes s m from.random from.flags refl (reads (up.SerialNumber m s from.random from.flags) from.read)
+            (record { asked = asks m s from; active = (from.row, from.has, from.same); near = near; reply = refl; sent = refl; owed = refl; rows = refl; config = refl });
+      }
+
+command_case : (u : ℕ) (p : PortState) (e : Event) (c : Command) → StepCase p e (command_outcome u p c)
+command_case u p e command.Search =
+    by_test (StepCase p e) (p.wanted || is_acquiring p.common) _ _
+    (λ busy. StepCase.quiet (quiet_outcome u p p.window p.wanted (reply.Refused refusal.AlreadySearching) tt))
+    (λ free. StepCase.quiet (quiet_outcome u p p.window true reply.Searching tt))
 
 pub step_case : (u : ℕ) (p : PortState) (e : Event) (o : Outcome) → Step u p e o → StepCase p e o
-step_case u p event.Frame o h = subst (λ (x : Outcome). StepCase p event.Frame x) (sym h.2) (StepCase.frame (frame_case u p h.0))
+step_case u p event.Frame o h =
+    subst (λ (x : Outcome). StepCase p event.Frame x) (sym h.2) (StepCase.frame (of_each_frame (IsFrame p) u p h.0 (frame_case u p h.0)))
 step_case u p (event.Burst at bytes) o h =
-    subst (λ (x : Outcome). StepCase p (event.Burst at bytes) x) (sym h.3)
-    (burst_step p at bytes h.0 (burst_outcome u p at h.0 (number_in o.answer.reply)) h.1 (burst_case u p at h.0 (number_in o.answer.reply)))
-step_case u p (event.Command command.Search) o h =
-    subst (λ (x : Outcome). StepCase p (event.Command command.Search) x) (sym h) (command_case u p (event.Command command.Search) (p.wanted || is_acquiring p.common))
+    let e = event.Burst at bytes in
+    let n = number_in o.answer.reply in
+    subst (λ (x : Outcome). StepCase p e x) (sym h.3) (of_each_burst (StepCase p e) u p at h.0 n (burst_case u p at bytes h.0 h.1 n))
+step_case u p (event.Command c) o h = subst (λ (x : Outcome). StepCase p (event.Command c) x) (sym h) (command_case u p (event.Command c) c)

@@ -13,3 +13,4 @@ pub mod Runs
 pub mod Messages
 pub mod OnuIds
 pub mod Delays
+pub mod Worked

@@ -42,7 +42,7 @@ impl Admitted {
     pub fn as_slice(&self) -> &[Serial]
         ensures { result.now ≡ self.now }
     {
-        self.serials.as_slice()
+        &self.serials
     }
 
     pub fn len(&self) -> usize

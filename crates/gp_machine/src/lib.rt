@@ -1,5 +1,5 @@
 //! The activation machine of one port after G.984.3, clause 10: its plain types here, its states,
-//! steps and runs in `specs/`, and the laws of a step.
+//! steps and runs in `specs/`, and the laws of single steps and of whole runs.
 #![tactic(auto)]
 
 mod admitted;
@@ -25,5 +25,5 @@ pub use row::{Phase, Row};
 pub use runs::{
     every_state_is_sound, keeps_configuration, no_shared_onu_id, ranged_with_what_is_left,
     runs_in_parts, runs_keep_licences, sends_each_message_three_times, sends_only_proper_messages,
-    tells_each_unit_its_onu_id,
+    tells_each_unit_its_onu_id, worked_runs,
 };

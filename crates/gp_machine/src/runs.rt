@@ -2,6 +2,7 @@ ghost use Rattle.gp_machine.specs.Runs.{RunsInParts, EveryStateIsSound, KeepsCon
 ghost use Rattle.gp_machine.specs.OnuIds.{NoSharedOnuId, OnlyAdmittedUnits, AtMostMaxUnits, KeepsOnuIds, AssignsWhatUnitsHave, AssignsOneToOne};
 ghost use Rattle.gp_machine.specs.Messages.{EveryRunOwes, SendsEachThreeTimes, SendsWhatWasOwedFirst, KeepsProperMessages, SendsOnlyProperMessages};
 ghost use Rattle.gp_machine.specs.Delays.{RangesWithWhatIsLeft, OperatesWithWhatWasMeasured};
+ghost use Rattle.gp_machine.specs.Worked.{OneUnit, RepeatedAnswer, PeriodicSearch, DelayLimits};
 
 use super::one_step::{sound_step, step_keeps_licences};
 use gp_ploam::up_read_once;
@@ -71,4 +72,12 @@ pub fn ranged_with_what_is_left()
 pub fn sends_only_proper_messages()
     ensures run { SendsOnlyProperMessages }
     ensures step { KeepsProperMessages }
+{}
+
+/// Runs that were worked out by hand are runs of the machine.
+pub fn worked_runs()
+    ensures one_unit { OneUnit }
+    ensures repeated_answer { RepeatedAnswer }
+    ensures periodic_search { PeriodicSearch }
+    ensures delay_limits { DelayLimits }
 {}

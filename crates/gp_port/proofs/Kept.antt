@@ -88,10 +88,10 @@ burst_sends_nothing u p at heard n =
     (record {
       stray = refl;
       refused = λ refusal. refl;
-      found = λ w opened search s admitted none few some room. refl;
+      found = λ s from joins. refl;
       repeated = λ s row has. refl;
-      again = λ w opened search s row has room. refl;
+      again = λ s row from has room. refl;
       too_far = λ m. refl;
       still_ranging = λ m. refl;
-      ranged = λ w m opened range s row has same near room. refl;
+      ranged = λ m s from near room. refl;
     })

@@ -7,17 +7,19 @@ ghost use Rattle.gp_machine.specs.Burst.{is_assign};
 
 use gp_ploam::{Down, Serial};
 use std::alloc::{AllocError, Global};
+use std::collections::VecDeque;
 use std::marker::Model;
 
 /// The copies of messages that a port owes, in the order in which they are sent. Contracts see them as a
 /// list. Each of them has a code.
 #[derive(Drop)]
 pub struct Copies {
-    copies: Vec<Down>,
+    copies: VecDeque<Down>,
 }
 
 impl Model for Copies {
-    ghost use Rattle.std.specs.Prelude.{All, List, vec_capacity, ◌≤◌};
+    ghost use Rattle.std.specs.Prelude.{All, List, ◌≤◌};
+    ghost use Rattle.std.specs.VecDeque.{deque_capacity};
     ghost use Rattle.gp_ploam.specs.declared.message.Down.{Down};
     ghost use Rattle.gp_ploam.specs.Down.{IsProperDown};
 
@@ -25,7 +27,7 @@ impl Model for Copies {
 
     ghost view = { λ a. a.copies.items };
 
-    ghost invariant = { λ a. (192 ≤ vec_capacity a.copies) × All IsProperDown a.copies.items };
+    ghost invariant = { λ a. (192 ≤ deque_capacity a.copies) × All IsProperDown a.copies.items };
 }
 
 impl Copies {
@@ -33,7 +35,7 @@ impl Copies {
     pub fn begin(alloc: Global) -> Result<Copies, AllocError>
         ensures { IfOk result (λ owed. owed ≡ []) }
     {
-        let copies = Vec::with_capacity(alloc, 192)?;
+        let copies = VecDeque::with_capacity(alloc, 192)?;
         Ok(Copies { copies })
     }
 
@@ -55,9 +57,9 @@ impl Copies {
         requires proper { IsProperDown message }
         ensures { self.new ≡ self.old ++ message ∷ message ∷ message ∷ [] }
     {
-        self.copies.push_reserved(message);
-        self.copies.push_reserved(message);
-        self.copies.push_reserved(message);
+        self.copies.push_back_reserved(message);
+        self.copies.push_back_reserved(message);
+        self.copies.push_back_reserved(message);
     }
 
     /// Takes out the first copy.
@@ -66,24 +68,17 @@ impl Copies {
         ensures rest { self.new ≡ rest_of self.old }
         ensures proper { ForSome result IsProperDown }
     {
-        if self.copies.is_empty() {
-            return None;
-        }
-        Some(self.copies.remove(0))
+        self.copies.pop_front()
     }
 
     /// Whether the unit is still to be told its ONU-ID.
     pub fn owes_assign(&self, onu: u8, serial: &Serial) -> bool
         ensures { result ≡ list_any (is_assign onu serial.now) self.now }
     {
-        is_assign_among(onu, serial, &self.copies)
+        self.copies
+            .iter()
+            .any(|message| assigns(message, onu, serial))
     }
-}
-
-fn is_assign_among(onu: u8, serial: &Serial, copies: &[Down]) -> bool
-    ensures { result ≡ list_any (is_assign onu serial.now) copies.now }
-{
-    copies.iter().any(|message| assigns(message, onu, serial))
 }
 
 fn assigns(message: &Down, onu: u8, serial: &Serial) -> bool

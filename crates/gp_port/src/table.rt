@@ -16,14 +16,16 @@ use std::marker::Model;
 #[derive(Drop)]
 pub struct UnitTable {
     rows: Vec<(Serial, Row)>,
+    /// The least ONU-ID of a ranging unit: each frame asks for it, and only a few bursts change it.
+    least: Option<u8>,
 }
 
 impl Model for UnitTable {
-    ghost use Rattle.std.specs.Prelude.{vec_capacity, ◌≤◌};
+    ghost use Rattle.std.specs.Prelude.{vec_capacity, ◌≡◌, ◌≤◌, None};
     ghost use Rattle.std.specs.FinMap as map;
     ghost use Rattle.gp_machine.specs.declared.row.Row.{Row};
     ghost use Rattle.gp_ploam.specs.Serials.{serial_cmp, coded_serial};
-    ghost use Rattle.gp_port.specs.Listed.{IsApart};
+    ghost use Rattle.gp_port.specs.Listed.{IsApart, least_from};
     ghost use Rattle.gp_machine.specs.contracts.row.Row as row;
 
     ghost Value = { map.FinMap serial_cmp Row };
@@ -32,7 +34,7 @@ impl Model for UnitTable {
 
     ghost view = { λ a. map.from_entries a.rows.items };
 
-    ghost invariant = { λ a. IsApart a.rows.items × (254 ≤ vec_capacity a.rows) };
+    ghost invariant = { λ a. IsApart a.rows.items × (254 ≤ vec_capacity a.rows) × (a.least ≡ least_from None a.rows.items) };
 }
 
 impl UnitTable {
@@ -41,7 +43,7 @@ impl UnitTable {
         ensures { IfOk result (λ t. t ≡ map.empty) }
     {
         let rows = Vec::with_capacity(alloc, 254)?;
-        Ok(UnitTable { rows })
+        Ok(UnitTable { rows, least: None })
     }
 
     pub fn len(&self) -> usize
@@ -62,13 +64,14 @@ impl UnitTable {
         ensures { self.new ≡ map.insert self.old serial row }
     {
         put_row(&mut self.rows, serial, row);
+        self.least = least_ranging(&self.rows);
     }
 
     /// The least ONU-ID of a ranging unit.
     pub fn least_ranging(&self) -> Option<u8>
         ensures { IsLeastRanging self.now result }
     {
-        least_ranging(&self.rows)
+        self.least
     }
 
     /// An ONU-ID that no unit has: the least one.
