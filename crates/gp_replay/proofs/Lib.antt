@@ -1,4 +1,6 @@
 pub mod SinkLemmas
 pub mod TurnLemmas
+pub mod RoomLemmas
+pub mod ScriptLemmas
 pub mod LawLemmas
 pub mod OutcomeLemmas

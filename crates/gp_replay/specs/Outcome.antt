@@ -2,14 +2,11 @@
 use Rattle.std.specs.Prelude.{◌≡◌, ℕ, ◌≤◌, List, length, Ok, Err}
 use Rattle.gp_machine.specs.declared.entry.Receipt.{Receipt}
 use Rattle.gp_stream.specs.Source.{SourceState, ReadsWhole}
-use Rattle.gp_stream.specs.Sink.{SinkState, TakesFront, writer_of, gathered_of}
+use Rattle.gp_stream.specs.Sink.{SinkState, TakesFront}
 use Rattle.gp_stream.specs.declared.reading.TheConstants.{MOST_BYTES}
-use Rattle.gp_stream.specs.declared.sink.Sink.{Sink}
 use Rattle.gp_script.specs.declared.fault.ScriptFault.{ScriptFault}
 use Rattle.gp_script.specs.Script.{ScriptView, script_of}
 use Rattle.gp_trace.specs.Text.{trace_text}
-use Rattle.gp_replay.specs.declared.fault.RunFault.{RunFault}
-use Rattle.gp_replay.specs.declared.fault.RunFault.TheVariants as runs
 use Rattle.gp_replay.specs.Play.{PlaysFront}
 use Rattle.gp_replay.specs.Writing.{WritesScript}
 
@@ -41,17 +38,3 @@ pub record LeavesFront (before after : SourceState) (old new : SinkState) : Type
   pub receipts : List Receipt
   pub plays : PlaysFront script receipts
   pub written : TakesFront old new (trace_text script.mask receipts)
-
--- the sink was handed nothing, and its writer got nothing
-pub record IsUntouched {W : Type 0} (old new : Sink W) : Type 0 where
-  pub writer : writer_of new ≡ writer_of old
-  pub gathered : gathered_of new ≡ gathered_of old
-
--- the fault is one of the input, found before the first event is played
-abbrev pub IsOfInput : RunFault → Type 0
-IsOfInput runs.Read = Unit {0}
-IsOfInput runs.TooLong = Unit {0}
-IsOfInput (runs.Script fault) = Unit {0}
-IsOfInput runs.OutOfMemory = ⊥
-IsOfInput runs.Write = ⊥
-IsOfInput runs.Mismatch = ⊥

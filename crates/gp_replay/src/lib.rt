@@ -3,12 +3,12 @@
 
 mod fault;
 mod law;
+mod line_buffer;
 mod playing;
 mod replaying;
 mod report;
 mod terminal;
 mod turn;
-mod writing;
 
 pub use fault::RunFault;
 pub use law::{each_port_runs, licences_are_kept};

@@ -1,4 +1,4 @@
-ghost use Rattle.std.specs.Prelude.{◌≡◌, ◌≢◌, ◌<◌, ◌≤◌, ◌⊎◌, ◌↔◌, ℕ, List, All, IfErr, OnOk, OnErr, IsTrue, Err, Some, true, length, vec_len};
+ghost use Rattle.std.specs.Prelude.{◌≡◌, ◌≢◌, ◌<◌, ◌≤◌, ◌⊎◌, ◌↔◌, ℕ, List, All, IfErr, OnOk, IsTrue, Err, true, false, length, vec_len};
 ghost use Rattle.gp_machine.specs.Config.{is_within_limits};
 ghost use Rattle.gp_script.specs.declared.fault.ScriptFault.{ScriptFault as AnyScriptFault};
 ghost use Rattle.gp_script.specs.Script.{script_of};
@@ -8,9 +8,10 @@ ghost use Rattle.gp_stream.specs.Sink.{sink_state, has_stopped};
 ghost use Rattle.gp_replay.specs.Terminal.{opening_terminal};
 ghost use Rattle.gp_replay.specs.Play.{all_turns};
 ghost use Rattle.gp_replay.specs.Writing.{WritesFront, WritesScript};
-ghost use Rattle.gp_replay.specs.Outcome.{IsOfInput, IsUntouched, LeavesFront, ReadsFault, WritesTrace};
+ghost use Rattle.gp_replay.specs.Outcome.{LeavesFront, ReadsFault, WritesTrace};
 
 use super::fault::{PlayFault, RunFault};
+use super::line_buffer::LineBuffer;
 use super::playing::play_events;
 use super::terminal::Terminal;
 use gp_script::Script;
@@ -32,14 +33,17 @@ fn play_on<L: Ledger, W: Write>(
     requires licences { script.now.licences ≤ 4064 }
     requires limits { All (λ config. IsTrue (is_within_limits config)) script.now.ports.items }
     requires events { All (λ e. event_port e < vec_len script.now.ports) script.now.events.items }
+    requires few { length script.now.events.items ≤ 1048576 }
     ensures ok { OnOk result (WritesScript (script_view script.now) (sink_state W.contents sink.old) (sink_state W.contents sink.new)) }
-    ensures err { OnErr result (WritesFront script.now.mask (opening_terminal (script_view script.now)) (all_turns script.now.events.items) (sink_state W.contents sink.old) (sink_state W.contents sink.new)) }
+    ensures finished { OnOk result (has_stopped sink.new ≡ false) }
+    ensures front { result ≡ Err PlayFault.Write → WritesFront script.now.mask (opening_terminal (script_view script.now)) (all_turns script.now.events.items) (sink_state W.contents sink.old) (sink_state W.contents sink.new) }
     ensures write { result ≡ Err PlayFault.Write → has_stopped sink.new ≡ true }
+    ensures memory { result ≡ Err PlayFault.OutOfMemory → sink.new ≡ sink.old }
 {
+    let mut buffer = LineBuffer::new(alloc)?;
     let mut terminal = Terminal::<L>::begin(alloc, blank, script)?;
-    let mut line = Vec::new(alloc);
     let events = script.events.as_slice();
-    let outcome = play_events(&mut terminal, sink, &mut line, script.mask, events);
+    let outcome = play_events(&mut terminal, sink, &mut buffer, script.mask, events);
     terminal.close();
     outcome?;
     sink.finish()?;
@@ -55,15 +59,18 @@ fn play_script<W: Write>(
     requires licences { script.now.licences ≤ 4064 }
     requires limits { All (λ config. IsTrue (is_within_limits config)) script.now.ports.items }
     requires events { All (λ e. event_port e < vec_len script.now.ports) script.now.events.items }
+    requires few { length script.now.events.items ≤ 1048576 }
     ensures ok { OnOk result (WritesScript (script_view script.now) (sink_state W.contents sink.old) (sink_state W.contents sink.new)) }
-    ensures err { OnErr result (WritesFront script.now.mask (opening_terminal (script_view script.now)) (all_turns script.now.events.items) (sink_state W.contents sink.old) (sink_state W.contents sink.new)) }
+    ensures finished { OnOk result (has_stopped sink.new ≡ false) }
+    ensures front { result ≡ Err PlayFault.Write → WritesFront script.now.mask (opening_terminal (script_view script.now)) (all_turns script.now.events.items) (sink_state W.contents sink.old) (sink_state W.contents sink.new) }
     ensures write { result ≡ Err PlayFault.Write → has_stopped sink.new ≡ true }
+    ensures memory { result ≡ Err PlayFault.OutOfMemory → sink.new ≡ sink.old }
 {
     play_on::<Brand, W>(alloc, Blank::new(4064), script, sink)
 }
 
 /// Reads a script to the end of the source, plays it, and writes its trace, all of it or up to the
-/// first fault.
+/// first fault. All memory is taken before the first event is played.
 ///
 /// What the sink gathered before goes out first. A source or a sink that has failed already answers
 /// `Read` or `Write`.
@@ -73,6 +80,7 @@ pub fn run_replay<R: Read, W: Write>(
     sink: &mut Sink<W>,
 ) -> Result<(), RunFault>
     ensures ok { OnOk result (WritesTrace (source_state R.remaining source.old) (source_state R.remaining source.new) (sink_state W.contents sink.old) (sink_state W.contents sink.new)) }
+    ensures finished { OnOk result (has_stopped sink.new ≡ false) }
 
     // When each fault comes.
     ensures read { result ≡ Err RunFault.Read → let now = source_state R.remaining source.new in (now.has_failed ≡ true) ⊎ (now.reads_left ≡ 0) }
@@ -90,10 +98,8 @@ pub fn run_replay<R: Read, W: Write>(
         → result ≢ Err RunFault.OutOfMemory → length input ≤ MOST_BYTES → (script_of input ≡ Err fault) ↔ (result ≡ Err (RunFault.Script fault)) }
 
     // What a fault leaves written.
-    ensures untouched { IfErr result (λ fault. IsOfInput fault → IsUntouched sink.old sink.new) }
+    ensures untouched { IfErr result (λ fault. fault ≢ RunFault.Write → sink.new ≡ sink.old) }
     ensures front { result ≡ Err RunFault.Write → LeavesFront (source_state R.remaining source.old) (source_state R.remaining source.new) (sink_state W.contents sink.old) (sink_state W.contents sink.new) }
-    ensures memory { result ≡ Err RunFault.OutOfMemory
-        → IsUntouched sink.old sink.new ⊎ LeavesFront (source_state R.remaining source.old) (source_state R.remaining source.new) (sink_state W.contents sink.old) (sink_state W.contents sink.new) }
 {
     let bytes = gp_stream::read_all(alloc, source)?;
     let script = gp_script::read_script(alloc, bytes.as_slice())?;

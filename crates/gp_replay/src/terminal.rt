@@ -1,10 +1,10 @@
-ghost use Rattle.std.specs.Prelude.{◌≡◌, ◌+◌, ◌≤◌, ◌<◌, ◌^◌, All, IfOk, IsTrue, OnErr, length, sum_by, vec_len};
+ghost use Rattle.std.specs.Prelude.{◌≡◌, ◌+◌, ◌≤◌, ◌<◌, ◌^◌, All, IfOk, IsTrue, length, sum_by, vec_len};
 ghost use Rattle.std.specs.Option.{ForSome};
 ghost use Rattle.gp_ploam.specs.Down.{IsProperDown};
 ghost use Rattle.gp_machine.specs.Config.{is_within_limits};
 ghost use Rattle.gp_machine.specs.Run.{IsStep};
 ghost use Rattle.gp_script.specs.View.{script_view};
-ghost use Rattle.gp_replay.specs.Terminal.{licences_of, opened_port, opening_terminal, total_licences};
+ghost use Rattle.gp_replay.specs.Terminal.{HasRoom, licences_of, opened_port, opening_terminal, total_licences};
 ghost use Rattle.gp_replay.specs.Play.{TakesTurn, purse_of};
 
 use super::turn::Turn;
@@ -134,27 +134,22 @@ impl<L: Ledger> Terminal<L> {
 
     /// One event of one port. A burst takes one licence where one is free, and gives back what it
     /// does not use.
-    ///
-    /// Entries are counted in 64 bits; where they can't be counted on, that is want of memory.
-    pub(crate) fn take_turn(&mut self, turn: Turn) -> Result<Receipt, AllocError>
-        requires { turn.port < length self.old.ports }
-        ensures ok { IfOk result (λ receipt. TakesTurn self.old turn receipt self.new) }
-        ensures proper { IfOk result (λ receipt. ForSome receipt.entry.answer.sent IsProperDown) }
-        ensures err { OnErr result (self.new ≡ self.old) }
+    pub(crate) fn take_turn(&mut self, turn: Turn) -> Receipt
+        requires port { turn.port < length self.old.ports }
+        requires room { HasRoom 1 self.old }
+        ensures taken { TakesTurn self.old turn result self.new }
+        ensures proper { ForSome result.entry.answer.sent IsProperDown }
         ensures ports { length self.new.ports ≡ length self.old.ports }
     {
         let port = &mut self.ports[turn.port as usize];
-        if port.next == u64::MAX {
-            return Err(AllocError);
-        }
         let purse = take_purse(&mut self.book, &turn.event);
         let (number, entry, rest) = port.step(purse, turn.event);
         self.book.give(rest);
-        Ok(Receipt {
+        Receipt {
             port: turn.port,
             number,
             entry,
-        })
+        }
     }
 
     /// Closes the ports and the book: all licences that there are.

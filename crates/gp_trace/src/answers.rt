@@ -12,7 +12,8 @@ use gp_serial::SerialText;
 use std::alloc::AllocError;
 
 fn refusal_name(refusal: Refusal) -> &'static str
-    ensures { result.now ≡ refusal_name refusal }
+    ensures name { result.now ≡ refusal_name refusal }
+    ensures short { length result.now ≤ 17 }
 {
     match refusal {
         Refusal::Stray => "stray",
@@ -27,7 +28,8 @@ fn refusal_name(refusal: Refusal) -> &'static str
 }
 
 fn alarm_name(kind: AlarmKind) -> &'static str
-    ensures { result.now ≡ alarm_name kind }
+    ensures name { result.now ≡ alarm_name kind }
+    ensures short { length result.now ≤ 4 }
 {
     match kind {
         AlarmKind::Los => "LOS",
@@ -44,6 +46,8 @@ fn push_numbered(out: &mut Vec<u8>, word: &str, number: u64) -> Result<(), Alloc
     ensures ok { OnOk result (out.new.items ≡ out.old.items ++ word.now ++ codes " " ++ decimal number) }
     ensures full { OnErr result (vec_capacity out.old < vec_len out.old + length (word.now ++ codes " " ++ decimal number)) }
     ensures capacity { vec_capacity out.old ≤ vec_capacity out.new }
+    ensures short { OnOk result (length (word.now ++ codes " " ++ decimal number) ≤ length word.now + 21) }
+    ensures room { OnErr result (vec_capacity out.old < vec_len out.old + length word.now + 21) }
 {
     out.extend_from_slice(word.as_bytes())?;
     out.extend_from_slice(b" ")?;
@@ -54,6 +58,8 @@ fn push_refusal(out: &mut Vec<u8>, refusal: Refusal) -> Result<(), AllocError>
     ensures ok { OnOk result (out.new.items ≡ out.old.items ++ reply_text (Reply.Refused refusal)) }
     ensures full { OnErr result (vec_capacity out.old < vec_len out.old + length (reply_text (Reply.Refused refusal))) }
     ensures capacity { vec_capacity out.old ≤ vec_capacity out.new }
+    ensures short { OnOk result (length (reply_text (Reply.Refused refusal)) ≤ 46) }
+    ensures room { OnErr result (vec_capacity out.old < vec_len out.old + 46) }
 {
     push_numbered(out, "refused", u64::from(refusal.number()))?;
     out.extend_from_slice(b" ")?;
@@ -64,6 +70,8 @@ fn push_ranged(out: &mut Vec<u8>, onu: u8, eqd: u32) -> Result<(), AllocError>
     ensures ok { OnOk result (out.new.items ≡ out.old.items ++ reply_text (Reply.Ranged onu eqd)) }
     ensures full { OnErr result (vec_capacity out.old < vec_len out.old + length (reply_text (Reply.Ranged onu eqd))) }
     ensures capacity { vec_capacity out.old ≤ vec_capacity out.new }
+    ensures short { OnOk result (length (reply_text (Reply.Ranged onu eqd)) ≤ 48) }
+    ensures room { OnErr result (vec_capacity out.old < vec_len out.old + 48) }
 {
     push_numbered(out, "ranged", u64::from(onu))?;
     out.extend_from_slice(b" ")?;
@@ -75,6 +83,8 @@ fn push_reply(out: &mut Vec<u8>, reply: &Reply) -> Result<(), AllocError>
     ensures ok { OnOk result (out.new.items ≡ out.old.items ++ reply_text reply.now) }
     ensures full { OnErr result (vec_capacity out.old < vec_len out.old + length (reply_text reply.now)) }
     ensures capacity { vec_capacity out.old ≤ vec_capacity out.new }
+    ensures short { OnOk result (length (reply_text reply.now) ≤ 48) }
+    ensures room { OnErr result (vec_capacity out.old < vec_len out.old + 48) }
 {
     match *reply {
         Reply::Ticked => out.extend_from_slice(b"ok"),
@@ -95,6 +105,8 @@ fn push_sent(out: &mut Vec<u8>, mask: Mask, sent: &Option<Down>) -> Result<(), A
     ensures ok { OnOk result (out.new.items ≡ out.old.items ++ sent_text mask sent.now) }
     ensures full { OnErr result (vec_capacity out.old < vec_len out.old + length (sent_text mask sent.now)) }
     ensures capacity { vec_capacity out.old ≤ vec_capacity out.new }
+    ensures short { OnOk result (length (sent_text mask sent.now) ≤ 32) }
+    ensures room { OnErr result (vec_capacity out.old < vec_len out.old + 32) }
 {
     if let Some(message) = sent {
         out.extend_from_slice(b" sent ")?;
@@ -108,6 +120,8 @@ fn push_grant(out: &mut Vec<u8>, grant: &Option<Grant>) -> Result<(), AllocError
     ensures ok { OnOk result (out.new.items ≡ out.old.items ++ grant_text grant.now) }
     ensures full { OnErr result (vec_capacity out.old < vec_len out.old + length (grant_text grant.now)) }
     ensures capacity { vec_capacity out.old ≤ vec_capacity out.new }
+    ensures short { OnOk result (length (grant_text grant.now) ≤ 33) }
+    ensures room { OnErr result (vec_capacity out.old < vec_len out.old + 33) }
 {
     match *grant {
         None => Ok(()),
@@ -122,6 +136,8 @@ fn push_alarm(out: &mut Vec<u8>, alarm: &Option<Alarm>) -> Result<(), AllocError
     ensures ok { OnOk result (out.new.items ≡ out.old.items ++ alarm_text alarm.now) }
     ensures full { OnErr result (vec_capacity out.old < vec_len out.old + length (alarm_text alarm.now)) }
     ensures capacity { vec_capacity out.old ≤ vec_capacity out.new }
+    ensures short { OnOk result (length (alarm_text alarm.now) ≤ 28) }
+    ensures room { OnErr result (vec_capacity out.old < vec_len out.old + 28) }
 {
     if let Some(alarm) = alarm {
         out.extend_from_slice(b" alarm ")?;
@@ -139,6 +155,8 @@ pub(crate) fn push_answer(out: &mut Vec<u8>, mask: Mask, answer: &Answer) -> Res
     ensures ok { OnOk result (out.new.items ≡ out.old.items ++ answer_text mask answer.now) }
     ensures full { OnErr result (vec_capacity out.old < vec_len out.old + length (answer_text mask answer.now)) }
     ensures capacity { vec_capacity out.old ≤ vec_capacity out.new }
+    ensures short { OnOk result (length (answer_text mask answer.now) ≤ 141) }
+    ensures room { OnErr result (vec_capacity out.old < vec_len out.old + 141) }
 {
     push_reply(out, &answer.reply)?;
     push_sent(out, mask, &answer.sent)?;

@@ -10,6 +10,8 @@ fn push_command(out: &mut Vec<u8>, command: &Command) -> Result<(), AllocError>
     ensures ok { OnOk result (out.new.items ≡ out.old.items ++ command_text command.now) }
     ensures full { OnErr result (vec_capacity out.old < vec_len out.old + length (command_text command.now)) }
     ensures capacity { vec_capacity out.old ≤ vec_capacity out.new }
+    ensures short { OnOk result (length (command_text command.now) ≤ 6) }
+    ensures room { OnErr result (vec_capacity out.old < vec_len out.old + 6) }
 {
     match command {
         Command::Search => out.extend_from_slice(b"search"),
@@ -21,6 +23,8 @@ pub(crate) fn push_event(out: &mut Vec<u8>, event: &Event) -> Result<(), AllocEr
     ensures ok { OnOk result (out.new.items ≡ out.old.items ++ event_text event.now) }
     ensures full { OnErr result (vec_capacity out.old < vec_len out.old + length (event_text event.now)) }
     ensures capacity { vec_capacity out.old ≤ vec_capacity out.new }
+    ensures short { OnOk result (length (event_text event.now) ≤ 53) }
+    ensures room { OnErr result (vec_capacity out.old < vec_len out.old + 53) }
 {
     match event {
         Event::Frame => out.extend_from_slice(b"frame"),

@@ -6,4 +6,4 @@ mod events;
 mod line;
 mod pieces;
 
-pub use line::push_line;
+pub use line::{LONGEST_LINE, push_line};

@@ -10,6 +10,9 @@ use gp_machine::Receipt;
 use gp_ploam::Mask;
 use std::alloc::AllocError;
 
+/// The most bytes that the line of an entry has.
+pub const LONGEST_LINE: usize = 256;
+
 /// Appends the line of an entry. The mask is that of the port's codes.
 #[tactic(auto, unfolding(crate::specs::Text::line_of))]
 pub fn push_line(out: &mut Vec<u8>, mask: Mask, receipt: &Receipt) -> Result<(), AllocError>
@@ -17,6 +20,8 @@ pub fn push_line(out: &mut Vec<u8>, mask: Mask, receipt: &Receipt) -> Result<(),
     ensures ok { OnOk result (out.new.items ≡ out.old.items ++ line_of mask receipt.now) }
     ensures full { OnErr result (vec_capacity out.old < vec_len out.old + length (line_of mask receipt.now)) }
     ensures capacity { vec_capacity out.old ≤ vec_capacity out.new }
+    ensures short { OnOk result (length (line_of mask receipt.now) ≤ LONGEST_LINE) }
+    ensures room { OnErr result (vec_capacity out.old < vec_len out.old + LONGEST_LINE) }
 {
     let entry = &receipt.entry;
     push_number(out, u64::from(receipt.port))?;

@@ -9,6 +9,8 @@ pub(crate) fn push_number(out: &mut Vec<u8>, number: u64) -> Result<(), AllocErr
     ensures ok { OnOk result (out.new.items ≡ out.old.items ++ decimal number) }
     ensures full { OnErr result (vec_capacity out.old < vec_len out.old + length (decimal number)) }
     ensures capacity { vec_capacity out.old ≤ vec_capacity out.new }
+    ensures short { OnOk result (length (decimal number) ≤ 20) }
+    ensures room { OnErr result (vec_capacity out.old < vec_len out.old + 20) }
 {
     let mut buffer = Buffer::new();
     out.extend_from_slice(buffer.format(number).as_bytes())
@@ -19,6 +21,8 @@ pub(crate) fn push_code(out: &mut Vec<u8>, code: &[u8; 13]) -> Result<(), AllocE
     ensures ok { OnOk result (out.new.items ≡ out.old.items ++ encode_lower code.now) }
     ensures full { OnErr result (vec_capacity out.old < vec_len out.old + length (encode_lower code.now)) }
     ensures capacity { vec_capacity out.old ≤ vec_capacity out.new }
+    ensures short { OnOk result (length (encode_lower code.now) ≤ 26) }
+    ensures room { OnErr result (vec_capacity out.old < vec_len out.old + 26) }
 {
     let mut digits = [0u8; 26];
     hex::encode_to_slice(code.as_slice(), &mut digits).unwrap();

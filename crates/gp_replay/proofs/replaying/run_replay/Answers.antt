@@ -1,22 +1,18 @@
-use Rattle.std.proofs.Common.{◌≡◌, ◌≤◌, length, Ok, rules, inr}
+use Rattle.std.proofs.Common.{◌≡◌, ◌≤◌, length, Ok, rules}
 use Rattle.gp_stream.specs.declared.reading.TheConstants.{MOST_BYTES}
 use Rattle.gp_script.specs.Script.{script_of}
 use Rattle.gp_script.specs.View.{script_view}
 use Rattle.gp_replay.proofs.OutcomeLemmas.{leaves_front}
+use Rattle.gp_replay.proofs.ScriptLemmas.{few_events}
 use Rattle.gp_replay.proofs.replaying.run_replay.Goals as goal
 
 pub returns-in_err-play_script-clause-front : goal.returns-in_err-play_script-clause-front
 returns-in_err-play_script-clause-front g c =
     let says : script_of c.in_ok-bytes.bytes.items ≡ Ok (script_view c.in_ok-script.script) = search rules in
     let short : length c.in_ok-bytes.bytes.items ≤ MOST_BYTES = search rules in
-    λ fault. leaves_front _ _ (script_view c.in_ok-script.script) _ _
+    λ told. leaves_front _ _ (script_view c.in_ok-script.script) _ _
     (record { bytes = c.in_ok-bytes.bytes.items; read = c.in_ok-bytes.ensures.whole; short = short; says = says })
-    c.in_err-play_script.ensures.err
+    (c.in_err-play_script.ensures.front (search (rules, told)))
 
-pub returns-in_err-play_script-clause-memory : goal.returns-in_err-play_script-clause-memory
-returns-in_err-play_script-clause-memory g c =
-    let says : script_of c.in_ok-bytes.bytes.items ≡ Ok (script_view c.in_ok-script.script) = search rules in
-    let short : length c.in_ok-bytes.bytes.items ≤ MOST_BYTES = search rules in
-    λ fault. inr (leaves_front _ _ (script_view c.in_ok-script.script) _ _
-    (record { bytes = c.in_ok-bytes.bytes.items; read = c.in_ok-bytes.ensures.whole; short = short; says = says })
-    c.in_err-play_script.ensures.err)
+pub play_script-requires-clause-few : goal.play_script-requires-clause-few
+play_script-requires-clause-few g c = few_events c.in_ok-bytes.bytes.items (script_view c.in_ok-script.script) (search rules)

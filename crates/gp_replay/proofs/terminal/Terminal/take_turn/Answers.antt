@@ -3,8 +3,8 @@ use Rattle.std.proofs.lemmas.Option.{slice_get_read}
 use Rattle.gp_replay.specs.Terminal.{PortStand}
 use Rattle.gp_replay.proofs.terminal.Terminal.take_turn.Goals as goal
 
-pub returns-clause-ok : goal.returns-clause-ok
-returns-clause-ok g c =
+pub returns-clause-taken : goal.returns-clause-taken
+returns-clause-taken g c =
     let ports : List PortStand = c.self.inside.ports.items in
     let same : c.args.self.now.ports ≡ ports = search rules in
     let within : c.args.turn.port < length ports = search rules in
