@@ -1,5 +1,5 @@
 -- What a source shows, and what reading it whole means.
-use Rattle.std.specs.Prelude.{◌≡◌, ◌<◌, ℕ, Bool, false, List, length, Option, Some}
+use Rattle.std.specs.Prelude.{◌≡◌, ◌<◌, ◌≤◌, ℕ, Bool, false, List, length, Option, Some}
 use Rattle.std.specs.Io.KnownBytes.{Consumes, IsAtEnd}
 use Rattle.gp_stream.specs.declared.source.Source.{Source}
 
@@ -29,6 +29,14 @@ source_state remaining s = record { remaining = remaining (reader_of s); reads_l
 pub record ReadsWhole (old new : SourceState) (bytes : List ℕ) : Type 0 where
   pub consumed : Consumes old.remaining new.remaining bytes
   pub end : IsAtEnd new.remaining
+  pub unfailed : new.has_failed ≡ false
+
+-- some bytes came, no more than the limit, and no read failed
+pub record ReadsSome (limit : ℕ) (old new : SourceState) : Type 0 where
+  pub bytes : List ℕ
+  pub consumed : Consumes old.remaining new.remaining bytes
+  pub some : 0 < length bytes
+  pub few : length bytes ≤ limit
   pub unfailed : new.has_failed ≡ false
 
 -- more than the limit came, and no read failed

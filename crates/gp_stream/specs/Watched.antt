@@ -1,5 +1,5 @@
 -- What a watched writer shows.
-use Rattle.std.specs.Prelude.{ℕ, Bool, true, Result, Ok, Err, ◌==◌}
+use Rattle.std.specs.Prelude.{ℕ, Bool, true, false, List, [], ◌∷◌, Result, Ok, Err, ◌==◌}
 use Rattle.gp_stream.specs.declared.watched.Watched.{Watched}
 
 -- the writer below
@@ -10,7 +10,8 @@ inner_of w = w.inner
 abbrev pub is_stopped : {W : Type 0} → Watched W → Bool
 is_stopped w = w.stopped
 
--- this write failed or took nothing
-abbrev pub took_nothing : {E : Type 0} → Result ℕ E → Bool
-took_nothing (Ok count) = count == 0
-took_nothing (Err e) = true
+-- there were bytes to write, and the write failed or took none of them
+abbrev pub took_nothing : {E : Type 0} → List ℕ → Result ℕ E → Bool
+took_nothing [] result = false
+took_nothing (b ∷ bs) (Ok count) = count == 0
+took_nothing (b ∷ bs) (Err e) = true

@@ -1,5 +1,5 @@
-ghost use Rattle.std.specs.Prelude.{◌≡◌, ◌≢◌, ◌<◌, ◌≤◌, ◌⊎◌, ◌↔◌, IfOk, List, ℕ, length, vec_len, true, false};
-ghost use Rattle.gp_stream.specs.Source.{source_state, ReadsWhole, ReadsTooMuch, WasReadable};
+ghost use Rattle.std.specs.Prelude.{◌≡◌, ◌≢◌, ◌<◌, ◌≤◌, ◌+◌, ◌⊎◌, ◌↔◌, IfOk, List, ℕ, length, vec_len, true, false};
+ghost use Rattle.gp_stream.specs.Source.{reads_left, source_state, ReadsWhole, ReadsSome, ReadsTooMuch, WasReadable};
 
 use crate::source::Source;
 use std::alloc::Global;
@@ -30,11 +30,16 @@ pub enum SourceFault {
 pub fn read_all<R: Read>(alloc: Global, source: &mut Source<R>) -> Result<Vec<u8>, SourceFault>
     ensures whole { IfOk result (λ bytes. ReadsWhole (source_state R.remaining source.old) (source_state R.remaining source.new) bytes.items) }
     ensures short { IfOk result (λ bytes. vec_len bytes ≤ MOST_BYTES) }
+    ensures memory { result ≡ Err SourceFault.OutOfMemory → ReadsSome MOST_BYTES (source_state R.remaining source.old) (source_state R.remaining source.new) }
     ensures too_long { result ≡ Err SourceFault.TooLong → ReadsTooMuch MOST_BYTES (source_state R.remaining source.old) (source_state R.remaining source.new) }
 
     // A failed read is always answered, and only it and the bound of reads are.
     ensures read { result ≡ Err SourceFault.Read → let now = source_state R.remaining source.new in (now.has_failed ≡ true) ⊎ (now.reads_left ≡ 0) }
     ensures failed { let now = source_state R.remaining source.new in now.has_failed ≡ true → result ≡ Err SourceFault.Read }
+
+    // Each read but the last gives a byte, so the bound of reads is met only by a source of which
+    // `MOST_BYTES` reads or fewer are left.
+    ensures reads { reads_left source.old ≤ reads_left source.new + MOST_BYTES + 1 }
 
     // Of a known input, memory aside, the length alone decides.
     ensures exact { (input : List ℕ) → WasReadable (source_state R.remaining source.old) (source_state R.remaining source.new) input
@@ -47,11 +52,11 @@ pub fn read_all<R: Read>(alloc: Global, source: &mut Source<R>) -> Result<Vec<u8
             Err(_) => return Err(SourceFault::Read),
             Ok(0) => return Ok(bytes),
             Ok(count) => {
+                if count > MOST_BYTES - bytes.len() {
+                    return Err(SourceFault::TooLong);
+                }
                 if bytes.extend_from_slice(&block[..count]).is_err() {
                     return Err(SourceFault::OutOfMemory);
-                }
-                if bytes.len() > MOST_BYTES {
-                    return Err(SourceFault::TooLong);
                 }
             }
         }

@@ -32,6 +32,7 @@ fn write_all<W: Write>(writer: &mut Watched<W>, bytes: &[u8]) -> Result<(), Writ
     ensures err { OnErr result ((count : ℕ) × Appends (W.contents (inner_of writer.old)) (W.contents (inner_of writer.new)) (take count bytes.now)) }
     ensures stopped { is_stopped writer.new ≡ (is_stopped writer.old || is_err result) }
     ensures refused { IsTrue (is_stopped writer.old) → IsErr result × (writer.new ≡ writer.old) }
+    ensures idle { is_stopped writer.old ≡ false → bytes.now ≡ [] → IsOk result × (writer.new ≡ writer.old) }
 {
     if writer.is_stopped() {
         return Err(WriteStopped);
@@ -71,13 +72,14 @@ impl<W: Write> Sink<W> {
         writer.into_inner()
     }
 
-    /// Writes out what is gathered. Once a write failed or took nothing, nothing more is written.
+    /// Writes out what is gathered, if anything is. Once a write failed or took nothing, nothing more is written.
     pub fn finish(&mut self) -> Result<(), WriteStopped>
         ensures ok { OnOk result (Takes (sink_state W.contents self.old) (sink_state W.contents self.new) []) }
         ensures empty { OnOk result (gathered_of self.new ≡ []) }
         ensures err { OnErr result (TakesFront (sink_state W.contents self.old) (sink_state W.contents self.new) []) }
         ensures stopped { has_stopped self.new ≡ (has_stopped self.old || is_err result) }
         ensures refused { IsTrue (has_stopped self.old) → IsErr result × (writer_of self.new ≡ writer_of self.old) }
+        ensures idle { has_stopped self.old ≡ false → gathered_of self.old ≡ [] → IsOk result × (writer_of self.new ≡ writer_of self.old) }
         ensures room { room_of self.old ≤ room_of self.new }
     {
         write_all(&mut self.writer, self.gathered.as_slice())?;

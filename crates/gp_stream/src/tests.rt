@@ -1,5 +1,5 @@
 use crate::{Sink, Source, SourceFault, WriteStopped, read_all};
-use std::alloc::AllocError;
+use std::alloc::{AllocError, Global};
 use std::io;
 use std::io::{ErrorKind, Read, Write};
 
@@ -73,53 +73,69 @@ impl Write for Short {
     }
 }
 
+/// The fault of reading it all, if there is one. Want of memory ends the test.
+fn fault_of<R: Read>(
+    alloc: Global,
+    source: &mut Source<R>,
+) -> Result<Option<SourceFault>, SourceFault> {
+    match read_all(alloc, source) {
+        Ok(_) => Ok(None),
+        Err(SourceFault::OutOfMemory) => Err(SourceFault::OutOfMemory),
+        Err(fault) => Ok(Some(fault)),
+    }
+}
+
 #[test]
-fn one_octet_a_read(rt: HostRuntime) {
+fn one_octet_a_read(rt: HostRuntime) -> Result<(), SourceFault> {
     let slow = Slow {
         rest: b"licences",
         reads: 0,
         fails_at: 0,
     };
-    let bytes = read_all(rt.alloc(), &mut Source::new(slow)).unwrap_or(Vec::new(rt.alloc()));
+    let bytes = read_all(rt.alloc(), &mut Source::new(slow))?;
     assert_eq!(rt; bytes.as_slice(), b"licences".as_slice());
+    Ok(())
 }
 
+// The eight octets take eight reads, the end one more; a tenth read is not made.
 #[test]
-fn a_third_read_that_fails(rt: HostRuntime) {
-    let slow = Slow {
-        rest: b"licences",
-        reads: 0,
-        fails_at: 3,
-    };
-    let mut source = Source::new(slow);
-    for _ in 0..2 {
-        match read_all(rt.alloc(), &mut source) {
-            Ok(_) => assert!(rt; false),
-            Err(fault) => assert_eq!(rt; fault, SourceFault::Read),
+fn each_read_fails_in_turn(rt: HostRuntime) -> Result<(), SourceFault> {
+    for fails_at in 1..12 {
+        let slow = Slow {
+            rest: b"licences",
+            reads: 0,
+            fails_at,
+        };
+        let mut source = Source::new(slow);
+        let fault = fault_of(rt.alloc(), &mut source)?;
+        let want = if fails_at < 10 {
+            Some(SourceFault::Read)
+        } else {
+            None
+        };
+        assert_eq!(rt; fault, want, "read {fails_at}");
+        if fails_at < 10 {
+            let again = fault_of(rt.alloc(), &mut source)?;
+            assert_eq!(rt; again, want, "after read {fails_at}");
         }
     }
+    Ok(())
 }
 
 #[test]
-fn longest_input(rt: HostRuntime) {
+fn longest_input(rt: HostRuntime) -> Result<(), SourceFault> {
     for (left, want) in [(1_048_576, None), (1_048_577, Some(SourceFault::TooLong))] {
-        let fault = read_all(rt.alloc(), &mut Source::new(Zeros { left })).err();
+        let fault = fault_of(rt.alloc(), &mut Source::new(Zeros { left }))?;
         assert_eq!(rt; fault, want, "{left} octets");
     }
+    Ok(())
 }
 
 #[test]
 fn short_writes_and_faults(rt: HostRuntime) -> Result<(), AllocError> {
-    for (fails, room) in [
-        (false, 0),
-        (true, 0),
-        (false, 4),
-        (true, 5),
-        (false, 6),
-        (true, 6),
-    ] {
+    for (fails, room) in (0..14).map(|number| (number < 7, number % 7)) {
         let short = Short {
-            taken: Vec::new(rt.alloc()),
+            taken: Vec::with_capacity(rt.alloc(), 6)?,
             room,
             fails,
         };
@@ -132,6 +148,23 @@ fn short_writes_and_faults(rt: HostRuntime) -> Result<(), AllocError> {
         let taken = sink.into_inner().taken;
         assert_eq!(rt; taken.as_slice(), &b"abcdef"[..room]);
     }
+    Ok(())
+}
+
+// Nothing is written where nothing was handed in, so nothing fails.
+#[test]
+fn nothing_to_write(rt: HostRuntime) -> Result<(), AllocError> {
+    let short = Short {
+        taken: Vec::new(rt.alloc()),
+        room: 0,
+        fails: true,
+    };
+    let mut sink = Sink::new(rt.alloc(), short)?;
+    assert_eq!(rt; sink.put(b""), Ok(()));
+    assert_eq!(rt; sink.finish(), Ok(()));
+    assert_eq!(rt; sink.put(b"abc"), Ok(()));
+    assert_eq!(rt; sink.finish(), Err(WriteStopped));
+    assert_eq!(rt; sink.put(b""), Err(WriteStopped));
     Ok(())
 }
 

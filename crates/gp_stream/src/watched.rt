@@ -40,12 +40,15 @@ impl<W: Write> Watched<W> {
         self.stopped
     }
 
-    /// One write.
+    /// One write, if there is anything to write.
     pub(crate) fn write(&mut self, bytes: &[u8]) -> io::Result<usize>
         ensures bound { WritesAtMost result bytes.now }
         ensures bytes { WriteAppends (W.contents (inner_of self.old)) (W.contents (inner_of self.new)) result bytes.now }
-        ensures stopped { is_stopped self.new ≡ (is_stopped self.old || took_nothing result) }
+        ensures stopped { is_stopped self.new ≡ (is_stopped self.old || took_nothing bytes.now result) }
     {
+        if bytes.is_empty() {
+            return Ok(0);
+        }
         let outcome = self.inner.write(bytes);
         match &outcome {
             Ok(count) if *count > 0 => {}

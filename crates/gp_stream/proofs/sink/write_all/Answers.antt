@@ -9,5 +9,6 @@ writes-preserved g c =
     let taken = rw (take_rest c.args.bytes.now c.writes.at) at c.in-Ok.ensures.bytes in record {
       within = search rules;
       written = rw (take-add c.writes.at c.in-Ok.count c.args.bytes.now) (Appends-trans _ _ _ _ _ c.writes.invariant.written taken);
+      idle = search rules;
       unstopped = search rules;
     }

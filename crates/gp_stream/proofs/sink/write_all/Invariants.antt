@@ -7,6 +7,7 @@ abbrev pub invariant-writes : goal.invariant-writes
 invariant-writes g l = record {
   within : l.at ≤ length l.bytes;
   written : Appends (g.W.Write.contents (inner_of l.fn.writer)) (g.W.Write.contents (inner_of l.writer)) (take l.at l.bytes);
+  idle : length l.bytes ≡ 0 → l.writer ≡ l.fn.writer;
   unstopped : is_stopped l.writer ≡ false;
 }
 
