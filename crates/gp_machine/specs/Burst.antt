@@ -1,4 +1,5 @@
--- A burst, by the open window and the message.
+-- A burst, by the open window and the message (G.984.3, clause 10). What is refused, and the order of the causes,
+-- is this profile's own rule.
 use Rattle.std.specs.Prelude.{ℕ, ◌-◌, ◌==◌, ◌&&◌, nat_lt, Bool, false, if◌then◌else◌, Option, None, Some}
 use Rattle.std.specs.List.{list_any}
 use Rattle.std.specs.FinMap.{get, insert}

@@ -1,4 +1,4 @@
--- The limits of a configuration.
+-- The limits of a configuration (this profile's own rule).
 use Rattle.std.specs.Prelude.{ℕ, nat_le, Bool, true, not, ◌&&◌, List, [], ◌∷◌, length}
 use Rattle.std.specs.List.{list_any}
 use Rattle.gp_ploam.specs.declared.message.Serial.{Serial}

@@ -1,4 +1,5 @@
--- A frame: the timer, the sending, the window, the decision.
+-- A frame: the timer, the sending, the window, the decision. A frame carries one message (G.984.3, clause 9); when
+-- a port searches and ranges (clause 10) is this profile's own rule.
 use Rattle.std.specs.Prelude.{ℕ, ◌+◌, ◌==◌, ◌&&◌, nat_lt, Bool, true, false, if◌then◌else◌, List, [], ◌∷◌, Option, None, Some, is_none}
 use Rattle.gp_ploam.specs.declared.message.Down.TheVariants.{UpstreamOverhead}
 use Rattle.gp_ploam.specs.declared.message.Down.{Down}

@@ -1,4 +1,5 @@
 pub mod Refusals
+pub mod Replies
 pub mod Config
 pub mod State
 pub mod Sound

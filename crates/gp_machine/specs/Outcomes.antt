@@ -26,11 +26,11 @@ bare_answer reply = record { reply = reply; sent = None; grant = None; alarm = N
 abbrev pub bare_outcome : ℕ → PortState → Reply → Outcome
 bare_outcome u p reply = record { answer = bare_answer reply; purse = u; state = p }
 
--- the state that owes a message besides: three copies of it, after all that is owed
+-- the state that owes a message besides: three copies of it (G.984.3, clause 9), after all that is owed
 abbrev pub state_owing : PortState → Down → PortState
 state_owing p message = record p { owed = p.owed ++ message ∷ message ∷ message ∷ [] }
 
--- a burst or a command may owe a message: with it at most 189 copies are owed
+-- a burst or a command may owe a message: with it at most 189 copies are owed (this profile's own rule)
 abbrev pub has_room : PortState → Bool
 has_room p = nat_le (length p.owed + 3) 189
 

@@ -1,4 +1,5 @@
--- What is true of a port in every run.
+-- What is true of a port in every run. That no two units have one ONU-ID is G.984.3, clause 10; the numbers are
+-- this profile's own rule.
 use Rattle.std.specs.Prelude.{◌≡◌, ℕ, ◌-◌, ◌≤◌, length, Option, None, Some, Contains}
 use Rattle.gp_ploam.specs.declared.message.Serial.{Serial}
 use Rattle.gp_ranging.specs.declared.grant.Grant.{Grant}

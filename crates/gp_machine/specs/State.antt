@@ -1,4 +1,4 @@
--- The state of a port.
+-- The state of a port: the units that it activates (G.984.3, clause 10), and what this profile keeps beside them.
 use Rattle.std.specs.Prelude.{◌≡◌, ℕ, ◌<◌, ◌≤◌, Bool, false, List, [], Option, None, Some}
 use Rattle.std.specs.FinMap.{FinMap, get, len, empty}
 use Rattle.gp_ploam.specs.declared.message.Serial.{Serial}

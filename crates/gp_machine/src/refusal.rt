@@ -43,6 +43,11 @@ impl Refusal {
 }
 
 impl Display for Refusal {
+    ghost use Rattle.std.specs.Prelude.{Some};
+    ghost use Rattle.gp_machine.specs.Refusals.{refusal_name};
+
+    ghost output = { λ refusal. Some (refusal_name refusal) };
+
     fn fmt<W: Write>(&self, f: &mut Formatter<W>) -> fmt::Result {
         f.write_str(match self {
             Refusal::Stray => "stray",

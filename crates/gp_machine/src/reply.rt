@@ -24,10 +24,18 @@ pub enum Reply {
 }
 
 impl Display for Reply {
+    ghost use Rattle.std.specs.Prelude.{Some};
+    ghost use Rattle.gp_machine.specs.Replies.{reply_text};
+
+    ghost output = { λ reply. Some (reply_text reply) };
+
     fn fmt<W: Write>(&self, f: &mut Formatter<W>) -> fmt::Result {
         match *self {
             Reply::Ticked => f.write_str("ok"),
-            Reply::Refused(refusal) => write!(f, "refused {} {refusal}", refusal.number()),
+            Reply::Refused(refusal) => {
+                let number = refusal.number();
+                write!(f, "refused {number} {refusal}")
+            }
             Reply::Searching => f.write_str("searching"),
             Reply::Found(onu) => write!(f, "found {onu}"),
             Reply::Again(onu) => write!(f, "again {onu}"),

@@ -34,6 +34,7 @@ pub(super) fn bare_answer(reply: Reply) -> Answer
 }
 
 impl<L: Ledger> PortCore<L> {
+    /// A burst: its octets are read under the port's mask.
     pub(super) fn burst(
         &mut self,
         purse: Licences<L>,

@@ -10,6 +10,7 @@ use gp_machine::{Answer, Command, Refusal, Reply};
 use std::sync::ledger::Ledger;
 
 impl<L: Ledger> PortCore<L> {
+    /// A command of the operator.
     pub(super) fn command(&mut self, purse: Licences<L>, command: Command) -> (Answer, Licences<L>)
         ensures outcome { outcome_of result self.new ≡ command_outcome purse self.old command }
         ensures sent { result.0.sent ≡ None }

@@ -75,10 +75,12 @@ impl<L: Ledger> PortCore<L> {
         ensures proper { ForSome result.0.sent IsProperDown }
     {
         let done = self.react(purse, event);
+        // A field is looked at, so that the invariant, soundness among it, is known here.
         let _ = &self.config;
         done
     }
 
+    /// The step, by the kind of event.
     fn react(&mut self, purse: Licences<L>, event: Event) -> (Answer, Licences<L>)
         ensures step { Step purse self.old event (outcome_of result self.new) }
         ensures proper { ForSome result.0.sent IsProperDown }
@@ -123,7 +125,7 @@ impl<L: Ledger> PortCore<L> {
         self.common
     }
 
-    /// Ends the port, with the licence of each unit.
+    /// Ends the port, with the licence of each unit. A window that is open is closed.
     pub fn close(self) -> Licences<L>
         ensures { result ≡ rows_of self }
     {
