@@ -127,6 +127,21 @@ fn one_unit(rt: HostRuntime) -> Result<(), Fail> {
     Ok(())
 }
 
+/// With memory enough each of many frames has its line, to the last.
+#[test]
+fn two_thousand_frames(rt: HostRuntime) -> Result<(), Fail> {
+    let script = b"licences = 0\n[[port]]\n[[event]]\nport = 0\nframes = 2000";
+    let mut expected = String::new(rt.alloc());
+    for number in 0..2000 {
+        let line = format!(in rt.alloc(); "0 {number} frame = ok\n")?;
+        expected.push_str(line.as_str())?;
+    }
+    let (outcome, trace) = replay(rt.alloc(), script)?;
+    assert_eq!(rt; outcome, Ok(()));
+    assert_eq!(rt; trace.as_slice(), expected.as_bytes());
+    Ok(())
+}
+
 #[test]
 fn empty_script(rt: HostRuntime) -> Result<(), Fail> {
     let (outcome, trace) = replay(rt.alloc(), b"")?;
