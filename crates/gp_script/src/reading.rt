@@ -1,4 +1,5 @@
-ghost use Rattle.std.specs.Prelude.{◌≡◌, ◌<◌, ◌≤◌, IfOk, IsTrue, All, vec_len};
+ghost use Rattle.std.specs.Prelude.{◌≡◌, ◌<◌, ◌≤◌, Err, IfOk, IsTrue, All, vec_len};
+ghost use Rattle.std.specs.Str.{is_utf8};
 ghost use Rattle.toml.specs.Parse.{parse_document};
 ghost use Rattle.toml.specs.View.{table_view};
 ghost use Rattle.gp_machine.specs.Config.{is_within_limits};
@@ -109,6 +110,7 @@ fn parse_table(alloc: Global, text: &str) -> Result<Table, ScriptError>
 #[tactic(auto, unfolding(crate::specs::Script::script_of))]
 pub fn read_script(alloc: Global, bytes: &[u8]) -> Result<Script, ScriptError>
     ensures value { Gives script_view result (script_of bytes.now) }
+    ensures memory { result ≡ Err ScriptError.OutOfMemory → IsTrue (is_utf8 bytes.now) }
     ensures licences { IfOk result (λ s. s.licences ≤ 4064) }
     ensures some_port { IfOk result (λ s. 0 < vec_len s.ports) }
     ensures few_ports { IfOk result (λ s. vec_len s.ports ≤ most_ports) }

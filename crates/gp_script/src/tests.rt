@@ -30,9 +30,13 @@ serial = \"ABCD00000001\"
 onu = 0
 ";
 
-/// The fault of a script, if it has one.
-fn fault_of(alloc: Global, text: &str) -> Option<ScriptError> {
-    read_script(alloc, text.as_bytes()).err()
+/// The fault of a script, if it has one. Want of memory ends the test.
+fn fault_of(alloc: Global, bytes: &[u8]) -> Result<Option<ScriptFault>, ScriptError> {
+    match read_script(alloc, bytes) {
+        Ok(_) => Ok(None),
+        Err(ScriptError::Fault(fault)) => Ok(Some(fault)),
+        Err(ScriptError::OutOfMemory) => Err(ScriptError::OutOfMemory),
+    }
 }
 
 #[test]
@@ -110,7 +114,7 @@ fn other_forms(rt: HostRuntime) -> Result<(), ScriptError> {
 }
 
 #[test]
-fn faults_of_the_top_and_the_port(rt: HostRuntime) {
+fn faults_of_the_top_and_the_port(rt: HostRuntime) -> Result<(), ScriptError> {
     let scripts = [
         ("", ScriptFault::Shape),
         ("licences = ", ScriptFault::Syntax),
@@ -147,20 +151,16 @@ fn faults_of_the_top_and_the_port(rt: HostRuntime) {
         ),
     ];
     for (text, fault) in scripts {
-        assert_eq!(rt;
-            fault_of(rt.alloc(), text),
-            Some(ScriptError::Fault(fault)),
-            "{text}"
-        );
+        let found = fault_of(rt.alloc(), text.as_bytes())?;
+        assert_eq!(rt; found, Some(fault), "{text}");
     }
-    assert_eq!(rt;
-        read_script(rt.alloc(), b"\xff").err(),
-        Some(ScriptError::Fault(ScriptFault::Syntax))
-    );
+    let found = fault_of(rt.alloc(), b"\xff")?;
+    assert_eq!(rt; found, Some(ScriptFault::Syntax));
+    Ok(())
 }
 
 #[test]
-fn faults_of_events(rt: HostRuntime) -> Result<(), AllocError> {
+fn faults_of_events(rt: HostRuntime) -> Result<(), ScriptError> {
     let events = [
         ("port = 0", ScriptFault::Shape),
         ("frames = 1", ScriptFault::Shape),
@@ -204,14 +204,14 @@ fn faults_of_events(rt: HostRuntime) -> Result<(), AllocError> {
     ];
     for (event, fault) in events {
         let text = format!(in rt.alloc(); "licences = 1\nport = [{{}}]\nevent = [{{{event}}}]")?;
-        let found = fault_of(rt.alloc(), text.as_str());
-        assert_eq!(rt; found, Some(ScriptError::Fault(fault)), "{event}");
+        let found = fault_of(rt.alloc(), text.as_bytes())?;
+        assert_eq!(rt; found, Some(fault), "{event}");
     }
     Ok(())
 }
 
 #[test]
-fn two_faults_at_once(rt: HostRuntime) {
+fn two_faults_at_once(rt: HostRuntime) -> Result<(), ScriptError> {
     let scripts = [
         ("licences = \"1\"\n[[port", ScriptFault::Syntax),
         ("licences = 4065\nport = [{cycle = 1}]", ScriptFault::Range),
@@ -261,16 +261,14 @@ fn two_faults_at_once(rt: HostRuntime) {
         ),
     ];
     for (text, fault) in scripts {
-        assert_eq!(rt;
-            fault_of(rt.alloc(), text),
-            Some(ScriptError::Fault(fault)),
-            "{text}"
-        );
+        let found = fault_of(rt.alloc(), text.as_bytes())?;
+        assert_eq!(rt; found, Some(fault), "{text}");
     }
+    Ok(())
 }
 
 #[test]
-fn ends_of_ranges(rt: HostRuntime) -> Result<(), AllocError> {
+fn ends_of_ranges(rt: HostRuntime) -> Result<(), ScriptError> {
     // What stands before a value and behind it, two values outside its range, and its ends.
     let rows = [
         (
@@ -328,6 +326,18 @@ fn ends_of_ranges(rt: HostRuntime) -> Result<(), AllocError> {
             ["1", "1000000"],
         ),
         (
+            "licences = 1\nport = [{}]\nevent = [{port = 0, burst = \"0004000000000000000000007c\", at = ",
+            "}]",
+            ["-1", "4294967296"],
+            ["0", "4294967295"],
+        ),
+        (
+            "licences = 1\nport = [{}]\nevent = [{port = 0, at = 0, say = \"serial\", serial = \"ABCD00000001\", onu = ",
+            "}]",
+            ["-1", "256"],
+            ["0", "255"],
+        ),
+        (
             "licences = 1\nport = [{}]\nevent = [{port = 0, say = \"none\", onu = 0, at = ",
             "}]",
             ["-1", "4294967296"],
@@ -340,26 +350,24 @@ fn ends_of_ranges(rt: HostRuntime) -> Result<(), AllocError> {
             ["0", "255"],
         ),
     ];
-    let range = Some(ScriptError::Fault(ScriptFault::Range));
     for (before, after, outside, inside) in rows {
         for value in outside {
             let text = format!(in rt.alloc(); "{before}{value}{after}")?;
-            assert_eq!(rt; fault_of(rt.alloc(), text.as_str()), range, "{text}");
+            let found = fault_of(rt.alloc(), text.as_bytes())?;
+            assert_eq!(rt; found, Some(ScriptFault::Range), "{text}");
         }
         for value in inside {
             let text = format!(in rt.alloc(); "{before}{value}{after}")?;
-            assert_eq!(rt; fault_of(rt.alloc(), text.as_str()), None, "{text}");
+            let found = fault_of(rt.alloc(), text.as_bytes())?;
+            assert_eq!(rt; found, None, "{text}");
         }
     }
     Ok(())
 }
 
 #[test]
-fn many_of_a_kind(rt: HostRuntime) -> Result<(), AllocError> {
-    for (count, want) in [
-        (512, None),
-        (513, Some(ScriptError::Fault(ScriptFault::Range))),
-    ] {
+fn many_of_a_kind(rt: HostRuntime) -> Result<(), ScriptError> {
+    for (count, want) in [(512, None), (513, Some(ScriptFault::Range))] {
         let mut text = String::new(rt.alloc());
         text.push_str("licences = 1\nport = [{admit = [")?;
         for number in 0..count {
@@ -367,23 +375,20 @@ fn many_of_a_kind(rt: HostRuntime) -> Result<(), AllocError> {
             text.push_str(serial.as_str())?;
         }
         text.push_str("]}]")?;
-        assert_eq!(rt;
-            fault_of(rt.alloc(), text.as_str()),
-            want,
-            "{count} serial numbers"
-        );
+        let found = fault_of(rt.alloc(), text.as_bytes())?;
+        assert_eq!(rt; found, want, "{count} serial numbers");
     }
     for (licences, fault) in [("\"1\"", ScriptFault::Shape), ("1", ScriptFault::Range)] {
         let text = format!(in rt.alloc();
             "licences = {licences}\nport = [{}{{}}]",
             "{}, ".repeat(rt.alloc(), 16)?
         )?;
-        let found = fault_of(rt.alloc(), text.as_str());
-        assert_eq!(rt; found, Some(ScriptError::Fault(fault)), "17 ports");
+        let found = fault_of(rt.alloc(), text.as_bytes())?;
+        assert_eq!(rt; found, Some(fault), "17 ports");
     }
     let blank = vec![in rt.alloc(); b' '; 1_048_576]?;
-    let fault = read_script(rt.alloc(), &blank).err();
-    assert_eq!(rt; fault, Some(ScriptError::Fault(ScriptFault::Shape)));
+    let found = fault_of(rt.alloc(), &blank)?;
+    assert_eq!(rt; found, Some(ScriptFault::Shape));
     Ok(())
 }
 

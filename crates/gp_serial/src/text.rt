@@ -1,5 +1,5 @@
 //! Serial numbers as text.
-ghost use Rattle.std.specs.Prelude.{◌≡◌, ◌*◌, ◌++◌, true, length, OnOk, OnErr, IfOk, IfErr, Some, Ok};
+ghost use Rattle.std.specs.Prelude.{◌≡◌, ◌+◌, ◌*◌, ◌<◌, ◌++◌, true, length, vec_len, vec_capacity, OnOk, OnErr, IfOk, IfErr, Some, Ok};
 ghost use Rattle.std.specs.List.{list_all};
 ghost use Rattle.std.specs.Str.{IsAscii};
 ghost use Rattle.std.specs.String.{string_bytes};
@@ -123,10 +123,12 @@ pub fn serial_text(alloc: Global, serial: &Serial) -> Result<String, SerialFault
     Ok(String::from_str(alloc, SerialText::of(serial).as_str())?)
 }
 
-/// Appends the text of a serial number to these octets, and changes nothing where memory is short.
+/// Appends the text of a serial number to these octets, and changes nothing where memory is short,
+/// which it can't be where there is room for the text.
 pub fn push_serial_text(out: &mut Vec<u8>, serial: &Serial) -> Result<(), AllocError>
     ensures ok { OnOk result (out.new.items ≡ out.old.items ++ text_of_serial serial.now) }
     ensures err { OnErr result (out.new.items ≡ out.old.items) }
+    ensures full { OnErr result (vec_capacity out.old < vec_len out.old + length (text_of_serial serial.now)) }
 {
     out.extend_from_slice(SerialText::of(serial).as_bytes())
 }
