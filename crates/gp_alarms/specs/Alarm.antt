@@ -1,4 +1,4 @@
--- The printed names of alarms.
+-- The printed names of alarms (G.984.3, clause 11, without the unit's index).
 use Rattle.std.specs.Prelude.{ℕ, List, codes}
 use Rattle.gp_alarms.specs.declared.alarm.AlarmKind.{AlarmKind}
 use Rattle.gp_alarms.specs.declared.alarm.AlarmKind.TheVariants.{Los, Loam, Loa, Suf, Df, Dg}

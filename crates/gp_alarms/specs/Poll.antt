@@ -1,4 +1,4 @@
--- What the end of a poll window does to the counts of its unit, and which alarm they give.
+-- What the end of a poll window does to the counts of its unit, and which alarm they give (this profile's own rule).
 use Rattle.std.specs.Prelude.{ℕ, ◌+◌, ◌≤◌, ◌==◌, if◌then◌else◌, Bool, Option, None, Some}
 use Rattle.gp_alarms.specs.declared.alarm.AlarmKind.{AlarmKind}
 use Rattle.gp_alarms.specs.declared.alarm.AlarmKind.TheVariants.{Los, Loam, Loa}

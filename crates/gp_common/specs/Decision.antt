@@ -1,4 +1,5 @@
--- What a port does in a frame in which no window is open and nothing is owed.
+-- What a port does in a frame in which no window is open and nothing is owed (this profile's own rule; the common
+-- states are those of G.984.3, clause 10).
 use Rattle.std.specs.Prelude.{ℕ, zero, suc, Bool, true, false, Option, None, Some}
 use Rattle.gp_ranging.specs.declared.grant.Grant.TheVariants.{Search, Range, Poll}
 use Rattle.gp_common.specs.declared.common.Common.{Common}

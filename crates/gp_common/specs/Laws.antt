@@ -1,4 +1,4 @@
--- What holds of every decision, and of the decisions of an acquisition.
+-- What holds of every decision, and of the decisions of an acquisition (this profile's own rule).
 use Rattle.std.specs.Prelude.{◌≡◌, ℕ, suc, Bool, true, false, Option, None, Some, List, [], ◌∷◌, length, replicate}
 use Rattle.gp_ranging.specs.declared.grant.Grant.TheVariants.{Search, Range, Poll}
 use Rattle.gp_common.specs.declared.common.Common.{Common}

@@ -1,4 +1,4 @@
--- A unit over many frames in which nothing else happens.
+-- A unit over many frames in which nothing else happens (this profile's own rule: 80,000 frames for O3 and O4, 800 for O6).
 use Rattle.std.specs.Prelude.{ℕ, zero, suc, ◌≡◌, ◌≢◌, ◌<◌, ◌-◌, ◌≤◌, Bool, true, Option, None, Some, length}
 use Rattle.std.specs.Option.{ForSome}
 use Rattle.gp_onu.specs.declared.stage.Stage.{Stage}

@@ -1,3 +1,4 @@
+pub mod State
 pub mod Stage
 pub mod Table
 pub mod Frames

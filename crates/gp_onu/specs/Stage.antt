@@ -1,4 +1,4 @@
--- What a unit has in a state.
+-- What a unit has in a state (G.984.3, clause 10; the counts of frames are this profile's own).
 use Rattle.std.specs.Prelude.{ℕ, ◌+◌, List, Option, None, Some}
 use Rattle.gp_onu.specs.declared.state.State.{State}
 use Rattle.gp_onu.specs.declared.state.State.TheVariants as state

@@ -20,8 +20,13 @@ pub enum State {
 }
 
 impl fmt::Display for State {
+    ghost use Rattle.std.specs.Prelude.{Some};
+    ghost use Rattle.gp_onu.specs.State.{state_name};
+
+    ghost output = { λ state. Some (state_name state) };
+
     fn fmt<W: fmt::Write>(&self, f: &mut fmt::Formatter<W>) -> fmt::Result {
-        let name = match self {
+        f.write_str(match self {
             State::Initial => "O1",
             State::Standby => "O2",
             State::SerialNumber => "O3",
@@ -29,7 +34,6 @@ impl fmt::Display for State {
             State::Operation => "O5",
             State::Popup => "O6",
             State::EmergencyStop => "O7",
-        };
-        write!(f, "{name}")
+        })
     }
 }

@@ -66,6 +66,7 @@ impl Unit {
         }
     }
 
+    /// Which of the states O1 to O7 the unit is in.
     pub fn state(&self) -> State
         ensures { result ≡ state_of self.now.stage }
     {

@@ -1,4 +1,4 @@
--- Serial numbers, compared.
+-- Serial numbers, compared (this profile's own rule: the standard gives them no order).
 use Rattle.std.specs.Prelude.{ℕ, Bool, List, refl, nat_eq}
 use Rattle.std.specs.Ordering.{nat_cmp}
 use Rattle.std.specs.declared.cmp.Ordering.{Ordering}

@@ -4,7 +4,7 @@ use Rattle.std.proofs.lemmas.Bool.{cases_Bool, cases_lt, false≢true}
 use Rattle.std.specs.Ordering.{nat_cmp}
 use Rattle.std.specs.FinSet.{empty, insert, contains, contains-empty, len-empty}
 use Rattle.gp_pools.specs.Numbers.{AreAllIn, IsLeastOutside}
-use Rattle.gp_pools.specs.Pool.{Pool, AreAllOut, IsFree, IsLeased, IsOut, IsKept, IsSettled, IsSound, count_out, full_pool, pool_with_lease, pool_with_settled, pool_with_settled_leased, pool_without_lease}
+use Rattle.gp_pools.specs.Pool.{Pool, AreAllOut, IsFree, IsLeased, IsOut, IsKept, IsSettled, IsSound, count_out, full_pool, pool_with_lease, pool_with_lease_again, pool_with_settled, pool_without_lease}
 use Rattle.gp_pools.proofs.Members.{of_insert, of_remove, len-insert_new, len-remove_member}
 use Rattle.gp_pools.proofs.Counting.{IsApart, IsWithin, filled, room_for}
 
@@ -107,11 +107,11 @@ settle-sound pool n sound has = record {
 }
 
 -- one settled number leased again
-pub count-lease_again : (pool : Pool) (n : ℕ) → IsSound pool → IsSettled pool n → count_out (pool_with_settled_leased pool n) ≡ count_out pool
+pub count-lease_again : (pool : Pool) (n : ℕ) → IsSound pool → IsSettled pool n → count_out (pool_with_lease_again pool n) ≡ count_out pool
 count-lease_again pool n sound has =
     omega (arith, len-remove_member pool.settled n has, len-insert_new pool.leased n (settled-not_leased pool n sound has))
 
-pub lease_again-sound : (pool : Pool) (n : ℕ) → IsSound pool → IsSettled pool n → IsSound (pool_with_settled_leased pool n)
+pub lease_again-sound : (pool : Pool) (n : ℕ) → IsSound pool → IsSettled pool n → IsSound (pool_with_lease_again pool n)
 lease_again-sound pool n sound has = record {
   apart = λ q a b. elim (of_insert pool.leased n q a) [
     | inl same ↦ (of_remove pool.settled n q b).0 same
@@ -207,7 +207,7 @@ kept-settle pool out end n kept has = record {
   fits = kept.fits;
 }
 
-pub kept-lease_again : (pool : Pool) (out end n : ℕ) → IsKept pool out end → IsSettled pool n → IsKept (pool_with_settled_leased pool n) out end
+pub kept-lease_again : (pool : Pool) (out end n : ℕ) → IsKept pool out end → IsSettled pool n → IsKept (pool_with_lease_again pool n) out end
 kept-lease_again pool out end n kept has = record {
   sound = lease_again-sound pool n kept.sound has;
   counted = omega (arith, kept.counted, count-lease_again pool n kept.sound has);

@@ -1,4 +1,4 @@
--- Sets of numbers, and the words that hold them.
+-- Sets of numbers, and the words that hold them (this profile's own rule).
 use Rattle.std.specs.Prelude.{ℕ, zero, suc, ◌+◌, ◌/◌, ◌%◌, ◌<◌, ◌≤◌, ◌==◌, ◌||◌, if◌then◌else◌, Bool, IsTrue, List, slice_index}
 use Rattle.std.specs.Int.{bit_at}
 use Rattle.std.specs.Ordering.{nat_cmp}

@@ -1,4 +1,5 @@
--- A pool of numbers as contracts see it.
+-- A pool of numbers as contracts see it (this profile's own rule: G.984.3 says which numbers there are, and not which a
+-- unit gets).
 use Rattle.std.specs.Prelude.{◌≡◌, ℕ, ◌+◌, ◌-◌, ◌^◌, ◌<◌, ◌≤◌, IsTrue, refl}
 use Rattle.std.specs.Coded.{Coded, code_by, coded×, coded_ℕ}
 use Rattle.std.specs.Ordering.{nat_cmp}
@@ -63,8 +64,8 @@ abbrev pub pool_with_settled : Pool → ℕ → Pool
 pool_with_settled pool n = record pool { leased = set.remove pool.leased n; settled = set.insert pool.settled n }
 
 -- the pool with one settled number leased again
-abbrev pub pool_with_settled_leased : Pool → ℕ → Pool
-pool_with_settled_leased pool n = record pool { leased = set.insert pool.leased n; settled = set.remove pool.settled n }
+abbrev pub pool_with_lease_again : Pool → ℕ → Pool
+pool_with_lease_again pool n = record pool { leased = set.insert pool.leased n; settled = set.remove pool.settled n }
 
 -- what every pool keeps: no number is both leased and settled, only the pool's own numbers are out, and no more than its
 -- limit, which its numbers reach

@@ -1,5 +1,5 @@
 ghost use Rattle.std.specs.Prelude.{◌≡◌, ℕ, ◌+◌, ◌-◌, ◌≤◌, ◌↔◌, IsTrue, IsNone, IfNone, IfSome};
-ghost use Rattle.gp_pools.specs.Pool.{AreAllOut, IsFree, IsLeased, IsSettled, IsSound, full_pool, pool_with_lease, pool_with_settled, pool_with_settled_leased, pool_without_lease};
+ghost use Rattle.gp_pools.specs.Pool.{AreAllOut, IsFree, IsLeased, IsSettled, IsSound, full_pool, pool_with_lease, pool_with_lease_again, pool_with_settled, pool_without_lease};
 
 use super::number_pool::NumberPool;
 use std::marker::Model;
@@ -109,7 +109,7 @@ impl AllocIds {
     pub fn lease_of(&mut self, number: u16) -> AllocLease
         requires { IsSettled self.old number }
         ensures number { result ≡ number }
-        ensures pool { self.new ≡ pool_with_settled_leased self.old number }
+        ensures pool { self.new ≡ pool_with_lease_again self.old number }
         ensures leased { IsLeased self.new number }
     {
         self.pool.lease_again(number);

@@ -1,5 +1,5 @@
 ghost use Rattle.std.specs.Prelude.{◌≡◌, ℕ, ◌+◌, ◌-◌, ◌*◌, ◌^◌, ◌<◌, ◌≤◌, ◌↔◌, IsTrue, IsNone, IfNone, IfSome};
-ghost use Rattle.gp_pools.specs.Pool.{IsFree, IsLeased, IsSettled, IsSound, count_out, full_pool, pool_with_lease, pool_with_settled, pool_with_settled_leased, pool_without_lease};
+ghost use Rattle.gp_pools.specs.Pool.{IsFree, IsLeased, IsSettled, IsSound, count_out, full_pool, pool_with_lease, pool_with_lease_again, pool_with_settled, pool_without_lease};
 
 use super::number_set::NumberSet;
 use std::marker::Model;
@@ -93,7 +93,7 @@ impl<const FIRST: u16, const WORDS: usize> NumberPool<FIRST, WORDS> {
 
     pub fn lease_again(&mut self, number: u16)
         requires { IsSettled self.old number }
-        ensures pool { self.new ≡ pool_with_settled_leased self.old number }
+        ensures pool { self.new ≡ pool_with_lease_again self.old number }
         ensures leased { IsLeased self.new number }
         ensures own { (self.old.first ≤ number) × (number ≤ self.old.last) }
     {

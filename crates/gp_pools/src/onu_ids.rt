@@ -1,5 +1,5 @@
 ghost use Rattle.std.specs.Prelude.{◌≡◌, ℕ, ◌≤◌, ◌↔◌, IsTrue, IsNone, IfNone, IfSome};
-ghost use Rattle.gp_pools.specs.Pool.{IsFree, IsLeased, IsSettled, IsSound, count_out, full_pool, pool_with_lease, pool_with_settled, pool_with_settled_leased, pool_without_lease};
+ghost use Rattle.gp_pools.specs.Pool.{IsFree, IsLeased, IsSettled, IsSound, count_out, full_pool, pool_with_lease, pool_with_lease_again, pool_with_settled, pool_without_lease};
 
 use super::number_pool::NumberPool;
 use std::marker::Model;
@@ -106,7 +106,7 @@ impl OnuIds {
     pub fn lease_of(&mut self, number: u8) -> OnuLease
         requires { IsSettled self.old number }
         ensures number { result ≡ number }
-        ensures pool { self.new ≡ pool_with_settled_leased self.old number }
+        ensures pool { self.new ≡ pool_with_lease_again self.old number }
         ensures leased { IsLeased self.new number }
     {
         self.pool.lease_again(number as u16);

@@ -10,6 +10,26 @@ fn settle_next_alloc_id(ids: &mut AllocIds) -> Option<u16> {
     Some(ids.settle(lease))
 }
 
+/// The next ONU-ID, settled, leased again and given back.
+fn pass_next_onu_id_through(ids: &mut OnuIds) -> Option<u8> {
+    let lease = ids.take()?;
+    let settled = ids.settle(lease);
+    let lease = ids.lease_of(settled);
+    let number = lease.number();
+    ids.give_back(lease);
+    Some(number)
+}
+
+/// The next Alloc-ID, settled, leased again and given back.
+fn pass_next_alloc_id_through(ids: &mut AllocIds) -> Option<u16> {
+    let lease = ids.take()?;
+    let settled = ids.settle(lease);
+    let lease = ids.lease_of(settled);
+    let number = lease.number();
+    ids.give_back(lease);
+    Some(number)
+}
+
 #[test]
 fn each_onu_id_in_turn(rt: HostRuntime) {
     let mut ids = OnuIds::new(254);
@@ -49,4 +69,24 @@ fn one_alloc_id_and_none(rt: HostRuntime) {
     assert_eq!(rt; settle_next_alloc_id(&mut one), None);
     let mut none = AllocIds::new(255);
     assert_eq!(rt; settle_next_alloc_id(&mut none), None);
+}
+
+#[test]
+fn the_last_number_comes_back(rt: HostRuntime) {
+    let mut onu_ids = OnuIds::new(254);
+    for _ in 0..253 {
+        let _ = settle_next_onu_id(&mut onu_ids);
+    }
+    for _ in 0..2 {
+        assert_eq!(rt; pass_next_onu_id_through(&mut onu_ids), Some(253));
+        assert!(rt; onu_ids.is_free(253));
+    }
+    let mut alloc_ids = AllocIds::new(4095);
+    for _ in 256..4095 {
+        let _ = settle_next_alloc_id(&mut alloc_ids);
+    }
+    for _ in 0..2 {
+        assert_eq!(rt; pass_next_alloc_id_through(&mut alloc_ids), Some(4095));
+        assert!(rt; alloc_ids.is_free(4095));
+    }
 }

@@ -1,4 +1,4 @@
--- A window as contracts see it.
+-- A window as contracts see it (this profile's own rule: three frames).
 use Rattle.std.specs.Prelude.{ℕ, ◌-◌, ◌==◌, if◌then◌else◌, Bool, true, false, Option, None, Some}
 use Rattle.gp_ranging.specs.declared.grant.Grant.{Grant}
 

@@ -10,7 +10,7 @@ use Rattle.std.proofs.Math.Seq.{take-append_seam}
 use borrow.Author.Tests.{ltb-true, ltb-false}
 use Rattle.gp_timers.specs.declared.tournament.Timer.{Timer}
 use Rattle.gp_timers.specs.Timers.{Frames}
-use Rattle.gp_timers.specs.Tournament.{timer_at, frames_from, Rewritten}
+use Rattle.gp_timers.specs.Tournament.{timer_at, frames_from, IsRewritten}
 
 abbrev pub Nodes : Type 0
 Nodes = List (Option Timer)
@@ -63,7 +63,7 @@ get-frames_of names nodes q = get-frames_from 0 (drop names nodes) q q (omega ar
 pub below_or_not : (a b : ℕ) → (a < b) ⊎ (b ≤ a)
 below_or_not a b = elim (cases_Bool (ltb a b)) [ inl e ↦ inl (ltb-true a b e) | inr e ↦ inr (ltb-false a b e) ]
 
-other_leaf : (names : ℕ) (old new : Nodes) (name : ℕ) (timer : Option Timer) → length old ≡ 2 * names → Rewritten names old new name timer → (q : ℕ) → q ≢ name → timer_at new (names + q) ≡ timer_at old (names + q)
+other_leaf : (names : ℕ) (old new : Nodes) (name : ℕ) (timer : Option Timer) → length old ≡ 2 * names → IsRewritten names old new name timer → (q : ℕ) → q ≢ name → timer_at new (names + q) ≡ timer_at old (names + q)
 other_leaf names old new name timer size r q ne =
     elim (below_or_not q names) [
       | inl low ↦ r.others q low ne
@@ -73,7 +73,7 @@ other_leaf names old new name timer size r q ne =
     ]
 
 -- the map after the leaf of a name is written
-get-rewritten : (names : ℕ) (old new : Nodes) (name : ℕ) (timer : Option Timer) → length old ≡ 2 * names → Rewritten names old new name timer → (q : ℕ) →
+get-rewritten : (names : ℕ) (old new : Nodes) (name : ℕ) (timer : Option Timer) → length old ≡ 2 * names → IsRewritten names old new name timer → (q : ℕ) →
     get (frames_of names new) q ≡ cond (eqb q name) (frame_of timer) (get (frames_of names old) q)
 get-rewritten names old new name timer size r q =
     get-frames_of names new q
@@ -86,11 +86,11 @@ get-rewritten names old new name timer size r q =
           ∙ sym (ap (λ b. cond b (frame_of timer) (get (frames_of names old) q)) (is_another q name ne))
     ]
 
-pub frames_of-set : (names : ℕ) (old new : Nodes) (name : ℕ) (t : Timer) → length old ≡ 2 * names → Rewritten names old new name (Some t) → frames_of names new ≡ insert (frames_of names old) name t.frame
+pub frames_of-set : (names : ℕ) (old new : Nodes) (name : ℕ) (t : Timer) → length old ≡ 2 * names → IsRewritten names old new name (Some t) → frames_of names new ≡ insert (frames_of names old) name t.frame
 frames_of-set names old new name t size r =
     same_map nat_cmp_total nat_cmp-IsAntisymmetric _ _ (λ q. get-rewritten names old new name (Some t) size r q ∙ sym (get_inserted (frames_of names old) name t.frame q))
 
-pub frames_of-clear : (names : ℕ) (old new : Nodes) (name : ℕ) → length old ≡ 2 * names → Rewritten names old new name None → frames_of names new ≡ remove (frames_of names old) name
+pub frames_of-clear : (names : ℕ) (old new : Nodes) (name : ℕ) → length old ≡ 2 * names → IsRewritten names old new name None → frames_of names new ≡ remove (frames_of names old) name
 frames_of-clear names old new name size r =
     same_map nat_cmp_total nat_cmp-IsAntisymmetric _ _ (λ q. get-rewritten names old new name None size r q ∙ sym (get_removed (frames_of names old) name q))
 

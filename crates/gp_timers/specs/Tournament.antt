@@ -1,4 +1,4 @@
--- The tree of timers in which each node has the earlier of its two children.
+-- How the timers are kept (this profile's own rule): a tree in which each node has the earlier of its two children.
 use Rattle.std.specs.Prelude.{ℕ, suc, ◌+◌, ◌*◌, ◌^◌, ◌≡◌, ◌<◌, ◌==◌, ◌||◌, ◌&&◌, nat_lt, Bool, if◌then◌else◌, List, [], ◌∷◌, length, Option, None, Some, ◌≢◌}
 use Rattle.std.specs.Option.{ForSome}
 use Rattle.std.specs.List.{slice_index_or}
@@ -33,7 +33,7 @@ frames_from name (None ∷ leaves) = frames_from (suc name) leaves
 frames_from name (Some timer ∷ leaves) = insert (frames_from (suc name) leaves) name timer.frame
 
 -- a tournament again, with another timer at one leaf
-pub record Rewritten (names : ℕ) (old new : List (Option Timer)) (name : ℕ) (timer : Option Timer) : Type 0 where
+pub record IsRewritten (names : ℕ) (old new : List (Option Timer)) (name : ℕ) (timer : Option Timer) : Type 0 where
   pub tournament : IsTournament names new
   pub here : timer_at new (names + name) ≡ timer
   pub others : (k : ℕ) → k < names → k ≢ name → timer_at new (names + k) ≡ timer_at old (names + k)

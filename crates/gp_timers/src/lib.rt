@@ -1,4 +1,4 @@
-// Timers: a finite map from the name of a timer to the frame in which it is due.
+//! Timers: a finite map from the name of a timer to the frame in which it is due.
 #![tactic(auto)]
 
 mod tournament;

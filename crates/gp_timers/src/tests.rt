@@ -35,6 +35,14 @@ fn ends_of_the_range(rt: HostRuntime) -> Result<(), Fail> {
 }
 
 #[test]
+fn memory_short_or_ample(rt: HostRuntime) {
+    match Wheel::begin(rt.alloc(), 5120) {
+        Ok(mut wheel) => assert_eq!(rt; wheel.due(u64::MAX), None),
+        Err(fault) => assert_eq!(rt; fault, TimerFault::OutOfMemory),
+    }
+}
+
+#[test]
 fn fault_text(rt: HostRuntime) -> Result<(), Fail> {
     let text = format!(in rt.alloc(); "{}", TimerFault::OutOfMemory)?;
     assert_eq!(rt; text.as_str(), "out of memory");

@@ -1,9 +1,9 @@
-// A tournament among timers, as a binary tree in an array: the leaf of name `k` stands at
-// `names + k`, and the node `i` from 1 to `names - 1` holds the earlier of its two children, the
-// nodes `2 * i` and `2 * i + 1`. So node 1 holds the earliest of all.
+//! A tournament among timers, as a binary tree in an array: the leaf of name `k` stands at
+//! `names + k`, and the node `i` from 1 to `names - 1` holds the earlier of its two children, the
+//! nodes `2 * i` and `2 * i + 1`. So node 1 holds the earliest of all.
 ghost use Rattle.std.specs.Prelude.{◌≡◌, ◌<◌};
 ghost use Rattle.std.specs.Option.{ForSome};
-ghost use Rattle.gp_timers.specs.Tournament.{IsTournament, Rewritten, earlier_of, is_earlier, timer_at};
+ghost use Rattle.gp_timers.specs.Tournament.{IsRewritten, IsTournament, earlier_of, is_earlier, timer_at};
 
 /// A timer that is set.
 #[derive(Clone, Copy, Debug, PartialEq, Eq)]
@@ -44,7 +44,7 @@ pub fn rewrite(nodes: &mut [Option<Timer>], names: usize, name: u16, timer: Opti
     requires tournament { IsTournament names nodes.old }
     requires in_range { name < names }
     requires named { ForSome timer (λ t. t.name ≡ name) }
-    ensures { Rewritten names nodes.old nodes.new name timer }
+    ensures { IsRewritten names nodes.old nodes.new name timer }
 {
     let mut node = names + name as usize;
     nodes[node] = timer;

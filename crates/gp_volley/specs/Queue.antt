@@ -1,4 +1,4 @@
--- The copies that are owed, one after the other.
+-- The copies that are owed, one after the other (this profile's own rule: the copies of a message go out in a row).
 use Rattle.std.specs.Prelude.{◌≡◌, ◌≤◌, List, [], ◌∷◌, ◌++◌, replicate, Option, None, Some}
 use Rattle.gp_ploam.specs.declared.message.Down.{Down}
 use Rattle.gp_volley.specs.Volley.{VolleyState}

@@ -28,6 +28,33 @@ fn full_room(rt: HostRuntime) -> Result<(), Fail> {
 }
 
 #[test]
+fn three_copies_in_a_row(rt: HostRuntime) -> Result<(), Fail> {
+    let mut queue = VolleyQueue::begin(rt.alloc())?;
+    queue.owe(Down::EnableAll);
+    queue.owe(Down::Popup { onu: 255 });
+    for _ in 0..3 {
+        assert_eq!(rt; queue.send_one(), Some(Down::EnableAll));
+    }
+    for _ in 0..3 {
+        assert_eq!(rt; queue.send_one(), Some(Down::Popup { onu: 255 }));
+    }
+    assert_eq!(rt; queue.send_one(), None);
+    queue.close();
+    Ok(())
+}
+
+#[test]
+fn memory_short_or_ample(rt: HostRuntime) {
+    match VolleyQueue::begin(rt.alloc()) {
+        Ok(queue) => {
+            assert_eq!(rt; queue.len_copies(), 0);
+            queue.close();
+        }
+        Err(fault) => assert_eq!(rt; fault, QueueFault::OutOfMemory),
+    }
+}
+
+#[test]
 fn fault_text(rt: HostRuntime) -> Result<(), Fail> {
     let text = format!(in rt.alloc(); "{}", QueueFault::OutOfMemory)?;
     assert_eq!(rt; text.as_str(), "out of memory");

@@ -36,6 +36,7 @@ impl Volley {
         }
     }
 
+    /// The message of which copies are left.
     pub fn message(&self) -> Down
         ensures { result ≡ self.now.message }
     {
