@@ -72,7 +72,8 @@ impl<W: Write> Sink<W> {
         writer.into_inner()
     }
 
-    /// Writes out what is gathered, if anything is. Once a write failed or took nothing, nothing more is written.
+    /// Writes out what is gathered, if anything is. Once a write failed or took nothing, nothing
+    /// more is written.
     pub fn finish(&mut self) -> Result<(), WriteStopped>
         ensures ok { OnOk result (Takes (sink_state W.contents self.old) (sink_state W.contents self.new) []) }
         ensures empty { OnOk result (gathered_of self.new ≡ []) }
