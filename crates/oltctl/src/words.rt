@@ -1,30 +1,49 @@
 //! The words of the command line.
+ghost use Rattle.std.specs.Prelude.{◌≡◌, ◌≢◌, IfErr, IfOk, false, map};
+ghost use Rattle.clap.specs.Words.{app_of, kind_of, rule_of};
+ghost use Rattle.clap.specs.declared.builder.command.Command.TheViews.{out-Command as fields_of};
+ghost use Rattle.oltctl.specs.CommandLine.{AreMasks, IsFaultOf, IsParseOf, MaskNames, code_rule, decode_command, file_rule, mask_rule, oltctl_command, replay_command, up_rule};
+ghost use Rattle.std.specs.String.{string_bytes};
+
+use clap::error::ErrorKind;
 use clap::{Arg, ArgAction, ArgMatches, Command, Error};
 use std::alloc::{AllocError, Global};
 
 /// The masks that a code may be read with.
 static MASKS: [&str; 2] = ["0", "85"];
 
-fn file<'a>(alloc: Global) -> Arg<'a> {
+fn file<'a>(alloc: Global) -> Arg<'a>
+    ensures rule { rule_of result ≡ file_rule }
+    ensures local { result.global ≡ false }
+{
     Arg::new(alloc, "file")
         .value_name("FILE")
         .help("The script; standard input if left out")
 }
 
-fn replay<'a>(alloc: Global) -> Result<Command<'a>, AllocError> {
+fn replay<'a>(alloc: Global) -> Result<Command<'a>, AllocError>
+    ensures app { IfOk result (λ c. app_of c ≡ replay_command) }
+    ensures local { IfOk result (λ c. (fields_of c).has_globals ≡ false) }
+{
     Command::new(alloc, "replay")
         .about("Plays a script and writes its trace, one line for each entry")
         .arg(file(alloc))
 }
 
-fn up<'a>(alloc: Global) -> Arg<'a> {
+fn up<'a>(alloc: Global) -> Arg<'a>
+    ensures rule { rule_of result ≡ up_rule }
+    ensures local { result.global ≡ false }
+{
     Arg::new(alloc, "up")
         .long("up")
         .action(ArgAction::SetTrue)
         .help("The message is an upstream one")
 }
 
-fn mask<'a>(alloc: Global) -> Arg<'a> {
+fn mask<'a>(alloc: Global) -> Arg<'a>
+    ensures rule { (names : MaskNames) × AreMasks names × (rule_of result ≡ mask_rule names) }
+    ensures local { result.global ≡ false }
+{
     Arg::new(alloc, "mask")
         .long("mask")
         .value_name("MASK")
@@ -33,14 +52,20 @@ fn mask<'a>(alloc: Global) -> Arg<'a> {
         .help("What the check octet is XORed with")
 }
 
-fn code<'a>(alloc: Global) -> Arg<'a> {
+fn code<'a>(alloc: Global) -> Arg<'a>
+    ensures rule { rule_of result ≡ code_rule }
+    ensures local { result.global ≡ false }
+{
     Arg::new(alloc, "code")
         .value_name("HEX")
         .required(true)
         .help("The thirteen octets of a code, as 26 hexadecimal digits")
 }
 
-fn decode<'a>(alloc: Global) -> Result<Command<'a>, AllocError> {
+fn decode<'a>(alloc: Global) -> Result<Command<'a>, AllocError>
+    ensures app { IfOk result (λ c. (names : MaskNames) × AreMasks names × (app_of c ≡ decode_command names)) }
+    ensures local { IfOk result (λ c. (fields_of c).has_globals ≡ false) }
+{
     Command::new(alloc, "decode")
         .about("Says in words which message a code is")
         .arg(up(alloc))?
@@ -48,7 +73,9 @@ fn decode<'a>(alloc: Global) -> Result<Command<'a>, AllocError> {
         .arg(code(alloc))
 }
 
-fn command<'a>(alloc: Global) -> Result<Command<'a>, AllocError> {
+fn command<'a>(alloc: Global) -> Result<Command<'a>, AllocError>
+    ensures { IfOk result (λ c. (names : MaskNames) × AreMasks names × (app_of c ≡ oltctl_command names)) }
+{
     Command::new(alloc, "oltctl")
         .about("The activation side of a GPON line terminal (ITU-T G.984.3)")
         .subcommand_required(true)
@@ -58,6 +85,11 @@ fn command<'a>(alloc: Global) -> Result<Command<'a>, AllocError> {
 }
 
 /// What the words of a command line ask for.
-pub fn parse<'a>(alloc: Global, words: &'a [String]) -> Result<ArgMatches<'a>, Error> {
+///
+/// The first word is the program's name.
+pub fn parse<'a>(alloc: Global, words: &'a [String]) -> Result<ArgMatches<'a>, Error>
+    ensures parsed { IfOk result (IsParseOf (map string_bytes words.now)) }
+    ensures fault { IfErr result (λ e. kind_of e ≢ ErrorKind.OutOfMemory → IsFaultOf (map string_bytes words.now) (kind_of e)) }
+{
     command(alloc)?.try_get_matches_from(words)
 }

@@ -1,0 +1,59 @@
+-- The command line: `oltctl replay [FILE]` and `oltctl decode [--up] [--mask 0|85] HEX` (this program's own).
+use Rattle.std.specs.Prelude.{◌≡◌, List, [], ◌∷◌, Some, map, true, codes}
+use Rattle.std.specs.Borrow.{Bor}
+use Rattle.clap.specs.Simple.{on_top}
+use Rattle.clap.specs.Words.{App, IsAmong, Rule, Text, fault_of, new_app, new_rule, with_rule, with_subcommand, subcommand_of, subcommand_rows_of}
+use Rattle.clap.specs.declared.builder.action.ArgAction.TheVariants.{SetTrue}
+use Rattle.clap.specs.declared.builder.value_parser.ValueParser.TheVariants.{Names}
+use Rattle.clap.specs.declared.error.kind.ErrorKind.{ErrorKind}
+use Rattle.clap.specs.declared.parser.matches.ArgMatches.{ArgMatches}
+
+-- the names of the masks that a code may be read with, as clap holds them
+abbrev pub MaskNames : Type 0
+MaskNames = Bor (List (Bor Text))
+
+-- they are these two
+abbrev pub AreMasks : MaskNames → Type 0
+AreMasks names = map (λ name. name.now) names.now ≡ codes "0" ∷ codes "85" ∷ []
+
+-- FILE, which may be left out
+abbrev pub file_rule : Rule
+file_rule = record (new_rule (codes "file")) { value_names = 1 }
+
+-- `--up`
+abbrev pub up_rule : Rule
+up_rule = record (new_rule (codes "up")) { long = Some (codes "up"); action = Some SetTrue }
+
+-- `--mask`, 0 where it is left out
+abbrev pub mask_rule : MaskNames → Rule
+mask_rule names =
+    record (new_rule (codes "mask")) { long = Some (codes "mask"); value_names = 1; parser = Some (Names names); defaults = codes "0" ∷ [] }
+
+-- HEX, which is required
+abbrev pub code_rule : Rule
+code_rule = record (new_rule (codes "code")) { value_names = 1; required = true }
+
+abbrev pub replay_command : App
+replay_command = with_rule (new_app (codes "replay")) file_rule
+
+abbrev pub decode_command : MaskNames → App
+decode_command names = with_rule (with_rule (with_rule (new_app (codes "decode")) up_rule) (mask_rule names)) code_rule
+
+-- one of the two has to be named; with no words at all the help is shown
+abbrev pub oltctl_command : MaskNames → App
+oltctl_command names =
+    with_subcommand (with_subcommand (on_top (λ s. record s { subcommand_required = true; arg_required_else_help = true }) (new_app (codes "oltctl")))
+    replay_command.top) (decode_command names).top
+
+-- the words have no fault, and what was parsed is the subcommand that they name, with the values that they give it
+pub record IsParseOf (words : List Text) (m : ArgMatches) : Type 0 where
+  pub names : MaskNames
+  pub masks : AreMasks names
+  pub faultless : fault_of (oltctl_command names) words ≡ []
+  pub found : subcommand_rows_of m ≡ subcommand_of (oltctl_command names) words
+
+-- this is what is wrong with the words, or that help was asked for
+pub record IsFaultOf (words : List Text) (kind : ErrorKind) : Type 0 where
+  pub names : MaskNames
+  pub masks : AreMasks names
+  pub among : IsAmong kind (fault_of (oltctl_command names) words)
