@@ -1,3 +1,6 @@
+ghost use Rattle.std.specs.Prelude.{◌≡◌, ◌≤◌, length};
+ghost use Rattle.gp_alarms.specs.Alarm.{alarm_name};
+
 use gp_ploam::Serial;
 use std::fmt;
 
@@ -26,6 +29,23 @@ pub struct Alarm {
     pub serial: Serial,
 }
 
+impl AlarmKind {
+    /// The name that is printed, of at most four letters.
+    pub fn name(self) -> &'static str
+        ensures name { result.now ≡ alarm_name self }
+        ensures short { length result.now ≤ 4 }
+    {
+        match self {
+            AlarmKind::Los => "LOS",
+            AlarmKind::Loam => "LOAM",
+            AlarmKind::Loa => "LOA",
+            AlarmKind::Suf => "SUF",
+            AlarmKind::Df => "DF",
+            AlarmKind::Dg => "DG",
+        }
+    }
+}
+
 impl fmt::Display for AlarmKind {
     ghost use Rattle.std.specs.Prelude.{Some};
     ghost use Rattle.gp_alarms.specs.Alarm.{alarm_name};
@@ -33,13 +53,6 @@ impl fmt::Display for AlarmKind {
     ghost output = { λ kind. Some (alarm_name kind) };
 
     fn fmt<W: fmt::Write>(&self, f: &mut fmt::Formatter<W>) -> fmt::Result {
-        f.write_str(match self {
-            AlarmKind::Los => "LOS",
-            AlarmKind::Loam => "LOAM",
-            AlarmKind::Loa => "LOA",
-            AlarmKind::Suf => "SUF",
-            AlarmKind::Df => "DF",
-            AlarmKind::Dg => "DG",
-        })
+        f.write_str(self.name())
     }
 }

@@ -9,20 +9,15 @@ use Rattle.gp_ploam.specs.Down.{code_of_down}
 use Rattle.gp_serial.specs.Spelling.{text_of_serial}
 use Rattle.gp_ranging.specs.declared.grant.Grant.{Grant}
 use Rattle.gp_ranging.specs.declared.grant.Grant.TheVariants as grants
-use Rattle.gp_alarms.specs.declared.alarm.AlarmKind.{AlarmKind}
-use Rattle.gp_alarms.specs.declared.alarm.AlarmKind.TheVariants as alarms
 use Rattle.gp_alarms.specs.declared.alarm.Alarm.{Alarm}
+use Rattle.gp_alarms.specs.Alarm.{alarm_name}
 use Rattle.gp_machine.specs.declared.event.Command.{Command}
 use Rattle.gp_machine.specs.declared.event.Command.TheVariants as commands
 use Rattle.gp_machine.specs.declared.event.Event.{Event}
 use Rattle.gp_machine.specs.declared.event.Event.TheVariants as events
-use Rattle.gp_machine.specs.declared.refusal.Refusal.{Refusal}
-use Rattle.gp_machine.specs.declared.refusal.Refusal.TheVariants as refusals
-use Rattle.gp_machine.specs.declared.reply.Reply.{Reply}
-use Rattle.gp_machine.specs.declared.reply.Reply.TheVariants as replies
 use Rattle.gp_machine.specs.declared.answer.Answer.{Answer}
 use Rattle.gp_machine.specs.declared.entry.Receipt.{Receipt}
-use Rattle.gp_machine.specs.Refusals.{refusal_number}
+use Rattle.gp_machine.specs.Replies.{reply_text}
 
 -- what the operator asked for
 abbrev pub command_text : Command → List ℕ
@@ -33,29 +28,6 @@ abbrev pub event_text : Event → List ℕ
 event_text events.Frame = codes "frame"
 event_text (events.Burst at bytes) = codes "burst " ++ decimal at ++ codes " " ++ encode_lower bytes
 event_text (events.Command command) = command_text command
-
--- the word for a refusal
-abbrev pub refusal_name : Refusal → List ℕ
-refusal_name refusals.Stray = codes "stray"
-refusal_name refusals.Garbled = codes "garbled"
-refusal_name refusals.WrongWindow = codes "wrong-window"
-refusal_name refusals.NotAdmitted = codes "not-admitted"
-refusal_name refusals.NoId = codes "no-id"
-refusal_name refusals.NoLicence = codes "no-licence"
-refusal_name refusals.Busy = codes "busy"
-refusal_name refusals.AlreadySearching = codes "already-searching"
-
--- what the port replied
-abbrev pub reply_text : Reply → List ℕ
-reply_text replies.Ticked = codes "ok"
-reply_text (replies.Refused refusal) = codes "refused " ++ decimal (refusal_number refusal) ++ codes " " ++ refusal_name refusal
-reply_text replies.Searching = codes "searching"
-reply_text (replies.Found onu) = codes "found " ++ decimal onu
-reply_text (replies.Again onu) = codes "again " ++ decimal onu
-reply_text (replies.Repeat onu) = codes "repeat " ++ decimal onu
-reply_text (replies.Ranged onu eqd) = codes "ranged " ++ decimal onu ++ codes " " ++ decimal eqd
-reply_text (replies.TooFar onu) = codes "too-far " ++ decimal onu
-reply_text (replies.StillRanging onu) = codes "still-ranging " ++ decimal onu
 
 -- the message that was sent, as its code under the mask
 abbrev pub sent_text : Mask → Option Down → List ℕ
@@ -68,15 +40,6 @@ grant_text None = []
 grant_text (Some grants.Search) = codes " grant search"
 grant_text (Some (grants.Range onu)) = codes " grant range " ++ decimal onu
 grant_text (Some (grants.Poll onu)) = codes " grant poll " ++ decimal onu
-
--- the name of an alarm (G.984.3, clause 11)
-abbrev pub alarm_name : AlarmKind → List ℕ
-alarm_name alarms.Los = codes "LOS"
-alarm_name alarms.Loam = codes "LOAM"
-alarm_name alarms.Loa = codes "LOA"
-alarm_name alarms.Suf = codes "SUF"
-alarm_name alarms.Df = codes "DF"
-alarm_name alarms.Dg = codes "DG"
 
 -- the alarm that was raised, with its unit's serial number
 abbrev pub alarm_text : Option Alarm → List ℕ

@@ -1,45 +1,16 @@
 ghost use Rattle.std.specs.Prelude.{◌≡◌, ◌+◌, ◌<◌, ◌≤◌, ◌++◌, OnOk, OnErr, length, vec_len, vec_capacity, codes, decimal};
 ghost use Rattle.std.specs.Option.{ForSome};
 ghost use Rattle.gp_ploam.specs.Down.{IsProperDown};
-ghost use Rattle.gp_trace.specs.Text.{alarm_name, alarm_text, answer_text, grant_text, refusal_name, reply_text, sent_text};
+ghost use Rattle.gp_machine.specs.Replies.{reply_text};
+ghost use Rattle.gp_trace.specs.Text.{alarm_text, answer_text, grant_text, sent_text};
 
 use super::pieces::{push_code, push_number};
-use gp_alarms::{Alarm, AlarmKind};
+use gp_alarms::Alarm;
 use gp_machine::{Answer, Refusal, Reply};
 use gp_ploam::{Down, Mask};
 use gp_ranging::Grant;
 use gp_serial::SerialText;
 use std::alloc::AllocError;
-
-fn refusal_name(refusal: Refusal) -> &'static str
-    ensures name { result.now ≡ refusal_name refusal }
-    ensures short { length result.now ≤ 17 }
-{
-    match refusal {
-        Refusal::Stray => "stray",
-        Refusal::Garbled => "garbled",
-        Refusal::WrongWindow => "wrong-window",
-        Refusal::NotAdmitted => "not-admitted",
-        Refusal::NoId => "no-id",
-        Refusal::NoLicence => "no-licence",
-        Refusal::Busy => "busy",
-        Refusal::AlreadySearching => "already-searching",
-    }
-}
-
-fn alarm_name(kind: AlarmKind) -> &'static str
-    ensures name { result.now ≡ alarm_name kind }
-    ensures short { length result.now ≤ 4 }
-{
-    match kind {
-        AlarmKind::Los => "LOS",
-        AlarmKind::Loam => "LOAM",
-        AlarmKind::Loa => "LOA",
-        AlarmKind::Suf => "SUF",
-        AlarmKind::Df => "DF",
-        AlarmKind::Dg => "DG",
-    }
-}
 
 /// A word and a number.
 fn push_numbered(out: &mut Vec<u8>, word: &str, number: u64) -> Result<(), AllocError>
@@ -63,7 +34,7 @@ fn push_refusal(out: &mut Vec<u8>, refusal: Refusal) -> Result<(), AllocError>
 {
     push_numbered(out, "refused", u64::from(refusal.number()))?;
     out.extend_from_slice(b" ")?;
-    out.extend_from_slice(refusal_name(refusal).as_bytes())
+    out.extend_from_slice(refusal.name().as_bytes())
 }
 
 fn push_ranged(out: &mut Vec<u8>, onu: u8, eqd: u32) -> Result<(), AllocError>
@@ -141,7 +112,7 @@ fn push_alarm(out: &mut Vec<u8>, alarm: &Option<Alarm>) -> Result<(), AllocError
 {
     if let Some(alarm) = alarm {
         out.extend_from_slice(b" alarm ")?;
-        out.extend_from_slice(alarm_name(alarm.kind).as_bytes())?;
+        out.extend_from_slice(alarm.kind.name().as_bytes())?;
         out.extend_from_slice(b" ")?;
         out.extend_from_slice(SerialText::of(&alarm.serial).as_bytes())?;
     }
