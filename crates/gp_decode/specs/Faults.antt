@@ -1,4 +1,4 @@
--- The faults of decoding a line, and how a program reports them.
+-- The faults of decoding a line, and how a program reports them (this profile's own rule).
 use Rattle.std.specs.Prelude.{ℕ, List, codes}
 use Rattle.gp_ploam.specs.declared.message.PloamFault.{PloamFault}
 use Rattle.gp_ploam.specs.declared.message.PloamFault.TheVariants as ploam

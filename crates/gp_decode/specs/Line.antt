@@ -1,4 +1,4 @@
--- What the hexadecimal digits of a code are decoded to, and what is wrong with a text that they aren't.
+-- What the hexadecimal digits of a code are decoded to, and what is wrong with a text that they aren't (this profile's own rule).
 use Rattle.std.specs.Prelude.{◌≡◌, ◌≢◌, ℕ, ◌%◌, Bool, true, false, List, ◌++◌, length, codes, ◌⊎◌, Ok}
 use Rattle.std.specs.List.{list_all}
 use Rattle.hex.specs.Hex.{decode_of, is_hex_digit}

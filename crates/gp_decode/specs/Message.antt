@@ -1,4 +1,5 @@
--- Messages in words: the name of the message and its fields, numbers in decimal, octets in hexadecimal digits.
+-- Messages in words: the name that G.984.3, clause 9, gives the message, and its fields. That numbers are decimal and
+-- octets hexadecimal digits is this profile's own rule.
 use Rattle.std.specs.Prelude.{ℕ, Bool, true, false, List, ◌++◌, codes, decimal}
 use Rattle.hex.specs.Hex.{encode_lower}
 use Rattle.gp_ploam.specs.declared.message.Serial.{Serial}

@@ -1,5 +1,5 @@
 -- What holds in each case of a definition holds of what it defines.
-use Rattle.std.proofs.Common.{◌≡◌, ℕ, zero, suc, ◌+◌, ◌<◌, ◌≤◌, Bool, true, false, cond, nat_lt, ◌==◌, ◌&&◌, List, [], ◌∷◌, Option, None, Some, refl, ap, ◌∙◌, arith}
+use Rattle.std.proofs.Common.{◌≡◌, ℕ, zero, suc, ◌+◌, ◌<◌, ◌≤◌, Bool, true, false, cond, nat_lt, ◌==◌, ◌&&◌, ◌||◌, List, [], ◌∷◌, Option, None, Some, refl, ap, ◌∙◌, arith}
 use Rattle.std.specs.Prelude.{◌-◌, is_none}
 use Rattle.std.specs.List.{list_any}
 use Rattle.std.specs.FinMap.{get}
@@ -16,13 +16,16 @@ use Rattle.gp_ranging.specs.Window.{WindowState}
 use Rattle.gp_machine.specs.declared.row.Phase.{Phase}
 use Rattle.gp_machine.specs.declared.row.Phase.TheVariants.{Ranging, Operating}
 use Rattle.gp_machine.specs.declared.row.Row.{Row}
+use Rattle.gp_machine.specs.declared.event.Command.{Command}
+use Rattle.gp_machine.specs.declared.event.Command.TheVariants as command
 use Rattle.gp_machine.specs.declared.refusal.Refusal.{Refusal}
-use Rattle.gp_machine.specs.declared.refusal.Refusal.TheVariants.{Stray, Garbled, WrongWindow, NotAdmitted, NoId, NoLicence, Busy}
-use Rattle.gp_machine.specs.declared.reply.Reply.TheVariants.{Refused, Found, Again, Repeat, Ranged, TooFar, StillRanging}
+use Rattle.gp_machine.specs.declared.refusal.Refusal.TheVariants.{Stray, Garbled, WrongWindow, NotAdmitted, NoId, NoLicence, Busy, AlreadySearching}
+use Rattle.gp_machine.specs.declared.reply.Reply.TheVariants.{Refused, Found, Again, Repeat, Ranged, TooFar, StillRanging, Searching}
 use Rattle.gp_machine.specs.State.{PortState, HasRow, rows_of}
 use Rattle.gp_machine.specs.Outcomes.{Outcome, bare_outcome, has_room, state_seen, refused_burst}
 use Rattle.gp_machine.specs.Frame.{runs_timer, state_after_timer, first_of, is_idle, deciding_frame, waiting_frame, frame_outcome}
 use Rattle.gp_machine.specs.Burst.{state_assigned, state_ranged, is_assign, newcomer_outcome, active_outcome, admitted_outcome, serial_outcome, search_outcome, measured_outcome, row_outcome, asked_outcome, range_outcome, heard_outcome, window_outcome, burst_outcome}
+use Rattle.gp_machine.specs.Commands.{command_outcome, is_acquiring}
 
 pub by_test : {A : Type 0} (P : A → Type 0) (b : Bool) (x y : A) → (b ≡ true → P x) → (b ≡ false → P y) → P (cond b x y)
 by_test P true x y f g = f refl
@@ -182,3 +185,12 @@ by_timer P p each =
     by_test P (runs_timer p) _ _
     (λ runs. by_test P (p.timer + 1 == p.config.search_period) _ _ (λ ended. each 0 true) (λ goes_on. each (p.timer + 1) p.wanted))
     (λ stands. each p.timer p.wanted)
+
+-- each outcome that a command may have in the state p with u licences
+pub record OfEachCommand (P : Outcome → Type 0) (u : ℕ) (p : PortState) : Type 0 where
+  pub refused : (refusal : Refusal) → P (bare_outcome u p (Refused refusal))
+  pub searching : P (bare_outcome u (record p { wanted = true }) Searching)
+
+pub of_each_command : (P : Outcome → Type 0) (u : ℕ) (p : PortState) (c : Command) → OfEachCommand P u p → P (command_outcome u p c)
+of_each_command P u p command.Search each =
+    by_test P (p.wanted || is_acquiring p.common) _ _ (λ busy. each.refused AlreadySearching) (λ free. each.searching)

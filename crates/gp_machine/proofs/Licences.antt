@@ -1,5 +1,5 @@
 -- No step makes or loses a licence.
-use Rattle.std.proofs.Common.{◌≡◌, ℕ, ◌+◌, ◌||◌, cond, Option, None, refl, sym, ap, ◌∙◌, subst, arith, is_some}
+use Rattle.std.proofs.Common.{◌≡◌, ℕ, ◌+◌, cond, Option, None, refl, sym, ap, ◌∙◌, subst, arith, is_some}
 use Rattle.std.specs.Prelude.{◌-◌}
 use Rattle.std.specs.FinMap.{get, insert, len, len-insert}
 use Rattle.gp_ploam.specs.declared.message.Serial.{Serial}
@@ -11,16 +11,13 @@ use Rattle.gp_common.specs.declared.decision.Decision.TheVariants.{Nothing, Over
 use Rattle.gp_machine.specs.declared.row.Phase.TheVariants.{Operating}
 use Rattle.gp_machine.specs.declared.row.Row.{Row}
 use Rattle.gp_machine.specs.declared.event.Event.TheVariants as event
-use Rattle.gp_machine.specs.declared.event.Command.{Command}
-use Rattle.gp_machine.specs.declared.event.Command.TheVariants.{Search}
 use Rattle.gp_machine.specs.State.{PortState, Rows, HasRow, rows_of}
 use Rattle.gp_machine.specs.Outcomes.{Outcome}
 use Rattle.gp_machine.specs.Frame.{state_after_timer, state_before_decision, state_after_decision}
 use Rattle.gp_machine.specs.Burst.{new_row}
-use Rattle.gp_machine.specs.Commands.{command_outcome, is_acquiring}
 use Rattle.gp_machine.specs.Step.{number_in}
 use Rattle.gp_machine.specs.OneStep.{KeepsLicences}
-use Rattle.gp_machine.proofs.Cases.{by_test, by_timer, OfEachBurst, OfEachFrame, of_each_burst, of_each_frame}
+use Rattle.gp_machine.proofs.Cases.{by_timer, OfEachBurst, OfEachFrame, OfEachCommand, of_each_burst, of_each_frame, of_each_command}
 
 -- as many licences in the purse and with units as before
 abbrev pub Keeps : ℕ → PortState → Outcome → Type 0
@@ -62,10 +59,10 @@ frame_keeps u p ranging =
       waiting = ap (λ (rows : Rows). u + len rows) (timer_rows p);
     }
 
-pub command_keeps : (u : ℕ) (p : PortState) (c : Command) → Keeps u p (command_outcome u p c)
-command_keeps u p Search = by_test (Keeps u p) (p.wanted || is_acquiring p.common) _ _ (λ busy. refl) (λ free. refl)
+pub command_keeps : (u : ℕ) (p : PortState) → OfEachCommand (Keeps u p) u p
+command_keeps u p = record { refused = λ refusal. refl; searching = refl }
 
 pub step_keeps : KeepsLicences
 step_keeps u p event.Frame o s = subst (Keeps u p) (sym s.2) (of_each_frame (Keeps u p) u p s.0 (frame_keeps u p s.0))
 step_keeps u p (event.Burst at bytes) o s = subst (Keeps u p) (sym s.3) (of_each_burst (Keeps u p) u p at s.0 (number_in o.answer.reply) (burst_keeps u p at s.0 (number_in o.answer.reply)))
-step_keeps u p (event.Command c) o s = subst (Keeps u p) (sym s) (command_keeps u p c)
+step_keeps u p (event.Command c) o s = subst (Keeps u p) (sym s) (of_each_command (Keeps u p) u p c (command_keeps u p))

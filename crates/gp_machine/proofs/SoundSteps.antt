@@ -1,5 +1,5 @@
 -- What keeps a port sound.
-use Rattle.std.proofs.Common.{◌≡◌, ℕ, zero, suc, ◌+◌, ◌<◌, ◌≤◌, ◌==◌, ◌||◌, Bool, true, false, length, List, [], ◌∷◌, Option, None, Some, refl, sym, ap, subst, ◌∙◌, arith, length-append}
+use Rattle.std.proofs.Common.{◌≡◌, ℕ, zero, suc, ◌+◌, ◌<◌, ◌≤◌, ◌==◌, Bool, true, false, length, List, [], ◌∷◌, Option, None, Some, refl, sym, ap, subst, ◌∙◌, arith, length-append}
 use Rattle.std.specs.Prelude.{◌-◌, ◌++◌}
 use Rattle.std.specs.List.{list_any}
 use Rattle.std.proofs.lemmas.Bool.{leb-true, ltb-true, eqb-false}
@@ -18,18 +18,15 @@ use Rattle.gp_common.specs.Decision.{decision_of, measurement_of}
 use Rattle.gp_machine.specs.declared.config.PortConfig.{PortConfig}
 use Rattle.gp_machine.specs.declared.row.Phase.TheVariants.{Operating}
 use Rattle.gp_machine.specs.declared.row.Row.{Row}
-use Rattle.gp_machine.specs.declared.event.Command.{Command}
-use Rattle.gp_machine.specs.declared.event.Command.TheVariants as command
 use Rattle.gp_machine.specs.declared.event.Event.TheVariants as event
 use Rattle.gp_machine.specs.State.{PortState, Rows, HasRow, IsFree, IsLeastRanging, opening_of}
 use Rattle.gp_machine.specs.Sound.{IsSound, IsAsked, HasFramesLeft, HasCyclesLeft, copies_at_most}
 use Rattle.gp_machine.specs.Outcomes.{Outcome, state_owing, has_room, state_seen}
 use Rattle.gp_machine.specs.Frame.{rest_of, runs_timer, state_after_timer, state_after_sending, window_left, state_after_tick, state_before_decision, state_after_decision, decision_after}
 use Rattle.gp_machine.specs.Burst.{new_row, state_assigned, state_ranged}
-use Rattle.gp_machine.specs.Commands.{command_outcome, is_acquiring}
 use Rattle.gp_machine.specs.Step.{HandsOutFree, number_in}
 use Rattle.gp_machine.specs.OneStep.{KeepsSound}
-use Rattle.gp_machine.proofs.Cases.{by_test, by_timer, both_true, IsFromSearch, OfEachBurst, OfEachFrame, of_each_burst, of_each_frame}
+use Rattle.gp_machine.proofs.Cases.{by_test, by_timer, both_true, IsFromSearch, OfEachBurst, OfEachFrame, OfEachCommand, of_each_burst, of_each_frame, of_each_command}
 use Rattle.gp_machine.proofs.SoundRows.{table_of, MayPut, sound_put, sound_empty, may_put_again, admitted_contains}
 
 pub sound_opening : (c : PortConfig) → IsSound (opening_of c)
@@ -312,9 +309,8 @@ sound_burst u p at heard n h =
 
 -- ---- a command, and a step
 
-pub sound_command : (u : ℕ) (p : PortState) (c : Command) → IsSound p → IsSound (command_outcome u p c).state
-sound_command u p command.Search h =
-    by_test (λ (o : Outcome). IsSound o.state) (p.wanted || is_acquiring p.common) _ _ (λ busy. h) (λ free. with_timer p p.timer true h h.timed)
+pub sound_command : (u : ℕ) (p : PortState) → IsSound p → OfEachCommand (λ (o : Outcome). IsSound o.state) u p
+sound_command u p h = record { refused = λ refusal. h; searching = with_timer p p.timer true h h.timed }
 
 pub sound_step : KeepsSound
 sound_step u p event.Frame o h s =
@@ -323,4 +319,4 @@ sound_step u p (event.Burst at bytes) o h s =
     let free = subst (λ (x : Outcome). HandsOutFree p x.answer.reply) s.3 s.2 in
     subst (λ (x : Outcome). IsSound x.state) (sym s.3)
     (of_each_burst (IsSoundIfFree p) u p at s.0 (number_in o.answer.reply) (sound_burst u p at s.0 (number_in o.answer.reply) h) free)
-sound_step u p (event.Command c) o h s = subst (λ (x : Outcome). IsSound x.state) (sym s) (sound_command u p c h)
+sound_step u p (event.Command c) o h s = subst (λ (x : Outcome). IsSound x.state) (sym s) (of_each_command (λ (x : Outcome). IsSound x.state) u p c (sound_command u p h))

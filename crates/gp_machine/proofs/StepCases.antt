@@ -1,5 +1,5 @@
 -- What a step can be, by the messages that it owes.
-use Rattle.std.proofs.Common.{◌≡◌, ℕ, zero, suc, ◌-◌, ◌≤◌, Bool, true, false, cond, List, [], ◌∷◌, ◌++◌, Option, None, Some, ◌⊎◌, inl, inr, refl, sym, ap, subst, ◌∙◌, ◌||◌}
+use Rattle.std.proofs.Common.{◌≡◌, ℕ, zero, suc, ◌-◌, ◌≤◌, Bool, true, false, cond, List, [], ◌∷◌, ◌++◌, Option, None, Some, ◌⊎◌, inl, inr, refl, sym, ap, subst, ◌∙◌}
 use Rattle.std.specs.FinMap.{insert}
 use Rattle.std.proofs.lemmas.List.{append-nil}
 use Rattle.gp_ploam.specs.declared.message.Serial.{Serial}
@@ -16,8 +16,6 @@ use Rattle.gp_common.specs.declared.decision.Decision.{Decision}
 use Rattle.gp_common.specs.Decision.{decision_of}
 use Rattle.gp_machine.specs.declared.event.Event.{Event}
 use Rattle.gp_machine.specs.declared.event.Event.TheVariants as event
-use Rattle.gp_machine.specs.declared.event.Command.{Command}
-use Rattle.gp_machine.specs.declared.event.Command.TheVariants as command
 use Rattle.gp_machine.specs.declared.refusal.Refusal.TheVariants as refusal
 use Rattle.gp_machine.specs.declared.reply.Reply.{Reply}
 use Rattle.gp_machine.specs.declared.reply.Reply.TheVariants as reply
@@ -27,12 +25,11 @@ use Rattle.gp_machine.specs.State.{PortState, HasRow}
 use Rattle.gp_machine.specs.Outcomes.{Outcome, bare_outcome, state_seen}
 use Rattle.gp_machine.specs.Frame.{first_of, rest_of, state_after_decision, decision_after, state_after_sending, state_after_tick, frame_answer, grant_of}
 use Rattle.gp_machine.specs.Burst.{new_row}
-use Rattle.gp_machine.specs.Commands.{command_outcome, is_acquiring}
 use Rattle.gp_machine.specs.Step.{Step, Hears, number_in}
 use Rattle.gp_machine.specs.Messages.{HearsSerial, begins_acquisition, three_times}
 use Rattle.gp_machine.specs.Delays.{AsksToRange}
 use Rattle.gp_machine.specs.OnuIds.{HasOnuId}
-use Rattle.gp_machine.proofs.Cases.{by_test, by_timer, IsFromSearch, IsFromRange, OfEachBurst, OfEachFrame, of_each_burst, of_each_frame}
+use Rattle.gp_machine.proofs.Cases.{by_timer, IsFromSearch, IsFromRange, OfEachBurst, OfEachFrame, OfEachCommand, of_each_burst, of_each_frame, of_each_command}
 
 -- ---- the cases
 
@@ -208,11 +205,12 @@ module _ (u : ℕ) (p : PortState) (at : ℕ) (bytes : List ℕ) (heard : Option
             (record { asked = asks m s from; active = (from.row, from.has, from.same); near = near; reply = refl; sent = refl; owed = refl; rows = refl; config = refl });
       }
 
-command_case : (u : ℕ) (p : PortState) (e : Event) (c : Command) → StepCase p e (command_outcome u p c)
-command_case u p e command.Search =
-    by_test (StepCase p e) (p.wanted || is_acquiring p.common) _ _
-    (λ busy. StepCase.quiet (quiet_outcome u p p.window p.wanted (reply.Refused refusal.AlreadySearching) tt))
-    (λ free. StepCase.quiet (quiet_outcome u p p.window true reply.Searching tt))
+command_case : (u : ℕ) (p : PortState) (e : Event) → OfEachCommand (StepCase p e) u p
+command_case u p e =
+    record {
+      refused = λ why. StepCase.quiet (quiet_outcome u p p.window p.wanted (reply.Refused why) tt);
+      searching = StepCase.quiet (quiet_outcome u p p.window true reply.Searching tt);
+    }
 
 pub step_case : (u : ℕ) (p : PortState) (e : Event) (o : Outcome) → Step u p e o → StepCase p e o
 step_case u p event.Frame o h =
@@ -221,4 +219,6 @@ step_case u p (event.Burst at bytes) o h =
     let e = event.Burst at bytes in
     let n = number_in o.answer.reply in
     subst (λ (x : Outcome). StepCase p e x) (sym h.3) (of_each_burst (StepCase p e) u p at h.0 n (burst_case u p at bytes h.0 h.1 n))
-step_case u p (event.Command c) o h = subst (λ (x : Outcome). StepCase p (event.Command c) x) (sym h) (command_case u p (event.Command c) c)
+step_case u p (event.Command c) o h =
+    let e = event.Command c in
+    subst (λ (x : Outcome). StepCase p e x) (sym h) (of_each_command (StepCase p e) u p c (command_case u p e))

@@ -1,4 +1,4 @@
--- The laws of one step.
+-- The laws of one step (this profile's own rule).
 use Rattle.std.specs.Prelude.{◌≡◌, ℕ, ◌+◌}
 use Rattle.gp_machine.specs.declared.event.Event.{Event}
 use Rattle.gp_machine.specs.State.{PortState, rows_of}

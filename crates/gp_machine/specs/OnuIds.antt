@@ -1,4 +1,4 @@
--- The ONU-IDs of a run: who has them, and who is told them.
+-- The ONU-IDs of a run: who has them, and who is told them (G.984.3, clause 10).
 use Rattle.std.specs.Prelude.{◌≡◌, ◌≢◌, ◌↔◌, ℕ, ◌≤◌, List, ◌++◌, All, Contains}
 use Rattle.gp_ploam.specs.declared.message.Serial.{Serial}
 use Rattle.gp_ploam.specs.declared.message.Down.{Down}

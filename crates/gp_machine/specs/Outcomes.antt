@@ -1,4 +1,4 @@
--- What a step gives, and the parts that the tables of all events share.
+-- What a step gives, and the parts that the tables of all events share (this profile's own rule).
 use Rattle.std.specs.Prelude.{ℕ, ◌+◌, nat_le, Bool, [], ◌∷◌, ◌++◌, length, None, option_map}
 use Rattle.gp_ploam.specs.declared.message.Down.{Down}
 use Rattle.gp_ranging.specs.Window.{marked_window}

@@ -1,4 +1,4 @@
--- A run of a port.
+-- A run of a port (this profile's own rule).
 use Rattle.std.specs.Prelude.{◌≡◌, List, [], ◌∷◌}
 use Rattle.gp_machine.specs.declared.entry.Entry.{Entry}
 use Rattle.gp_machine.specs.State.{PortState}

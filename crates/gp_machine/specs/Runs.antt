@@ -1,4 +1,4 @@
--- Whole runs: their parts, the states that they lead to, and their licences.
+-- Whole runs: their parts, the states that they lead to, and their licences (this profile's own rule).
 use Rattle.std.specs.Prelude.{◌≡◌, ◌↔◌, ℕ, ◌+◌, List, ◌∷◌, ◌++◌}
 use Rattle.std.specs.List.{sum_by}
 use Rattle.gp_machine.specs.declared.config.PortConfig.{PortConfig}

@@ -1,4 +1,4 @@
--- One step of a port.
+-- One step of a port (this profile's own rule).
 use Rattle.std.specs.Prelude.{◌≡◌, ℕ, List, Option, None, Some}
 use Rattle.gp_ploam.specs.declared.message.Up.{Up}
 use Rattle.gp_ploam.specs.Mask.{mask_value}

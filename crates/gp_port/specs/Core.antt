@@ -1,4 +1,4 @@
--- What a port core stands for.
+-- What a port core stands for (this profile's own rule).
 use Rattle.std.specs.Prelude.{◌≡◌, ℕ, ◌≤◌, Bool, List, Option}
 use Rattle.gp_ploam.specs.declared.message.Down.{Down}
 use Rattle.gp_ranging.specs.Window.{WindowState}

@@ -1,4 +1,4 @@
--- A list of rows.
+-- A list of rows (this profile's own rule).
 use Rattle.std.specs.Prelude.{◌≡◌, ℕ, nat_le, if◌then◌else◌, List, [], ◌∷◌, Option, None, Some}
 use Rattle.std.specs.FinMap.{find}
 use Rattle.gp_ploam.specs.declared.message.Serial.{Serial}

@@ -1,6 +1,5 @@
 pub mod SinkLemmas
 pub mod TurnLemmas
 pub mod RoomLemmas
-pub mod ScriptLemmas
 pub mod LawLemmas
 pub mod OutcomeLemmas

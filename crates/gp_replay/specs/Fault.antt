@@ -1,4 +1,4 @@
--- Which fault of a replay the fault of each part is.
+-- Which fault of a replay the fault of each part is (this profile's own rule).
 use Rattle.gp_stream.specs.declared.reading.SourceFault.{SourceFault}
 use Rattle.gp_stream.specs.declared.reading.SourceFault.TheVariants as sources
 use Rattle.gp_script.specs.declared.fault.ScriptError.{ScriptError}

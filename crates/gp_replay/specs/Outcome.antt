@@ -1,4 +1,4 @@
--- How a replay may end.
+-- How a replay may end (this profile's own rule).
 use Rattle.std.specs.Prelude.{◌≡◌, ℕ, ◌≤◌, List, length, Ok, Err}
 use Rattle.gp_machine.specs.declared.entry.Receipt.{Receipt}
 use Rattle.gp_stream.specs.Source.{SourceState, ReadsWhole}

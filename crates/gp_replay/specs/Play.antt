@@ -1,4 +1,4 @@
--- What it means to play a script: the steps of one actor, in the order of the script's events.
+-- What it means to play a script: the steps of one actor, in the order of the script's events (this profile's own rule).
 use Rattle.std.specs.Prelude.{◌≡◌, ℕ, ◌+◌, List, [], ◌∷◌, ◌++◌, Some, min, replicate, slice_get, slice_set}
 use Rattle.std.specs.List.{flat_map}
 use Rattle.gp_machine.specs.declared.event.Event.{Event}

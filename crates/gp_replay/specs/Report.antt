@@ -1,4 +1,4 @@
--- What a program says of a fault.
+-- What a program says of a fault (this profile's own rule).
 use Rattle.std.specs.Prelude.{ℕ, List, ◌++◌, codes}
 use Rattle.gp_script.specs.declared.fault.ScriptFault.{ScriptFault}
 use Rattle.gp_script.specs.declared.fault.ScriptFault.TheVariants as scripts

@@ -1,4 +1,4 @@
--- The line terminal that a script is played on.
+-- The line terminal that a script is played on (this profile's own rule).
 use Rattle.std.specs.Prelude.{ℕ, ◌+◌, ◌<◌, ◌^◌, List, All, map, sum_by}
 use Rattle.gp_machine.specs.declared.config.PortConfig.{PortConfig}
 use Rattle.gp_machine.specs.State.{PortState, opening_of, rows_of}

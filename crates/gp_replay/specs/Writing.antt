@@ -1,4 +1,4 @@
--- Turns that are taken and written down, as a sink shows it.
+-- Turns that are taken and written down, as a sink shows it (this profile's own rule).
 use Rattle.std.specs.Prelude.{◌≡◌, List, [], ◌++◌}
 use Rattle.std.specs.Io.KnownBytes.{Appends}
 use Rattle.gp_ploam.specs.declared.check.Mask.{Mask}

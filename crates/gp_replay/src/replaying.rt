@@ -1,7 +1,7 @@
 ghost use Rattle.std.specs.Prelude.{◌≡◌, ◌≢◌, ◌<◌, ◌≤◌, ◌⊎◌, ◌↔◌, ℕ, List, All, IfErr, OnOk, IsTrue, Err, true, false, length, vec_len};
 ghost use Rattle.gp_machine.specs.Config.{is_within_limits};
 ghost use Rattle.gp_script.specs.declared.fault.ScriptFault.{ScriptFault as AnyScriptFault};
-ghost use Rattle.gp_script.specs.Script.{script_of};
+ghost use Rattle.gp_script.specs.Script.{script_of, most_events};
 ghost use Rattle.gp_script.specs.View.{event_port, script_view};
 ghost use Rattle.gp_stream.specs.Source.{source_state, ReadsTooMuch, WasReadable};
 ghost use Rattle.gp_stream.specs.Sink.{sink_state, has_stopped};
@@ -33,7 +33,7 @@ fn play_on<L: Ledger, W: Write>(
     requires licences { script.now.licences ≤ 4064 }
     requires limits { All (λ config. IsTrue (is_within_limits config)) script.now.ports.items }
     requires events { All (λ e. event_port e < vec_len script.now.ports) script.now.events.items }
-    requires few { length script.now.events.items ≤ 1048576 }
+    requires few { length script.now.events.items ≤ most_events }
     ensures ok { OnOk result (WritesScript (script_view script.now) (sink_state W.contents sink.old) (sink_state W.contents sink.new)) }
     ensures finished { OnOk result (has_stopped sink.new ≡ false) }
     ensures front { result ≡ Err PlayFault.Write → WritesFront script.now.mask (opening_terminal (script_view script.now)) (all_turns script.now.events.items) (sink_state W.contents sink.old) (sink_state W.contents sink.new) }
@@ -59,7 +59,7 @@ fn play_script<W: Write>(
     requires licences { script.now.licences ≤ 4064 }
     requires limits { All (λ config. IsTrue (is_within_limits config)) script.now.ports.items }
     requires events { All (λ e. event_port e < vec_len script.now.ports) script.now.events.items }
-    requires few { length script.now.events.items ≤ 1048576 }
+    requires few { length script.now.events.items ≤ most_events }
     ensures ok { OnOk result (WritesScript (script_view script.now) (sink_state W.contents sink.old) (sink_state W.contents sink.new)) }
     ensures finished { OnOk result (has_stopped sink.new ≡ false) }
     ensures front { result ≡ Err PlayFault.Write → WritesFront script.now.mask (opening_terminal (script_view script.now)) (all_turns script.now.events.items) (sink_state W.contents sink.old) (sink_state W.contents sink.new) }

@@ -1,4 +1,4 @@
--- The tables under `event`.
+-- The tables under `event` (this profile's own rule).
 use Rattle.std.specs.Prelude.{ℕ, List, [], ◌∷◌, ◌++◌, ◌-◌, Result, Ok, Err, if◌then◌else◌, codes, is_some}
 use Rattle.std.specs.Str.{bytes_eq}
 use Rattle.toml.specs.Data.{table, Items, no_items, item, Members, get_member}

@@ -1,4 +1,4 @@
--- A walk that ends at its first fault, and what a function of the walk returned against it.
+-- A walk that ends at its first fault, and what a function of the walk returned against it (this profile's own rule).
 use Rattle.std.specs.Prelude.{◌≡◌, Bool, true, false, Result, Ok, Err}
 use Rattle.gp_script.specs.declared.fault.ScriptFault.{ScriptFault}
 use Rattle.gp_script.specs.declared.fault.ScriptError.{ScriptError}

@@ -1,4 +1,4 @@
--- The tables under `port`.
+-- The tables under `port` (this profile's own rule).
 use Rattle.std.specs.Prelude.{ℕ, ℤ, List, [], ◌∷◌, ◌++◌, ◌||◌, Bool, Option, Some, None, Result, Ok, Err, not, codes, replicate}
 use Rattle.std.specs.List.{list_any}
 use Rattle.toml.specs.Data.{Data, string, table, Items, no_items, item, Members}

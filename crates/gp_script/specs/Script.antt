@@ -1,4 +1,4 @@
--- What a text says as a script, or its first fault.
+-- What a text says as a script, or its first fault (this profile's own rule).
 use Rattle.std.specs.Prelude.{ℕ, ℤ, List, [], ◌∷◌, Option, Some, None, Result, Ok, Err, if◌then◌else◌, codes}
 use Rattle.std.specs.Str.{is_utf8}
 use Rattle.toml.specs.Data.{Items, Members}
@@ -17,6 +17,10 @@ use Rattle.gp_script.specs.Event.{events_from}
 -- how many ports a script may have: one for now
 abbrev pub most_ports : ℕ
 most_ports = 1
+
+-- how many events a script may have
+abbrev pub most_events : ℕ
+most_events = 1048576
 
 -- what stands at the keys of the top, each of its type
 pub record TopShape : Type 0 where
@@ -55,7 +59,7 @@ script_of_table ms = do
   licences ← in_range 0 4064 shape.licences
   mask ← mask_of shape.mask
   count ← count_in 1 most_ports shape.ports
-  _ ← count_in 0 1048576 shape.events
+  _ ← count_in 0 most_events shape.events
   ports ← ports_from mask [] shape.ports
   events ← events_from count mask [] shape.events
   Ok (record { licences = licences; mask = mask; ports = ports; events = events })

@@ -1,4 +1,4 @@
--- The values of keys, each in its range.
+-- The values of keys, each in its range (this profile's own rule).
 use Rattle.std.specs.Prelude.{ℕ, ℤ, pos, negsuc, List, ◌&&◌, Option, Some, None, Result, Ok, Err, nat_le, ◌==◌, if◌then◌else◌}
 use Rattle.toml.specs.Data.{Items}
 use Rattle.hex.specs.Hex.{decode_sized}

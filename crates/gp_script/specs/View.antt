@@ -1,4 +1,4 @@
--- What the types of this crate show.
+-- What the types of this crate show (this profile's own rule).
 use Rattle.std.specs.Prelude.{ℕ, option_map}
 use Rattle.toml.specs.View.{items_view}
 use Rattle.gp_script.specs.declared.script.Script.{Script}

@@ -1,4 +1,4 @@
-ghost use Rattle.std.specs.Prelude.{◌≡◌, ◌<◌, [], IfOk, All};
+ghost use Rattle.std.specs.Prelude.{◌≡◌, ◌<◌, [], IfOk, All, length, vec_len};
 ghost use Rattle.toml.specs.View.{table_view, items_view};
 ghost use Rattle.gp_script.specs.Fault.{Gives};
 ghost use Rattle.gp_script.specs.Event as spec;
@@ -158,6 +158,7 @@ pub(crate) fn events_of(
     requires { 0 < ports }
     ensures value { Gives (λ v. v.items) result (spec.events_from ports mask [] (items_view tables.now)) }
     ensures ports { IfOk result (λ v. All (λ e. event_port e < ports) v.items) }
+    ensures each { IfOk result (λ v. vec_len v ≡ length tables.now) }
 {
     let mut events = Vec::new(alloc);
     'tables: for value in tables {

@@ -4,7 +4,7 @@ ghost use Rattle.toml.specs.Parse.{parse_document};
 ghost use Rattle.toml.specs.View.{table_view};
 ghost use Rattle.gp_machine.specs.Config.{is_within_limits};
 ghost use Rattle.gp_script.specs.Fault.{Gives, Sees};
-ghost use Rattle.gp_script.specs.Script.{top_shape, script_of_table, script_of, text_of, table_or_fault, most_ports};
+ghost use Rattle.gp_script.specs.Script.{top_shape, script_of_table, script_of, text_of, table_or_fault, most_ports, most_events};
 ghost use Rattle.gp_script.specs.View.{top_keys_view, script_view, event_port};
 
 use crate::events::events_of;
@@ -20,6 +20,9 @@ use toml::{Table, Value};
 
 /// How many ports a script may have: one for now.
 const MOST_PORTS: u32 = 1;
+
+/// How many events a script may have.
+const MOST_EVENTS: u32 = 1_048_576;
 
 /// The keys of the top.
 const TOP_NAMES: [&str; 6] = ["licences", "mask", "port", "unit", "lose", "event"];
@@ -65,12 +68,13 @@ fn read_table(alloc: Global, table: &Table) -> Result<Script, ScriptError>
     ensures few_ports { IfOk result (λ s. vec_len s.ports ≤ most_ports) }
     ensures limits { IfOk result (λ s. All (λ port. IsTrue (is_within_limits port)) s.ports.items) }
     ensures events { IfOk result (λ s. All (λ e. event_port e < vec_len s.ports) s.events.items) }
+    ensures few_events { IfOk result (λ s. vec_len s.events ≤ most_events) }
 {
     let shape = top_keys(table)?;
     let licences = in_range(0, 4064, shape.licences)?;
     let mask = mask_of(shape.mask)?;
     let count = count_in(1, MOST_PORTS, shape.ports)? as u8;
-    count_in(0, 1_048_576, shape.events)?;
+    count_in(0, MOST_EVENTS, shape.events)?;
     let ports = ports_of(alloc, mask, shape.ports)?;
     let events = events_of(alloc, count, mask, shape.events)?;
     Ok(Script {
@@ -116,6 +120,7 @@ pub fn read_script(alloc: Global, bytes: &[u8]) -> Result<Script, ScriptError>
     ensures few_ports { IfOk result (λ s. vec_len s.ports ≤ most_ports) }
     ensures limits { IfOk result (λ s. All (λ port. IsTrue (is_within_limits port)) s.ports.items) }
     ensures events { IfOk result (λ s. All (λ e. event_port e < vec_len s.ports) s.events.items) }
+    ensures few_events { IfOk result (λ s. vec_len s.events ≤ most_events) }
 {
     let text = read_text(bytes)?;
     let table = parse_table(alloc, text)?;

@@ -1,4 +1,4 @@
--- What a sink shows, and what handing bytes to it means.
+-- What a sink shows, and what handing bytes to it means (this profile's own rule).
 use Rattle.std.specs.Prelude.{◌≡◌, ℕ, Bool, List, ◌++◌, Option, vec_capacity}
 use Rattle.std.specs.Io.KnownBytes.{Appends}
 use Rattle.gp_stream.specs.declared.sink.Sink.{Sink}

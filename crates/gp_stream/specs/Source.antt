@@ -1,4 +1,4 @@
--- What a source shows, and what reading it whole means.
+-- What a source shows, and what reading it whole means (this profile's own rule).
 use Rattle.std.specs.Prelude.{◌≡◌, ◌<◌, ◌≤◌, ℕ, Bool, false, List, length, Option, Some}
 use Rattle.std.specs.Io.KnownBytes.{Consumes, IsAtEnd}
 use Rattle.gp_stream.specs.declared.source.Source.{Source}

@@ -1,4 +1,4 @@
--- The text of a trace: a line for each entry.
+-- The text of a trace: a line for each entry (this profile's own rule).
 use Rattle.std.specs.Prelude.{ℕ, List, [], ◌++◌, Option, None, Some, codes, decimal}
 use Rattle.std.specs.List.{flat_map}
 use Rattle.hex.specs.Hex.{encode_lower}

@@ -1,4 +1,4 @@
-use Rattle.std.proofs.Common.{arith, ◌*◌, ◌^◌, ◌<◌, length}
+use Rattle.std.proofs.Common.{arith, ◌*◌, ◌^◌, ◌<◌, ◌≤◌, length}
 use Rattle.gp_script.specs.View.{script_view}
 use Rattle.gp_replay.proofs.TurnLemmas.{front_of_all, writes_script}
 use Rattle.gp_replay.proofs.RoomLemmas.{opening_room}
@@ -6,7 +6,8 @@ use Rattle.gp_replay.proofs.replaying.play_on.Goals as goal
 
 pub play_events-outcome-requires-clause-room : goal.play_events-outcome-requires-clause-room
 play_events-outcome-requires-clause-room g c =
-    let within : length c.args.script.now.events.items * 2 ^ 32 < 2 ^ 64 = omega (arith, c.requires.few) in
+    let few : length c.args.script.now.events.items ≤ 1048576 = c.requires.few in
+    let within : length c.args.script.now.events.items * 2 ^ 32 < 2 ^ 64 = omega (arith, few) in
     rw (c.in_ok-terminal.ensures.opened, c.as_slice-events.ensures.value) (opening_room _ (script_view c.args.script.now) within)
 
 pub returns-in_err-finish-clause-front : goal.returns-in_err-finish-clause-front

@@ -3,7 +3,6 @@ use Rattle.gp_stream.specs.declared.reading.TheConstants.{MOST_BYTES}
 use Rattle.gp_script.specs.Script.{script_of}
 use Rattle.gp_script.specs.View.{script_view}
 use Rattle.gp_replay.proofs.OutcomeLemmas.{leaves_front}
-use Rattle.gp_replay.proofs.ScriptLemmas.{few_events}
 use Rattle.gp_replay.proofs.replaying.run_replay.Goals as goal
 
 pub returns-in_err-play_script-clause-front : goal.returns-in_err-play_script-clause-front
@@ -13,6 +12,3 @@ returns-in_err-play_script-clause-front g c =
     λ told. leaves_front _ _ (script_view c.in_ok-script.script) _ _
     (record { bytes = c.in_ok-bytes.bytes.items; read = c.in_ok-bytes.ensures.whole; short = short; says = says })
     (c.in_err-play_script.ensures.front (search (rules, told)))
-
-pub play_script-requires-clause-few : goal.play_script-requires-clause-few
-play_script-requires-clause-few g c = few_events c.in_ok-bytes.bytes.items (script_view c.in_ok-script.script) (search rules)

@@ -1,4 +1,4 @@
-use Rattle.std.proofs.Common.{◌≡◌, ◌<◌, [], drop, All}
+use Rattle.std.proofs.Common.{◌≡◌, ◌<◌, [], drop, vec_len, All}
 use Rattle.toml.specs.View.{items_view}
 use Rattle.gp_script.specs.Event.{events_from}
 use Rattle.gp_script.specs.View.{event_port}
@@ -8,4 +8,5 @@ abbrev pub invariant-tables : goal.invariant-tables
 invariant-tables l = record {
   value : events_from l.ports l.mask l.events.items (items_view (drop l.value-index l.tables)) ≡ events_from l.ports l.mask [] (items_view l.tables);
   ports : All (λ e. event_port e < l.ports) l.events.items;
+  each : vec_len l.events ≡ l.value-index;
 }
