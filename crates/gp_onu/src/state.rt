@@ -1,3 +1,6 @@
+ghost use Rattle.std.specs.Prelude.{◌≡◌};
+ghost use Rattle.gp_onu.specs.State.{state_name};
+
 use std::fmt;
 
 /// The states of a unit (G.984.3, clause 10). They are shown by their numbers, `O1` to `O7`.
@@ -19,14 +22,12 @@ pub enum State {
     EmergencyStop,
 }
 
-impl fmt::Display for State {
-    ghost use Rattle.std.specs.Prelude.{Some};
-    ghost use Rattle.gp_onu.specs.State.{state_name};
-
-    ghost output = { λ state. Some (state_name state) };
-
-    fn fmt<W: fmt::Write>(&self, f: &mut fmt::Formatter<W>) -> fmt::Result {
-        f.write_str(match self {
+impl State {
+    /// The name that is printed.
+    fn name(self) -> &'static str
+        ensures { result.now ≡ state_name self }
+    {
+        match self {
             State::Initial => "O1",
             State::Standby => "O2",
             State::SerialNumber => "O3",
@@ -34,6 +35,17 @@ impl fmt::Display for State {
             State::Operation => "O5",
             State::Popup => "O6",
             State::EmergencyStop => "O7",
-        })
+        }
+    }
+}
+
+impl fmt::Display for State {
+    ghost use Rattle.std.specs.Prelude.{Some};
+    ghost use Rattle.gp_onu.specs.State.{state_name};
+
+    ghost output = { λ state. Some (state_name state) };
+
+    fn fmt<W: fmt::Write>(&self, f: &mut fmt::Formatter<W>) -> fmt::Result {
+        f.write_str(self.name())
     }
 }
