@@ -1,16 +1,30 @@
--- What the end of a poll window does to the counts of its unit, and which alarm they give (this profile's own rule).
-use Rattle.std.specs.Prelude.{ℕ, ◌+◌, ◌≤◌, ◌==◌, if◌then◌else◌, Bool, Option, None, Some}
+-- What the end of a poll window does to the counts of its unit, and which alarm they give. LOS at four and LOAM at
+-- three are G.984.3, clause 11; the count for LOA, what ends a count, and the order of the alarms are this profile's own
+-- rule.
+use Rattle.std.specs.Prelude.{ℕ, ◌+◌, ◌<◌, ◌==◌, if◌then◌else◌, Bool, Option, None, Some}
 use Rattle.gp_alarms.specs.declared.alarm.AlarmKind.{AlarmKind}
 use Rattle.gp_alarms.specs.declared.alarm.AlarmKind.TheVariants.{Los, Loam, Loa}
 use Rattle.gp_alarms.specs.declared.poll.PollCounts.{PollCounts}
 use Rattle.gp_alarms.specs.declared.poll.Outcome.{Outcome}
 use Rattle.gp_alarms.specs.declared.poll.Outcome.TheVariants.{Good, Garbled, Dark, Gasped, Acked}
 
--- no count is at its limit: 4 dark windows, 3 garbled ones, 3 without an Acknowledge
+-- this many dark windows in a row give LOS
+abbrev pub dark_limit : ℕ
+dark_limit = 4
+
+-- this many garbled windows with no message of the unit between give LOAM
+abbrev pub garbled_limit : ℕ
+garbled_limit = 3
+
+-- this many windows without an Acknowledge of the pending Alloc-ID give LOA
+abbrev pub waiting_limit : ℕ
+waiting_limit = 3
+
+-- no count is at its limit
 pub record IsBelowEachLimit (counts : PollCounts) : Type 0 where
-  pub dark : counts.dark ≤ 3
-  pub garbled : counts.garbled ≤ 2
-  pub waiting : counts.waiting ≤ 2
+  pub dark : counts.dark < dark_limit
+  pub garbled : counts.garbled < garbled_limit
+  pub waiting : counts.waiting < waiting_limit
 
 -- a dark window is counted, and every other ends the row of dark ones
 abbrev pub dark_after : Outcome → ℕ → ℕ
@@ -44,9 +58,9 @@ counts_after counts outcome pending = record {
   waiting = waiting_after outcome pending counts.waiting;
 }
 
--- LOS at the fourth dark window, else LOAM at the third garbled one, else LOA at the third without an Acknowledge
+-- the alarm of the first count that is at its limit: LOS, else LOAM, else LOA
 abbrev pub alarm_of : PollCounts → Option AlarmKind
 alarm_of counts =
-    if counts.dark == 4 then Some Los
-    else (if counts.garbled == 3 then Some Loam
-    else (if counts.waiting == 3 then Some Loa else None))
+    if counts.dark == dark_limit then Some Los
+    else (if counts.garbled == garbled_limit then Some Loam
+    else (if counts.waiting == waiting_limit then Some Loa else None))

@@ -4,8 +4,9 @@ ghost use Rattle.gp_alarms.specs.Alarm.{alarm_name};
 use gp_ploam::Serial;
 use std::fmt;
 
-/// What an alarm is about. The names are those of G.984.3, clause 11, without the unit's index; when
-/// each is given is this profile's own rule.
+/// What an alarm is about. The names are those of G.984.3, clause 11, without the unit's index; that LOS is
+/// given after four poll windows and LOAM after three is that clause's too, and when the others are given is
+/// this profile's own rule.
 #[derive(Clone, Copy, Debug, PartialEq, Eq)]
 pub enum AlarmKind {
     /// Loss of signal: the unit did not answer its poll windows.
@@ -16,7 +17,7 @@ pub enum AlarmKind {
     Loa,
     /// Start-up failure: the unit was seen while ranging, and not ranged.
     Suf,
-    /// A disabled unit asks for an ONU-ID.
+    /// Deactivate failure (G.984.3, clause 11). In this profile: a disabled unit asks for an ONU-ID.
     Df,
     /// Dying gasp: the unit said that its power fails.
     Dg,
@@ -25,7 +26,9 @@ pub enum AlarmKind {
 /// An alarm of the unit with this serial number.
 #[derive(Clone, Copy, Debug, PartialEq, Eq)]
 pub struct Alarm {
+    /// What is wrong.
     pub kind: AlarmKind,
+    /// The unit's serial number.
     pub serial: Serial,
 }
 

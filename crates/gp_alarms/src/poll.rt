@@ -3,16 +3,17 @@ ghost use Rattle.gp_alarms.specs.Poll.{IsBelowEachLimit, alarm_of, counts_after}
 
 use super::alarm::AlarmKind;
 
-/// How many dark poll windows in a row give LOS.
+/// How many dark poll windows in a row give LOS (G.984.3, clause 11).
 const DARK_LIMIT: u8 = 4;
 
-/// How many garbled poll windows with no message of the unit between give LOAM.
+/// How many garbled poll windows with no message of the unit between give LOAM (three: G.984.3, clause 11).
 const GARBLED_LIMIT: u8 = 3;
 
-/// How many poll windows without an Acknowledge of a pending Alloc-ID give LOA.
+/// How many poll windows without an Acknowledge of a pending Alloc-ID give LOA (this profile's own rule).
 const WAITING_LIMIT: u8 = 3;
 
-/// What was counted of the poll windows of an operating unit. The counts and their limits are this
+/// What was counted of the poll windows of an operating unit. LOS at four and LOAM at three are
+/// G.984.3, clause 11; the count for LOA, what ends a count, and the order of the alarms are this
 /// profile's own rule.
 #[derive(Clone, Copy, Debug, PartialEq, Eq)]
 pub struct PollCounts {

@@ -1,7 +1,8 @@
 ghost use Rattle.gp_common.specs.Laws.{AsksWhoIsThere, OpensEachSearchWindow};
 
-/// Whom a decision asks is there: it polls only the unit whose turn it is, and only in Standby with
-/// nothing else to do; it ranges only a ranging unit; it searches only while search windows are left.
+/// Each decision has its reason: it polls only the unit whose turn it is, and only in Standby with
+/// nothing else to do; it ranges only a ranging unit; it searches only while search windows are left;
+/// it does nothing only where there is nothing to do.
 pub fn asks_who_is_there()
     ensures { AsksWhoIsThere }
 {}

@@ -1,10 +1,19 @@
--- What a unit has in a state (G.984.3, clause 10; the counts of frames are this profile's own).
+-- What a unit has in a state (G.984.3, clause 10).
 use Rattle.std.specs.Prelude.{ℕ, ◌+◌, List, Option, None, Some}
 use Rattle.gp_onu.specs.declared.state.State.{State}
 use Rattle.gp_onu.specs.declared.state.State.TheVariants as state
 use Rattle.gp_onu.specs.declared.stage.Stage.{Stage}
 use Rattle.gp_onu.specs.declared.stage.Stage.TheVariants.{Initial, Standby, SerialNumber, Ranging, Operation, Popup, EmergencyStop}
 
+-- the timer TO1, 10 seconds, for O3 and O4 together, in frames of 125 microseconds
+abbrev pub to1_frames : ℕ
+to1_frames = 80000
+
+-- the timer TO2, 100 milliseconds, for O6, in frames of 125 microseconds
+abbrev pub to2_frames : ℕ
+to2_frames = 800
+
+-- which of O1 to O7 it is
 abbrev pub state_of : Stage → State
 state_of Initial = state.Initial
 state_of Standby = state.Standby
@@ -15,11 +24,11 @@ state_of (Popup onu eqd owed frames) = state.Popup
 state_of EmergencyStop = state.EmergencyStop
 
 -- the ONU-ID, in O4, O5 and O6
-abbrev pub number_of : Stage → Option ℕ
-number_of (Ranging onu frames) = Some onu
-number_of (Operation onu eqd owed) = Some onu
-number_of (Popup onu eqd owed frames) = Some onu
-number_of _ = None
+abbrev pub onu_id_of : Stage → Option ℕ
+onu_id_of (Ranging onu frames) = Some onu
+onu_id_of (Operation onu eqd owed) = Some onu
+onu_id_of (Popup onu eqd owed frames) = Some onu
+onu_id_of _ = None
 
 -- the equalization delay, in O5 and O6
 abbrev pub eqd_of : Stage → Option ℕ

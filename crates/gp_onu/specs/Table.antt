@@ -1,5 +1,5 @@
--- The unit table: what a unit does in each of its states (G.984.3, clause 10). The counts of frames and what is
--- acknowledged are this profile's own.
+-- The unit table: what a unit does in each of its states (G.984.3, clause 10). That timers count frames, and which octets
+-- an Acknowledge copies, is this profile's own rule.
 use Rattle.std.specs.Prelude.{ℕ, ◌+◌, ◌==◌, ◌||◌, ◌&&◌, nat_le, Bool, true, false, List, [], ◌∷◌, take, Option, None, Some, if◌then◌else◌}
 use Rattle.std.specs.List.{list_any}
 use Rattle.gp_ploam.specs.declared.message.Serial.{Serial}
@@ -12,11 +12,11 @@ use Rattle.gp_ploam.specs.Serials.{same_serial}
 use Rattle.gp_ranging.specs.declared.grant.Grant.{Grant}
 use Rattle.gp_ranging.specs.declared.grant.Grant.TheVariants.{Search, Range, Poll}
 use Rattle.gp_onu.specs.declared.state.State.{State}
-use Rattle.gp_onu.specs.declared.state.State.TheVariants as state
 use Rattle.gp_onu.specs.declared.state.State.TheVariants.{Initial as o1, Standby as o2, SerialNumber as o3, Ranging as o4, Operation as o5, Popup as o6, EmergencyStop as o7}
 use Rattle.gp_onu.specs.declared.stage.Stage.{Stage}
 use Rattle.gp_onu.specs.declared.stage.Stage.TheVariants.{Initial, Standby, SerialNumber, Ranging, Operation, Popup, EmergencyStop}
-use Rattle.gp_onu.specs.Stage.{state_of, number_of, owed_of, frames_of}
+use Rattle.gp_onu.specs.State.{state_number}
+use Rattle.gp_onu.specs.Stage.{state_of, onu_id_of, owed_of, frames_of, to1_frames, to2_frames}
 
 pub record UnitState : Type 0 where
   pub serial : Serial
@@ -45,164 +45,164 @@ pub record Line : Type 0 where
 -- the inputs
 
 abbrev pub is_own : UnitState → ℕ → Bool
-is_own u onu = is_number onu (number_of u.stage) where
+is_own unit onu = is_number onu (onu_id_of unit.stage) where
   is_number : ℕ → Option ℕ → Bool
   is_number onu None = false
   is_number onu (Some n) = onu == n
 
 abbrev pub is_light : UnitState → Input → Bool
-is_light u Light = true
-is_light u _ = false
+is_light unit Light = true
+is_light unit _ = false
 
 abbrev pub is_dark : UnitState → Input → Bool
-is_dark u Dark = true
-is_dark u _ = false
+is_dark unit Dark = true
+is_dark unit _ = false
 
 abbrev pub is_frame : UnitState → Input → Bool
-is_frame u Frame = true
-is_frame u _ = false
+is_frame unit Frame = true
+is_frame unit _ = false
 
 abbrev pub is_lit_frame : UnitState → Input → Bool
-is_lit_frame u Frame = u.lit
-is_lit_frame u _ = false
+is_lit_frame unit Frame = unit.lit
+is_lit_frame unit _ = false
 
 abbrev pub hears_overhead : UnitState → Input → Bool
-hears_overhead u (Hears code (down.UpstreamOverhead burst)) = true
-hears_overhead u _ = false
+hears_overhead unit (Hears code (down.UpstreamOverhead burst)) = true
+hears_overhead unit _ = false
 
 abbrev pub hears_own_assignment : UnitState → Input → Bool
-hears_own_assignment u (Hears code (down.AssignOnu onu serial)) = same_serial serial u.serial && nat_le onu 253
-hears_own_assignment u _ = false
+hears_own_assignment unit (Hears code (down.AssignOnu onu serial)) = same_serial serial unit.serial && nat_le onu 253
+hears_own_assignment unit _ = false
 
 abbrev pub hears_own_ranging_time : UnitState → Input → Bool
-hears_own_ranging_time u (Hears code (down.RangingTime onu eqd)) = is_own u onu
-hears_own_ranging_time u _ = false
+hears_own_ranging_time unit (Hears code (down.RangingTime onu eqd)) = is_own unit onu
+hears_own_ranging_time unit _ = false
 
 abbrev pub hears_deactivation : UnitState → Input → Bool
-hears_deactivation u (Hears code (down.Deactivate onu)) = is_own u onu || (onu == 255)
-hears_deactivation u _ = false
+hears_deactivation unit (Hears code (down.Deactivate onu)) = is_own unit onu || (onu == 255)
+hears_deactivation unit _ = false
 
 abbrev pub hears_own_disabling : UnitState → Input → Bool
-hears_own_disabling u (Hears code (down.DisableSerial serial)) = same_serial serial u.serial
-hears_own_disabling u _ = false
+hears_own_disabling unit (Hears code (down.DisableSerial serial)) = same_serial serial unit.serial
+hears_own_disabling unit _ = false
 
 abbrev pub hears_enabling : UnitState → Input → Bool
-hears_enabling u (Hears code (down.EnableSerial serial)) = same_serial serial u.serial
-hears_enabling u (Hears code down.EnableAll) = true
-hears_enabling u _ = false
+hears_enabling unit (Hears code (down.EnableSerial serial)) = same_serial serial unit.serial
+hears_enabling unit (Hears code down.EnableAll) = true
+hears_enabling unit _ = false
 
 abbrev pub hears_own_popup : UnitState → Input → Bool
-hears_own_popup u (Hears code (down.Popup onu)) = is_own u onu
-hears_own_popup u _ = false
+hears_own_popup unit (Hears code (down.Popup onu)) = is_own unit onu
+hears_own_popup unit _ = false
 
 abbrev pub hears_popup_of_all : UnitState → Input → Bool
-hears_popup_of_all u (Hears code (down.Popup onu)) = onu == 255
-hears_popup_of_all u _ = false
+hears_popup_of_all unit (Hears code (down.Popup onu)) = onu == 255
+hears_popup_of_all unit _ = false
 
 abbrev pub hears_own_alloc : UnitState → Input → Bool
-hears_own_alloc u (Hears code (down.AssignAlloc onu alloc keep)) = is_own u onu
-hears_own_alloc u _ = false
+hears_own_alloc unit (Hears code (down.AssignAlloc onu alloc keep)) = is_own unit onu
+hears_own_alloc unit _ = false
 
 abbrev pub is_search : UnitState → Input → Bool
-is_search u (Granted Search random) = true
-is_search u _ = false
+is_search unit (Granted Search random) = true
+is_search unit _ = false
 
 abbrev pub is_own_range : UnitState → Input → Bool
-is_own_range u (Granted (Range onu) random) = is_own u onu
-is_own_range u _ = false
+is_own_range unit (Granted (Range onu) random) = is_own unit onu
+is_own_range unit _ = false
 
 abbrev pub is_own_poll : UnitState → Input → Bool
-is_own_poll u (Granted (Poll onu) random) = is_own u onu
-is_own_poll u _ = false
+is_own_poll unit (Granted (Poll onu) random) = is_own unit onu
+is_own_poll unit _ = false
 
 -- where it goes
 
 abbrev pub to_initial : UnitState → Input → Stage
-to_initial u i = Initial
+to_initial unit input = Initial
 
 abbrev pub to_standby : UnitState → Input → Stage
-to_standby u i = Standby
+to_standby unit input = Standby
 
 abbrev pub to_serial_number : UnitState → Input → Stage
-to_serial_number u i = SerialNumber 0
+to_serial_number unit input = SerialNumber 0
 
 abbrev pub to_emergency_stop : UnitState → Input → Stage
-to_emergency_stop u i = EmergencyStop
+to_emergency_stop unit input = EmergencyStop
 
 abbrev pub stays : UnitState → Input → Stage
-stays u i = u.stage
+stays unit input = unit.stage
 
 -- the count goes on
 abbrev pub to_ranging : UnitState → Input → Stage
-to_ranging u (Hears code (down.AssignOnu onu serial)) = Ranging onu (frames_of u.stage)
-to_ranging u _ = u.stage
+to_ranging unit (Hears code (down.AssignOnu onu serial)) = Ranging onu (frames_of unit.stage)
+to_ranging unit _ = unit.stage
 
 -- what is owed stays so
 abbrev pub to_operation : UnitState → Input → Stage
-to_operation u (Hears code (down.RangingTime onu eqd)) = Operation onu eqd (owed_of u.stage)
-to_operation u _ = u.stage
+to_operation unit (Hears code (down.RangingTime onu eqd)) = Operation onu eqd (owed_of unit.stage)
+to_operation unit _ = unit.stage
 
 abbrev pub to_popup : UnitState → Input → Stage
-to_popup u i = from u.stage where
+to_popup unit input = from unit.stage where
   from : Stage → Stage
   from (Operation onu eqd owed) = Popup onu eqd owed 0
   from stage = stage
 
 abbrev pub back_to_operation : UnitState → Input → Stage
-back_to_operation u i = from u.stage where
+back_to_operation unit input = from unit.stage where
   from : Stage → Stage
   from (Popup onu eqd owed frames) = Operation onu eqd owed
   from stage = stage
 
 abbrev pub back_to_ranging : UnitState → Input → Stage
-back_to_ranging u i = from u.stage where
+back_to_ranging unit input = from unit.stage where
   from : Stage → Stage
   from (Popup onu eqd owed frames) = Ranging onu 0
   from stage = stage
 
 -- the first nine octets of the code are to be acknowledged, in place of an older code's
 abbrev pub to_acknowledge : UnitState → Input → Stage
-to_acknowledge u (Hears code _) = from u.stage where
+to_acknowledge unit (Hears code _) = from unit.stage where
   from : Stage → Stage
   from (Operation onu eqd owed) = Operation onu eqd (Some (take 9 code))
   from stage = stage
-to_acknowledge u _ = u.stage
+to_acknowledge unit _ = unit.stage
 
 abbrev pub to_owing_nothing : UnitState → Input → Stage
-to_owing_nothing u i = from u.stage where
+to_owing_nothing unit input = from unit.stage where
   from : Stage → Stage
   from (Operation onu eqd owed) = Operation onu eqd None
   from stage = stage
 
--- one frame more; O3 and O4 end at 80,000 together, O6 at 800
+-- one frame more; O3 and O4 end together with TO1, O6 with TO2
 abbrev pub to_next_count : UnitState → Input → Stage
-to_next_count u i = from u.stage where
+to_next_count unit input = from unit.stage where
   from : Stage → Stage
-  from (SerialNumber frames) = if frames + 1 == 80000 then Standby else SerialNumber (frames + 1)
-  from (Ranging onu frames) = if frames + 1 == 80000 then Standby else Ranging onu (frames + 1)
-  from (Popup onu eqd owed frames) = if frames + 1 == 800 then Initial else Popup onu eqd owed (frames + 1)
+  from (SerialNumber frames) = if frames + 1 == to1_frames then Standby else SerialNumber (frames + 1)
+  from (Ranging onu frames) = if frames + 1 == to1_frames then Standby else Ranging onu (frames + 1)
+  from (Popup onu eqd owed frames) = if frames + 1 == to2_frames then Initial else Popup onu eqd owed (frames + 1)
   from stage = stage
 
 -- what it answers
 
 abbrev pub serial_number : UnitState → Input → Option Up
-serial_number u (Granted Search random) = Some (up.SerialNumber 255 u.serial random 0)
-serial_number u (Granted (Range onu) random) = Some (up.SerialNumber onu u.serial 0 0)
-serial_number u _ = None
+serial_number unit (Granted Search random) = Some (up.SerialNumber 255 unit.serial random 0)
+serial_number unit (Granted (Range onu) random) = Some (up.SerialNumber onu unit.serial 0 0)
+serial_number unit _ = None
 
 -- the acknowledgement of an Alloc-ID assignment, which has the identifier 10, or nothing to say
 abbrev pub acknowledgement : UnitState → Input → Option Up
-acknowledgement u (Granted (Poll onu) random) = Some (of_owed (owed_of u.stage)) where
+acknowledgement unit (Granted (Poll onu) random) = Some (of_owed (owed_of unit.stage)) where
   of_owed : Option (List ℕ) → Up
   of_owed None = up.NoMessage onu
   of_owed (Some copy) = up.Acknowledge onu 10 copy
-acknowledgement u _ = None
+acknowledgement unit _ = None
 
 -- the table
 
 -- a line without an answer
 abbrev pub line : List State → (UnitState → Input → Bool) → (UnitState → Input → Stage) → Line
-line states fits next = record { states = states; fits = fits; next = next; answer = λ u i. None }
+line states fits next = record { states = states; fits = fits; next = next; answer = λ unit input. None }
 
 abbrev pub answering : List State → (UnitState → Input → Bool) → (UnitState → Input → Stage) → (UnitState → Input → Option Up) → Line
 answering states fits next answer = record { states = states; fits = fits; next = next; answer = answer }
@@ -230,27 +230,18 @@ unit_table =
 
 -- how the table is read
 
-abbrev pub state_number : State → ℕ
-state_number state.Initial = 1
-state_number state.Standby = 2
-state_number state.SerialNumber = 3
-state_number state.Ranging = 4
-state_number state.Operation = 5
-state_number state.Popup = 6
-state_number state.EmergencyStop = 7
-
 abbrev pub is_in : Stage → List State → Bool
-is_in stage states = list_any (λ s. state_number s == state_number (state_of stage)) states
+is_in stage states = list_any (λ state. state_number state == state_number (state_of stage)) states
 
 -- the first line that fits says where it goes, and where none fits it stays
 abbrev pub stage_by : List Line → UnitState → Input → Stage
-stage_by [] u i = u.stage
-stage_by (l ∷ ls) u i = if l.fits u i && is_in u.stage l.states then l.next u i else stage_by ls u i
+stage_by [] unit input = unit.stage
+stage_by (line ∷ lines) unit input = if line.fits unit input && is_in unit.stage line.states then line.next unit input else stage_by lines unit input
 
 -- and what it answers
 abbrev pub answer_by : List Line → UnitState → Input → Option Up
-answer_by [] u i = None
-answer_by (l ∷ ls) u i = if l.fits u i && is_in u.stage l.states then l.answer u i else answer_by ls u i
+answer_by [] unit input = None
+answer_by (line ∷ lines) unit input = if line.fits unit input && is_in unit.stage line.states then line.answer unit input else answer_by lines unit input
 
 -- without light it hears nothing and answers nothing
 abbrev pub notices : Bool → Input → Bool
@@ -265,8 +256,8 @@ lit_after lit _ = lit
 
 -- the unit after an input
 abbrev pub unit_after : UnitState → Input → UnitState
-unit_after u i = record u { lit = lit_after u.lit i; stage = if notices u.lit i then stage_by unit_table u i else u.stage }
+unit_after unit input = record unit { lit = lit_after unit.lit input; stage = if notices unit.lit input then stage_by unit_table unit input else unit.stage }
 
 -- its answer
 abbrev pub answer_to : UnitState → Input → Option Up
-answer_to u i = if notices u.lit i then answer_by unit_table u i else None
+answer_to unit input = if notices unit.lit input then answer_by unit_table unit input else None

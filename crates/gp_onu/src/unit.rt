@@ -7,7 +7,7 @@ ghost use Rattle.gp_ploam.specs.Row.{HasRightCheck};
 ghost use Rattle.gp_ploam.specs.Up.{IsProperUp, code_of_up};
 ghost use Rattle.gp_ranging.specs.declared.grant.Grant.TheVariants.{Poll, Range, Search};
 ghost use Rattle.gp_onu.specs.Frames.{IsFirstChange, NeverChanges, frames_left, unit_after_frames};
-ghost use Rattle.gp_onu.specs.Stage.{eqd_of, number_of, state_of};
+ghost use Rattle.gp_onu.specs.Stage.{eqd_of, onu_id_of, state_of};
 ghost use Rattle.gp_onu.specs.Table.{Dark, Frame, Granted, Hears, Light, answer_to, unit_after};
 
 use super::stage::Stage;
@@ -16,10 +16,10 @@ use gp_ploam::{Down, Mask, Serial, Up, decode_down, encode_up};
 use gp_ranging::Grant;
 use std::marker::Model;
 
-/// How many frames O3 and O4 last together: ten seconds.
+/// How many frames of 125 microseconds O3 and O4 last together: the timer TO1, 10 seconds (G.984.3, clause 10).
 const ACTIVATION_FRAMES: u32 = 80_000;
 
-/// How many frames O6 lasts: a tenth of a second.
+/// How many frames of 125 microseconds O6 lasts: the timer TO2, 100 milliseconds (G.984.3, clause 10).
 const POPUP_FRAMES: u32 = 800;
 
 /// What stands in place of an ONU-ID in a message for every unit, and in one of a unit that has none.
@@ -75,7 +75,7 @@ impl Unit {
 
     /// The ONU-ID, in O4, O5 and O6.
     pub fn number(&self) -> Option<u8>
-        ensures value { result ≡ number_of self.now.stage }
+        ensures value { result ≡ onu_id_of self.now.stage }
         ensures low { IfSome result (λ onu. onu ≤ 253) }
     {
         self.stage.number()

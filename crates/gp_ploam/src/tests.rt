@@ -7,6 +7,9 @@ use std::test::Fail;
 
 const SERIAL: Serial = Serial(*b"ABCD\0\0\0\x01");
 
+/// Ten octets, each with another value.
+const BODY: [u8; 10] = [9, 8, 7, 6, 5, 4, 3, 2, 1, 0];
+
 /// A code from its 26 hexadecimal digits, as a number.
 fn code(number: u128) -> [u8; 13] {
     let [_, _, _, a, b, c, d, e, f, g, h, i, j, k, l, m] = number.to_be_bytes();
@@ -163,61 +166,56 @@ fn worked_codes_up(rt: HostRuntime) {
 
 #[test]
 fn every_row_down(rt: HostRuntime) {
-    let body = [9, 8, 7, 6, 5, 4, 3, 2, 1, 0];
     let serial = SERIAL;
-    there_and_back(&rt, Down::UpstreamOverhead { burst: body });
+    let eqd = 0xffff_fffe;
+    there_and_back(&rt, Down::UpstreamOverhead { burst: BODY });
     there_and_back(&rt, Down::AssignOnu { onu: 253, serial });
-    there_and_back(
-        &rt,
-        Down::RangingTime {
-            onu: 1,
-            eqd: 0xffff_fffe,
-        },
-    );
+    there_and_back(&rt, Down::RangingTime { onu: 1, eqd });
     there_and_back(&rt, Down::Deactivate { onu: 255 });
     there_and_back(&rt, Down::DisableSerial { serial });
     there_and_back(&rt, Down::EnableSerial { serial });
     there_and_back(&rt, Down::EnableAll);
-    there_and_back(
-        &rt,
-        Down::AssignAlloc {
-            onu: 7,
-            alloc: 4095,
-            keep: true,
-        },
-    );
-    there_and_back(
-        &rt,
-        Down::AssignAlloc {
-            onu: 7,
-            alloc: 257,
-            keep: false,
-        },
-    );
     there_and_back(&rt, Down::NoMessage);
     there_and_back(&rt, Down::Popup { onu: 3 });
-    there_and_back(
-        &rt,
-        Down::Other {
-            id: 200,
-            octet1: 4,
-            body,
-        },
-    );
-    there_and_back(
-        &rt,
-        Down::Other {
-            id: 6,
-            octet1: 4,
-            body,
-        },
-    );
+}
+
+#[test]
+fn each_alloc_id_type(rt: HostRuntime) {
+    let kept = Down::AssignAlloc {
+        onu: 7,
+        alloc: 4095,
+        keep: true,
+    };
+    let deallocated = Down::AssignAlloc {
+        onu: 7,
+        alloc: 257,
+        keep: false,
+    };
+    there_and_back(&rt, kept);
+    there_and_back(&rt, deallocated);
+}
+
+#[test]
+fn other_codes_down(rt: HostRuntime) {
+    let (octet1, body) = (4, BODY);
+    let unknown = Down::Other {
+        id: 200,
+        octet1,
+        body,
+    };
+    let to_one_unit = Down::Other {
+        id: 6,
+        octet1,
+        body,
+    };
+    there_and_back(&rt, unknown);
+    there_and_back(&rt, to_one_unit);
 }
 
 #[test]
 fn every_row_up(rt: HostRuntime) {
     let copy = [9, 8, 7, 6, 5, 4, 3, 2, 1];
-    let body = [9, 8, 7, 6, 5, 4, 3, 2, 1, 0];
+    let body = BODY;
     let serial_number = Up::SerialNumber {
         onu: 255,
         serial: SERIAL,

@@ -4,7 +4,7 @@ use Rattle.std.proofs.lemmas.Bool.{cases_Bool, cases_lt, false≢true}
 use Rattle.std.specs.Ordering.{nat_cmp}
 use Rattle.std.specs.FinSet.{empty, insert, contains, contains-empty, len-empty}
 use Rattle.gp_pools.specs.Numbers.{AreAllIn, IsLeastOutside}
-use Rattle.gp_pools.specs.Pool.{Pool, AreAllOut, IsFree, IsLeased, IsOut, IsKept, IsSettled, IsSound, count_out, full_pool, pool_with_lease, pool_with_lease_again, pool_with_settled, pool_without_lease}
+use Rattle.gp_pools.specs.Pool.{Pool, AreAllOut, IsFree, IsLeased, IsOut, IsKept, IsSettled, IsSound, count_out, fresh_pool, pool_with_lease, pool_with_lease_again, pool_with_settled, pool_without_lease}
 use Rattle.gp_pools.proofs.Members.{of_insert, of_remove, len-insert_new, len-remove_member}
 use Rattle.gp_pools.proofs.Counting.{IsApart, IsWithin, filled, room_for}
 
@@ -45,8 +45,8 @@ leased-not_settled pool n sound has = elim (cases_Bool (contains pool.settled n)
 no_member : (n : ℕ) → contains (empty {R = nat_cmp}) n ≡ true → ⊥
 no_member n has = false≢true (sym (contains-empty nat_cmp n) ∙ has)
 
-pub full_pool-sound : (first last limit : ℕ) → limit ≤ last + 1 - first → IsSound (full_pool first last limit)
-full_pool-sound first last limit reach = record {
+pub fresh_pool-sound : (first last limit : ℕ) → limit ≤ last + 1 - first → IsSound (fresh_pool first last limit)
+fresh_pool-sound first last limit reach = record {
   apart = λ n a b. no_member n a;
   leased = λ n a. absurd (no_member n a);
   settled = λ n a. absurd (no_member n a);
@@ -171,9 +171,9 @@ all_at_limit pool sound size full n low high = elim (cases_Bool (contains pool.l
 ]
 
 -- the same, counted
-pub kept-new : (first last limit end : ℕ) → limit ≤ last + 1 - first → last < end → end ≤ 2 ^ 16 → IsKept (full_pool first last limit) 0 end
+pub kept-new : (first last limit end : ℕ) → limit ≤ last + 1 - first → last < end → end ≤ 2 ^ 16 → IsKept (fresh_pool first last limit) 0 end
 kept-new first last limit end reach held fits = record {
-  sound = full_pool-sound first last limit reach;
+  sound = fresh_pool-sound first last limit reach;
   counted = omega (arith, len-empty nat_cmp);
   held = held;
   fits = fits;

@@ -16,15 +16,15 @@ numbers_in first (suc place) words =
 
 -- the number is in one of the sets
 abbrev pub IsIn : FinSet nat_cmp → FinSet nat_cmp → ℕ → Type 0
-IsIn s t n = IsTrue (contains s n || contains t n)
+IsIn leased settled n = IsTrue (contains leased n || contains settled n)
 
 -- each number from `first` on and below `end` is in one of the sets
 abbrev pub AreAllIn : FinSet nat_cmp → FinSet nat_cmp → ℕ → ℕ → Type 0
-AreAllIn s t first end = (n : ℕ) → first ≤ n → n < end → IsIn s t n
+AreAllIn leased settled first end = (n : ℕ) → first ≤ n → n < end → IsIn leased settled n
 
 -- the number is the least from `first` on and below `end` that is in neither set
-pub record IsLeastOutside (s t : FinSet nat_cmp) (first end n : ℕ) : Type 0 where
+pub record IsLeastOutside (leased settled : FinSet nat_cmp) (first end n : ℕ) : Type 0 where
   pub from : first ≤ n
   pub to : n < end
-  pub outside : ¬ (IsIn s t n)
-  pub least : AreAllIn s t first n
+  pub outside : ¬ (IsIn leased settled n)
+  pub least : AreAllIn leased settled first n

@@ -27,8 +27,8 @@ abbrev pub pool_of : ℕ → ℕ → ℕ → set.FinSet nat_cmp → set.FinSet n
 pool_of first last limit leased settled = record { first = first; last = last; limit = limit; leased = leased; settled = settled }
 
 -- a pool with none of its numbers out
-abbrev pub full_pool : ℕ → ℕ → ℕ → Pool
-full_pool first last limit = pool_of first last limit set.empty set.empty
+abbrev pub fresh_pool : ℕ → ℕ → ℕ → Pool
+fresh_pool first last limit = pool_of first last limit set.empty set.empty
 
 abbrev pub IsLeased : Pool → ℕ → Type 0
 IsLeased pool n = IsTrue (set.contains pool.leased n)
@@ -67,8 +67,8 @@ pool_with_settled pool n = record pool { leased = set.remove pool.leased n; sett
 abbrev pub pool_with_lease_again : Pool → ℕ → Pool
 pool_with_lease_again pool n = record pool { leased = set.insert pool.leased n; settled = set.remove pool.settled n }
 
--- what every pool keeps: no number is both leased and settled, only the pool's own numbers are out, and no more than its
--- limit, which its numbers reach
+-- what every pool keeps: no number is both leased and settled, only the pool's own numbers are out, and at most its limit
+-- are out; the limit is no more than it has numbers
 pub record IsSound (pool : Pool) : Type 0 where
   pub apart : (n : ℕ) → IsLeased pool n → IsSettled pool n → ⊥
   pub leased : (n : ℕ) → IsLeased pool n → (pool.first ≤ n) × (n ≤ pool.last)
@@ -76,7 +76,7 @@ pub record IsSound (pool : Pool) : Type 0 where
   pub few : count_out pool ≤ pool.limit
   pub reach : pool.limit ≤ pool.last + 1 - pool.first
 
--- the pool, counted, in sets that hold the numbers below `end`
+-- a sound pool whose count of numbers out is right, and whose bitmaps reach beyond its last number, to below `end`
 pub record IsKept (pool : Pool) (out end : ℕ) : Type 0 where
   pub sound : IsSound pool
   pub counted : out ≡ count_out pool

@@ -1,5 +1,5 @@
 ghost use Rattle.std.specs.Prelude.{◌≡◌, ℕ, ◌+◌, ◌-◌, ◌≤◌, ◌↔◌, IsTrue, IsNone, IfNone, IfSome};
-ghost use Rattle.gp_pools.specs.Pool.{AreAllOut, IsFree, IsLeased, IsSettled, IsSound, full_pool, pool_with_lease, pool_with_lease_again, pool_with_settled, pool_without_lease};
+ghost use Rattle.gp_pools.specs.Pool.{AreAllOut, IsFree, IsLeased, IsSettled, IsSound, fresh_pool, pool_with_lease, pool_with_lease_again, pool_with_settled, pool_without_lease};
 
 use super::number_pool::NumberPool;
 use std::marker::Model;
@@ -55,7 +55,7 @@ impl AllocIds {
     /// The Alloc-IDs from 256 to `alloc_last`, none where that is less.
     pub fn new(alloc_last: u16) -> AllocIds
         requires { alloc_last ≤ 4095 }
-        ensures { result ≡ full_pool 256 alloc_last (alloc_last + 1 - 256) }
+        ensures { result ≡ fresh_pool 256 alloc_last (alloc_last + 1 - 256) }
     {
         let count = (alloc_last + 1).saturating_sub(FIRST);
         AllocIds {
@@ -63,7 +63,7 @@ impl AllocIds {
         }
     }
 
-    /// Leases an Alloc-ID that is not out: the least. None exactly where all are out.
+    /// Leases an Alloc-ID that is not out; which one is not promised. None exactly where all are out.
     pub fn take(&mut self) -> Option<AllocLease>
         ensures none { IsNone result ↔ AreAllOut self.old }
         ensures unchanged { IfNone result (self.new ≡ self.old) }
@@ -75,7 +75,8 @@ impl AllocIds {
         Some(AllocLease { number })
     }
 
-    /// Takes a lease back: its number is not out any more.
+    /// Takes back a lease of this pool: its number is not out any more. A lease doesn't name its pool; that it
+    /// is not of another port's pool is for the caller to see to.
     pub fn give_back(&mut self, lease: AllocLease)
         requires { IsLeased self.old lease }
         ensures { self.new ≡ pool_without_lease self.old lease }
@@ -92,7 +93,7 @@ impl AllocIds {
         self.pool.is_free(number)
     }
 
-    /// Settles a leased Alloc-ID: it stays out, and the plain number stands for it until it is leased
+    /// Settles an Alloc-ID that is leased from this pool: it stays out, and the plain number stands for it until it is leased
     /// again.
     pub fn settle(&mut self, lease: AllocLease) -> u16
         requires { IsLeased self.old lease }

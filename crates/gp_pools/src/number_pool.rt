@@ -1,5 +1,5 @@
 ghost use Rattle.std.specs.Prelude.{◌≡◌, ℕ, ◌+◌, ◌-◌, ◌*◌, ◌^◌, ◌<◌, ◌≤◌, ◌↔◌, IsTrue, IsNone, IfNone, IfSome};
-ghost use Rattle.gp_pools.specs.Pool.{IsFree, IsLeased, IsSettled, IsSound, count_out, full_pool, pool_with_lease, pool_with_lease_again, pool_with_settled, pool_without_lease};
+ghost use Rattle.gp_pools.specs.Pool.{IsFree, IsLeased, IsSettled, IsSound, count_out, fresh_pool, pool_with_lease, pool_with_lease_again, pool_with_settled, pool_without_lease};
 
 use super::number_set::NumberSet;
 use std::marker::Model;
@@ -29,11 +29,12 @@ impl<const FIRST: u16, const WORDS: usize> Model for NumberPool<FIRST, WORDS> {
 }
 
 impl<const FIRST: u16, const WORDS: usize> NumberPool<FIRST, WORDS> {
+    /// A pool with nothing out.
     pub fn new(last: u16, limit: u16) -> Self
         requires fits { FIRST + 64 * WORDS ≤ 2 ^ 16 }
         requires last { last < FIRST + 64 * WORDS }
         requires limit { limit ≤ last + 1 - FIRST }
-        ensures { result ≡ full_pool FIRST last limit }
+        ensures { result ≡ fresh_pool FIRST last limit }
     {
         NumberPool {
             leased: NumberSet::new(),
@@ -44,7 +45,7 @@ impl<const FIRST: u16, const WORDS: usize> NumberPool<FIRST, WORDS> {
         }
     }
 
-    /// Leases the least number that is not out.
+    /// Leases a number that is not out, the least.
     pub fn take(&mut self) -> Option<u16>
         ensures none { IsNone result ↔ (count_out self.old ≡ self.old.limit) }
         ensures unchanged { IfNone result (self.new ≡ self.old) }
@@ -64,6 +65,7 @@ impl<const FIRST: u16, const WORDS: usize> NumberPool<FIRST, WORDS> {
         Some(number)
     }
 
+    /// Takes back a leased number.
     pub fn give_back(&mut self, number: u16)
         requires { IsLeased self.old number }
         ensures { self.new ≡ pool_without_lease self.old number }
@@ -72,6 +74,7 @@ impl<const FIRST: u16, const WORDS: usize> NumberPool<FIRST, WORDS> {
         self.out -= 1;
     }
 
+    /// Whether the number is one of the pool's, and not out.
     pub fn is_free(&self, number: u16) -> bool
         ensures free { IsTrue result ↔ IsFree self.now number }
         ensures sound { IsSound self.now }
@@ -82,6 +85,7 @@ impl<const FIRST: u16, const WORDS: usize> NumberPool<FIRST, WORDS> {
             && !self.settled.contains(number)
     }
 
+    /// Settles a leased number.
     pub fn settle(&mut self, number: u16)
         requires { IsLeased self.old number }
         ensures pool { self.new ≡ pool_with_settled self.old number }
@@ -91,6 +95,7 @@ impl<const FIRST: u16, const WORDS: usize> NumberPool<FIRST, WORDS> {
         self.settled.insert(number);
     }
 
+    /// Leases a settled number again.
     pub fn lease_again(&mut self, number: u16)
         requires { IsSettled self.old number }
         ensures pool { self.new ≡ pool_with_lease_again self.old number }

@@ -27,6 +27,7 @@ impl<const FIRST: u16, const WORDS: usize> Model for NumberSet<FIRST, WORDS> {
 }
 
 impl<const FIRST: u16, const WORDS: usize> NumberSet<FIRST, WORDS> {
+    /// The empty set.
     pub fn new() -> Self
         requires { FIRST + 64 * WORDS ≤ 2 ^ 16 }
         ensures { result ≡ set.empty }
@@ -34,6 +35,7 @@ impl<const FIRST: u16, const WORDS: usize> NumberSet<FIRST, WORDS> {
         NumberSet { words: [0; WORDS] }
     }
 
+    /// Whether the number is in the set.
     pub fn contains(&self, number: u16) -> bool
         requires from { FIRST ≤ number }
         requires to { number < FIRST + 64 * WORDS }
@@ -43,6 +45,7 @@ impl<const FIRST: u16, const WORDS: usize> NumberSet<FIRST, WORDS> {
         self.words[place / 64] >> (place % 64) & 1 == 1
     }
 
+    /// Puts a number in.
     pub fn insert(&mut self, number: u16)
         requires from { FIRST ≤ number }
         requires to { number < FIRST + 64 * WORDS }
@@ -52,6 +55,7 @@ impl<const FIRST: u16, const WORDS: usize> NumberSet<FIRST, WORDS> {
         self.words[place / 64] |= 1 << (place % 64);
     }
 
+    /// Takes a number out, where it is in.
     pub fn remove(&mut self, number: u16)
         requires from { FIRST ≤ number }
         requires to { number < FIRST + 64 * WORDS }

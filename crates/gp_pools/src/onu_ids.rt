@@ -1,5 +1,5 @@
 ghost use Rattle.std.specs.Prelude.{◌≡◌, ℕ, ◌≤◌, ◌↔◌, IsTrue, IsNone, IfNone, IfSome};
-ghost use Rattle.gp_pools.specs.Pool.{IsFree, IsLeased, IsSettled, IsSound, count_out, full_pool, pool_with_lease, pool_with_lease_again, pool_with_settled, pool_without_lease};
+ghost use Rattle.gp_pools.specs.Pool.{IsFree, IsLeased, IsSettled, IsSound, count_out, fresh_pool, pool_with_lease, pool_with_lease_again, pool_with_settled, pool_without_lease};
 
 use super::number_pool::NumberPool;
 use std::marker::Model;
@@ -24,7 +24,7 @@ impl OnuLease {
     /// The ONU-ID.
     pub fn number(&self) -> u8
         ensures number { result ≡ self.now }
-        ensures range { result ≤ 253 }
+        ensures to { result ≤ 253 }
     {
         self.number
     }
@@ -53,14 +53,14 @@ impl OnuIds {
     /// All ONU-IDs, of which at most `max_units` may be out.
     pub fn new(max_units: u8) -> OnuIds
         requires { max_units ≤ 254 }
-        ensures { result ≡ full_pool 0 253 max_units }
+        ensures { result ≡ fresh_pool 0 253 max_units }
     {
         OnuIds {
             pool: NumberPool::new(LAST, max_units as u16),
         }
     }
 
-    /// Leases an ONU-ID that is not out: the least. None exactly where as many as may be are out.
+    /// Leases an ONU-ID that is not out; which one is not promised. None exactly where as many as may be are out.
     pub fn take(&mut self) -> Option<OnuLease>
         ensures none { IsNone result ↔ (count_out self.old ≡ self.old.limit) }
         ensures unchanged { IfNone result (self.new ≡ self.old) }
@@ -72,7 +72,8 @@ impl OnuIds {
         Some(OnuLease { number })
     }
 
-    /// Takes a lease back: its number is not out any more.
+    /// Takes back a lease of this pool: its number is not out any more. A lease doesn't name its pool; that it
+    /// is not of another port's pool is for the caller to see to.
     pub fn give_back(&mut self, lease: OnuLease)
         requires { IsLeased self.old lease }
         ensures { self.new ≡ pool_without_lease self.old lease }
@@ -90,7 +91,7 @@ impl OnuIds {
         self.pool.is_free(number as u16)
     }
 
-    /// Settles a leased ONU-ID: it stays out, and the plain number stands for it until it is leased again.
+    /// Settles an ONU-ID that is leased from this pool: it stays out, and the plain number stands for it until it is leased again.
     pub fn settle(&mut self, lease: OnuLease) -> u8
         requires { IsLeased self.old lease }
         ensures number { result ≡ lease }

@@ -71,22 +71,36 @@ fn one_alloc_id_and_none(rt: HostRuntime) {
     assert_eq!(rt; settle_next_alloc_id(&mut none), None);
 }
 
+/// Settles so many of the next ONU-IDs.
+fn settle_onu_ids(ids: &mut OnuIds, count: u8) {
+    for _ in 0..count {
+        let _ = settle_next_onu_id(ids);
+    }
+}
+
+/// Settles so many of the next Alloc-IDs.
+fn settle_alloc_ids(ids: &mut AllocIds, count: u16) {
+    for _ in 0..count {
+        let _ = settle_next_alloc_id(ids);
+    }
+}
+
 #[test]
-fn the_last_number_comes_back(rt: HostRuntime) {
-    let mut onu_ids = OnuIds::new(254);
-    for _ in 0..253 {
-        let _ = settle_next_onu_id(&mut onu_ids);
-    }
+fn the_last_onu_id_comes_back(rt: HostRuntime) {
+    let mut ids = OnuIds::new(254);
+    settle_onu_ids(&mut ids, 253);
     for _ in 0..2 {
-        assert_eq!(rt; pass_next_onu_id_through(&mut onu_ids), Some(253));
-        assert!(rt; onu_ids.is_free(253));
+        assert_eq!(rt; pass_next_onu_id_through(&mut ids), Some(253));
+        assert!(rt; ids.is_free(253));
     }
-    let mut alloc_ids = AllocIds::new(4095);
-    for _ in 256..4095 {
-        let _ = settle_next_alloc_id(&mut alloc_ids);
-    }
+}
+
+#[test]
+fn the_last_alloc_id_comes_back(rt: HostRuntime) {
+    let mut ids = AllocIds::new(4095);
+    settle_alloc_ids(&mut ids, 3839);
     for _ in 0..2 {
-        assert_eq!(rt; pass_next_alloc_id_through(&mut alloc_ids), Some(4095));
-        assert!(rt; alloc_ids.is_free(4095));
+        assert_eq!(rt; pass_next_alloc_id_through(&mut ids), Some(4095));
+        assert!(rt; ids.is_free(4095));
     }
 }

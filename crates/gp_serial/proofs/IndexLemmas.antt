@@ -19,7 +19,7 @@ use Rattle.std.specs.declared.cmp.Ordering.TheVariants.{Less, Equal, Greater}
 use Rattle.gp_ploam.specs.declared.message.Serial.{Serial}
 use Rattle.gp_ploam.specs.Serials.{serial_cmp}
 use Rattle.gp_ploam.proofs.Serials.{serials_total, serials_exact}
-use Rattle.gp_serial.specs.Admitted.{Admissions, IsCounted, count_on}
+use Rattle.gp_serial.specs.Admitted.{Admissions, AreCounts, count_on}
 use Rattle.gp_serial.specs.declared.index.Admission.{Admission}
 
 abbrev pub Entries : Type 0
@@ -139,9 +139,9 @@ pub count_none : (port : ℕ) → count_on port map.empty ≡ 0
 count_none port = ap (count_on port) (sym none_kept) ∙ ap (count_by (λ (a : Admission). a.port == port)) (values_kept no_entries none_ordered)
 
 -- one more on a port
-pub counted_more : (old new : Admissions) (counts : List ℕ) (port count : ℕ) → IsCounted old counts → length counts ≡ 256 → port < 256
+pub counted_more : (old new : Admissions) (counts : List ℕ) (port count : ℕ) → AreCounts old counts → length counts ≡ 256 → port < 256
     → count ≡ count_on port old → count < 512 → ((q : ℕ) → count_on q new ≡ cond (port == q) 1 0 + count_on q old)
-    → IsCounted new (set counts port (count + 1))
+    → AreCounts new (set counts port (count + 1))
 counted_more old new counts port count kept long low is_count few grown =
     let within : port < length counts = omega (arith, long, low) in
     record {

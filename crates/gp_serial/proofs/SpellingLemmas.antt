@@ -41,11 +41,11 @@ drop_four front back four = subst (λ (n : ℕ). drop n (front ++ back) ≡ back
 
 pub read-by_vendor : (text : List ℕ) → length text ≡ 12 → has_vendor_code text ≡ true → serial_of_text text ≡ serial_or_fault (take 4 text) (decode_of (drop 4 text))
 unfolding serial_of_text
-read-by_vendor text long letters = grind (arith, long, letters)
+read-by_vendor text long characters = grind (arith, long, characters)
 
 pub read-bad_vendor : (text : List ℕ) → length text ≡ 12 → has_vendor_code text ≡ false → serial_of_text text ≡ Err fault.Vendor
 unfolding serial_of_text
-read-bad_vendor text long letters = grind (arith, long, letters)
+read-bad_vendor text long characters = grind (arith, long, characters)
 
 pub read-by_digits : (text : List ℕ) → length text ≡ 16 → serial_of_text text ≡ serial_or_fault [] (decode_of text)
 unfolding serial_of_text
@@ -65,7 +65,7 @@ octets_given vendor (Err e) serial h = cc h
 -- a spelling is read as its serial number
 pub serial_of_text-Spells : (text : List ℕ) (serial : Serial) → Spells text serial → serial_of_text text ≡ Ok serial
 serial_of_text-Spells text serial (inl by) =
-    read-by_vendor text by.long by.letters
+    read-by_vendor text by.long by.characters
     ∙ ap (serial_or_fault (take 4 text)) by.digits
     ∙ ap read_as (ap (λ (front : List ℕ). front ++ drop 4 serial.0) by.vendor ∙ take-append-drop 4 serial.0)
 serial_of_text-Spells text serial (inr by) = read-by_digits text by.long ∙ ap (serial_or_fault []) by.digits
@@ -76,12 +76,12 @@ Spells-serial_of_text text serial h =
     elim (cases_eq (length text) 12) [
       | inl twelve ↦
           elim (cases_Bool (has_vendor_code text)) [
-            | inl letters ↦
-                let given = octets_given (take 4 text) (decode_of (drop 4 text)) serial (sym (read-by_vendor text twelve letters) ∙ h) in
+            | inl characters ↦
+                let given = octets_given (take 4 text) (decode_of (drop 4 text)) serial (sym (read-by_vendor text twelve characters) ∙ h) in
                 let four : length (take 4 text) ≡ 4 = length-take-le 4 text (omega (arith, twelve)) in
                 inl record {
                   long = twelve;
-                  letters = letters;
+                  characters = characters;
                   vendor = sym (take_at (take 4 text) given.0 4 four) ∙ ap (take 4) given.2;
                   digits = given.1 ∙ ap (λ (xs : List ℕ). Ok xs) (sym (drop_four (take 4 text) given.0 four) ∙ ap (drop 4) given.2);
                 }
@@ -138,10 +138,10 @@ HasFault-serial_of_text text f h =
     elim (cases_eq (length text) 12) [
       | inl twelve ↦
           elim (cases_Bool (has_vendor_code text)) [
-            | inl letters ↦
-                let given = fault_given (take 4 text) (decode_of (drop 4 text)) f (sym (read-by_vendor text twelve letters) ∙ h) in
+            | inl characters ↦
+                let given = fault_given (take 4 text) (decode_of (drop 4 text)) f (sym (read-by_vendor text twelve characters) ∙ h) in
                 let even : length (drop 4 text) % 2 ≡ 0 = let len = length-drop 4 text in omega (arith, len, twelve) in
-                subst (HasFault text) given.2 (inl (twelve, letters, bad_digit (drop 4 text) given.0 even given.1))
+                subst (HasFault text) given.2 (inl (twelve, characters, bad_digit (drop 4 text) given.0 even given.1))
             | inr others ↦ subst (HasFault text) (ap fault_in (sym (read-bad_vendor text twelve others) ∙ h)) (twelve, others)
           ]
       | inr not_twelve ↦
@@ -164,7 +164,7 @@ halves_written front back first second four four_more is_first is_second =
 
 -- the octets of eight digits after a vendor code
 pub read-number : (text digits : List ℕ) (octets : Octets) → length text ≡ 12 → has_vendor_code text ≡ true → digits ≡ drop 4 text → octets ≡ decode_sized digits 4 → serial_of_text text ≡ serial_or_fault (take 4 text) octets
-read-number text digits octets twelve letters same decoded =
+read-number text digits octets twelve characters same decoded =
     let eight : length (drop 4 text) ≡ 2 * 4 = let len = length-drop 4 text in omega (arith, len, twelve) in
-    read-by_vendor text twelve letters
+    read-by_vendor text twelve characters
     ∙ ap (serial_or_fault (take 4 text)) (sym (decode_sized-twice (drop 4 text) 4 eight) ∙ ap (λ (xs : List ℕ). decode_sized xs 4) (sym same) ∙ sym decoded)

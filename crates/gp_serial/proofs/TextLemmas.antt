@@ -15,7 +15,7 @@ use borrow.Rule.Slice.PartMut.{put_mid}
 use Rattle.hex.specs.Hex.{decode_of, encode_with, encode_upper, lower_digits, upper_digits, IsBytes}
 use Rattle.hex.proofs.HexLemmas.{decode_of-encode_upper, length-encode_with, IsAscii-encode_with}
 use Rattle.gp_ploam.specs.declared.message.Serial.{Serial}
-use Rattle.gp_serial.specs.Spelling.{Spells, SpellsByVendor, has_vendor_code, is_vendor_letter, text_of_serial}
+use Rattle.gp_serial.specs.Spelling.{Spells, SpellsByVendor, has_vendor_code, is_vendor_character, text_of_serial}
 use Rattle.gp_serial.proofs.SpellingLemmas.{drop_four}
 
 -- ---- digits in upper case
@@ -42,9 +42,9 @@ IsAscii-encode_upper octets =
     IsAscii-from_all upper_digits (All-weaker (λ c. nat_lt c 128 ≡ true) (λ c. c < 128) (λ c below. grind (arith, nat_tests)) upper_digits (AllPass-from_list_all (λ c. nat_lt c 128) upper_digits refl))
     )
 
-pub IsAscii-vendor : (vendor : List ℕ) → list_all is_vendor_letter vendor ≡ true → IsAscii vendor
-IsAscii-vendor vendor letters =
-    IsAscii-from_all vendor (All-weaker (λ c. is_vendor_letter c ≡ true) (λ c. c < 128) (λ c letter. grind (arith, nat_tests)) vendor (AllPass-from_list_all is_vendor_letter vendor letters))
+pub IsAscii-vendor : (vendor : List ℕ) → list_all is_vendor_character vendor ≡ true → IsAscii vendor
+IsAscii-vendor vendor characters =
+    IsAscii-from_all vendor (All-weaker (λ c. is_vendor_character c ≡ true) (λ c. c < 128) (λ c letter. grind (arith, nat_tests)) vendor (AllPass-from_list_all is_vendor_character vendor characters))
 
 -- ---- the text of a vendor code and digits, as it is written
 
@@ -81,7 +81,7 @@ spells_by_vendor octets eight bytes code =
           let some = length-encode_with upper_digits (drop 4 octets) in
           let rest = length-drop 4 octets in
           omega (arith, all, some, rest, four, eight);
-      letters = ap (list_all is_vendor_letter) same ∙ code;
+      characters = ap (list_all is_vendor_character) same ∙ code;
       vendor = same;
       digits = ap decode_of (drop_four vendor digits four) ∙ decode_of-encode_upper (drop 4 octets) (IsBytes-drop 4 octets bytes);
     }

@@ -16,6 +16,6 @@ abbrev pub count_on : ℕ → Admissions → ℕ
 count_on port admissions = count_by (λ a. a.port == port) (values admissions)
 
 -- these are the counts of all ports, none above 512
-pub record IsCounted (admissions : Admissions) (counts : List ℕ) : Type 0 where
+pub record AreCounts (admissions : Admissions) (counts : List ℕ) : Type 0 where
   pub counted : (port : ℕ) → port < 256 → slice_index counts port ≡ count_on port admissions
   pub most : (port : ℕ) → port < 256 → slice_index counts port ≤ 512

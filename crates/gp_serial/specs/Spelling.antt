@@ -1,5 +1,5 @@
--- How a serial number is written. It has eight octets: a vendor code of four letters, and four octets
--- of the vendor's own (G.984.3, Serial_Number_ONU).
+-- How a serial number is written (this profile's own rule). It has eight octets: a vendor code of four characters, and
+-- four octets that the vendor numbers its units by (G.984.3, clause 9, Serial_Number_ONU).
 use Rattle.std.specs.Prelude.{◌≡◌, ◌≢◌, ℕ, ◌==◌, ◌||◌, Bool, true, false, if◌then◌else◌, List, [], ◌++◌, length, take, drop, ◌⊎◌, Result, Ok, Err}
 use Rattle.std.specs.List.{list_all}
 use Rattle.std.specs.Char.{is_ascii_uppercase, is_ascii_digit}
@@ -10,17 +10,17 @@ use Rattle.gp_serial.specs.declared.fault.SerialFault.{SerialFault}
 use Rattle.gp_serial.specs.declared.fault.SerialFault.TheVariants as fault
 
 -- an octet that a vendor code may have: A to Z, 0 to 9
-abbrev pub is_vendor_letter : ℕ → Bool
-is_vendor_letter octet = is_ascii_uppercase octet || is_ascii_digit octet
+abbrev pub is_vendor_character : ℕ → Bool
+is_vendor_character octet = is_ascii_uppercase octet || is_ascii_digit octet
 
 -- the first four octets can stand for themselves, as a vendor code
 abbrev pub has_vendor_code : List ℕ → Bool
-has_vendor_code octets = list_all is_vendor_letter (take 4 octets)
+has_vendor_code octets = list_all is_vendor_character (take 4 octets)
 
 -- twelve characters: the vendor code as it is, and the other four octets in hex
 pub record SpellsByVendor (text : List ℕ) (serial : Serial) : Type 0 where
   pub long : length text ≡ 12
-  pub letters : has_vendor_code text ≡ true
+  pub characters : has_vendor_code text ≡ true
   pub vendor : take 4 text ≡ take 4 serial.0
   pub digits : decode_of (drop 4 text) ≡ Ok (drop 4 serial.0)
 

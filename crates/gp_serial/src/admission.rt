@@ -26,7 +26,7 @@ pub struct AdmissionList {
 impl Model for AdmissionList {
     ghost use Rattle.std.specs.FinMap as map;
     ghost use Rattle.gp_ploam.specs.Serials.{serial_cmp, coded_serial};
-    ghost use Rattle.gp_serial.specs.Admitted.{IsCounted};
+    ghost use Rattle.gp_serial.specs.Admitted.{AreCounts};
     ghost use Rattle.gp_serial.specs.declared.index.Admission.{Admission};
     ghost use Rattle.gp_serial.specs.contracts.index.Admission as admission;
 
@@ -36,7 +36,7 @@ impl Model for AdmissionList {
 
     ghost view = { λ a. a.index };
 
-    ghost invariant = { λ a. IsCounted a.index a.counts };
+    ghost invariant = { λ a. AreCounts a.index a.counts };
 }
 
 impl AdmissionList {
@@ -50,7 +50,9 @@ impl AdmissionList {
         }
     }
 
-    /// Admits a serial number on a port, not disabled. A refusal changes nothing.
+    /// Admits a serial number on a port, not disabled. A refusal changes nothing: `Duplicate` where the serial
+    /// number is admitted already, on this port or another, else `Full` where the port has `MOST_ON_A_PORT`,
+    /// else `OutOfMemory`.
     pub fn admit(&mut self, port: u8, serial: Serial) -> Result<(), AdmitFault>
         ensures ok { OnOk result (self.new ≡ map.insert self.old serial (admission_on port)) }
         ensures duplicate { (result ≡ Err AdmitFault.Duplicate) ↔ IsSome (map.get self.old serial) }

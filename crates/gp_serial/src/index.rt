@@ -11,7 +11,9 @@ use std::marker::Model;
 /// Where a serial number is admitted, and whether its unit is disabled.
 #[derive(Clone, Copy, Debug, PartialEq, Eq)]
 pub struct Admission {
+    /// The port that it is admitted on.
     pub port: u8,
+    /// Its unit is disabled.
     pub disabled: bool,
 }
 

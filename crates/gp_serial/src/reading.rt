@@ -3,7 +3,7 @@ ghost use Rattle.std.specs.Prelude.{◌≡◌, ℕ, ◌↔◌, List, ◌++◌, l
 ghost use Rattle.std.specs.List.{list_all};
 ghost use Rattle.gp_ploam.specs.declared.message.Serial.{Serial as AnySerial};
 ghost use Rattle.gp_serial.specs.declared.fault.SerialFault.{SerialFault as AnyFault};
-ghost use Rattle.gp_serial.specs.Spelling.{Spells, HasFault, is_vendor_letter, serial_of_text};
+ghost use Rattle.gp_serial.specs.Spelling.{Spells, HasFault, is_vendor_character, serial_of_text};
 
 use crate::fault::SerialFault;
 use gp_ploam::Serial;
@@ -39,7 +39,7 @@ fn read(text: &[u8]) -> Result<Serial, SerialFault>
 
 /// Whether these octets can stand for themselves, as a vendor code.
 pub(crate) fn is_vendor_code(octets: &[u8]) -> bool
-    ensures { result ≡ list_all is_vendor_letter octets.now }
+    ensures { result ≡ list_all is_vendor_character octets.now }
 {
     octets.iter().all(|octet| octet.is_ascii_uppercase() || octet.is_ascii_digit())
 }

@@ -4,7 +4,7 @@ ghost use Rattle.std.specs.List.{list_all};
 ghost use Rattle.std.specs.Str.{IsAscii};
 ghost use Rattle.std.specs.String.{string_bytes};
 ghost use Rattle.hex.specs.Hex.{encode_upper};
-ghost use Rattle.gp_serial.specs.Spelling.{Spells, is_vendor_letter, serial_of_text, serial_with, text_of_serial};
+ghost use Rattle.gp_serial.specs.Spelling.{Spells, is_vendor_character, serial_of_text, serial_with, text_of_serial};
 
 use crate::fault::SerialFault;
 use crate::reading::{is_vendor_code, spellings_are_read};
@@ -51,7 +51,7 @@ impl SerialText {
 
     /// A vendor code as it is, then four octets in digits.
     fn of_vendor(vendor: &[u8], number: &[u8]) -> SerialText
-        requires code { list_all is_vendor_letter vendor.now ≡ true }
+        requires code { list_all is_vendor_character vendor.now ≡ true }
         requires vendor { length vendor.now ≡ 4 }
         requires number { length number.now ≡ 4 }
         ensures { result ≡ vendor.now ++ encode_upper number.now }

@@ -9,7 +9,7 @@ use Rattle.std.proofs.lemmas.Bool.{cases_Bool, eqb-false, eq-eqb, ne_eqb}
 use Rattle.std.proofs.Math.Seq.{take-append_seam}
 use borrow.Author.Tests.{ltb-true, ltb-false}
 use Rattle.gp_timers.specs.declared.tournament.Timer.{Timer}
-use Rattle.gp_timers.specs.Timers.{Frames}
+use Rattle.gp_timers.specs.Timers.{DueFrames}
 use Rattle.gp_timers.specs.Tournament.{timer_at, frames_from, IsRewritten}
 
 abbrev pub Nodes : Type 0
@@ -18,7 +18,7 @@ Nodes = List (Option Timer)
 abbrev pub frame_of : Option Timer → Option ℕ
 frame_of = option_map (λ t. t.frame)
 
-abbrev pub frames_of : ℕ → Nodes → Frames
+abbrev pub frames_of : ℕ → Nodes → DueFrames
 frames_of names nodes = frames_from 0 (drop names nodes)
 
 pub equal_or_not : (a b : ℕ) → (a ≡ b) ⊎ (a ≢ b)
@@ -30,10 +30,10 @@ is_itself a b e = eq-eqb a b e
 is_another : (a b : ℕ) → a ≢ b → eqb a b ≡ false
 is_another a b e = ne_eqb a b e
 
-get_inserted : (m : Frames) (k v q : ℕ) → get (insert m k v) q ≡ cond (eqb q k) (Some v) (get m q)
+get_inserted : (m : DueFrames) (k v q : ℕ) → get (insert m k v) q ≡ cond (eqb q k) (Some v) (get m q)
 get_inserted m k v q = get-insert nat_cmp_total m k v q ∙ ap (λ b. cond b (Some v) (get m q)) (unsigned_tied q k)
 
-get_removed : (m : Frames) (k q : ℕ) → get (remove m k) q ≡ cond (eqb q k) None (get m q)
+get_removed : (m : DueFrames) (k q : ℕ) → get (remove m k) q ≡ cond (eqb q k) None (get m q)
 get_removed m k q = get-remove nat_cmp_total m k q ∙ ap (λ b. cond b None (get m q)) (unsigned_tied q k)
 
 get-frames_before : (k : ℕ) (ts : Nodes) (q : ℕ) → q < k → get (frames_from k ts) q ≡ None

@@ -4,7 +4,7 @@ use Rattle.std.specs.Option.{ForSome}
 use Rattle.std.specs.List.{slice_index_or}
 use Rattle.std.specs.FinMap.{empty, insert}
 use Rattle.gp_timers.specs.declared.tournament.Timer.{Timer}
-use Rattle.gp_timers.specs.Timers.{Frames}
+use Rattle.gp_timers.specs.Timers.{DueFrames}
 
 -- due in an earlier frame, or in the same frame under a lesser name
 abbrev pub is_earlier : Timer → Timer → Bool
@@ -19,7 +19,8 @@ earlier_of (Some a) (Some b) = Some (if is_earlier b a then b else a)
 abbrev pub timer_at : List (Option Timer) → ℕ → Option Timer
 timer_at nodes i = slice_index_or nodes i None
 
--- names leaves, those from `names` on, each with the timer of its own name, and above them the winners
+-- the places from `names` on are the leaves, one for each name, with the timer of that name; each place i below them, from 1
+-- on, has the earlier of the timers at 2i and 2i + 1
 pub record IsTournament (names : ℕ) (nodes : List (Option Timer)) : Type 0 where
   pub few : names < 2 ^ 16
   pub size : length nodes ≡ 2 * names
@@ -27,7 +28,7 @@ pub record IsTournament (names : ℕ) (nodes : List (Option Timer)) : Type 0 whe
   pub inner : (i : ℕ) → 0 < i → i < names → timer_at nodes i ≡ earlier_of (timer_at nodes (2 * i)) (timer_at nodes (2 * i + 1))
 
 -- the frames of the leaves, whose names count from this one
-abbrev pub frames_from : ℕ → List (Option Timer) → Frames
+abbrev pub frames_from : ℕ → List (Option Timer) → DueFrames
 frames_from name [] = empty
 frames_from name (None ∷ leaves) = frames_from (suc name) leaves
 frames_from name (Some timer ∷ leaves) = insert (frames_from (suc name) leaves) name timer.frame

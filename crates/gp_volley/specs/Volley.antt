@@ -1,4 +1,5 @@
--- A message with the copies of it that are still to be sent (G.984.3, clause 9, has each message sent three times).
+-- A message with the copies of it that are still to be sent (G.984.3, clause 9, has Upstream_Overhead, Assign_ONU-ID,
+-- Ranging_Time and others sent three times).
 use Rattle.std.specs.Prelude.{ℕ, ◌-◌, nat_lt, Option, None, Some, if◌then◌else◌}
 use Rattle.gp_ploam.specs.declared.message.Down.{Down}
 

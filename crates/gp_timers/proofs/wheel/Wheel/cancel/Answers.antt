@@ -1,6 +1,6 @@
 use Rattle.std.proofs.Common.{◌+◌, ap, ◌∙◌, sym, is_some, None, arith}
 use Rattle.std.proofs.lemmas.List.{get_or_read}
-use Rattle.gp_timers.specs.Timers.{Frames, Timers}
+use Rattle.gp_timers.specs.Timers.{DueFrames, Timers}
 use Rattle.gp_timers.specs.Tournament.{timer_at}
 use Rattle.gp_timers.proofs.Leaves.{frames_of, frames_of-clear, refilled, get-frames_of, get-past, remove-past, is_some-frame_of}
 use Rattle.gp_timers.proofs.wheel.Wheel.cancel.Goals as goal
@@ -13,7 +13,7 @@ returns-then-name-self-clause-was_set c =
 pub returns-then-name-self-clause-removed : goal.returns-then-name-self-clause-removed
 returns-then-name-self-clause-removed c =
     let past = remove-past c.self.inside.names c.self.inside.nodes.items c.args.name c.self.invariant.size c.if-name-self.true in
-    let timers : Frames → Timers = λ f. record { names = c.self.inside.names; frames = f } in
+    let timers : DueFrames → Timers = λ f. record { names = c.self.inside.names; frames = f } in
     rw (← c.self.view_is) (ap timers past)
 
 pub returns-clause-was_set : goal.returns-clause-was_set
@@ -29,5 +29,5 @@ pub returns-clause-removed : goal.returns-clause-removed
 returns-clause-removed c =
     let written = rw c.deref_mut.ensures.value at c.rewrite.ensures in
     let whole = refilled c.self.inside.nodes.len c.rewrite.new.nodes c.self.inside.nodes.items (let a = written.tournament.size in let b = c.self.invariant.size in let d = c.self.inside.nodes.ok.0 in omega arith) in
-    let timers : Frames → Timers = λ f. record { names = c.self.inside.names; frames = f } in
+    let timers : DueFrames → Timers = λ f. record { names = c.self.inside.names; frames = f } in
     rw (← c.self.view_is) (ap (λ ns. timers (frames_of c.self.inside.names ns)) whole ∙ ap timers (frames_of-clear c.self.inside.names c.self.inside.nodes.items c.rewrite.new.nodes c.args.name c.self.invariant.size written))

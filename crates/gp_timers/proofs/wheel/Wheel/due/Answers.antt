@@ -1,5 +1,5 @@
 use Rattle.std.proofs.Common.{ap, ◌∙◌, sym, refl, arith}
-use Rattle.gp_timers.specs.Timers.{Frames, Timers}
+use Rattle.gp_timers.specs.Timers.{DueFrames, Timers}
 use Rattle.gp_timers.proofs.Leaves.{frames_of, frames_of-clear, refilled}
 use Rattle.gp_timers.proofs.Winners.{none_is_due, due_from_winner, winner_leaf, get-winner, first_due}
 use Rattle.gp_timers.proofs.wheel.Wheel.due.Goals as goal
@@ -35,5 +35,5 @@ pub returns-clause-taken : goal.returns-clause-taken
 returns-clause-taken c =
     let written = rw c.deref_mut.ensures.value at c.rewrite.ensures in
     let whole = refilled c.self.inside.nodes.len c.rewrite.new.nodes c.self.inside.nodes.items (let a = written.tournament.size in let b = c.self.invariant.size in let d = c.self.inside.nodes.ok.0 in omega arith) in
-    let timers : Frames → Timers = λ f. record { names = c.self.inside.names; frames = f } in
+    let timers : DueFrames → Timers = λ f. record { names = c.self.inside.names; frames = f } in
     rw (← c.self.view_is) (ap (λ ns. timers (frames_of c.self.inside.names ns)) whole ∙ ap timers (frames_of-clear c.self.inside.names c.self.inside.nodes.items c.rewrite.new.nodes c.in_ok-first.first.name c.self.invariant.size written))
