@@ -10,7 +10,7 @@ use Rattle.gp_ploam.specs.declared.message.Serial.{Serial}
 use Rattle.gp_ploam.specs.declared.message.Down.{Down}
 use Rattle.gp_ploam.specs.declared.message.Down.TheVariants as down
 use Rattle.gp_ploam.specs.Serials.{same_serial}
-use Rattle.gp_ploam.proofs.Serials.{serials_total, by_cmp-same, same_serial-true, same_serial-itself}
+use Rattle.gp_ploam.proofs.Serials.{serials_total, by_cmp-same, same_serial-true}
 use Rattle.gp_machine.specs.declared.config.PortConfig.{PortConfig}
 use Rattle.gp_machine.specs.declared.entry.Entry.{Entry}
 use Rattle.gp_machine.specs.declared.row.Row.{Row}
@@ -22,6 +22,7 @@ use Rattle.gp_machine.specs.Runs.{EveryStateIsSound}
 use Rattle.gp_machine.specs.Messages.{begins_acquisition, sent_in, three_times}
 use Rattle.gp_machine.specs.OnuIds.{HasOnuId, NoSharedOnuId, OnlyAdmittedUnits, AtMostMaxUnits, KeepsOnuIds, TellsTheTable, AssignsWhatUnitsHave, AssignsOneToOne}
 use Rattle.gp_machine.proofs.RunParts.{keeps_configuration}
+use Rattle.gp_machine.proofs.SoundRows.{has_it}
 use Rattle.gp_machine.proofs.StepCases.{StepCase, step_case, owed_by_frame, ranged_row}
 
 -- ---- sound states
@@ -46,7 +47,7 @@ found : (rows : Rows) (s t : Serial) (row : Row) → get (insert rows s row) t �
 found rows s t row = get-insert serials_total rows s row t ∙ ap (λ b. cond b (Some row) (get rows t)) (by_cmp-same t s)
 
 there : (rows : Rows) (s : Serial) (row : Row) → Has (insert rows s row) s row.onu
-there rows s row = (row, found rows s s row ∙ ap (λ b. cond b (Some row) (get rows s)) (same_serial-itself s), refl)
+there rows s row = (row, has_it rows s row, refl)
 
 -- a row that is put for a unit with its own ONU-ID takes none from any unit
 put_keeps : (rows : Rows) (s t : Serial) (row : Row) (n : ℕ) → ((old : Row) → HasRow rows s old → old.onu ≡ row.onu) → Has rows t n → Has (insert rows s row) t n

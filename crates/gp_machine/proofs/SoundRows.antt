@@ -6,7 +6,7 @@ use Rattle.std.specs.FinMap.{empty, get, insert, len, get-empty, get-insert, len
 use Rattle.std.proofs.lemmas.Bool.{cases_Bool, false≢true}
 use Rattle.gp_ploam.specs.declared.message.Serial.{Serial}
 use Rattle.gp_ploam.specs.Serials.{serial_cmp, same_serial}
-use Rattle.gp_ploam.proofs.Serials.{serials_total, by_cmp-same, same_serial-true}
+use Rattle.gp_ploam.proofs.Serials.{serials_total, by_cmp-same, same_serial-true, same_serial-itself}
 use Rattle.gp_machine.specs.declared.config.PortConfig.{PortConfig}
 use Rattle.gp_machine.specs.declared.row.Row.{Row}
 use Rattle.gp_machine.specs.State.{PortState, Rows, HasRow}
@@ -34,6 +34,11 @@ has_put rows s row t q h =
           inl (same_serial-true t s b, cc)
       | inr b ↦ inr (sym (ap (λ b. cond b (Some row) (get rows t)) b) ∙ e)
     ]
+
+-- the row that is put is there
+pub has_it : (rows : Rows) (s : Serial) (row : Row) → HasRow (insert rows s row) s row
+has_it rows s row =
+    get-insert serials_total rows s row s ∙ ap (λ b. cond b (Some row) (get rows s)) (by_cmp-same s s ∙ same_serial-itself s)
 
 -- a row may be put where its ONU-ID is low and no other unit has it
 pub record MayPut (config : PortConfig) (rows : Rows) (s : Serial) (row : Row) : Type 0 where

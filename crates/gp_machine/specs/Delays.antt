@@ -39,13 +39,16 @@ pub record IsMeasured (teqd : ℕ) (p : PortState) (event : Event) (s : Serial) 
   -- its equalization delay makes its round-trip delay up to the equalized one
   pub adds_up : at + eqd ≡ teqd
 
--- a step that ranges a unit gives it what its round-trip delay leaves of the equalized round-trip delay
+-- a step that replies Ranged measured a unit, and leaves it operating with what its round-trip delay leaves of the
+-- equalized round-trip delay
 abbrev pub RangesWithWhatIsLeft : Type 0
 RangesWithWhatIsLeft =
     (p q before after : PortState) (es : List Entry) (e : Entry) (n eqd : ℕ)
     → HasStep p es q before e after
     → e.answer.reply ≡ Ranged n eqd
-    → (s : Serial) × IsMeasured p.config.teqd before e.event s n eqd
+    → (s : Serial)
+    × IsMeasured p.config.teqd before e.event s n eqd
+    × HasRow after.rows s (record { onu = n; phase = Operating eqd 0 0 })
 
 -- the unit s was ranged in the run: a step of it measured the unit, and gave it this equalization delay
 abbrev pub WasRanged : PortState → List Entry → PortState → Serial → ℕ → ℕ → Type 0

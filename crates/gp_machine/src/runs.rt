@@ -61,8 +61,8 @@ pub fn sends_each_message_three_times()
     up_read_once();
 }
 
-/// A unit is ranged with what its round-trip delay leaves of the equalized round-trip delay, and each
-/// operating unit was.
+/// A unit is ranged with what its round-trip delay leaves of the equalized round-trip delay, and operates
+/// with it after that step; each operating unit was ranged so.
 pub fn ranged_with_what_is_left()
     ensures ranged { RangesWithWhatIsLeft }
     ensures operating { OperatesWithWhatWasMeasured }
