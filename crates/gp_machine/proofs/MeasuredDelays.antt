@@ -43,8 +43,7 @@ measured p q e n eqd h is = by_case (step_case e.purse_in p e.event (entry_outco
         let has : HasRow q.rows s (ranged_row m (p.config.teqd - at)) =
         subst (λ (rows : Rows). HasRow rows s (ranged_row m (p.config.teqd - at))) (sym k.rows) (has_it p.rows s (ranged_row m (p.config.teqd - at))) in
         let has_eqd : HasRow q.rows s (ranged_row m eqd) = subst (λ (x : ℕ). HasRow q.rows s (ranged_row m x)) left has in
-        subst (λ (x : ℕ). IsRangedBy p.config.teqd p e q x eqd) same
-        (
+        subst (λ (x : ℕ). IsRangedBy p.config.teqd p e q x eqd) same (
           s,
           record { at = at; bytes = bytes; random = random; flags = flags; burst = burst; asked = k.asked; read = read; active = k.active; adds_up = omega arith },
           has_eqd,

@@ -1,13 +1,12 @@
 -- What keeps a port sound.
 use Rattle.std.proofs.Common.{◌≡◌, ℕ, zero, suc, ◌+◌, ◌<◌, ◌≤◌, ◌==◌, Bool, true, false, length, List, [], ◌∷◌, Option, None, Some, refl, sym, ap, subst, ◌∙◌, arith, length-append}
 use Rattle.std.specs.Prelude.{◌-◌, ◌++◌}
-use Rattle.std.specs.List.{list_any}
 use Rattle.std.proofs.lemmas.Bool.{leb-true, ltb-true, eqb-false}
 use Rattle.std.specs.FinMap.{insert}
 use Rattle.gp_ploam.specs.declared.message.Serial.{Serial}
 use Rattle.gp_ploam.specs.declared.message.Down.{Down}
 use Rattle.gp_ploam.specs.declared.message.Up.{Up}
-use Rattle.gp_ploam.specs.Serials.{same_serial}
+use Rattle.gp_ploam.specs.Serials.{is_among}
 use Rattle.gp_ploam.specs.declared.message.Down.TheVariants.{AssignOnu, RangingTime, UpstreamOverhead}
 use Rattle.gp_ranging.specs.declared.grant.Grant.{Grant}
 use Rattle.gp_ranging.specs.declared.grant.Grant.TheVariants.{Search, Range}
@@ -279,7 +278,7 @@ undirected p heard s from rows =
     subst (λ (o : Option WindowState). IsAsked rows o) (sym from.opened) (subst (λ (g : Grant). IsAsked rows (Some (record from.window { grant = g }))) (sym from.asked) tt)
 
 -- a new unit may get a free ONU-ID
-pub may_put_new : (p : PortState) (s : Serial) (n : ℕ) → list_any (same_serial s) p.config.admitted ≡ true → IsFree p n → MayPut p.config p.rows s (new_row n)
+pub may_put_new : (p : PortState) (s : Serial) (n : ℕ) → is_among s p.config.admitted ≡ true → IsFree p n → MayPut p.config p.rows s (new_row n)
 may_put_new p s n admitted free =
     record {
       admitted = admitted_contains s p.config.admitted admitted;

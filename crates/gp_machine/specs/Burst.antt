@@ -8,7 +8,7 @@ use Rattle.gp_ploam.specs.declared.message.Down.{Down}
 use Rattle.gp_ploam.specs.declared.message.Down.TheVariants.{AssignOnu, RangingTime}
 use Rattle.gp_ploam.specs.declared.message.Up.{Up}
 use Rattle.gp_ploam.specs.declared.message.Up.TheVariants.{SerialNumber}
-use Rattle.gp_ploam.specs.Serials.{same_serial}
+use Rattle.gp_ploam.specs.Serials.{same_serial, is_among}
 use Rattle.gp_ploam.specs.Up.{octet1_of}
 use Rattle.gp_ranging.specs.declared.grant.Grant.{Grant}
 use Rattle.gp_ranging.specs.declared.grant.Grant.TheVariants.{Search, Range, Poll}
@@ -63,7 +63,7 @@ admitted_outcome u p s n (Some row) = active_outcome u p s row.onu row.phase
 -- a serial number in a search window
 abbrev pub serial_outcome : ℕ → PortState → Serial → ℕ → Outcome
 serial_outcome u p s n =
-    if list_any (same_serial s) p.config.admitted then admitted_outcome u p s n (get p.rows s) else refused_burst u p NotAdmitted
+    if is_among s p.config.admitted then admitted_outcome u p s n (get p.rows s) else refused_burst u p NotAdmitted
 
 -- a message in a search window: it has to be a serial number from a unit without an ONU-ID
 abbrev pub search_outcome : ℕ → PortState → ℕ → Up → Outcome

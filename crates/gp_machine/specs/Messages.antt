@@ -1,4 +1,5 @@
--- The messages of a run: those that its steps owe, and those that it sends (G.984.3, clauses 9 and 10).
+-- The messages of a run: those that its steps owe, and those that it sends (G.984.3, clauses 9 and 10; that the
+-- three copies go out in a row, behind all that is owed, is this profile's own rule).
 use Rattle.std.specs.Prelude.{◌≡◌, ℕ, ◌<◌, ◌^◌, Bool, true, false, if◌then◌else◌, List, [], ◌∷◌, ◌++◌, length, IfSome, All}
 use Rattle.std.specs.List.{flat_map}
 use Rattle.std.specs.Option.{option_to_list}

@@ -1,4 +1,5 @@
--- The ONU-IDs of a run: who has them, and who is told them (G.984.3, clause 10).
+-- The ONU-IDs of a run: who has them, and who is told them (G.984.3, clause 10). Whom a port admits, and how many it
+-- may have, is this profile's own rule.
 use Rattle.std.specs.Prelude.{◌≡◌, ◌≢◌, ◌↔◌, ℕ, ◌≤◌, List, ◌++◌, All, Contains}
 use Rattle.gp_ploam.specs.declared.message.Serial.{Serial}
 use Rattle.gp_ploam.specs.declared.message.Down.{Down}

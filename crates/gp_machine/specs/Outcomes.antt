@@ -30,7 +30,7 @@ bare_outcome u p reply = record { answer = bare_answer reply; purse = u; state =
 abbrev pub state_owing : PortState → Down → PortState
 state_owing p message = record p { owed = p.owed ++ message ∷ message ∷ message ∷ [] }
 
--- a burst or a command may owe a message: with it at most 189 copies are owed (this profile's own rule)
+-- a burst may owe a message: with it at most 189 copies are owed (this profile's own rule)
 abbrev pub has_room : PortState → Bool
 has_room p = nat_le (length p.owed + 3) 189
 

@@ -1,5 +1,5 @@
--- What is true of a port in every run. That no two units have one ONU-ID is G.984.3, clause 10; the numbers are
--- this profile's own rule.
+-- What is true of a port in every run. That no two units have one ONU-ID is G.984.3, clause 10, and that two
+-- failed ranging attempts are a start-up failure (SUF) is clause 11; the other numbers are this profile's own rule.
 use Rattle.std.specs.Prelude.{◌≡◌, ℕ, ◌-◌, ◌≤◌, length, Option, None, Some, Contains}
 use Rattle.gp_ploam.specs.declared.message.Serial.{Serial}
 use Rattle.gp_ranging.specs.declared.grant.Grant.{Grant}
@@ -12,7 +12,8 @@ use Rattle.gp_machine.specs.declared.row.Phase.TheVariants.{Ranging, Operating}
 use Rattle.gp_machine.specs.declared.row.Row.{Row}
 use Rattle.gp_machine.specs.State.{PortState, Rows, HasRow, Ranges, rows_of}
 
--- a unit's counts: one failed ranging window at most, three dark polls and two garbled ones
+-- a unit's counts, below their limits (this form of the machine leaves them all 0): one failed ranging attempt at
+-- most, three dark polls and two garbled ones
 abbrev pub IsCounted : Phase → Type 0
 IsCounted (Ranging attempts seen) = attempts ≤ 1
 IsCounted (Operating eqd dark garbled) = (dark ≤ 3) × (garbled ≤ 2)

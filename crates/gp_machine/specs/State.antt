@@ -17,8 +17,8 @@ abbrev pub Rows : Type 0
 Rows = FinMap serial_cmp Row
 
 -- all that a port knows: its configuration, its unit table, the state that all its units share, whether a
--- search is wanted, the frames since the last search began by itself, the open window, and the copies of
--- messages still to be sent, in order
+-- search is wanted, the frames in standby since a search was last wanted by itself, the open window, and the
+-- copies of messages still to be sent, in order
 pub record PortState : Type 0 where
   pub config : PortConfig
   pub rows : Rows

@@ -1,5 +1,6 @@
--- Runs that were worked out by hand. The port admits two units, has one search window for an acquisition, and
--- makes up delays to 311,040 bit times; its check octets are plain. One licence is at hand for each step.
+-- Runs that were worked out by hand (this profile's own examples of G.984.3, clause 10). The port admits two
+-- units, has one search window for an acquisition, and makes up delays to 311,040 bit times; its check octets are
+-- plain. One licence is at hand for each step.
 use Rattle.std.specs.Prelude.{◌≡◌, ℕ, List, [], ◌∷◌, ◌++◌, None, Some, replicate}
 use Rattle.gp_ploam.specs.declared.check.Mask.TheVariants.{Plain}
 use Rattle.gp_ploam.specs.declared.message.Serial.{Serial}

@@ -1,6 +1,5 @@
 ghost use Rattle.std.specs.Prelude.{◌≡◌, ◌↔◌, IfOk, IsTrue, length};
-ghost use Rattle.std.specs.List.{list_any};
-ghost use Rattle.gp_ploam.specs.Serials.{same_serial};
+ghost use Rattle.gp_ploam.specs.Serials as spec;
 ghost use Rattle.gp_machine.specs.Config.{is_distinct};
 
 use gp_ploam::Serial;
@@ -53,7 +52,7 @@ impl Admitted {
 
     /// Whether a unit with this serial number may be activated on the port.
     pub fn contains(&self, serial: &Serial) -> bool
-        ensures { result ≡ list_any (same_serial serial.now) self.now }
+        ensures { result ≡ spec.is_among serial.now self.now }
     {
         is_among(serial, &self.serials)
     }
@@ -79,8 +78,9 @@ impl Admitted {
     }
 }
 
-fn is_among(serial: &Serial, serials: &[Serial]) -> bool
-    ensures { result ≡ list_any (same_serial serial.now) serials.now }
+/// Whether the serial number is one of these.
+pub fn is_among(serial: &Serial, serials: &[Serial]) -> bool
+    ensures { result ≡ spec.is_among serial.now serials.now }
 {
     serials.iter().any(|other| *serial == *other)
 }

@@ -1,8 +1,7 @@
 ghost use Rattle.std.specs.Prelude.{◌≡◌, ℕ, ◌<◌, ◌≤◌, true, None};
 ghost use Rattle.std.specs.FinMap as map;
-ghost use Rattle.std.specs.List.{list_any};
 ghost use Rattle.gp_ploam.specs.declared.message.Serial.{Serial};
-ghost use Rattle.gp_ploam.specs.Serials.{same_serial};
+ghost use Rattle.gp_ploam.specs.Serials.{is_among};
 ghost use Rattle.gp_machine.specs.declared.row.Row.{Row};
 ghost use Rattle.gp_machine.specs.State.{HasRow, IsFree, Rows};
 ghost use Rattle.gp_machine.specs.Sound.{IsAsked};
@@ -84,7 +83,7 @@ impl<L: Ledger> PortCore<L> {
         (bare_answer(Reply::Refused(refusal)), purse)
     }
 
-    /// Whether a burst or a command may owe a message.
+    /// Whether a burst may owe a message: with it at most 189 copies are owed (this profile's own rule).
     fn has_room(&self) -> bool
         ensures { result ≡ spec.has_room self.now }
     {
@@ -124,7 +123,7 @@ impl<L: Ledger> PortCore<L> {
 
     /// An admitted unit that is not active.
     fn meet(&mut self, purse: Licences<L>, serial: Serial) -> (Answer, Licences<L>)
-        requires admitted { list_any (same_serial serial) self.old.config.admitted ≡ true }
+        requires admitted { is_among serial self.old.config.admitted ≡ true }
         requires undirected { (rows : Rows) → IsAsked rows self.old.window }
         requires unknown { map.get self.old.rows serial ≡ None }
         ensures free { HandsOutFree self.old result.0.reply }
@@ -150,7 +149,7 @@ impl<L: Ledger> PortCore<L> {
         requires one { one ≡ 1 }
         requires room { spec.has_room self.old ≡ true }
         requires undirected { (rows : Rows) → IsAsked rows self.old.window }
-        requires admitted { list_any (same_serial serial) self.old.config.admitted ≡ true }
+        requires admitted { is_among serial self.old.config.admitted ≡ true }
         requires unknown { map.get self.old.rows serial ≡ None }
         requires free { IsFree self.old onu }
         ensures { self.new ≡ state_assigned self.old serial onu }
