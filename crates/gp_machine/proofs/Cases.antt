@@ -24,7 +24,7 @@ use Rattle.gp_machine.specs.declared.reply.Reply.TheVariants.{Refused, Found, Ag
 use Rattle.gp_machine.specs.State.{PortState, HasRow, rows_of}
 use Rattle.gp_machine.specs.Outcomes.{Outcome, bare_outcome, has_room, state_seen, refused_burst}
 use Rattle.gp_machine.specs.Frame.{runs_timer, state_after_timer, first_of, is_idle, deciding_frame, waiting_frame, frame_outcome}
-use Rattle.gp_machine.specs.Burst.{state_assigned, state_ranged, is_assign, newcomer_outcome, active_outcome, admitted_outcome, serial_outcome, search_outcome, measured_outcome, row_outcome, asked_outcome, range_outcome, heard_outcome, window_outcome, burst_outcome}
+use Rattle.gp_machine.specs.Burst.{state_assigned, state_ranged, is_assign, newcomer_outcome, active_outcome, admitted_outcome, serial_outcome, search_outcome, equalized_outcome, measured_outcome, row_outcome, asked_outcome, range_outcome, heard_outcome, window_outcome, burst_outcome}
 use Rattle.gp_machine.specs.Commands.{command_outcome, is_acquiring}
 
 pub by_test : {A : Type 0} (P : A → Type 0) (b : Bool) (x y : A) → (b ≡ true → P x) → (b ≡ false → P y) → P (cond b x y)
@@ -122,7 +122,7 @@ of_each_burst P u p at heard n each = by_window p.window refl
 
     measured : (m : ℕ) (s : Serial) → IsFromRange p heard m s → P (measured_outcome u p at s m)
     measured m s from =
-        by_test P (nat_lt p.config.teqd at) _ _
+        by_test (λ (eqd : Option ℕ). P (equalized_outcome u p s m eqd)) (nat_lt p.config.teqd at) None (Some (p.config.teqd - at))
         (λ far. each.too_far m)
         (λ near. by_test P (has_room p) _ _ (λ room. each.ranged m s from (ltb-false p.config.teqd at near) room) (λ full. each.refused Busy))
 

@@ -12,6 +12,7 @@ use Rattle.gp_ploam.specs.Serials.{same_serial, is_among}
 use Rattle.gp_ploam.specs.Up.{octet1_of}
 use Rattle.gp_ranging.specs.declared.grant.Grant.{Grant}
 use Rattle.gp_ranging.specs.declared.grant.Grant.TheVariants.{Search, Range, Poll}
+use Rattle.gp_ranging.specs.Delay.{equalization_delay}
 use Rattle.gp_ranging.specs.Window.{WindowState}
 use Rattle.gp_machine.specs.declared.row.Phase.{Phase}
 use Rattle.gp_machine.specs.declared.row.Phase.TheVariants.{Ranging, Operating}
@@ -78,12 +79,15 @@ abbrev pub state_ranged : PortState → Serial → ℕ → ℕ → PortState
 state_ranged p s n eqd =
     state_owing (record p { rows = insert p.rows s (record { onu = n; phase = Operating eqd 0 0 }); window = None }) (RangingTime n eqd)
 
--- the serial number of the unit that is asked, after a round-trip delay: what is left of the equalized
--- round-trip delay is its equalization delay
+-- the serial number of the unit that is asked, by the unit's equalization delay
+abbrev pub equalized_outcome : ℕ → PortState → Serial → ℕ → Option ℕ → Outcome
+equalized_outcome u p s n None = bare_outcome u (state_seen p) (TooFar n)
+equalized_outcome u p s n (Some eqd) =
+    if has_room p then bare_outcome u (state_ranged p s n eqd) (Ranged n eqd) else refused_burst u p Busy
+
+-- the serial number of the unit that is asked, after a round-trip delay
 abbrev pub measured_outcome : ℕ → PortState → ℕ → Serial → ℕ → Outcome
-measured_outcome u p at s n =
-    if nat_lt p.config.teqd at then bare_outcome u (state_seen p) (TooFar n)
-    else (if has_room p then bare_outcome u (state_ranged p s n (p.config.teqd - at)) (Ranged n (p.config.teqd - at)) else refused_burst u p Busy)
+measured_outcome u p at s n = equalized_outcome u p s n (equalization_delay p.config.teqd at)
 
 -- a serial number in the window of the ranging unit with ONU-ID n, by the row that it has: it has to be that unit
 abbrev pub row_outcome : ℕ → PortState → ℕ → ℕ → Serial → Option Row → Outcome
