@@ -1,6 +1,6 @@
 -- A frame: the timer, the sending, the window, the decision. A frame carries one message (G.984.3, clause 9); when
 -- a port searches and ranges (clause 10) is this profile's own rule.
-use Rattle.std.specs.Prelude.{ℕ, ◌+◌, ◌==◌, ◌&&◌, nat_lt, Bool, true, false, if◌then◌else◌, List, [], ◌∷◌, Option, None, Some, is_none}
+use Rattle.std.specs.Prelude.{ℕ, ◌+◌, ◌==◌, ◌&&◌, nat_lt, Bool, true, false, if◌then◌else◌, List, [], ◌∷◌, drop, Option, None, Some, is_none}
 use Rattle.gp_ploam.specs.declared.message.Down.TheVariants.{UpstreamOverhead}
 use Rattle.gp_ploam.specs.declared.message.Down.{Down}
 use Rattle.gp_ranging.specs.declared.grant.Grant.{Grant}
@@ -36,14 +36,9 @@ abbrev pub first_of : List Down → Option Down
 first_of [] = None
 first_of (m ∷ ms) = Some m
 
--- the copies after the first
-abbrev pub rest_of : List Down → List Down
-rest_of [] = []
-rest_of (m ∷ ms) = ms
-
--- the first copy is sent
+-- the first copy is sent, and is owed no longer
 abbrev pub state_after_sending : PortState → PortState
-state_after_sending p = record p { owed = rest_of p.owed }
+state_after_sending p = record p { owed = drop 1 p.owed }
 
 -- the window after a frame: it has a frame less, and closes with its last
 abbrev pub window_left : Option WindowState → Option WindowState

@@ -59,9 +59,9 @@ RunOwing p (e ∷ es) messages q =
     (mid : PortState) × (first : List Down) × (rest : List Down)
     × IsStep p e mid × Owes p e.event e.answer.reply mid first × RunOwing mid es rest q × (messages ≡ first ++ rest)
 
--- the steps of every run owe some messages
-abbrev pub EveryRunOwes : Type 0
-EveryRunOwes = (p q : PortState) (es : List Entry) → Run p es q → (messages : List Down) × RunOwing p es messages q
+-- each run has a list of the messages that its steps owe; it may be empty
+abbrev pub EveryRunHasOwedMessages : Type 0
+EveryRunHasOwedMessages = (p q : PortState) (es : List Entry) → Run p es q → (messages : List Down) × RunOwing p es messages q
 
 -- ---- the messages that are sent
 

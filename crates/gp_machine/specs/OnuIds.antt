@@ -45,9 +45,9 @@ KeepsOnuIds =
 -- ---- who is told them
 
 -- the message is no Assign_ONU-ID, or it tells a unit the ONU-ID that the unit has
-abbrev pub TellsTheTable : PortState → Down → Type 0
-TellsTheTable p (AssignOnu n s) = HasOnuId p s n
-TellsTheTable p _ = Unit {0}
+abbrev pub TellsItsOnuId : PortState → Down → Type 0
+TellsItsOnuId p (AssignOnu n s) = HasOnuId p s n
+TellsItsOnuId p _ = Unit {0}
 
 -- in every run from an opening each Assign_ONU-ID that was sent or is still owed tells a unit the ONU-ID
 -- that the unit has in the end
@@ -55,7 +55,7 @@ abbrev pub AssignsWhatUnitsHave : Type 0
 AssignsWhatUnitsHave =
     (c : PortConfig) (q : PortState) (es : List Entry)
     → Run (opening_of c) es q
-    → All (TellsTheTable q) (sent_in es ++ q.owed)
+    → All (TellsItsOnuId q) (sent_in es ++ q.owed)
 
 -- so of two Assign_ONU-ID that were sent or are still owed, both are to one serial number exactly if both
 -- are of one ONU-ID

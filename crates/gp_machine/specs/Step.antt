@@ -20,9 +20,9 @@ Hears mask bytes (Some m) = ReadsUp bytes mask m
 Hears mask bytes None = HasRightCheck bytes mask → ⊥
 
 -- the ONU-ID that a reply hands out, or 0 where it hands out none
-abbrev pub number_in : Reply → ℕ
-number_in (Found n) = n
-number_in _ = 0
+abbrev pub onu_id_in : Reply → ℕ
+onu_id_in (Found n) = n
+onu_id_in _ = 0
 
 -- the ONU-ID that a reply hands out was free
 abbrev pub HandsOutFree : PortState → Reply → Type 0
@@ -34,5 +34,5 @@ HandsOutFree p _ = Unit {0}
 abbrev pub Step : ℕ → PortState → Event → Outcome → Type 0
 Step u p Frame o = (ranging : Option ℕ) × IsLeastRanging p.rows ranging × (o ≡ frame_outcome u p ranging)
 Step u p (Burst at bytes) o =
-    (heard : Option Up) × Hears (mask_value p.config.mask) bytes heard × HandsOutFree p o.answer.reply × (o ≡ burst_outcome u p at heard (number_in o.answer.reply))
+    (heard : Option Up) × Hears (mask_value p.config.mask) bytes heard × HandsOutFree p o.answer.reply × (o ≡ burst_outcome u p at heard (onu_id_in o.answer.reply))
 Step u p (Command c) o = o ≡ command_outcome u p c

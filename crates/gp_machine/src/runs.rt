@@ -1,6 +1,6 @@
 ghost use Rattle.gp_machine.specs.Runs.{RunsInParts, EveryStateIsSound, KeepsConfiguration, RunsKeepLicences};
 ghost use Rattle.gp_machine.specs.OnuIds.{NoSharedOnuId, OnlyAdmittedUnits, AtMostMaxUnits, KeepsOnuIds, AssignsWhatUnitsHave, AssignsOneToOne};
-ghost use Rattle.gp_machine.specs.Messages.{EveryRunOwes, SendsEachThreeTimes, SendsWhatWasOwedFirst, KeepsProperMessages, SendsOnlyProperMessages};
+ghost use Rattle.gp_machine.specs.Messages.{EveryRunHasOwedMessages, SendsEachThreeTimes, SendsWhatWasOwedFirst, KeepsProperMessages, SendsOnlyProperMessages};
 ghost use Rattle.gp_machine.specs.Delays.{RangesWithWhatIsLeft, OperatesWithWhatWasMeasured};
 ghost use Rattle.gp_machine.specs.Worked.{OneUnit, RepeatedAnswer, PeriodicSearch, DelayLimits};
 
@@ -56,7 +56,7 @@ pub fn runs_keep_licences()
 pub fn sends_each_message_three_times()
     ensures opening { SendsEachThreeTimes }
     ensures any_start { SendsWhatWasOwedFirst }
-    ensures owes { EveryRunOwes }
+    ensures owes { EveryRunHasOwedMessages }
 {
     up_read_once();
 }

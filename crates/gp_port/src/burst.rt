@@ -10,7 +10,7 @@ ghost use Rattle.gp_machine.specs.Outcomes.{outcome_of, refused_burst, state_see
 ghost use Rattle.gp_machine.specs.Burst as machine;
 ghost use Rattle.gp_machine.specs.Burst.{active_outcome, again_outcome, asked_outcome, burst_outcome, measured_outcome, newcomer_outcome, range_outcome, search_outcome, serial_outcome, state_assigned, state_ranged};
 ghost use Rattle.gp_machine.specs.declared.event.Event.TheVariants as event;
-ghost use Rattle.gp_machine.specs.Step.{HandsOutFree, Step, number_in};
+ghost use Rattle.gp_machine.specs.Step.{HandsOutFree, Step, onu_id_in};
 
 use super::port_core::PortCore;
 use super::windows::put_window;
@@ -50,7 +50,7 @@ impl<L: Ledger> PortCore<L> {
     /// A burst that is read as this message, or whose check octet is wrong.
     fn receive(&mut self, purse: Licences<L>, at: u32, heard: Option<Up>) -> (Answer, Licences<L>)
         ensures free { HandsOutFree self.old result.0.reply }
-        ensures outcome { outcome_of result self.new ≡ burst_outcome purse self.old at heard (number_in result.0.reply) }
+        ensures outcome { outcome_of result self.new ≡ burst_outcome purse self.old at heard (onu_id_in result.0.reply) }
     {
         let Some(window) = &self.window else {
             return (bare_answer(Reply::Refused(Refusal::Stray)), purse);
@@ -94,7 +94,7 @@ impl<L: Ledger> PortCore<L> {
     fn hear_in_search(&mut self, purse: Licences<L>, message: Up) -> (Answer, Licences<L>)
         requires undirected { (rows : Rows) → IsAsked rows self.old.window }
         ensures free { HandsOutFree self.old result.0.reply }
-        ensures outcome { outcome_of result self.new ≡ search_outcome purse self.old (number_in result.0.reply) message }
+        ensures outcome { outcome_of result self.new ≡ search_outcome purse self.old (onu_id_in result.0.reply) message }
     {
         match message {
             Up::SerialNumber {
@@ -110,7 +110,7 @@ impl<L: Ledger> PortCore<L> {
     fn search(&mut self, purse: Licences<L>, serial: Serial) -> (Answer, Licences<L>)
         requires undirected { (rows : Rows) → IsAsked rows self.old.window }
         ensures free { HandsOutFree self.old result.0.reply }
-        ensures outcome { outcome_of result self.new ≡ serial_outcome purse self.old serial (number_in result.0.reply) }
+        ensures outcome { outcome_of result self.new ≡ serial_outcome purse self.old serial (onu_id_in result.0.reply) }
     {
         if !self.config.admitted.contains(&serial) {
             return self.refuse(purse, Refusal::NotAdmitted);
@@ -127,7 +127,7 @@ impl<L: Ledger> PortCore<L> {
         requires undirected { (rows : Rows) → IsAsked rows self.old.window }
         requires unknown { map.get self.old.rows serial ≡ None }
         ensures free { HandsOutFree self.old result.0.reply }
-        ensures outcome { outcome_of result self.new ≡ newcomer_outcome purse self.old serial (number_in result.0.reply) }
+        ensures outcome { outcome_of result self.new ≡ newcomer_outcome purse self.old serial (onu_id_in result.0.reply) }
     {
         if self.table.len() >= self.config.max_units as usize {
             return self.refuse(purse, Refusal::NoId);
