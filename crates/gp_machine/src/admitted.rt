@@ -38,12 +38,14 @@ impl Admitted {
         serials
     }
 
+    /// The serial numbers, in the order in which they were given.
     pub fn as_slice(&self) -> &[Serial]
         ensures { result.now ≡ self.now }
     {
         &self.serials
     }
 
+    /// How many serial numbers the list has.
     pub fn len(&self) -> usize
         ensures { result ≡ length self.now }
     {
@@ -64,12 +66,14 @@ impl Admitted {
         are_distinct(&self.serials)
     }
 
+    /// Whether both lists have the same serial numbers in the same order.
     pub fn same_as(&self, other: &Admitted) -> bool
         ensures { IsTrue result ↔ (self.now ≡ other.now) }
     {
         self.serials.as_slice() == other.serials.as_slice()
     }
 
+    /// A second list with the same serial numbers. Fails only where there is no memory.
     pub fn copy(&self, alloc: Global) -> Result<Admitted, AllocError>
         ensures { IfOk result (λ copy. copy ≡ self.now) }
     {
