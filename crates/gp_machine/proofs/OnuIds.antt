@@ -1,16 +1,16 @@
 -- Each unit has one ONU-ID, keeps it, and is told no other.
-use Rattle.std.proofs.Common.{◌≡◌, ℕ, ◌-◌, ◌≤◌, Bool, true, false, cond, List, [], ◌∷◌, ◌++◌, Option, None, Some, inl, inr, refl, sym, ap, subst, ◌∙◌, drop}
+use Rattle.std.proofs.Common.{◌≡◌, ◌≢◌, ℕ, ◌-◌, ◌≤◌, Bool, true, false, cond, List, [], ◌∷◌, ◌++◌, Option, None, Some, inl, inr, refl, sym, ap, subst, ◌∙◌, drop}
 use Rattle.std.specs.Prelude.{All, Contains}
 use Rattle.std.specs.FinMap.{get, insert, get-insert}
 use Rattle.std.specs.Option.{option_to_list}
-use Rattle.std.proofs.lemmas.Bool.{cases_Bool}
+use Rattle.std.proofs.lemmas.Bool.{cases_Bool, false≢true}
 use Rattle.std.proofs.lemmas.List.Concat.{flat_map-cons}
 use Rattle.std.proofs.lemmas.List.Elements.{All-append, All-nil, All-cons, All-head, All-tail, All-contains}
 use Rattle.gp_ploam.specs.declared.message.Serial.{Serial}
 use Rattle.gp_ploam.specs.declared.message.Down.{Down}
 use Rattle.gp_ploam.specs.declared.message.Down.TheVariants as down
 use Rattle.gp_ploam.specs.Serials.{same_serial}
-use Rattle.gp_ploam.proofs.Serials.{serials_total, by_cmp-same, same_serial-true}
+use Rattle.gp_ploam.proofs.Serials.{serials_total, by_cmp-same, same_serial-true, same_serial-itself}
 use Rattle.gp_machine.specs.declared.config.PortConfig.{PortConfig}
 use Rattle.gp_machine.specs.declared.entry.Entry.{Entry}
 use Rattle.gp_machine.specs.declared.row.Row.{Row}
@@ -158,13 +158,21 @@ tells_its_onu_id c q es h =
     let all = run_tells (opening_of c) q es h (All-nil (TellsItsOnuId (opening_of c))) in
     All-append (TellsItsOnuId q) (sent_in es) q.owed all.0 all.1
 
-pub one_to_one : EveryStateIsSound → AssignsOneToOne
-one_to_one sound c q es s t m n h in_s in_t =
+-- serial numbers that compare as different are not one
+not_one : (s t : Serial) → same_serial s t ≡ false → s ≢ t
+not_one s t isnt same = false≢true (sym isnt ∙ ap (λ (x : Serial). same_serial s x) (sym same) ∙ same_serial-itself s)
+
+pub one_to_one : NoSharedOnuId → AssignsOneToOne
+one_to_one no_shared c q es s t m n h in_s in_t =
     let all = tells_its_onu_id c q es h in
     let has_m : HasOnuId q s m = All-contains (TellsItsOnuId q) (sent_in es ++ q.owed) (down.AssignOnu m s) all in_s in
     let has_n : HasOnuId q t n = All-contains (TellsItsOnuId q) (sent_in es ++ q.owed) (down.AssignOnu n t) all in_t in (
       λ same.
           let at_t : HasRow q.rows t has_m.0 = subst (λ (x : Serial). HasRow q.rows x has_m.0) same has_m.1 in
           sym has_m.2 ∙ one_onu q.rows t has_n.0 has_m.0 has_n.1 at_t ∙ has_n.2,
-      λ same. (sound c q (es, h)).apart s t has_m.0 has_n.0 has_m.1 has_n.1 (has_m.2 ∙ same ∙ sym has_n.2),
+      λ same.
+          elim (cases_Bool (same_serial s t)) [
+            | inl is ↦ same_serial-true s t is
+            | inr isnt ↦ absurd (no_shared c q s t m n (es, h) has_m has_n (not_one s t isnt) same)
+          ],
     )

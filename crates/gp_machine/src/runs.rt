@@ -40,7 +40,7 @@ pub fn tells_each_unit_its_onu_id()
     ensures tells { AssignsWhatUnitsHave }
     ensures one_to_one { AssignsOneToOne }
 {
-    every_state_is_sound();
+    no_shared_onu_id();
 }
 
 /// The licences handed in along a run, and those of the units at its start, are as many as those handed
