@@ -8,7 +8,7 @@ use Rattle.gp_ploam.specs.declared.message.Serial.{Serial}
 use Rattle.gp_ploam.specs.declared.message.Down.{Down}
 use Rattle.gp_ploam.specs.declared.message.Up.{Up}
 use Rattle.gp_ploam.specs.declared.message.Up.TheVariants.{SerialNumber}
-use Rattle.gp_ploam.specs.Serials.{same_serial}
+use Rattle.gp_ploam.specs.Serials.{is_among}
 use Rattle.gp_ploam.specs.Up.{octet1_of}
 use Rattle.gp_ranging.specs.declared.grant.Grant.{Grant}
 use Rattle.gp_ranging.specs.declared.grant.Grant.TheVariants.{Search, Range, Poll}
@@ -24,7 +24,7 @@ use Rattle.gp_machine.specs.declared.reply.Reply.TheVariants.{Refused, Found, Ag
 use Rattle.gp_machine.specs.State.{PortState, HasRow, rows_of}
 use Rattle.gp_machine.specs.Outcomes.{Outcome, bare_outcome, has_room, state_seen, refused_burst}
 use Rattle.gp_machine.specs.Frame.{runs_timer, state_after_timer, first_of, is_idle, deciding_frame, waiting_frame, frame_outcome}
-use Rattle.gp_machine.specs.Burst.{state_assigned, state_ranged, is_assign, newcomer_outcome, active_outcome, admitted_outcome, serial_outcome, search_outcome, measured_outcome, row_outcome, asked_outcome, range_outcome, heard_outcome, window_outcome, burst_outcome}
+use Rattle.gp_machine.specs.Burst.{state_assigned, state_ranged, is_assign, newcomer_outcome, active_outcome, admitted_outcome, serial_outcome, search_outcome, equalized_outcome, measured_outcome, row_outcome, asked_outcome, range_outcome, heard_outcome, window_outcome, burst_outcome}
 use Rattle.gp_machine.specs.Commands.{command_outcome, is_acquiring}
 
 pub by_test : {A : Type 0} (P : A → Type 0) (b : Bool) (x y : A) → (b ≡ true → P x) → (b ≡ false → P y) → P (cond b x y)
@@ -54,7 +54,7 @@ pub record IsFromRange (p : PortState) (heard : Option Up) (n : ℕ) (s : Serial
 
 -- the unit s may become active, with u licences in the purse
 pub record MayJoin (u : ℕ) (p : PortState) (s : Serial) : Type 0 where
-  pub admitted : list_any (same_serial s) p.config.admitted ≡ true
+  pub admitted : is_among s p.config.admitted ≡ true
   pub unknown : get p.rows s ≡ None
   pub few : rows_of p < p.config.max_units
   pub licensed : 0 < u
@@ -80,7 +80,7 @@ positive (suc u) h = omega arith
 pub of_each_burst : (P : Outcome → Type 0) (u : ℕ) (p : PortState) (at : ℕ) (heard : Option Up) (n : ℕ) → OfEachBurst P u p at heard n → P (burst_outcome u p at heard n)
 of_each_burst P u p at heard n each = by_window p.window refl
   where
-    newcomer : (s : Serial) → IsFromSearch p heard s → list_any (same_serial s) p.config.admitted ≡ true → get p.rows s ≡ None → P (newcomer_outcome u p s n)
+    newcomer : (s : Serial) → IsFromSearch p heard s → is_among s p.config.admitted ≡ true → get p.rows s ≡ None → P (newcomer_outcome u p s n)
     newcomer s from admitted unknown =
         by_test P (nat_lt (rows_of p) p.config.max_units) _ _
         (λ few.
@@ -101,13 +101,13 @@ of_each_burst P u p at heard n each = by_window p.window refl
         (λ untold. by_test P (has_room p) _ _ (λ room. each.again s row from has room) (λ full. each.refused Busy))
     by_phase s row from has (Operating eqd dark garbled) = each.refused WrongWindow
 
-    by_row : (s : Serial) → IsFromSearch p heard s → list_any (same_serial s) p.config.admitted ≡ true → (o : Option Row) → get p.rows s ≡ o → P (admitted_outcome u p s n o)
+    by_row : (s : Serial) → IsFromSearch p heard s → is_among s p.config.admitted ≡ true → (o : Option Row) → get p.rows s ≡ o → P (admitted_outcome u p s n o)
     by_row s from admitted None e = newcomer s from admitted e
     by_row s from admitted (Some row) e = by_phase s row from e row.phase
 
     searched : (s : Serial) → IsFromSearch p heard s → P (serial_outcome u p s n)
     searched s from =
-        by_test P (list_any (same_serial s) p.config.admitted) _ _
+        by_test P (is_among s p.config.admitted) _ _
         (λ admitted. by_row s from admitted (get p.rows s) refl)
         (λ foreign. each.refused NotAdmitted)
 
@@ -122,7 +122,7 @@ of_each_burst P u p at heard n each = by_window p.window refl
 
     measured : (m : ℕ) (s : Serial) → IsFromRange p heard m s → P (measured_outcome u p at s m)
     measured m s from =
-        by_test P (nat_lt p.config.teqd at) _ _
+        by_test (λ (eqd : Option ℕ). P (equalized_outcome u p s m eqd)) (nat_lt p.config.teqd at) None (Some (p.config.teqd - at))
         (λ far. each.too_far m)
         (λ near. by_test P (has_room p) _ _ (λ room. each.ranged m s from (ltb-false p.config.teqd at near) room) (λ full. each.refused Busy))
 

@@ -7,7 +7,7 @@ use Rattle.gp_machine.specs.declared.event.Event.TheVariants.{Frame, Burst, Comm
 use Rattle.gp_machine.specs.State.{Rows, IsLeastRanging}
 use Rattle.gp_machine.specs.Frame.{frame_outcome}
 use Rattle.gp_machine.specs.Burst.{burst_outcome}
-use Rattle.gp_machine.specs.Step.{Hears, number_in}
+use Rattle.gp_machine.specs.Step.{Hears, onu_id_in}
 use Rattle.gp_machine.specs.OneStep.{IsDetermined}
 
 -- a code is read as one message at most
@@ -29,7 +29,7 @@ one_hearing one mask bytes (Some m) (Some n) h k = ap Some (one bytes mask m n h
 pub determined : OneReading → IsDetermined
 determined one u p Frame o q s t same_reply = s.2 ∙ ap (frame_outcome u p) (one_least p.rows s.0 t.0 s.1 t.1) ∙ sym t.2
 determined one u p (Burst at bytes) o q s t same_reply =
-    s.3 ∙ ap (λ (heard : Option Up). burst_outcome u p at heard (number_in o.answer.reply)) (one_hearing one (mask_value p.config.mask) bytes s.0 t.0 s.1 t.1)
-    ∙ ap (λ n. burst_outcome u p at t.0 n) (ap number_in same_reply)
+    s.3 ∙ ap (λ (heard : Option Up). burst_outcome u p at heard (onu_id_in o.answer.reply)) (one_hearing one (mask_value p.config.mask) bytes s.0 t.0 s.1 t.1)
+    ∙ ap (λ n. burst_outcome u p at t.0 n) (ap onu_id_in same_reply)
     ∙ sym t.3
 determined one u p (Command c) o q s t same_reply = s ∙ sym t

@@ -11,27 +11,27 @@ use Rattle.gp_machine.specs.State.{PortState, Rows, HasRow, opening_of}
 use Rattle.gp_machine.specs.Burst.{new_row}
 use Rattle.gp_machine.specs.Run.{Run, IsStep, entry_outcome}
 use Rattle.gp_machine.specs.Delays.{IsMeasured, RangesWithWhatIsLeft, WasRanged, OperatesWithWhatWasMeasured}
-use Rattle.gp_machine.proofs.SoundRows.{has_put, no_row}
+use Rattle.gp_machine.proofs.SoundRows.{has_put, has_it, no_row}
 use Rattle.gp_machine.proofs.StepCases.{IsQuietReply, StepCase, step_case, ranged_row}
 use Rattle.gp_machine.proofs.RunParts.{config_after}
 
 -- ---- a step that ranges a unit
 
--- what such a step knows of the unit
-IsRangedBy : PortState → Entry → PortState → ℕ → ℕ → Type 0
-IsRangedBy p e q n eqd = (s : Serial) × IsMeasured p.config.teqd p e.event s n eqd
+-- the entry measures a unit between these states, and leaves it operating
+abbrev IsRangedBy : ℕ → PortState → Entry → PortState → ℕ → ℕ → Type 0
+IsRangedBy teqd p e q n eqd = (s : Serial) × IsMeasured teqd p e.event s n eqd × HasRow q.rows s (ranged_row n eqd)
 
 quiet_is_not : (r : Reply) (n eqd : ℕ) → IsQuietReply r → r ≡ reply.Ranged n eqd → ⊥
 quiet_is_not r n eqd quiet is = subst (λ (x : Reply). IsQuietReply x) is quiet
 
-pub measured : (p q : PortState) (e : Entry) (n eqd : ℕ) → IsStep p e q → e.answer.reply ≡ reply.Ranged n eqd → (s : Serial) × IsMeasured p.config.teqd p e.event s n eqd
+pub measured : (p q : PortState) (e : Entry) (n eqd : ℕ) → IsStep p e q → e.answer.reply ≡ reply.Ranged n eqd → IsRangedBy p.config.teqd p e q n eqd
 measured p q e n eqd h is = by_case (step_case e.purse_in p e.event (entry_outcome e q) h)
   where
     told_is_not : (m : ℕ) → (e.answer.reply ≡ reply.Found m) ⊎ (e.answer.reply ≡ reply.Again m) → ⊥
     told_is_not m (inl found) = cc
     told_is_not m (inr again) = cc
 
-    by_case : StepCase p e.event (entry_outcome e q) → (s : Serial) × IsMeasured p.config.teqd p e.event s n eqd
+    by_case : StepCase p e.event (entry_outcome e q) → IsRangedBy p.config.teqd p e q n eqd
     by_case (StepCase.frame k) = let is_frame = k.reply in cc
     by_case (StepCase.quiet k) = absurd (quiet_is_not e.answer.reply n eqd k.reply is)
     by_case (StepCase.told s m heard k) = absurd (told_is_not m k.reply)
@@ -40,12 +40,18 @@ measured p q e n eqd h is = by_case (step_case e.purse_in p e.event (entry_outco
         let same : m ≡ n = cc in
         let left : p.config.teqd - at ≡ eqd = cc in
         let near = k.near in
-        subst (λ (x : ℕ). (t : Serial) × IsMeasured p.config.teqd p e.event t x eqd) same
-        (s, record { at = at; bytes = bytes; random = random; flags = flags; burst = burst; asked = k.asked; read = read; active = k.active; adds_up = omega arith })
+        let has : HasRow q.rows s (ranged_row m (p.config.teqd - at)) =
+        subst (λ (rows : Rows). HasRow rows s (ranged_row m (p.config.teqd - at))) (sym k.rows) (has_it p.rows s (ranged_row m (p.config.teqd - at))) in
+        let has_eqd : HasRow q.rows s (ranged_row m eqd) = subst (λ (x : ℕ). HasRow q.rows s (ranged_row m x)) left has in
+        subst (λ (x : ℕ). IsRangedBy p.config.teqd p e q x eqd) same (
+          s,
+          record { at = at; bytes = bytes; random = random; flags = flags; burst = burst; asked = k.asked; read = read; active = k.active; adds_up = omega arith },
+          has_eqd,
+        )
 
 pub ranges : RangesWithWhatIsLeft
 ranges p q before after es e n eqd step is =
-    subst (λ (c : PortConfig). (s : Serial) × IsMeasured c.teqd before e.event s n eqd) (config_after p before step.0 step.3) (measured before after e n eqd step.4 is)
+    subst (λ (c : PortConfig). IsRangedBy c.teqd before e after n eqd) (config_after p before step.0 step.3) (measured before after e n eqd step.4 is)
 
 -- ---- where an operating row comes from
 

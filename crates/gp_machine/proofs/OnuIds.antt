@@ -1,9 +1,9 @@
 -- Each unit has one ONU-ID, keeps it, and is told no other.
-use Rattle.std.proofs.Common.{◌≡◌, ℕ, ◌-◌, ◌≤◌, Bool, true, false, cond, List, [], ◌∷◌, ◌++◌, Option, None, Some, inl, inr, refl, sym, ap, subst, ◌∙◌}
+use Rattle.std.proofs.Common.{◌≡◌, ◌≢◌, ℕ, ◌-◌, ◌≤◌, Bool, true, false, cond, List, [], ◌∷◌, ◌++◌, Option, None, Some, inl, inr, refl, sym, ap, subst, ◌∙◌, drop}
 use Rattle.std.specs.Prelude.{All, Contains}
 use Rattle.std.specs.FinMap.{get, insert, get-insert}
 use Rattle.std.specs.Option.{option_to_list}
-use Rattle.std.proofs.lemmas.Bool.{cases_Bool}
+use Rattle.std.proofs.lemmas.Bool.{cases_Bool, false≢true}
 use Rattle.std.proofs.lemmas.List.Concat.{flat_map-cons}
 use Rattle.std.proofs.lemmas.List.Elements.{All-append, All-nil, All-cons, All-head, All-tail, All-contains}
 use Rattle.gp_ploam.specs.declared.message.Serial.{Serial}
@@ -15,13 +15,14 @@ use Rattle.gp_machine.specs.declared.config.PortConfig.{PortConfig}
 use Rattle.gp_machine.specs.declared.entry.Entry.{Entry}
 use Rattle.gp_machine.specs.declared.row.Row.{Row}
 use Rattle.gp_machine.specs.State.{PortState, Rows, HasRow, opening_of, rows_of}
-use Rattle.gp_machine.specs.Frame.{first_of, rest_of}
+use Rattle.gp_machine.specs.Frame.{first_of}
 use Rattle.gp_machine.specs.Burst.{new_row}
 use Rattle.gp_machine.specs.Run.{Run, IsStep, entry_outcome}
 use Rattle.gp_machine.specs.Runs.{EveryStateIsSound}
 use Rattle.gp_machine.specs.Messages.{begins_acquisition, sent_in, three_times}
-use Rattle.gp_machine.specs.OnuIds.{HasOnuId, NoSharedOnuId, OnlyAdmittedUnits, AtMostMaxUnits, KeepsOnuIds, TellsTheTable, AssignsWhatUnitsHave, AssignsOneToOne}
+use Rattle.gp_machine.specs.OnuIds.{HasOnuId, NoSharedOnuId, OnlyAdmittedUnits, AtMostMaxUnits, KeepsOnuIds, TellsItsOnuId, AssignsWhatUnitsHave, AssignsOneToOne}
 use Rattle.gp_machine.proofs.RunParts.{keeps_configuration}
+use Rattle.gp_machine.proofs.SoundRows.{has_it}
 use Rattle.gp_machine.proofs.StepCases.{StepCase, step_case, owed_by_frame, ranged_row}
 
 -- ---- sound states
@@ -46,7 +47,7 @@ found : (rows : Rows) (s t : Serial) (row : Row) → get (insert rows s row) t �
 found rows s t row = get-insert serials_total rows s row t ∙ ap (λ b. cond b (Some row) (get rows t)) (by_cmp-same t s)
 
 there : (rows : Rows) (s : Serial) (row : Row) → Has (insert rows s row) s row.onu
-there rows s row = (row, found rows s s row ∙ ap (λ b. cond b (Some row) (get rows s)) (same_serial-itself s), refl)
+there rows s row = (row, has_it rows s row, refl)
 
 -- a row that is put for a unit with its own ONU-ID takes none from any unit
 put_keeps : (rows : Rows) (s t : Serial) (row : Row) (n : ℕ) → ((old : Row) → HasRow rows s old → old.onu ≡ row.onu) → Has rows t n → Has (insert rows s row) t n
@@ -83,53 +84,53 @@ keeps_onu_ids p q (e ∷ es) s n h has = keeps_onu_ids h.0 q es s n h.2 (step_ke
 
 -- ---- no other is told
 
-tells_more : (p q : PortState) → ((s : Serial) (n : ℕ) → HasOnuId p s n → HasOnuId q s n) → (m : Down) → TellsTheTable p m → TellsTheTable q m
+tells_more : (p q : PortState) → ((s : Serial) (n : ℕ) → HasOnuId p s n → HasOnuId q s n) → (m : Down) → TellsItsOnuId p m → TellsItsOnuId q m
 tells_more p q keeps (down.AssignOnu n s) h = keeps s n h
 tells_more p q keeps m h = tt
 
-all_tell_more : (p q : PortState) → ((s : Serial) (n : ℕ) → HasOnuId p s n → HasOnuId q s n) → (ms : List Down) → All (TellsTheTable p) ms → All (TellsTheTable q) ms
-all_tell_more p q keeps [] h = All-nil (TellsTheTable q)
+all_tell_more : (p q : PortState) → ((s : Serial) (n : ℕ) → HasOnuId p s n → HasOnuId q s n) → (ms : List Down) → All (TellsItsOnuId p) ms → All (TellsItsOnuId q) ms
+all_tell_more p q keeps [] h = All-nil (TellsItsOnuId q)
 all_tell_more p q keeps (m ∷ ms) h =
-    All-cons (TellsTheTable q) m ms (tells_more p q keeps m (All-head (TellsTheTable p) m ms h)) (all_tell_more p q keeps ms (All-tail (TellsTheTable p) m ms h))
+    All-cons (TellsItsOnuId q) m ms (tells_more p q keeps m (All-head (TellsItsOnuId p) m ms h)) (all_tell_more p q keeps ms (All-tail (TellsItsOnuId p) m ms h))
 
-rest_tells : (q : PortState) (ms : List Down) → All (TellsTheTable q) ms → All (TellsTheTable q) (rest_of ms)
+rest_tells : (q : PortState) (ms : List Down) → All (TellsItsOnuId q) ms → All (TellsItsOnuId q) (drop 1 ms)
 rest_tells q [] h = h
-rest_tells q (m ∷ ms) h = All-tail (TellsTheTable q) m ms h
+rest_tells q (m ∷ ms) h = All-tail (TellsItsOnuId q) m ms h
 
-first_tells : (q : PortState) (ms : List Down) → All (TellsTheTable q) ms → All (TellsTheTable q) (option_to_list (first_of ms))
+first_tells : (q : PortState) (ms : List Down) → All (TellsItsOnuId q) ms → All (TellsItsOnuId q) (option_to_list (first_of ms))
 first_tells q [] h = h
-first_tells q (m ∷ ms) h = All-cons (TellsTheTable q) m [] (All-head (TellsTheTable q) m ms h) (All-nil (TellsTheTable q))
+first_tells q (m ∷ ms) h = All-cons (TellsItsOnuId q) m [] (All-head (TellsItsOnuId q) m ms h) (All-nil (TellsItsOnuId q))
 
-three_tell : (q : PortState) (m : Down) → TellsTheTable q m → All (TellsTheTable q) (three_times (m ∷ []))
+three_tell : (q : PortState) (m : Down) → TellsItsOnuId q m → All (TellsItsOnuId q) (three_times (m ∷ []))
 three_tell q m h =
-    All-cons (TellsTheTable q) m (m ∷ m ∷ []) h (All-cons (TellsTheTable q) m (m ∷ []) h (All-cons (TellsTheTable q) m [] h (All-nil (TellsTheTable q))))
+    All-cons (TellsItsOnuId q) m (m ∷ m ∷ []) h (All-cons (TellsItsOnuId q) m (m ∷ []) h (All-cons (TellsItsOnuId q) m [] h (All-nil (TellsItsOnuId q))))
 
-overhead_tells : (p q : PortState) → All (TellsTheTable q) (three_times (owed_by_frame p q))
+overhead_tells : (p q : PortState) → All (TellsItsOnuId q) (three_times (owed_by_frame p q))
 overhead_tells p q = by_test (begins_acquisition p.common q.common)
   where
-    by_test : (b : Bool) → All (TellsTheTable q) (three_times (cond b (down.UpstreamOverhead p.config.overhead ∷ []) []))
+    by_test : (b : Bool) → All (TellsItsOnuId q) (three_times (cond b (down.UpstreamOverhead p.config.overhead ∷ []) []))
     by_test true = three_tell q (down.UpstreamOverhead p.config.overhead) tt
-    by_test false = All-nil (TellsTheTable q)
+    by_test false = All-nil (TellsItsOnuId q)
 
 -- what a step sends, and what is owed after it
-step_tells : (p q : PortState) (e : Entry) → IsStep p e q → All (TellsTheTable p) p.owed → All (TellsTheTable q) (option_to_list e.answer.sent) × All (TellsTheTable q) q.owed
+step_tells : (p q : PortState) (e : Entry) → IsStep p e q → All (TellsItsOnuId p) p.owed → All (TellsItsOnuId q) (option_to_list e.answer.sent) × All (TellsItsOnuId q) q.owed
 step_tells p q e h owed = by_case (step_case e.purse_in p e.event (entry_outcome e q) h)
   where
-    still : All (TellsTheTable q) p.owed
+    still : All (TellsItsOnuId q) p.owed
     still = all_tell_more p q (λ s n. step_keeps p q e s n h) p.owed owed
 
-    none : e.answer.sent ≡ None → All (TellsTheTable q) (option_to_list e.answer.sent)
-    none is = subst (λ (x : Option Down). All (TellsTheTable q) (option_to_list x)) (sym is) (All-nil (TellsTheTable q))
+    none : e.answer.sent ≡ None → All (TellsItsOnuId q) (option_to_list e.answer.sent)
+    none is = subst (λ (x : Option Down). All (TellsItsOnuId q) (option_to_list x)) (sym is) (All-nil (TellsItsOnuId q))
 
-    more : (before after : List Down) → q.owed ≡ before ++ after → All (TellsTheTable q) before → All (TellsTheTable q) after → All (TellsTheTable q) q.owed
-    more before after is k l = subst (λ (ms : List Down). All (TellsTheTable q) ms) (sym is) (All-append (TellsTheTable q) before after k l)
+    more : (before after : List Down) → q.owed ≡ before ++ after → All (TellsItsOnuId q) before → All (TellsItsOnuId q) after → All (TellsItsOnuId q) q.owed
+    more before after is k l = subst (λ (ms : List Down). All (TellsItsOnuId q) ms) (sym is) (All-append (TellsItsOnuId q) before after k l)
 
-    by_case : StepCase p e.event (entry_outcome e q) → All (TellsTheTable q) (option_to_list e.answer.sent) × All (TellsTheTable q) q.owed
+    by_case : StepCase p e.event (entry_outcome e q) → All (TellsItsOnuId q) (option_to_list e.answer.sent) × All (TellsItsOnuId q) q.owed
     by_case (StepCase.frame k) = (
-      subst (λ (x : Option Down). All (TellsTheTable q) (option_to_list x)) (sym k.sent) (first_tells q p.owed still),
-      more (rest_of p.owed) (three_times (owed_by_frame p q)) k.owed (rest_tells q p.owed still) (overhead_tells p q),
+      subst (λ (x : Option Down). All (TellsItsOnuId q) (option_to_list x)) (sym k.sent) (first_tells q p.owed still),
+      more (drop 1 p.owed) (three_times (owed_by_frame p q)) k.owed (rest_tells q p.owed still) (overhead_tells p q),
     )
-    by_case (StepCase.quiet k) = (none k.sent, subst (λ (ms : List Down). All (TellsTheTable q) ms) (sym k.owed) still)
+    by_case (StepCase.quiet k) = (none k.sent, subst (λ (ms : List Down). All (TellsItsOnuId q) ms) (sym k.owed) still)
     by_case (StepCase.told s m heard k) = (
       none k.sent,
       more p.owed (three_times (down.AssignOnu m s ∷ [])) k.owed still
@@ -140,30 +141,38 @@ step_tells p q e h owed = by_case (step_case e.purse_in p e.event (entry_outcome
       more p.owed (three_times (down.RangingTime m (p.config.teqd - at) ∷ [])) k.owed still (three_tell q (down.RangingTime m (p.config.teqd - at)) tt),
     )
 
-run_tells : (p q : PortState) (es : List Entry) → Run p es q → All (TellsTheTable p) p.owed → All (TellsTheTable q) (sent_in es) × All (TellsTheTable q) q.owed
-run_tells p q [] h owed = (All-nil (TellsTheTable q), subst (λ (x : PortState). All (TellsTheTable x) x.owed) (sym h) owed)
+run_tells : (p q : PortState) (es : List Entry) → Run p es q → All (TellsItsOnuId p) p.owed → All (TellsItsOnuId q) (sent_in es) × All (TellsItsOnuId q) q.owed
+run_tells p q [] h owed = (All-nil (TellsItsOnuId q), subst (λ (x : PortState). All (TellsItsOnuId x) x.owed) (sym h) owed)
 run_tells p q (e ∷ es) h owed =
     let now = step_tells p h.0 e h.1 owed in
     let later = run_tells h.0 q es h.2 now.1 in
     let sent = option_to_list e.answer.sent in
     let still = all_tell_more h.0 q (λ s n. keeps_onu_ids h.0 q es s n h.2) sent now.0 in (
-      subst (λ (ms : List Down). All (TellsTheTable q) ms) (sym (flat_map-cons (λ (x : Entry). option_to_list x.answer.sent) e es))
-          (All-append (TellsTheTable q) sent (sent_in es) still later.0),
+      subst (λ (ms : List Down). All (TellsItsOnuId q) ms) (sym (flat_map-cons (λ (x : Entry). option_to_list x.answer.sent) e es))
+          (All-append (TellsItsOnuId q) sent (sent_in es) still later.0),
       later.1,
     )
 
-pub tells_the_table : AssignsWhatUnitsHave
-tells_the_table c q es h =
-    let all = run_tells (opening_of c) q es h (All-nil (TellsTheTable (opening_of c))) in
-    All-append (TellsTheTable q) (sent_in es) q.owed all.0 all.1
+pub tells_its_onu_id : AssignsWhatUnitsHave
+tells_its_onu_id c q es h =
+    let all = run_tells (opening_of c) q es h (All-nil (TellsItsOnuId (opening_of c))) in
+    All-append (TellsItsOnuId q) (sent_in es) q.owed all.0 all.1
 
-pub one_to_one : EveryStateIsSound → AssignsOneToOne
-one_to_one sound c q es s t m n h in_s in_t =
-    let all = tells_the_table c q es h in
-    let has_m : HasOnuId q s m = All-contains (TellsTheTable q) (sent_in es ++ q.owed) (down.AssignOnu m s) all in_s in
-    let has_n : HasOnuId q t n = All-contains (TellsTheTable q) (sent_in es ++ q.owed) (down.AssignOnu n t) all in_t in (
+-- serial numbers that compare as different are not one
+not_one : (s t : Serial) → same_serial s t ≡ false → s ≢ t
+not_one s t isnt same = false≢true (sym isnt ∙ ap (λ (x : Serial). same_serial s x) (sym same) ∙ same_serial-itself s)
+
+pub one_to_one : NoSharedOnuId → AssignsOneToOne
+one_to_one no_shared c q es s t m n h in_s in_t =
+    let all = tells_its_onu_id c q es h in
+    let has_m : HasOnuId q s m = All-contains (TellsItsOnuId q) (sent_in es ++ q.owed) (down.AssignOnu m s) all in_s in
+    let has_n : HasOnuId q t n = All-contains (TellsItsOnuId q) (sent_in es ++ q.owed) (down.AssignOnu n t) all in_t in (
       λ same.
           let at_t : HasRow q.rows t has_m.0 = subst (λ (x : Serial). HasRow q.rows x has_m.0) same has_m.1 in
           sym has_m.2 ∙ one_onu q.rows t has_n.0 has_m.0 has_n.1 at_t ∙ has_n.2,
-      λ same. (sound c q (es, h)).apart s t has_m.0 has_n.0 has_m.1 has_n.1 (has_m.2 ∙ same ∙ sym has_n.2),
+      λ same.
+          elim (cases_Bool (same_serial s t)) [
+            | inl is ↦ same_serial-true s t is
+            | inr isnt ↦ absurd (no_shared c q s t m n (es, h) has_m has_n (not_one s t isnt) same)
+          ],
     )

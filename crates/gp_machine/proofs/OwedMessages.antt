@@ -1,5 +1,5 @@
 -- The messages that the steps of a run owe are sent, each three times.
-use Rattle.std.proofs.Common.{◌≡◌, ℕ, ◌-◌, List, [], ◌∷◌, ◌++◌, Option, None, ◌⊎◌, inl, inr, refl, sym, ap, subst, ◌∙◌, append_assoc}
+use Rattle.std.proofs.Common.{◌≡◌, ℕ, ◌-◌, List, [], ◌∷◌, ◌++◌, Option, None, ◌⊎◌, inl, inr, refl, sym, ap, subst, ◌∙◌, append_assoc, drop}
 use Rattle.std.specs.Option.{option_to_list}
 use Rattle.std.proofs.lemmas.List.{append-nil}
 use Rattle.std.proofs.lemmas.List.Concat.{flat_map-cons}
@@ -14,13 +14,13 @@ use Rattle.gp_machine.specs.declared.event.Event.TheVariants as event
 use Rattle.gp_machine.specs.declared.reply.Reply.{Reply}
 use Rattle.gp_machine.specs.declared.reply.Reply.TheVariants as reply
 use Rattle.gp_machine.specs.State.{PortState, opening_of}
-use Rattle.gp_machine.specs.Frame.{first_of, rest_of}
+use Rattle.gp_machine.specs.Frame.{first_of}
 use Rattle.gp_machine.specs.Run.{IsStep, entry_outcome}
-use Rattle.gp_machine.specs.Messages.{HearsSerial, Owes, EveryRunOwes, SendsEachThreeTimes, SendsWhatWasOwedFirst, sent_in, three_times}
+use Rattle.gp_machine.specs.Messages.{HearsSerial, Owes, EveryRunHasOwedMessages, SendsEachThreeTimes, SendsWhatWasOwedFirst, sent_in, three_times}
 use Rattle.gp_machine.proofs.Determined.{OneReading}
 use Rattle.gp_machine.proofs.StepCases.{IsQuietReply, StepCase, step_case, owed_by_frame}
 
-first_and_rest : (ms : List Down) → option_to_list (first_of ms) ++ rest_of ms ≡ ms
+first_and_rest : (ms : List Down) → option_to_list (first_of ms) ++ drop 1 ms ≡ ms
 first_and_rest [] = refl
 first_and_rest (m ∷ ms) = refl
 
@@ -59,7 +59,7 @@ step_owes p q e h = by_case (step_case e.purse_in p e.event (entry_outcome e q) 
     by_case (StepCase.ranged at bytes s n random flags is heard k) =
         (RangingTime n (p.config.teqd - at) ∷ [], subst (λ (x : Reply). Owes p e.event x q (RangingTime n (p.config.teqd - at) ∷ [])) (sym k.reply) refl)
 
-pub run_owes : EveryRunOwes
+pub run_owes : EveryRunHasOwedMessages
 run_owes p q [] h = ([], (h, refl))
 run_owes p q (e ∷ es) h =
     let now = step_owes p h.0 e h.1 in
@@ -102,7 +102,7 @@ step_sends one p q e messages h owes = by_case (step_case e.purse_in p e.event (
         let is : messages ≡ owed_by_frame p q = subst (λ (x : Reply). Owes p e.event x q messages) k.reply owes in
         ap (λ (x : Option Down). option_to_list x ++ q.owed) k.sent
         ∙ ap (λ (ms : List Down). option_to_list (first_of p.owed) ++ ms) k.owed
-        ∙ sym (append_assoc (option_to_list (first_of p.owed)) (rest_of p.owed) (three_times (owed_by_frame p q)))
+        ∙ sym (append_assoc (option_to_list (first_of p.owed)) (drop 1 p.owed) (three_times (owed_by_frame p q)))
         ∙ ap (λ (ms : List Down). ms ++ three_times (owed_by_frame p q)) (first_and_rest p.owed)
         ∙ ap (λ (ms : List Down). p.owed ++ three_times ms) (sym is)
     by_case (StepCase.quiet k) =

@@ -1,5 +1,5 @@
 -- Every message that is owed or sent has a code.
-use Rattle.std.proofs.Common.{◌≡◌, ℕ, ◌-◌, Bool, true, false, cond, List, [], ◌∷◌, ◌++◌, length, Option, None, refl, sym, subst, arith}
+use Rattle.std.proofs.Common.{◌≡◌, ℕ, ◌-◌, Bool, true, false, cond, List, [], ◌∷◌, ◌++◌, length, Option, None, refl, sym, subst, arith, drop}
 use Rattle.std.specs.Prelude.{All, IfSome}
 use Rattle.std.proofs.lemmas.List.Elements.{All-append, All-nil, All-cons, All-head, All-tail}
 use Rattle.gp_ploam.specs.declared.message.Serial.{Serial}
@@ -11,7 +11,7 @@ use Rattle.gp_machine.specs.declared.entry.Entry.{Entry}
 use Rattle.gp_machine.specs.declared.event.Event.{Event}
 use Rattle.gp_machine.specs.declared.event.Event.TheVariants as event
 use Rattle.gp_machine.specs.State.{PortState, opening_of}
-use Rattle.gp_machine.specs.Frame.{first_of, rest_of}
+use Rattle.gp_machine.specs.Frame.{first_of}
 use Rattle.gp_machine.specs.Run.{Run, entry_outcome}
 use Rattle.gp_machine.specs.Messages.{HearsSerial, begins_acquisition, three_times, IsTyped, KeepsProperMessages, SendsProper, SendsOnlyProperMessages}
 use Rattle.gp_machine.proofs.StepCases.{StepCase, step_case, owed_by_frame}
@@ -21,7 +21,7 @@ first_proper : (ms : List Down) → All IsProperDown ms → IfSome (first_of ms)
 first_proper [] h = tt
 first_proper (m ∷ ms) h = All-head IsProperDown m ms h
 
-rest_proper : (ms : List Down) → All IsProperDown ms → All IsProperDown (rest_of ms)
+rest_proper : (ms : List Down) → All IsProperDown ms → All IsProperDown (drop 1 ms)
 rest_proper [] h = h
 rest_proper (m ∷ ms) h = All-tail IsProperDown m ms h
 
@@ -54,7 +54,7 @@ step_proper u p e o typed owed h = by_case (step_case u p e o h)
     by_case : StepCase p e o → IfSome o.answer.sent IsProperDown × All IsProperDown o.state.owed
     by_case (StepCase.frame k) = (
       subst (λ (x : Option Down). IfSome x IsProperDown) (sym k.sent) (first_proper p.owed owed),
-      with_more (rest_of p.owed) o.state.owed (three_times (owed_by_frame p o.state)) k.owed (rest_proper p.owed owed) (frame_proper p o.state typed),
+      with_more (drop 1 p.owed) o.state.owed (three_times (owed_by_frame p o.state)) k.owed (rest_proper p.owed owed) (frame_proper p o.state typed),
     )
     by_case (StepCase.quiet k) =
         (none_proper o.answer.sent k.sent, subst (λ (ms : List Down). All IsProperDown ms) (sym k.owed) owed)

@@ -1,12 +1,11 @@
 -- What keeps the unit table of a port sound.
 use Rattle.std.proofs.Common.{◌≡◌, ℕ, ◌+◌, ◌<◌, ◌≤◌, true, cond, suc, List, [], ◌∷◌, Option, None, Some, ◌⊎◌, inl, inr, ⊎_elim, refl, sym, ap, subst, ◌∙◌, arith, is_some, ◌||◌}
 use Rattle.std.specs.Prelude.{Contains}
-use Rattle.std.specs.List.{list_any}
 use Rattle.std.specs.FinMap.{empty, get, insert, len, get-empty, get-insert, len-empty, len-insert}
 use Rattle.std.proofs.lemmas.Bool.{cases_Bool, false≢true}
 use Rattle.gp_ploam.specs.declared.message.Serial.{Serial}
-use Rattle.gp_ploam.specs.Serials.{serial_cmp, same_serial}
-use Rattle.gp_ploam.proofs.Serials.{serials_total, by_cmp-same, same_serial-true}
+use Rattle.gp_ploam.specs.Serials.{serial_cmp, same_serial, is_among}
+use Rattle.gp_ploam.proofs.Serials.{serials_total, by_cmp-same, same_serial-true, same_serial-itself}
 use Rattle.gp_machine.specs.declared.config.PortConfig.{PortConfig}
 use Rattle.gp_machine.specs.declared.row.Row.{Row}
 use Rattle.gp_machine.specs.State.{PortState, Rows, HasRow}
@@ -34,6 +33,11 @@ has_put rows s row t q h =
           inl (same_serial-true t s b, cc)
       | inr b ↦ inr (sym (ap (λ b. cond b (Some row) (get rows t)) b) ∙ e)
     ]
+
+-- the row that is put is there
+pub has_it : (rows : Rows) (s : Serial) (row : Row) → HasRow (insert rows s row) s row
+has_it rows s row =
+    get-insert serials_total rows s row s ∙ ap (λ b. cond b (Some row) (get rows s)) (by_cmp-same s s ∙ same_serial-itself s)
 
 -- a row may be put where its ONU-ID is low and no other unit has it
 pub record MayPut (config : PortConfig) (rows : Rows) (s : Serial) (row : Row) : Type 0 where
@@ -72,13 +76,13 @@ sound_put config rows s row h may =
       few = subst (λ (n : ℕ). n ≤ config.max_units) (sym (len-insert serials_total rows s row)) (few_put (get rows s) (len rows) config.max_units may.few h.few);
     }
 
-pub admitted_contains : (s : Serial) (ss : List Serial) → list_any (same_serial s) ss ≡ true → Contains ss s
+pub admitted_contains : (s : Serial) (ss : List Serial) → is_among s ss ≡ true → Contains ss s
 admitted_contains s [] h = absurd (false≢true h)
 admitted_contains s (t ∷ ts) h =
     elim (cases_Bool (same_serial s t)) [
       | inl b ↦ (0, omega arith, sym (same_serial-true s t b))
       | inr b ↦
-          let r = admitted_contains s ts (sym (ap (λ b. b || list_any (same_serial s) ts) b) ∙ h) in
+          let r = admitted_contains s ts (sym (ap (λ b. b || is_among s ts) b) ∙ h) in
           let l = r.1 in
           (suc r.0, omega arith, r.2)
     ]

@@ -1,13 +1,12 @@
 -- What keeps a port sound.
-use Rattle.std.proofs.Common.{◌≡◌, ℕ, zero, suc, ◌+◌, ◌<◌, ◌≤◌, ◌==◌, Bool, true, false, length, List, [], ◌∷◌, Option, None, Some, refl, sym, ap, subst, ◌∙◌, arith, length-append}
+use Rattle.std.proofs.Common.{◌≡◌, ℕ, zero, suc, ◌+◌, ◌<◌, ◌≤◌, ◌==◌, Bool, true, false, length, List, [], ◌∷◌, Option, None, Some, refl, sym, ap, subst, ◌∙◌, arith, length-append, drop}
 use Rattle.std.specs.Prelude.{◌-◌, ◌++◌}
-use Rattle.std.specs.List.{list_any}
 use Rattle.std.proofs.lemmas.Bool.{leb-true, ltb-true, eqb-false}
 use Rattle.std.specs.FinMap.{insert}
 use Rattle.gp_ploam.specs.declared.message.Serial.{Serial}
 use Rattle.gp_ploam.specs.declared.message.Down.{Down}
 use Rattle.gp_ploam.specs.declared.message.Up.{Up}
-use Rattle.gp_ploam.specs.Serials.{same_serial}
+use Rattle.gp_ploam.specs.Serials.{is_among}
 use Rattle.gp_ploam.specs.declared.message.Down.TheVariants.{AssignOnu, RangingTime, UpstreamOverhead}
 use Rattle.gp_ranging.specs.declared.grant.Grant.{Grant}
 use Rattle.gp_ranging.specs.declared.grant.Grant.TheVariants.{Search, Range}
@@ -22,9 +21,9 @@ use Rattle.gp_machine.specs.declared.event.Event.TheVariants as event
 use Rattle.gp_machine.specs.State.{PortState, Rows, HasRow, IsFree, IsLeastRanging, opening_of}
 use Rattle.gp_machine.specs.Sound.{IsSound, IsAsked, HasFramesLeft, HasCyclesLeft, copies_at_most}
 use Rattle.gp_machine.specs.Outcomes.{Outcome, state_owing, has_room, state_seen}
-use Rattle.gp_machine.specs.Frame.{rest_of, runs_timer, state_after_timer, state_after_sending, window_left, state_after_tick, state_before_decision, state_after_decision, decision_after}
+use Rattle.gp_machine.specs.Frame.{runs_timer, state_after_timer, state_after_sending, window_left, state_after_tick, state_before_decision, state_after_decision, decision_after}
 use Rattle.gp_machine.specs.Burst.{new_row, state_assigned, state_ranged}
-use Rattle.gp_machine.specs.Step.{HandsOutFree, number_in}
+use Rattle.gp_machine.specs.Step.{HandsOutFree, onu_id_in}
 use Rattle.gp_machine.specs.OneStep.{KeepsSound}
 use Rattle.gp_machine.proofs.Cases.{by_test, by_timer, both_true, IsFromSearch, OfEachBurst, OfEachFrame, OfEachCommand, of_each_burst, of_each_frame, of_each_command}
 use Rattle.gp_machine.proofs.SoundRows.{table_of, MayPut, sound_put, sound_empty, may_put_again, admitted_contains}
@@ -78,7 +77,7 @@ sound_timer p h =
     next_below : (t period : ℕ) → 0 < period → t ≤ period - 1 → (t + 1 ≡ period → ⊥) → t + 1 ≤ period - 1
     next_below t period some below not_yet = omega (arith, not_yet)
 
-fewer : (ms : List Down) (n : ℕ) → length ms ≤ n → length (rest_of ms) ≤ n
+fewer : (ms : List Down) (n : ℕ) → length ms ≤ n → length (drop 1 ms) ≤ n
 fewer [] n h = h
 fewer (m ∷ ms) n h = omega arith
 
@@ -220,7 +219,7 @@ sound_frame u p ranging h least =
     record {
       deciding = λ shut nothing.
           sound_decision (state_before_decision p) ranging (sound_before_decision p h)
-          (ap rest_of (by_timer (λ q. q.owed ≡ p.owed) p (λ t w. refl) ∙ nothing))
+          (ap (drop 1) (by_timer (λ q. q.owed ≡ p.owed) p (λ t w. refl) ∙ nothing))
           (by_timer (λ q. IsLeastRanging q.rows ranging) p (λ t w. least));
       waiting = sound_before_decision p h;
     }
@@ -279,7 +278,7 @@ undirected p heard s from rows =
     subst (λ (o : Option WindowState). IsAsked rows o) (sym from.opened) (subst (λ (g : Grant). IsAsked rows (Some (record from.window { grant = g }))) (sym from.asked) tt)
 
 -- a new unit may get a free ONU-ID
-pub may_put_new : (p : PortState) (s : Serial) (n : ℕ) → list_any (same_serial s) p.config.admitted ≡ true → IsFree p n → MayPut p.config p.rows s (new_row n)
+pub may_put_new : (p : PortState) (s : Serial) (n : ℕ) → is_among s p.config.admitted ≡ true → IsFree p n → MayPut p.config p.rows s (new_row n)
 may_put_new p s n admitted free =
     record {
       admitted = admitted_contains s p.config.admitted admitted;
@@ -318,5 +317,5 @@ sound_step u p event.Frame o h s =
 sound_step u p (event.Burst at bytes) o h s =
     let free = subst (λ (x : Outcome). HandsOutFree p x.answer.reply) s.3 s.2 in
     subst (λ (x : Outcome). IsSound x.state) (sym s.3)
-    (of_each_burst (IsSoundIfFree p) u p at s.0 (number_in o.answer.reply) (sound_burst u p at s.0 (number_in o.answer.reply) h) free)
+    (of_each_burst (IsSoundIfFree p) u p at s.0 (onu_id_in o.answer.reply) (sound_burst u p at s.0 (onu_id_in o.answer.reply) h) free)
 sound_step u p (event.Command c) o h s = subst (λ (x : Outcome). IsSound x.state) (sym s) (of_each_command (λ (x : Outcome). IsSound x.state) u p c (sound_command u p h))

@@ -1,5 +1,5 @@
 -- What a step can be, by the messages that it owes.
-use Rattle.std.proofs.Common.{◌≡◌, ℕ, zero, suc, ◌-◌, ◌≤◌, Bool, true, false, cond, List, [], ◌∷◌, ◌++◌, Option, None, Some, ◌⊎◌, inl, inr, refl, sym, ap, subst, ◌∙◌}
+use Rattle.std.proofs.Common.{◌≡◌, ℕ, zero, suc, ◌-◌, ◌≤◌, Bool, true, false, cond, List, [], ◌∷◌, ◌++◌, Option, None, Some, ◌⊎◌, inl, inr, refl, sym, ap, subst, ◌∙◌, drop}
 use Rattle.std.specs.FinMap.{insert}
 use Rattle.std.proofs.lemmas.List.{append-nil}
 use Rattle.gp_ploam.specs.declared.message.Serial.{Serial}
@@ -23,9 +23,9 @@ use Rattle.gp_machine.specs.declared.row.Phase.TheVariants.{Operating}
 use Rattle.gp_machine.specs.declared.row.Row.{Row}
 use Rattle.gp_machine.specs.State.{PortState, HasRow}
 use Rattle.gp_machine.specs.Outcomes.{Outcome, bare_outcome, state_seen}
-use Rattle.gp_machine.specs.Frame.{first_of, rest_of, state_after_decision, decision_after, state_after_sending, state_after_tick, frame_answer, grant_of}
+use Rattle.gp_machine.specs.Frame.{first_of, state_after_decision, decision_after, state_after_sending, state_after_tick, frame_answer, grant_of}
 use Rattle.gp_machine.specs.Burst.{new_row}
-use Rattle.gp_machine.specs.Step.{Step, Hears, number_in}
+use Rattle.gp_machine.specs.Step.{Step, Hears, onu_id_in}
 use Rattle.gp_machine.specs.Messages.{HearsSerial, begins_acquisition, three_times}
 use Rattle.gp_machine.specs.Delays.{AsksToRange}
 use Rattle.gp_machine.specs.OnuIds.{HasOnuId}
@@ -57,7 +57,7 @@ owed_by_frame p q = cond (begins_acquisition p.common q.common) (UpstreamOverhea
 pub record IsFrame (p : PortState) (o : Outcome) : Type 0 where
   pub reply : o.answer.reply ≡ reply.Ticked
   pub sent : o.answer.sent ≡ first_of p.owed
-  pub owed : o.state.owed ≡ rest_of p.owed ++ three_times (owed_by_frame p o.state)
+  pub owed : o.state.owed ≡ drop 1 p.owed ++ three_times (owed_by_frame p o.state)
   pub rows : o.state.rows ≡ p.rows
   pub config : o.state.config ≡ p.config
 
@@ -135,7 +135,7 @@ module _ (u : ℕ) (p : PortState) (ranging : Option ℕ) where
       record {
         reply = refl;
         sent = refl;
-        owed = nothing_more (rest_of p.owed) ∙ ap (λ b. rest_of p.owed ++ three_times (cond b (UpstreamOverhead p.config.overhead ∷ []) [])) (sym (never_begins p.common));
+        owed = nothing_more (drop 1 p.owed) ∙ ap (λ b. drop 1 p.owed ++ three_times (cond b (UpstreamOverhead p.config.overhead ∷ []) [])) (sym (never_begins p.common));
         rows = refl;
         config = refl;
       }
@@ -217,7 +217,7 @@ step_case u p event.Frame o h =
     subst (λ (x : Outcome). StepCase p event.Frame x) (sym h.2) (StepCase.frame (of_each_frame (IsFrame p) u p h.0 (frame_case u p h.0)))
 step_case u p (event.Burst at bytes) o h =
     let e = event.Burst at bytes in
-    let n = number_in o.answer.reply in
+    let n = onu_id_in o.answer.reply in
     subst (λ (x : Outcome). StepCase p e x) (sym h.3) (of_each_burst (StepCase p e) u p at h.0 n (burst_case u p at bytes h.0 h.1 n))
 step_case u p (event.Command c) o h =
     let e = event.Command c in

@@ -215,7 +215,7 @@ one_unit_run = (ended, after_search ended (find_a ++ range_a) (find_run ended ra
     )
 
 pub repeated_answer_run : RepeatedAnswer
-repeated_answer_run = (both_port, after_search both_port find_both heard_run)
+repeated_answer_run = (both_port, after_search both_port find_both heard_run, refl)
   where
     assign_b : Down
     assign_b = AssignOnu 1 serial_b

@@ -8,10 +8,11 @@ use Rattle.gp_ploam.specs.declared.message.Down.{Down}
 use Rattle.gp_ploam.specs.declared.message.Down.TheVariants.{AssignOnu, RangingTime}
 use Rattle.gp_ploam.specs.declared.message.Up.{Up}
 use Rattle.gp_ploam.specs.declared.message.Up.TheVariants.{SerialNumber}
-use Rattle.gp_ploam.specs.Serials.{same_serial}
+use Rattle.gp_ploam.specs.Serials.{same_serial, is_among}
 use Rattle.gp_ploam.specs.Up.{octet1_of}
 use Rattle.gp_ranging.specs.declared.grant.Grant.{Grant}
 use Rattle.gp_ranging.specs.declared.grant.Grant.TheVariants.{Search, Range, Poll}
+use Rattle.gp_ranging.specs.Delay.{equalization_delay}
 use Rattle.gp_ranging.specs.Window.{WindowState}
 use Rattle.gp_machine.specs.declared.row.Phase.{Phase}
 use Rattle.gp_machine.specs.declared.row.Phase.TheVariants.{Ranging, Operating}
@@ -25,93 +26,100 @@ use Rattle.gp_machine.specs.Outcomes.{Outcome, bare_outcome, state_owing, has_ro
 
 -- the row of a unit that has just been given this ONU-ID
 abbrev pub new_row : ℕ → Row
-new_row n = record { onu = n; phase = Ranging 0 false }
+new_row onu = record { onu = onu; phase = Ranging 0 false }
 
 -- the state in which the unit has this ONU-ID and begins to range, and is owed Assign_ONU-ID
 abbrev pub state_assigned : PortState → Serial → ℕ → PortState
-state_assigned p s n = state_owing (record p { rows = insert p.rows s (new_row n) }) (AssignOnu n s)
+state_assigned port serial onu = state_owing (record port { rows = insert port.rows serial (new_row onu) }) (AssignOnu onu serial)
 
--- the message is Assign_ONU-ID of n to s
+-- the message is Assign_ONU-ID of this ONU-ID to this serial number
 abbrev pub is_assign : ℕ → Serial → Down → Bool
-is_assign n s (AssignOnu onu serial) = n == onu && same_serial s serial
-is_assign n s _ = false
+is_assign onu serial (AssignOnu told_onu told_serial) = onu == told_onu && same_serial serial told_serial
+is_assign onu serial _ = false
 
--- an admitted unit that is not active: it gets the ONU-ID n and one licence of the purse
+-- an admitted unit that is not active: it gets the new ONU-ID and one licence of the purse
 abbrev pub newcomer_outcome : ℕ → PortState → Serial → ℕ → Outcome
-newcomer_outcome u p s n =
-    if nat_lt (rows_of p) p.config.max_units
-    then (if u == 0 then refused_burst u p NoLicence
-    else (if has_room p then bare_outcome (u - 1) (state_assigned p s n) (Found n) else refused_burst u p Busy))
-    else refused_burst u p NoId
+newcomer_outcome licences port serial new_onu =
+    if nat_lt (rows_of port) port.config.max_units
+    then (if licences == 0 then refused_burst licences port NoLicence
+    else (if has_room port then bare_outcome (licences - 1) (state_assigned port serial new_onu) (Found new_onu) else refused_burst licences port Busy))
+    else refused_burst licences port NoId
 
 -- a ranging unit is told its own ONU-ID again, but where it is still to be told it
 abbrev pub again_outcome : ℕ → PortState → Serial → ℕ → Outcome
-again_outcome u p s n =
-    if list_any (is_assign n s) p.owed then bare_outcome u p (Repeat n)
-    else (if has_room p then bare_outcome u (state_assigned p s n) (Again n) else refused_burst u p Busy)
+again_outcome licences port serial onu =
+    if list_any (is_assign onu serial) port.owed then bare_outcome licences port (Repeat onu)
+    else (if has_room port then bare_outcome licences (state_assigned port serial onu) (Again onu) else refused_burst licences port Busy)
 
 -- a unit that is active already, by its phase
 abbrev pub active_outcome : ℕ → PortState → Serial → ℕ → Phase → Outcome
-active_outcome u p s n (Ranging attempts seen) = again_outcome u p s n
-active_outcome u p s n (Operating eqd dark garbled) = refused_burst u p WrongWindow
+active_outcome licences port serial onu (Ranging attempts seen) = again_outcome licences port serial onu
+active_outcome licences port serial onu (Operating eqd dark garbled) = refused_burst licences port WrongWindow
 
 -- an admitted unit in a search window, by the row that it has
 abbrev pub admitted_outcome : ℕ → PortState → Serial → ℕ → Option Row → Outcome
-admitted_outcome u p s n None = newcomer_outcome u p s n
-admitted_outcome u p s n (Some row) = active_outcome u p s row.onu row.phase
+admitted_outcome licences port serial new_onu None = newcomer_outcome licences port serial new_onu
+admitted_outcome licences port serial new_onu (Some row) = active_outcome licences port serial row.onu row.phase
 
 -- a serial number in a search window
 abbrev pub serial_outcome : ℕ → PortState → Serial → ℕ → Outcome
-serial_outcome u p s n =
-    if list_any (same_serial s) p.config.admitted then admitted_outcome u p s n (get p.rows s) else refused_burst u p NotAdmitted
+serial_outcome licences port serial new_onu =
+    if is_among serial port.config.admitted then admitted_outcome licences port serial new_onu (get port.rows serial)
+    else refused_burst licences port NotAdmitted
 
 -- a message in a search window: it has to be a serial number from a unit without an ONU-ID
 abbrev pub search_outcome : ℕ → PortState → ℕ → Up → Outcome
-search_outcome u p n (SerialNumber onu s random flags) = if onu == 255 then serial_outcome u p s n else refused_burst u p WrongWindow
-search_outcome u p n _ = refused_burst u p WrongWindow
+search_outcome licences port new_onu (SerialNumber octet1 serial random flags) =
+    if octet1 == 255 then serial_outcome licences port serial new_onu else refused_burst licences port WrongWindow
+search_outcome licences port new_onu _ = refused_burst licences port WrongWindow
 
 -- ---- a ranging window
 
 -- the state in which the unit operates with this equalization delay and is owed Ranging_Time, and the
 -- window is closed
 abbrev pub state_ranged : PortState → Serial → ℕ → ℕ → PortState
-state_ranged p s n eqd =
-    state_owing (record p { rows = insert p.rows s (record { onu = n; phase = Operating eqd 0 0 }); window = None }) (RangingTime n eqd)
+state_ranged port serial onu eqd =
+    state_owing (record port { rows = insert port.rows serial (record { onu = onu; phase = Operating eqd 0 0 }); window = None }) (RangingTime onu eqd)
 
--- the serial number of the unit that is asked, after a round-trip delay: what is left of the equalized
--- round-trip delay is its equalization delay
+-- the serial number of the unit that is asked, by the unit's equalization delay
+abbrev pub equalized_outcome : ℕ → PortState → Serial → ℕ → Option ℕ → Outcome
+equalized_outcome licences port serial onu None = bare_outcome licences (state_seen port) (TooFar onu)
+equalized_outcome licences port serial onu (Some eqd) =
+    if has_room port then bare_outcome licences (state_ranged port serial onu eqd) (Ranged onu eqd) else refused_burst licences port Busy
+
+-- the serial number of the unit that is asked, after a round-trip delay
 abbrev pub measured_outcome : ℕ → PortState → ℕ → Serial → ℕ → Outcome
-measured_outcome u p at s n =
-    if nat_lt p.config.teqd at then bare_outcome u (state_seen p) (TooFar n)
-    else (if has_room p then bare_outcome u (state_ranged p s n (p.config.teqd - at)) (Ranged n (p.config.teqd - at)) else refused_burst u p Busy)
+measured_outcome licences port round_trip serial onu = equalized_outcome licences port serial onu (equalization_delay port.config.teqd round_trip)
 
--- a serial number in the window of the ranging unit with ONU-ID n, by the row that it has: it has to be that unit
+-- a serial number in the window of the ranging unit with this ONU-ID, by the row that it has: it has to be that unit
 abbrev pub row_outcome : ℕ → PortState → ℕ → ℕ → Serial → Option Row → Outcome
-row_outcome u p at n s None = refused_burst u p WrongWindow
-row_outcome u p at n s (Some row) = if row.onu == n then measured_outcome u p at s n else refused_burst u p WrongWindow
+row_outcome licences port round_trip onu serial None = refused_burst licences port WrongWindow
+row_outcome licences port round_trip onu serial (Some row) =
+    if row.onu == onu then measured_outcome licences port round_trip serial onu else refused_burst licences port WrongWindow
 
 -- a message from the unit that is asked
 abbrev pub asked_outcome : ℕ → PortState → ℕ → ℕ → Up → Outcome
-asked_outcome u p at n (SerialNumber onu s random flags) = row_outcome u p at n s (get p.rows s)
-asked_outcome u p at n _ = bare_outcome u (state_seen p) (StillRanging n)
+asked_outcome licences port round_trip onu (SerialNumber octet1 serial random flags) = row_outcome licences port round_trip onu serial (get port.rows serial)
+asked_outcome licences port round_trip onu _ = bare_outcome licences (state_seen port) (StillRanging onu)
 
--- a message in the window of the ranging unit with ONU-ID n: its octet 1 has to be n
+-- a message in the window of the ranging unit with this ONU-ID: its octet 1 has to be that ONU-ID
 abbrev pub range_outcome : ℕ → PortState → ℕ → ℕ → Up → Outcome
-range_outcome u p at n m = if octet1_of m == n then asked_outcome u p at n m else refused_burst u p WrongWindow
+range_outcome licences port round_trip onu message =
+    if octet1_of message == onu then asked_outcome licences port round_trip onu message else refused_burst licences port WrongWindow
 
 -- ---- any window
 
 -- a burst in the window of a grant, read as a message, or None where its check octet is wrong
 abbrev pub heard_outcome : ℕ → PortState → ℕ → ℕ → Grant → Option Up → Outcome
-heard_outcome u p at n grant None = refused_burst u p Garbled
-heard_outcome u p at n Search (Some m) = search_outcome u p n m
-heard_outcome u p at n (Range onu) (Some m) = range_outcome u p at onu m
-heard_outcome u p at n (Poll onu) (Some m) = refused_burst u p WrongWindow
+heard_outcome licences port round_trip new_onu grant None = refused_burst licences port Garbled
+heard_outcome licences port round_trip new_onu Search (Some message) = search_outcome licences port new_onu message
+heard_outcome licences port round_trip new_onu (Range onu) (Some message) = range_outcome licences port round_trip onu message
+heard_outcome licences port round_trip new_onu (Poll onu) (Some message) = refused_burst licences port WrongWindow
 
--- a burst, by the open window; n is the ONU-ID that a new unit gets
+-- a burst, by the open window, with the ONU-ID that a new unit gets
 abbrev pub window_outcome : ℕ → PortState → ℕ → Option Up → ℕ → Option WindowState → Outcome
-window_outcome u p at heard n None = bare_outcome u p (Refused Stray)
-window_outcome u p at heard n (Some w) = heard_outcome u p at n w.grant heard
+window_outcome licences port round_trip heard new_onu None = bare_outcome licences port (Refused Stray)
+window_outcome licences port round_trip heard new_onu (Some window) = heard_outcome licences port round_trip new_onu window.grant heard
 
 abbrev pub burst_outcome : ℕ → PortState → ℕ → Option Up → ℕ → Outcome
-burst_outcome u p at heard n = window_outcome u p at heard n p.window
+burst_outcome licences port round_trip heard new_onu = window_outcome licences port round_trip heard new_onu port.window

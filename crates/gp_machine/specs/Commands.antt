@@ -17,6 +17,6 @@ is_acquiring Measuring = false
 
 -- a command; one that is refused changes nothing
 abbrev pub command_outcome : ℕ → PortState → Command → Outcome
-command_outcome u p Search =
-    if p.wanted || is_acquiring p.common then bare_outcome u p (Refused AlreadySearching)
-    else bare_outcome u (record p { wanted = true }) Searching
+command_outcome licences port Search =
+    if port.wanted || is_acquiring port.common then bare_outcome licences port (Refused AlreadySearching)
+    else bare_outcome licences (record port { wanted = true }) Searching

@@ -18,13 +18,13 @@ use Rattle.gp_machine.specs.Run.{Run}
 use Rattle.gp_machine.specs.Runs.{HasStep}
 use Rattle.gp_machine.specs.OnuIds.{HasOnuId}
 
--- the open window asks the unit with the ONU-ID n for its round-trip delay
+-- the open window asks the unit with this ONU-ID for its round-trip delay
 abbrev pub AsksToRange : Option WindowState → ℕ → Type 0
-AsksToRange None n = ⊥
-AsksToRange (Some w) n = w.grant ≡ Range n
+AsksToRange None onu = ⊥
+AsksToRange (Some window) onu = window.grant ≡ Range onu
 
--- in the state p the event measures the unit s, which has the ONU-ID n
-pub record IsMeasured (teqd : ℕ) (p : PortState) (event : Event) (s : Serial) (n eqd : ℕ) : Type 0 where
+-- in this state the event measures the unit with this serial number and this ONU-ID
+pub record IsMeasured (teqd : ℕ) (port : PortState) (event : Event) (serial : Serial) (onu eqd : ℕ) : Type 0 where
   pub at : ℕ
   pub bytes : List ℕ
   pub random : ℕ
@@ -32,32 +32,35 @@ pub record IsMeasured (teqd : ℕ) (p : PortState) (event : Event) (s : Serial) 
   -- octets arrive after a round-trip delay
   pub burst : event ≡ Burst at bytes
   -- they are the unit's Serial_Number_ONU, with its ONU-ID
-  pub read : ReadsUp bytes (mask_value p.config.mask) (SerialNumber n s random flags)
-  pub active : HasOnuId p s n
+  pub read : ReadsUp bytes (mask_value port.config.mask) (SerialNumber onu serial random flags)
+  pub active : HasOnuId port serial onu
   -- the open window asked it
-  pub asked : AsksToRange p.window n
+  pub asked : AsksToRange port.window onu
   -- its equalization delay makes its round-trip delay up to the equalized one
   pub adds_up : at + eqd ≡ teqd
 
--- a step that ranges a unit gives it what its round-trip delay leaves of the equalized round-trip delay
+-- a step that replies Ranged measured a unit, and leaves it operating with what its round-trip delay leaves of the
+-- equalized round-trip delay
 abbrev pub RangesWithWhatIsLeft : Type 0
 RangesWithWhatIsLeft =
-    (p q before after : PortState) (es : List Entry) (e : Entry) (n eqd : ℕ)
-    → HasStep p es q before e after
-    → e.answer.reply ≡ Ranged n eqd
-    → (s : Serial) × IsMeasured p.config.teqd before e.event s n eqd
+    (port last before after : PortState) (entries : List Entry) (entry : Entry) (onu eqd : ℕ)
+    → HasStep port entries last before entry after
+    → entry.answer.reply ≡ Ranged onu eqd
+    → (serial : Serial)
+    × IsMeasured port.config.teqd before entry.event serial onu eqd
+    × HasRow after.rows serial (record { onu = onu; phase = Operating eqd 0 0 })
 
--- the unit s was ranged in the run: a step of it measured the unit, and gave it this equalization delay
+-- the unit was ranged in the run: a step of it measured the unit, and gave it this equalization delay
 abbrev pub WasRanged : PortState → List Entry → PortState → Serial → ℕ → ℕ → Type 0
-WasRanged p es q s n eqd =
-    (before : PortState) × (e : Entry) × (after : PortState)
-    × HasStep p es q before e after × (e.answer.reply ≡ Ranged n eqd) × IsMeasured p.config.teqd before e.event s n eqd
+WasRanged port entries last serial onu eqd =
+    (before : PortState) × (entry : Entry) × (after : PortState)
+    × HasStep port entries last before entry after × (entry.answer.reply ≡ Ranged onu eqd) × IsMeasured port.config.teqd before entry.event serial onu eqd
 
 -- in a run from an opening each operating unit was ranged, and keeps the equalization delay that it was given
 abbrev pub OperatesWithWhatWasMeasured : Type 0
 OperatesWithWhatWasMeasured =
-    (c : PortConfig) (q : PortState) (es : List Entry) (s : Serial) (row : Row) (eqd dark garbled : ℕ)
-    → Run (opening_of c) es q
-    → HasRow q.rows s row
+    (config : PortConfig) (last : PortState) (entries : List Entry) (serial : Serial) (row : Row) (eqd dark garbled : ℕ)
+    → Run (opening_of config) entries last
+    → HasRow last.rows serial row
     → row.phase ≡ Operating eqd dark garbled
-    → WasRanged (opening_of c) es q s row.onu eqd
+    → WasRanged (opening_of config) entries last serial row.onu eqd

@@ -1,6 +1,6 @@
 -- A frame: the timer, the sending, the window, the decision. A frame carries one message (G.984.3, clause 9); when
 -- a port searches and ranges (clause 10) is this profile's own rule.
-use Rattle.std.specs.Prelude.{ℕ, ◌+◌, ◌==◌, ◌&&◌, nat_lt, Bool, true, false, if◌then◌else◌, List, [], ◌∷◌, Option, None, Some, is_none}
+use Rattle.std.specs.Prelude.{ℕ, ◌+◌, ◌==◌, ◌&&◌, nat_lt, Bool, true, false, if◌then◌else◌, List, [], ◌∷◌, drop, Option, None, Some, is_none}
 use Rattle.gp_ploam.specs.declared.message.Down.TheVariants.{UpstreamOverhead}
 use Rattle.gp_ploam.specs.declared.message.Down.{Down}
 use Rattle.gp_ranging.specs.declared.grant.Grant.{Grant}
@@ -17,7 +17,9 @@ use Rattle.gp_machine.specs.Outcomes.{Outcome, state_owing}
 
 -- the timer rises by one, and at the search period it begins anew and a search is wanted
 abbrev pub state_timed : PortState → PortState
-state_timed p = if p.timer + 1 == p.config.search_period then record p { timer = 0; wanted = true } else record p { timer = p.timer + 1 }
+state_timed port =
+    if port.timer + 1 == port.config.search_period then record port { timer = 0; wanted = true }
+    else record port { timer = port.timer + 1 }
 
 abbrev pub is_standby : Common → Bool
 is_standby Standby = true
@@ -26,46 +28,41 @@ is_standby Measuring = false
 
 -- the timer runs in standby alone, and only where there is a search period
 abbrev pub runs_timer : PortState → Bool
-runs_timer p = is_standby p.common && nat_lt 0 p.config.search_period
+runs_timer port = is_standby port.common && nat_lt 0 port.config.search_period
 
 abbrev pub state_after_timer : PortState → PortState
-state_after_timer p = if runs_timer p then state_timed p else p
+state_after_timer port = if runs_timer port then state_timed port else port
 
 -- the first copy that is owed
 abbrev pub first_of : List Down → Option Down
 first_of [] = None
-first_of (m ∷ ms) = Some m
+first_of (copy ∷ copies) = Some copy
 
--- the copies after the first
-abbrev pub rest_of : List Down → List Down
-rest_of [] = []
-rest_of (m ∷ ms) = ms
-
--- the first copy is sent
+-- the first copy is sent, and is owed no longer
 abbrev pub state_after_sending : PortState → PortState
-state_after_sending p = record p { owed = rest_of p.owed }
+state_after_sending port = record port { owed = drop 1 port.owed }
 
 -- the window after a frame: it has a frame less, and closes with its last
 abbrev pub window_left : Option WindowState → Option WindowState
 window_left None = None
-window_left (Some w) = window_after_frame w
+window_left (Some window) = window_after_frame window
 
 abbrev pub state_after_tick : PortState → PortState
-state_after_tick p = record p { window = window_left p.window }
+state_after_tick port = record port { window = window_left port.window }
 
 -- the state after the first three parts of a frame
 abbrev pub state_before_decision : PortState → PortState
-state_before_decision p = state_after_tick (state_after_sending (state_after_timer p))
+state_before_decision port = state_after_tick (state_after_sending (state_after_timer port))
 
 -- the port may decide: no window is open, and nothing is owed
 abbrev pub is_idle : PortState → Bool
-is_idle p = is_none p.window && is_none (first_of p.owed)
+is_idle port = is_none port.window && is_none (first_of port.owed)
 
 -- what follows from a decision: Upstream_Overhead is owed, or a window opens
 abbrev pub state_after_decision : PortState → Common × Decision → PortState
-state_after_decision p (common, Nothing) = record p { common = common }
-state_after_decision p (common, Overhead) = state_owing (record p { common = common; wanted = false }) (UpstreamOverhead p.config.overhead)
-state_after_decision p (common, Ask grant) = record p { common = common; window = Some (fresh_window grant) }
+state_after_decision port (common, Nothing) = record port { common = common }
+state_after_decision port (common, Overhead) = state_owing (record port { common = common; wanted = false }) (UpstreamOverhead port.config.overhead)
+state_after_decision port (common, Ask grant) = record port { common = common; window = Some (fresh_window grant) }
 
 -- what a decision grants
 abbrev pub grant_of : Decision → Option Grant
@@ -75,27 +72,27 @@ grant_of (Ask grant) = Some grant
 
 -- what a port decides, by the least ONU-ID of a ranging unit; no unit is polled
 abbrev pub decision_after : PortState → Option ℕ → Common × Decision
-decision_after p ranging = decision_of p.common p.wanted ranging None p.config.cycles
+decision_after port ranging = decision_of port.common port.wanted ranging None port.config.cycles
 
 -- the answer to a frame sends the first copy that was owed, and may grant
 abbrev pub frame_answer : PortState → Option Grant → Answer
-frame_answer p grant = record { reply = Ticked; sent = first_of p.owed; grant = grant; alarm = None }
+frame_answer port grant = record { reply = Ticked; sent = first_of port.owed; grant = grant; alarm = None }
 
 -- a frame in which the port decides
 abbrev pub deciding_frame : ℕ → PortState → Option ℕ → Outcome
-deciding_frame u p ranging =
-    record { answer = frame_answer p (grant_of decided.1); purse = u; state = state_after_decision before decided }
+deciding_frame licences port ranging =
+    record { answer = frame_answer port (grant_of decided.1); purse = licences; state = state_after_decision before decided }
   where
     before : PortState
-    before = state_before_decision p
+    before = state_before_decision port
 
     decided : Common × Decision
     decided = decision_after before ranging
 
 -- a frame in which it does not
 abbrev pub waiting_frame : ℕ → PortState → Outcome
-waiting_frame u p = record { answer = frame_answer p None; purse = u; state = state_before_decision p }
+waiting_frame licences port = record { answer = frame_answer port None; purse = licences; state = state_before_decision port }
 
 -- a frame, with the least ONU-ID of a ranging unit; the port decides where it was idle when the frame began
 abbrev pub frame_outcome : ℕ → PortState → Option ℕ → Outcome
-frame_outcome u p ranging = if is_idle p then deciding_frame u p ranging else waiting_frame u p
+frame_outcome licences port ranging = if is_idle port then deciding_frame licences port ranging else waiting_frame licences port

@@ -8,12 +8,24 @@ use Rattle.gp_machine.specs.Step.{Step}
 
 -- given the purse, the state, the event and the reply, all else is determined
 abbrev pub IsDetermined : Type 0
-IsDetermined = (u : ℕ) (p : PortState) (e : Event) (o q : Outcome) → Step u p e o → Step u p e q → o.answer.reply ≡ q.answer.reply → o ≡ q
+IsDetermined =
+    (licences : ℕ) (port : PortState) (event : Event) (outcome other : Outcome)
+    → Step licences port event outcome
+    → Step licences port event other
+    → outcome.answer.reply ≡ other.answer.reply
+    → outcome ≡ other
 
 -- a step from a sound state ends in a sound one
 abbrev pub KeepsSound : Type 0
-KeepsSound = (u : ℕ) (p : PortState) (e : Event) (o : Outcome) → IsSound p → Step u p e o → IsSound o.state
+KeepsSound =
+    (licences : ℕ) (port : PortState) (event : Event) (outcome : Outcome)
+    → IsSound port
+    → Step licences port event outcome
+    → IsSound outcome.state
 
 -- a step neither makes nor loses a licence: those in the purse and those of the units are as many as before
 abbrev pub KeepsLicences : Type 0
-KeepsLicences = (u : ℕ) (p : PortState) (e : Event) (o : Outcome) → Step u p e o → o.purse + rows_of o.state ≡ u + rows_of p
+KeepsLicences =
+    (licences : ℕ) (port : PortState) (event : Event) (outcome : Outcome)
+    → Step licences port event outcome
+    → outcome.purse + rows_of outcome.state ≡ licences + rows_of port

@@ -1,4 +1,5 @@
--- The ONU-IDs of a run: who has them, and who is told them (G.984.3, clause 10).
+-- The ONU-IDs of a run: who has them, and who is told them (G.984.3, clause 10). Whom a port admits, and how many it
+-- may have, is this profile's own rule.
 use Rattle.std.specs.Prelude.{◌≡◌, ◌≢◌, ◌↔◌, ℕ, ◌≤◌, List, ◌++◌, All, Contains}
 use Rattle.gp_ploam.specs.declared.message.Serial.{Serial}
 use Rattle.gp_ploam.specs.declared.message.Down.{Down}
@@ -13,55 +14,58 @@ use Rattle.gp_machine.specs.Messages.{sent_in}
 
 -- ---- who has them
 
--- the unit with this serial number is active, and has the ONU-ID n
+-- the unit with this serial number is active, and has this ONU-ID
 abbrev pub HasOnuId : PortState → Serial → ℕ → Type 0
-HasOnuId p s n = (row : Row) × HasRow p.rows s row × (row.onu ≡ n)
+HasOnuId port serial onu = (row : Row) × HasRow port.rows serial row × (row.onu ≡ onu)
 
 -- in every state that is reached, active units with different serial numbers have different ONU-IDs
 abbrev pub NoSharedOnuId : Type 0
 NoSharedOnuId =
-    (c : PortConfig) (p : PortState) (s t : Serial) (m n : ℕ)
-    → IsReached c p
-    → HasOnuId p s m
-    → HasOnuId p t n
-    → s ≢ t
-    → m ≢ n
+    (config : PortConfig) (port : PortState) (serial other : Serial) (onu other_onu : ℕ)
+    → IsReached config port
+    → HasOnuId port serial onu
+    → HasOnuId port other other_onu
+    → serial ≢ other
+    → onu ≢ other_onu
 
 -- in every state that is reached, each active unit is among those that the configuration admits
 abbrev pub OnlyAdmittedUnits : Type 0
 OnlyAdmittedUnits =
-    (c : PortConfig) (p : PortState) (s : Serial) (row : Row) → IsReached c p → HasRow p.rows s row → Contains c.admitted s
+    (config : PortConfig) (port : PortState) (serial : Serial) (row : Row) → IsReached config port → HasRow port.rows serial row → Contains config.admitted serial
 
 -- in every state that is reached, no more units are active than the configuration allows
 abbrev pub AtMostMaxUnits : Type 0
-AtMostMaxUnits = (c : PortConfig) (p : PortState) → IsReached c p → rows_of p ≤ c.max_units
+AtMostMaxUnits = (config : PortConfig) (port : PortState) → IsReached config port → rows_of port ≤ config.max_units
 
 -- an active unit keeps its ONU-ID along a run
 abbrev pub KeepsOnuIds : Type 0
 KeepsOnuIds =
-    (p q : PortState) (es : List Entry) (s : Serial) (n : ℕ) → Run p es q → HasOnuId p s n → HasOnuId q s n
+    (port last : PortState) (entries : List Entry) (serial : Serial) (onu : ℕ)
+    → Run port entries last
+    → HasOnuId port serial onu
+    → HasOnuId last serial onu
 
 -- ---- who is told them
 
 -- the message is no Assign_ONU-ID, or it tells a unit the ONU-ID that the unit has
-abbrev pub TellsTheTable : PortState → Down → Type 0
-TellsTheTable p (AssignOnu n s) = HasOnuId p s n
-TellsTheTable p _ = Unit {0}
+abbrev pub TellsItsOnuId : PortState → Down → Type 0
+TellsItsOnuId port (AssignOnu onu serial) = HasOnuId port serial onu
+TellsItsOnuId port _ = Unit {0}
 
 -- in every run from an opening each Assign_ONU-ID that was sent or is still owed tells a unit the ONU-ID
 -- that the unit has in the end
 abbrev pub AssignsWhatUnitsHave : Type 0
 AssignsWhatUnitsHave =
-    (c : PortConfig) (q : PortState) (es : List Entry)
-    → Run (opening_of c) es q
-    → All (TellsTheTable q) (sent_in es ++ q.owed)
+    (config : PortConfig) (last : PortState) (entries : List Entry)
+    → Run (opening_of config) entries last
+    → All (TellsItsOnuId last) (sent_in entries ++ last.owed)
 
 -- so of two Assign_ONU-ID that were sent or are still owed, both are to one serial number exactly if both
 -- are of one ONU-ID
 abbrev pub AssignsOneToOne : Type 0
 AssignsOneToOne =
-    (c : PortConfig) (q : PortState) (es : List Entry) (s t : Serial) (m n : ℕ)
-    → Run (opening_of c) es q
-    → Contains (sent_in es ++ q.owed) (AssignOnu m s)
-    → Contains (sent_in es ++ q.owed) (AssignOnu n t)
-    → (s ≡ t) ↔ (m ≡ n)
+    (config : PortConfig) (last : PortState) (entries : List Entry) (serial other : Serial) (onu other_onu : ℕ)
+    → Run (opening_of config) entries last
+    → Contains (sent_in entries ++ last.owed) (AssignOnu onu serial)
+    → Contains (sent_in entries ++ last.owed) (AssignOnu other_onu other)
+    → (serial ≡ other) ↔ (onu ≡ other_onu)

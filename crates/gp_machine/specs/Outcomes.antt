@@ -16,7 +16,7 @@ pub record Outcome : Type 0 where
 
 -- the outcome of a function that gives an answer and the licences left, and leaves the port so
 abbrev pub outcome_of : Answer × ℕ → PortState → Outcome
-outcome_of given p = record { answer = given.0; purse = given.1; state = p }
+outcome_of given port = record { answer = given.0; purse = given.1; state = port }
 
 -- an answer that sends, grants and raises nothing
 abbrev pub bare_answer : Reply → Answer
@@ -24,20 +24,20 @@ bare_answer reply = record { reply = reply; sent = None; grant = None; alarm = N
 
 -- nothing but a reply
 abbrev pub bare_outcome : ℕ → PortState → Reply → Outcome
-bare_outcome u p reply = record { answer = bare_answer reply; purse = u; state = p }
+bare_outcome licences port reply = record { answer = bare_answer reply; purse = licences; state = port }
 
 -- the state that owes a message besides: three copies of it (G.984.3, clause 9), after all that is owed
 abbrev pub state_owing : PortState → Down → PortState
-state_owing p message = record p { owed = p.owed ++ message ∷ message ∷ message ∷ [] }
+state_owing port message = record port { owed = port.owed ++ message ∷ message ∷ message ∷ [] }
 
--- a burst or a command may owe a message: with it at most 189 copies are owed (this profile's own rule)
+-- a burst may owe a message: with it at most 189 copies are owed (this profile's own rule)
 abbrev pub has_room : PortState → Bool
-has_room p = nat_le (length p.owed + 3) 189
+has_room port = nat_le (length port.owed + 3) 189
 
 -- the state in which the open window has seen something
 abbrev pub state_seen : PortState → PortState
-state_seen p = record p { window = option_map marked_window p.window }
+state_seen port = record port { window = option_map marked_window port.window }
 
 -- a burst that is refused is seen by the window, and changes nothing else
 abbrev pub refused_burst : ℕ → PortState → Refusal → Outcome
-refused_burst u p refusal = bare_outcome u (state_seen p) (Refused refusal)
+refused_burst licences port refusal = bare_outcome licences (state_seen port) (Refused refusal)

@@ -1,5 +1,5 @@
--- What is true of a port in every run. That no two units have one ONU-ID is G.984.3, clause 10; the numbers are
--- this profile's own rule.
+-- What is true of a port in every run. That no two units have one ONU-ID is G.984.3, clause 10, and that two
+-- failed ranging attempts are a start-up failure (SUF) is clause 11; the other numbers are this profile's own rule.
 use Rattle.std.specs.Prelude.{◌≡◌, ℕ, ◌-◌, ◌≤◌, length, Option, None, Some, Contains}
 use Rattle.gp_ploam.specs.declared.message.Serial.{Serial}
 use Rattle.gp_ranging.specs.declared.grant.Grant.{Grant}
@@ -12,7 +12,8 @@ use Rattle.gp_machine.specs.declared.row.Phase.TheVariants.{Ranging, Operating}
 use Rattle.gp_machine.specs.declared.row.Row.{Row}
 use Rattle.gp_machine.specs.State.{PortState, Rows, HasRow, Ranges, rows_of}
 
--- a unit's counts: one failed ranging window at most, three dark polls and two garbled ones
+-- a unit's counts, below their limits (this form of the machine leaves them all 0): one failed ranging attempt at
+-- most, three dark polls and two garbled ones
 abbrev pub IsCounted : Phase → Type 0
 IsCounted (Ranging attempts seen) = attempts ≤ 1
 IsCounted (Operating eqd dark garbled) = (dark ≤ 3) × (garbled ≤ 2)
@@ -20,17 +21,17 @@ IsCounted (Operating eqd dark garbled) = (dark ≤ 3) × (garbled ≤ 2)
 -- whom a window asks: every unit that has no ONU-ID, or a ranging unit; no unit is polled
 abbrev pub IsAsked : Rows → Option WindowState → Type 0
 IsAsked rows None = Unit {0}
-IsAsked rows (Some w) = IsAskedBy w.grant
+IsAsked rows (Some window) = IsAskedBy window.grant
   where
     IsAskedBy : Grant → Type 0
     IsAskedBy Search = Unit {0}
-    IsAskedBy (Range n) = Ranges rows n
-    IsAskedBy (Poll n) = ⊥
+    IsAskedBy (Range onu) = Ranges rows onu
+    IsAskedBy (Poll onu) = ⊥
 
 -- a window has one to three frames left
 abbrev pub HasFramesLeft : Option WindowState → Type 0
 HasFramesLeft None = Unit {0}
-HasFramesLeft (Some w) = (1 ≤ w.left) × (w.left ≤ 3)
+HasFramesLeft (Some window) = (1 ≤ window.left) × (window.left ≤ 3)
 
 -- an acquisition has at most all its search windows left
 abbrev pub HasCyclesLeft : Common → ℕ → Type 0
@@ -41,25 +42,25 @@ HasCyclesLeft Measuring cycles = Unit {0}
 -- how many copies may be owed: 64 messages, or 63 while a window is open
 abbrev pub copies_at_most : Option WindowState → ℕ
 copies_at_most None = 192
-copies_at_most (Some w) = 189
+copies_at_most (Some window) = 189
 
 -- what each state of each run keeps
-pub record IsSound (p : PortState) : Type 0 where
+pub record IsSound (port : PortState) : Type 0 where
   -- no two units have one ONU-ID
-  pub apart : (s t : Serial) (q r : Row) → HasRow p.rows s q → HasRow p.rows t r → q.onu ≡ r.onu → s ≡ t
+  pub apart : (serial other : Serial) (row other_row : Row) → HasRow port.rows serial row → HasRow port.rows other other_row → row.onu ≡ other_row.onu → serial ≡ other
   -- each ONU-ID is 0 to 253
-  pub low : (s : Serial) (r : Row) → HasRow p.rows s r → r.onu ≤ 253
+  pub low : (serial : Serial) (row : Row) → HasRow port.rows serial row → row.onu ≤ 253
   -- each active unit is admitted
-  pub admitted : (s : Serial) (r : Row) → HasRow p.rows s r → Contains p.config.admitted s
+  pub admitted : (serial : Serial) (row : Row) → HasRow port.rows serial row → Contains port.config.admitted serial
   -- each unit's counts are in their ranges
-  pub counted : (s : Serial) (r : Row) → HasRow p.rows s r → IsCounted r.phase
+  pub counted : (serial : Serial) (row : Row) → HasRow port.rows serial row → IsCounted row.phase
   -- no more units are active than may be
-  pub few : rows_of p ≤ p.config.max_units
+  pub few : rows_of port ≤ port.config.max_units
   -- no more copies are owed than there is room for
-  pub owed : length p.owed ≤ copies_at_most p.window
+  pub owed : length port.owed ≤ copies_at_most port.window
   -- the open window asks units in the right phase
-  pub asked : IsAsked p.rows p.window
-  pub left : HasFramesLeft p.window
+  pub asked : IsAsked port.rows port.window
+  pub left : HasFramesLeft port.window
   -- the timer is below the search period, or 0 where that is 0
-  pub timed : p.timer ≤ p.config.search_period - 1
-  pub cycled : HasCyclesLeft p.common p.config.cycles
+  pub timed : port.timer ≤ port.config.search_period - 1
+  pub cycled : HasCyclesLeft port.common port.config.cycles

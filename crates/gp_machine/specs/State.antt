@@ -17,8 +17,8 @@ abbrev pub Rows : Type 0
 Rows = FinMap serial_cmp Row
 
 -- all that a port knows: its configuration, its unit table, the state that all its units share, whether a
--- search is wanted, the frames since the last search began by itself, the open window, and the copies of
--- messages still to be sent, in order
+-- search is wanted, the frames in standby since a search was last wanted by itself, the open window, and the
+-- copies of messages still to be sent, in order
 pub record PortState : Type 0 where
   pub config : PortConfig
   pub rows : Rows
@@ -30,15 +30,15 @@ pub record PortState : Type 0 where
 
 -- a port that was just opened: no units, in standby, nothing wanted, open or owed
 abbrev pub opening_of : PortConfig → PortState
-opening_of c = record { config = c; rows = empty; common = Standby; wanted = false; timer = 0; window = None; owed = [] }
+opening_of config = record { config = config; rows = empty; common = Standby; wanted = false; timer = 0; window = None; owed = [] }
 
 -- how many units are active
 abbrev pub rows_of : PortState → ℕ
-rows_of p = len p.rows
+rows_of port = len port.rows
 
 -- the unit with this serial number is active, and has this row
 abbrev pub HasRow : Rows → Serial → Row → Type 0
-HasRow rows s row = get rows s ≡ Some row
+HasRow rows serial row = get rows serial ≡ Some row
 
 abbrev pub IsRanging : Phase → Type 0
 IsRanging (Ranging attempts seen) = Unit {0}
@@ -46,15 +46,15 @@ IsRanging (Operating eqd dark garbled) = ⊥
 
 -- the unit with this ONU-ID is ranging
 abbrev pub Ranges : Rows → ℕ → Type 0
-Ranges rows n = (s : Serial) × (row : Row) × HasRow rows s row × IsRanging row.phase × (row.onu ≡ n)
+Ranges rows onu = (serial : Serial) × (row : Row) × HasRow rows serial row × IsRanging row.phase × (row.onu ≡ onu)
 
 -- the least ONU-ID of a ranging unit, or none where no unit is ranging
 abbrev pub IsLeastRanging : Rows → Option ℕ → Type 0
-IsLeastRanging rows None = (n : ℕ) → Ranges rows n → ⊥
-IsLeastRanging rows (Some n) = Ranges rows n × ((m : ℕ) → Ranges rows m → n ≤ m)
+IsLeastRanging rows None = (onu : ℕ) → Ranges rows onu → ⊥
+IsLeastRanging rows (Some onu) = Ranges rows onu × ((other : ℕ) → Ranges rows other → onu ≤ other)
 
 -- a new unit may get this ONU-ID: it is at most 253, there is room for a further unit, and no unit has it
-pub record IsFree (p : PortState) (n : ℕ) : Type 0 where
-  pub low : n ≤ 253
-  pub room : rows_of p < p.config.max_units
-  pub unused : (s : Serial) (row : Row) → HasRow p.rows s row → row.onu ≡ n → ⊥
+pub record IsFree (port : PortState) (onu : ℕ) : Type 0 where
+  pub low : onu ≤ 253
+  pub room : rows_of port < port.config.max_units
+  pub unused : (serial : Serial) (row : Row) → HasRow port.rows serial row → row.onu ≡ onu → ⊥

@@ -16,23 +16,26 @@ use Rattle.gp_machine.specs.Commands.{command_outcome}
 
 -- the message that thirteen octets are read as, or None where their check octet is wrong
 abbrev pub Hears : ℕ → List ℕ → Option Up → Type 0
-Hears mask bytes (Some m) = ReadsUp bytes mask m
+Hears mask bytes (Some message) = ReadsUp bytes mask message
 Hears mask bytes None = HasRightCheck bytes mask → ⊥
 
 -- the ONU-ID that a reply hands out, or 0 where it hands out none
-abbrev pub number_in : Reply → ℕ
-number_in (Found n) = n
-number_in _ = 0
+abbrev pub onu_id_in : Reply → ℕ
+onu_id_in (Found onu) = onu
+onu_id_in _ = 0
 
 -- the ONU-ID that a reply hands out was free
 abbrev pub HandsOutFree : PortState → Reply → Type 0
-HandsOutFree p (Found n) = IsFree p n
-HandsOutFree p _ = Unit {0}
+HandsOutFree port (Found onu) = IsFree port onu
+HandsOutFree port _ = Unit {0}
 
--- With u licences in the purse the event may lead from the state p to this outcome. A new unit may get any
--- free ONU-ID, which the reply names; all else is determined.
+-- With so many licences in the purse the event may lead from this state to this outcome. A new unit may get
+-- any free ONU-ID, which the reply names; all else is determined.
 abbrev pub Step : ℕ → PortState → Event → Outcome → Type 0
-Step u p Frame o = (ranging : Option ℕ) × IsLeastRanging p.rows ranging × (o ≡ frame_outcome u p ranging)
-Step u p (Burst at bytes) o =
-    (heard : Option Up) × Hears (mask_value p.config.mask) bytes heard × HandsOutFree p o.answer.reply × (o ≡ burst_outcome u p at heard (number_in o.answer.reply))
-Step u p (Command c) o = o ≡ command_outcome u p c
+Step licences port Frame outcome = (ranging : Option ℕ) × IsLeastRanging port.rows ranging × (outcome ≡ frame_outcome licences port ranging)
+Step licences port (Burst round_trip bytes) outcome =
+    (heard : Option Up)
+    × Hears (mask_value port.config.mask) bytes heard
+    × HandsOutFree port outcome.answer.reply
+    × (outcome ≡ burst_outcome licences port round_trip heard (onu_id_in outcome.answer.reply))
+Step licences port (Command command) outcome = outcome ≡ command_outcome licences port command

@@ -1,5 +1,6 @@
--- Runs that were worked out by hand. The port admits two units, has one search window for an acquisition, and
--- makes up delays to 311,040 bit times; its check octets are plain. One licence is at hand for each step.
+-- Runs that were worked out by hand (this profile's own examples of G.984.3, clause 10). The port admits two
+-- units, has one search window for an acquisition, and makes up delays to 311,040 bit times; its check octets are
+-- plain. One licence is at hand for each step.
 use Rattle.std.specs.Prelude.{◌≡◌, ℕ, List, [], ◌∷◌, ◌++◌, None, Some, replicate}
 use Rattle.gp_ploam.specs.declared.check.Mask.TheVariants.{Plain}
 use Rattle.gp_ploam.specs.declared.message.Serial.{Serial}
@@ -18,6 +19,7 @@ use Rattle.gp_machine.specs.declared.row.Phase.TheVariants.{Operating}
 use Rattle.gp_machine.specs.State.{PortState, HasRow, opening_of}
 use Rattle.gp_machine.specs.Outcomes.{bare_answer}
 use Rattle.gp_machine.specs.Run.{Run}
+use Rattle.gp_machine.specs.Messages.{three_times}
 
 -- ABCD00000001 and ABCD00000002
 abbrev pub serial_a : Serial
@@ -90,9 +92,11 @@ abbrev pub OneUnit : Type 0
 OneUnit =
     (q : PortState) × Run (opening_of (config_with 0)) (search ++ find_a ++ range_a) q × HasRow q.rows serial_a (record { onu = 0; phase = Operating 211040 0 0 })
 
--- a unit that is heard again is not told its ONU-ID once more while it is still to be told it
+-- a unit that is heard again is not told its ONU-ID once more while it is still to be told it: what is owed in the
+-- end is Assign_ONU-ID to each of the two units, three times
 abbrev pub RepeatedAnswer : Type 0
-RepeatedAnswer = (q : PortState) × Run (opening_of (config_with 0)) (search ++ find_both) q
+RepeatedAnswer =
+    (q : PortState) × Run (opening_of (config_with 0)) (search ++ find_both) q × (q.owed ≡ three_times (AssignOnu 0 serial_a ∷ AssignOnu 1 serial_b ∷ []))
 
 -- with a search period of five frames the fifth frame begins an acquisition, and the sixth sends the first
 -- Upstream_Overhead

@@ -1,6 +1,5 @@
 ghost use Rattle.std.specs.Prelude.{◌≡◌, ◌↔◌, IfOk, IsTrue, length};
-ghost use Rattle.std.specs.List.{list_any};
-ghost use Rattle.gp_ploam.specs.Serials.{same_serial};
+ghost use Rattle.gp_ploam.specs.Serials as spec;
 ghost use Rattle.gp_machine.specs.Config.{is_distinct};
 
 use gp_ploam::Serial;
@@ -39,12 +38,14 @@ impl Admitted {
         serials
     }
 
+    /// The serial numbers, in the order in which they were given.
     pub fn as_slice(&self) -> &[Serial]
         ensures { result.now ≡ self.now }
     {
         &self.serials
     }
 
+    /// How many serial numbers the list has.
     pub fn len(&self) -> usize
         ensures { result ≡ length self.now }
     {
@@ -53,7 +54,7 @@ impl Admitted {
 
     /// Whether a unit with this serial number may be activated on the port.
     pub fn contains(&self, serial: &Serial) -> bool
-        ensures { result ≡ list_any (same_serial serial.now) self.now }
+        ensures { result ≡ spec.is_among serial.now self.now }
     {
         is_among(serial, &self.serials)
     }
@@ -65,12 +66,14 @@ impl Admitted {
         are_distinct(&self.serials)
     }
 
+    /// Whether both lists have the same serial numbers in the same order.
     pub fn same_as(&self, other: &Admitted) -> bool
         ensures { IsTrue result ↔ (self.now ≡ other.now) }
     {
         self.serials.as_slice() == other.serials.as_slice()
     }
 
+    /// A second list with the same serial numbers. Fails only where there is no memory.
     pub fn copy(&self, alloc: Global) -> Result<Admitted, AllocError>
         ensures { IfOk result (λ copy. copy ≡ self.now) }
     {
@@ -79,8 +82,9 @@ impl Admitted {
     }
 }
 
-fn is_among(serial: &Serial, serials: &[Serial]) -> bool
-    ensures { result ≡ list_any (same_serial serial.now) serials.now }
+/// Whether the serial number is one of these.
+pub fn is_among(serial: &Serial, serials: &[Serial]) -> bool
+    ensures { result ≡ spec.is_among serial.now serials.now }
 {
     serials.iter().any(|other| *serial == *other)
 }

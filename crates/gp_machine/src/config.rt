@@ -40,6 +40,7 @@ impl PortConfig {
             && self.admitted.is_distinct()
     }
 
+    /// Whether both configurations agree in every field.
     pub fn same_as(&self, other: &PortConfig) -> bool
         ensures { IsTrue result ↔ (self.now ≡ other.now) }
     {
@@ -53,6 +54,8 @@ impl PortConfig {
             && self.admitted.same_as(&other.admitted)
     }
 
+    /// A second configuration with the same fields. Fails only where there is no memory for the list of
+    /// admitted serial numbers.
     pub fn copy(&self, alloc: Global) -> Result<PortConfig, AllocError>
         ensures { IfOk result (λ copy. copy ≡ self.now) }
     {

@@ -13,7 +13,7 @@ mod reply;
 mod row;
 mod runs;
 
-pub use admitted::Admitted;
+pub use admitted::{Admitted, is_among};
 pub use answer::Answer;
 pub use config::PortConfig;
 pub use entry::{Entry, Receipt};

@@ -1,6 +1,6 @@
 ghost use Rattle.gp_machine.specs.Runs.{RunsInParts, EveryStateIsSound, KeepsConfiguration, RunsKeepLicences};
 ghost use Rattle.gp_machine.specs.OnuIds.{NoSharedOnuId, OnlyAdmittedUnits, AtMostMaxUnits, KeepsOnuIds, AssignsWhatUnitsHave, AssignsOneToOne};
-ghost use Rattle.gp_machine.specs.Messages.{EveryRunOwes, SendsEachThreeTimes, SendsWhatWasOwedFirst, KeepsProperMessages, SendsOnlyProperMessages};
+ghost use Rattle.gp_machine.specs.Messages.{EveryRunHasOwedMessages, SendsEachThreeTimes, SendsWhatWasOwedFirst, KeepsProperMessages, SendsOnlyProperMessages};
 ghost use Rattle.gp_machine.specs.Delays.{RangesWithWhatIsLeft, OperatesWithWhatWasMeasured};
 ghost use Rattle.gp_machine.specs.Worked.{OneUnit, RepeatedAnswer, PeriodicSearch, DelayLimits};
 
@@ -40,7 +40,7 @@ pub fn tells_each_unit_its_onu_id()
     ensures tells { AssignsWhatUnitsHave }
     ensures one_to_one { AssignsOneToOne }
 {
-    every_state_is_sound();
+    no_shared_onu_id();
 }
 
 /// The licences handed in along a run, and those of the units at its start, are as many as those handed
@@ -56,13 +56,13 @@ pub fn runs_keep_licences()
 pub fn sends_each_message_three_times()
     ensures opening { SendsEachThreeTimes }
     ensures any_start { SendsWhatWasOwedFirst }
-    ensures owes { EveryRunOwes }
+    ensures owes { EveryRunHasOwedMessages }
 {
     up_read_once();
 }
 
-/// A unit is ranged with what its round-trip delay leaves of the equalized round-trip delay, and each
-/// operating unit was.
+/// A unit is ranged with what its round-trip delay leaves of the equalized round-trip delay, and operates
+/// with it after that step; each operating unit was ranged so.
 pub fn ranged_with_what_is_left()
     ensures ranged { RangesWithWhatIsLeft }
     ensures operating { OperatesWithWhatWasMeasured }

@@ -1,5 +1,6 @@
 -- Serial numbers, compared (this profile's own rule: the standard gives them no order).
 use Rattle.std.specs.Prelude.{ℕ, Bool, List, refl, nat_eq}
+use Rattle.std.specs.List.{list_any}
 use Rattle.std.specs.Ordering.{nat_cmp}
 use Rattle.std.specs.declared.cmp.Ordering.{Ordering}
 use Rattle.std.specs.Cmp.Lexicographic.{slice_cmp, pointwise}
@@ -13,6 +14,10 @@ serial_cmp a b = slice_cmp nat_cmp a.0 b.0
 -- whether two serial numbers are one
 abbrev pub same_serial : Serial → Serial → Bool
 same_serial a b = pointwise nat_eq a.0 b.0
+
+-- the serial number is one of these
+abbrev pub is_among : Serial → List Serial → Bool
+is_among serial serials = list_any (same_serial serial) serials
 
 -- a serial number is stored as its octets
 abbrev pub coded_serial : Coded Serial

@@ -1,10 +1,9 @@
 -- What keeps a port core's invariant.
 use Rattle.std.proofs.Common.{◌≡◌, ℕ, ◌+◌, ◌≤◌, true, Option, None, refl, sym, ap, subst, ◌∙◌, arith, []}
-use Rattle.std.specs.List.{list_any}
 use Rattle.std.specs.FinMap.{get, len-empty}
 use Rattle.std.proofs.lemmas.Bool.{leb-true}
 use Rattle.gp_ploam.specs.declared.message.Serial.{Serial}
-use Rattle.gp_ploam.specs.Serials.{serial_cmp, same_serial}
+use Rattle.gp_ploam.specs.Serials.{serial_cmp, is_among}
 use Rattle.gp_machine.specs.declared.config.PortConfig.{PortConfig}
 use Rattle.gp_machine.specs.declared.row.Phase.TheVariants.{Operating}
 use Rattle.gp_machine.specs.declared.row.Row.{Row}
@@ -54,7 +53,7 @@ kept_again p held s n h room undirected known =
 
 -- a new unit becomes active with one more licence
 pub kept_new : (p : PortState) (held one : ℕ) (s : Serial) (n : ℕ) → IsKept p held → one ≡ 1 → has_room p ≡ true → ((rows : Rows) → IsAsked rows p.window)
-    → list_any (same_serial s) p.config.admitted ≡ true → get p.rows s ≡ None → IsFree p n → IsKept (state_assigned p s n) (held + one)
+    → is_among s p.config.admitted ≡ true → get p.rows s ≡ None → IsFree p n → IsKept (state_assigned p s n) (held + one)
 kept_new p held one s n h is_one room undirected admitted unknown free =
     let more = len-new p.rows s (new_row n) unknown in
     let same = h.licences in

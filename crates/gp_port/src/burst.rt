@@ -1,8 +1,7 @@
 ghost use Rattle.std.specs.Prelude.{◌≡◌, ℕ, ◌<◌, ◌≤◌, true, None};
 ghost use Rattle.std.specs.FinMap as map;
-ghost use Rattle.std.specs.List.{list_any};
 ghost use Rattle.gp_ploam.specs.declared.message.Serial.{Serial};
-ghost use Rattle.gp_ploam.specs.Serials.{same_serial};
+ghost use Rattle.gp_ploam.specs.Serials.{is_among};
 ghost use Rattle.gp_machine.specs.declared.row.Row.{Row};
 ghost use Rattle.gp_machine.specs.State.{HasRow, IsFree, Rows};
 ghost use Rattle.gp_machine.specs.Sound.{IsAsked};
@@ -11,7 +10,7 @@ ghost use Rattle.gp_machine.specs.Outcomes.{outcome_of, refused_burst, state_see
 ghost use Rattle.gp_machine.specs.Burst as machine;
 ghost use Rattle.gp_machine.specs.Burst.{active_outcome, again_outcome, asked_outcome, burst_outcome, measured_outcome, newcomer_outcome, range_outcome, search_outcome, serial_outcome, state_assigned, state_ranged};
 ghost use Rattle.gp_machine.specs.declared.event.Event.TheVariants as event;
-ghost use Rattle.gp_machine.specs.Step.{HandsOutFree, Step, number_in};
+ghost use Rattle.gp_machine.specs.Step.{HandsOutFree, Step, onu_id_in};
 
 use super::port_core::PortCore;
 use super::windows::put_window;
@@ -51,7 +50,7 @@ impl<L: Ledger> PortCore<L> {
     /// A burst that is read as this message, or whose check octet is wrong.
     fn receive(&mut self, purse: Licences<L>, at: u32, heard: Option<Up>) -> (Answer, Licences<L>)
         ensures free { HandsOutFree self.old result.0.reply }
-        ensures outcome { outcome_of result self.new ≡ burst_outcome purse self.old at heard (number_in result.0.reply) }
+        ensures outcome { outcome_of result self.new ≡ burst_outcome purse self.old at heard (onu_id_in result.0.reply) }
     {
         let Some(window) = &self.window else {
             return (bare_answer(Reply::Refused(Refusal::Stray)), purse);
@@ -84,7 +83,7 @@ impl<L: Ledger> PortCore<L> {
         (bare_answer(Reply::Refused(refusal)), purse)
     }
 
-    /// Whether a burst or a command may owe a message.
+    /// Whether a burst may owe a message: with it at most 189 copies are owed (this profile's own rule).
     fn has_room(&self) -> bool
         ensures { result ≡ spec.has_room self.now }
     {
@@ -95,7 +94,7 @@ impl<L: Ledger> PortCore<L> {
     fn hear_in_search(&mut self, purse: Licences<L>, message: Up) -> (Answer, Licences<L>)
         requires undirected { (rows : Rows) → IsAsked rows self.old.window }
         ensures free { HandsOutFree self.old result.0.reply }
-        ensures outcome { outcome_of result self.new ≡ search_outcome purse self.old (number_in result.0.reply) message }
+        ensures outcome { outcome_of result self.new ≡ search_outcome purse self.old (onu_id_in result.0.reply) message }
     {
         match message {
             Up::SerialNumber {
@@ -111,7 +110,7 @@ impl<L: Ledger> PortCore<L> {
     fn search(&mut self, purse: Licences<L>, serial: Serial) -> (Answer, Licences<L>)
         requires undirected { (rows : Rows) → IsAsked rows self.old.window }
         ensures free { HandsOutFree self.old result.0.reply }
-        ensures outcome { outcome_of result self.new ≡ serial_outcome purse self.old serial (number_in result.0.reply) }
+        ensures outcome { outcome_of result self.new ≡ serial_outcome purse self.old serial (onu_id_in result.0.reply) }
     {
         if !self.config.admitted.contains(&serial) {
             return self.refuse(purse, Refusal::NotAdmitted);
@@ -124,11 +123,11 @@ impl<L: Ledger> PortCore<L> {
 
     /// An admitted unit that is not active.
     fn meet(&mut self, purse: Licences<L>, serial: Serial) -> (Answer, Licences<L>)
-        requires admitted { list_any (same_serial serial) self.old.config.admitted ≡ true }
+        requires admitted { is_among serial self.old.config.admitted ≡ true }
         requires undirected { (rows : Rows) → IsAsked rows self.old.window }
         requires unknown { map.get self.old.rows serial ≡ None }
         ensures free { HandsOutFree self.old result.0.reply }
-        ensures outcome { outcome_of result self.new ≡ newcomer_outcome purse self.old serial (number_in result.0.reply) }
+        ensures outcome { outcome_of result self.new ≡ newcomer_outcome purse self.old serial (onu_id_in result.0.reply) }
     {
         if self.table.len() >= self.config.max_units as usize {
             return self.refuse(purse, Refusal::NoId);
@@ -150,7 +149,7 @@ impl<L: Ledger> PortCore<L> {
         requires one { one ≡ 1 }
         requires room { spec.has_room self.old ≡ true }
         requires undirected { (rows : Rows) → IsAsked rows self.old.window }
-        requires admitted { list_any (same_serial serial) self.old.config.admitted ≡ true }
+        requires admitted { is_among serial self.old.config.admitted ≡ true }
         requires unknown { map.get self.old.rows serial ≡ None }
         requires free { IsFree self.old onu }
         ensures { self.new ≡ state_assigned self.old serial onu }

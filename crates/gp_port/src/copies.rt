@@ -1,8 +1,8 @@
-ghost use Rattle.std.specs.Prelude.{◌≡◌, ◌+◌, ◌≤◌, [], ◌∷◌, ◌++◌, length, IfOk, is_none};
+ghost use Rattle.std.specs.Prelude.{◌≡◌, ◌+◌, ◌≤◌, [], ◌∷◌, ◌++◌, drop, length, IfOk, is_none};
 ghost use Rattle.std.specs.Option.{ForSome};
 ghost use Rattle.std.specs.List.{list_any};
 ghost use Rattle.gp_ploam.specs.Down.{IsProperDown};
-ghost use Rattle.gp_machine.specs.Frame.{first_of, rest_of};
+ghost use Rattle.gp_machine.specs.Frame.{first_of};
 ghost use Rattle.gp_machine.specs.Burst.{is_assign};
 
 use gp_ploam::{Down, Serial};
@@ -65,7 +65,7 @@ impl Copies {
     /// Takes out the first copy.
     pub fn send_one(&mut self) -> Option<Down>
         ensures first { result ≡ first_of self.old }
-        ensures rest { self.new ≡ rest_of self.old }
+        ensures rest { self.new ≡ drop 1 self.old }
         ensures proper { ForSome result IsProperDown }
     {
         self.copies.pop_front()

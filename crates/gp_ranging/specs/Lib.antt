@@ -1,1 +1,2 @@
+pub mod Delay
 pub mod Window

@@ -4,7 +4,7 @@ use Rattle.std.specs.List.{list_any}
 use Rattle.toml.specs.Data.{Data, string, table, Items, no_items, item, Members}
 use Rattle.gp_ploam.specs.declared.check.Mask.{Mask}
 use Rattle.gp_ploam.specs.declared.message.Serial.{Serial}
-use Rattle.gp_ploam.specs.Serials.{same_serial}
+use Rattle.gp_ploam.specs.Serials.{is_among}
 use Rattle.gp_machine.specs.declared.config.PortConfig.{PortConfig}
 use Rattle.gp_script.specs.declared.fault.ScriptFault.{ScriptFault}
 use Rattle.gp_script.specs.declared.fault.ScriptFault.TheVariants as fault
@@ -39,13 +39,9 @@ port_shape ms = do
   _ ← needs fault.Shape (are_texts admit)
   Ok (record { teqd = teqd; max_units = max_units; alloc_last = alloc_last; cycles = cycles; search_period = search_period; overhead = overhead; admit = admit })
 
--- the serial number is one of these
-abbrev pub is_among : Serial → List Serial → Bool
-is_among s serials = list_any (λ t. same_serial t s) serials
-
 -- the serial number is admitted on one of these ports
 abbrev pub is_admitted : Serial → List PortConfig → Bool
-is_admitted s ports = list_any (λ p. is_among s p.admitted) ports
+is_admitted serial ports = list_any (λ port. is_among serial port.admitted) ports
 
 -- the serial number of a text of `admit`, new on this port and the ports before it
 unfoldable pub new_serial : List PortConfig → List Serial → Data → Result Serial ScriptFault

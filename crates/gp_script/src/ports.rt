@@ -1,7 +1,6 @@
 ghost use Rattle.std.specs.Prelude.{◌≡◌, [], ◌≤◌, length, option_map, IfOk, IsTrue, All, false, vec_len};
-ghost use Rattle.std.specs.List.{list_any};
 ghost use Rattle.toml.specs.View.{table_view, items_view, view};
-ghost use Rattle.gp_ploam.specs.Serials.{same_serial};
+ghost use Rattle.gp_ploam.specs.Serials as serial_lists;
 ghost use Rattle.gp_machine.specs.Config.{is_distinct, is_within_limits};
 ghost use Rattle.gp_script.specs.Fault.{Gives, Sees};
 ghost use Rattle.gp_script.specs.Port as spec;
@@ -10,7 +9,7 @@ ghost use Rattle.gp_script.specs.View.{port_keys_view};
 use crate::fault::{ScriptError, ScriptFault};
 use crate::keys::{are_texts, has_only, list_at, needs, number_at, text_at};
 use crate::values::{count_in, in_range_or, overhead_octets, serial_of};
-use gp_machine::{Admitted, PortConfig};
+use gp_machine::{Admitted, PortConfig, is_among};
 use gp_ploam::{Mask, Serial};
 use std::alloc::Global;
 use toml::{Table, Value};
@@ -62,19 +61,12 @@ fn port_keys(table: &Table) -> Result<PortKeys<'_>, ScriptFault>
     })
 }
 
-/// Whether the serial number is one of these.
-fn is_among(serial: Serial, serials: &[Serial]) -> bool
-    ensures { result ≡ spec.is_among serial serials.now }
-{
-    serials.iter().any(|other| *other == serial)
-}
-
 /// Whether one of the ports admits the serial number.
 fn is_admitted(serial: Serial, ports: &[PortConfig]) -> bool
     ensures { result ≡ spec.is_admitted serial ports.now }
 {
     for port in ports {
-        if is_among(serial, port.admitted.as_slice()) {
+        if port.admitted.contains(&serial) {
             return true;
         }
     }
@@ -85,13 +77,13 @@ fn is_admitted(serial: Serial, ports: &[PortConfig]) -> bool
 #[tactic(auto, unfolding(crate::specs::Port::new_serial))]
 fn new_serial(ports: &[PortConfig], before: &[Serial], value: &Value) -> Result<Serial, ScriptFault>
     ensures value { result ≡ spec.new_serial ports.now before.now (view value.now) }
-    ensures new { IfOk result (λ serial. spec.is_among serial before.now ≡ false) }
+    ensures new { IfOk result (λ serial. serial_lists.is_among serial before.now ≡ false) }
 {
     let Some(text) = value.as_str() else {
         return Err(ScriptFault::Shape);
     };
     let serial = serial_of(text)?;
-    let admitted = is_among(serial, before) || is_admitted(serial, ports);
+    let admitted = is_among(&serial, before) || is_admitted(serial, ports);
     needs(ScriptFault::Duplicate, !admitted)?;
     Ok(serial)
 }
