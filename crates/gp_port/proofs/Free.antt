@@ -1,8 +1,12 @@
 -- ONU-IDs that no row has.
-use Rattle.std.proofs.Common.{◌≡◌, ℕ, zero, suc, ◌+◌, ◌<◌, ◌≤◌, Bool, true, false, eqb, ltb, cond, [], ◌∷◌, length, Some, inl, inr, refl, sym, ap, subst, ◌∙◌, arith, ◌||◌, eq-eqb}
-use Rattle.std.proofs.lemmas.Bool.{cases_Bool, false≢true}
+use Rattle.std.proofs.Common.{◌≡◌, ℕ, zero, suc, ◌+◌, ◌<◌, ◌≤◌, Bool, true, false, eqb, ltb, cond, List, [], ◌∷◌, length, take, get_or, Some, ◌⊎◌, inl, inr, refl, sym, ap, subst, ◌∙◌, arith, ◌||◌, eq-eqb}
+use Rattle.std.proofs.lemmas.Bool.{cases_Bool, false≢true, eqb-true}
 use Rattle.std.proofs.lemmas.Bool.Decides.{nat_tests}
 use Rattle.std.specs.List.{list_any}
+use Rattle.std.proofs.Math.Bool.{or-true, or-false}
+use Rattle.std.proofs.Math.ListN.{set}
+use Rattle.std.proofs.lemmas.List.{get_or-set_same, get_or-set_other}
+use Rattle.std.proofs.lemmas.List.Folds.{list_any_more}
 use Rattle.std.specs.FinMap.{from_entries, get-from_entries}
 use Rattle.gp_ploam.specs.declared.message.Serial.{Serial}
 use Rattle.gp_machine.specs.declared.row.Row.{Row}
@@ -63,6 +67,24 @@ all_below (suc n) es h =
 -- fewer rows than numbers leave a number free
 pub too_few : (n : ℕ) (es : Entries) → ((k : ℕ) → k < n → list_any (λ (e : Serial × Row). eqb e.1.onu k) es ≡ true) → n ≤ length es
 too_few n es h = let a = all_below n es h in let b = below-le n es in omega arith
+
+-- one more row is marked
+pub marked_more : (used : List Bool) (rows : Entries) (i : ℕ) (d : Serial × Row) → length used ≡ 256 → i < length rows → (get_or rows i d).1.onu < 256
+    → ((n : ℕ) → n < 256 → get_or used n false ≡ list_any (λ (e : Serial × Row). eqb e.1.onu n) (take i rows))
+    → (n : ℕ) → n < 256 → get_or (set used (get_or rows i d).1.onu true) n false ≡ list_any (λ (e : Serial × Row). eqb e.1.onu n) (take (i + 1) rows)
+marked_more used rows i d long in_rows octet marked n small = here (cases_Bool (eqb k n)) ∙ sym (list_any_more (λ (e : Serial × Row). eqb e.1.onu n) rows i d in_rows)
+  where
+    k : ℕ
+    k = (get_or rows i d).1.onu
+
+    here : (eqb k n ≡ true) ⊎ (eqb k n ≡ false) → get_or (set used k true) n false ≡ (list_any (λ (e : Serial × Row). eqb e.1.onu n) (take i rows) || eqb k n)
+    here (inl t) =
+        let same : n ≡ k = sym (eqb-true k n t) in
+        ap (λ j. get_or (set used k true) j false) same ∙ get_or-set_same used k true false (omega arith)
+        ∙ sym (ap (λ b. list_any (λ (e : Serial × Row). eqb e.1.onu n) (take i rows) || b) t ∙ or-true _)
+    here (inr f) =
+        get_or-set_other used k n true false (λ e. false≢true (sym f ∙ eq-eqb k n (sym e))) ∙ marked n small
+        ∙ sym (ap (λ b. list_any (λ (e : Serial × Row). eqb e.1.onu n) (take i rows) || b) f ∙ or-false _)
 
 -- what no row of the list has, no row of the map has
 pub unused_in_map : (n : ℕ) (es : Entries) → list_any (λ (e : Serial × Row). eqb e.1.onu n) es ≡ false → (s : Serial) (row : Row) → HasRow (from_entries {R = serial_cmp} es) s row → row.onu ≡ n → ⊥

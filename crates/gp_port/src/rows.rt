@@ -1,4 +1,4 @@
-ghost use Rattle.std.specs.Prelude.{◌≡◌, ℕ, ◌+◌, ◌<◌, ◌≤◌, ◌==◌, false, position, length, vec_len, vec_capacity};
+ghost use Rattle.std.specs.Prelude.{◌≡◌, ℕ, ◌+◌, ◌<◌, ◌≤◌, ◌==◌, false, get_or, position, length, vec_len, vec_capacity};
 ghost use Rattle.std.specs.FinMap as map;
 ghost use Rattle.std.specs.List.{list_any};
 ghost use Rattle.gp_ploam.specs.declared.message.Serial.{Serial};
@@ -64,11 +64,15 @@ pub fn least_ranging(rows: &[(Serial, Row)]) -> Option<u8>
     least
 }
 
-/// Whether a row has this ONU-ID.
-fn is_used(rows: &[(Serial, Row)], onu: u8) -> bool
-    ensures { result ≡ list_any (λ e. e.1.onu == onu) rows.now }
+/// For each octet, whether a row has it as its ONU-ID.
+fn used_octets(rows: &[(Serial, Row)]) -> [bool; 256]
+    ensures { (onu : ℕ) → onu < 256 → get_or result onu false ≡ list_any (λ e. e.1.onu == onu) rows.now }
 {
-    rows.iter().any(|entry| entry.1.onu == onu)
+    let mut used = [false; 256];
+    for entry in rows {
+        used[entry.1.onu as usize] = true;
+    }
+    used
 }
 
 /// An ONU-ID that no row has: the least one.
@@ -77,8 +81,9 @@ pub fn free_onu(rows: &[(Serial, Row)]) -> u8
     ensures low { result ≤ 253 }
     ensures unused { list_any (λ e. e.1.onu == result) rows.now ≡ false }
 {
+    let used = used_octets(rows);
     for onu in 0..254u8 {
-        if !is_used(rows, onu) {
+        if !used[onu as usize] {
             return onu;
         }
     }
