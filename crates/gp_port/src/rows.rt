@@ -26,22 +26,30 @@ pub fn row_of(rows: &[(Serial, Row)], serial: &Serial) -> Option<Row>
     }
 }
 
-/// Gives a serial number this row.
-pub fn put_row(rows: &mut Vec<(Serial, Row)>, serial: Serial, row: Row)
+/// Gives a serial number this row, and hands back the row that it had.
+pub fn put_row(rows: &mut Vec<(Serial, Row)>, serial: Serial, row: Row) -> Option<Row>
     requires apart { IsApart rows.old.items }
     requires room { map.find serial_cmp serial rows.old.items ≡ None → vec_len rows.old < vec_capacity rows.old }
     ensures rows { map.from_entries {R = serial_cmp} rows.new.items ≡ map.insert (map.from_entries rows.old.items) serial row }
+    ensures replaced { result ≡ map.find serial_cmp serial rows.old.items }
     ensures apart { IsApart rows.new.items }
     ensures capacity { vec_capacity rows.new ≡ vec_capacity rows.old }
 {
     match place_of(rows, &serial) {
-        Some(place) => rows[place] = (serial, row),
-        None => rows.push_reserved((serial, row)),
+        Some(place) => {
+            let replaced = rows[place].1;
+            rows[place] = (serial, row);
+            Some(replaced)
+        }
+        None => {
+            rows.push_reserved((serial, row));
+            None
+        }
     }
 }
 
 /// The lesser of an ONU-ID and that of a row, if its unit is ranging.
-fn lesser(least: Option<u8>, row: Row) -> Option<u8>
+pub fn lesser(least: Option<u8>, row: Row) -> Option<u8>
     ensures { result ≡ lesser_of least row }
 {
     match row.phase {
