@@ -1,4 +1,4 @@
-ghost use Rattle.std.specs.Prelude.{◌≡◌, ◌+◌, false, true, [], length, IfOk, IsErrOf, ◌↔◌};
+ghost use Rattle.std.specs.Prelude.{◌≡◌, ◌+◌, ◌≤◌, false, true, [], length, IfOk, IsErrOf, ◌↔◌};
 ghost use Rattle.std.specs.FinMap as map;
 ghost use Rattle.std.specs.Option.{ForSome};
 ghost use Rattle.gp_ploam.specs.Down.{IsProperDown};
@@ -114,7 +114,8 @@ impl<L: Ledger> PortCore<L> {
 
     /// How many copies of messages are still to be sent, at most 192.
     pub fn owed(&self) -> usize
-        ensures { result ≡ length self.now.owed }
+        ensures owed { result ≡ length self.now.owed }
+        ensures most { result ≤ 192 }
     {
         self.owed.len()
     }

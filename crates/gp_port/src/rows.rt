@@ -9,6 +9,12 @@ ghost use Rattle.gp_ploam.specs.Serials.{same_serial, serial_cmp};
 use gp_machine::{Phase, Row};
 use gp_ploam::Serial;
 
+/// How many ONU-IDs a port has for its units: 0 to 253 (G.984.3, clause 9: 254 is reserved, 255 is broadcast).
+pub const ONU_IDS: u8 = 254;
+
+/// How many values an octet has.
+const OCTETS: usize = 256;
+
 /// Where the row of a serial number is.
 fn place_of(rows: &[(Serial, Row)], serial: &Serial) -> Option<usize>
     ensures { result ≡ position (λ e. same_serial serial.now e.0) rows.now }
@@ -73,10 +79,10 @@ pub fn least_ranging(rows: &[(Serial, Row)]) -> Option<u8>
 }
 
 /// For each octet, whether a row has it as its ONU-ID.
-fn used_octets(rows: &[(Serial, Row)]) -> [bool; 256]
-    ensures { (onu : ℕ) → onu < 256 → get_or result onu false ≡ list_any (λ e. e.1.onu == onu) rows.now }
+fn used_octets(rows: &[(Serial, Row)]) -> [bool; OCTETS]
+    ensures { (onu : ℕ) → onu < OCTETS → get_or result onu false ≡ list_any (λ e. e.1.onu == onu) rows.now }
 {
-    let mut used = [false; 256];
+    let mut used = [false; OCTETS];
     for entry in rows {
         used[entry.1.onu as usize] = true;
     }
@@ -85,12 +91,12 @@ fn used_octets(rows: &[(Serial, Row)]) -> [bool; 256]
 
 /// An ONU-ID that no row has: the least one.
 pub fn free_onu(rows: &[(Serial, Row)]) -> u8
-    requires { length rows.now < 254 }
-    ensures low { result ≤ 253 }
+    requires { length rows.now < ONU_IDS }
+    ensures low { result < ONU_IDS }
     ensures unused { list_any (λ e. e.1.onu == result) rows.now ≡ false }
 {
     let used = used_octets(rows);
-    for onu in 0..254u8 {
+    for onu in 0..ONU_IDS {
         if !used[onu as usize] {
             return onu;
         }

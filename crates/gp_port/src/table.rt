@@ -1,4 +1,4 @@
-ghost use Rattle.std.specs.Prelude.{◌≡◌, ℕ, ◌<◌, ◌≤◌, ◌≢◌, IfOk, vec_len, vec_capacity, IsSome, length, None, Some, false};
+ghost use Rattle.std.specs.Prelude.{◌≡◌, ℕ, ◌<◌, ◌≤◌, ◌≢◌, IfOk, vec_len, vec_capacity, IsSome, length, None, Some, true, false};
 ghost use Rattle.std.specs.FinMap as map;
 ghost use Rattle.gp_ploam.specs.declared.message.Serial.{Serial};
 ghost use Rattle.gp_machine.specs.declared.row.Row.{Row};
@@ -6,7 +6,7 @@ ghost use Rattle.gp_ploam.specs.Serials.{serial_cmp};
 ghost use Rattle.gp_machine.specs.State.{HasRow, IsLeastRanging};
 ghost use Rattle.gp_port.specs.Listed.{IsApart, lesser_of};
 
-use super::rows::{free_onu, least_ranging, lesser, put_row, row_of};
+use super::rows::{ONU_IDS, free_onu, least_ranging, lesser, put_row, row_of};
 use gp_machine::Row;
 use gp_ploam::Serial;
 use std::alloc::{AllocError, Global};
@@ -39,11 +39,11 @@ impl Model for UnitTable {
 }
 
 impl UnitTable {
-    /// An empty table with room for 254 units.
+    /// An empty table with room for as many units as there are ONU-IDs.
     pub fn begin(alloc: Global) -> Result<UnitTable, AllocError>
         ensures { IfOk result (λ t. t ≡ map.empty) }
     {
-        let rows = Vec::with_capacity(alloc, 254)?;
+        let rows = Vec::with_capacity(alloc, ONU_IDS as usize)?;
         Ok(UnitTable { rows, least: None })
     }
 
@@ -61,7 +61,7 @@ impl UnitTable {
 
     /// Gives a unit this row.
     pub fn put(&mut self, serial: Serial, row: Row)
-        requires { map.get self.old serial ≡ None → map.len self.old < 254 }
+        requires { map.get self.old serial ≡ None → map.len self.old < ONU_IDS }
         ensures { self.new ≡ map.insert self.old serial row }
     {
         let replaced = put_row(&mut self.rows, serial, row);
@@ -81,8 +81,8 @@ impl UnitTable {
 
     /// An ONU-ID that no unit has: the least one.
     pub fn free_onu(&self) -> u8
-        requires { map.len self.now < 254 }
-        ensures low { result ≤ 253 }
+        requires { map.len self.now < ONU_IDS }
+        ensures low { result < ONU_IDS }
         ensures unused { (s : Serial) (row : Row) → HasRow self.now s row → row.onu ≢ result }
     {
         free_onu(&self.rows)
@@ -91,7 +91,8 @@ impl UnitTable {
 
 /// Whether the replaced row had the least ONU-ID of a ranging unit, and the new row is not ranging with it.
 fn ends_least(least: Option<u8>, replaced: Option<Row>, row: Row) -> bool
-    ensures { (old : Row) → replaced ≡ Some old → least ≡ Some old.onu → result ≡ false → lesser_of None row ≡ least }
+    ensures only { result ≡ true → (old : Row) × (replaced ≡ Some old) × (least ≡ Some old.onu) × (lesser_of None row ≢ least) }
+    ensures stays { (old : Row) → replaced ≡ Some old → least ≡ Some old.onu → result ≡ false → lesser_of None row ≡ least }
 {
     match replaced {
         Some(old) => least == Some(old.onu) && lesser(None, row) != least,

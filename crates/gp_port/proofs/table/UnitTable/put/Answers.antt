@@ -29,5 +29,5 @@ invariant_of-self c =
           | else-ends_least w ↦
               rw (w.self-is, w.lesser-self-inside.ensures, c.put_row-replaced.ensures.rows)
               (least_after_put (map.from_entries c.self.inside.rows.items) c.self.inside.least c.args.serial c.args.row.onu c.args.row.phase c.self.invariant.2
-              (λ old has is. c.ends_least.ensures old (c.put_row-replaced.ensures.replaced ∙ sym (map.get-from_entries serials_total c.self.inside.rows.items c.args.serial) ∙ has) is w.if-ends_least.false))
+              (λ old has is. c.ends_least.ensures.stays old (c.put_row-replaced.ensures.replaced ∙ sym (map.get-from_entries serials_total c.self.inside.rows.items c.args.serial) ∙ has) is w.if-ends_least.false))
         ]
