@@ -85,7 +85,7 @@ impl<L: Ledger> PortCore<L> {
         (bare_answer(Reply::Refused(refusal)), purse)
     }
 
-    /// Whether a burst or a command may owe a message: room for the copies of one more is left to a frame's decision.
+    /// Whether a burst or a command may owe a message. It leaves room for the message of a frame's decision.
     fn has_room(&self) -> bool
         ensures { result ≡ spec.has_room self.now }
     {

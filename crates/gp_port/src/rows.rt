@@ -1,4 +1,4 @@
-ghost use Rattle.std.specs.Prelude.{◌≡◌, ℕ, ◌+◌, ◌<◌, ◌≤◌, ◌==◌, false, get_or, position, length, vec_len, vec_capacity};
+ghost use Rattle.std.specs.Prelude.{◌≡◌, ℕ, ◌+◌, ◌<◌, ◌≤◌, ◌==◌, true, false, get_or, position, length, vec_len, vec_capacity};
 ghost use Rattle.std.specs.FinMap as map;
 ghost use Rattle.std.specs.List.{list_any};
 ghost use Rattle.gp_ploam.specs.declared.message.Serial.{Serial};
@@ -9,7 +9,7 @@ ghost use Rattle.gp_ploam.specs.Serials.{same_serial, serial_cmp};
 use gp_machine::{Phase, Row};
 use gp_ploam::Serial;
 
-/// How many ONU-IDs a port has for its units: 0 to 253 (G.984.3, clause 9: 254 is reserved, 255 is broadcast).
+/// How many ONU-IDs there are for units: 0 to 253 (G.984.3, clause 9: 254 is reserved, 255 is broadcast).
 pub const ONU_IDS: u8 = 254;
 
 /// How many values an octet has.
@@ -94,6 +94,7 @@ pub fn free_onu(rows: &[(Serial, Row)]) -> u8
     requires { length rows.now < ONU_IDS }
     ensures low { result < ONU_IDS }
     ensures unused { list_any (λ e. e.1.onu == result) rows.now ≡ false }
+    ensures least { (onu : ℕ) → onu < result → list_any (λ e. e.1.onu == onu) rows.now ≡ true }
 {
     let used = used_octets(rows);
     for onu in 0..ONU_IDS {
