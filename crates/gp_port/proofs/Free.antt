@@ -1,5 +1,5 @@
 -- ONU-IDs that no row has.
-use Rattle.std.proofs.Common.{◌≡◌, ℕ, zero, suc, ◌+◌, ◌<◌, ◌≤◌, Bool, true, false, eqb, ltb, cond, List, [], ◌∷◌, length, take, get_or, Some, ◌⊎◌, inl, inr, refl, sym, ap, subst, ◌∙◌, arith, ◌||◌, eq-eqb}
+use Rattle.std.proofs.Common.{◌≡◌, ℕ, zero, suc, ◌+◌, ◌<◌, ◌≤◌, Bool, true, false, eqb, ltb, cond, List, [], ◌∷◌, length, take, get_or, None, Some, ◌⊎◌, inl, inr, refl, sym, ap, subst, ◌∙◌, arith, ◌||◌, eq-eqb}
 use Rattle.std.proofs.lemmas.Bool.{cases_Bool, false≢true, eqb-true}
 use Rattle.std.proofs.lemmas.Bool.Decides.{nat_tests}
 use Rattle.std.specs.List.{list_any}
@@ -12,6 +12,7 @@ use Rattle.gp_ploam.specs.declared.message.Serial.{Serial}
 use Rattle.gp_machine.specs.declared.row.Row.{Row}
 use Rattle.gp_ploam.specs.Serials.{serial_cmp, same_serial}
 use Rattle.gp_machine.specs.State.{HasRow}
+use Rattle.gp_port.specs.Listed.{IsApart}
 use Rattle.gp_ploam.proofs.Serials.{serials_total, same_serial-true}
 use Rattle.gp_port.proofs.Listing.{Entries, row_at, row_at-head, row_at-tail}
 
@@ -102,5 +103,25 @@ unused_in_map n es h s row has e = in_list es h (sym (get-from_entries serials_t
                     let i : x.1 ≡ row = cc in
                     false≢true (sym f ∙ eq-eqb x.1.onu n (ap (λ (r : Row). r.onu) i ∙ e))
                 | inr g ↦ in_list es (sym (ap (λ b. b || list_any (λ (e : Serial × Row). eqb e.1.onu n) es) f) ∙ h) (sym (row_at-tail s x es g) ∙ r)
+              ]
+        ]
+
+-- what a row of the list has, a row of the map has
+pub used_in_map : (n : ℕ) (es : Entries) → IsApart es → list_any (λ (e : Serial × Row). eqb e.1.onu n) es ≡ true → (s : Serial) × (row : Row) × HasRow (from_entries {R = serial_cmp} es) s row × (row.onu ≡ n)
+used_in_map n es a h = let w = listed es a h in (w.0, w.1, get-from_entries serials_total es w.0 ∙ w.2, w.3)
+  where
+    none_is_not_some : (r : Row) → None ≡ Some r → ⊥
+    none_is_not_some r f = cc
+
+    listed : (es : Entries) → IsApart es → list_any (λ (e : Serial × Row). eqb e.1.onu n) es ≡ true → (s : Serial) × (row : Row) × (row_at s es ≡ Some row) × (row.onu ≡ n)
+    listed [] a h = absurd (false≢true h)
+    listed (e ∷ es) a h =
+        elim (cases_Bool (eqb e.1.onu n)) [
+          | inl t ↦ (e.0, e.1, row_at-head e es, eqb-true e.1.onu n t)
+          | inr f ↦
+              let w = listed es a.1 (sym (ap (λ b. b || list_any (λ (e : Serial × Row). eqb e.1.onu n) es) f) ∙ h) in
+              elim (cases_Bool (same_serial w.0 e.0)) [
+                | inl t ↦ absurd (none_is_not_some w.1 (sym a.0 ∙ subst (λ (x : Serial). row_at x es ≡ Some w.1) (same_serial-true w.0 e.0 t) w.2))
+                | inr g ↦ (w.0, w.1, row_at-tail w.0 e es g ∙ w.2, w.3)
               ]
         ]

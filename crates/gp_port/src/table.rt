@@ -84,6 +84,7 @@ impl UnitTable {
         requires { map.len self.now < ONU_IDS }
         ensures low { result < ONU_IDS }
         ensures unused { (s : Serial) (row : Row) → HasRow self.now s row → row.onu ≢ result }
+        ensures least { (onu : ℕ) → onu < result → (s : Serial) × (row : Row) × HasRow self.now s row × (row.onu ≡ onu) }
     {
         free_onu(&self.rows)
     }
