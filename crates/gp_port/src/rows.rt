@@ -79,6 +79,7 @@ pub fn least_ranging(rows: &[(Serial, Row)]) -> Option<u8>
 }
 
 /// For each octet, whether a row has it as its ONU-ID.
+#[tactic(auto, using(crate::proofs::Free::marked_more))]
 fn used_octets(rows: &[(Serial, Row)]) -> [bool; OCTETS]
     ensures { (onu : ℕ) → onu < OCTETS → get_or result onu false ≡ list_any (λ e. e.1.onu == onu) rows.now }
 {
