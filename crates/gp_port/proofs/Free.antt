@@ -1,13 +1,18 @@
 -- ONU-IDs that no row has.
-use Rattle.std.proofs.Common.{◌≡◌, ℕ, zero, suc, ◌+◌, ◌<◌, ◌≤◌, Bool, true, false, eqb, ltb, cond, [], ◌∷◌, length, Some, inl, inr, refl, sym, ap, subst, ◌∙◌, arith, ◌||◌, eq-eqb}
-use Rattle.std.proofs.lemmas.Bool.{cases_Bool, false≢true}
+use Rattle.std.proofs.Common.{◌≡◌, ℕ, zero, suc, ◌+◌, ◌<◌, ◌≤◌, Bool, true, false, eqb, ltb, cond, List, [], ◌∷◌, length, take, get_or, None, Some, ◌⊎◌, inl, inr, refl, sym, ap, subst, ◌∙◌, arith, ◌||◌, eq-eqb}
+use Rattle.std.proofs.lemmas.Bool.{cases_Bool, false≢true, eqb-true}
 use Rattle.std.proofs.lemmas.Bool.Decides.{nat_tests}
 use Rattle.std.specs.List.{list_any}
+use Rattle.std.proofs.Math.Bool.{or-true, or-false}
+use Rattle.std.proofs.Math.ListN.{set}
+use Rattle.std.proofs.lemmas.List.{get_or-set_same, get_or-set_other}
+use Rattle.std.proofs.lemmas.List.Folds.{list_any_more}
 use Rattle.std.specs.FinMap.{from_entries, get-from_entries}
 use Rattle.gp_ploam.specs.declared.message.Serial.{Serial}
 use Rattle.gp_machine.specs.declared.row.Row.{Row}
 use Rattle.gp_ploam.specs.Serials.{serial_cmp, same_serial}
 use Rattle.gp_machine.specs.State.{HasRow}
+use Rattle.gp_port.specs.Listed.{IsApart}
 use Rattle.gp_ploam.proofs.Serials.{serials_total, same_serial-true}
 use Rattle.gp_port.proofs.Listing.{Entries, row_at, row_at-head, row_at-tail}
 
@@ -64,6 +69,24 @@ all_below (suc n) es h =
 pub too_few : (n : ℕ) (es : Entries) → ((k : ℕ) → k < n → list_any (λ (e : Serial × Row). eqb e.1.onu k) es ≡ true) → n ≤ length es
 too_few n es h = let a = all_below n es h in let b = below-le n es in omega arith
 
+-- one more row is marked
+pub marked_more : (used : List Bool) (rows : Entries) (i : ℕ) (d : Serial × Row) → length used ≡ 256 → i < length rows → (get_or rows i d).1.onu < 256
+    → ((n : ℕ) → n < 256 → get_or used n false ≡ list_any (λ (e : Serial × Row). eqb e.1.onu n) (take i rows))
+    → (n : ℕ) → n < 256 → get_or (set used (get_or rows i d).1.onu true) n false ≡ list_any (λ (e : Serial × Row). eqb e.1.onu n) (take (i + 1) rows)
+marked_more used rows i d long in_rows octet marked n small = here (cases_Bool (eqb k n)) ∙ sym (list_any_more (λ (e : Serial × Row). eqb e.1.onu n) rows i d in_rows)
+  where
+    k : ℕ
+    k = (get_or rows i d).1.onu
+
+    here : (eqb k n ≡ true) ⊎ (eqb k n ≡ false) → get_or (set used k true) n false ≡ (list_any (λ (e : Serial × Row). eqb e.1.onu n) (take i rows) || eqb k n)
+    here (inl t) =
+        let same : n ≡ k = sym (eqb-true k n t) in
+        ap (λ j. get_or (set used k true) j false) same ∙ get_or-set_same used k true false (omega arith)
+        ∙ sym (ap (λ b. list_any (λ (e : Serial × Row). eqb e.1.onu n) (take i rows) || b) t ∙ or-true _)
+    here (inr f) =
+        get_or-set_other used k n true false (λ e. false≢true (sym f ∙ eq-eqb k n (sym e))) ∙ marked n small
+        ∙ sym (ap (λ b. list_any (λ (e : Serial × Row). eqb e.1.onu n) (take i rows) || b) f ∙ or-false _)
+
 -- what no row of the list has, no row of the map has
 pub unused_in_map : (n : ℕ) (es : Entries) → list_any (λ (e : Serial × Row). eqb e.1.onu n) es ≡ false → (s : Serial) (row : Row) → HasRow (from_entries {R = serial_cmp} es) s row → row.onu ≡ n → ⊥
 unused_in_map n es h s row has e = in_list es h (sym (get-from_entries serials_total es s) ∙ has)
@@ -80,5 +103,25 @@ unused_in_map n es h s row has e = in_list es h (sym (get-from_entries serials_t
                     let i : x.1 ≡ row = cc in
                     false≢true (sym f ∙ eq-eqb x.1.onu n (ap (λ (r : Row). r.onu) i ∙ e))
                 | inr g ↦ in_list es (sym (ap (λ b. b || list_any (λ (e : Serial × Row). eqb e.1.onu n) es) f) ∙ h) (sym (row_at-tail s x es g) ∙ r)
+              ]
+        ]
+
+-- what a row of the list has, a row of the map has
+pub used_in_map : (n : ℕ) (es : Entries) → IsApart es → list_any (λ (e : Serial × Row). eqb e.1.onu n) es ≡ true → (s : Serial) × (row : Row) × HasRow (from_entries {R = serial_cmp} es) s row × (row.onu ≡ n)
+used_in_map n es a h = let w = listed es a h in (w.0, w.1, get-from_entries serials_total es w.0 ∙ w.2, w.3)
+  where
+    none_is_not_some : (r : Row) → None ≡ Some r → ⊥
+    none_is_not_some r f = cc
+
+    listed : (es : Entries) → IsApart es → list_any (λ (e : Serial × Row). eqb e.1.onu n) es ≡ true → (s : Serial) × (row : Row) × (row_at s es ≡ Some row) × (row.onu ≡ n)
+    listed [] a h = absurd (false≢true h)
+    listed (e ∷ es) a h =
+        elim (cases_Bool (eqb e.1.onu n)) [
+          | inl t ↦ (e.0, e.1, row_at-head e es, eqb-true e.1.onu n t)
+          | inr f ↦
+              let w = listed es a.1 (sym (ap (λ b. b || list_any (λ (e : Serial × Row). eqb e.1.onu n) es) f) ∙ h) in
+              elim (cases_Bool (same_serial w.0 e.0)) [
+                | inl t ↦ absurd (none_is_not_some w.1 (sym a.0 ∙ subst (λ (x : Serial). row_at x es ≡ Some w.1) (same_serial-true w.0 e.0 t) w.2))
+                | inr g ↦ (w.0, w.1, row_at-tail w.0 e es g ∙ w.2, w.3)
               ]
         ]

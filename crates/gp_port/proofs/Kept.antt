@@ -43,24 +43,24 @@ kept_opening c within =
 
 -- a unit that is active begins to range anew
 pub kept_again : (p : PortState) (held : ℕ) (s : Serial) (n : ℕ) → IsKept p held → has_room p ≡ true → ((rows : Rows) → IsAsked rows p.window) → IsKnown p s n → IsKept (state_assigned p s n) held
-kept_again p held s n h room undirected known =
+kept_again p held s n h room asks_no_unit known =
     record {
       units = h.units;
       period = h.period;
-      sound = sound_assigned p s n h.sound room undirected (may_put_again p s known.0 (new_row n) h.sound known.1 known.2 (omega arith));
+      sound = sound_assigned p s n h.sound room asks_no_unit (may_put_again p s known.0 (new_row n) h.sound known.1 known.2 (omega arith));
       licences = h.licences ∙ sym (len-known p.rows s known.0 (new_row n) known.1);
     }
 
 -- a new unit becomes active with one more licence
 pub kept_new : (p : PortState) (held one : ℕ) (s : Serial) (n : ℕ) → IsKept p held → one ≡ 1 → has_room p ≡ true → ((rows : Rows) → IsAsked rows p.window)
     → is_among s p.config.admitted ≡ true → get p.rows s ≡ None → IsFree p n → IsKept (state_assigned p s n) (held + one)
-kept_new p held one s n h is_one room undirected admitted unknown free =
+kept_new p held one s n h is_one room asks_no_unit admitted unknown free =
     let more = len-new p.rows s (new_row n) unknown in
     let same = h.licences in
     record {
       units = h.units;
       period = h.period;
-      sound = sound_assigned p s n h.sound room undirected (may_put_new p s n admitted free);
+      sound = sound_assigned p s n h.sound room asks_no_unit (may_put_new p s n admitted free);
       licences = omega arith;
     }
 

@@ -2,15 +2,15 @@
 use Rattle.std.proofs.Common.{◌≡◌, ℕ, ◌<◌, ◌≤◌, false, nat_le, cond, [], ◌∷◌, Option, None, Some, ◌⊎◌, inl, inr, refl, sym, ap, subst, ◌∙◌, arith, ⊎_elim}
 use Rattle.std.proofs.lemmas.Bool.{cases_Bool}
 use Rattle.std.proofs.lemmas.Bool.{leb-true, leb-false}
-use Rattle.std.specs.FinMap.{from_entries, get-from_entries}
+use Rattle.std.specs.FinMap.{from_entries, get, insert, get-from_entries, get-insert}
 use Rattle.gp_ploam.specs.declared.message.Serial.{Serial}
 use Rattle.gp_machine.specs.declared.row.Phase.{Phase}
 use Rattle.gp_machine.specs.declared.row.Phase.TheVariants.{Ranging, Operating}
 use Rattle.gp_machine.specs.declared.row.Row.{Row}
 use Rattle.gp_ploam.specs.Serials.{serial_cmp, same_serial}
-use Rattle.gp_machine.specs.State.{IsRanging, Ranges, IsLeastRanging}
+use Rattle.gp_machine.specs.State.{Rows, IsRanging, Ranges, IsLeastRanging}
 use Rattle.gp_port.specs.Listed.{IsApart, lesser_of, least_from}
-use Rattle.gp_ploam.proofs.Serials.{serials_total, same_serial-true}
+use Rattle.gp_ploam.proofs.Serials.{serials_total, by_cmp-same, same_serial-true, same_serial-itself}
 use Rattle.gp_port.proofs.Listing.{Entries, row_at, row_at-head, row_at-tail}
 
 -- a row of the list is ranging with this ONU-ID
@@ -106,3 +106,62 @@ least_of_map es a =
     by_option : (o : Option ℕ) → IsLeast (Ranges (from_entries {R = serial_cmp} es)) o → IsLeastRanging (from_entries {R = serial_cmp} es) o
     by_option None h = h
     by_option (Some n) h = h
+
+-- the least ONU-ID of a ranging unit, after a unit gets this row in the place of one that did not have it
+pub least_after_put : (m : Rows) (least : Option ℕ) (s : Serial) (onu : ℕ) (phase : Phase) → IsLeastRanging m least
+    → ((old : Row) → get m s ≡ Some old → least ≡ Some old.onu → lesser_of None (record { onu = onu; phase = phase }) ≡ least)
+    → IsLeastRanging (insert m s (record { onu = onu; phase = phase })) (lesser_of least (record { onu = onu; phase = phase }))
+least_after_put m least s onu phase h kept = by_case least phase h kept
+  where
+    row_with : Phase → Row
+    row_with p = record { onu = onu; phase = p }
+
+    at : (p : Phase) (t : Serial) → get (insert m s (row_with p)) t ≡ cond (same_serial t s) (Some (row_with p)) (get m t)
+    at p t = get-insert serials_total m s (row_with p) t ∙ ap (λ b. cond b (Some (row_with p)) (get m t)) (by_cmp-same t s)
+
+    -- the unit itself
+    new : (p : Phase) → IsRanging p → Ranges (insert m s (row_with p)) onu
+    new p r = (s, row_with p, at p s ∙ ap (λ b. cond b (Some (row_with p)) (get m s)) (same_serial-itself s), r, refl)
+
+    -- who ranges then is the unit itself, or ranged before
+    split : (p : Phase) (n : ℕ) → Ranges (insert m s (row_with p)) n → (IsRanging p × (onu ≡ n)) ⊎ Ranges m n
+    split p n w =
+        elim (cases_Bool (same_serial w.0 s)) [
+          | inl t ↦
+              let same : Some (row_with p) ≡ Some w.1 = sym (at p w.0 ∙ ap (λ b. cond b (Some (row_with p)) (get m w.0)) t) ∙ w.2 in
+              let i : row_with p ≡ w.1 = cc in
+              inl (subst (λ (r : Row). IsRanging r.phase) (sym i) w.3, ap (λ (r : Row). r.onu) i ∙ w.4)
+          | inr f ↦ inr (w.0, w.1, sym (at p w.0 ∙ ap (λ b. cond b (Some (row_with p)) (get m w.0)) f) ∙ w.2, w.3, w.4)
+        ]
+
+    -- the least one before still ranges, or the unit itself was it
+    still : (p : Phase) (k : ℕ) → Ranges m k → ((old : Row) → get m s ≡ Some old → Some k ≡ Some old.onu → lesser_of None (row_with p) ≡ Some k) → Ranges (insert m s (row_with p)) k
+    still p k w kept =
+        elim (cases_Bool (same_serial w.0 s)) [
+          | inl t ↦
+              let had : get m s ≡ Some w.1 = subst (λ (x : Serial). get m x ≡ Some w.1) (same_serial-true w.0 s t) w.2 in
+              itself p (kept w.1 had (ap Some (sym w.4)))
+          | inr f ↦ (w.0, w.1, at p w.0 ∙ ap (λ b. cond b (Some (row_with p)) (get m w.0)) f ∙ w.2, w.3, w.4)
+        ]
+      where
+        itself : (p : Phase) → lesser_of None (row_with p) ≡ Some k → Ranges (insert m s (row_with p)) k
+        itself (Operating q d g) e = absurd (cc)
+        itself (Ranging a b) e = let i : onu ≡ k = cc in subst (λ (j : ℕ). Ranges (insert m s (row_with (Ranging a b))) j) i (new (Ranging a b) tt)
+
+    by_case : (o : Option ℕ) (p : Phase) → IsLeastRanging m o → ((old : Row) → get m s ≡ Some old → o ≡ Some old.onu → lesser_of None (row_with p) ≡ o) → IsLeastRanging (insert m s (row_with p)) (lesser_of o (row_with p))
+    by_case None (Operating q d g) h kept = λ n w. ⊎_elim (λ x. x.0) (λ r. h n r) (split (Operating q d g) n w)
+    by_case None (Ranging a b) h kept =
+        (new (Ranging a b) tt, λ n w. ⊎_elim (λ (x : IsRanging (Ranging a b) × (onu ≡ n)). let e = x.1 in omega arith) (λ r. absurd (h n r)) (split (Ranging a b) n w))
+    by_case (Some k) (Operating q d g) h kept =
+        (still (Operating q d g) k h.0 kept, λ n w. ⊎_elim (λ (x : IsRanging (Operating q d g) × (onu ≡ n)). absurd x.0) (λ r. h.1 n r) (split (Operating q d g) n w))
+    by_case (Some k) (Ranging a b) h kept =
+        elim (cases_Bool (nat_le k onu)) [
+          | inl t ↦
+              let below : k ≤ onu = leb-true k onu t in
+              subst (IsLeastRanging (insert m s (row_with (Ranging a b)))) (sym (ap (λ b. cond b (Some k) (Some onu)) t))
+              (still (Ranging a b) k h.0 kept, λ n w. ⊎_elim (λ (x : IsRanging (Ranging a b) × (onu ≡ n)). let e = x.1 in omega arith) (λ r. h.1 n r) (split (Ranging a b) n w))
+          | inr f ↦
+              let below : onu < k = leb-false k onu f in
+              subst (IsLeastRanging (insert m s (row_with (Ranging a b)))) (sym (ap (λ b. cond b (Some k) (Some onu)) f))
+              (new (Ranging a b) tt, λ n w. ⊎_elim (λ (x : IsRanging (Ranging a b) × (onu ≡ n)). let e = x.1 in omega arith) (λ r. let e = h.1 n r in omega arith) (split (Ranging a b) n w))
+        ]

@@ -12,6 +12,7 @@ ghost use Rattle.gp_machine.specs.Burst.{active_outcome, again_outcome, asked_ou
 ghost use Rattle.gp_machine.specs.declared.event.Event.TheVariants as event;
 ghost use Rattle.gp_machine.specs.Step.{HandsOutFree, Step, onu_id_in};
 
+use super::copies::{COPIES, MOST_COPIES};
 use super::port_core::PortCore;
 use super::windows::put_window;
 use gp_licence::Licences;
@@ -87,12 +88,12 @@ impl<L: Ledger> PortCore<L> {
     fn has_room(&self) -> bool
         ensures { result ≡ spec.has_room self.now }
     {
-        self.owed.len() + 3 <= 189
+        self.owed.len() + COPIES <= MOST_COPIES - COPIES
     }
 
     /// A message in a search window.
     fn hear_in_search(&mut self, purse: Licences<L>, message: Up) -> (Answer, Licences<L>)
-        requires undirected { (rows : Rows) → IsAsked rows self.old.window }
+        requires asks_no_unit { (rows : Rows) → IsAsked rows self.old.window }
         ensures free { HandsOutFree self.old result.0.reply }
         ensures outcome { outcome_of result self.new ≡ search_outcome purse self.old (onu_id_in result.0.reply) message }
     {
@@ -108,7 +109,7 @@ impl<L: Ledger> PortCore<L> {
 
     /// A serial number in a search window.
     fn search(&mut self, purse: Licences<L>, serial: Serial) -> (Answer, Licences<L>)
-        requires undirected { (rows : Rows) → IsAsked rows self.old.window }
+        requires asks_no_unit { (rows : Rows) → IsAsked rows self.old.window }
         ensures free { HandsOutFree self.old result.0.reply }
         ensures outcome { outcome_of result self.new ≡ serial_outcome purse self.old serial (onu_id_in result.0.reply) }
     {
@@ -124,7 +125,7 @@ impl<L: Ledger> PortCore<L> {
     /// An admitted unit that is not active.
     fn meet(&mut self, purse: Licences<L>, serial: Serial) -> (Answer, Licences<L>)
         requires admitted { is_among serial self.old.config.admitted ≡ true }
-        requires undirected { (rows : Rows) → IsAsked rows self.old.window }
+        requires asks_no_unit { (rows : Rows) → IsAsked rows self.old.window }
         requires unknown { map.get self.old.rows serial ≡ None }
         ensures free { HandsOutFree self.old result.0.reply }
         ensures outcome { outcome_of result self.new ≡ newcomer_outcome purse self.old serial (onu_id_in result.0.reply) }
@@ -148,7 +149,7 @@ impl<L: Ledger> PortCore<L> {
     fn activate(&mut self, one: Licences<L>, serial: Serial, onu: u8)
         requires one { one ≡ 1 }
         requires room { spec.has_room self.old ≡ true }
-        requires undirected { (rows : Rows) → IsAsked rows self.old.window }
+        requires asks_no_unit { (rows : Rows) → IsAsked rows self.old.window }
         requires admitted { is_among serial self.old.config.admitted ≡ true }
         requires unknown { map.get self.old.rows serial ≡ None }
         requires free { IsFree self.old onu }
@@ -161,7 +162,7 @@ impl<L: Ledger> PortCore<L> {
 
     /// A unit that is active already.
     fn meet_again(&mut self, purse: Licences<L>, serial: Serial, row: Row) -> (Answer, Licences<L>)
-        requires undirected { (rows : Rows) → IsAsked rows self.old.window }
+        requires asks_no_unit { (rows : Rows) → IsAsked rows self.old.window }
         requires known { HasRow self.old.rows serial row }
         ensures free { HandsOutFree self.old result.0.reply }
         ensures outcome { outcome_of result self.new ≡ active_outcome purse self.old serial row.onu row.phase }
@@ -174,7 +175,7 @@ impl<L: Ledger> PortCore<L> {
 
     /// A ranging unit is told its own ONU-ID again, but where it is still to be told it.
     fn tell_again(&mut self, purse: Licences<L>, serial: Serial, onu: u8) -> (Answer, Licences<L>)
-        requires undirected { (rows : Rows) → IsAsked rows self.old.window }
+        requires asks_no_unit { (rows : Rows) → IsAsked rows self.old.window }
         requires known { (row : Row) × HasRow self.old.rows serial row × (row.onu ≡ onu) }
         ensures free { HandsOutFree self.old result.0.reply }
         ensures outcome { outcome_of result self.new ≡ again_outcome purse self.old serial onu }
@@ -192,7 +193,7 @@ impl<L: Ledger> PortCore<L> {
     /// The unit begins to range anew with its ONU-ID, and is told it.
     fn assign_again(&mut self, serial: Serial, onu: u8)
         requires room { spec.has_room self.old ≡ true }
-        requires undirected { (rows : Rows) → IsAsked rows self.old.window }
+        requires asks_no_unit { (rows : Rows) → IsAsked rows self.old.window }
         requires known { (row : Row) × HasRow self.old.rows serial row × (row.onu ≡ onu) }
         ensures { self.new ≡ state_assigned self.old serial onu }
     {

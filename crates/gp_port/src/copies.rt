@@ -10,6 +10,12 @@ use std::alloc::{AllocError, Global};
 use std::collections::VecDeque;
 use std::marker::Model;
 
+/// How many copies of a message are sent (G.984.3, clause 9).
+pub const COPIES: usize = 3;
+
+/// How many copies there is room for: those of 64 messages.
+pub const MOST_COPIES: usize = 192;
+
 /// The copies of messages that a port owes, in the order in which they are sent. Contracts see them as a
 /// list. Each of them has a code.
 #[derive(Drop)]
@@ -35,7 +41,7 @@ impl Copies {
     pub fn begin(alloc: Global) -> Result<Copies, AllocError>
         ensures { IfOk result (λ owed. owed ≡ []) }
     {
-        let copies = VecDeque::with_capacity(alloc, 192)?;
+        let copies = VecDeque::with_capacity(alloc, MOST_COPIES)?;
         Ok(Copies { copies })
     }
 
@@ -53,7 +59,7 @@ impl Copies {
 
     /// Owes three copies of a message, after all others.
     pub fn owe(&mut self, message: Down)
-        requires room { length self.old + 3 ≤ 192 }
+        requires room { length self.old + COPIES ≤ MOST_COPIES }
         requires proper { IsProperDown message }
         ensures { self.new ≡ self.old ++ message ∷ message ∷ message ∷ [] }
     {

@@ -7,8 +7,11 @@ use thiserror::Error;
 /// Why a port is not opened.
 #[derive(Clone, Copy, Debug, PartialEq, Eq, Error)]
 pub enum OpenFault {
+    /// A number of the config is outside its range (`PortConfig` gives each), more than 512 serial numbers
+    /// are admitted, or one is admitted twice.
     #[error("a number is outside its range, or a serial number is admitted twice")]
     Limit,
+    /// The allocator refused memory for the config, the units or the messages.
     #[error("out of memory")]
     OutOfMemory,
 }

@@ -1,4 +1,4 @@
-ghost use Rattle.std.specs.Prelude.{◌≡◌, ◌+◌, false, true, [], length, IfOk, IsErrOf, ◌↔◌};
+ghost use Rattle.std.specs.Prelude.{◌≡◌, ◌+◌, ◌≤◌, false, true, [], length, IfOk, IsErrOf, ◌↔◌};
 ghost use Rattle.std.specs.FinMap as map;
 ghost use Rattle.std.specs.Option.{ForSome};
 ghost use Rattle.gp_ploam.specs.Down.{IsProperDown};
@@ -21,8 +21,9 @@ use std::alloc::Global;
 use std::marker::Model;
 use std::sync::ledger::Ledger;
 
-/// The activation machine of one port (G.984.3, clause 10). It holds a licence for each active unit, so it
-/// is ended by `close` and never dropped. Contracts see its state.
+/// The activation machine of one port (G.984.3, clause 10), for 1 to 254 units. It holds a licence for each
+/// active unit, so it is ended by `close` and never dropped. Its clock is the downstream frame (125
+/// microseconds), and its delays are in bit times. Contracts see its state.
 pub struct PortCore<L: Ledger> {
     pub(super) config: PortConfig,
     pub(super) table: UnitTable,
@@ -52,7 +53,8 @@ impl<L: Ledger> Model for PortCore<L> {
 }
 
 impl<L: Ledger> PortCore<L> {
-    /// A port with no units, in standby. All the memory that it ever needs is taken here.
+    /// A port with no units, in standby. All the memory that it ever needs is taken here: for a copy of the
+    /// config, 254 units and 192 copies of messages. `OpenFault` says when it is not opened.
     pub fn begin(alloc: Global, config: &PortConfig) -> Result<PortCore<L>, OpenFault>
         ensures opening { IfOk result (λ port. port ≡ opening_of config.now) }
         ensures limit { IsErrOf result OpenFault.Limit ↔ (is_within_limits config.now ≡ false) }
@@ -67,7 +69,8 @@ impl<L: Ledger> PortCore<L> {
     }
 
     /// One step of the machine, with these licences at hand: a new unit takes one of them. What is left
-    /// of them is given back. It takes no memory.
+    /// of them is given back. It takes no memory. A burst's delay and an equalization delay in the answer
+    /// are in bit times. A frame sends one copy at most.
     pub fn step(&mut self, purse: Licences<L>, event: Event) -> (Answer, Licences<L>)
         ensures step { Step purse self.old event (outcome_of result self.new) }
         ensures sound { IsSound self.new }
@@ -92,33 +95,37 @@ impl<L: Ledger> PortCore<L> {
         }
     }
 
+    /// What the port was opened with. It never changes.
     pub fn config(&self) -> &PortConfig
         ensures { result.now ≡ self.now.config }
     {
         &self.config
     }
 
-    /// What the port knows of the unit with this serial number, if it is active.
+    /// What the port knows of the unit with this serial number, if it is active: its ONU-ID, 0 to 253, and
+    /// how far its activation has gone, with its equalization delay in bit times.
     pub fn row_of(&self, serial: &Serial) -> Option<Row>
         ensures { result ≡ map.get self.now.rows serial.now }
     {
         self.table.row_of(serial)
     }
 
-    /// How many units are active.
+    /// How many units are active, at most `max_units` of the config.
     pub fn rows(&self) -> usize
         ensures { result ≡ rows_of self.now }
     {
         self.table.len()
     }
 
-    /// How many copies of messages are still to be sent, at most 192.
+    /// How many copies of messages are still to be sent, one with each frame.
     pub fn owed(&self) -> usize
-        ensures { result ≡ length self.now.owed }
+        ensures owed { result ≡ length self.now.owed }
+        ensures most { result ≤ 192 }
     {
         self.owed.len()
     }
 
+    /// What the port does for all units together: it is in standby, searches for units, or measures delays.
     pub fn common(&self) -> Common
         ensures { result ≡ self.now.common }
     {

@@ -1,4 +1,4 @@
-ghost use Rattle.std.specs.Prelude.{◌≡◌, ℕ, ◌+◌, ◌<◌, ◌≤◌, ◌==◌, false, position, length, vec_len, vec_capacity};
+ghost use Rattle.std.specs.Prelude.{◌≡◌, ℕ, ◌+◌, ◌<◌, ◌≤◌, ◌==◌, true, false, get_or, position, length, vec_len, vec_capacity};
 ghost use Rattle.std.specs.FinMap as map;
 ghost use Rattle.std.specs.List.{list_any};
 ghost use Rattle.gp_ploam.specs.declared.message.Serial.{Serial};
@@ -8,6 +8,12 @@ ghost use Rattle.gp_ploam.specs.Serials.{same_serial, serial_cmp};
 
 use gp_machine::{Phase, Row};
 use gp_ploam::Serial;
+
+/// How many ONU-IDs there are for units: 0 to 253 (G.984.3, clause 9: 254 is reserved, 255 is broadcast).
+pub const ONU_IDS: u8 = 254;
+
+/// How many values an octet has.
+const OCTETS: usize = 256;
 
 /// Where the row of a serial number is.
 fn place_of(rows: &[(Serial, Row)], serial: &Serial) -> Option<usize>
@@ -26,22 +32,30 @@ pub fn row_of(rows: &[(Serial, Row)], serial: &Serial) -> Option<Row>
     }
 }
 
-/// Gives a serial number this row.
-pub fn put_row(rows: &mut Vec<(Serial, Row)>, serial: Serial, row: Row)
+/// Gives a serial number this row, and hands back the row that it had.
+pub fn put_row(rows: &mut Vec<(Serial, Row)>, serial: Serial, row: Row) -> Option<Row>
     requires apart { IsApart rows.old.items }
     requires room { map.find serial_cmp serial rows.old.items ≡ None → vec_len rows.old < vec_capacity rows.old }
     ensures rows { map.from_entries {R = serial_cmp} rows.new.items ≡ map.insert (map.from_entries rows.old.items) serial row }
+    ensures replaced { result ≡ map.find serial_cmp serial rows.old.items }
     ensures apart { IsApart rows.new.items }
     ensures capacity { vec_capacity rows.new ≡ vec_capacity rows.old }
 {
     match place_of(rows, &serial) {
-        Some(place) => rows[place] = (serial, row),
-        None => rows.push_reserved((serial, row)),
+        Some(place) => {
+            let replaced = rows[place].1;
+            rows[place] = (serial, row);
+            Some(replaced)
+        }
+        None => {
+            rows.push_reserved((serial, row));
+            None
+        }
     }
 }
 
 /// The lesser of an ONU-ID and that of a row, if its unit is ranging.
-fn lesser(least: Option<u8>, row: Row) -> Option<u8>
+pub fn lesser(least: Option<u8>, row: Row) -> Option<u8>
     ensures { result ≡ lesser_of least row }
 {
     match row.phase {
@@ -64,21 +78,28 @@ pub fn least_ranging(rows: &[(Serial, Row)]) -> Option<u8>
     least
 }
 
-/// Whether a row has this ONU-ID.
-fn is_used(rows: &[(Serial, Row)], onu: u8) -> bool
-    ensures { result ≡ list_any (λ e. e.1.onu == onu) rows.now }
+/// For each octet, whether a row has it as its ONU-ID.
+#[tactic(auto, using(crate::proofs::Free::marked_more))]
+fn used_octets(rows: &[(Serial, Row)]) -> [bool; OCTETS]
+    ensures { (onu : ℕ) → onu < OCTETS → get_or result onu false ≡ list_any (λ e. e.1.onu == onu) rows.now }
 {
-    rows.iter().any(|entry| entry.1.onu == onu)
+    let mut used = [false; OCTETS];
+    for entry in rows {
+        used[entry.1.onu as usize] = true;
+    }
+    used
 }
 
 /// An ONU-ID that no row has: the least one.
 pub fn free_onu(rows: &[(Serial, Row)]) -> u8
-    requires { length rows.now < 254 }
-    ensures low { result ≤ 253 }
+    requires { length rows.now < ONU_IDS }
+    ensures low { result < ONU_IDS }
     ensures unused { list_any (λ e. e.1.onu == result) rows.now ≡ false }
+    ensures least { (onu : ℕ) → onu < result → list_any (λ e. e.1.onu == onu) rows.now ≡ true }
 {
-    for onu in 0..254u8 {
-        if !is_used(rows, onu) {
+    let used = used_octets(rows);
+    for onu in 0..ONU_IDS {
+        if !used[onu as usize] {
             return onu;
         }
     }

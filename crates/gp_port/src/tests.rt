@@ -65,12 +65,13 @@ fn grants(grant: Grant) -> Answer {
     }
 }
 
-/// The place of the first step whose answer is another than is expected. A licence, where one is free, is
-/// at hand for each step.
+/// The place of the first step, in both lists, whose answer is another than is expected. A licence, where
+/// one is free, is at hand for each step.
 fn first_surprise<L: Ledger>(
     alloc: Global,
     blank: Blank,
     config: &PortConfig,
+    before: &[(Event, Answer)],
     steps: &[(Event, Answer)],
 ) -> Result<Option<usize>, OpenFault>
     requires name { blank.name ≡ L.name }
@@ -79,7 +80,7 @@ fn first_surprise<L: Ledger>(
     let mut port = PortCore::<L>::begin(alloc, config)?;
     let mut book = LicenceBook::<L>::new(blank, 2);
     let mut surprise = None;
-    for (place, step) in steps.iter().enumerate() {
+    for (place, step) in before.iter().chain(steps).enumerate() {
         let (event, expected) = *step;
         let (answer, rest) = port.step(book.take(), event);
         book.give(rest);
@@ -91,12 +92,21 @@ fn first_surprise<L: Ledger>(
     Ok(surprise)
 }
 
+fn surprise_after(
+    alloc: Global,
+    config: &PortConfig,
+    before: &[(Event, Answer)],
+    steps: &[(Event, Answer)],
+) -> Result<Option<usize>, OpenFault> {
+    first_surprise::<Brand>(alloc, Blank::new(4064), config, before, steps)
+}
+
 fn surprise(
     alloc: Global,
     config: &PortConfig,
     steps: &[(Event, Answer)],
 ) -> Result<Option<usize>, OpenFault> {
-    first_surprise::<Brand>(alloc, Blank::new(4064), config, steps)
+    surprise_after(alloc, config, &[], steps)
 }
 
 const SEARCH: Event = Event::Command(Command::Search);
@@ -105,18 +115,10 @@ fn burst(at: u32, bytes: [u8; 13]) -> Event {
     Event::Burst { at, bytes }
 }
 
-#[test]
-fn one_unit(rt: HostRuntime) -> Result<(), Fail> {
+/// A is found, is told its ONU-ID, and is asked in a ranging window.
+fn a_is_asked() -> [(Event, Answer); 11] {
     let assign = sends(Down::AssignOnu { onu: 0, serial: A });
-    let ranging = sends(Down::RangingTime {
-        onu: 0,
-        eqd: 211_040,
-    });
-    let ranged = Reply::Ranged {
-        onu: 0,
-        eqd: 211_040,
-    };
-    let steps = [
+    [
         (SEARCH, replies(Reply::Searching)),
         (Event::Frame, replies(Reply::Ticked)),
         (Event::Frame, sends(OVERHEAD)),
@@ -128,6 +130,20 @@ fn one_unit(rt: HostRuntime) -> Result<(), Fail> {
         (Event::Frame, assign),
         (Event::Frame, assign),
         (Event::Frame, grants(Grant::Range(0))),
+    ]
+}
+
+#[test]
+fn one_unit(rt: HostRuntime) -> Result<(), Fail> {
+    let ranging = sends(Down::RangingTime {
+        onu: 0,
+        eqd: 211_040,
+    });
+    let ranged = Reply::Ranged {
+        onu: 0,
+        eqd: 211_040,
+    };
+    let steps = [
         (burst(100_000, A_RANGED), replies(ranged)),
         (Event::Frame, ranging),
         (Event::Frame, ranging),
@@ -135,7 +151,10 @@ fn one_unit(rt: HostRuntime) -> Result<(), Fail> {
         (Event::Frame, replies(Reply::Ticked)),
     ];
     let config = of_a_and_b(rt.alloc())?;
-    assert_eq!(rt; surprise(rt.alloc(), &config, &steps)?, None);
+    assert_eq!(rt;
+        surprise_after(rt.alloc(), &config, &a_is_asked(), &steps)?,
+        None
+    );
     Ok(())
 }
 
@@ -180,19 +199,7 @@ fn periodic_search(rt: HostRuntime) -> Result<(), Fail> {
 
 #[test]
 fn delay_limits(rt: HostRuntime) -> Result<(), Fail> {
-    let assign = sends(Down::AssignOnu { onu: 0, serial: A });
     let steps = [
-        (SEARCH, replies(Reply::Searching)),
-        (Event::Frame, replies(Reply::Ticked)),
-        (Event::Frame, sends(OVERHEAD)),
-        (Event::Frame, sends(OVERHEAD)),
-        (Event::Frame, sends(OVERHEAD)),
-        (Event::Frame, grants(Grant::Search)),
-        (burst(100_000, A_SEARCHED), replies(Reply::Found(0))),
-        (Event::Frame, assign),
-        (Event::Frame, assign),
-        (Event::Frame, assign),
-        (Event::Frame, grants(Grant::Range(0))),
         (burst(311_041, A_RANGED), replies(Reply::TooFar(0))),
         (
             burst(311_040, A_RANGED),
@@ -200,7 +207,10 @@ fn delay_limits(rt: HostRuntime) -> Result<(), Fail> {
         ),
     ];
     let config = of_a_and_b(rt.alloc())?;
-    assert_eq!(rt; surprise(rt.alloc(), &config, &steps)?, None);
+    assert_eq!(rt;
+        surprise_after(rt.alloc(), &config, &a_is_asked(), &steps)?,
+        None
+    );
     Ok(())
 }
 
@@ -241,16 +251,21 @@ fn limits(rt: HostRuntime) -> Result<(), Fail> {
     Ok(())
 }
 
+/// So many serial numbers, from ABCD00000000 on.
+fn numbered(alloc: Global, count: u16) -> Result<Vec<Serial>, AllocError> {
+    let mut serials = Vec::new(alloc);
+    for number in 0..count {
+        let [high, low] = number.to_be_bytes();
+        serials.push(Serial([0x41, 0x42, 0x43, 0x44, 0, 0, high, low]))?;
+    }
+    Ok(serials)
+}
+
 #[test]
 fn many_admitted(rt: HostRuntime) -> Result<(), Fail> {
     let alloc = rt.alloc();
     for (count, expected) in [(512u16, Ok(None)), (513, Err(OpenFault::Limit))] {
-        let mut admitted = Vec::new(alloc);
-        for number in 0..count {
-            let [high, low] = number.to_be_bytes();
-            admitted.push(Serial([0x41, 0x42, 0x43, 0x44, 0, 0, high, low]))?;
-        }
-        let config = config_of(admitted);
+        let config = config_of(numbered(alloc, count)?);
         assert_eq!(rt; surprise(alloc, &config, &[]), expected);
     }
     Ok(())
