@@ -14,6 +14,10 @@ use Rattle.gp_script.specs.Values.{in_range, count_in, mask_of}
 use Rattle.gp_script.specs.Port.{ports_from}
 use Rattle.gp_script.specs.Event.{events_from}
 
+-- how many licences a script may have
+abbrev pub most_licences : ℕ
+most_licences = 4064
+
 -- how many ports a script may have: one for now
 abbrev pub most_ports : ℕ
 most_ports = 1
@@ -56,7 +60,7 @@ pub record ScriptView : Type 0 where
 unfoldable pub script_of_table : Members → Result ScriptView ScriptFault
 script_of_table ms = do
   shape ← top_shape ms
-  licences ← in_range 0 4064 shape.licences
+  licences ← in_range 0 most_licences shape.licences
   mask ← mask_of shape.mask
   count ← count_in 1 most_ports shape.ports
   _ ← count_in 0 most_events shape.events

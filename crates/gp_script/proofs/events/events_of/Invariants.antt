@@ -8,5 +8,5 @@ abbrev pub invariant-tables : goal.invariant-tables
 invariant-tables l = record {
   value : events_from l.ports l.mask l.events.items (items_view (drop l.value-index l.tables)) ≡ events_from l.ports l.mask [] (items_view l.tables);
   ports : All (λ e. event_port e < l.ports) l.events.items;
-  each : vec_len l.events ≡ l.value-index;
+  count : vec_len l.events ≡ l.value-index;
 }
