@@ -1,5 +1,5 @@
 -- The tables under `event` (this profile's own rule).
-use Rattle.std.specs.Prelude.{ℕ, List, [], ◌∷◌, ◌++◌, Result, Ok, Err, if◌then◌else◌, codes, is_some}
+use Rattle.std.specs.Prelude.{ℕ, List, [], ◌∷◌, Result, Ok, Err, if◌then◌else◌, codes, is_some}
 use Rattle.std.specs.Str.{bytes_eq}
 use Rattle.toml.specs.Data.{table, Items, no_items, item, Members, get_member}
 use Rattle.gp_ploam.specs.declared.check.Mask.{Mask}
@@ -95,10 +95,11 @@ event_of ports mask ms =
     else if is_some (get_member (codes "command") ms) then command_event ports ms
     else Err fault.Shape
 
--- the events of the event tables, behind those before them
-unfoldable pub events_from : ℕ → Mask → List ScriptEvent → Items → Result (List ScriptEvent) ScriptFault
-events_from ports mask before no_items = Ok before
-events_from ports mask before (item (table ms) ds) = do
+-- the events of the event tables, in their order
+unfoldable pub events_of : ℕ → Mask → Items → Result (List ScriptEvent) ScriptFault
+events_of ports mask no_items = Ok []
+events_of ports mask (item (table ms) ds) = do
   event ← event_of ports mask ms
-  events_from ports mask (before ++ event ∷ []) ds
-events_from ports mask before (item _ ds) = Err fault.Shape
+  events ← events_of ports mask ds
+  Ok (event ∷ events)
+events_of ports mask (item _ ds) = Err fault.Shape

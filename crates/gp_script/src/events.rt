@@ -1,4 +1,4 @@
-ghost use Rattle.std.specs.Prelude.{◌≡◌, ◌<◌, [], IfOk, All, length, vec_len};
+ghost use Rattle.std.specs.Prelude.{◌≡◌, ◌<◌, IfOk, All, length, vec_len};
 ghost use Rattle.toml.specs.View.{table_view, items_view};
 ghost use Rattle.gp_script.specs.Fault.{Gives};
 ghost use Rattle.gp_script.specs.Event as spec;
@@ -148,7 +148,7 @@ fn event_of(ports: u8, mask: Mask, table: &Table) -> Result<ScriptEvent, ScriptF
 }
 
 /// The events of the event tables.
-#[tactic(auto, unfolding(crate::specs::Event::events_from))]
+#[tactic(auto, unfolding(crate::specs::Event::events_of), using(crate::proofs::EventsLemmas::behind_nothing, crate::proofs::EventsLemmas::behind_push))]
 pub(crate) fn events_of(
     alloc: Global,
     ports: u8,
@@ -156,7 +156,7 @@ pub(crate) fn events_of(
     tables: &[Value],
 ) -> Result<Vec<ScriptEvent>, ScriptError>
     requires { 0 < ports }
-    ensures value { Gives (λ v. v.items) result (spec.events_from ports mask [] (items_view tables.now)) }
+    ensures value { Gives (λ v. v.items) result (spec.events_of ports mask (items_view tables.now)) }
     ensures ports { IfOk result (λ v. All (λ e. event_port e < ports) v.items) }
     ensures count { IfOk result (λ v. vec_len v ≡ length tables.now) }
 {
