@@ -1,9 +1,8 @@
 -- A text has one first fault, and none where it says a line.
-use Rattle.std.proofs.Common.{◌≡◌, ◌≢◌, ℕ, ◌*◌, ◌%◌, Bool, true, false, List, [], length, ◌⊎◌, inl, inr, Result, Ok, Err, refl, sym, ap, subst, ◌∙◌, arith}
+use Rattle.std.proofs.Common.{◌≡◌, ℕ, Bool, true, false, List, [], length, inl, inr, Result, Ok, Err, refl, sym, ap, subst, ◌∙◌, arith}
 use Rattle.std.specs.Prelude.{◌↔◌}
 use Rattle.std.proofs.lemmas.Bool.{false≢true}
 use Rattle.std.proofs.lemmas.List.Sums.{list_all-from_AllPass}
-use Rattle.std.specs.List.{list_all}
 use Rattle.hex.specs.Hex.{decode_of, is_hex_digit}
 use Rattle.hex.proofs.HexLemmas.{decode_of-ok}
 use Rattle.gp_ploam.specs.declared.check.Mask.{Mask}
@@ -11,7 +10,7 @@ use Rattle.gp_decode.specs.declared.fault.LineFault.{LineFault}
 use Rattle.gp_decode.specs.declared.fault.LineFault.TheVariants as fault
 use Rattle.gp_ploam.specs.Mask.{mask_value}
 use Rattle.gp_ploam.specs.Row.{HasRightCheck}
-use Rattle.gp_decode.specs.Line.{HasLineFault, IsOfText, LacksLine, Says, SaysCode}
+use Rattle.gp_decode.specs.Line.{HasLineFault, IsOfText, LacksLine, Says}
 
 -- the code of a text that says a line, with its check octet
 pub code_said : (upstream : Bool) (mask : Mask) (text line : List ℕ) → Says upstream mask text line

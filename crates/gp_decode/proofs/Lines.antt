@@ -1,5 +1,5 @@
 -- A line that goes through a sink, and why there is none.
-use Rattle.std.proofs.Common.{◌≡◌, ℕ, Bool, List, [], Result, Ok, Err, OnErr, subst, append-nil}
+use Rattle.std.proofs.Common.{ℕ, Bool, List, [], Result, Ok, Err, OnErr, subst, append-nil}
 use Rattle.gp_stream.specs.declared.sink.WriteStopped.{WriteStopped}
 use Rattle.gp_stream.specs.Sink.{SinkState, Takes, TakesFront}
 use Rattle.gp_stream.proofs.SinkLemmas.{takes_front_after}

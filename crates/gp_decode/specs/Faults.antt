@@ -2,6 +2,7 @@
 use Rattle.std.specs.Prelude.{ℕ, List, codes}
 use Rattle.gp_ploam.specs.declared.message.PloamFault.{PloamFault}
 use Rattle.gp_ploam.specs.declared.message.PloamFault.TheVariants as ploam
+use Rattle.gp_stream.specs.Report.{memory_line, memory_status, write_line, write_status}
 use Rattle.gp_decode.specs.declared.fault.LineFault.{LineFault}
 use Rattle.gp_decode.specs.declared.fault.LineFault.TheVariants as fault
 
@@ -15,11 +16,11 @@ abbrev pub report_line : LineFault → List ℕ
 report_line fault.Length = codes "oltctl: decode length"
 report_line fault.Digit = codes "oltctl: decode digit"
 report_line fault.Crc = codes "oltctl: decode crc"
-report_line fault.OutOfMemory = codes "oltctl: memory"
-report_line fault.Write = codes "oltctl: write"
+report_line fault.OutOfMemory = memory_line
+report_line fault.Write = write_line
 
--- the exit status: 1 for a fault of the text, 3 for memory, 4 for the writer
+-- the exit status: 1 for a fault of the text
 abbrev pub report_status : LineFault → ℕ
-report_status fault.OutOfMemory = 3
-report_status fault.Write = 4
+report_status fault.OutOfMemory = memory_status
+report_status fault.Write = write_status
 report_status _ = 1

@@ -24,8 +24,8 @@ pub record Says (upstream : Bool) (mask : Mask) (text line : List ℕ) : Type 0 
   pub spelled : decode_of text ≡ Ok code
   pub said : SaysCode upstream mask code line
 
--- the first fault of a text: an odd number of characters, then a character that is no hexadecimal digit, then
--- another number of octets than thirteen, then a check octet that is wrong
+-- the first fault of a text: an odd number of bytes, then a byte that is no hexadecimal digit, then another number of
+-- octets than thirteen, then a check octet that is wrong
 abbrev pub HasLineFault : Mask → List ℕ → LineFault → Type 0
 HasLineFault mask text fault.Length =
     (length text % 2 ≡ 1) ⊎ ((length text % 2 ≡ 0) × (list_all is_hex_digit text ≡ true) × (length text ≢ 26))

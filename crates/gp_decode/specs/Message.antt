@@ -2,7 +2,6 @@
 -- octets hexadecimal digits is this profile's own rule.
 use Rattle.std.specs.Prelude.{ℕ, Bool, true, false, List, ◌++◌, codes, decimal}
 use Rattle.hex.specs.Hex.{encode_lower}
-use Rattle.gp_ploam.specs.declared.message.Serial.{Serial}
 use Rattle.gp_ploam.specs.declared.message.Down.{Down}
 use Rattle.gp_ploam.specs.declared.message.Down.TheVariants as down
 use Rattle.gp_ploam.specs.declared.message.Up.{Up}
@@ -33,7 +32,7 @@ down_text down.NoMessage = codes "No_message"
 down_text (down.Popup onu) = codes "POPUP " ++ decimal onu
 down_text (down.Other id octet1 body) = other_text id octet1 body
 
--- a message of a unit
+-- a message of a unit; the copy in an Acknowledge is left out
 abbrev pub up_text : Up → List ℕ
 up_text (up.SerialNumber onu serial random flags) =
     codes "Serial_Number_ONU " ++ decimal onu ++ codes " " ++ text_of_serial serial ++ codes " " ++ decimal random ++ codes " " ++ decimal flags

@@ -25,15 +25,15 @@ pub fn code_in(text: &[u8]) -> Result<[u8; 13], LineFault>
     }
 }
 
-/// Whether each character is a hexadecimal digit.
+/// Whether each byte is a hexadecimal digit.
 fn are_digits(text: &[u8]) -> bool
     ensures { result ≡ list_all is_hex_digit text.now }
 {
-    text.iter().all(|character| is_digit(*character))
+    text.iter().all(|byte| is_digit(*byte))
 }
 
-fn is_digit(character: u8) -> bool
-    ensures { result ≡ is_hex_digit character }
+fn is_digit(byte: u8) -> bool
+    ensures { result ≡ is_hex_digit byte }
 {
-    matches!(character, b'A'..=b'F' | b'a'..=b'f' | b'0'..=b'9')
+    matches!(byte, b'A'..=b'F' | b'a'..=b'f' | b'0'..=b'9')
 }

@@ -4,7 +4,7 @@ ghost use Rattle.std.specs.Prelude.{◌≡◌};
 ghost use Rattle.gp_decode.specs.Faults.{report_line, report_status};
 
 use gp_ploam::PloamFault;
-use gp_stream::WriteStopped;
+use gp_stream::{WriteStopped, memory_report, write_report};
 use std::alloc::AllocError;
 use thiserror::Error;
 
@@ -12,15 +12,16 @@ use thiserror::Error;
 /// applies is told; they come before any memory is taken and before anything is written.
 #[derive(Clone, Copy, Debug, PartialEq, Eq, Error)]
 pub enum LineFault {
-    /// An odd number of characters; or an even number of digits for another number of octets than 13.
+    /// An odd number of bytes; or an even number of digits for another number of octets than 13.
     #[error("a code has 26 hexadecimal digits")]
     Length,
-    /// A character that is no hexadecimal digit.
+    /// A byte that is no hexadecimal digit, in a text of an even number of bytes.
     #[error("a code is written in hexadecimal digits")]
     Digit,
     /// The check octet is wrong under the mask.
     #[error("the check octet is wrong")]
     Crc,
+    /// There was no memory for the line.
     #[error("out of memory")]
     OutOfMemory,
     /// A write failed or took nothing.
@@ -66,7 +67,7 @@ pub fn line_report(fault: &LineFault) -> (&'static str, u8)
         LineFault::Length => ("oltctl: decode length", 1),
         LineFault::Digit => ("oltctl: decode digit", 1),
         LineFault::Crc => ("oltctl: decode crc", 1),
-        LineFault::OutOfMemory => ("oltctl: memory", 3),
-        LineFault::Write => ("oltctl: write", 4),
+        LineFault::OutOfMemory => memory_report(),
+        LineFault::Write => write_report(),
     }
 }

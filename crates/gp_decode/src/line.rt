@@ -77,10 +77,7 @@ fn up_line(alloc: Global, code: &[u8; 13], mask: Mask) -> Result<String, LineFau
     ensures fault { IfErr result (LacksLineOfCode true mask code.now) }
 {
     let message = UpText(decode_up(code, mask)?);
-    match format!(in alloc; "{message}\n") {
-        Ok(line) => Ok(line),
-        Err(_) => Err(LineFault::OutOfMemory),
-    }
+    Ok(format!(in alloc; "{message}\n")?)
 }
 
 fn down_line(alloc: Global, code: &[u8; 13], mask: Mask) -> Result<String, LineFault>
@@ -88,8 +85,5 @@ fn down_line(alloc: Global, code: &[u8; 13], mask: Mask) -> Result<String, LineF
     ensures fault { IfErr result (LacksLineOfCode false mask code.now) }
 {
     let message = DownText(decode_down(code, mask)?);
-    match format!(in alloc; "{message}\n") {
-        Ok(line) => Ok(line),
-        Err(_) => Err(LineFault::OutOfMemory),
-    }
+    Ok(format!(in alloc; "{message}\n")?)
 }

@@ -104,7 +104,8 @@ impl Display for DownText {
     }
 }
 
-/// A message of a unit, shown by its name and its fields.
+/// A message of a unit, shown by its name and its fields; of Acknowledge the copy of the message is
+/// left out.
 #[derive(Clone, Copy)]
 pub struct UpText(pub Up);
 

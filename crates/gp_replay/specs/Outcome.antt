@@ -10,7 +10,8 @@ use Rattle.gp_trace.specs.Text.{trace_text}
 use Rattle.gp_replay.specs.Play.{PlaysFront}
 use Rattle.gp_replay.specs.Writing.{WritesScript}
 
--- the input was read to its end without a failed read, it is not too long, and this is the script that it says
+-- the input was read to its end without a failed read, it is not too long, and this is the script that it says; which
+-- bytes came is said of a reader that tells its bytes
 pub record ReadsScript (before after : SourceState) (script : ScriptView) : Type 0 where
   pub bytes : List ℕ
   pub read : ReadsWhole before after bytes
@@ -24,14 +25,14 @@ pub record ReadsFault (before after : SourceState) (fault : ScriptFault) : Type 
   pub short : length bytes ≤ MOST_BYTES
   pub says : script_of bytes ≡ Err fault
 
--- the input says a script, which was played, and the writer got the whole trace
+-- the input says a script, which was played, and a writer that tells its bytes got the whole trace
 pub record WritesTrace (before after : SourceState) (old new : SinkState) : Type 0 where
   pub script : ScriptView
   pub input : ReadsScript before after script
   pub trace : WritesScript script old new
 
--- the input says a script, and the writer got no more than a front of what was gathered before and of the trace of
--- entries that play the script from its first event on
+-- the input says a script, and a writer that tells its bytes got no more than a front of what was gathered before and of
+-- the trace of entries that play the script from its first event on
 pub record LeavesFront (before after : SourceState) (old new : SinkState) : Type 0 where
   pub script : ScriptView
   pub input : ReadsScript before after script

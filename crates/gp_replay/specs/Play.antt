@@ -1,4 +1,5 @@
--- What it means to play a script: the steps of one actor, in the order of the script's events (this profile's own rule).
+-- What it means to play a script: its terminal takes the script's events one after another, in their order (this profile's
+-- own rule).
 use Rattle.std.specs.Prelude.{◌≡◌, ℕ, ◌+◌, List, [], ◌∷◌, ◌++◌, Some, min, replicate, slice_get, slice_set}
 use Rattle.std.specs.List.{flat_map}
 use Rattle.gp_machine.specs.declared.event.Event.{Event}
@@ -32,7 +33,7 @@ purse_of Frame free = 0
 purse_of (Burst at bytes) free = min 1 free
 purse_of (Command command) free = 0
 
--- the actor takes the turn: the port that it names makes a step with the licences that are taken for the event,
+-- the terminal takes the turn: the port that it names makes a step with the licences that are taken for the event,
 -- and those that are left after it are free again; the receipt tells the port, the number of the entry there, and the entry
 pub record TakesTurn (old : TerminalState) (turn : Turn) (receipt : Receipt) (new : TerminalState) : Type 0 where
   pub before : PortStand

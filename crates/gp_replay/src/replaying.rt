@@ -1,10 +1,10 @@
-ghost use Rattle.std.specs.Prelude.{◌≡◌, ◌≢◌, ◌<◌, ◌≤◌, ◌⊎◌, ◌↔◌, ℕ, List, All, IfErr, OnOk, IsTrue, Err, true, false, length, vec_len};
+ghost use Rattle.std.specs.Prelude.{◌≡◌, ◌≢◌, ◌<◌, ◌≤◌, ◌⊎◌, ◌↔◌, ℕ, List, All, IfErr, IsErr, OnOk, IsTrue, Err, true, false, length, vec_len};
 ghost use Rattle.gp_machine.specs.Config.{is_within_limits};
 ghost use Rattle.gp_script.specs.declared.fault.ScriptFault.{ScriptFault as AnyScriptFault};
 ghost use Rattle.gp_script.specs.Script.{script_of, most_events};
 ghost use Rattle.gp_script.specs.View.{event_port, script_view};
-ghost use Rattle.gp_stream.specs.Source.{source_state, ReadsTooMuch, WasReadable};
-ghost use Rattle.gp_stream.specs.Sink.{sink_state, has_stopped};
+ghost use Rattle.gp_stream.specs.Source.{has_failed, source_state, ReadsTooMuch, WasReadable};
+ghost use Rattle.gp_stream.specs.Sink.{sink_state, has_stopped, writer_of};
 ghost use Rattle.gp_replay.specs.Terminal.{opening_terminal};
 ghost use Rattle.gp_replay.specs.Play.{all_turns};
 ghost use Rattle.gp_replay.specs.Writing.{WritesFront, WritesScript};
@@ -14,6 +14,7 @@ use super::fault::{PlayFault, RunFault};
 use super::line_buffer::LineBuffer;
 use super::playing::play_events;
 use super::terminal::Terminal;
+use gp_licence::MOST_LICENCES;
 use gp_script::Script;
 use gp_stream::{MOST_BYTES, Sink, Source};
 use std::alloc::Global;
@@ -29,8 +30,8 @@ fn play_on<L: Ledger, W: Write>(
     sink: &mut Sink<W>,
 ) -> Result<(), PlayFault>
     requires name { blank.name ≡ L.name }
-    requires parts { (blank.parts ≡ L.parts) × (L.parts ≡ 4064) }
-    requires licences { script.now.licences ≤ 4064 }
+    requires parts { (blank.parts ≡ L.parts) × (L.parts ≡ MOST_LICENCES) }
+    requires licences { script.now.licences ≤ MOST_LICENCES }
     requires limits { All (λ config. IsTrue (is_within_limits config)) script.now.ports.items }
     requires events { All (λ e. event_port e < vec_len script.now.ports) script.now.events.items }
     requires few { length script.now.events.items ≤ most_events }
@@ -39,6 +40,7 @@ fn play_on<L: Ledger, W: Write>(
     ensures front { result ≡ Err PlayFault.Write → WritesFront script.now.mask (opening_terminal (script_view script.now)) (all_turns script.now.events.items) (sink_state W.contents sink.old) (sink_state W.contents sink.new) }
     ensures write { result ≡ Err PlayFault.Write → has_stopped sink.new ≡ true }
     ensures memory { result ≡ Err PlayFault.OutOfMemory → sink.new ≡ sink.old }
+    ensures refused { has_stopped sink.old ≡ true → IsErr result × (writer_of sink.new ≡ writer_of sink.old) }
 {
     let mut buffer = LineBuffer::new(alloc)?;
     let mut terminal = Terminal::<L>::begin(alloc, blank, script)?;
@@ -50,30 +52,12 @@ fn play_on<L: Ledger, W: Write>(
     Ok(())
 }
 
-/// Plays a script and writes its trace.
-fn play_script<W: Write>(
-    alloc: Global,
-    script: &Script,
-    sink: &mut Sink<W>,
-) -> Result<(), PlayFault>
-    requires licences { script.now.licences ≤ 4064 }
-    requires limits { All (λ config. IsTrue (is_within_limits config)) script.now.ports.items }
-    requires events { All (λ e. event_port e < vec_len script.now.ports) script.now.events.items }
-    requires few { length script.now.events.items ≤ most_events }
-    ensures ok { OnOk result (WritesScript (script_view script.now) (sink_state W.contents sink.old) (sink_state W.contents sink.new)) }
-    ensures finished { OnOk result (has_stopped sink.new ≡ false) }
-    ensures front { result ≡ Err PlayFault.Write → WritesFront script.now.mask (opening_terminal (script_view script.now)) (all_turns script.now.events.items) (sink_state W.contents sink.old) (sink_state W.contents sink.new) }
-    ensures write { result ≡ Err PlayFault.Write → has_stopped sink.new ≡ true }
-    ensures memory { result ≡ Err PlayFault.OutOfMemory → sink.new ≡ sink.old }
-{
-    play_on::<Brand, W>(alloc, Blank::new(4064), script, sink)
-}
-
 /// Reads a script to the end of the source, plays it, and writes its trace, all of it or up to the
 /// first fault. All memory is taken before the first event is played.
 ///
-/// What the sink gathered before goes out first. A source or a sink that has failed already answers
-/// `Read` or `Write`.
+/// What the sink gathered before goes out first. Of a source with a failed read nothing is read, and
+/// `Read` is answered. To a sink that has stopped nothing is written; a fault of reading, of the
+/// script or of memory still comes first, and else `Write` is answered.
 pub fn run_replay<R: Read, W: Write>(
     alloc: Global,
     source: &mut Source<R>,
@@ -87,6 +71,8 @@ pub fn run_replay<R: Read, W: Write>(
     ensures too_long { result ≡ Err RunFault.TooLong → ReadsTooMuch MOST_BYTES (source_state R.remaining source.old) (source_state R.remaining source.new) }
     ensures script { (fault : AnyScriptFault) → result ≡ Err (RunFault.Script fault) → ReadsFault (source_state R.remaining source.old) (source_state R.remaining source.new) fault }
     ensures write { result ≡ Err RunFault.Write → has_stopped sink.new ≡ true }
+    ensures refused { has_failed source.old ≡ true → (result ≡ Err RunFault.Read) × (source.new ≡ source.old) }
+    ensures stopped { has_stopped sink.old ≡ true → IsErr result × (writer_of sink.new ≡ writer_of sink.old) }
     ensures mismatch { result ≢ Err RunFault.Mismatch }
 
     // A failed read is always answered, and of a known input, memory aside, its length and its first
@@ -103,6 +89,6 @@ pub fn run_replay<R: Read, W: Write>(
 {
     let bytes = gp_stream::read_all(alloc, source)?;
     let script = gp_script::read_script(alloc, bytes.as_slice())?;
-    play_script(alloc, &script, sink)?;
+    play_on::<Brand, W>(alloc, Blank::new(u64::from(MOST_LICENCES)), &script, sink)?;
     Ok(())
 }

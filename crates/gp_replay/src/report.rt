@@ -3,6 +3,7 @@ ghost use Rattle.gp_replay.specs.Report.{report_line, report_status};
 
 use super::fault::RunFault;
 use gp_script::ScriptFault;
+use gp_stream::{memory_report, write_report};
 
 /// The line on standard error for a fault, without its line feed, and the exit status.
 pub fn run_report(fault: &RunFault) -> (&'static str, u8)
@@ -13,8 +14,8 @@ pub fn run_report(fault: &RunFault) -> (&'static str, u8)
         RunFault::Read => ("oltctl: read", 1),
         RunFault::TooLong => ("oltctl: too long", 1),
         RunFault::Script(fault) => (script_line(fault), 1),
-        RunFault::OutOfMemory => ("oltctl: memory", 3),
-        RunFault::Write => ("oltctl: write", 4),
+        RunFault::OutOfMemory => memory_report(),
+        RunFault::Write => write_report(),
         RunFault::Mismatch => ("oltctl: mismatch", 5),
     }
 }

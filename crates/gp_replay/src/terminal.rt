@@ -8,7 +8,7 @@ ghost use Rattle.gp_replay.specs.Terminal.{HasRoom, licences_of, opened_port, op
 ghost use Rattle.gp_replay.specs.Play.{TakesTurn, purse_of};
 
 use super::turn::Turn;
-use gp_licence::{LicenceBook, Licences};
+use gp_licence::{LicenceBook, Licences, MOST_LICENCES};
 use gp_machine::{Entry, Event, PortConfig, Receipt};
 use gp_port::PortCore;
 use gp_script::Script;
@@ -112,8 +112,8 @@ impl<L: Ledger> Terminal<L> {
         script: &Script,
     ) -> Result<Terminal<L>, AllocError>
         requires name { blank.name ≡ L.name }
-        requires parts { (blank.parts ≡ L.parts) × (L.parts ≡ 4064) }
-        requires licences { script.now.licences ≤ 4064 }
+        requires parts { (blank.parts ≡ L.parts) × (L.parts ≡ MOST_LICENCES) }
+        requires licences { script.now.licences ≤ MOST_LICENCES }
         requires limits { All (λ config. IsTrue (is_within_limits config)) script.now.ports.items }
         ensures opened { IfOk result (λ t. t ≡ opening_terminal (script_view script.now)) }
         ensures ports { IfOk result (λ t. length t.ports ≡ vec_len script.now.ports) }

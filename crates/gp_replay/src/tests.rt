@@ -251,46 +251,48 @@ fn as_long_as_may_be_and_longer(rt: HostRuntime) -> Result<(), Fail> {
 
 /// The line on standard error and the status of each fault; the line is the program's name and the
 /// fault's text.
+/// Each fault, its line on standard error and the exit status.
+const REPORTS: [(RunFault, &'static str, u8); 11] = [
+    (RunFault::Read, "oltctl: read", 1),
+    (RunFault::TooLong, "oltctl: too long", 1),
+    (
+        RunFault::Script(ScriptFault::Syntax),
+        "oltctl: script 1 syntax",
+        1,
+    ),
+    (
+        RunFault::Script(ScriptFault::Shape),
+        "oltctl: script 2 shape",
+        1,
+    ),
+    (
+        RunFault::Script(ScriptFault::Range),
+        "oltctl: script 3 range",
+        1,
+    ),
+    (
+        RunFault::Script(ScriptFault::Serial),
+        "oltctl: script 4 serial",
+        1,
+    ),
+    (
+        RunFault::Script(ScriptFault::Hex),
+        "oltctl: script 5 hex",
+        1,
+    ),
+    (
+        RunFault::Script(ScriptFault::Duplicate),
+        "oltctl: script 6 duplicate",
+        1,
+    ),
+    (RunFault::OutOfMemory, "oltctl: memory", 3),
+    (RunFault::Write, "oltctl: write", 4),
+    (RunFault::Mismatch, "oltctl: mismatch", 5),
+];
+
 #[test]
 fn reports(rt: HostRuntime) -> Result<(), Fail> {
-    let rows = [
-        (RunFault::Read, "oltctl: read", 1),
-        (RunFault::TooLong, "oltctl: too long", 1),
-        (
-            RunFault::Script(ScriptFault::Syntax),
-            "oltctl: script 1 syntax",
-            1,
-        ),
-        (
-            RunFault::Script(ScriptFault::Shape),
-            "oltctl: script 2 shape",
-            1,
-        ),
-        (
-            RunFault::Script(ScriptFault::Range),
-            "oltctl: script 3 range",
-            1,
-        ),
-        (
-            RunFault::Script(ScriptFault::Serial),
-            "oltctl: script 4 serial",
-            1,
-        ),
-        (
-            RunFault::Script(ScriptFault::Hex),
-            "oltctl: script 5 hex",
-            1,
-        ),
-        (
-            RunFault::Script(ScriptFault::Duplicate),
-            "oltctl: script 6 duplicate",
-            1,
-        ),
-        (RunFault::OutOfMemory, "oltctl: memory", 3),
-        (RunFault::Write, "oltctl: write", 4),
-        (RunFault::Mismatch, "oltctl: mismatch", 5),
-    ];
-    for (fault, line, status) in rows {
+    for (fault, line, status) in REPORTS {
         assert_eq!(rt; run_report(&fault), (line, status));
         let text = format!(in rt.alloc(); "oltctl: {fault}")?;
         assert_eq!(rt; text.as_str(), line);

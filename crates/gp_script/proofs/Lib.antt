@@ -1,3 +1,4 @@
 pub mod AdmitLemmas
+pub mod EventsLemmas
 pub mod ItemsLemmas
 pub mod TextLemmas

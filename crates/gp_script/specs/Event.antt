@@ -1,5 +1,5 @@
 -- The tables under `event` (this profile's own rule).
-use Rattle.std.specs.Prelude.{ℕ, List, [], ◌∷◌, ◌++◌, ◌-◌, Result, Ok, Err, if◌then◌else◌, codes, is_some}
+use Rattle.std.specs.Prelude.{ℕ, List, [], ◌∷◌, Result, Ok, Err, if◌then◌else◌, codes, is_some}
 use Rattle.std.specs.Str.{bytes_eq}
 use Rattle.toml.specs.Data.{table, Items, no_items, item, Members, get_member}
 use Rattle.gp_ploam.specs.declared.check.Mask.{Mask}
@@ -14,7 +14,7 @@ use Rattle.gp_script.specs.declared.fault.ScriptFault.{ScriptFault}
 use Rattle.gp_script.specs.declared.fault.ScriptFault.TheVariants as fault
 use Rattle.gp_script.specs.Fault.{◌>>=◌, needs}
 use Rattle.gp_script.specs.Keys.{has_only, number_at, needed_number, needed_text}
-use Rattle.gp_script.specs.Values.{in_range, in_range_or, serial_of, octets_of}
+use Rattle.gp_script.specs.Values.{delay_in, in_range, in_range_or, octets_of, port_in, serial_of}
 
 -- so many frames at a port; each function is given how many ports there are
 unfoldable pub frames_event : ℕ → Members → Result ScriptEvent ScriptFault
@@ -22,7 +22,7 @@ frames_event ports ms = do
   _ ← needs fault.Shape (has_only (codes "port" ∷ codes "frames" ∷ []) ms)
   port ← needed_number (codes "port") ms
   frames ← needed_number (codes "frames") ms
-  port ← in_range 0 (ports - 1) port
+  port ← port_in ports port
   count ← in_range 1 1000000 frames
   Ok (Frames port count)
 
@@ -33,8 +33,8 @@ burst_event ports ms = do
   port ← needed_number (codes "port") ms
   at ← needed_number (codes "at") ms
   burst ← needed_text (codes "burst") ms
-  port ← in_range 0 (ports - 1) port
-  at ← in_range 0 4294967295 at
+  port ← port_in ports port
+  at ← delay_in at
   bytes ← octets_of 13 burst
   Ok (Burst port at bytes)
 
@@ -50,8 +50,8 @@ say_serial ports mask ms = do
   at ← needed_number (codes "at") ms
   serial ← needed_text (codes "serial") ms
   onu ← number_at (codes "onu") ms
-  port ← in_range 0 (ports - 1) port
-  at ← in_range 0 4294967295 at
+  port ← port_in ports port
+  at ← delay_in at
   serial ← serial_of serial
   onu ← in_range_or 255 0 255 onu
   Ok (said mask port at (SerialNumber onu serial 0 0))
@@ -63,8 +63,8 @@ say_none ports mask ms = do
   port ← needed_number (codes "port") ms
   at ← needed_number (codes "at") ms
   onu ← needed_number (codes "onu") ms
-  port ← in_range 0 (ports - 1) port
-  at ← in_range 0 4294967295 at
+  port ← port_in ports port
+  at ← delay_in at
   onu ← in_range 0 255 onu
   Ok (said mask port at (NoMessage onu))
 
@@ -83,7 +83,7 @@ command_event ports ms = do
   port ← needed_number (codes "port") ms
   word ← needed_text (codes "command") ms
   _ ← needs fault.Shape (bytes_eq word (codes "search"))
-  port ← in_range 0 (ports - 1) port
+  port ← port_in ports port
   Ok (Command port commands.Search)
 
 -- an event table; its form is told by the key that this form alone has
@@ -95,10 +95,11 @@ event_of ports mask ms =
     else if is_some (get_member (codes "command") ms) then command_event ports ms
     else Err fault.Shape
 
--- the events of the event tables, behind those before them
-unfoldable pub events_from : ℕ → Mask → List ScriptEvent → Items → Result (List ScriptEvent) ScriptFault
-events_from ports mask before no_items = Ok before
-events_from ports mask before (item (table ms) ds) = do
+-- the events of the event tables, in their order
+unfoldable pub events_of : ℕ → Mask → Items → Result (List ScriptEvent) ScriptFault
+events_of ports mask no_items = Ok []
+events_of ports mask (item (table ms) ds) = do
   event ← event_of ports mask ms
-  events_from ports mask (before ++ event ∷ []) ds
-events_from ports mask before (item _ ds) = Err fault.Shape
+  events ← events_of ports mask ds
+  Ok (event ∷ events)
+events_of ports mask (item _ ds) = Err fault.Shape

@@ -12,7 +12,11 @@ use Rattle.gp_script.specs.Fault.{◌>>=◌, needs}
 use Rattle.gp_script.specs.Keys.{has_only, number_at, needed_number, list_at, needed_list, are_tables, is_empty}
 use Rattle.gp_script.specs.Values.{in_range, count_in, mask_of}
 use Rattle.gp_script.specs.Port.{ports_from}
-use Rattle.gp_script.specs.Event.{events_from}
+use Rattle.gp_script.specs.Event.{events_of}
+
+-- how many licences a script may have
+abbrev pub most_licences : ℕ
+most_licences = 4064
 
 -- how many ports a script may have: one for now
 abbrev pub most_ports : ℕ
@@ -56,12 +60,12 @@ pub record ScriptView : Type 0 where
 unfoldable pub script_of_table : Members → Result ScriptView ScriptFault
 script_of_table ms = do
   shape ← top_shape ms
-  licences ← in_range 0 4064 shape.licences
+  licences ← in_range 0 most_licences shape.licences
   mask ← mask_of shape.mask
   count ← count_in 1 most_ports shape.ports
   _ ← count_in 0 most_events shape.events
   ports ← ports_from mask [] shape.ports
-  events ← events_from count mask [] shape.events
+  events ← events_of count mask shape.events
   Ok (record { licences = licences; mask = mask; ports = ports; events = events })
 
 -- the text that bytes are

@@ -1,5 +1,5 @@
 -- The values of keys, each in its range (this profile's own rule).
-use Rattle.std.specs.Prelude.{ℕ, ℤ, pos, negsuc, List, ◌&&◌, Option, Some, None, Result, Ok, Err, nat_le, ◌==◌, if◌then◌else◌}
+use Rattle.std.specs.Prelude.{ℕ, ℤ, pos, negsuc, List, ◌-◌, ◌&&◌, Option, Some, None, Result, Ok, Err, nat_le, ◌==◌, if◌then◌else◌}
 use Rattle.toml.specs.Data.{Items}
 use Rattle.hex.specs.Hex.{decode_sized}
 use Rattle.hex.specs.declared.error.FromHexError.{FromHexError}
@@ -22,6 +22,14 @@ abbrev pub in_range_or : ℕ → ℕ → ℕ → Option ℤ → Result ℕ Scrip
 in_range_or default low high None = Ok default
 in_range_or default low high (Some z) = in_range low high z
 
+-- the place of one of so many ports
+abbrev pub port_in : ℕ → ℤ → Result ℕ ScriptFault
+port_in ports number = in_range 0 (ports - 1) number
+
+-- a round-trip delay in bit times
+abbrev pub delay_in : ℤ → Result ℕ ScriptFault
+delay_in number = in_range 0 4294967295 number
+
 -- as many items as a range allows
 abbrev pub count_in : ℕ → ℕ → Items → Result ℕ ScriptFault
 count_in low high ds = if nat_le low (item_count ds) && nat_le (item_count ds) high then Ok (item_count ds) else Err fault.Range
@@ -33,13 +41,13 @@ mask_of (Some (pos n)) = if n == 0 then Ok Plain else if n == 85 then Ok Coset e
 mask_of (Some (negsuc n)) = Err fault.Range
 
 -- a serial number, whatever is wrong with its text
-abbrev pub serial_or_fault : Result Serial SerialFault → Result Serial ScriptFault
-serial_or_fault (Ok serial) = Ok serial
-serial_or_fault (Err e) = Err fault.Serial
+abbrev pub serial_or_script_fault : Result Serial SerialFault → Result Serial ScriptFault
+serial_or_script_fault (Ok serial) = Ok serial
+serial_or_script_fault (Err e) = Err fault.Serial
 
 -- the serial number that a text spells
 abbrev pub serial_of : List ℕ → Result Serial ScriptFault
-serial_of text = serial_or_fault (serial_of_text text)
+serial_of text = serial_or_script_fault (serial_of_text text)
 
 -- octets, whatever is wrong with their digits
 abbrev pub octets_or_fault : Result (List ℕ) FromHexError → Result (List ℕ) ScriptFault

@@ -1,4 +1,4 @@
-ghost use Rattle.std.specs.Prelude.{◌≡◌, ◌<◌, [], IfOk, All, length, vec_len};
+ghost use Rattle.std.specs.Prelude.{◌≡◌, ◌<◌, IfOk, All, length, vec_len};
 ghost use Rattle.toml.specs.View.{table_view, items_view};
 ghost use Rattle.gp_script.specs.Fault.{Gives};
 ghost use Rattle.gp_script.specs.Event as spec;
@@ -7,7 +7,7 @@ ghost use Rattle.gp_script.specs.View.{event_port};
 use crate::fault::{ScriptError, ScriptFault};
 use crate::keys::{has_only, member, needed_number, needed_text, needs, number_at};
 use crate::script::ScriptEvent;
-use crate::values::{code_of, in_range, in_range_or, serial_of};
+use crate::values::{code_of, delay_in, in_range, in_range_or, port_in, serial_of};
 use gp_machine::Command;
 use gp_ploam::{Mask, Up, encode_up};
 use std::alloc::Global;
@@ -23,7 +23,7 @@ fn frames_event(ports: u8, table: &Table) -> Result<ScriptEvent, ScriptFault>
     needs(ScriptFault::Shape, has_only(table, &["port", "frames"]))?;
     let port = needed_number(table, "port")?;
     let frames = needed_number(table, "frames")?;
-    let port = in_range(0, ports as u32 - 1, port)? as u8;
+    let port = port_in(ports, port)?;
     let count = in_range(1, 1_000_000, frames)?;
     Ok(ScriptEvent::Frames { port, count })
 }
@@ -42,8 +42,8 @@ fn burst_event(ports: u8, table: &Table) -> Result<ScriptEvent, ScriptFault>
     let port = needed_number(table, "port")?;
     let at = needed_number(table, "at")?;
     let burst = needed_text(table, "burst")?;
-    let port = in_range(0, ports as u32 - 1, port)? as u8;
-    let at = in_range(0, u32::MAX, at)?;
+    let port = port_in(ports, port)?;
+    let at = delay_in(at)?;
     let bytes = code_of(burst)?;
     Ok(ScriptEvent::Burst { port, at, bytes })
 }
@@ -61,8 +61,8 @@ fn say_serial(ports: u8, mask: Mask, table: &Table) -> Result<ScriptEvent, Scrip
     let at = needed_number(table, "at")?;
     let serial = needed_text(table, "serial")?;
     let onu = number_at(table, "onu")?;
-    let port = in_range(0, ports as u32 - 1, port)? as u8;
-    let at = in_range(0, u32::MAX, at)?;
+    let port = port_in(ports, port)?;
+    let at = delay_in(at)?;
     let serial = serial_of(serial)?;
     let onu = in_range_or(255, 0, 255, onu)? as u8;
     let message = Up::SerialNumber {
@@ -87,8 +87,8 @@ fn say_none(ports: u8, mask: Mask, table: &Table) -> Result<ScriptEvent, ScriptF
     let port = needed_number(table, "port")?;
     let at = needed_number(table, "at")?;
     let onu = needed_number(table, "onu")?;
-    let port = in_range(0, ports as u32 - 1, port)? as u8;
-    let at = in_range(0, u32::MAX, at)?;
+    let port = port_in(ports, port)?;
+    let at = delay_in(at)?;
     let onu = in_range(0, 255, onu)? as u8;
     let bytes = encode_up(&Up::NoMessage { onu }, mask);
     Ok(ScriptEvent::Burst { port, at, bytes })
@@ -120,7 +120,7 @@ fn command_event(ports: u8, table: &Table) -> Result<ScriptEvent, ScriptFault>
     let port = needed_number(table, "port")?;
     let word = needed_text(table, "command")?;
     needs(ScriptFault::Shape, word == "search")?;
-    let port = in_range(0, ports as u32 - 1, port)? as u8;
+    let port = port_in(ports, port)?;
     Ok(ScriptEvent::Command {
         port,
         command: Command::Search,
@@ -148,7 +148,7 @@ fn event_of(ports: u8, mask: Mask, table: &Table) -> Result<ScriptEvent, ScriptF
 }
 
 /// The events of the event tables.
-#[tactic(auto, unfolding(crate::specs::Event::events_from))]
+#[tactic(auto, unfolding(crate::specs::Event::events_of), using(crate::proofs::EventsLemmas::behind_nothing, crate::proofs::EventsLemmas::behind_push))]
 pub(crate) fn events_of(
     alloc: Global,
     ports: u8,
@@ -156,9 +156,9 @@ pub(crate) fn events_of(
     tables: &[Value],
 ) -> Result<Vec<ScriptEvent>, ScriptError>
     requires { 0 < ports }
-    ensures value { Gives (λ v. v.items) result (spec.events_from ports mask [] (items_view tables.now)) }
+    ensures value { Gives (λ v. v.items) result (spec.events_of ports mask (items_view tables.now)) }
     ensures ports { IfOk result (λ v. All (λ e. event_port e < ports) v.items) }
-    ensures each { IfOk result (λ v. vec_len v ≡ length tables.now) }
+    ensures count { IfOk result (λ v. vec_len v ≡ length tables.now) }
 {
     let mut events = Vec::new(alloc);
     'tables: for value in tables {

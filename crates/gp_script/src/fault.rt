@@ -31,8 +31,10 @@ pub enum ScriptFault {
 /// Why a script was not read.
 #[derive(Clone, Copy, Debug, PartialEq, Eq, Error)]
 pub enum ScriptError {
+    /// There was no memory for the tables or for the script.
     #[error("out of memory")]
     OutOfMemory,
+    /// What the bytes say is no script.
     #[error(transparent)]
     Fault(ScriptFault),
 }

@@ -4,7 +4,7 @@ ghost use Rattle.toml.specs.Parse.{parse_document};
 ghost use Rattle.toml.specs.View.{table_view};
 ghost use Rattle.gp_machine.specs.Config.{is_within_limits};
 ghost use Rattle.gp_script.specs.Fault.{Gives, Sees};
-ghost use Rattle.gp_script.specs.Script.{top_shape, script_of_table, script_of, text_of, table_or_fault, most_ports, most_events};
+ghost use Rattle.gp_script.specs.Script.{top_shape, script_of_table, script_of, text_of, table_or_fault, most_licences, most_ports, most_events};
 ghost use Rattle.gp_script.specs.View.{top_keys_view, script_view, event_port};
 
 use crate::events::events_of;
@@ -17,6 +17,9 @@ use crate::script::Script;
 use crate::values::{count_in, in_range, mask_of};
 use std::alloc::Global;
 use toml::{Table, Value};
+
+/// How many licences a script may have.
+const MOST_LICENCES: u32 = 4064;
 
 /// How many ports a script may have: one for now.
 const MOST_PORTS: u32 = 1;
@@ -63,7 +66,7 @@ fn top_keys(table: &Table) -> Result<TopKeys<'_>, ScriptFault>
 #[tactic(auto, unfolding(crate::specs::Script::script_of_table))]
 fn read_table(alloc: Global, table: &Table) -> Result<Script, ScriptError>
     ensures value { Gives script_view result (script_of_table (table_view table.now)) }
-    ensures licences { IfOk result (λ s. s.licences ≤ 4064) }
+    ensures licences { IfOk result (λ s. s.licences ≤ most_licences) }
     ensures some_port { IfOk result (λ s. 0 < vec_len s.ports) }
     ensures few_ports { IfOk result (λ s. vec_len s.ports ≤ most_ports) }
     ensures limits { IfOk result (λ s. All (λ port. IsTrue (is_within_limits port)) s.ports.items) }
@@ -71,7 +74,7 @@ fn read_table(alloc: Global, table: &Table) -> Result<Script, ScriptError>
     ensures few_events { IfOk result (λ s. vec_len s.events ≤ most_events) }
 {
     let shape = top_keys(table)?;
-    let licences = in_range(0, 4064, shape.licences)?;
+    let licences = in_range(0, MOST_LICENCES, shape.licences)?;
     let mask = mask_of(shape.mask)?;
     let count = count_in(1, MOST_PORTS, shape.ports)? as u8;
     count_in(0, MOST_EVENTS, shape.events)?;
@@ -115,7 +118,7 @@ fn parse_table(alloc: Global, text: &str) -> Result<Table, ScriptError>
 pub fn read_script(alloc: Global, bytes: &[u8]) -> Result<Script, ScriptError>
     ensures value { Gives script_view result (script_of bytes.now) }
     ensures memory { result ≡ Err ScriptError.OutOfMemory → IsTrue (is_utf8 bytes.now) }
-    ensures licences { IfOk result (λ s. s.licences ≤ 4064) }
+    ensures licences { IfOk result (λ s. s.licences ≤ most_licences) }
     ensures some_port { IfOk result (λ s. 0 < vec_len s.ports) }
     ensures few_ports { IfOk result (λ s. vec_len s.ports ≤ most_ports) }
     ensures limits { IfOk result (λ s. All (λ port. IsTrue (is_within_limits port)) s.ports.items) }

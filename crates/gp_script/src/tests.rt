@@ -30,6 +30,238 @@ serial = \"ABCD00000001\"
 onu = 0
 ";
 
+/// What stands before a value and behind it, two values outside its range, and its two ends.
+type Range = (
+    &'static str,
+    &'static str,
+    [&'static str; 2],
+    [&'static str; 2],
+);
+
+/// Scripts with a fault of the top.
+const TOP_FAULTS: [(&'static str, ScriptFault); 14] = [
+    ("", ScriptFault::Shape),
+    ("licences = ", ScriptFault::Syntax),
+    ("licences = 1", ScriptFault::Shape),
+    ("port = [{}]", ScriptFault::Shape),
+    ("licences = 1\nport = 3", ScriptFault::Shape),
+    ("licences = 1\nport = []", ScriptFault::Range),
+    ("licences = 1\nport = [{}, {}]", ScriptFault::Range),
+    ("licences = 1\nport = [{}, 3]", ScriptFault::Shape),
+    ("licences = 1\nport = [{}]\nmasks = 0", ScriptFault::Shape),
+    ("licences = 1\nport = [{}]\n[[unit]]", ScriptFault::Shape),
+    ("licences = 1\nport = [{}]\n[[lose]]", ScriptFault::Shape),
+    ("licences = 1\nport = [{}]\n[unit]", ScriptFault::Shape),
+    ("licences = 1\nport = [{}]\nevent = [1]", ScriptFault::Shape),
+    ("licences = 1\nport = [{}]\n[[event]]", ScriptFault::Shape),
+];
+
+/// Scripts with a fault of a port table.
+const PORT_FAULTS: [(&'static str, ScriptFault); 7] = [
+    ("licences = 1\nport = [{cycle = 1}]", ScriptFault::Shape),
+    ("licences = 1\nport = [{cycles = 1.0}]", ScriptFault::Shape),
+    (
+        "licences = 1\nport = [{admit = \"ABCD00000001\"}]",
+        ScriptFault::Shape,
+    ),
+    ("licences = 1\nport = [{admit = [1]}]", ScriptFault::Shape),
+    (
+        "licences = 1\nport = [{admit = [\"abCD00000001\"]}]",
+        ScriptFault::Serial,
+    ),
+    (
+        "licences = 1\nport = [{overhead = \"000000000000000000\"}]",
+        ScriptFault::Hex,
+    ),
+    (
+        "licences = 1\nport = [{admit = [\"ABCD0000000a\", \"414243440000000A\"]}]",
+        ScriptFault::Duplicate,
+    ),
+];
+
+/// Events with a fault.
+const EVENT_FAULTS: [(&'static str, ScriptFault); 18] = [
+    ("port = 0", ScriptFault::Shape),
+    ("frames = 1", ScriptFault::Shape),
+    ("port = 0, frames = 1, at = 0", ScriptFault::Shape),
+    ("port = 0, frames = \"1\"", ScriptFault::Shape),
+    ("port = 1, frames = 1", ScriptFault::Range),
+    ("port = 0, burst = \"00\"", ScriptFault::Shape),
+    (
+        "port = 0, at = 0, burst = \"0004000000000000000000007\"",
+        ScriptFault::Hex,
+    ),
+    (
+        "port = 0, at = 0, burst = \"0004000000000000000000007g\"",
+        ScriptFault::Hex,
+    ),
+    (
+        "port = 0, at = 0, burst = \"0004000000000000000000007c7c\"",
+        ScriptFault::Hex,
+    ),
+    ("port = 0, at = 0, say = \"serial\"", ScriptFault::Shape),
+    (
+        "port = 0, at = 0, say = \"serial\", serial = \"ABCD0000001\"",
+        ScriptFault::Serial,
+    ),
+    ("port = 0, at = 0, say = \"none\"", ScriptFault::Shape),
+    (
+        "port = 0, at = 0, say = \"gasp\", onu = 0",
+        ScriptFault::Shape,
+    ),
+    (
+        "port = 0, at = 0, say = \"ack\", onu = 0, id = 10",
+        ScriptFault::Shape,
+    ),
+    ("port = 0, at = 0, say = 0, onu = 0", ScriptFault::Shape),
+    ("port = 0, command = \"enable-all\"", ScriptFault::Shape),
+    (
+        "port = 0, command = \"search\", serial = \"ABCD00000001\"",
+        ScriptFault::Shape,
+    ),
+    ("unit = 0, light = true", ScriptFault::Shape),
+];
+
+/// Scripts with two faults, and the first of them.
+const TWO_FAULTS: [(&'static str, ScriptFault); 13] = [
+    ("licences = \"1\"\n[[port", ScriptFault::Syntax),
+    ("licences = 4065\nport = [{cycle = 1}]", ScriptFault::Range),
+    (
+        "licences = \"1\"\nmask = 1\nport = [{}]",
+        ScriptFault::Shape,
+    ),
+    (
+        "licences = 1\nport = [{cycles = 0, unit = 1}]",
+        ScriptFault::Shape,
+    ),
+    (
+        "licences = 1\nport = [{cycles = 0, admit = [\"A\"]}]",
+        ScriptFault::Range,
+    ),
+    (
+        "licences = 1\nport = [{overhead = \"0\", cycles = 0}]",
+        ScriptFault::Range,
+    ),
+    (
+        "licences = 1\nport = [{overhead = \"0\", admit = [\"A\"]}]",
+        ScriptFault::Hex,
+    ),
+    (
+        "licences = 1\nport = [{admit = [\"A\"]}]\n[[event]]",
+        ScriptFault::Serial,
+    ),
+    (
+        "licences = 1\nport = [{admit = [\"ABCD00000001\", \"A\", \"ABCD00000001\"]}]",
+        ScriptFault::Serial,
+    ),
+    (
+        "licences = 1\nport = [{admit = [\"ABCD00000001\", \"ABCD00000001\", \"A\"]}]",
+        ScriptFault::Duplicate,
+    ),
+    (
+        "licences = 1\nport = [{}]\nevent = [{port = 0, at = -1, burst = \"0\"}]",
+        ScriptFault::Range,
+    ),
+    (
+        "licences = 1\nport = [{}]\nevent = [{port = 0, at = 0, burst = \"0\"}, {}]",
+        ScriptFault::Hex,
+    ),
+    (
+        "licences = 1\nport = [{}]\n[[event]]\nport = 0\nat = 0\nsay = \"serial\"\nserial = \"A\"\nonu = 256",
+        ScriptFault::Serial,
+    ),
+];
+
+/// The ranges of the top.
+const TOP_RANGES: [Range; 2] = [
+    (
+        "licences = ",
+        "\nport = [{}]",
+        ["-1", "4065"],
+        ["0", "4064"],
+    ),
+    (
+        "licences = 1\nport = [{}]\nmask = ",
+        "",
+        ["84", "86"],
+        ["0", "85"],
+    ),
+];
+
+/// The ranges of a port table.
+const PORT_RANGES: [Range; 5] = [
+    (
+        "licences = 1\nport = [{teqd = ",
+        "}]",
+        ["-1", "4294967296"],
+        ["0", "4294967295"],
+    ),
+    (
+        "licences = 1\nport = [{max_units = ",
+        "}]",
+        ["0", "255"],
+        ["1", "254"],
+    ),
+    (
+        "licences = 1\nport = [{alloc_last = ",
+        "}]",
+        ["255", "4096"],
+        ["256", "4095"],
+    ),
+    (
+        "licences = 1\nport = [{cycles = ",
+        "}]",
+        ["0", "11"],
+        ["1", "10"],
+    ),
+    (
+        "licences = 1\nport = [{search_period = ",
+        "}]",
+        ["-1", "1000001"],
+        ["0", "1000000"],
+    ),
+];
+
+/// The ranges of an event table.
+const EVENT_RANGES: [Range; 6] = [
+    (
+        "licences = 1\nport = [{}]\nevent = [{command = \"search\", port = ",
+        "}]",
+        ["-1", "1"],
+        ["0", "0"],
+    ),
+    (
+        "licences = 1\nport = [{}]\nevent = [{port = 0, frames = ",
+        "}]",
+        ["0", "1000001"],
+        ["1", "1000000"],
+    ),
+    (
+        "licences = 1\nport = [{}]\nevent = [{port = 0, burst = \"0004000000000000000000007c\", at = ",
+        "}]",
+        ["-1", "4294967296"],
+        ["0", "4294967295"],
+    ),
+    (
+        "licences = 1\nport = [{}]\nevent = [{port = 0, at = 0, say = \"serial\", serial = \"ABCD00000001\", onu = ",
+        "}]",
+        ["-1", "256"],
+        ["0", "255"],
+    ),
+    (
+        "licences = 1\nport = [{}]\nevent = [{port = 0, say = \"none\", onu = 0, at = ",
+        "}]",
+        ["-1", "4294967296"],
+        ["0", "4294967295"],
+    ),
+    (
+        "licences = 1\nport = [{}]\nevent = [{port = 0, at = 0, say = \"none\", onu = ",
+        "}]",
+        ["-1", "256"],
+        ["0", "255"],
+    ),
+];
+
 /// The fault of a script, if it has one. Want of memory ends the test.
 fn fault_of(alloc: Global, bytes: &[u8]) -> Result<Option<ScriptFault>, ScriptError> {
     match read_script(alloc, bytes) {
@@ -37,6 +269,48 @@ fn fault_of(alloc: Global, bytes: &[u8]) -> Result<Option<ScriptFault>, ScriptEr
         Err(ScriptError::Fault(fault)) => Ok(Some(fault)),
         Err(ScriptError::OutOfMemory) => Err(ScriptError::OutOfMemory),
     }
+}
+
+/// The first of these scripts that has another fault or none.
+fn first_other(
+    alloc: Global,
+    scripts: &[(&'static str, ScriptFault)],
+) -> Result<Option<&'static str>, ScriptError> {
+    for (text, fault) in scripts {
+        if fault_of(alloc, text.as_bytes())? != Some(*fault) {
+            return Ok(Some(*text));
+        }
+    }
+    Ok(None)
+}
+
+/// Whether each of these values gives this fault, or none.
+fn all_give(
+    alloc: Global,
+    range: &Range,
+    values: &[&'static str; 2],
+    want: Option<ScriptFault>,
+) -> Result<bool, ScriptError> {
+    let (before, after, _, _) = range;
+    for value in values {
+        let text = format!(in alloc; "{before}{value}{after}")?;
+        if fault_of(alloc, text.as_bytes())? != want {
+            return Ok(false);
+        }
+    }
+    Ok(true)
+}
+
+/// The first of these ranges that takes a value outside it or refuses one of its ends.
+fn first_wrong(alloc: Global, ranges: &[Range]) -> Result<Option<&'static str>, ScriptError> {
+    for range in ranges {
+        let refused = all_give(alloc, range, &range.2, Some(ScriptFault::Range))?;
+        let taken = all_give(alloc, range, &range.3, None)?;
+        if !refused || !taken {
+            return Ok(Some(range.0));
+        }
+    }
+    Ok(None)
 }
 
 #[test]
@@ -114,95 +388,21 @@ fn other_forms(rt: HostRuntime) -> Result<(), ScriptError> {
 }
 
 #[test]
-fn faults_of_the_top_and_the_port(rt: HostRuntime) -> Result<(), ScriptError> {
-    let scripts = [
-        ("", ScriptFault::Shape),
-        ("licences = ", ScriptFault::Syntax),
-        ("licences = 1", ScriptFault::Shape),
-        ("port = [{}]", ScriptFault::Shape),
-        ("licences = 1\nport = 3", ScriptFault::Shape),
-        ("licences = 1\nport = []", ScriptFault::Range),
-        ("licences = 1\nport = [{}, {}]", ScriptFault::Range),
-        ("licences = 1\nport = [{}, 3]", ScriptFault::Shape),
-        ("licences = 1\nport = [{}]\nmasks = 0", ScriptFault::Shape),
-        ("licences = 1\nport = [{}]\n[[unit]]", ScriptFault::Shape),
-        ("licences = 1\nport = [{}]\n[[lose]]", ScriptFault::Shape),
-        ("licences = 1\nport = [{}]\n[unit]", ScriptFault::Shape),
-        ("licences = 1\nport = [{}]\nevent = [1]", ScriptFault::Shape),
-        ("licences = 1\nport = [{}]\n[[event]]", ScriptFault::Shape),
-        ("licences = 1\nport = [{cycle = 1}]", ScriptFault::Shape),
-        ("licences = 1\nport = [{cycles = 1.0}]", ScriptFault::Shape),
-        (
-            "licences = 1\nport = [{admit = \"ABCD00000001\"}]",
-            ScriptFault::Shape,
-        ),
-        ("licences = 1\nport = [{admit = [1]}]", ScriptFault::Shape),
-        (
-            "licences = 1\nport = [{admit = [\"abCD00000001\"]}]",
-            ScriptFault::Serial,
-        ),
-        (
-            "licences = 1\nport = [{overhead = \"000000000000000000\"}]",
-            ScriptFault::Hex,
-        ),
-        (
-            "licences = 1\nport = [{admit = [\"ABCD0000000a\", \"414243440000000A\"]}]",
-            ScriptFault::Duplicate,
-        ),
-    ];
-    for (text, fault) in scripts {
-        let found = fault_of(rt.alloc(), text.as_bytes())?;
-        assert_eq!(rt; found, Some(fault), "{text}");
-    }
-    let found = fault_of(rt.alloc(), b"\xff")?;
-    assert_eq!(rt; found, Some(ScriptFault::Syntax));
+fn faults_of_the_top(rt: HostRuntime) -> Result<(), ScriptError> {
+    assert_eq!(rt; first_other(rt.alloc(), &TOP_FAULTS)?, None);
+    assert_eq!(rt; fault_of(rt.alloc(), b"\xff")?, Some(ScriptFault::Syntax));
+    Ok(())
+}
+
+#[test]
+fn faults_of_a_port(rt: HostRuntime) -> Result<(), ScriptError> {
+    assert_eq!(rt; first_other(rt.alloc(), &PORT_FAULTS)?, None);
     Ok(())
 }
 
 #[test]
 fn faults_of_events(rt: HostRuntime) -> Result<(), ScriptError> {
-    let events = [
-        ("port = 0", ScriptFault::Shape),
-        ("frames = 1", ScriptFault::Shape),
-        ("port = 0, frames = 1, at = 0", ScriptFault::Shape),
-        ("port = 0, frames = \"1\"", ScriptFault::Shape),
-        ("port = 1, frames = 1", ScriptFault::Range),
-        ("port = 0, burst = \"00\"", ScriptFault::Shape),
-        (
-            "port = 0, at = 0, burst = \"0004000000000000000000007\"",
-            ScriptFault::Hex,
-        ),
-        (
-            "port = 0, at = 0, burst = \"0004000000000000000000007g\"",
-            ScriptFault::Hex,
-        ),
-        (
-            "port = 0, at = 0, burst = \"0004000000000000000000007c7c\"",
-            ScriptFault::Hex,
-        ),
-        ("port = 0, at = 0, say = \"serial\"", ScriptFault::Shape),
-        (
-            "port = 0, at = 0, say = \"serial\", serial = \"ABCD0000001\"",
-            ScriptFault::Serial,
-        ),
-        ("port = 0, at = 0, say = \"none\"", ScriptFault::Shape),
-        (
-            "port = 0, at = 0, say = \"gasp\", onu = 0",
-            ScriptFault::Shape,
-        ),
-        (
-            "port = 0, at = 0, say = \"ack\", onu = 0, id = 10",
-            ScriptFault::Shape,
-        ),
-        ("port = 0, at = 0, say = 0, onu = 0", ScriptFault::Shape),
-        ("port = 0, command = \"enable-all\"", ScriptFault::Shape),
-        (
-            "port = 0, command = \"search\", serial = \"ABCD00000001\"",
-            ScriptFault::Shape,
-        ),
-        ("unit = 0, light = true", ScriptFault::Shape),
-    ];
-    for (event, fault) in events {
+    for (event, fault) in EVENT_FAULTS {
         let text = format!(in rt.alloc(); "licences = 1\nport = [{{}}]\nevent = [{{{event}}}]")?;
         let found = fault_of(rt.alloc(), text.as_bytes())?;
         assert_eq!(rt; found, Some(fault), "{event}");
@@ -212,156 +412,15 @@ fn faults_of_events(rt: HostRuntime) -> Result<(), ScriptError> {
 
 #[test]
 fn two_faults_at_once(rt: HostRuntime) -> Result<(), ScriptError> {
-    let scripts = [
-        ("licences = \"1\"\n[[port", ScriptFault::Syntax),
-        ("licences = 4065\nport = [{cycle = 1}]", ScriptFault::Range),
-        (
-            "licences = \"1\"\nmask = 1\nport = [{}]",
-            ScriptFault::Shape,
-        ),
-        (
-            "licences = 1\nport = [{cycles = 0, unit = 1}]",
-            ScriptFault::Shape,
-        ),
-        (
-            "licences = 1\nport = [{cycles = 0, admit = [\"A\"]}]",
-            ScriptFault::Range,
-        ),
-        (
-            "licences = 1\nport = [{overhead = \"0\", cycles = 0}]",
-            ScriptFault::Range,
-        ),
-        (
-            "licences = 1\nport = [{overhead = \"0\", admit = [\"A\"]}]",
-            ScriptFault::Hex,
-        ),
-        (
-            "licences = 1\nport = [{admit = [\"A\"]}]\n[[event]]",
-            ScriptFault::Serial,
-        ),
-        (
-            "licences = 1\nport = [{admit = [\"ABCD00000001\", \"A\", \"ABCD00000001\"]}]",
-            ScriptFault::Serial,
-        ),
-        (
-            "licences = 1\nport = [{admit = [\"ABCD00000001\", \"ABCD00000001\", \"A\"]}]",
-            ScriptFault::Duplicate,
-        ),
-        (
-            "licences = 1\nport = [{}]\nevent = [{port = 0, at = -1, burst = \"0\"}]",
-            ScriptFault::Range,
-        ),
-        (
-            "licences = 1\nport = [{}]\nevent = [{port = 0, at = 0, burst = \"0\"}, {}]",
-            ScriptFault::Hex,
-        ),
-        (
-            "licences = 1\nport = [{}]\n[[event]]\nport = 0\nat = 0\nsay = \"serial\"\nserial = \"A\"\nonu = 256",
-            ScriptFault::Serial,
-        ),
-    ];
-    for (text, fault) in scripts {
-        let found = fault_of(rt.alloc(), text.as_bytes())?;
-        assert_eq!(rt; found, Some(fault), "{text}");
-    }
+    assert_eq!(rt; first_other(rt.alloc(), &TWO_FAULTS)?, None);
     Ok(())
 }
 
 #[test]
 fn ends_of_ranges(rt: HostRuntime) -> Result<(), ScriptError> {
-    // What stands before a value and behind it, two values outside its range, and its ends.
-    let rows = [
-        (
-            "licences = ",
-            "\nport = [{}]",
-            ["-1", "4065"],
-            ["0", "4064"],
-        ),
-        (
-            "licences = 1\nport = [{}]\nmask = ",
-            "",
-            ["84", "86"],
-            ["0", "85"],
-        ),
-        (
-            "licences = 1\nport = [{teqd = ",
-            "}]",
-            ["-1", "4294967296"],
-            ["0", "4294967295"],
-        ),
-        (
-            "licences = 1\nport = [{max_units = ",
-            "}]",
-            ["0", "255"],
-            ["1", "254"],
-        ),
-        (
-            "licences = 1\nport = [{alloc_last = ",
-            "}]",
-            ["255", "4096"],
-            ["256", "4095"],
-        ),
-        (
-            "licences = 1\nport = [{cycles = ",
-            "}]",
-            ["0", "11"],
-            ["1", "10"],
-        ),
-        (
-            "licences = 1\nport = [{search_period = ",
-            "}]",
-            ["-1", "1000001"],
-            ["0", "1000000"],
-        ),
-        (
-            "licences = 1\nport = [{}]\nevent = [{command = \"search\", port = ",
-            "}]",
-            ["-1", "1"],
-            ["0", "0"],
-        ),
-        (
-            "licences = 1\nport = [{}]\nevent = [{port = 0, frames = ",
-            "}]",
-            ["0", "1000001"],
-            ["1", "1000000"],
-        ),
-        (
-            "licences = 1\nport = [{}]\nevent = [{port = 0, burst = \"0004000000000000000000007c\", at = ",
-            "}]",
-            ["-1", "4294967296"],
-            ["0", "4294967295"],
-        ),
-        (
-            "licences = 1\nport = [{}]\nevent = [{port = 0, at = 0, say = \"serial\", serial = \"ABCD00000001\", onu = ",
-            "}]",
-            ["-1", "256"],
-            ["0", "255"],
-        ),
-        (
-            "licences = 1\nport = [{}]\nevent = [{port = 0, say = \"none\", onu = 0, at = ",
-            "}]",
-            ["-1", "4294967296"],
-            ["0", "4294967295"],
-        ),
-        (
-            "licences = 1\nport = [{}]\nevent = [{port = 0, at = 0, say = \"none\", onu = ",
-            "}]",
-            ["-1", "256"],
-            ["0", "255"],
-        ),
-    ];
-    for (before, after, outside, inside) in rows {
-        for value in outside {
-            let text = format!(in rt.alloc(); "{before}{value}{after}")?;
-            let found = fault_of(rt.alloc(), text.as_bytes())?;
-            assert_eq!(rt; found, Some(ScriptFault::Range), "{text}");
-        }
-        for value in inside {
-            let text = format!(in rt.alloc(); "{before}{value}{after}")?;
-            let found = fault_of(rt.alloc(), text.as_bytes())?;
-            assert_eq!(rt; found, None, "{text}");
-        }
-    }
+    assert_eq!(rt; first_wrong(rt.alloc(), &TOP_RANGES)?, None);
+    assert_eq!(rt; first_wrong(rt.alloc(), &PORT_RANGES)?, None);
+    assert_eq!(rt; first_wrong(rt.alloc(), &EVENT_RANGES)?, None);
     Ok(())
 }
 

@@ -1,4 +1,4 @@
-ghost use Rattle.std.specs.Prelude.{◌≡◌, ◌≤◌, IfOk, length, option_map};
+ghost use Rattle.std.specs.Prelude.{◌≡◌, ◌<◌, ◌≤◌, IfOk, length, option_map};
 ghost use Rattle.toml.specs.View.{items_view};
 ghost use Rattle.gp_script.specs.Values as spec;
 
@@ -35,6 +35,22 @@ pub(crate) fn in_range_or(
         None => Ok(default),
         Some(number) => in_range(low, high, number),
     }
+}
+
+/// The place of one of so many ports.
+pub(crate) fn port_in(ports: u8, number: i64) -> Result<u8, ScriptFault>
+    requires { 0 < ports }
+    ensures value { result ≡ spec.port_in ports number }
+    ensures within { IfOk result (λ port. port < ports) }
+{
+    Ok(in_range(0, u32::from(ports) - 1, number)? as u8)
+}
+
+/// A round-trip delay in bit times.
+pub(crate) fn delay_in(number: i64) -> Result<u32, ScriptFault>
+    ensures { result ≡ spec.delay_in number }
+{
+    in_range(0, u32::MAX, number)
 }
 
 /// How many items there are, within a range.

@@ -1,3 +1,4 @@
+pub mod Report
 pub mod Sink
 pub mod Source
 pub mod Watched

@@ -20,7 +20,8 @@ room_of s = vec_capacity s.gathered
 abbrev pub has_stopped : {W : Type 0} → Sink W → Bool
 has_stopped s = is_stopped s.writer
 
--- where a sink stands: what the writer holds, where that is known, and what is gathered for it
+-- where a sink stands: what the writer holds, and what is gathered for it. A writer that doesn't tell its bytes (standard
+-- output) has None here; then nothing below says what it got
 pub record SinkState : Type 0 where
   pub held : Option (List ℕ)
   pub gathered : List ℕ

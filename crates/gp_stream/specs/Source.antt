@@ -15,7 +15,8 @@ reads_left s = s.left
 abbrev pub has_failed : {R : Type 0} → Source R → Bool
 has_failed s = s.failed
 
--- where a source stands: the bytes still to come, where they are known, the reads left, and whether one failed
+-- where a source stands: the bytes still to come, the reads left, and whether one failed. A reader that doesn't tell its
+-- bytes (a file, standard input) has None here; then nothing below says which bytes came
 pub record SourceState : Type 0 where
   pub remaining : Option (List ℕ)
   pub reads_left : ℕ
@@ -25,7 +26,7 @@ pub record SourceState : Type 0 where
 abbrev pub source_state : {R : Type 0} → (R → Option (List ℕ)) → Source R → SourceState
 source_state remaining s = record { remaining = remaining (reader_of s); reads_left = reads_left s; has_failed = has_failed s }
 
--- these bytes are all that there was, and no read failed
+-- these bytes are all that there was, where the reader tells its bytes, and no read failed
 pub record ReadsWhole (old new : SourceState) (bytes : List ℕ) : Type 0 where
   pub consumed : Consumes old.remaining new.remaining bytes
   pub end : IsAtEnd new.remaining

@@ -2,6 +2,7 @@
 #![tactic(auto)]
 
 mod reading;
+mod report;
 mod sink;
 mod source;
 #[cfg(test)]
@@ -9,5 +10,6 @@ mod tests;
 mod watched;
 
 pub use reading::{MOST_BYTES, SourceFault, read_all};
+pub use report::{memory_report, write_report};
 pub use sink::{GATHERED_BYTES, Sink, WriteStopped};
 pub use source::{MOST_READS, Source};

@@ -1,5 +1,5 @@
-ghost use Rattle.std.specs.Prelude.{◌≡◌, ◌≢◌, ◌<◌, ◌≤◌, ◌+◌, ◌⊎◌, ◌↔◌, IfOk, List, ℕ, length, vec_len, true, false};
-ghost use Rattle.gp_stream.specs.Source.{reads_left, source_state, ReadsWhole, ReadsSome, ReadsTooMuch, WasReadable};
+ghost use Rattle.std.specs.Prelude.{◌≡◌, ◌≢◌, ◌<◌, ◌≤◌, ◌+◌, ◌⊎◌, ◌↔◌, Err, IfOk, List, ℕ, length, vec_len, true, false};
+ghost use Rattle.gp_stream.specs.Source.{has_failed, reads_left, source_state, ReadsWhole, ReadsSome, ReadsTooMuch, WasReadable};
 
 use crate::source::Source;
 use std::alloc::Global;
@@ -15,10 +15,13 @@ const BLOCK_BYTES: usize = 16_384;
 /// Why the whole input was not read.
 #[derive(Clone, Copy, Debug, PartialEq, Eq, Error)]
 pub enum SourceFault {
+    /// A read failed, now or before, or the input took more than [`crate::MOST_READS`] reads.
     #[error("a read failed, or the input took too many reads")]
     Read,
+    /// More than [`MOST_BYTES`] bytes came.
     #[error("the input is too long")]
     TooLong,
+    /// There was no memory for the bytes.
     #[error("out of memory")]
     OutOfMemory,
 }
@@ -26,7 +29,8 @@ pub enum SourceFault {
 /// All bytes of the input.
 ///
 /// Reading stops at the first read that fails, whatever its error, and where more than
-/// [`MOST_BYTES`] bytes have come. Of a source with a failed read nothing more is read.
+/// [`MOST_BYTES`] bytes have come. Of a source with a failed read nothing more is read, and `Read` is
+/// answered.
 pub fn read_all<R: Read>(alloc: Global, source: &mut Source<R>) -> Result<Vec<u8>, SourceFault>
     ensures whole { IfOk result (λ bytes. ReadsWhole (source_state R.remaining source.old) (source_state R.remaining source.new) bytes.items) }
     ensures short { IfOk result (λ bytes. vec_len bytes ≤ MOST_BYTES) }
@@ -36,6 +40,7 @@ pub fn read_all<R: Read>(alloc: Global, source: &mut Source<R>) -> Result<Vec<u8
     // A failed read is always answered, and only it and the bound of reads are.
     ensures read { result ≡ Err SourceFault.Read → let now = source_state R.remaining source.new in (now.has_failed ≡ true) ⊎ (now.reads_left ≡ 0) }
     ensures failed { let now = source_state R.remaining source.new in now.has_failed ≡ true → result ≡ Err SourceFault.Read }
+    ensures refused { has_failed source.old ≡ true → (result ≡ Err SourceFault.Read) × (source.new ≡ source.old) }
 
     // Each read but the last gives a byte, so the bound of reads is met only by a source of which
     // `MOST_BYTES` reads or fewer are left.

@@ -50,7 +50,7 @@ fn write_all<W: Write>(writer: &mut Watched<W>, bytes: &[u8]) -> Result<(), Writ
 impl<W: Write> Sink<W> {
     ghost use Rattle.gp_stream.specs.Sink.{writer_of, gathered_of, has_stopped, room_of, sink_state, Takes, TakesFront};
 
-    /// A sink with room for [`GATHERED_BYTES`] bytes. Nothing allocates after it.
+    /// A sink with room for [`GATHERED_BYTES`] bytes.
     pub fn new(alloc: Global, inner: W) -> Result<Self, AllocError>
     where
         W: Drop,

@@ -1,4 +1,4 @@
--- The command line: `oltctl replay [FILE]` and `oltctl decode [--up] [--mask 0|85] HEX` (this program's own).
+-- The command line: `oltctl replay [FILE]` and `oltctl decode [--up] [--mask 0|85] HEX` (this profile's own rule).
 use Rattle.std.specs.Prelude.{◌≡◌, List, [], ◌∷◌, Some, map, true, codes}
 use Rattle.std.specs.Borrow.{Bor}
 use Rattle.clap.specs.Simple.{on_top}

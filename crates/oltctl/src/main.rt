@@ -8,7 +8,7 @@ use clap::{ArgMatches, Error};
 use gp_decode::{LineFault, decode_line, line_report};
 use gp_ploam::Mask;
 use gp_replay::{RunFault, run_replay, run_report};
-use gp_stream::{Sink, Source};
+use gp_stream::{Sink, Source, memory_report, write_report};
 use std::io;
 use std::io::Read;
 use std::process::ExitCode;
@@ -86,10 +86,10 @@ fn obey<R: AllocGlobal + Files + Print + Eprint + Input>(rt: &R, matches: &ArgMa
 /// status.
 fn explain<R: Print + Eprint>(rt: &R, error: &Error) -> u8 {
     if error.kind() == ErrorKind::OutOfMemory {
-        return report(rt, run_report(&RunFault::OutOfMemory));
+        return report(rt, memory_report());
     }
     match error.print(rt) {
-        Err(_) => report(rt, run_report(&RunFault::Write)),
+        Err(_) => report(rt, write_report()),
         Ok(()) if error.use_stderr() => BAD_WORDS,
         Ok(()) => 0,
     }
@@ -100,10 +100,20 @@ fn words_of<R: AllocGlobal + Env>(rt: &R) -> io::Result<Vec<String>> {
     Ok(std::env::args(rt)?.collect(rt.alloc())?)
 }
 
+/// The line on standard error and the exit status where the words were not read: for want of memory,
+/// or since one of them is no UTF-8.
+fn words_report(error: &io::Error) -> (&'static str, u8) {
+    match error.kind() {
+        io::ErrorKind::OutOfMemory => memory_report(),
+        _ => ("oltctl: arguments", BAD_WORDS),
+    }
+}
+
 /// Runs the command line, and answers the exit status.
 fn run<R: AllocGlobal + Env + Files + Print + Eprint + Input>(rt: &R) -> u8 {
-    let Ok(words) = words_of(rt) else {
-        return report(rt, run_report(&RunFault::OutOfMemory));
+    let words = match words_of(rt) {
+        Ok(words) => words,
+        Err(error) => return report(rt, words_report(&error)),
     };
     match words::parse(rt.alloc(), words.as_slice()) {
         Ok(matches) => obey(rt, &matches),

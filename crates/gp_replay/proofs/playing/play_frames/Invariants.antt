@@ -1,5 +1,5 @@
-use Rattle.std.proofs.Common.{◌≡◌, replicate, length}
-use Rattle.gp_stream.specs.Sink.{sink_state, has_stopped}
+use Rattle.std.proofs.Common.{◌≡◌, replicate, length, true}
+use Rattle.gp_stream.specs.Sink.{sink_state, has_stopped, writer_of}
 use Rattle.gp_replay.specs.Play.{frame_turn}
 use Rattle.gp_replay.specs.Writing.{WritesTurns}
 use Rattle.gp_replay.proofs.playing.play_frames.Given as goal
@@ -8,5 +8,6 @@ abbrev pub invariant-loop : goal.invariant-loop
 invariant-loop g l = record {
   played : WritesTurns l.mask l.initial.terminal (replicate l.counter (frame_turn l.port)) l.terminal (sink_state g.W.Write.contents l.initial.sink) (sink_state g.W.Write.contents l.sink);
   stopped : has_stopped l.sink ≡ has_stopped l.initial.sink;
+  refused : has_stopped l.initial.sink ≡ true → writer_of l.sink ≡ writer_of l.initial.sink;
   ports : length l.terminal.ports ≡ length l.initial.terminal.ports;
 }

@@ -5,10 +5,10 @@ use Rattle.gp_script.specs.View.{script_view}
 use Rattle.gp_replay.proofs.OutcomeLemmas.{leaves_front}
 use Rattle.gp_replay.proofs.replaying.run_replay.Goals as goal
 
-pub returns-in_err-play_script-clause-front : goal.returns-in_err-play_script-clause-front
-returns-in_err-play_script-clause-front g c =
+pub returns-in_err-play_on-clause-front : goal.returns-in_err-play_on-clause-front
+returns-in_err-play_on-clause-front g c =
     let says : script_of c.in_ok-bytes.bytes.items ≡ Ok (script_view c.in_ok-script.script) = search rules in
     let short : length c.in_ok-bytes.bytes.items ≤ MOST_BYTES = search rules in
     λ told. leaves_front _ _ (script_view c.in_ok-script.script) _ _
     (record { bytes = c.in_ok-bytes.bytes.items; read = c.in_ok-bytes.ensures.whole; short = short; says = says })
-    (c.in_err-play_script.ensures.front (search (rules, told)))
+    (c.in_err-play_on.ensures.front (search (rules, told)))

@@ -1,12 +1,13 @@
-use Rattle.std.proofs.Common.{◌≡◌, ◌<◌, [], drop, vec_len, All}
+use Rattle.std.proofs.Common.{◌≡◌, ◌<◌, drop, vec_len, All}
 use Rattle.toml.specs.View.{items_view}
-use Rattle.gp_script.specs.Event.{events_from}
+use Rattle.gp_script.specs.Event.{events_of}
 use Rattle.gp_script.specs.View.{event_port}
+use Rattle.gp_script.proofs.EventsLemmas.{behind}
 use Rattle.gp_script.proofs.events.events_of.Given as goal
 
 abbrev pub invariant-tables : goal.invariant-tables
 invariant-tables l = record {
-  value : events_from l.ports l.mask l.events.items (items_view (drop l.value-index l.tables)) ≡ events_from l.ports l.mask [] (items_view l.tables);
+  value : behind l.events.items (events_of l.ports l.mask (items_view (drop l.value-index l.tables))) ≡ events_of l.ports l.mask (items_view l.tables);
   ports : All (λ e. event_port e < l.ports) l.events.items;
-  each : vec_len l.events ≡ l.value-index;
+  count : vec_len l.events ≡ l.value-index;
 }
