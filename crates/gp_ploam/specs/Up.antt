@@ -13,8 +13,8 @@ up_row (NoMessage onu) = Is onu ∷ Is 4 ∷ replicate 10 (Free 0)
 up_row (Acknowledge onu id copy) = Is onu ∷ Is 9 ∷ Is id ∷ map Is copy
 up_row (Other id octet1 body) = Is octet1 ∷ Is id ∷ map Is body
 
--- each list has its length, and each number narrower than its Rust type has room in its row; that an octet is at most
--- 255 is its Rust type
+-- each list has its length, and each number has room in its row; that one of a whole octet is at most 255 is its Rust
+-- type
 abbrev pub IsFittingUp : Up → Type 0
 IsFittingUp (SerialNumber onu serial random flags) = (length serial.0 ≡ 8) × (random ≤ 4095) × (flags ≤ 15)
 IsFittingUp (DyingGasp onu) = Unit {0}

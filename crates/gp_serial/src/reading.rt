@@ -9,7 +9,7 @@ use crate::fault::SerialFault;
 use gp_ploam::Serial;
 use hex::FromHex;
 
-/// The serial number that a text spells: four letters A to Z or digits, and eight hex digits, or
+/// The serial number that a text spells: four characters A to Z or 0 to 9, and eight hex digits, or
 /// sixteen hex digits. Hex digits stand in either case.
 pub fn parse_serial(text: &str) -> Result<Serial, SerialFault>
     ensures value { result ≡ serial_of_text text.now }
