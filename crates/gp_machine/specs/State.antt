@@ -61,4 +61,4 @@ IsLeastRanging rows (Some onu) = Ranges rows onu × ((other : ℕ) → Ranges ro
 pub record IsFree (port : PortState) (onu : ℕ) : Type 0 where
   pub low : onu ≤ 253
   pub room : rows_of port < port.config.max_units
-  pub unused : (serial : Serial) (row : Row) → HasRow port.rows serial row → row.onu ≡ onu → ⊥
+  pub unused : (serial : Serial) → HasOnuId port.rows serial onu → ⊥
