@@ -49,11 +49,14 @@ RangesWithWhatIsLeft =
     × IsMeasured port.config.teqd before entry.event serial onu eqd
     × HasRow after.rows serial (record { onu = onu; phase = Operating eqd 0 0 })
 
--- the unit was ranged in the run: a step of it measured the unit, and gave it this equalization delay
+-- the unit was ranged in the run: a step of it measured the unit, and left it operating with this equalization delay
 abbrev pub WasRanged : PortState → List Entry → PortState → Serial → ℕ → ℕ → Type 0
 WasRanged port entries last serial onu eqd =
     (before : PortState) × (entry : Entry) × (after : PortState)
-    × HasStep port entries last before entry after × (entry.answer.reply ≡ Ranged onu eqd) × IsMeasured port.config.teqd before entry.event serial onu eqd
+    × HasStep port entries last before entry after
+    × (entry.answer.reply ≡ Ranged onu eqd)
+    × IsMeasured port.config.teqd before entry.event serial onu eqd
+    × HasRow after.rows serial (record { onu = onu; phase = Operating eqd 0 0 })
 
 -- in a run from an opening each operating unit was ranged, and keeps the equalization delay that it was given
 abbrev pub OperatesWithWhatWasMeasured : Type 0
