@@ -1,5 +1,5 @@
 -- The equalization delays of a run come from its measurements.
-use Rattle.std.proofs.Common.{◌≡◌, ℕ, ◌-◌, List, [], ◌∷◌, ◌⊎◌, inl, inr, refl, sym, ap, subst, arith}
+use Rattle.std.proofs.Common.{◌≡◌, ℕ, ◌-◌, List, [], ◌∷◌, ◌⊎◌, inl, inr, refl, sym, ap, subst, ◌∙◌, arith}
 use Rattle.gp_ploam.specs.declared.message.Serial.{Serial}
 use Rattle.gp_machine.specs.declared.config.PortConfig.{PortConfig}
 use Rattle.gp_machine.specs.declared.entry.Entry.{Entry}
@@ -65,14 +65,15 @@ record Operates (p : PortState) (s : Serial) (n eqd : ℕ) : Type 0 where
   phase : row.phase ≡ Operating eqd dark garbled
 
 -- the step ranges it
-record Ranges (p : PortState) (e : Entry) (s : Serial) (n eqd : ℕ) : Type 0 where
+record Ranges (p : PortState) (e : Entry) (q : PortState) (s : Serial) (n eqd : ℕ) : Type 0 where
   is : e.answer.reply ≡ reply.Ranged n eqd
   measured : IsMeasured p.config.teqd p e.event s n eqd
+  has : HasRow q.rows s (ranged_row n eqd)
 
 stayed : (p q : PortState) (s : Serial) (n eqd : ℕ) → q.rows ≡ p.rows → Operates q s n eqd → Operates p s n eqd
 stayed p q s n eqd same k = record { row = k.row; dark = k.dark; garbled = k.garbled; has = subst (λ (rows : Rows). HasRow rows s k.row) same k.has; onu = k.onu; phase = k.phase }
 
-came : (p q : PortState) (e : Entry) (s : Serial) (n eqd : ℕ) → IsStep p e q → Operates q s n eqd → Operates p s n eqd ⊎ Ranges p e s n eqd
+came : (p q : PortState) (e : Entry) (s : Serial) (n eqd : ℕ) → IsStep p e q → Operates q s n eqd → Operates p s n eqd ⊎ Ranges p e q s n eqd
 came p q e s n eqd h k = by_case (step_case e.purse_in p e.event (entry_outcome e q) h)
   where
     before : HasRow p.rows s k.row → Operates p s n eqd
@@ -81,7 +82,7 @@ came p q e s n eqd h k = by_case (step_case e.purse_in p e.event (entry_outcome 
     new_is_not : (m : ℕ) → k.row ≡ new_row m → ⊥
     new_is_not m is = let phases = ap (λ (r : Row). r.phase) is in let operates = k.phase in cc
 
-    by_case : StepCase p e.event (entry_outcome e q) → Operates p s n eqd ⊎ Ranges p e s n eqd
+    by_case : StepCase p e.event (entry_outcome e q) → Operates p s n eqd ⊎ Ranges p e q s n eqd
     by_case (StepCase.frame f) = inl (stayed p q s n eqd f.rows k)
     by_case (StepCase.quiet f) = inl (stayed p q s n eqd f.rows k)
     by_case (StepCase.told t m heard f) =
@@ -95,7 +96,7 @@ came p q e s n eqd h k = by_case (step_case e.purse_in p e.event (entry_outcome 
           | inr old ↦ inl (before old)
         ]
       where
-        by_new : s ≡ t → k.row ≡ ranged_row m (p.config.teqd - at) → Ranges p e s n eqd
+        by_new : s ≡ t → k.row ≡ ranged_row m (p.config.teqd - at) → Ranges p e q s n eqd
         by_new same is =
             let phases : k.row.phase ≡ Operating (p.config.teqd - at) 0 0 = ap (λ (r : Row). r.phase) is in
             let onus : k.row.onu ≡ m = ap (λ (r : Row). r.onu) is in
@@ -105,10 +106,14 @@ came p q e s n eqd h k = by_case (step_case e.purse_in p e.event (entry_outcome 
             let same_onu : m ≡ n = cc in
             let left : p.config.teqd - at ≡ eqd = cc in
             let near = f.near in
-            subst (λ (x : Serial). Ranges p e x n eqd) (sym same)
-            (subst (λ (x : ℕ). Ranges p e t x eqd) same_onu
+            let row : k.row ≡ ranged_row m eqd = is ∙ ap (λ (x : ℕ). ranged_row m x) left in
+            let has_s : HasRow q.rows s (ranged_row m eqd) = subst (λ (r : Row). HasRow q.rows s r) row k.has in
+            let has_t : HasRow q.rows t (ranged_row m eqd) = subst (λ (x : Serial). HasRow q.rows x (ranged_row m eqd)) same has_s in
+            subst (λ (x : Serial). Ranges p e q x n eqd) (sym same)
+            (subst (λ (x : ℕ). Ranges p e q t x eqd) same_onu
             (record {
               is = cc;
+              has = has_t;
               measured = record { at = at; bytes = bytes; random = random; flags = flags; burst = burst; asked = f.asked; read = read; active = f.active; adds_up = omega arith };
             }))
 
@@ -123,6 +128,7 @@ later p mid q e es s n eqd step same w =
       (e ∷ has.0, has.1, ap (λ (xs : List Entry). e ∷ xs) has.2, (mid, step, has.3), has.4, has.5),
       w.4,
       subst (λ (c : PortConfig). IsMeasured c.teqd w.0 w.1.event s n eqd) same w.5,
+      w.6,
     )
 
 was_ranged : (p q : PortState) (es : List Entry) (s : Serial) (n eqd : ℕ) → Run p es q → Operates q s n eqd → Operates p s n eqd ⊎ WasRanged p es q s n eqd
@@ -137,7 +143,7 @@ was_ranged p q (e ∷ es) s n eqd h k =
     first old =
         elim (came p h.0 e s n eqd h.1 old) [
           | inl older ↦ inl older
-          | inr r ↦ inr (p, e, h.0, ([], es, refl, refl, h.1, h.2), r.is, r.measured)
+          | inr r ↦ inr (p, e, h.0, ([], es, refl, refl, h.1, h.2), r.is, r.measured, r.has)
         ]
 
 pub operates : OperatesWithWhatWasMeasured

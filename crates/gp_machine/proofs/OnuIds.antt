@@ -14,13 +14,13 @@ use Rattle.gp_ploam.proofs.Serials.{serials_total, by_cmp-same, same_serial-true
 use Rattle.gp_machine.specs.declared.config.PortConfig.{PortConfig}
 use Rattle.gp_machine.specs.declared.entry.Entry.{Entry}
 use Rattle.gp_machine.specs.declared.row.Row.{Row}
-use Rattle.gp_machine.specs.State.{PortState, Rows, HasRow, opening_of, rows_of}
+use Rattle.gp_machine.specs.State.{PortState, Rows, HasRow, HasOnuId, opening_of, rows_of}
 use Rattle.gp_machine.specs.Frame.{first_of}
 use Rattle.gp_machine.specs.Burst.{new_row}
 use Rattle.gp_machine.specs.Run.{Run, IsStep, entry_outcome}
 use Rattle.gp_machine.specs.Runs.{EveryStateIsSound}
 use Rattle.gp_machine.specs.Messages.{begins_acquisition, sent_in, three_times}
-use Rattle.gp_machine.specs.OnuIds.{HasOnuId, NoSharedOnuId, OnlyAdmittedUnits, AtMostMaxUnits, KeepsOnuIds, TellsItsOnuId, AssignsWhatUnitsHave, AssignsOneToOne}
+use Rattle.gp_machine.specs.OnuIds.{NoSharedOnuId, OnlyAdmittedUnits, AtMostMaxUnits, KeepsOnuIds, TellsItsOnuId, AssignsWhatUnitsHave, AssignsOneToOne}
 use Rattle.gp_machine.proofs.RunParts.{keeps_configuration}
 use Rattle.gp_machine.proofs.SoundRows.{has_it}
 use Rattle.gp_machine.proofs.StepCases.{StepCase, step_case, owed_by_frame, ranged_row}
@@ -38,19 +38,15 @@ few sound c p reached = subst (λ (x : PortConfig). rows_of p ≤ x.max_units) (
 
 -- ---- ONU-IDs are kept
 
--- the unit t has the ONU-ID n by these rows
-abbrev Has : Rows → Serial → ℕ → Type 0
-Has rows t n = (row : Row) × HasRow rows t row × (row.onu ≡ n)
-
 -- the row at t after one was put at s
 found : (rows : Rows) (s t : Serial) (row : Row) → get (insert rows s row) t ≡ cond (same_serial t s) (Some row) (get rows t)
 found rows s t row = get-insert serials_total rows s row t ∙ ap (λ b. cond b (Some row) (get rows t)) (by_cmp-same t s)
 
-there : (rows : Rows) (s : Serial) (row : Row) → Has (insert rows s row) s row.onu
+there : (rows : Rows) (s : Serial) (row : Row) → HasOnuId (insert rows s row) s row.onu
 there rows s row = (row, has_it rows s row, refl)
 
 -- a row that is put for a unit with its own ONU-ID takes none from any unit
-put_keeps : (rows : Rows) (s t : Serial) (row : Row) (n : ℕ) → ((old : Row) → HasRow rows s old → old.onu ≡ row.onu) → Has rows t n → Has (insert rows s row) t n
+put_keeps : (rows : Rows) (s t : Serial) (row : Row) (n : ℕ) → ((old : Row) → HasRow rows s old → old.onu ≡ row.onu) → HasOnuId rows t n → HasOnuId (insert rows s row) t n
 put_keeps rows s t row n same h =
     elim (cases_Bool (same_serial t s)) [
       | inl is ↦
@@ -63,13 +59,13 @@ put_keeps rows s t row n same h =
 one_onu : (rows : Rows) (s : Serial) (row old : Row) → HasRow rows s row → HasRow rows s old → old.onu ≡ row.onu
 one_onu rows s row old h k = let both : Some row ≡ Some old = sym h ∙ k in let same : row ≡ old = cc in ap (λ (r : Row). r.onu) (sym same)
 
-step_keeps : (p q : PortState) (e : Entry) (t : Serial) (n : ℕ) → IsStep p e q → HasOnuId p t n → HasOnuId q t n
+step_keeps : (p q : PortState) (e : Entry) (t : Serial) (n : ℕ) → IsStep p e q → HasOnuId p.rows t n → HasOnuId q.rows t n
 step_keeps p q e t n h has = by_case (step_case e.purse_in p e.event (entry_outcome e q) h)
   where
-    by_rows : (rows : Rows) → q.rows ≡ rows → Has rows t n → HasOnuId q t n
-    by_rows rows is k = subst (λ (x : Rows). Has x t n) (sym is) k
+    by_rows : (rows : Rows) → q.rows ≡ rows → HasOnuId rows t n → HasOnuId q.rows t n
+    by_rows rows is k = subst (λ (x : Rows). HasOnuId x t n) (sym is) k
 
-    by_case : StepCase p e.event (entry_outcome e q) → HasOnuId q t n
+    by_case : StepCase p e.event (entry_outcome e q) → HasOnuId q.rows t n
     by_case (StepCase.frame k) = by_rows p.rows k.rows has
     by_case (StepCase.quiet k) = by_rows p.rows k.rows has
     by_case (StepCase.told s m heard k) = by_rows (insert p.rows s (new_row m)) k.rows (put_keeps p.rows s t (new_row m) n k.same has)
@@ -79,16 +75,16 @@ step_keeps p q e t n h has = by_case (step_case e.purse_in p e.event (entry_outc
         (put_keeps p.rows s t (ranged_row m (p.config.teqd - at)) n (λ old is. one_onu p.rows s active.0 old active.1 is ∙ active.2) has)
 
 pub keeps_onu_ids : KeepsOnuIds
-keeps_onu_ids p q [] s n h has = subst (λ (x : PortState). HasOnuId x s n) (sym h) has
+keeps_onu_ids p q [] s n h has = subst (λ (x : PortState). HasOnuId x.rows s n) (sym h) has
 keeps_onu_ids p q (e ∷ es) s n h has = keeps_onu_ids h.0 q es s n h.2 (step_keeps p h.0 e s n h.1 has)
 
 -- ---- no other is told
 
-tells_more : (p q : PortState) → ((s : Serial) (n : ℕ) → HasOnuId p s n → HasOnuId q s n) → (m : Down) → TellsItsOnuId p m → TellsItsOnuId q m
+tells_more : (p q : PortState) → ((s : Serial) (n : ℕ) → HasOnuId p.rows s n → HasOnuId q.rows s n) → (m : Down) → TellsItsOnuId p m → TellsItsOnuId q m
 tells_more p q keeps (down.AssignOnu n s) h = keeps s n h
 tells_more p q keeps m h = tt
 
-all_tell_more : (p q : PortState) → ((s : Serial) (n : ℕ) → HasOnuId p s n → HasOnuId q s n) → (ms : List Down) → All (TellsItsOnuId p) ms → All (TellsItsOnuId q) ms
+all_tell_more : (p q : PortState) → ((s : Serial) (n : ℕ) → HasOnuId p.rows s n → HasOnuId q.rows s n) → (ms : List Down) → All (TellsItsOnuId p) ms → All (TellsItsOnuId q) ms
 all_tell_more p q keeps [] h = All-nil (TellsItsOnuId q)
 all_tell_more p q keeps (m ∷ ms) h =
     All-cons (TellsItsOnuId q) m ms (tells_more p q keeps m (All-head (TellsItsOnuId p) m ms h)) (all_tell_more p q keeps ms (All-tail (TellsItsOnuId p) m ms h))
@@ -134,7 +130,7 @@ step_tells p q e h owed = by_case (step_case e.purse_in p e.event (entry_outcome
     by_case (StepCase.told s m heard k) = (
       none k.sent,
       more p.owed (three_times (down.AssignOnu m s ∷ [])) k.owed still
-          (three_tell q (down.AssignOnu m s) (subst (λ (x : Rows). Has x s m) (sym k.rows) (there p.rows s (new_row m)))),
+          (three_tell q (down.AssignOnu m s) (subst (λ (x : Rows). HasOnuId x s m) (sym k.rows) (there p.rows s (new_row m)))),
     )
     by_case (StepCase.ranged at bytes s m random flags burst read k) = (
       none k.sent,
@@ -165,8 +161,8 @@ not_one s t isnt same = false≢true (sym isnt ∙ ap (λ (x : Serial). same_ser
 pub one_to_one : NoSharedOnuId → AssignsOneToOne
 one_to_one no_shared c q es s t m n h in_s in_t =
     let all = tells_its_onu_id c q es h in
-    let has_m : HasOnuId q s m = All-contains (TellsItsOnuId q) (sent_in es ++ q.owed) (down.AssignOnu m s) all in_s in
-    let has_n : HasOnuId q t n = All-contains (TellsItsOnuId q) (sent_in es ++ q.owed) (down.AssignOnu n t) all in_t in (
+    let has_m : HasOnuId q.rows s m = All-contains (TellsItsOnuId q) (sent_in es ++ q.owed) (down.AssignOnu m s) all in_s in
+    let has_n : HasOnuId q.rows t n = All-contains (TellsItsOnuId q) (sent_in es ++ q.owed) (down.AssignOnu n t) all in_t in (
       λ same.
           let at_t : HasRow q.rows t has_m.0 = subst (λ (x : Serial). HasRow q.rows x has_m.0) same has_m.1 in
           sym has_m.2 ∙ one_onu q.rows t has_n.0 has_m.0 has_n.1 at_t ∙ has_n.2,

@@ -284,7 +284,7 @@ may_put_new p s n admitted free =
       admitted = admitted_contains s p.config.admitted admitted;
       few = λ none. free.room;
       low = free.low;
-      apart = λ t q has e. absurd (free.unused t q has e);
+      apart = λ t q has e. absurd (free.unused t (q, has, e));
       counted = omega arith;
     }
 

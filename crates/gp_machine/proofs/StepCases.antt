@@ -21,14 +21,13 @@ use Rattle.gp_machine.specs.declared.reply.Reply.{Reply}
 use Rattle.gp_machine.specs.declared.reply.Reply.TheVariants as reply
 use Rattle.gp_machine.specs.declared.row.Phase.TheVariants.{Operating}
 use Rattle.gp_machine.specs.declared.row.Row.{Row}
-use Rattle.gp_machine.specs.State.{PortState, HasRow}
+use Rattle.gp_machine.specs.State.{PortState, HasRow, HasOnuId}
 use Rattle.gp_machine.specs.Outcomes.{Outcome, bare_outcome, state_seen}
 use Rattle.gp_machine.specs.Frame.{first_of, state_after_decision, decision_after, state_after_sending, state_after_tick, frame_answer, grant_of}
 use Rattle.gp_machine.specs.Burst.{new_row}
 use Rattle.gp_machine.specs.Step.{Step, Hears, onu_id_in}
 use Rattle.gp_machine.specs.Messages.{HearsSerial, begins_acquisition, three_times}
 use Rattle.gp_machine.specs.Delays.{AsksToRange}
-use Rattle.gp_machine.specs.OnuIds.{HasOnuId}
 use Rattle.gp_machine.proofs.Cases.{by_timer, IsFromSearch, IsFromRange, OfEachBurst, OfEachFrame, OfEachCommand, of_each_burst, of_each_frame, of_each_command}
 
 -- ---- the cases
@@ -77,7 +76,7 @@ ranged_row n eqd = record { onu = n; phase = Operating eqd 0 0 }
 -- the unit s is ranged, at its round-trip delay
 pub record IsRanged (p : PortState) (at : ℕ) (s : Serial) (n : ℕ) (o : Outcome) : Type 0 where
   pub asked : AsksToRange p.window n
-  pub active : HasOnuId p s n
+  pub active : HasOnuId p.rows s n
   pub near : at ≤ p.config.teqd
   pub reply : o.answer.reply ≡ reply.Ranged n (p.config.teqd - at)
   pub sent : o.answer.sent ≡ None

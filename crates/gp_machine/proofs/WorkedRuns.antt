@@ -153,7 +153,7 @@ search_run = (
 
 free_a : IsFree searching_port 0
 free_a =
-    record { low = omega arith; room = let none = len-empty serial_cmp Row in omega arith; unused = λ s row has is. no_row s row has }
+    record { low = omega arith; room = let none = len-empty serial_cmp Row in omega arith; unused = λ s has. no_row s has.0 has.1 }
 
 finds_a : admitted_outcome 1 searching_port serial_a 0 (get {R = serial_cmp} empty serial_a) ≡ bare_outcome 0 found_port (Found 0)
 finds_a =
@@ -234,7 +234,7 @@ repeated_answer_run = (both_port, after_search both_port find_both heard_run, re
     one_row = len-new empty serial_a (new_row 0) (get-empty serial_cmp serial_a) ∙ ap (λ (n : ℕ). n + 1) (len-empty serial_cmp Row)
 
     free_b : IsFree found_port 1
-    free_b = record { low = omega arith; room = let one = one_row in omega arith; unused = only_a }
+    free_b = record { low = omega arith; room = let one = one_row in omega arith; unused = λ s has. only_a s has.0 has.1 has.2 }
 
     finds_b : admitted_outcome 1 found_port serial_b 1 (get rows_a serial_b) ≡ bare_outcome 0 both_port (Found 1)
     finds_b =

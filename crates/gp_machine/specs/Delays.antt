@@ -13,10 +13,9 @@ use Rattle.gp_machine.specs.declared.event.Event.TheVariants.{Burst}
 use Rattle.gp_machine.specs.declared.reply.Reply.TheVariants.{Ranged}
 use Rattle.gp_machine.specs.declared.row.Phase.TheVariants.{Operating}
 use Rattle.gp_machine.specs.declared.row.Row.{Row}
-use Rattle.gp_machine.specs.State.{PortState, HasRow, opening_of}
+use Rattle.gp_machine.specs.State.{PortState, HasRow, HasOnuId, opening_of}
 use Rattle.gp_machine.specs.Run.{Run}
 use Rattle.gp_machine.specs.Runs.{HasStep}
-use Rattle.gp_machine.specs.OnuIds.{HasOnuId}
 
 -- the open window asks the unit with this ONU-ID for its round-trip delay
 abbrev pub AsksToRange : Option WindowState → ℕ → Type 0
@@ -33,7 +32,7 @@ pub record IsMeasured (teqd : ℕ) (port : PortState) (event : Event) (serial : 
   pub burst : event ≡ Burst at bytes
   -- they are the unit's Serial_Number_ONU, with its ONU-ID
   pub read : ReadsUp bytes (mask_value port.config.mask) (SerialNumber onu serial random flags)
-  pub active : HasOnuId port serial onu
+  pub active : HasOnuId port.rows serial onu
   -- the open window asked it
   pub asked : AsksToRange port.window onu
   -- its equalization delay makes its round-trip delay up to the equalized one
@@ -50,11 +49,14 @@ RangesWithWhatIsLeft =
     × IsMeasured port.config.teqd before entry.event serial onu eqd
     × HasRow after.rows serial (record { onu = onu; phase = Operating eqd 0 0 })
 
--- the unit was ranged in the run: a step of it measured the unit, and gave it this equalization delay
+-- the unit was ranged in the run: a step of it measured the unit, and left it operating with this equalization delay
 abbrev pub WasRanged : PortState → List Entry → PortState → Serial → ℕ → ℕ → Type 0
 WasRanged port entries last serial onu eqd =
     (before : PortState) × (entry : Entry) × (after : PortState)
-    × HasStep port entries last before entry after × (entry.answer.reply ≡ Ranged onu eqd) × IsMeasured port.config.teqd before entry.event serial onu eqd
+    × HasStep port entries last before entry after
+    × (entry.answer.reply ≡ Ranged onu eqd)
+    × IsMeasured port.config.teqd before entry.event serial onu eqd
+    × HasRow after.rows serial (record { onu = onu; phase = Operating eqd 0 0 })
 
 -- in a run from an opening each operating unit was ranged, and keeps the equalization delay that it was given
 abbrev pub OperatesWithWhatWasMeasured : Type 0

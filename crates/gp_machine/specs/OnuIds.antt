@@ -7,24 +7,20 @@ use Rattle.gp_ploam.specs.declared.message.Down.TheVariants.{AssignOnu}
 use Rattle.gp_machine.specs.declared.config.PortConfig.{PortConfig}
 use Rattle.gp_machine.specs.declared.entry.Entry.{Entry}
 use Rattle.gp_machine.specs.declared.row.Row.{Row}
-use Rattle.gp_machine.specs.State.{PortState, opening_of, rows_of, HasRow}
+use Rattle.gp_machine.specs.State.{PortState, opening_of, rows_of, HasRow, HasOnuId}
 use Rattle.gp_machine.specs.Run.{Run}
 use Rattle.gp_machine.specs.Runs.{IsReached}
 use Rattle.gp_machine.specs.Messages.{sent_in}
 
 -- ---- who has them
 
--- the unit with this serial number is active, and has this ONU-ID
-abbrev pub HasOnuId : PortState → Serial → ℕ → Type 0
-HasOnuId port serial onu = (row : Row) × HasRow port.rows serial row × (row.onu ≡ onu)
-
 -- in every state that is reached, active units with different serial numbers have different ONU-IDs
 abbrev pub NoSharedOnuId : Type 0
 NoSharedOnuId =
     (config : PortConfig) (port : PortState) (serial other : Serial) (onu other_onu : ℕ)
     → IsReached config port
-    → HasOnuId port serial onu
-    → HasOnuId port other other_onu
+    → HasOnuId port.rows serial onu
+    → HasOnuId port.rows other other_onu
     → serial ≢ other
     → onu ≢ other_onu
 
@@ -42,14 +38,14 @@ abbrev pub KeepsOnuIds : Type 0
 KeepsOnuIds =
     (port last : PortState) (entries : List Entry) (serial : Serial) (onu : ℕ)
     → Run port entries last
-    → HasOnuId port serial onu
-    → HasOnuId last serial onu
+    → HasOnuId port.rows serial onu
+    → HasOnuId last.rows serial onu
 
 -- ---- who is told them
 
 -- the message is no Assign_ONU-ID, or it tells a unit the ONU-ID that the unit has
 abbrev pub TellsItsOnuId : PortState → Down → Type 0
-TellsItsOnuId port (AssignOnu onu serial) = HasOnuId port serial onu
+TellsItsOnuId port (AssignOnu onu serial) = HasOnuId port.rows serial onu
 TellsItsOnuId port _ = Unit {0}
 
 -- in every run from an opening each Assign_ONU-ID that was sent or is still owed tells a unit the ONU-ID

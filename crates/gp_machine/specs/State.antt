@@ -40,6 +40,10 @@ rows_of port = len port.rows
 abbrev pub HasRow : Rows → Serial → Row → Type 0
 HasRow rows serial row = get rows serial ≡ Some row
 
+-- the unit with this serial number is active, and has this ONU-ID
+abbrev pub HasOnuId : Rows → Serial → ℕ → Type 0
+HasOnuId rows serial onu = (row : Row) × HasRow rows serial row × (row.onu ≡ onu)
+
 abbrev pub IsRanging : Phase → Type 0
 IsRanging (Ranging attempts seen) = Unit {0}
 IsRanging (Operating eqd dark garbled) = ⊥
@@ -57,4 +61,4 @@ IsLeastRanging rows (Some onu) = Ranges rows onu × ((other : ℕ) → Ranges ro
 pub record IsFree (port : PortState) (onu : ℕ) : Type 0 where
   pub low : onu ≤ 253
   pub room : rows_of port < port.config.max_units
-  pub unused : (serial : Serial) (row : Row) → HasRow port.rows serial row → row.onu ≡ onu → ⊥
+  pub unused : (serial : Serial) → HasOnuId port.rows serial onu → ⊥
