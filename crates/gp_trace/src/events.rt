@@ -1,4 +1,3 @@
-ghost use Rattle.std.specs.Prelude.{◌≡◌, ◌+◌, ◌<◌, ◌≤◌, ◌++◌, OnOk, OnErr, length, vec_len, vec_capacity};
 ghost use Rattle.gp_trace.specs.Pushes.{Pushes};
 ghost use Rattle.gp_trace.specs.Text.{command_text, event_text};
 

@@ -1,4 +1,4 @@
-ghost use Rattle.std.specs.Prelude.{◌≡◌, ◌+◌, ◌<◌, ◌≤◌, ◌++◌, OnOk, OnErr, length, vec_len, vec_capacity, decimal};
+ghost use Rattle.std.specs.Prelude.{decimal};
 ghost use Rattle.gp_trace.specs.Pushes.{Pushes};
 ghost use Rattle.hex.specs.Hex.{encode_lower};
 
