@@ -1,7 +1,8 @@
-ghost use Rattle.std.specs.Prelude.{◌≡◌, ◌+◌, ◌<◌, ◌≤◌, ◌++◌, OnOk, OnErr, length, vec_len, vec_capacity, codes, decimal};
+ghost use Rattle.std.specs.Prelude.{◌+◌, ◌++◌, length, codes, decimal};
 ghost use Rattle.std.specs.Option.{ForSome};
 ghost use Rattle.gp_ploam.specs.Down.{IsProperDown};
 ghost use Rattle.gp_machine.specs.Replies.{reply_text};
+ghost use Rattle.gp_trace.specs.Pushes.{Pushes};
 ghost use Rattle.gp_trace.specs.Text.{alarm_text, answer_text, grant_text, sent_text};
 
 use super::pieces::{push_code, push_number};
@@ -14,11 +15,7 @@ use std::alloc::AllocError;
 
 /// A word and a number.
 fn push_numbered(out: &mut Vec<u8>, word: &str, number: u64) -> Result<(), AllocError>
-    ensures ok { OnOk result (out.new.items ≡ out.old.items ++ word.now ++ codes " " ++ decimal number) }
-    ensures full { OnErr result (vec_capacity out.old < vec_len out.old + length (word.now ++ codes " " ++ decimal number)) }
-    ensures capacity { vec_capacity out.old ≤ vec_capacity out.new }
-    ensures short { OnOk result (length (word.now ++ codes " " ++ decimal number) ≤ length word.now + 21) }
-    ensures room { OnErr result (vec_capacity out.old < vec_len out.old + length word.now + 21) }
+    ensures { Pushes (length word.now + 21) (word.now ++ codes " " ++ decimal number) out.old out.new result }
 {
     out.extend_from_slice(word.as_bytes())?;
     out.extend_from_slice(b" ")?;
@@ -26,11 +23,7 @@ fn push_numbered(out: &mut Vec<u8>, word: &str, number: u64) -> Result<(), Alloc
 }
 
 fn push_refusal(out: &mut Vec<u8>, refusal: Refusal) -> Result<(), AllocError>
-    ensures ok { OnOk result (out.new.items ≡ out.old.items ++ reply_text (Reply.Refused refusal)) }
-    ensures full { OnErr result (vec_capacity out.old < vec_len out.old + length (reply_text (Reply.Refused refusal))) }
-    ensures capacity { vec_capacity out.old ≤ vec_capacity out.new }
-    ensures short { OnOk result (length (reply_text (Reply.Refused refusal)) ≤ 46) }
-    ensures room { OnErr result (vec_capacity out.old < vec_len out.old + 46) }
+    ensures { Pushes 46 (reply_text (Reply.Refused refusal)) out.old out.new result }
 {
     push_numbered(out, "refused", u64::from(refusal.number()))?;
     out.extend_from_slice(b" ")?;
@@ -38,11 +31,7 @@ fn push_refusal(out: &mut Vec<u8>, refusal: Refusal) -> Result<(), AllocError>
 }
 
 fn push_ranged(out: &mut Vec<u8>, onu: u8, eqd: u32) -> Result<(), AllocError>
-    ensures ok { OnOk result (out.new.items ≡ out.old.items ++ reply_text (Reply.Ranged onu eqd)) }
-    ensures full { OnErr result (vec_capacity out.old < vec_len out.old + length (reply_text (Reply.Ranged onu eqd))) }
-    ensures capacity { vec_capacity out.old ≤ vec_capacity out.new }
-    ensures short { OnOk result (length (reply_text (Reply.Ranged onu eqd)) ≤ 48) }
-    ensures room { OnErr result (vec_capacity out.old < vec_len out.old + 48) }
+    ensures { Pushes 48 (reply_text (Reply.Ranged onu eqd)) out.old out.new result }
 {
     push_numbered(out, "ranged", u64::from(onu))?;
     out.extend_from_slice(b" ")?;
@@ -51,11 +40,7 @@ fn push_ranged(out: &mut Vec<u8>, onu: u8, eqd: u32) -> Result<(), AllocError>
 
 /// Appends what the port replied.
 fn push_reply(out: &mut Vec<u8>, reply: &Reply) -> Result<(), AllocError>
-    ensures ok { OnOk result (out.new.items ≡ out.old.items ++ reply_text reply.now) }
-    ensures full { OnErr result (vec_capacity out.old < vec_len out.old + length (reply_text reply.now)) }
-    ensures capacity { vec_capacity out.old ≤ vec_capacity out.new }
-    ensures short { OnOk result (length (reply_text reply.now) ≤ 48) }
-    ensures room { OnErr result (vec_capacity out.old < vec_len out.old + 48) }
+    ensures { Pushes 48 (reply_text reply.now) out.old out.new result }
 {
     match *reply {
         Reply::Ticked => out.extend_from_slice(b"ok"),
@@ -73,11 +58,7 @@ fn push_reply(out: &mut Vec<u8>, reply: &Reply) -> Result<(), AllocError>
 /// Appends the code of the message that was sent, where there is one.
 fn push_sent(out: &mut Vec<u8>, mask: Mask, sent: &Option<Down>) -> Result<(), AllocError>
     requires { ForSome sent.now IsProperDown }
-    ensures ok { OnOk result (out.new.items ≡ out.old.items ++ sent_text mask sent.now) }
-    ensures full { OnErr result (vec_capacity out.old < vec_len out.old + length (sent_text mask sent.now)) }
-    ensures capacity { vec_capacity out.old ≤ vec_capacity out.new }
-    ensures short { OnOk result (length (sent_text mask sent.now) ≤ 32) }
-    ensures room { OnErr result (vec_capacity out.old < vec_len out.old + 32) }
+    ensures { Pushes 32 (sent_text mask sent.now) out.old out.new result }
 {
     if let Some(message) = sent {
         out.extend_from_slice(b" sent ")?;
@@ -88,11 +69,7 @@ fn push_sent(out: &mut Vec<u8>, mask: Mask, sent: &Option<Down>) -> Result<(), A
 
 /// Appends the grant that was issued, where there is one.
 fn push_grant(out: &mut Vec<u8>, grant: &Option<Grant>) -> Result<(), AllocError>
-    ensures ok { OnOk result (out.new.items ≡ out.old.items ++ grant_text grant.now) }
-    ensures full { OnErr result (vec_capacity out.old < vec_len out.old + length (grant_text grant.now)) }
-    ensures capacity { vec_capacity out.old ≤ vec_capacity out.new }
-    ensures short { OnOk result (length (grant_text grant.now) ≤ 33) }
-    ensures room { OnErr result (vec_capacity out.old < vec_len out.old + 33) }
+    ensures { Pushes 33 (grant_text grant.now) out.old out.new result }
 {
     match *grant {
         None => Ok(()),
@@ -104,11 +81,7 @@ fn push_grant(out: &mut Vec<u8>, grant: &Option<Grant>) -> Result<(), AllocError
 
 /// Appends the alarm that was raised, where there is one.
 fn push_alarm(out: &mut Vec<u8>, alarm: &Option<Alarm>) -> Result<(), AllocError>
-    ensures ok { OnOk result (out.new.items ≡ out.old.items ++ alarm_text alarm.now) }
-    ensures full { OnErr result (vec_capacity out.old < vec_len out.old + length (alarm_text alarm.now)) }
-    ensures capacity { vec_capacity out.old ≤ vec_capacity out.new }
-    ensures short { OnOk result (length (alarm_text alarm.now) ≤ 28) }
-    ensures room { OnErr result (vec_capacity out.old < vec_len out.old + 28) }
+    ensures { Pushes 28 (alarm_text alarm.now) out.old out.new result }
 {
     if let Some(alarm) = alarm {
         out.extend_from_slice(b" alarm ")?;
@@ -123,11 +96,7 @@ fn push_alarm(out: &mut Vec<u8>, alarm: &Option<Alarm>) -> Result<(), AllocError
 /// the mask.
 pub(crate) fn push_answer(out: &mut Vec<u8>, mask: Mask, answer: &Answer) -> Result<(), AllocError>
     requires { ForSome answer.now.sent IsProperDown }
-    ensures ok { OnOk result (out.new.items ≡ out.old.items ++ answer_text mask answer.now) }
-    ensures full { OnErr result (vec_capacity out.old < vec_len out.old + length (answer_text mask answer.now)) }
-    ensures capacity { vec_capacity out.old ≤ vec_capacity out.new }
-    ensures short { OnOk result (length (answer_text mask answer.now) ≤ 141) }
-    ensures room { OnErr result (vec_capacity out.old < vec_len out.old + 141) }
+    ensures { Pushes 141 (answer_text mask answer.now) out.old out.new result }
 {
     push_reply(out, &answer.reply)?;
     push_sent(out, mask, &answer.sent)?;

@@ -1,4 +1,4 @@
-ghost use Rattle.std.specs.Prelude.{◌≡◌, ◌+◌, ◌<◌, ◌≤◌, ◌++◌, OnOk, OnErr, length, vec_len, vec_capacity};
+ghost use Rattle.gp_trace.specs.Pushes.{Pushes};
 ghost use Rattle.gp_trace.specs.Text.{command_text, event_text};
 
 use super::pieces::{push_code, push_number};
@@ -7,11 +7,7 @@ use std::alloc::AllocError;
 
 /// The words of a command.
 fn push_command(out: &mut Vec<u8>, command: &Command) -> Result<(), AllocError>
-    ensures ok { OnOk result (out.new.items ≡ out.old.items ++ command_text command.now) }
-    ensures full { OnErr result (vec_capacity out.old < vec_len out.old + length (command_text command.now)) }
-    ensures capacity { vec_capacity out.old ≤ vec_capacity out.new }
-    ensures short { OnOk result (length (command_text command.now) ≤ 6) }
-    ensures room { OnErr result (vec_capacity out.old < vec_len out.old + 6) }
+    ensures { Pushes 6 (command_text command.now) out.old out.new result }
 {
     match command {
         Command::Search => out.extend_from_slice(b"search"),
@@ -20,11 +16,7 @@ fn push_command(out: &mut Vec<u8>, command: &Command) -> Result<(), AllocError>
 
 /// Appends what happened at the port.
 pub(crate) fn push_event(out: &mut Vec<u8>, event: &Event) -> Result<(), AllocError>
-    ensures ok { OnOk result (out.new.items ≡ out.old.items ++ event_text event.now) }
-    ensures full { OnErr result (vec_capacity out.old < vec_len out.old + length (event_text event.now)) }
-    ensures capacity { vec_capacity out.old ≤ vec_capacity out.new }
-    ensures short { OnOk result (length (event_text event.now) ≤ 53) }
-    ensures room { OnErr result (vec_capacity out.old < vec_len out.old + 53) }
+    ensures { Pushes 53 (event_text event.now) out.old out.new result }
 {
     match event {
         Event::Frame => out.extend_from_slice(b"frame"),
