@@ -8,6 +8,7 @@ use Rattle.gp_ploam.specs.declared.message.Serial.{Serial}
 use Rattle.gp_ploam.specs.declared.message.Down.{Down}
 use Rattle.gp_ploam.specs.declared.message.Up.{Up}
 use Rattle.gp_ploam.specs.declared.message.Up.TheVariants.{SerialNumber}
+use Rattle.gp_ploam.specs.Copies.{first_of}
 use Rattle.gp_ploam.specs.Serials.{is_among}
 use Rattle.gp_ploam.specs.Up.{octet1_of}
 use Rattle.gp_ranging.specs.declared.grant.Grant.{Grant}
@@ -23,7 +24,7 @@ use Rattle.gp_machine.specs.declared.refusal.Refusal.TheVariants.{Stray, Garbled
 use Rattle.gp_machine.specs.declared.reply.Reply.TheVariants.{Refused, Found, Again, Repeat, Ranged, TooFar, StillRanging, Searching}
 use Rattle.gp_machine.specs.State.{PortState, HasRow, rows_of}
 use Rattle.gp_machine.specs.Outcomes.{Outcome, bare_outcome, has_room, state_seen, refused_burst}
-use Rattle.gp_machine.specs.Frame.{runs_timer, state_after_timer, first_of, is_idle, deciding_frame, waiting_frame, frame_outcome}
+use Rattle.gp_machine.specs.Frame.{runs_timer, state_after_timer, is_idle, deciding_frame, waiting_frame, frame_outcome}
 use Rattle.gp_machine.specs.Burst.{state_assigned, state_ranged, is_assign, newcomer_outcome, active_outcome, admitted_outcome, serial_outcome, search_outcome, equalized_outcome, measured_outcome, row_outcome, asked_outcome, range_outcome, heard_outcome, window_outcome, burst_outcome}
 use Rattle.gp_machine.specs.Commands.{command_outcome, is_acquiring}
 

@@ -14,7 +14,7 @@ use Rattle.gp_machine.specs.declared.event.Event.TheVariants as event
 use Rattle.gp_machine.specs.declared.reply.Reply.{Reply}
 use Rattle.gp_machine.specs.declared.reply.Reply.TheVariants as reply
 use Rattle.gp_machine.specs.State.{PortState, opening_of}
-use Rattle.gp_machine.specs.Frame.{first_of}
+use Rattle.gp_ploam.specs.Copies.{first_of}
 use Rattle.gp_machine.specs.Run.{IsStep, entry_outcome}
 use Rattle.gp_machine.specs.Messages.{HearsSerial, Owes, EveryRunHasOwedMessages, SendsEachThreeTimes, SendsWhatWasOwedFirst, sent_in, three_times}
 use Rattle.gp_machine.proofs.Determined.{OneReading}

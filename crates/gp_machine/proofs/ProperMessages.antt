@@ -11,7 +11,7 @@ use Rattle.gp_machine.specs.declared.entry.Entry.{Entry}
 use Rattle.gp_machine.specs.declared.event.Event.{Event}
 use Rattle.gp_machine.specs.declared.event.Event.TheVariants as event
 use Rattle.gp_machine.specs.State.{PortState, opening_of}
-use Rattle.gp_machine.specs.Frame.{first_of}
+use Rattle.gp_ploam.specs.Copies.{first_of}
 use Rattle.gp_machine.specs.Run.{Run, entry_outcome}
 use Rattle.gp_machine.specs.Messages.{HearsSerial, begins_acquisition, three_times, IsTyped, KeepsProperMessages, SendsProper, SendsOnlyProperMessages}
 use Rattle.gp_machine.proofs.StepCases.{StepCase, step_case, owed_by_frame}

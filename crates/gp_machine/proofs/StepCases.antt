@@ -7,6 +7,7 @@ use Rattle.gp_ploam.specs.declared.message.Down.{Down}
 use Rattle.gp_ploam.specs.declared.message.Down.TheVariants.{UpstreamOverhead, AssignOnu, RangingTime}
 use Rattle.gp_ploam.specs.declared.message.Up.{Up}
 use Rattle.gp_ploam.specs.declared.message.Up.TheVariants as up
+use Rattle.gp_ploam.specs.Copies.{first_of}
 use Rattle.gp_ploam.specs.Mask.{mask_value}
 use Rattle.gp_ploam.specs.Up.{ReadsUp}
 use Rattle.gp_ranging.specs.Window.{WindowState}
@@ -23,7 +24,7 @@ use Rattle.gp_machine.specs.declared.row.Phase.TheVariants.{Operating}
 use Rattle.gp_machine.specs.declared.row.Row.{Row}
 use Rattle.gp_machine.specs.State.{PortState, HasRow, HasOnuId}
 use Rattle.gp_machine.specs.Outcomes.{Outcome, bare_outcome, state_seen}
-use Rattle.gp_machine.specs.Frame.{first_of, state_after_decision, decision_after, state_after_sending, state_after_tick, frame_answer, grant_of}
+use Rattle.gp_machine.specs.Frame.{state_after_decision, decision_after, state_after_sending, state_after_tick, frame_answer, grant_of}
 use Rattle.gp_machine.specs.Burst.{new_row}
 use Rattle.gp_machine.specs.Step.{Step, Hears, onu_id_in}
 use Rattle.gp_machine.specs.Messages.{HearsSerial, begins_acquisition, three_times}

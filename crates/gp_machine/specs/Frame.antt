@@ -1,8 +1,8 @@
 -- A frame: the timer, the sending, the window, the decision. A frame carries one message (G.984.3, clause 9); when
 -- a port searches and ranges (clause 10) is this profile's own rule.
-use Rattle.std.specs.Prelude.{ℕ, ◌+◌, ◌==◌, ◌&&◌, nat_lt, Bool, true, false, if◌then◌else◌, List, [], ◌∷◌, drop, Option, None, Some, is_none}
+use Rattle.std.specs.Prelude.{ℕ, ◌+◌, ◌==◌, ◌&&◌, nat_lt, Bool, true, false, if◌then◌else◌, drop, Option, None, Some, is_none}
+use Rattle.gp_ploam.specs.Copies.{first_of}
 use Rattle.gp_ploam.specs.declared.message.Down.TheVariants.{UpstreamOverhead}
-use Rattle.gp_ploam.specs.declared.message.Down.{Down}
 use Rattle.gp_ranging.specs.declared.grant.Grant.{Grant}
 use Rattle.gp_ranging.specs.Window.{WindowState, fresh_window, window_after_frame}
 use Rattle.gp_common.specs.declared.common.Common.{Common}
@@ -32,11 +32,6 @@ runs_timer port = is_standby port.common && nat_lt 0 port.config.search_period
 
 abbrev pub state_after_timer : PortState → PortState
 state_after_timer port = if runs_timer port then state_timed port else port
-
--- the first copy that is owed
-abbrev pub first_of : List Down → Option Down
-first_of [] = None
-first_of (copy ∷ copies) = Some copy
 
 -- the first copy is sent, and is owed no longer
 abbrev pub state_after_sending : PortState → PortState

@@ -2,7 +2,7 @@ ghost use Rattle.std.specs.Prelude.{◌≡◌, ◌+◌, ◌≤◌, [], ◌∷◌
 ghost use Rattle.std.specs.Option.{ForSome};
 ghost use Rattle.std.specs.List.{list_any};
 ghost use Rattle.gp_ploam.specs.Down.{IsProperDown};
-ghost use Rattle.gp_machine.specs.Frame.{first_of};
+ghost use Rattle.gp_ploam.specs.Copies.{first_of};
 ghost use Rattle.gp_machine.specs.Burst.{is_assign};
 
 use gp_ploam::{Down, Serial};

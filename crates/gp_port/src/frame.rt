@@ -1,6 +1,7 @@
 ghost use Rattle.std.specs.Prelude.{◌≡◌, []};
 ghost use Rattle.std.specs.Option.{ForSome};
 ghost use Rattle.gp_ploam.specs.declared.message.Down.TheVariants as down;
+ghost use Rattle.gp_ploam.specs.Copies.{first_of};
 ghost use Rattle.gp_ploam.specs.Down.{IsProperDown};
 ghost use Rattle.gp_machine.specs.State.{IsLeastRanging};
 ghost use Rattle.gp_machine.specs.Sound.{IsSound};
@@ -61,7 +62,7 @@ impl<L: Ledger> PortCore<L> {
 
     /// Sends the first copy that is owed.
     fn send(&mut self) -> Option<Down>
-        ensures first { result ≡ spec.first_of self.old.owed }
+        ensures first { result ≡ first_of self.old.owed }
         ensures rest { self.new ≡ spec.state_after_sending self.old }
         ensures proper { ForSome result IsProperDown }
     {

@@ -1,15 +1,7 @@
 -- The copies that are owed, one after the other (this profile's own rule: the copies of a message go out in a row).
-use Rattle.std.specs.Prelude.{◌≡◌, ◌≤◌, List, [], ◌∷◌, ◌++◌, replicate, Option, None, Some}
+use Rattle.std.specs.Prelude.{◌≡◌, ◌≤◌, List, [], ◌∷◌, ◌++◌, replicate}
 use Rattle.gp_ploam.specs.declared.message.Down.{Down}
 use Rattle.gp_volley.specs.Volley.{VolleyState}
-
-abbrev pub first_of : List Down → Option Down
-first_of [] = None
-first_of (copy ∷ copies) = Some copy
-
-abbrev pub all_but_first : List Down → List Down
-all_but_first [] = []
-all_but_first (copy ∷ copies) = copies
 
 -- the copies of volleys, one volley after the other
 abbrev pub copies_of : List VolleyState → List Down

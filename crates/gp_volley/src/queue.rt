@@ -1,5 +1,5 @@
-ghost use Rattle.std.specs.Prelude.{◌≡◌, ◌+◌, ◌≤◌, ◌↔◌, [], ◌∷◌, ◌++◌, length, slice_get, Contains, IfOk, IsTrue};
-ghost use Rattle.gp_volley.specs.Queue.{first_of, all_but_first};
+ghost use Rattle.std.specs.Prelude.{◌≡◌, ◌+◌, ◌≤◌, ◌↔◌, [], ◌∷◌, ◌++◌, drop, length, slice_get, Contains, IfOk, IsTrue};
+ghost use Rattle.gp_ploam.specs.Copies.{first_of};
 
 use super::volley::Volley;
 use gp_ploam::Down;
@@ -56,7 +56,7 @@ impl VolleyQueue {
     /// Takes out the first copy, to be sent.
     pub fn send_one(&mut self) -> Option<Down>
         ensures first { result ≡ first_of self.old }
-        ensures rest { self.new ≡ all_but_first self.old }
+        ensures rest { self.new ≡ drop 1 self.old }
     {
         let (copy, rest) = self.volleys.pop_front()?.send();
         if let Some(volley) = rest {
