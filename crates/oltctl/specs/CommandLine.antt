@@ -1,12 +1,15 @@
 -- The command line: `oltctl replay [FILE]` and `oltctl decode [--up] [--mask 0|85] HEX` (this profile's own rule).
-use Rattle.std.specs.Prelude.{◌≡◌, List, [], ◌∷◌, Some, map, true, codes}
+use Rattle.std.specs.Prelude.{◌≡◌, List, [], ◌∷◌, Option, None, Some, map, true, codes, if◌then◌else◌}
 use Rattle.std.specs.Borrow.{Bor}
+use Rattle.std.specs.Str.{bytes_eq}
 use Rattle.clap.specs.Simple.{on_top}
 use Rattle.clap.specs.Words.{App, IsAmong, Rule, Text, fault_of, new_app, new_rule, with_rule, with_subcommand, subcommand_of, subcommand_rows_of}
 use Rattle.clap.specs.declared.builder.action.ArgAction.TheVariants.{SetTrue}
 use Rattle.clap.specs.declared.builder.value_parser.ValueParser.TheVariants.{Names}
 use Rattle.clap.specs.declared.error.kind.ErrorKind.{ErrorKind}
 use Rattle.clap.specs.declared.parser.matches.ArgMatches.{ArgMatches}
+use Rattle.gp_ploam.specs.declared.check.Mask.{Mask}
+use Rattle.gp_ploam.specs.declared.check.Mask.TheVariants.{Plain, Coset}
 
 -- the names of the masks that a code may be read with, as clap holds them
 abbrev pub MaskNames : Type 0
@@ -57,3 +60,8 @@ pub record IsFaultOf (words : List Text) (kind : ErrorKind) : Type 0 where
   pub names : MaskNames
   pub masks : AreMasks names
   pub among : IsAmong kind (fault_of (oltctl_command names) words)
+
+-- the mask that a name stands for: 85 is the other mask, and everything else the plain one, as where there is none
+abbrev pub mask_named : Option Text → Mask
+mask_named None = Plain
+mask_named (Some name) = if bytes_eq name (codes "85") then Coset else Plain

@@ -6,7 +6,6 @@ mod words;
 use clap::error::ErrorKind;
 use clap::{ArgMatches, Error};
 use gp_decode::{LineFault, decode_line, line_report};
-use gp_ploam::Mask;
 use gp_replay::{RunFault, run_replay, run_report};
 use gp_stream::{Sink, Source, memory_report, write_report};
 use std::io;
@@ -47,14 +46,6 @@ fn replay<R: AllocGlobal + Files + Print + Input>(
     }
 }
 
-/// The mask that a word of the command line names.
-fn mask_of(word: Option<&str>) -> Mask {
-    match word {
-        Some("85") => Mask::Coset,
-        _ => Mask::Plain,
-    }
-}
-
 /// Says which message a code is, on standard output.
 fn decode<R: AllocGlobal + Print>(rt: &R, found: &ArgMatches<'_>) -> Result<(), LineFault> {
     let Some(code) = found.get_str("code") else {
@@ -63,7 +54,7 @@ fn decode<R: AllocGlobal + Print>(rt: &R, found: &ArgMatches<'_>) -> Result<(), 
     let Ok(mut sink) = Sink::new(rt.alloc(), io::writer(rt)) else {
         return Err(LineFault::OutOfMemory);
     };
-    let mask = mask_of(found.get_str("mask"));
+    let mask = words::mask_of(found.get_str("mask"));
     decode_line(rt.alloc(), code, found.get_flag("up"), mask, &mut sink)
 }
 
