@@ -1,4 +1,3 @@
-pub mod SerialLists
 pub mod Determined
 pub mod Cases
 pub mod Licences

@@ -1,12 +1,30 @@
-ghost use Rattle.std.specs.Prelude.{◌≡◌, ◌↔◌, IfOk, IsTrue};
+ghost use Rattle.std.specs.Prelude.{◌≡◌, IfOk};
 ghost use Rattle.gp_machine.specs.Config.{is_within_limits};
 
 use super::admitted::Admitted;
 use gp_ploam::Mask;
 use std::alloc::{AllocError, Global};
 
+/// The most units that may be active on a port: one for each ONU-ID (G.984.3, clause 9).
+pub const MOST_UNITS: u8 = 254;
+
+/// The Alloc-IDs that may be the greatest one to be assigned: from the first that is no default Alloc-ID
+/// to the last of twelve bits (G.984.3, clause 9).
+pub const FIRST_ALLOC_ID: u16 = 256;
+
+pub const LAST_ALLOC_ID: u16 = 4095;
+
+/// The most search windows of one acquisition (this profile's own rule).
+pub const MOST_CYCLES: u8 = 10;
+
+/// The longest search period, in frames: 125 seconds (this profile's own rule).
+pub const LONGEST_SEARCH_PERIOD: u32 = 1_000_000;
+
+/// The most serial numbers that a port admits (this profile's own rule).
+pub const MOST_ADMITTED: usize = 512;
+
 /// What a port is configured with.
-#[derive(Drop)]
+#[derive(Debug, PartialEq, Eq, Drop)]
 pub struct PortConfig {
     /// What the check octet of every message is XORed with.
     pub mask: Mask,
@@ -32,26 +50,12 @@ impl PortConfig {
     pub fn is_within_limits(&self) -> bool
         ensures { result ≡ is_within_limits self.now }
     {
-        (1..=254).contains(&self.max_units)
-            && (256..=4095).contains(&self.alloc_last)
-            && (1..=10).contains(&self.cycles)
-            && self.search_period <= 1_000_000
-            && self.admitted.len() <= 512
+        (1..=MOST_UNITS).contains(&self.max_units)
+            && (FIRST_ALLOC_ID..=LAST_ALLOC_ID).contains(&self.alloc_last)
+            && (1..=MOST_CYCLES).contains(&self.cycles)
+            && self.search_period <= LONGEST_SEARCH_PERIOD
+            && self.admitted.len() <= MOST_ADMITTED
             && self.admitted.is_distinct()
-    }
-
-    /// Whether both configurations agree in every field.
-    pub fn same_as(&self, other: &PortConfig) -> bool
-        ensures { IsTrue result ↔ (self.now ≡ other.now) }
-    {
-        self.mask == other.mask
-            && self.teqd == other.teqd
-            && self.overhead == other.overhead
-            && self.max_units == other.max_units
-            && self.alloc_last == other.alloc_last
-            && self.cycles == other.cycles
-            && self.search_period == other.search_period
-            && self.admitted.same_as(&other.admitted)
     }
 
     /// A second configuration with the same fields. Fails only where there is no memory for the list of

@@ -15,7 +15,10 @@ mod runs;
 
 pub use admitted::{Admitted, is_among};
 pub use answer::Answer;
-pub use config::PortConfig;
+pub use config::{
+    FIRST_ALLOC_ID, LAST_ALLOC_ID, LONGEST_SEARCH_PERIOD, MOST_ADMITTED, MOST_CYCLES, MOST_UNITS,
+    PortConfig,
+};
 pub use entry::{Entry, Receipt};
 pub use event::{Command, Event};
 pub use one_step::{one_outcome, sound_step, step_keeps_licences};
