@@ -3,14 +3,13 @@ ghost use Rattle.std.specs.FinMap as map;
 ghost use Rattle.gp_ploam.specs.declared.message.Serial.{Serial};
 ghost use Rattle.gp_ploam.specs.Serials.{is_among};
 ghost use Rattle.gp_machine.specs.declared.row.Row.{Row};
-ghost use Rattle.gp_machine.specs.State.{HasRow, IsFree, Rows};
-ghost use Rattle.gp_machine.specs.Sound.{IsAsked};
+ghost use Rattle.gp_machine.specs.State.{HasRow, IsFree};
 ghost use Rattle.gp_machine.specs.Outcomes as spec;
 ghost use Rattle.gp_machine.specs.Outcomes.{outcome_of, refused_burst, state_seen};
-ghost use Rattle.gp_machine.specs.Burst as machine;
 ghost use Rattle.gp_machine.specs.Burst.{active_outcome, again_outcome, asked_outcome, burst_outcome, measured_outcome, newcomer_outcome, range_outcome, search_outcome, serial_outcome, state_assigned, state_ranged};
 ghost use Rattle.gp_machine.specs.declared.event.Event.TheVariants as event;
 ghost use Rattle.gp_machine.specs.Step.{HandsOutFree, Step, onu_id_in};
+ghost use Rattle.gp_port.specs.Core.{AsksNoUnit};
 
 use super::copies::{COPIES, MOST_COPIES};
 use super::port_core::PortCore;
@@ -20,18 +19,6 @@ use gp_machine::{Answer, Phase, Refusal, Reply, Row};
 use gp_ploam::{Down, Serial, Up, decode_up};
 use gp_ranging::{Grant, equalize};
 use std::sync::ledger::Ledger;
-
-/// An answer that sends, grants and raises nothing.
-pub(super) fn bare_answer(reply: Reply) -> Answer
-    ensures { result ≡ spec.bare_answer reply }
-{
-    Answer {
-        reply,
-        sent: None,
-        grant: None,
-        alarm: None,
-    }
-}
 
 impl<L: Ledger> PortCore<L> {
     /// A burst: its octets are read under the port's mask.
@@ -54,7 +41,7 @@ impl<L: Ledger> PortCore<L> {
         ensures outcome { outcome_of result self.new ≡ burst_outcome purse self.old at heard (onu_id_in result.0.reply) }
     {
         let Some(window) = &self.window else {
-            return (bare_answer(Reply::Refused(Refusal::Stray)), purse);
+            return (Answer::from(Reply::Refused(Refusal::Stray)), purse);
         };
         let grant = window.grant();
         let Some(message) = heard else {
@@ -81,7 +68,7 @@ impl<L: Ledger> PortCore<L> {
         ensures { outcome_of result self.new ≡ refused_burst purse self.old refusal }
     {
         self.mark_seen();
-        (bare_answer(Reply::Refused(refusal)), purse)
+        (Answer::from(Reply::Refused(refusal)), purse)
     }
 
     /// Whether a burst may owe a message: with it at most 189 copies are owed (this profile's own rule).
@@ -93,7 +80,7 @@ impl<L: Ledger> PortCore<L> {
 
     /// A message in a search window.
     fn hear_in_search(&mut self, purse: Licences<L>, message: Up) -> (Answer, Licences<L>)
-        requires asks_no_unit { (rows : Rows) → IsAsked rows self.old.window }
+        requires search { AsksNoUnit self.old.window }
         ensures free { HandsOutFree self.old result.0.reply }
         ensures outcome { outcome_of result self.new ≡ search_outcome purse self.old (onu_id_in result.0.reply) message }
     {
@@ -108,24 +95,24 @@ impl<L: Ledger> PortCore<L> {
     }
 
     /// A serial number in a search window.
+    #[tactic(auto, using(crate::proofs::Kept::active_admitted))]
     fn search(&mut self, purse: Licences<L>, serial: Serial) -> (Answer, Licences<L>)
-        requires asks_no_unit { (rows : Rows) → IsAsked rows self.old.window }
+        requires search { AsksNoUnit self.old.window }
         ensures free { HandsOutFree self.old result.0.reply }
         ensures outcome { outcome_of result self.new ≡ serial_outcome purse self.old serial (onu_id_in result.0.reply) }
     {
-        if !self.config.admitted.contains(&serial) {
-            return self.refuse(purse, Refusal::NotAdmitted);
-        }
+        // An active unit is admitted, so only another one is looked for among those that are.
         match self.table.row_of(&serial) {
-            None => self.meet(purse, serial),
-            Some(row) => self.meet_again(purse, serial, row),
+            Some(row) => self.answer_active(purse, serial, row),
+            None if self.config.admitted.contains(&serial) => self.answer_inactive(purse, serial),
+            None => self.refuse(purse, Refusal::NotAdmitted),
         }
     }
 
     /// An admitted unit that is not active.
-    fn meet(&mut self, purse: Licences<L>, serial: Serial) -> (Answer, Licences<L>)
+    fn answer_inactive(&mut self, purse: Licences<L>, serial: Serial) -> (Answer, Licences<L>)
         requires admitted { is_among serial self.old.config.admitted ≡ true }
-        requires asks_no_unit { (rows : Rows) → IsAsked rows self.old.window }
+        requires search { AsksNoUnit self.old.window }
         requires unknown { map.get self.old.rows serial ≡ None }
         ensures free { HandsOutFree self.old result.0.reply }
         ensures outcome { outcome_of result self.new ≡ newcomer_outcome purse self.old serial (onu_id_in result.0.reply) }
@@ -142,62 +129,62 @@ impl<L: Ledger> PortCore<L> {
         let onu = self.table.free_onu();
         let (one, rest) = purse.split_one();
         self.activate(one, serial, onu);
-        (bare_answer(Reply::Found(onu)), rest)
+        (Answer::from(Reply::Found(onu)), rest)
     }
 
     /// A new unit has this ONU-ID and this licence, and is told the ONU-ID.
     fn activate(&mut self, one: Licences<L>, serial: Serial, onu: u8)
         requires one { one ≡ 1 }
         requires room { spec.has_room self.old ≡ true }
-        requires asks_no_unit { (rows : Rows) → IsAsked rows self.old.window }
+        requires search { AsksNoUnit self.old.window }
         requires admitted { is_among serial self.old.config.admitted ≡ true }
         requires unknown { map.get self.old.rows serial ≡ None }
         requires free { IsFree self.old onu }
         ensures { self.new ≡ state_assigned self.old serial onu }
     {
         self.held.absorb(one);
-        self.table.put(serial, new_row(onu));
+        self.table.put(serial, Row::ranging(onu));
         self.owed.owe(Down::AssignOnu { onu, serial });
     }
 
     /// A unit that is active already.
-    fn meet_again(&mut self, purse: Licences<L>, serial: Serial, row: Row) -> (Answer, Licences<L>)
-        requires asks_no_unit { (rows : Rows) → IsAsked rows self.old.window }
+    fn answer_active(&mut self, purse: Licences<L>, serial: Serial, row: Row) -> (Answer, Licences<L>)
+        requires search { AsksNoUnit self.old.window }
         requires known { HasRow self.old.rows serial row }
         ensures free { HandsOutFree self.old result.0.reply }
         ensures outcome { outcome_of result self.new ≡ active_outcome purse self.old serial row.onu row.phase }
     {
         match row.phase {
-            Phase::Ranging { .. } => self.tell_again(purse, serial, row.onu),
+            Phase::Ranging { .. } => self.answer_ranging(purse, serial, row.onu),
             Phase::Operating { .. } => self.refuse(purse, Refusal::WrongWindow),
         }
     }
 
     /// A ranging unit is told its own ONU-ID again, but where it is still to be told it.
-    fn tell_again(&mut self, purse: Licences<L>, serial: Serial, onu: u8) -> (Answer, Licences<L>)
-        requires asks_no_unit { (rows : Rows) → IsAsked rows self.old.window }
+    fn answer_ranging(&mut self, purse: Licences<L>, serial: Serial, onu: u8) -> (Answer, Licences<L>)
+        requires search { AsksNoUnit self.old.window }
         requires known { (row : Row) × HasRow self.old.rows serial row × (row.onu ≡ onu) }
         ensures free { HandsOutFree self.old result.0.reply }
         ensures outcome { outcome_of result self.new ≡ again_outcome purse self.old serial onu }
     {
         if self.owed.owes_assign(onu, &serial) {
-            return (bare_answer(Reply::Repeat(onu)), purse);
+            return (Answer::from(Reply::Repeat(onu)), purse);
         }
         if !self.has_room() {
             return self.refuse(purse, Refusal::Busy);
         }
         self.assign_again(serial, onu);
-        (bare_answer(Reply::Again(onu)), purse)
+        (Answer::from(Reply::Again(onu)), purse)
     }
 
     /// The unit begins to range anew with its ONU-ID, and is told it.
     fn assign_again(&mut self, serial: Serial, onu: u8)
         requires room { spec.has_room self.old ≡ true }
-        requires asks_no_unit { (rows : Rows) → IsAsked rows self.old.window }
+        requires search { AsksNoUnit self.old.window }
         requires known { (row : Row) × HasRow self.old.rows serial row × (row.onu ≡ onu) }
         ensures { self.new ≡ state_assigned self.old serial onu }
     {
-        self.table.put(serial, new_row(onu));
+        self.table.put(serial, Row::ranging(onu));
         self.owed.owe(Down::AssignOnu { onu, serial });
     }
 
@@ -231,7 +218,7 @@ impl<L: Ledger> PortCore<L> {
     {
         let Up::SerialNumber { serial, .. } = message else {
             self.mark_seen();
-            return (bare_answer(Reply::StillRanging(onu)), purse);
+            return (Answer::from(Reply::StillRanging(onu)), purse);
         };
         match self.table.row_of(&serial) {
             Some(row) if row.onu == onu => self.measure(purse, at, serial, onu),
@@ -253,13 +240,13 @@ impl<L: Ledger> PortCore<L> {
     {
         let Some(eqd) = equalize(self.config.teqd, at) else {
             self.mark_seen();
-            return (bare_answer(Reply::TooFar(onu)), purse);
+            return (Answer::from(Reply::TooFar(onu)), purse);
         };
         if !self.has_room() {
             return self.refuse(purse, Refusal::Busy);
         }
         self.finish_ranging(serial, onu, eqd);
-        (bare_answer(Reply::Ranged { onu, eqd }), purse)
+        (Answer::from(Reply::Ranged { onu, eqd }), purse)
     }
 
     /// The unit operates with this equalization delay and is told it, and its window closes.
@@ -277,15 +264,4 @@ impl<L: Ledger> PortCore<L> {
         self.table.put(serial, Row { onu, phase });
         self.owed.owe(Down::RangingTime { onu, eqd });
     }
-}
-
-/// The row of a unit that begins to range.
-fn new_row(onu: u8) -> Row
-    ensures { result ≡ machine.new_row onu }
-{
-    let phase = Phase::Ranging {
-        attempts: 0,
-        seen: false,
-    };
-    Row { onu, phase }
 }

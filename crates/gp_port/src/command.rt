@@ -2,7 +2,6 @@ ghost use Rattle.std.specs.Prelude.{◌≡◌, None};
 ghost use Rattle.gp_machine.specs.Outcomes.{outcome_of};
 ghost use Rattle.gp_machine.specs.Commands.{command_outcome};
 
-use super::burst::bare_answer;
 use super::port_core::PortCore;
 use gp_common::Common;
 use gp_licence::Licences;
@@ -28,9 +27,9 @@ impl<L: Ledger> PortCore<L> {
         let acquiring = matches!(self.common, Common::Acquisition(_));
         if self.wanted || acquiring {
             let reply = Reply::Refused(Refusal::AlreadySearching);
-            return (bare_answer(reply), purse);
+            return (Answer::from(reply), purse);
         }
         self.wanted = true;
-        (bare_answer(Reply::Searching), purse)
+        (Answer::from(Reply::Searching), purse)
     }
 }

@@ -83,18 +83,12 @@ impl Copies {
     {
         self.copies
             .iter()
-            .any(|message| assigns(message, onu, serial))
+            .any(|copy| assigns(copy, onu, serial))
     }
 }
 
-fn assigns(message: &Down, onu: u8, serial: &Serial) -> bool
-    ensures { result ≡ is_assign onu serial.now message.now }
+fn assigns(copy: &Down, onu: u8, serial: &Serial) -> bool
+    ensures { result ≡ is_assign onu serial.now copy.now }
 {
-    match message {
-        Down::AssignOnu {
-            onu: other,
-            serial: to,
-        } => onu == *other && *serial == *to,
-        _ => false,
-    }
+    *copy == Down::AssignOnu { onu, serial: *serial }
 }

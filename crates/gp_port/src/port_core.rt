@@ -1,4 +1,4 @@
-ghost use Rattle.std.specs.Prelude.{◌≡◌, ◌+◌, ◌≤◌, false, true, [], length, IfOk, IsErrOf, ◌↔◌};
+ghost use Rattle.std.specs.Prelude.{◌≡◌, ◌+◌, ◌≤◌, false, true, [], length, IfOk, IsErrOf, IsTrue, ◌↔◌};
 ghost use Rattle.std.specs.FinMap as map;
 ghost use Rattle.std.specs.Option.{ForSome};
 ghost use Rattle.gp_ploam.specs.Down.{IsProperDown};
@@ -95,9 +95,10 @@ impl<L: Ledger> PortCore<L> {
         }
     }
 
-    /// What the port was opened with. It never changes.
+    /// What the port was opened with. It never changes, and is within the limits.
     pub fn config(&self) -> &PortConfig
-        ensures { result.now ≡ self.now.config }
+        ensures config { result.now ≡ self.now.config }
+        ensures limits { IsTrue (is_within_limits result.now) }
     {
         &self.config
     }

@@ -17,11 +17,8 @@ pub fn put_window(place: &mut Option<Window>, window: Option<Window>)
 pub fn ticked(window: Option<Window>) -> Option<Window>
     ensures { result ≡ window_left window }
 {
-    match window {
-        None => None,
-        Some(window) => match window.tick() {
-            Ticked::Still(window) => Some(window),
-            Ticked::Ended(_, _) => None,
-        },
+    match window?.tick() {
+        Ticked::Still(window) => Some(window),
+        Ticked::Ended(_, _) => None,
     }
 }

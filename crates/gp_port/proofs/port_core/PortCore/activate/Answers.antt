@@ -7,5 +7,5 @@ invariant_of-self g c =
     let needs = rw (← c.self.view_is) at c.requires in
     let a = c.self.inside in
     let p = state_with a.config a.table a.common a.wanted a.timer a.window a.owed in
-    rw (c.absorb.ensures, c.put.ensures, c.new_row.ensures, c.owe.ensures)
-    (kept_new p a.held c.args.one c.args.serial c.args.onu c.self.invariant needs.one needs.room needs.asks_no_unit needs.admitted needs.unknown needs.free)
+    rw (c.absorb.ensures, c.put.ensures, c.ranging.ensures, c.owe.ensures)
+    (kept_new p a.held c.args.one c.args.serial c.args.onu c.self.invariant needs.one needs.room needs.search needs.admitted needs.unknown needs.free)

@@ -7,4 +7,4 @@ invariant_of-self g c =
     let needs = rw (← c.self.view_is) at c.requires in
     let a = c.self.inside in
     let p = state_with a.config a.table a.common a.wanted a.timer a.window a.owed in
-    rw (c.put.ensures, c.new_row.ensures, c.owe.ensures) (kept_again p a.held c.args.serial c.args.onu c.self.invariant needs.room needs.asks_no_unit needs.known)
+    rw (c.put.ensures, c.ranging.ensures, c.owe.ensures) (kept_again p a.held c.args.serial c.args.onu c.self.invariant needs.room needs.search needs.known)
