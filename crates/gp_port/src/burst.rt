@@ -148,7 +148,12 @@ impl<L: Ledger> PortCore<L> {
     }
 
     /// A unit that is active already.
-    fn answer_active(&mut self, purse: Licences<L>, serial: Serial, row: Row) -> (Answer, Licences<L>)
+    fn answer_active(
+        &mut self,
+        purse: Licences<L>,
+        serial: Serial,
+        row: Row,
+    ) -> (Answer, Licences<L>)
         requires search { AsksNoUnit self.old.window }
         requires known { HasRow self.old.rows serial row }
         ensures free { HandsOutFree self.old result.0.reply }
@@ -161,7 +166,12 @@ impl<L: Ledger> PortCore<L> {
     }
 
     /// A ranging unit is told its own ONU-ID again, but where it is still to be told it.
-    fn answer_ranging(&mut self, purse: Licences<L>, serial: Serial, onu: u8) -> (Answer, Licences<L>)
+    fn answer_ranging(
+        &mut self,
+        purse: Licences<L>,
+        serial: Serial,
+        onu: u8,
+    ) -> (Answer, Licences<L>)
         requires search { AsksNoUnit self.old.window }
         requires known { (row : Row) × HasRow self.old.rows serial row × (row.onu ≡ onu) }
         ensures free { HandsOutFree self.old result.0.reply }

@@ -81,14 +81,16 @@ impl Copies {
     pub fn owes_assign(&self, onu: u8, serial: &Serial) -> bool
         ensures { result ≡ list_any (is_assign onu serial.now) self.now }
     {
-        self.copies
-            .iter()
-            .any(|copy| assigns(copy, onu, serial))
+        self.copies.iter().any(|copy| assigns(copy, onu, serial))
     }
 }
 
 fn assigns(copy: &Down, onu: u8, serial: &Serial) -> bool
     ensures { result ≡ is_assign onu serial.now copy.now }
 {
-    *copy == Down::AssignOnu { onu, serial: *serial }
+    *copy
+        == Down::AssignOnu {
+            onu,
+            serial: *serial,
+        }
 }

@@ -2,19 +2,21 @@
 ghost use Rattle.std.specs.Prelude.{◌≡◌, ◌≤◌};
 
 use super::{OpenFault, PortCore};
-use gp_licence::{LicenceBook, Licences};
+use gp_licence::{LicenceBook, Licences, MOST_LICENCES};
 use gp_machine::{Admitted, Answer, Command, Event, PortConfig, Refusal, Reply};
-use gp_ploam::{Down, Mask, Serial};
+use gp_ploam::{Down, Mask, Serial, Up, encode_up};
 use gp_ranging::Grant;
 use std::alloc::{AllocError, Global};
 use std::marker::Brand;
 use std::sync::ledger::{Blank, Ledger};
 use std::test::Fail;
 
-/// ABCD00000001 and ABCD00000002.
-const A: Serial = Serial([0x41, 0x42, 0x43, 0x44, 0, 0, 0, 1]);
+/// Two units that are admitted, and one that isn't.
+const A: Serial = Serial(*b"ABCD\0\0\0\x01");
 
-const B: Serial = Serial([0x41, 0x42, 0x43, 0x44, 0, 0, 0, 2]);
+const B: Serial = Serial(*b"ABCD\0\0\0\x02");
+
+const C: Serial = Serial(*b"ABCD\0\0\0\x03");
 
 /// A's serial number without an ONU-ID, and with the ONU-ID 0; B's without an ONU-ID.
 const A_SEARCHED: [u8; 13] = [0xff, 1, 0x41, 0x42, 0x43, 0x44, 0, 0, 0, 1, 0, 0, 0x2c];
@@ -43,12 +45,11 @@ fn of_a_and_b(alloc: Global) -> Result<PortConfig, AllocError> {
 }
 
 fn replies(reply: Reply) -> Answer {
-    Answer {
-        reply,
-        sent: None,
-        grant: None,
-        alarm: None,
-    }
+    Answer::from(reply)
+}
+
+fn refuses(refusal: Refusal) -> Answer {
+    replies(Reply::Refused(refusal))
 }
 
 fn sends(message: Down) -> Answer {
@@ -65,8 +66,8 @@ fn grants(grant: Grant) -> Answer {
     }
 }
 
-/// The place of the first step, in both lists, whose answer is another than is expected. A licence, where
-/// one is free, is at hand for each step.
+/// The place of the first step, in both lists, whose answer is another than is expected. Of two licences
+/// one is at hand for each step, where one is free.
 fn first_surprise<L: Ledger>(
     alloc: Global,
     blank: Blank,
@@ -75,7 +76,7 @@ fn first_surprise<L: Ledger>(
     steps: &[(Event, Answer)],
 ) -> Result<Option<usize>, OpenFault>
     requires name { blank.name ≡ L.name }
-    requires parts { (blank.parts ≡ L.parts) × (L.parts ≡ 4064) }
+    requires parts { (blank.parts ≡ L.parts) × (L.parts ≡ MOST_LICENCES) }
 {
     let mut port = PortCore::<L>::begin(alloc, config)?;
     let mut book = LicenceBook::<L>::new(blank, 2);
@@ -98,7 +99,13 @@ fn surprise_after(
     before: &[(Event, Answer)],
     steps: &[(Event, Answer)],
 ) -> Result<Option<usize>, OpenFault> {
-    first_surprise::<Brand>(alloc, Blank::new(4064), config, before, steps)
+    first_surprise::<Brand>(
+        alloc,
+        Blank::new(u64::from(MOST_LICENCES)),
+        config,
+        before,
+        steps,
+    )
 }
 
 fn surprise(
@@ -113,6 +120,33 @@ const SEARCH: Event = Event::Command(Command::Search);
 
 fn burst(at: u32, bytes: [u8; 13]) -> Event {
     Event::Burst { at, bytes }
+}
+
+/// A unit's serial number, with this octet 1.
+fn serial_number(onu: u8, serial: Serial) -> Event {
+    let message = Up::SerialNumber {
+        onu,
+        serial,
+        random: 0,
+        flags: 0,
+    };
+    burst(100_000, encode_up(&message, Mask::Plain))
+}
+
+fn dying_gasp(onu: u8) -> Event {
+    burst(100_000, encode_up(&Up::DyingGasp { onu }, Mask::Plain))
+}
+
+/// A search window opens.
+fn search_window() -> [(Event, Answer); 6] {
+    [
+        (SEARCH, replies(Reply::Searching)),
+        (Event::Frame, replies(Reply::Ticked)),
+        (Event::Frame, sends(OVERHEAD)),
+        (Event::Frame, sends(OVERHEAD)),
+        (Event::Frame, sends(OVERHEAD)),
+        (Event::Frame, grants(Grant::Search)),
+    ]
 }
 
 /// A is found, is told its ONU-ID, and is asked in a ranging window.
@@ -160,22 +194,120 @@ fn one_unit(rt: HostRuntime) -> Result<(), Fail> {
 
 #[test]
 fn repeated_answer(rt: HostRuntime) -> Result<(), Fail> {
-    let refused = |refusal| replies(Reply::Refused(refusal));
     let steps = [
-        (burst(100_000, A_SEARCHED), refused(Refusal::Stray)),
-        (SEARCH, replies(Reply::Searching)),
-        (SEARCH, refused(Refusal::AlreadySearching)),
-        (Event::Frame, replies(Reply::Ticked)),
-        (Event::Frame, sends(OVERHEAD)),
-        (Event::Frame, sends(OVERHEAD)),
-        (Event::Frame, sends(OVERHEAD)),
-        (Event::Frame, grants(Grant::Search)),
         (burst(100_000, A_SEARCHED), replies(Reply::Found(0))),
         (burst(200_000, B_SEARCHED), replies(Reply::Found(1))),
         (burst(100_000, A_SEARCHED), replies(Reply::Repeat(0))),
     ];
     let config = of_a_and_b(rt.alloc())?;
+    assert_eq!(rt;
+        surprise_after(rt.alloc(), &config, &search_window(), &steps)?,
+        None
+    );
+    Ok(())
+}
+
+/// A misses its Assign_ONU-ID, and answers in the next search window too.
+#[test]
+fn heard_again(rt: HostRuntime) -> Result<(), Fail> {
+    let assign = sends(Down::AssignOnu { onu: 0, serial: A });
+    let steps = [
+        (burst(100_000, A_SEARCHED), replies(Reply::Found(0))),
+        (Event::Frame, assign),
+        (Event::Frame, assign),
+        (Event::Frame, assign),
+        (Event::Frame, grants(Grant::Search)),
+        (burst(100_000, A_SEARCHED), replies(Reply::Again(0))),
+        (burst(100_000, A_SEARCHED), replies(Reply::Repeat(0))),
+        (Event::Frame, assign),
+    ];
+    let config = PortConfig {
+        cycles: 2,
+        ..of_a_and_b(rt.alloc())?
+    };
+    assert_eq!(rt;
+        surprise_after(rt.alloc(), &config, &search_window(), &steps)?,
+        None
+    );
+    Ok(())
+}
+
+#[test]
+fn no_free_number(rt: HostRuntime) -> Result<(), Fail> {
+    let steps = [
+        (burst(100_000, A_SEARCHED), replies(Reply::Found(0))),
+        (burst(200_000, B_SEARCHED), refuses(Refusal::NoId)),
+    ];
+    let config = PortConfig {
+        max_units: 1,
+        ..of_a_and_b(rt.alloc())?
+    };
+    assert_eq!(rt;
+        surprise_after(rt.alloc(), &config, &search_window(), &steps)?,
+        None
+    );
+    Ok(())
+}
+
+#[test]
+fn refusals_without_a_window(rt: HostRuntime) -> Result<(), Fail> {
+    let garbled = burst(0, [0xff; 13]);
+    let steps = [
+        (burst(100_000, A_SEARCHED), refuses(Refusal::Stray)),
+        (garbled, refuses(Refusal::Stray)),
+        (SEARCH, replies(Reply::Searching)),
+        (SEARCH, refuses(Refusal::AlreadySearching)),
+        (Event::Frame, replies(Reply::Ticked)),
+        (SEARCH, refuses(Refusal::AlreadySearching)),
+    ];
+    let config = of_a_and_b(rt.alloc())?;
     assert_eq!(rt; surprise(rt.alloc(), &config, &steps)?, None);
+    Ok(())
+}
+
+#[test]
+fn refusals_in_a_search_window(rt: HostRuntime) -> Result<(), Fail> {
+    let steps = [
+        (burst(0, [0xff; 13]), refuses(Refusal::Garbled)),
+        (dying_gasp(255), refuses(Refusal::WrongWindow)),
+        (serial_number(0, A), refuses(Refusal::WrongWindow)),
+        (serial_number(255, C), refuses(Refusal::NotAdmitted)),
+        (SEARCH, refuses(Refusal::AlreadySearching)),
+        (serial_number(255, A), replies(Reply::Found(0))),
+    ];
+    let config = of_a_and_b(rt.alloc())?;
+    assert_eq!(rt;
+        surprise_after(rt.alloc(), &config, &search_window(), &steps)?,
+        None
+    );
+    Ok(())
+}
+
+#[test]
+fn refusals_in_a_ranging_window(rt: HostRuntime) -> Result<(), Fail> {
+    let steps = [
+        (burst(0, [0xff; 13]), refuses(Refusal::Garbled)),
+        (serial_number(255, A), refuses(Refusal::WrongWindow)),
+        (serial_number(1, A), refuses(Refusal::WrongWindow)),
+        (serial_number(0, B), refuses(Refusal::WrongWindow)),
+        (dying_gasp(1), refuses(Refusal::WrongWindow)),
+        (dying_gasp(0), replies(Reply::StillRanging(0))),
+        (SEARCH, replies(Reply::Searching)),
+        (SEARCH, refuses(Refusal::AlreadySearching)),
+        (
+            serial_number(0, A),
+            replies(Reply::Ranged {
+                onu: 0,
+                eqd: 211_040,
+            }),
+        ),
+        (serial_number(0, A), refuses(Refusal::Stray)),
+    ];
+    let config = of_a_and_b(rt.alloc())?;
+    assert_eq!(rt;
+        surprise_after(rt.alloc(), &config, &a_is_asked(), &steps)?,
+        None
+    );
     Ok(())
 }
 
@@ -199,18 +331,99 @@ fn periodic_search(rt: HostRuntime) -> Result<(), Fail> {
 
 #[test]
 fn delay_limits(rt: HostRuntime) -> Result<(), Fail> {
-    let steps = [
-        (burst(311_041, A_RANGED), replies(Reply::TooFar(0))),
-        (
-            burst(311_040, A_RANGED),
-            replies(Reply::Ranged { onu: 0, eqd: 0 }),
-        ),
-    ];
     let config = of_a_and_b(rt.alloc())?;
+    let far = [
+        (burst(311_041, A_RANGED), replies(Reply::TooFar(0))),
+        (Event::Frame, replies(Reply::Ticked)),
+        (Event::Frame, replies(Reply::Ticked)),
+        (Event::Frame, replies(Reply::Ticked)),
+        (Event::Frame, grants(Grant::Range(0))),
+        (burst(311_041, A_RANGED), replies(Reply::TooFar(0))),
+    ];
     assert_eq!(rt;
-        surprise_after(rt.alloc(), &config, &a_is_asked(), &steps)?,
+        surprise_after(rt.alloc(), &config, &a_is_asked(), &far)?,
         None
     );
+    for (at, eqd) in [(311_040, 0), (0, 311_040)] {
+        let ranged = Reply::Ranged { onu: 0, eqd };
+        let near = [(burst(at, A_RANGED), replies(ranged))];
+        assert_eq!(rt;
+            surprise_after(rt.alloc(), &config, &a_is_asked(), &near)?,
+            None
+        );
+    }
+    Ok(())
+}
+
+/// What a port replies to these units in a search window. Of so many licences one is at hand for each, where
+/// one is free.
+fn replies_in_search<L: Ledger>(
+    alloc: Global,
+    blank: Blank,
+    licences: u32,
+    config: &PortConfig,
+    serials: &[Serial],
+) -> Result<Vec<Reply>, OpenFault>
+    requires name { blank.name ≡ L.name }
+    requires parts { (blank.parts ≡ L.parts) × (L.parts ≡ MOST_LICENCES) }
+    requires few { licences ≤ MOST_LICENCES }
+{
+    let mut replies = Vec::with_capacity(alloc, serials.len())?;
+    let mut port = PortCore::<L>::begin(alloc, config)?;
+    let mut book = LicenceBook::<L>::new(blank, licences);
+    for (event, _) in search_window() {
+        let (_, rest) = port.step(book.take(), event);
+        book.give(rest);
+    }
+    for serial in serials {
+        let (answer, rest) = port.step(book.take(), serial_number(255, *serial));
+        book.give(rest);
+        replies.push_reserved(answer.reply);
+    }
+    book.close(port.close());
+    Ok(replies)
+}
+
+fn replies_with(
+    alloc: Global,
+    licences: u32,
+    config: &PortConfig,
+    serials: &[Serial],
+) -> Result<Vec<Reply>, OpenFault>
+    requires { licences ≤ MOST_LICENCES }
+{
+    let blank = Blank::new(u64::from(MOST_LICENCES));
+    replies_in_search::<Brand>(alloc, blank, licences, config, serials)
+}
+
+#[test]
+fn no_licence(rt: HostRuntime) -> Result<(), Fail> {
+    let config = of_a_and_b(rt.alloc())?;
+    let replies = replies_with(rt.alloc(), 1, &config, &[A, B, A])?;
+    let expected = [
+        Reply::Found(0),
+        Reply::Refused(Refusal::NoLicence),
+        Reply::Repeat(0),
+    ];
+    assert_eq!(rt; replies.as_slice(), expected.as_slice());
+    Ok(())
+}
+
+/// In one window 63 units are found; with a 64th more copies would be owed than there is room for.
+#[test]
+fn full_queue(rt: HostRuntime) -> Result<(), Fail> {
+    let serials = numbered(rt.alloc(), 65)?;
+    let config = config_of(serials.as_slice().to_vec(rt.alloc())?);
+    let replies = replies_with(rt.alloc(), MOST_LICENCES, &config, serials.as_slice())?;
+    for (place, reply) in replies.iter().enumerate() {
+        let expected = if place < 63 {
+            Reply::Found(place as u8)
+        } else {
+            Reply::Refused(Refusal::Busy)
+        };
+        assert_eq!(rt; *reply, expected, "{place}");
+    }
+    assert_eq!(rt; replies.len(), 65);
     Ok(())
 }
 
