@@ -34,6 +34,9 @@ fn texts_elsewhere(rt: HostRuntime) -> Result<(), Fail> {
     let vendor_of_digits = Serial([0x30, 0x39, 0x5a, 0x41, 0xde, 0xad, 0xbe, 0xef]);
     let text = format!(in rt.alloc(); "{}", SerialText::of(&vendor_of_digits))?;
     assert_eq!(rt; text.as_str(), "09ZADEADBEEF");
+    let without_vendor = Serial([0xff, 0x39, 0x5a, 0x41, 0xde, 0xad, 0xbe, 0xef]);
+    let text = format!(in rt.alloc(); "{}", SerialText::of(&without_vendor))?;
+    assert_eq!(rt; text.as_str(), "FF395A41DEADBEEF");
     let mut out = Vec::new(rt.alloc());
     push_serial_text(&mut out, &Serial([0x5b, 0x42, 0x43, 0x44, 0, 0, 0, 0xa1]))?;
     push_serial_text(&mut out, &UNIT)?;
@@ -59,6 +62,16 @@ fn a_full_port(rt: HostRuntime) {
     assert_eq!(rt; list.admit(0, numbered(512)), Err(AdmitFault::Full));
     assert_eq!(rt; list.admit(1, numbered(512)), Ok(()));
     assert_eq!(rt; list.port_of(&numbered(512)), Some(1));
+}
+
+#[test]
+fn each_port(rt: HostRuntime) {
+    let mut list = AdmissionList::new(rt.alloc());
+    for port in 0..=255u8 {
+        let serial = numbered(u16::from(port));
+        assert_eq!(rt; list.admit(port, serial), Ok(()));
+        assert_eq!(rt; list.port_of(&serial), Some(port));
+    }
 }
 
 #[test]

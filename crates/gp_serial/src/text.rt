@@ -1,5 +1,5 @@
 //! Serial numbers as text.
-ghost use Rattle.std.specs.Prelude.{◌≡◌, ◌+◌, ◌*◌, ◌<◌, ◌++◌, true, length, vec_len, vec_capacity, OnOk, OnErr, IfOk, IfErr, Some, Ok};
+ghost use Rattle.std.specs.Prelude.{◌≡◌, ◌+◌, ◌*◌, ◌<◌, ◌≤◌, ◌++◌, true, length, vec_len, vec_capacity, OnOk, OnErr, IfOk, IfErr, Some, Ok};
 ghost use Rattle.std.specs.List.{list_all};
 ghost use Rattle.std.specs.Str.{IsAscii};
 ghost use Rattle.std.specs.String.{string_bytes};
@@ -124,11 +124,12 @@ pub fn serial_text(alloc: Global, serial: &Serial) -> Result<String, SerialFault
 }
 
 /// Appends the text of a serial number to these octets, and changes nothing where memory is short,
-/// which it can't be where there is room for the text.
+/// which it can't be where there is room for the text. The room never gets less.
 pub fn push_serial_text(out: &mut Vec<u8>, serial: &Serial) -> Result<(), AllocError>
     ensures ok { OnOk result (out.new.items ≡ out.old.items ++ text_of_serial serial.now) }
     ensures err { OnErr result (out.new.items ≡ out.old.items) }
     ensures full { OnErr result (vec_capacity out.old < vec_len out.old + length (text_of_serial serial.now)) }
+    ensures capacity { vec_capacity out.old ≤ vec_capacity out.new }
 {
     out.extend_from_slice(SerialText::of(serial).as_bytes())
 }

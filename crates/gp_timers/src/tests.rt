@@ -35,6 +35,16 @@ fn ends_of_the_range(rt: HostRuntime) -> Result<(), Fail> {
 }
 
 #[test]
+fn each_small_wheel(rt: HostRuntime) -> Result<(), Fail> {
+    for names in 1..=300u16 {
+        let mut wheel = Wheel::begin(rt.alloc(), names)?;
+        wheel.set(names - 1, 1);
+        assert_eq!(rt; wheel.due(1), Some(names - 1));
+    }
+    Ok(())
+}
+
+#[test]
 fn memory_short_or_ample(rt: HostRuntime) {
     match Wheel::begin(rt.alloc(), 5120) {
         Ok(mut wheel) => assert_eq!(rt; wheel.due(u64::MAX), None),
