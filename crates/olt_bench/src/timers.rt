@@ -12,7 +12,7 @@ const PERIOD: u64 = 5120;
 
 /// A wheel for `NAMES` names; contracts see how many they are.
 #[derive(Drop)]
-struct ChassisTimers {
+pub(crate) struct ChassisTimers {
     wheel: Wheel,
 }
 
@@ -27,15 +27,12 @@ impl Model for ChassisTimers {
 }
 
 impl ChassisTimers {
-    /// Each timer set for a frame of its own.
-    fn begin(alloc: Global) -> Result<ChassisTimers, TimerFault> {
-        let mut timers = ChassisTimers {
-            wheel: Wheel::begin(alloc, NAMES)?,
-        };
-        for name in 0..NAMES {
-            timers.set(name, name as u64);
-        }
-        Ok(timers)
+    /// No timer set.
+    fn begin(alloc: Global) -> io::Result<ChassisTimers> {
+        let wheel = Wheel::begin(alloc, NAMES).map_err(
+            |TimerFault::OutOfMemory| io::ErrorKind::OutOfMemory,
+        )?;
+        Ok(ChassisTimers { wheel })
     }
 
     /// Asks which timer is due, and sets it again for a later frame.
@@ -53,38 +50,54 @@ impl ChassisTimers {
     }
 }
 
-fn all_set(alloc: Global) -> io::Result<ChassisTimers> {
-    let timers = ChassisTimers::begin(alloc).map_err(
-        |TimerFault::OutOfMemory| io::ErrorKind::OutOfMemory,
-    )?;
+/// Each timer set for a frame of its own, from frame 0 on.
+pub(crate) fn one_in_each_frame(alloc: Global) -> io::Result<ChassisTimers> {
+    let mut timers = ChassisTimers::begin(alloc)?;
+    for name in 0..NAMES {
+        timers.set(name, u64::from(name));
+    }
     Ok(timers)
 }
 
-fn name_or_zero(name: Option<u16>) -> u64 {
-    name.map_or(0, |name| name as u64)
+/// All timers set for the last of all frames.
+pub(crate) fn all_in_the_last_frame(alloc: Global) -> io::Result<ChassisTimers> {
+    let mut timers = ChassisTimers::begin(alloc)?;
+    for name in 0..NAMES {
+        timers.set(name, u64::MAX);
+    }
+    Ok(timers)
 }
 
-/// Asks in frames in which no timer is due.
-pub(crate) fn none_due(alloc: Global, rounds: u32) -> io::Result<Measured> {
-    let mut timers = all_set(alloc)?;
-    for _ in 0..NAMES {
-        timers.next_due(u64::MAX);
-    }
-    let mut measured = Measured::none();
-    for frame in 0..rounds {
-        measured.count(name_or_zero(timers.next_due(frame as u64)));
-    }
-    Ok(measured)
+/// A name n counts as n + 1, none as 0.
+fn number_of(name: Option<u16>) -> u64 {
+    name.map_or(0, |name| u64::from(name) + 1)
 }
 
 /// Asks in each frame until no timer is due; one timer is due in each.
-pub(crate) fn due_and_set(alloc: Global, rounds: u32) -> io::Result<Measured> {
-    let mut timers = all_set(alloc)?;
+pub(crate) fn due_and_set(timers: &mut ChassisTimers, rounds: u32) -> Measured {
     let mut measured = Measured::none();
     for frame in 0..rounds {
         for _ in 0..2 {
-            measured.count(name_or_zero(timers.next_due(frame as u64)));
+            measured.count(number_of(timers.next_due(u64::from(frame))));
         }
     }
-    Ok(measured)
+    measured
+}
+
+/// Asks in frames in which no timer is due.
+pub(crate) fn none_due(timers: &mut ChassisTimers, rounds: u32) -> Measured {
+    let mut measured = Measured::none();
+    for frame in 0..rounds {
+        measured.count(number_of(timers.next_due(u64::from(frame))));
+    }
+    measured
+}
+
+/// How many timers are set. They are cancelled.
+pub(crate) fn left_in(timers: &mut ChassisTimers) -> u64 {
+    let mut left = 0u64;
+    for name in 0..NAMES {
+        left = left.saturating_add(u64::from(timers.wheel.cancel(name)));
+    }
+    left
 }

@@ -11,8 +11,16 @@ fn ranging_time(eqd: u32) -> [u8; 13] {
     encode_down(&Down::RangingTime { onu: 0, eqd }, Mask::Plain)
 }
 
-/// A unit in O5 with the ONU-ID 0.
-fn operating() -> Unit {
+/// A unit with the ONU-ID 0, and the codes of the two equalization delays that it hears in turn.
+#[derive(Drop)]
+pub(crate) struct Listener {
+    unit: Unit,
+    even: [u8; 13],
+    odd: [u8; 13],
+}
+
+/// A unit in O4. The first equalization delay that it hears takes it to O5.
+pub(crate) fn ranging() -> Listener {
     let overhead = Down::UpstreamOverhead { burst: [0; 10] };
     let assignment = Down::AssignOnu {
         onu: 0,
@@ -22,21 +30,32 @@ fn operating() -> Unit {
     unit.light();
     unit.hear(&encode_down(&overhead, Mask::Plain));
     unit.hear(&encode_down(&assignment, Mask::Plain));
-    unit.hear(&ranging_time(0));
-    unit
+    Listener {
+        unit,
+        even: ranging_time(211_040),
+        odd: ranging_time(211_041),
+    }
 }
 
-/// Hears one of two equalization delays in turn, and answers a ranging request.
-pub(crate) fn hear_and_answer(rounds: u32) -> Measured {
-    let mut unit = operating();
-    let even = ranging_time(211_040);
-    let odd = ranging_time(211_041);
+/// Hears one of two equalization delays in turn, and answers a ranging request. A delay or a last octet n counts as
+/// n + 1, none as 0.
+pub(crate) fn hear_and_answer(listener: &mut Listener, rounds: u32) -> Measured {
     let mut measured = Measured::none();
     for round in 0..rounds {
-        unit.hear(if round % 2 == 0 { &even } else { &odd });
-        measured.count(unit.eqd().unwrap_or(0) as u64);
-        let answer = unit.grant(Grant::Range(0), 0);
-        measured.count(answer.map_or(0, |code| code[12] as u64));
+        let code = if round % 2 == 0 {
+            listener.even
+        } else {
+            listener.odd
+        };
+        listener.unit.hear(&code);
+        measured.count(left_in(listener));
+        let answer = listener.unit.grant(Grant::Range(0), 0);
+        measured.count(answer.map_or(0, |code| u64::from(code[12]) + 1));
     }
     measured
+}
+
+/// The equalization delay that the unit has, and 1 more; 0 where it has none.
+pub(crate) fn left_in(listener: &Listener) -> u64 {
+    listener.unit.eqd().map_or(0, |eqd| u64::from(eqd) + 1)
 }

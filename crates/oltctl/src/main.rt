@@ -80,9 +80,9 @@ fn explain<R: Print + Eprint>(rt: &R, error: &Error) -> u8 {
         return report(rt, memory_report());
     }
     match error.print(rt) {
-        Err(_) => report(rt, write_report()),
-        Ok(()) if error.use_stderr() => BAD_WORDS,
+        _ if error.use_stderr() => BAD_WORDS,
         Ok(()) => 0,
+        Err(_) => report(rt, write_report()),
     }
 }
 
