@@ -32,8 +32,8 @@ len-new rows s new none = len-insert serials_total rows s new ∙ ap (λ (o : Op
 pub burst_keeps : (u : ℕ) (p : PortState) (at : ℕ) (heard : Option Up) (n : ℕ) → OfEachBurst (Keeps u p) u p at heard n
 burst_keeps u p at heard n =
     record {
-      stray = refl;
-      refused = λ refusal. refl;
+      stray = λ shut. refl;
+      refused = λ refusal cause. refl;
       found = λ s from joins. let more = len-new p.rows s (new_row n) joins.unknown in let some = joins.licensed in omega arith;
       repeated = λ s row has. refl;
       again = λ s row from has room. ap (λ k. u + k) (len-known p.rows s row (new_row row.onu) has);
@@ -60,7 +60,7 @@ frame_keeps u p ranging =
     }
 
 pub command_keeps : (u : ℕ) (p : PortState) → OfEachCommand (Keeps u p) u p
-command_keeps u p = record { refused = λ refusal. refl; searching = refl }
+command_keeps u p = record { refused = λ cause. refl; searching = refl }
 
 pub step_keeps : KeepsLicences
 step_keeps u p event.Frame o s = subst (Keeps u p) (sym s.2) (of_each_frame (Keeps u p) u p s.0 (frame_keeps u p s.0))

@@ -76,17 +76,6 @@ sound_put config rows s row h may =
       few = subst (λ (n : ℕ). n ≤ config.max_units) (sym (len-insert serials_total rows s row)) (few_put (get rows s) (len rows) config.max_units may.few h.few);
     }
 
-pub admitted_contains : (s : Serial) (ss : List Serial) → is_among s ss ≡ true → Contains ss s
-admitted_contains s [] h = absurd (false≢true h)
-admitted_contains s (t ∷ ts) h =
-    elim (cases_Bool (same_serial s t)) [
-      | inl b ↦ (0, omega arith, sym (same_serial-true s t b))
-      | inr b ↦
-          let r = admitted_contains s ts (sym (ap (λ b. b || is_among s ts) b) ∙ h) in
-          let l = r.1 in
-          (suc r.0, omega arith, r.2)
-    ]
-
 some_row : (r : Row) → None ≡ Some r → ⊥
 some_row r e = cc
 

@@ -26,7 +26,8 @@ use Rattle.gp_machine.specs.Burst.{new_row, state_assigned, state_ranged}
 use Rattle.gp_machine.specs.Step.{HandsOutFree, onu_id_in}
 use Rattle.gp_machine.specs.OneStep.{KeepsSound}
 use Rattle.gp_machine.proofs.Cases.{by_test, by_timer, both_true, IsFromSearch, OfEachBurst, OfEachFrame, OfEachCommand, of_each_burst, of_each_frame, of_each_command}
-use Rattle.gp_machine.proofs.SoundRows.{table_of, MayPut, sound_put, sound_empty, may_put_again, admitted_contains}
+use Rattle.gp_machine.proofs.SerialLists.{admitted_contains}
+use Rattle.gp_machine.proofs.SoundRows.{table_of, MayPut, sound_put, sound_empty, may_put_again}
 
 pub sound_opening : (c : PortConfig) → IsSound (opening_of c)
 sound_opening c =
@@ -295,8 +296,8 @@ IsSoundIfFree p o = HandsOutFree p o.answer.reply → IsSound o.state
 pub sound_burst : (u : ℕ) (p : PortState) (at : ℕ) (heard : Option Up) (n : ℕ) → IsSound p → OfEachBurst (IsSoundIfFree p) u p at heard n
 sound_burst u p at heard n h =
     record {
-      stray = λ free. h;
-      refused = λ refusal free. sound_seen p h;
+      stray = λ shut free. h;
+      refused = λ refusal cause free. sound_seen p h;
       found = λ s from joins free. sound_assigned p s n h joins.room (undirected p heard s from) (may_put_new p s n joins.admitted free);
       repeated = λ s row has free. h;
       again = λ s row from has room free.
@@ -309,7 +310,7 @@ sound_burst u p at heard n h =
 -- ---- a command, and a step
 
 pub sound_command : (u : ℕ) (p : PortState) → IsSound p → OfEachCommand (λ (o : Outcome). IsSound o.state) u p
-sound_command u p h = record { refused = λ refusal. h; searching = with_timer p p.timer true h h.timed }
+sound_command u p h = record { refused = λ cause. h; searching = with_timer p p.timer true h h.timed }
 
 pub sound_step : KeepsSound
 sound_step u p event.Frame o h s =

@@ -29,7 +29,7 @@ use Rattle.gp_machine.specs.Burst.{new_row}
 use Rattle.gp_machine.specs.Step.{Step, Hears, onu_id_in}
 use Rattle.gp_machine.specs.Messages.{HearsSerial, begins_acquisition, three_times}
 use Rattle.gp_machine.specs.Delays.{AsksToRange}
-use Rattle.gp_machine.proofs.Cases.{by_timer, IsFromSearch, IsFromRange, OfEachBurst, OfEachFrame, OfEachCommand, of_each_burst, of_each_frame, of_each_command}
+use Rattle.gp_machine.proofs.Cases.{not_none, one_row, by_timer, IsFromSearch, IsFromRange, OfEachBurst, OfEachFrame, OfEachCommand, of_each_burst, of_each_frame, of_each_command}
 
 -- ---- the cases
 
@@ -160,12 +160,6 @@ pub data StepCase (p : PortState) (e : Event) (o : Outcome) : Type 0 where
 quiet_outcome : (u : ℕ) (p : PortState) (w : Option WindowState) (wanted : Bool) (r : Reply) → IsQuietReply r → IsQuiet p (bare_outcome u (record p { window = w; wanted = wanted }) r)
 quiet_outcome u p w wanted r quiet_reply = record { reply = quiet_reply; sent = refl; owed = refl; rows = refl; config = refl }
 
-not_none : (row : Row) → None ≡ Some row → ⊥
-not_none row h = cc
-
-one_row : (row other : Row) → Some row ≡ Some other → other.onu ≡ row.onu
-one_row row other h = let same : row ≡ other = cc in ap (λ (r : Row). r.onu) (sym same)
-
 -- a burst whose octets are read as `heard`
 module _ (u : ℕ) (p : PortState) (at : ℕ) (bytes : List ℕ) (heard : Option Up) (hears : Hears (mask_value p.config.mask) bytes heard) where
   abbrev e : Event
@@ -189,8 +183,8 @@ module _ (u : ℕ) (p : PortState) (at : ℕ) (bytes : List ℕ) (heard : Option
   burst_case : (n : ℕ) → OfEachBurst (StepCase p e) u p at heard n
   burst_case n =
       record {
-        stray = quiet_case p.window (reply.Refused refusal.Stray) tt;
-        refused = λ r. quiet_case seen (reply.Refused r) tt;
+        stray = λ shut. quiet_case p.window (reply.Refused refusal.Stray) tt;
+        refused = λ r cause. quiet_case seen (reply.Refused r) tt;
         found = λ s from joins.
             StepCase.told s n (hears_serial s from)
             (record { same = λ row has. absurd (not_none row (sym joins.unknown ∙ has)); reply = inl refl; sent = refl; owed = refl; rows = refl; config = refl });
@@ -208,7 +202,7 @@ module _ (u : ℕ) (p : PortState) (at : ℕ) (bytes : List ℕ) (heard : Option
 command_case : (u : ℕ) (p : PortState) (e : Event) → OfEachCommand (StepCase p e) u p
 command_case u p e =
     record {
-      refused = λ why. StepCase.quiet (quiet_outcome u p p.window p.wanted (reply.Refused why) tt);
+      refused = λ cause. StepCase.quiet (quiet_outcome u p p.window p.wanted (reply.Refused refusal.AlreadySearching) tt);
       searching = StepCase.quiet (quiet_outcome u p p.window true reply.Searching tt);
     }
 

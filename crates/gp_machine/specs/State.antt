@@ -4,6 +4,7 @@ use Rattle.std.specs.FinMap.{FinMap, get, len, empty}
 use Rattle.gp_ploam.specs.declared.message.Serial.{Serial}
 use Rattle.gp_ploam.specs.declared.message.Down.{Down}
 use Rattle.gp_ploam.specs.Serials.{serial_cmp}
+use Rattle.gp_ranging.specs.declared.grant.Grant.{Grant}
 use Rattle.gp_ranging.specs.Window.{WindowState}
 use Rattle.gp_common.specs.declared.common.Common.{Common}
 use Rattle.gp_common.specs.declared.common.Common.TheVariants.{Standby}
@@ -56,6 +57,11 @@ Ranges rows onu = (serial : Serial) × (row : Row) × HasRow rows serial row × 
 abbrev pub IsLeastRanging : Rows → Option ℕ → Type 0
 IsLeastRanging rows None = (onu : ℕ) → Ranges rows onu → ⊥
 IsLeastRanging rows (Some onu) = Ranges rows onu × ((other : ℕ) → Ranges rows other → onu ≤ other)
+
+-- the open window is of this grant
+abbrev pub AsksFor : Option WindowState → Grant → Type 0
+AsksFor None grant = ⊥
+AsksFor (Some window) grant = window.grant ≡ grant
 
 -- a new unit may get this ONU-ID: it is at most 253, there is room for a further unit, and no unit has it
 pub record IsFree (port : PortState) (onu : ℕ) : Type 0 where

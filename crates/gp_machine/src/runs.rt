@@ -1,5 +1,5 @@
 ghost use Rattle.gp_machine.specs.Runs.{RunsInParts, EveryStateIsSound, KeepsConfiguration, RunsKeepLicences};
-ghost use Rattle.gp_machine.specs.OnuIds.{NoSharedOnuId, OnlyAdmittedUnits, AtMostMaxUnits, KeepsOnuIds, AssignsWhatUnitsHave, AssignsOneToOne};
+ghost use Rattle.gp_machine.specs.OnuIds.{NoSharedOnuId, OnlyAdmittedUnits, AtMostMaxUnits, KeepsOnuIds, AssignsWhatUnitsHave, AssignsOneToOne, EachUnitIsTold};
 ghost use Rattle.gp_machine.specs.Messages.{EveryRunHasOwedMessages, SendsEachThreeTimes, SendsWhatWasOwedFirst, KeepsProperMessages, SendsOnlyProperMessages};
 ghost use Rattle.gp_machine.specs.Delays.{RangesWithWhatIsLeft, OperatesWithWhatWasMeasured};
 ghost use Rattle.gp_machine.specs.Worked.{OneUnit, RepeatedAnswer, PeriodicSearch, DelayLimits};
@@ -59,6 +59,13 @@ pub fn sends_each_message_three_times()
     ensures owes { EveryRunHasOwedMessages }
 {
     up_read_once();
+}
+
+/// Each unit that is active was sent Assign_ONU-ID with its ONU-ID, or is still owed it.
+pub fn each_unit_is_told()
+    ensures { EachUnitIsTold }
+{
+    sends_each_message_three_times();
 }
 
 /// A unit is ranged with what its round-trip delay leaves of the equalized round-trip delay, and operates
