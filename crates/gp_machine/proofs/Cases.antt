@@ -14,6 +14,7 @@ use Rattle.gp_ploam.specs.Up.{octet1_of}
 use Rattle.gp_ranging.specs.declared.grant.Grant.{Grant}
 use Rattle.gp_ranging.specs.declared.grant.Grant.TheVariants.{Search, Range, Poll}
 use Rattle.gp_ranging.specs.Window.{WindowState}
+use Rattle.gp_common.specs.States.{is_acquiring}
 use Rattle.gp_machine.specs.declared.row.Phase.{Phase}
 use Rattle.gp_machine.specs.declared.row.Phase.TheVariants.{Ranging, Operating}
 use Rattle.gp_machine.specs.declared.row.Row.{Row}
@@ -30,7 +31,7 @@ use Rattle.gp_machine.proofs.SerialLists.{admitted_contains, not_among, not_owed
 use Rattle.gp_machine.specs.Outcomes.{Outcome, bare_outcome, has_room, state_seen, refused_burst}
 use Rattle.gp_machine.specs.Frame.{runs_timer, state_after_timer, is_idle, deciding_frame, waiting_frame, frame_outcome}
 use Rattle.gp_machine.specs.Burst.{state_assigned, state_ranged, is_assign, newcomer_outcome, active_outcome, admitted_outcome, serial_outcome, search_outcome, equalized_outcome, measured_outcome, row_outcome, asked_outcome, range_outcome, heard_outcome, window_outcome, burst_outcome}
-use Rattle.gp_machine.specs.Commands.{command_outcome, is_acquiring}
+use Rattle.gp_machine.specs.Commands.{command_outcome}
 
 pub by_test : {A : Type 0} (P : A → Type 0) (b : Bool) (x y : A) → (b ≡ true → P x) → (b ≡ false → P y) → P (cond b x y)
 by_test P true x y f g = f refl

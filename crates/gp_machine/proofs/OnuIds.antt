@@ -11,6 +11,7 @@ use Rattle.gp_ploam.specs.declared.message.Down.{Down}
 use Rattle.gp_ploam.specs.declared.message.Down.TheVariants as down
 use Rattle.gp_ploam.specs.Serials.{same_serial}
 use Rattle.gp_ploam.proofs.Serials.{serials_total, by_cmp-same, same_serial-true, same_serial-itself}
+use Rattle.gp_common.specs.States.{begins_acquisition}
 use Rattle.gp_machine.specs.declared.config.PortConfig.{PortConfig}
 use Rattle.gp_machine.specs.declared.entry.Entry.{Entry}
 use Rattle.gp_machine.specs.declared.row.Row.{Row}
@@ -19,7 +20,7 @@ use Rattle.gp_ploam.specs.Copies.{first_of}
 use Rattle.gp_machine.specs.Burst.{new_row}
 use Rattle.gp_machine.specs.Run.{Run, IsStep, entry_outcome}
 use Rattle.gp_machine.specs.Runs.{EveryStateIsSound}
-use Rattle.gp_machine.specs.Messages.{SendsWhatWasOwedFirst, begins_acquisition, sent_in, three_times}
+use Rattle.gp_machine.specs.Messages.{SendsWhatWasOwedFirst, sent_in, three_times}
 use Rattle.gp_machine.specs.OnuIds.{NoSharedOnuId, OnlyAdmittedUnits, AtMostMaxUnits, KeepsOnuIds, TellsItsOnuId, AssignsWhatUnitsHave, EachUnitIsTold, AssignsOneToOne}
 use Rattle.gp_machine.proofs.RunParts.{keeps_configuration}
 use Rattle.gp_machine.proofs.OwedMessages.{run_owes}

@@ -6,6 +6,7 @@ use Rattle.gp_ploam.specs.declared.message.Serial.{Serial}
 use Rattle.gp_ploam.specs.declared.message.Down.{Down}
 use Rattle.gp_ploam.specs.declared.message.Down.TheVariants.{UpstreamOverhead, AssignOnu, RangingTime}
 use Rattle.gp_ploam.specs.Down.{IsProperDown}
+use Rattle.gp_common.specs.States.{begins_acquisition}
 use Rattle.gp_machine.specs.declared.config.PortConfig.{PortConfig}
 use Rattle.gp_machine.specs.declared.entry.Entry.{Entry}
 use Rattle.gp_machine.specs.declared.event.Event.{Event}
@@ -13,7 +14,7 @@ use Rattle.gp_machine.specs.declared.event.Event.TheVariants as event
 use Rattle.gp_machine.specs.State.{PortState, opening_of}
 use Rattle.gp_ploam.specs.Copies.{first_of}
 use Rattle.gp_machine.specs.Run.{Run, entry_outcome}
-use Rattle.gp_machine.specs.Messages.{HearsSerial, begins_acquisition, three_times, IsTyped, KeepsProperMessages, SendsProper, SendsOnlyProperMessages}
+use Rattle.gp_machine.specs.Messages.{HearsSerial, three_times, IsTyped, KeepsProperMessages, SendsProper, SendsOnlyProperMessages}
 use Rattle.gp_machine.proofs.StepCases.{StepCase, step_case, owed_by_frame}
 use Rattle.gp_machine.proofs.RunParts.{config_after}
 

@@ -14,7 +14,8 @@ use Rattle.gp_ranging.specs.Window.{WindowState}
 use Rattle.gp_common.specs.declared.common.Common.{Common}
 use Rattle.gp_common.specs.declared.common.Common.TheVariants.{Standby, Acquisition, Measuring}
 use Rattle.gp_common.specs.declared.decision.Decision.{Decision}
-use Rattle.gp_common.specs.Decision.{decision_of}
+use Rattle.gp_common.specs.Decision.{grant_of, decision_of}
+use Rattle.gp_common.specs.States.{begins_acquisition}
 use Rattle.gp_machine.specs.declared.event.Event.{Event}
 use Rattle.gp_machine.specs.declared.event.Event.TheVariants as event
 use Rattle.gp_machine.specs.declared.refusal.Refusal.TheVariants as refusal
@@ -24,10 +25,10 @@ use Rattle.gp_machine.specs.declared.row.Phase.TheVariants.{Operating}
 use Rattle.gp_machine.specs.declared.row.Row.{Row}
 use Rattle.gp_machine.specs.State.{PortState, HasRow, HasOnuId}
 use Rattle.gp_machine.specs.Outcomes.{Outcome, bare_outcome, state_seen}
-use Rattle.gp_machine.specs.Frame.{state_after_decision, decision_after, state_after_sending, state_after_tick, frame_answer, grant_of}
+use Rattle.gp_machine.specs.Frame.{state_after_decision, decision_after, state_after_sending, state_after_tick, frame_answer}
 use Rattle.gp_machine.specs.Burst.{new_row}
 use Rattle.gp_machine.specs.Step.{Step, Hears, onu_id_in}
-use Rattle.gp_machine.specs.Messages.{HearsSerial, begins_acquisition, three_times}
+use Rattle.gp_machine.specs.Messages.{HearsSerial, three_times}
 use Rattle.gp_machine.specs.Delays.{AsksToRange}
 use Rattle.gp_machine.proofs.Cases.{not_none, one_row, by_timer, IsFromSearch, IsFromRange, OfEachBurst, OfEachFrame, OfEachCommand, of_each_burst, of_each_frame, of_each_command}
 

@@ -10,12 +10,13 @@ use Rattle.gp_ranging.specs.Window.{WindowState, fresh_window, marked_window, wi
 use Rattle.gp_common.specs.declared.common.Common.{Common}
 use Rattle.gp_common.specs.declared.decision.Decision.{Decision}
 use Rattle.gp_common.specs.declared.decision.Decision.TheVariants.{Nothing, Overhead, Ask}
+use Rattle.gp_common.specs.Decision.{grant_of}
 use Rattle.gp_machine.specs.declared.event.Event.{Event}
 use Rattle.gp_machine.specs.declared.event.Event.TheVariants as event
 use Rattle.gp_machine.specs.declared.reply.Reply.TheVariants.{Ticked, Ranged}
 use Rattle.gp_machine.specs.State.{PortState}
 use Rattle.gp_machine.specs.Outcomes.{Outcome}
-use Rattle.gp_machine.specs.Frame.{window_left, state_after_timer, state_before_decision, state_after_decision, decision_after, grant_of}
+use Rattle.gp_machine.specs.Frame.{window_left, state_after_timer, state_before_decision, state_after_decision, decision_after}
 use Rattle.gp_machine.specs.Step.{Step, onu_id_in}
 use Rattle.gp_machine.specs.OneStep.{RaisesNoAlarm}
 use Rattle.gp_machine.specs.Windows.{OpensWindow, GrantsOpenWindows, WindowsAreGranted, WindowsClose, WindowsStay, left_after}

@@ -6,9 +6,10 @@ use Rattle.gp_ploam.specs.declared.message.Down.TheVariants.{UpstreamOverhead}
 use Rattle.gp_ranging.specs.declared.grant.Grant.{Grant}
 use Rattle.gp_ranging.specs.Window.{WindowState, fresh_window, window_after_frame}
 use Rattle.gp_common.specs.declared.common.Common.{Common}
-use Rattle.gp_common.specs.declared.common.Common.TheVariants.{Standby, Acquisition, Measuring}
+use Rattle.gp_common.specs.States.{is_standby}
 use Rattle.gp_common.specs.declared.decision.Decision.{Decision}
 use Rattle.gp_common.specs.declared.decision.Decision.TheVariants.{Nothing, Overhead, Ask}
+pub use Rattle.gp_common.specs.Decision.{grant_of}
 use Rattle.gp_common.specs.Decision.{decision_of}
 use Rattle.gp_machine.specs.declared.answer.Answer.{Answer}
 use Rattle.gp_machine.specs.declared.reply.Reply.TheVariants.{Ticked}
@@ -20,11 +21,6 @@ abbrev pub state_timed : PortState → PortState
 state_timed port =
     if port.timer + 1 == port.config.search_period then record port { timer = 0; wanted = true }
     else record port { timer = port.timer + 1 }
-
-abbrev pub is_standby : Common → Bool
-is_standby Standby = true
-is_standby (Acquisition left) = false
-is_standby Measuring = false
 
 -- the timer runs in standby alone, and only where there is a search period
 abbrev pub runs_timer : PortState → Bool
@@ -58,12 +54,6 @@ abbrev pub state_after_decision : PortState → Common × Decision → PortState
 state_after_decision port (common, Nothing) = record port { common = common }
 state_after_decision port (common, Overhead) = state_owing (record port { common = common; wanted = false }) (UpstreamOverhead port.config.overhead)
 state_after_decision port (common, Ask grant) = record port { common = common; window = Some (fresh_window grant) }
-
--- what a decision grants
-abbrev pub grant_of : Decision → Option Grant
-grant_of Nothing = None
-grant_of Overhead = None
-grant_of (Ask grant) = Some grant
 
 -- what a port decides, by the least ONU-ID of a ranging unit; no unit is polled
 abbrev pub decision_after : PortState → Option ℕ → Common × Decision

@@ -1,6 +1,6 @@
 -- The messages of a run: those that its steps owe, and those that it sends (G.984.3, clauses 9 and 10; that the
 -- three copies go out in a row, behind all that is owed, is this profile's own rule).
-use Rattle.std.specs.Prelude.{◌≡◌, ℕ, ◌<◌, ◌^◌, Bool, true, false, if◌then◌else◌, List, [], ◌∷◌, ◌++◌, length, IfSome, All}
+use Rattle.std.specs.Prelude.{◌≡◌, ℕ, ◌<◌, ◌^◌, if◌then◌else◌, List, [], ◌∷◌, ◌++◌, length, IfSome, All}
 use Rattle.std.specs.List.{flat_map}
 use Rattle.std.specs.Option.{option_to_list}
 use Rattle.gp_ploam.specs.declared.message.Serial.{Serial}
@@ -10,8 +10,7 @@ use Rattle.gp_ploam.specs.declared.message.Up.TheVariants.{SerialNumber}
 use Rattle.gp_ploam.specs.Down.{IsProperDown}
 use Rattle.gp_ploam.specs.Mask.{mask_value}
 use Rattle.gp_ploam.specs.Up.{ReadsUp}
-use Rattle.gp_common.specs.declared.common.Common.{Common}
-use Rattle.gp_common.specs.declared.common.Common.TheVariants.{Standby, Acquisition}
+use Rattle.gp_common.specs.States.{begins_acquisition}
 use Rattle.gp_machine.specs.declared.config.PortConfig.{PortConfig}
 use Rattle.gp_machine.specs.declared.entry.Entry.{Entry}
 use Rattle.gp_machine.specs.declared.event.Event.{Event}
@@ -31,11 +30,6 @@ HearsSerial port Frame onu serial = ⊥
 HearsSerial port (Burst round_trip bytes) onu serial =
     (random : ℕ) × (flags : ℕ) × ReadsUp bytes (mask_value port.config.mask) (SerialNumber onu serial random flags)
 HearsSerial port (Command command) onu serial = ⊥
-
--- an acquisition begins: the port leaves standby for it
-abbrev pub begins_acquisition : Common → Common → Bool
-begins_acquisition Standby (Acquisition left) = true
-begins_acquisition _ _ = false
 
 -- Assign_ONU-ID of this ONU-ID to the serial number that the event tells, of a unit that has no ONU-ID
 abbrev pub OwesAssign : PortState → Event → ℕ → List Down → Type 0
