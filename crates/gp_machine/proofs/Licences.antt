@@ -15,7 +15,6 @@ use Rattle.gp_machine.specs.State.{PortState, Rows, HasRow, rows_of}
 use Rattle.gp_machine.specs.Outcomes.{Outcome}
 use Rattle.gp_machine.specs.Frame.{state_after_timer, state_before_decision, state_after_decision}
 use Rattle.gp_machine.specs.Burst.{new_row}
-use Rattle.gp_machine.specs.Step.{onu_id_in}
 use Rattle.gp_machine.specs.OneStep.{KeepsLicences}
 use Rattle.gp_machine.proofs.Cases.{by_timer, OfEachBurst, OfEachFrame, OfEachCommand, of_each_burst, of_each_frame, of_each_command}
 
@@ -64,5 +63,5 @@ command_keeps u p = record { refused = λ cause. refl; searching = refl }
 
 pub step_keeps : KeepsLicences
 step_keeps u p event.Frame o s = subst (Keeps u p) (sym s.2) (of_each_frame (Keeps u p) u p s.0 (frame_keeps u p s.0))
-step_keeps u p (event.Burst at bytes) o s = subst (Keeps u p) (sym s.3) (of_each_burst (Keeps u p) u p at s.0 (onu_id_in o.answer.reply) (burst_keeps u p at s.0 (onu_id_in o.answer.reply)))
+step_keeps u p (event.Burst at bytes) o s = subst (Keeps u p) (sym s.4) (of_each_burst (Keeps u p) u p at s.0 s.1 (burst_keeps u p at s.0 s.1))
 step_keeps u p (event.Command c) o s = subst (Keeps u p) (sym s) (of_each_command (Keeps u p) u p c (command_keeps u p))

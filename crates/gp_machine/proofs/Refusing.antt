@@ -12,7 +12,6 @@ use Rattle.gp_machine.specs.declared.reply.Reply.TheVariants as reply
 use Rattle.gp_machine.specs.State.{PortState}
 use Rattle.gp_machine.specs.Outcomes.{Outcome}
 use Rattle.gp_machine.specs.Causes.{IsCause, IsBurstCause, IsCommandCause, window_refused, ChangesNothing, RefusalsChangeNothing}
-use Rattle.gp_machine.specs.Step.{onu_id_in}
 use Rattle.gp_machine.proofs.Cases.{OfEachBurst, OfEachFrame, OfEachCommand, of_each_burst, of_each_frame, of_each_command}
 
 -- where the outcome refuses, the cause holds and nothing changes
@@ -70,8 +69,8 @@ refusals u p event.Frame o r step is =
     subst (IsRefusal (λ r. ⊥) u p event.Frame) (sym step.2) (of_each_frame (IsRefusal (λ r. ⊥) u p event.Frame) u p step.0 (frame_refusal u p step.0)) r is
 refusals u p (event.Burst at bytes) o r step is =
     let Holds = IsRefusal (IsBurstCause u p at step.0) u p (event.Burst at bytes) in
-    let both = subst Holds (sym step.3) (of_each_burst Holds u p at step.0 (onu_id_in o.answer.reply) (burst_refusal u p at bytes step.0 (onu_id_in o.answer.reply))) r is in
-    ((step.0, step.1, both.0), both.1)
+    let both = subst Holds (sym step.4) (of_each_burst Holds u p at step.0 step.1 (burst_refusal u p at bytes step.0 step.1)) r is in
+    ((step.0, step.2, both.0), both.1)
 refusals u p (event.Command command.Search) o r step is =
     let Holds = IsRefusal (IsCommandCause p command.Search) u p (event.Command command.Search) in
     subst Holds (sym step) (of_each_command Holds u p command.Search (command_refusal u p)) r is

@@ -27,7 +27,7 @@ use Rattle.gp_machine.specs.State.{PortState, HasRow, HasOnuId}
 use Rattle.gp_machine.specs.Outcomes.{Outcome, bare_outcome, state_seen}
 use Rattle.gp_machine.specs.Frame.{state_after_decision, decision_after, state_after_sending, state_after_tick, frame_answer}
 use Rattle.gp_machine.specs.Burst.{new_row}
-use Rattle.gp_machine.specs.Step.{Step, Hears, onu_id_in}
+use Rattle.gp_machine.specs.Step.{Step, Hears}
 use Rattle.gp_machine.specs.Messages.{HearsSerial, three_times}
 use Rattle.gp_machine.specs.Delays.{AsksToRange}
 use Rattle.gp_machine.proofs.Cases.{not_none, one_row, by_timer, IsFromSearch, IsFromRange, OfEachBurst, OfEachFrame, OfEachCommand, of_each_burst, of_each_frame, of_each_command}
@@ -212,8 +212,7 @@ step_case u p event.Frame o h =
     subst (λ (x : Outcome). StepCase p event.Frame x) (sym h.2) (StepCase.frame (of_each_frame (IsFrame p) u p h.0 (frame_case u p h.0)))
 step_case u p (event.Burst at bytes) o h =
     let e = event.Burst at bytes in
-    let n = onu_id_in o.answer.reply in
-    subst (λ (x : Outcome). StepCase p e x) (sym h.3) (of_each_burst (StepCase p e) u p at h.0 n (burst_case u p at bytes h.0 h.1 n))
+    subst (λ (x : Outcome). StepCase p e x) (sym h.4) (of_each_burst (StepCase p e) u p at h.0 h.1 (burst_case u p at bytes h.0 h.2 h.1))
 step_case u p (event.Command c) o h =
     let e = event.Command c in
     subst (λ (x : Outcome). StepCase p e x) (sym h) (of_each_command (StepCase p e) u p c (command_case u p e))

@@ -17,7 +17,7 @@ use Rattle.gp_machine.specs.declared.reply.Reply.TheVariants.{Ticked, Ranged}
 use Rattle.gp_machine.specs.State.{PortState}
 use Rattle.gp_machine.specs.Outcomes.{Outcome}
 use Rattle.gp_machine.specs.Frame.{window_left, state_after_timer, state_before_decision, state_after_decision, decision_after}
-use Rattle.gp_machine.specs.Step.{Step, onu_id_in}
+use Rattle.gp_machine.specs.Step.{Step}
 use Rattle.gp_machine.specs.OneStep.{RaisesNoAlarm}
 use Rattle.gp_machine.specs.Windows.{OpensWindow, GrantsOpenWindows, WindowsAreGranted, WindowsClose, WindowsStay, left_after}
 use Rattle.gp_machine.proofs.Cases.{by_timer, OfEachBurst, OfEachFrame, OfEachCommand, of_each_burst, of_each_frame, of_each_command}
@@ -69,8 +69,7 @@ pub window_case : (u : ℕ) (p : PortState) (e : Event) (o : Outcome) → Step u
 window_case u p event.Frame o step =
     subst (WindowCase p event.Frame) (sym step.2) (of_each_frame (WindowCase p event.Frame) u p step.0 (frame_window u p step.0))
 window_case u p (event.Burst at bytes) o step =
-    let n = onu_id_in o.answer.reply in
-    subst (WindowCase p (event.Burst at bytes)) (sym step.3) (of_each_burst (WindowCase p (event.Burst at bytes)) u p at step.0 n (burst_window u p at bytes step.0 n))
+    subst (WindowCase p (event.Burst at bytes)) (sym step.4) (of_each_burst (WindowCase p (event.Burst at bytes)) u p at step.0 step.1 (burst_window u p at bytes step.0 step.1))
 window_case u p (event.Command c) o step =
     subst (WindowCase p (event.Command c)) (sym step) (of_each_command (WindowCase p (event.Command c)) u p c (command_window u p (event.Command c) (λ n. refl)))
 
@@ -159,9 +158,8 @@ IsQuiet o = o.answer.alarm ≡ None
 pub no_alarm : RaisesNoAlarm
 no_alarm u p event.Frame o step = subst IsQuiet (sym step.2) (of_each_frame IsQuiet u p step.0 (record { deciding = λ shut nothing. refl; waiting = refl }))
 no_alarm u p (event.Burst at bytes) o step =
-    let n = onu_id_in o.answer.reply in
-    subst IsQuiet (sym step.3)
-    (of_each_burst IsQuiet u p at step.0 n
+    subst IsQuiet (sym step.4)
+    (of_each_burst IsQuiet u p at step.0 step.1
     (record {
       stray = λ shut. refl;
       refused = λ refusal cause. refl;

@@ -164,7 +164,7 @@ finds_a =
 find_run : (q : PortState) (es : List Entry) → Run asking_port es q → Run searching_port (find_a ++ es) q
 find_run q es rest = (
   found_port,
-  (Some (SerialNumber 255 serial_a 0 0), reads_a, free_a, sym finds_a),
+  (Some (SerialNumber 255 serial_a 0 0), 0, reads_a, (refl, free_a), sym finds_a),
   (
     port rows_a (Acquisition 0) (open_for 2) (assign_a ∷ assign_a ∷ []),
     (Some 0, a_ranges, refl),
@@ -199,6 +199,7 @@ one_unit_run = (ended, after_search ended (find_a ++ range_a) (find_run ended ra
       ranged_port (told ∷ told ∷ told ∷ []),
       (
         Some (SerialNumber 0 serial_a 0 0),
+        0,
         reads_a_at_0,
         tt,
         sym (ap (λ (o : Option Row). row_outcome 1 asking_port 100000 0 serial_a o) has_a),
@@ -244,14 +245,15 @@ repeated_answer_run = (both_port, after_search both_port find_both heard_run, re
     heard_run : Run searching_port find_both both_port
     heard_run = (
       found_port,
-      (Some (SerialNumber 255 serial_a 0 0), reads_a, free_a, sym finds_a),
+      (Some (SerialNumber 255 serial_a 0 0), 0, reads_a, (refl, free_a), sym finds_a),
       (
         both_port,
-        (Some (SerialNumber 255 serial_b 0 0), reads_b, free_b, sym finds_b),
+        (Some (SerialNumber 255 serial_b 0 0), 1, reads_b, (refl, free_b), sym finds_b),
         (
           both_port,
           (
             Some (SerialNumber 255 serial_a 0 0),
+            0,
             reads_a,
             tt,
             sym (ap (λ (o : Option Row). admitted_outcome 1 both_port serial_a 0 o) still_has_a),
@@ -287,6 +289,7 @@ delay_limits_run = (near_port, after_search near_port (find_a ++ range_a_late) (
       state_seen asking_port,
       (
         Some (SerialNumber 0 serial_a 0 0),
+        0,
         reads_a_at_0,
         tt,
         sym (ap (λ (o : Option Row). row_outcome 1 asking_port 311041 0 serial_a o) has_a),
@@ -295,6 +298,7 @@ delay_limits_run = (near_port, after_search near_port (find_a ++ range_a_late) (
         near_port,
         (
           Some (SerialNumber 0 serial_a 0 0),
+          0,
           reads_a_at_0,
           tt,
           sym (ap (λ (o : Option Row). row_outcome 1 (state_seen asking_port) 311040 0 serial_a o) has_a),
