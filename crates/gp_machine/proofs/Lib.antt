@@ -2,6 +2,9 @@ pub mod SerialLists
 pub mod Determined
 pub mod Cases
 pub mod AnyFree
+pub mod Readings
+pub mod FewRows
+pub mod EveryStep
 pub mod Refusing
 pub mod WindowSteps
 pub mod Licences

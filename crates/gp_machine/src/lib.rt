@@ -19,7 +19,7 @@ pub use config::PortConfig;
 pub use entry::{Entry, Receipt};
 pub use event::{Command, Event};
 pub use one_step::{
-    grants_open_windows, may_pick_any_free, one_outcome, raises_no_alarm, refusals_change_nothing,
+    every_event_has_step, grants_open_windows, may_pick_any_free, one_outcome, raises_no_alarm, refusals_change_nothing,
     sound_step, step_keeps_licences,
 };
 pub use refusal::Refusal;

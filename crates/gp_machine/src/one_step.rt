@@ -1,4 +1,4 @@
-ghost use Rattle.gp_machine.specs.OneStep.{IsDetermined, KeepsLicences, KeepsSound, MayPickAnyFree, RaisesNoAlarm};
+ghost use Rattle.gp_machine.specs.OneStep.{EveryEventHasStep, IsDetermined, KeepsLicences, KeepsSound, MayPickAnyFree, RaisesNoAlarm};
 ghost use Rattle.gp_machine.specs.Causes.{RefusalsChangeNothing};
 ghost use Rattle.gp_machine.specs.Windows.{GrantsOpenWindows, WindowsAreGranted, WindowsClose, WindowsStay};
 
@@ -10,6 +10,11 @@ pub fn one_outcome()
 {
     up_read_once();
 }
+
+/// Each event has a step, in every state of a port whose configuration is within its limits.
+pub fn every_event_has_step()
+    ensures { EveryEventHasStep }
+{}
 
 /// An ONU-ID that a step hands out was free, and the step could have handed out any other free one.
 pub fn may_pick_any_free()
