@@ -10,6 +10,7 @@ use Rattle.gp_ploam.specs.declared.message.Up.TheVariants as up
 use Rattle.gp_ploam.specs.Copies.{first_of}
 use Rattle.gp_ploam.specs.Mask.{mask_value}
 use Rattle.gp_ploam.specs.Up.{ReadsUp}
+use Rattle.gp_ranging.specs.declared.grant.Grant.TheVariants.{Range}
 use Rattle.gp_ranging.specs.Window.{WindowState}
 use Rattle.gp_common.specs.declared.common.Common.{Common}
 use Rattle.gp_common.specs.declared.common.Common.TheVariants.{Standby, Acquisition, Measuring}
@@ -23,13 +24,12 @@ use Rattle.gp_machine.specs.declared.reply.Reply.{Reply}
 use Rattle.gp_machine.specs.declared.reply.Reply.TheVariants as reply
 use Rattle.gp_machine.specs.declared.row.Phase.TheVariants.{Operating}
 use Rattle.gp_machine.specs.declared.row.Row.{Row}
-use Rattle.gp_machine.specs.State.{PortState, HasRow, HasOnuId}
+use Rattle.gp_machine.specs.State.{PortState, HasRow, HasOnuId, AsksFor}
 use Rattle.gp_machine.specs.Outcomes.{Outcome, bare_outcome, state_seen}
 use Rattle.gp_machine.specs.Frame.{state_after_decision, decision_after, state_after_sending, state_after_tick, frame_answer}
 use Rattle.gp_machine.specs.Burst.{new_row}
 use Rattle.gp_machine.specs.Step.{Step, Hears}
 use Rattle.gp_machine.specs.Messages.{HearsSerial, three_times}
-use Rattle.gp_machine.specs.Delays.{AsksToRange}
 use Rattle.gp_machine.proofs.Cases.{not_none, one_row, by_timer, IsFromSearch, IsFromRange, OfEachBurst, OfEachFrame, OfEachCommand, of_each_burst, of_each_frame, of_each_command}
 
 -- ---- the cases
@@ -77,7 +77,7 @@ ranged_row n eqd = record { onu = n; phase = Operating eqd 0 0 }
 
 -- the unit s is ranged, at its round-trip delay
 pub record IsRanged (p : PortState) (at : ℕ) (s : Serial) (n : ℕ) (o : Outcome) : Type 0 where
-  pub asked : AsksToRange p.window n
+  pub asked : AsksFor p.window (Range n)
   pub active : HasOnuId p.rows s n
   pub near : at ≤ p.config.teqd
   pub reply : o.answer.reply ≡ reply.Ranged n (p.config.teqd - at)
@@ -170,10 +170,10 @@ module _ (u : ℕ) (p : PortState) (at : ℕ) (bytes : List ℕ) (heard : Option
   reads m is = subst (λ (h : Option Up). Hears (mask_value p.config.mask) bytes h) is hears
 
   hears_serial : (s : Serial) → IsFromSearch p heard s → HearsSerial p e 255 s
-  hears_serial s from = (from.random, from.flags, reads (up.SerialNumber 255 s from.random from.flags) from.read)
+  hears_serial s from = (at, record { bytes = bytes; random = from.random; flags = from.flags; burst = refl; read = reads (up.SerialNumber 255 s from.random from.flags) from.read })
 
-  asks : (m : ℕ) (s : Serial) → IsFromRange p heard m s → AsksToRange p.window m
-  asks m s from = subst (λ (w : Option WindowState). AsksToRange w m) (sym from.opened) from.asked
+  asks : (m : ℕ) (s : Serial) → IsFromRange p heard m s → AsksFor p.window (Range m)
+  asks m s from = subst (λ (w : Option WindowState). AsksFor w (Range m)) (sym from.opened) from.asked
 
   quiet_case : (w : Option WindowState) (r : Reply) → IsQuietReply r → StepCase p e (bare_outcome u (record p { window = w }) r)
   quiet_case w r quiet_reply = StepCase.quiet (quiet_outcome u p w p.wanted r quiet_reply)

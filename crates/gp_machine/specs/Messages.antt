@@ -14,7 +14,7 @@ use Rattle.gp_common.specs.States.{begins_acquisition}
 use Rattle.gp_machine.specs.declared.config.PortConfig.{PortConfig}
 use Rattle.gp_machine.specs.declared.entry.Entry.{Entry}
 use Rattle.gp_machine.specs.declared.event.Event.{Event}
-use Rattle.gp_machine.specs.declared.event.Event.TheVariants.{Frame, Burst, Command}
+use Rattle.gp_machine.specs.declared.event.Event.TheVariants.{Burst}
 use Rattle.gp_machine.specs.declared.reply.Reply.{Reply}
 use Rattle.gp_machine.specs.declared.reply.Reply.TheVariants.{Ticked, Found, Again, Ranged}
 use Rattle.gp_machine.specs.State.{PortState, opening_of}
@@ -24,12 +24,18 @@ use Rattle.gp_machine.specs.Run.{Run, IsStep}
 
 -- ---- the messages that are owed
 
--- the event is a burst that is read as the Serial_Number_ONU of this unit, with this ONU-ID in octet 1
+-- the event is a burst, after this round-trip delay, that is read as the Serial_Number_ONU of this unit, with this
+-- ONU-ID in octet 1
+pub record HearsSerialAfter (port : PortState) (event : Event) (round_trip onu : ℕ) (serial : Serial) : Type 0 where
+  pub bytes : List ℕ
+  pub random : ℕ
+  pub flags : ℕ
+  pub burst : event ≡ Burst round_trip bytes
+  pub read : ReadsUp bytes (mask_value port.config.mask) (SerialNumber onu serial random flags)
+
+-- the event is such a burst, after any round-trip delay
 abbrev pub HearsSerial : PortState → Event → ℕ → Serial → Type 0
-HearsSerial port Frame onu serial = ⊥
-HearsSerial port (Burst round_trip bytes) onu serial =
-    (random : ℕ) × (flags : ℕ) × ReadsUp bytes (mask_value port.config.mask) (SerialNumber onu serial random flags)
-HearsSerial port (Command command) onu serial = ⊥
+HearsSerial port event onu serial = (round_trip : ℕ) × HearsSerialAfter port event round_trip onu serial
 
 -- Assign_ONU-ID of this ONU-ID to the serial number that the event tells, of a unit that has no ONU-ID
 abbrev pub OwesAssign : PortState → Event → ℕ → List Down → Type 0
