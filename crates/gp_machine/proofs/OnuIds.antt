@@ -30,7 +30,7 @@ use Rattle.gp_machine.proofs.StepCases.{StepCase, step_case, owed_by_frame, rang
 -- ---- sound states
 
 pub apart : EveryStateIsSound → NoSharedOnuId
-apart sound c p s t m n reached h k differ same = differ ((sound c p reached).apart s t h.0 k.0 h.1 k.1 (h.2 ∙ same ∙ sym k.2))
+apart sound c p s t m n reached h k differ same = differ ((sound c p reached).apart s t n (h.0, h.1, h.2 ∙ same) k)
 
 pub admitted : EveryStateIsSound → OnlyAdmittedUnits
 admitted sound c p s row reached has = subst (λ (x : PortConfig). Contains x.admitted s) (keeps_configuration c p reached) ((sound c p reached).admitted s row has)

@@ -8,7 +8,7 @@ use Rattle.gp_ploam.specs.Serials.{serial_cmp, same_serial, is_among}
 use Rattle.gp_ploam.proofs.Serials.{serials_total, by_cmp-same, same_serial-true, same_serial-itself}
 use Rattle.gp_machine.specs.declared.config.PortConfig.{PortConfig}
 use Rattle.gp_machine.specs.declared.row.Row.{Row}
-use Rattle.gp_machine.specs.State.{PortState, Rows, HasRow}
+use Rattle.gp_machine.specs.State.{PortState, Rows, HasRow, HasOnuId}
 use Rattle.gp_machine.specs.Sound.{IsSound, IsCounted}
 
 -- the part of soundness that speaks of rows
@@ -20,7 +20,15 @@ pub record IsSoundTable (config : PortConfig) (rows : Rows) : Type 0 where
   pub few : len rows ≤ config.max_units
 
 pub table_of : (p : PortState) → IsSound p → IsSoundTable p.config p.rows
-table_of p h = record { apart = h.apart; low = h.low; admitted = h.admitted; counted = h.counted; few = h.few }
+table_of p h = record { apart = λ s t q r a b e. h.apart s t r.onu (q, a, e) (r, b, refl); low = λ s r a. h.low s r.onu (r, a, refl); admitted = h.admitted; counted = h.counted; few = h.few }
+
+-- no two units of a sound table have one ONU-ID
+pub apart_of : (config : PortConfig) (rows : Rows) → IsSoundTable config rows → (s t : Serial) (n : ℕ) → HasOnuId rows s n → HasOnuId rows t n → s ≡ t
+apart_of config rows h s t n a b = h.apart s t a.0 b.0 a.1 b.1 (a.2 ∙ sym b.2)
+
+-- and each is 0 to 253
+pub low_of : (config : PortConfig) (rows : Rows) → IsSoundTable config rows → (s : Serial) (n : ℕ) → HasOnuId rows s n → n ≤ 253
+low_of config rows h s n a = subst (λ (m : ℕ). m ≤ 253) a.2 (h.low s a.0 a.1)
 
 -- after a row is put, each row is that one or was there before
 pub has_put : (rows : Rows) (s : Serial) (row : Row) (t : Serial) (q : Row) → HasRow (insert rows s row) t q → ((t ≡ s) × (q ≡ row)) ⊎ HasRow rows t q
@@ -85,8 +93,8 @@ may_put_again p s row new h has same counted =
     record {
       admitted = h.admitted s row has;
       few = λ none. absurd (some_row row (sym none ∙ has));
-      low = subst (λ (n : ℕ). n ≤ 253) same (h.low s row has);
-      apart = λ t q there e. h.apart t s q row there has (e ∙ sym same);
+      low = h.low s new.onu (row, has, same);
+      apart = λ t q there e. h.apart t s new.onu (q, there, e) (row, has, same);
       counted = counted;
     }
 

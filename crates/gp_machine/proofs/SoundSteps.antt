@@ -27,14 +27,14 @@ use Rattle.gp_machine.specs.Step.{HandsOut}
 use Rattle.gp_machine.specs.OneStep.{KeepsSound}
 use Rattle.gp_machine.proofs.Cases.{by_test, by_timer, both_true, IsFromSearch, OfEachBurst, OfEachFrame, OfEachCommand, of_each_burst, of_each_frame, of_each_command}
 use Rattle.gp_machine.proofs.SerialLists.{admitted_contains}
-use Rattle.gp_machine.proofs.SoundRows.{table_of, MayPut, sound_put, sound_empty, may_put_again}
+use Rattle.gp_machine.proofs.SoundRows.{table_of, apart_of, low_of, MayPut, sound_put, sound_empty, may_put_again}
 
 pub sound_opening : (c : PortConfig) → IsSound (opening_of c)
 sound_opening c =
     let rows = sound_empty c in
     record {
-      apart = rows.apart;
-      low = rows.low;
+      apart = apart_of _ _ rows;
+      low = low_of _ _ rows;
       admitted = rows.admitted;
       counted = rows.counted;
       few = rows.few;
@@ -241,8 +241,8 @@ sound_assigned p s n h room undirected may =
     let fits = room_fits p room in
     let most = least_copies p.window in
     record {
-      apart = rows.apart;
-      low = rows.low;
+      apart = apart_of _ _ rows;
+      low = low_of _ _ rows;
       admitted = rows.admitted;
       counted = rows.counted;
       few = rows.few;
@@ -261,8 +261,8 @@ sound_ranged p s row n eqd h room has same =
     let size = length_owing p (RangingTime n eqd) in
     let fits = room_fits p room in
     record {
-      apart = rows.apart;
-      low = rows.low;
+      apart = apart_of _ _ rows;
+      low = low_of _ _ rows;
       admitted = rows.admitted;
       counted = rows.counted;
       few = rows.few;

@@ -1,9 +1,11 @@
 -- What keeps a port core's invariant.
-use Rattle.std.proofs.Common.{◌≡◌, ℕ, ◌+◌, ◌≤◌, true, Option, None, refl, sym, ap, subst, ◌∙◌, arith, []}
+use Rattle.std.proofs.Common.{◌≡◌, ℕ, ◌+◌, ◌≤◌, true, Option, None, Some, refl, sym, ap, subst, ◌∙◌, arith, []}
+use Rattle.std.specs.Prelude.{option_map}
 use Rattle.std.specs.FinMap.{get, len-empty}
 use Rattle.std.proofs.lemmas.Bool.{leb-true}
 use Rattle.gp_ploam.specs.declared.message.Serial.{Serial}
 use Rattle.gp_ploam.specs.Serials.{serial_cmp, is_among}
+use Rattle.gp_ranging.specs.Window.{WindowState, marked_window}
 use Rattle.gp_machine.specs.declared.config.PortConfig.{PortConfig}
 use Rattle.gp_machine.specs.declared.row.Phase.TheVariants.{Operating}
 use Rattle.gp_machine.specs.declared.row.Row.{Row}
@@ -19,7 +21,7 @@ use Rattle.gp_machine.specs.Burst.{burst_outcome, new_row, state_assigned, state
 use Rattle.gp_machine.proofs.Cases.{both_true, of_each_burst}
 use Rattle.gp_machine.proofs.Licences.{len-known, len-new}
 use Rattle.gp_machine.proofs.SoundRows.{may_put_again}
-use Rattle.gp_machine.proofs.SoundSteps.{may_put_new, sound_assigned, sound_decision, sound_opening, sound_ranged}
+use Rattle.gp_machine.proofs.SoundSteps.{may_put_new, sound_assigned, sound_decision, sound_opening, sound_ranged, sound_seen}
 use Rattle.gp_port.specs.Core.{IsKept}
 
 -- the unit with this serial number has this ONU-ID
@@ -79,6 +81,16 @@ pub sound_made : (p now : PortState) (ranging : Option ℕ) (made : Common × De
 sound_made p now ranging made same h nothing least is =
     subst (λ (d : Common × Decision). IsSound (state_after_decision now d)) (sym (is ∙ ap (λ (q : PortState). decision_after q ranging) same))
     (sound_decision now ranging (subst IsSound same h) nothing least)
+
+-- the open window has seen something
+pub kept_seen : (p : PortState) (held : ℕ) (w : WindowState) → IsKept p held → p.window ≡ Some w → IsKept (record p { window = Some (marked_window w) }) held
+kept_seen p held w h is =
+    record {
+      units = h.units;
+      period = h.period;
+      sound = subst (λ (o : Option WindowState). IsSound (record p { window = option_map marked_window o })) is (sound_seen p h.sound);
+      licences = h.licences;
+    }
 
 -- no burst makes the port send
 pub burst_sends_nothing : (u : ℕ) (p : PortState) (at : ℕ) (heard : Option Up) (n : ℕ) → (burst_outcome u p at heard n).answer.sent ≡ None
