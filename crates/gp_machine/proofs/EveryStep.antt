@@ -1,7 +1,7 @@
 -- Every event has a step.
-use Rattle.std.proofs.Common.{◌≡◌, ℕ, ◌<◌, ◌≤◌, eqb, nat_lt, true, false, List, ◌∷◌, length, Option, None, Some, inl, inr, refl, sym, ◌∙◌, take}
+use Rattle.std.proofs.Common.{◌≡◌, ℕ, ◌<◌, ◌≤◌, eqb, nat_lt, true, false, List, length, Option, None, Some, inl, inr, refl, take}
 use Rattle.std.specs.Prelude.{All, slice_index}
-use Rattle.std.proofs.lemmas.Bool.{cases_Bool, leb-true, ltb-true, ltb-false, eqb-true, eqb-false, lt-ltb}
+use Rattle.std.proofs.lemmas.Bool.{cases_Bool, leb-true, ltb-true, eqb-true, eqb-false, lt-ltb}
 use Rattle.gp_ploam.specs.declared.message.Up.{Up}
 use Rattle.gp_ploam.specs.Crc.{crc_of}
 use Rattle.gp_ploam.specs.Mask.{mask_value}

@@ -11,7 +11,7 @@ use Rattle.gp_machine.specs.declared.refusal.Refusal.TheVariants as refusal
 use Rattle.gp_machine.specs.declared.reply.Reply.TheVariants as reply
 use Rattle.gp_machine.specs.State.{PortState}
 use Rattle.gp_machine.specs.Outcomes.{Outcome}
-use Rattle.gp_machine.specs.Causes.{IsCause, IsBurstCause, IsCommandCause, window_refused, ChangesNothing, RefusalsChangeNothing}
+use Rattle.gp_machine.specs.Causes.{IsBurstCause, IsCommandCause, window_refused, ChangesNothing, RefusalsChangeNothing}
 use Rattle.gp_machine.proofs.Cases.{OfEachBurst, OfEachFrame, OfEachCommand, of_each_burst, of_each_frame, of_each_command}
 
 -- where the outcome refuses, the cause holds and nothing changes

@@ -1,5 +1,5 @@
 -- What a step does to the window, and what it grants.
-use Rattle.std.proofs.Common.{◌≡◌, ℕ, List, [], ◌∷◌, ◌==◌, Bool, true, false, cond, Option, None, Some, ◌⊎◌, inl, inr, refl, sym, ap, subst, ◌∙◌}
+use Rattle.std.proofs.Common.{◌≡◌, ℕ, List, [], ◌==◌, Bool, true, false, cond, Option, None, Some, ◌⊎◌, inl, inr, refl, sym, ap, subst, ◌∙◌}
 use Rattle.std.specs.Prelude.{◌-◌, option_map}
 use Rattle.std.proofs.lemmas.Bool.{eqb-true}
 use Rattle.gp_ploam.specs.Copies.{first_of}
@@ -16,7 +16,7 @@ use Rattle.gp_machine.specs.declared.event.Event.TheVariants as event
 use Rattle.gp_machine.specs.declared.reply.Reply.TheVariants.{Ticked, Ranged}
 use Rattle.gp_machine.specs.State.{PortState}
 use Rattle.gp_machine.specs.Outcomes.{Outcome}
-use Rattle.gp_machine.specs.Frame.{window_left, state_after_timer, state_before_decision, state_after_decision, decision_after}
+use Rattle.gp_machine.specs.Frame.{window_left, state_before_decision, state_after_decision, decision_after}
 use Rattle.gp_machine.specs.Step.{Step}
 use Rattle.gp_machine.specs.OneStep.{RaisesNoAlarm}
 use Rattle.gp_machine.specs.Windows.{OpensWindow, GrantsOpenWindows, WindowsAreGranted, WindowsClose, WindowsStay, left_after}

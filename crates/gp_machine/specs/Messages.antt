@@ -74,8 +74,8 @@ abbrev pub three_times : List Down → List Down
 three_times [] = []
 three_times (message ∷ messages) = message ∷ message ∷ message ∷ three_times messages
 
--- in every run from an opening the copies sent, and after them those still owed, are the messages that the
--- steps owe, in order, each three times
+-- in every run from an opening, where nothing is owed, the copies sent, and after them those still owed, are the messages
+-- that the steps owe, in order, each three times: SendsWhatWasOwedFirst, below, at an opening
 abbrev pub SendsEachThreeTimes : Type 0
 SendsEachThreeTimes =
     (config : PortConfig) (last : PortState) (entries : List Entry) (messages : List Down)
