@@ -7,28 +7,32 @@ use Rattle.gp_common.specs.declared.decision.Decision.{Decision}
 use Rattle.gp_common.specs.declared.decision.Decision.TheVariants.{Nothing, Overhead, Ask}
 use Rattle.gp_common.specs.Decision.{decision_of}
 
+-- no search window of an acquisition is left to open
+abbrev pub HasNoSearchLeft : Common → Type 0
+HasNoSearchLeft common = (left : ℕ) → common ≡ Acquisition (suc left) → ⊥
+
 -- why a decision was right: an acquisition begins only in standby, and if it is wanted; a search window opens only
--- while some are left, and one fewer is left then; a unit is ranged only if it is the ranging unit, in standby only if
--- no acquisition is wanted; a unit is polled only in standby, if it is its turn, no acquisition is wanted and no unit is
--- ranging; nothing is done only if no unit is ranging, in standby only if also no acquisition is wanted and it is no
--- unit's turn
-abbrev pub IsFor : Common → Bool → Option ℕ → Option ℕ → ℕ → Common × Decision → Type 0
-IsFor common wanted ranging next_poll cycles (next, Overhead) =
+-- while some are left, and one fewer is left then; a unit is ranged only if it is the ranging unit, no search window is
+-- left to open, and in standby no acquisition is wanted; a unit is polled only in standby, if it is its turn, no
+-- acquisition is wanted and no unit is ranging; nothing is done only if no search window is left to open and no unit is
+-- ranging, in standby only if also no acquisition is wanted and it is no unit's turn
+abbrev pub IsReasonFor : Common → Bool → Option ℕ → Option ℕ → ℕ → Common × Decision → Type 0
+IsReasonFor common wanted ranging next_poll cycles (next, Overhead) =
     (common ≡ Standby) × (wanted ≡ true) × (next ≡ Acquisition cycles)
-IsFor common wanted ranging next_poll cycles (next, Ask Search) =
+IsReasonFor common wanted ranging next_poll cycles (next, Ask Search) =
     (left : ℕ) × ((common ≡ Acquisition (suc left)) × (next ≡ Acquisition left))
-IsFor common wanted ranging next_poll cycles (next, Ask (Range onu)) =
-    (common ≡ Standby → wanted ≡ false) × (ranging ≡ Some onu) × (next ≡ Measuring)
-IsFor common wanted ranging next_poll cycles (next, Ask (Poll onu)) =
+IsReasonFor common wanted ranging next_poll cycles (next, Ask (Range onu)) =
+    HasNoSearchLeft common × (common ≡ Standby → wanted ≡ false) × (ranging ≡ Some onu) × (next ≡ Measuring)
+IsReasonFor common wanted ranging next_poll cycles (next, Ask (Poll onu)) =
     (common ≡ Standby) × (wanted ≡ false) × (ranging ≡ None) × (next_poll ≡ Some onu) × (next ≡ Standby)
-IsFor common wanted ranging next_poll cycles (next, Nothing) =
-    (common ≡ Standby → (wanted ≡ false) × (next_poll ≡ None)) × (ranging ≡ None) × (next ≡ Standby)
+IsReasonFor common wanted ranging next_poll cycles (next, Nothing) =
+    HasNoSearchLeft common × (common ≡ Standby → (wanted ≡ false) × (next_poll ≡ None)) × (ranging ≡ None) × (next ≡ Standby)
 
 -- each decision has its reason
-abbrev pub AsksWhoIsThere : Type 0
-AsksWhoIsThere =
+abbrev pub EachDecisionHasItsReason : Type 0
+EachDecisionHasItsReason =
     (common : Common) (wanted : Bool) (ranging next_poll : Option ℕ) (cycles : ℕ)
-    → IsFor common wanted ranging next_poll cycles (decision_of common wanted ranging next_poll cycles)
+    → IsReasonFor common wanted ranging next_poll cycles (decision_of common wanted ranging next_poll cycles)
 
 -- what a decision is made from, beside the common state: whether an acquisition is wanted, the least ranging ONU-ID,
 -- whose turn it is, and the search windows of an acquisition

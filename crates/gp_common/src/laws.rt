@@ -1,10 +1,11 @@
-ghost use Rattle.gp_common.specs.Laws.{AsksWhoIsThere, OpensEachSearchWindow};
+ghost use Rattle.gp_common.specs.Laws.{EachDecisionHasItsReason, OpensEachSearchWindow};
 
 /// Each decision has its reason: it polls only the unit whose turn it is, and only in Standby with
-/// nothing else to do; it ranges only a ranging unit; it searches only while search windows are left;
-/// it does nothing only where there is nothing to do.
-pub fn asks_who_is_there()
-    ensures { AsksWhoIsThere }
+/// nothing else to do; it ranges only a ranging unit, and only where no search window is left to
+/// open; it searches only while search windows are left; it does nothing only where there is nothing
+/// to do.
+pub fn each_decision_has_its_reason()
+    ensures { EachDecisionHasItsReason }
 {}
 
 /// An acquisition with a number of search windows left opens that many with its next decisions, whatever

@@ -8,4 +8,4 @@ mod laws;
 
 pub use common::Common;
 pub use decision::{Decision, decide};
-pub use laws::{asks_who_is_there, opens_each_search_window};
+pub use laws::{each_decision_has_its_reason, opens_each_search_window};

@@ -7,8 +7,11 @@ use Rattle.gp_machine.specs.declared.event.Event.TheVariants.{Frame, Burst, Comm
 use Rattle.gp_machine.specs.State.{Rows, IsLeastRanging}
 use Rattle.gp_machine.specs.Frame.{frame_outcome}
 use Rattle.gp_machine.specs.Burst.{burst_outcome}
-use Rattle.gp_machine.specs.Step.{Hears, onu_id_in}
+use Rattle.gp_machine.specs.Outcomes.{Outcome}
+use Rattle.gp_machine.specs.declared.reply.Reply.TheVariants.{Found}
+use Rattle.gp_machine.specs.Step.{Hears}
 use Rattle.gp_machine.specs.OneStep.{IsDetermined}
+use Rattle.gp_machine.proofs.Cases.{Picks, picks}
 
 -- a code is read as one message at most
 abbrev pub OneReading : Type 0
@@ -28,8 +31,19 @@ one_hearing one mask bytes (Some m) (Some n) h k = ap Some (one bytes mask m n h
 
 pub determined : OneReading → IsDetermined
 determined one u p Frame o q s t same_reply = s.2 ∙ ap (frame_outcome u p) (one_least p.rows s.0 t.0 s.1 t.1) ∙ sym t.2
-determined one u p (Burst at bytes) o q s t same_reply =
-    s.3 ∙ ap (λ (heard : Option Up). burst_outcome u p at heard (onu_id_in o.answer.reply)) (one_hearing one (mask_value p.config.mask) bytes s.0 t.0 s.1 t.1)
-    ∙ ap (λ n. burst_outcome u p at t.0 n) (ap onu_id_in same_reply)
-    ∙ sym t.3
+determined one u p (Burst at bytes) o q s t same_reply = by_picks (picks u p at s.0)
+  where
+    after : ℕ → Outcome
+    after n = burst_outcome u p at s.0 n
+
+    other : q ≡ after t.1
+    other = t.4 ∙ ap (λ (heard : Option Up). burst_outcome u p at heard t.1) (one_hearing one (mask_value p.config.mask) bytes t.0 s.0 t.2 s.2)
+
+    by_picks : Picks after → o ≡ q
+    by_picks (Picks.hands_out told) =
+        let replied : Found s.1 ≡ Found t.1 =
+        sym (told s.1) ∙ ap (λ (x : Outcome). x.answer.reply) (sym s.4) ∙ same_reply ∙ ap (λ (x : Outcome). x.answer.reply) other ∙ told t.1 in
+        let same : s.1 ≡ t.1 = cc in
+        s.4 ∙ ap after same ∙ sym other
+    by_picks (Picks.ignores same none) = s.4 ∙ same s.1 t.1 ∙ sym other
 determined one u p (Command c) o q s t same_reply = s ∙ sym t

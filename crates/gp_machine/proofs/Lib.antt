@@ -1,12 +1,19 @@
 pub mod Determined
+pub mod SerialLists
 pub mod Cases
+pub mod AnyFree
+pub mod Readings
+pub mod FewRows
+pub mod EveryStep
+pub mod Refusing
+pub mod WindowSteps
 pub mod Licences
 pub mod SoundRows
 pub mod SoundSteps
 pub mod StepCases
 pub mod RunParts
-pub mod OnuIds
 pub mod OwedMessages
+pub mod OnuIds
 pub mod MeasuredDelays
 pub mod ProperMessages
 mod WorkedRuns

@@ -15,7 +15,6 @@ use Rattle.gp_machine.specs.State.{PortState, Rows, HasRow, rows_of}
 use Rattle.gp_machine.specs.Outcomes.{Outcome}
 use Rattle.gp_machine.specs.Frame.{state_after_timer, state_before_decision, state_after_decision}
 use Rattle.gp_machine.specs.Burst.{new_row}
-use Rattle.gp_machine.specs.Step.{onu_id_in}
 use Rattle.gp_machine.specs.OneStep.{KeepsLicences}
 use Rattle.gp_machine.proofs.Cases.{by_timer, OfEachBurst, OfEachFrame, OfEachCommand, of_each_burst, of_each_frame, of_each_command}
 
@@ -32,8 +31,8 @@ len-new rows s new none = len-insert serials_total rows s new ∙ ap (λ (o : Op
 pub burst_keeps : (u : ℕ) (p : PortState) (at : ℕ) (heard : Option Up) (n : ℕ) → OfEachBurst (Keeps u p) u p at heard n
 burst_keeps u p at heard n =
     record {
-      stray = refl;
-      refused = λ refusal. refl;
+      stray = λ shut. refl;
+      refused = λ refusal cause. refl;
       found = λ s from joins. let more = len-new p.rows s (new_row n) joins.unknown in let some = joins.licensed in omega arith;
       repeated = λ s row has. refl;
       again = λ s row from has room. ap (λ k. u + k) (len-known p.rows s row (new_row row.onu) has);
@@ -60,9 +59,9 @@ frame_keeps u p ranging =
     }
 
 pub command_keeps : (u : ℕ) (p : PortState) → OfEachCommand (Keeps u p) u p
-command_keeps u p = record { refused = λ refusal. refl; searching = refl }
+command_keeps u p = record { refused = λ cause. refl; searching = refl }
 
 pub step_keeps : KeepsLicences
 step_keeps u p event.Frame o s = subst (Keeps u p) (sym s.2) (of_each_frame (Keeps u p) u p s.0 (frame_keeps u p s.0))
-step_keeps u p (event.Burst at bytes) o s = subst (Keeps u p) (sym s.3) (of_each_burst (Keeps u p) u p at s.0 (onu_id_in o.answer.reply) (burst_keeps u p at s.0 (onu_id_in o.answer.reply)))
+step_keeps u p (event.Burst at bytes) o s = subst (Keeps u p) (sym s.4) (of_each_burst (Keeps u p) u p at s.0 s.1 (burst_keeps u p at s.0 s.1))
 step_keeps u p (event.Command c) o s = subst (Keeps u p) (sym s) (of_each_command (Keeps u p) u p c (command_keeps u p))

@@ -1,16 +1,17 @@
 -- Each unit has one ONU-ID, keeps it, and is told no other.
-use Rattle.std.proofs.Common.{◌≡◌, ◌≢◌, ℕ, ◌-◌, ◌≤◌, Bool, true, false, cond, List, [], ◌∷◌, ◌++◌, Option, None, Some, inl, inr, refl, sym, ap, subst, ◌∙◌, drop}
+use Rattle.std.proofs.Common.{◌≡◌, ◌≢◌, ℕ, ◌-◌, ◌≤◌, Bool, true, false, cond, List, [], ◌∷◌, ◌++◌, ◌⊎◌, Option, None, Some, inl, inr, refl, sym, ap, subst, ◌∙◌, arith, append_assoc, drop}
 use Rattle.std.specs.Prelude.{All, Contains}
 use Rattle.std.specs.FinMap.{get, insert, get-insert}
 use Rattle.std.specs.Option.{option_to_list}
 use Rattle.std.proofs.lemmas.Bool.{cases_Bool, false≢true}
 use Rattle.std.proofs.lemmas.List.Concat.{flat_map-cons}
-use Rattle.std.proofs.lemmas.List.Elements.{All-append, All-nil, All-cons, All-head, All-tail, All-contains}
+use Rattle.std.proofs.lemmas.List.Elements.{All-append, All-nil, All-cons, All-head, All-tail, All-contains, Contains-append_left, Contains-append_right}
 use Rattle.gp_ploam.specs.declared.message.Serial.{Serial}
 use Rattle.gp_ploam.specs.declared.message.Down.{Down}
 use Rattle.gp_ploam.specs.declared.message.Down.TheVariants as down
 use Rattle.gp_ploam.specs.Serials.{same_serial}
 use Rattle.gp_ploam.proofs.Serials.{serials_total, by_cmp-same, same_serial-true, same_serial-itself}
+use Rattle.gp_common.specs.States.{begins_acquisition}
 use Rattle.gp_machine.specs.declared.config.PortConfig.{PortConfig}
 use Rattle.gp_machine.specs.declared.entry.Entry.{Entry}
 use Rattle.gp_machine.specs.declared.row.Row.{Row}
@@ -19,16 +20,17 @@ use Rattle.gp_ploam.specs.Copies.{first_of}
 use Rattle.gp_machine.specs.Burst.{new_row}
 use Rattle.gp_machine.specs.Run.{Run, IsStep, entry_outcome}
 use Rattle.gp_machine.specs.Runs.{EveryStateIsSound}
-use Rattle.gp_machine.specs.Messages.{begins_acquisition, sent_in, three_times}
-use Rattle.gp_machine.specs.OnuIds.{NoSharedOnuId, OnlyAdmittedUnits, AtMostMaxUnits, KeepsOnuIds, TellsItsOnuId, AssignsWhatUnitsHave, AssignsOneToOne}
+use Rattle.gp_machine.specs.Messages.{SendsWhatWasOwedFirst, sent_in, three_times}
+use Rattle.gp_machine.specs.OnuIds.{NoSharedOnuId, OnlyAdmittedUnits, AtMostMaxUnits, KeepsOnuIds, TellsItsOnuId, AssignsWhatUnitsHave, EachUnitIsTold, AssignsOneToOne}
 use Rattle.gp_machine.proofs.RunParts.{keeps_configuration}
-use Rattle.gp_machine.proofs.SoundRows.{has_it}
+use Rattle.gp_machine.proofs.OwedMessages.{run_owes}
+use Rattle.gp_machine.proofs.SoundRows.{has_it, has_put, no_row}
 use Rattle.gp_machine.proofs.StepCases.{StepCase, step_case, owed_by_frame, ranged_row}
 
 -- ---- sound states
 
 pub apart : EveryStateIsSound → NoSharedOnuId
-apart sound c p s t m n reached h k differ same = differ ((sound c p reached).apart s t h.0 k.0 h.1 k.1 (h.2 ∙ same ∙ sym k.2))
+apart sound c p s t m n reached h k differ same = differ ((sound c p reached).apart s t n (h.0, h.1, h.2 ∙ same) k)
 
 pub admitted : EveryStateIsSound → OnlyAdmittedUnits
 admitted sound c p s row reached has = subst (λ (x : PortConfig). Contains x.admitted s) (keeps_configuration c p reached) ((sound c p reached).admitted s row has)
@@ -153,6 +155,73 @@ pub tells_its_onu_id : AssignsWhatUnitsHave
 tells_its_onu_id c q es h =
     let all = run_tells (opening_of c) q es h (All-nil (TellsItsOnuId (opening_of c))) in
     All-append (TellsItsOnuId q) (sent_in es) q.owed all.0 all.1
+
+-- ---- each unit is told
+
+-- the unit had the ONU-ID before the step, or is owed Assign_ONU-ID after it
+step_told : (p q : PortState) (e : Entry) (t : Serial) (n : ℕ) → IsStep p e q → HasOnuId q.rows t n → HasOnuId p.rows t n ⊎ Contains q.owed (down.AssignOnu n t)
+step_told p q e t n h has = by_case (step_case e.purse_in p e.event (entry_outcome e q) h)
+  where
+    before : q.rows ≡ p.rows → HasOnuId p.rows t n
+    before is = subst (λ (x : Rows). HasOnuId x t n) is has
+
+    by_case : StepCase p e.event (entry_outcome e q) → HasOnuId p.rows t n ⊎ Contains q.owed (down.AssignOnu n t)
+    by_case (StepCase.frame k) = inl (before k.rows)
+    by_case (StepCase.quiet k) = inl (before k.rows)
+    by_case (StepCase.told s m heard k) =
+        elim (has_put p.rows s (new_row m) t has.0 (subst (λ (x : Rows). HasRow x t has.0) k.rows has.1)) [
+          | inl new ↦
+              let same : m ≡ n = sym (ap (λ (r : Row). r.onu) new.1) ∙ has.2 in
+              let message : down.AssignOnu m s ≡ down.AssignOnu n t =
+              ap (λ (x : ℕ). down.AssignOnu x s) same ∙ ap (λ (x : Serial). down.AssignOnu n x) (sym new.0) in
+              let there = Contains-append_right p.owed (three_times (down.AssignOnu m s ∷ [])) (down.AssignOnu m s) (0, omega arith, refl) in
+              inr (subst (λ (ms : List Down). Contains ms (down.AssignOnu n t)) (sym k.owed)
+              (subst (λ (x : Down). Contains (p.owed ++ three_times (down.AssignOnu m s ∷ [])) x) message there))
+          | inr old ↦ inl (has.0, old, has.2)
+        ]
+    by_case (StepCase.ranged at bytes s m random flags burst read k) =
+        elim (has_put p.rows s (ranged_row m (p.config.teqd - at)) t has.0 (subst (λ (x : Rows). HasRow x t has.0) k.rows has.1)) [
+          | inl new ↦
+              let active = k.active in
+              inl (active.0, subst (λ (x : Serial). HasRow p.rows x active.0) (sym new.0) active.1, active.2 ∙ sym (ap (λ (r : Row). r.onu) new.1) ∙ has.2)
+          | inr old ↦ inl (has.0, old, has.2)
+        ]
+
+-- what is owed at the start of a run is sent in it, or still owed after it
+still_owed : SendsWhatWasOwedFirst → (p q : PortState) (es : List Entry) (m : Down) → Run p es q → Contains p.owed m → Contains (sent_in es ++ q.owed) m
+still_owed sends p q es m h owed =
+    let messages = run_owes p q es h in
+    subst (λ (ms : List Down). Contains ms m) (sym (sends p q es messages.0 messages.1)) (Contains-append_left p.owed (three_times messages.0) m owed)
+
+run_told : SendsWhatWasOwedFirst → (p q : PortState) (es : List Entry) (t : Serial) (n : ℕ) → Run p es q → HasOnuId q.rows t n
+    → HasOnuId p.rows t n ⊎ Contains (sent_in es ++ q.owed) (down.AssignOnu n t)
+run_told sends p q [] t n h has = inl (subst (λ (x : PortState). HasOnuId x.rows t n) h has)
+run_told sends p q (e ∷ es) t n h has =
+    elim (run_told sends h.0 q es t n h.2 has) [
+      | inl at_mid ↦ by_step (step_told p h.0 e t n h.1 at_mid)
+      | inr told ↦ inr (later told)
+    ]
+  where
+    message : Down
+    message = down.AssignOnu n t
+
+    later : Contains (sent_in es ++ q.owed) message → Contains (sent_in (e ∷ es) ++ q.owed) message
+    later told =
+        let sent = option_to_list e.answer.sent in
+        subst (λ (ms : List Down). Contains ms message)
+        (sym (ap (λ (ms : List Down). ms ++ q.owed) (flat_map-cons (λ (x : Entry). option_to_list x.answer.sent) e es) ∙ append_assoc sent (sent_in es) q.owed))
+        (Contains-append_right sent (sent_in es ++ q.owed) message told)
+
+    by_step : HasOnuId p.rows t n ⊎ Contains h.0.owed message → HasOnuId p.rows t n ⊎ Contains (sent_in (e ∷ es) ++ q.owed) message
+    by_step (inl before) = inl before
+    by_step (inr owed) = inr (later (still_owed sends h.0 q es message h.2 owed))
+
+pub each_told : SendsWhatWasOwedFirst → EachUnitIsTold
+each_told sends c q es t n h has =
+    elim (run_told sends (opening_of c) q es t n h has) [
+      | inl at_first ↦ absurd (no_row t at_first.0 at_first.1)
+      | inr told ↦ told
+    ]
 
 -- serial numbers that compare as different are not one
 not_one : (s t : Serial) → same_serial s t ≡ false → s ≢ t

@@ -23,17 +23,18 @@ use Rattle.gp_machine.specs.Sound.{IsSound, IsAsked, HasFramesLeft, HasCyclesLef
 use Rattle.gp_machine.specs.Outcomes.{Outcome, state_owing, has_room, state_seen}
 use Rattle.gp_machine.specs.Frame.{runs_timer, state_after_timer, state_after_sending, window_left, state_after_tick, state_before_decision, state_after_decision, decision_after}
 use Rattle.gp_machine.specs.Burst.{new_row, state_assigned, state_ranged}
-use Rattle.gp_machine.specs.Step.{HandsOutFree, onu_id_in}
+use Rattle.gp_machine.specs.Step.{HandsOut}
 use Rattle.gp_machine.specs.OneStep.{KeepsSound}
 use Rattle.gp_machine.proofs.Cases.{by_test, by_timer, both_true, IsFromSearch, OfEachBurst, OfEachFrame, OfEachCommand, of_each_burst, of_each_frame, of_each_command}
-use Rattle.gp_machine.proofs.SoundRows.{table_of, MayPut, sound_put, sound_empty, may_put_again, admitted_contains}
+use Rattle.gp_machine.proofs.SerialLists.{admitted_contains}
+use Rattle.gp_machine.proofs.SoundRows.{table_of, apart_of, low_of, MayPut, sound_put, sound_empty, may_put_again}
 
 pub sound_opening : (c : PortConfig) → IsSound (opening_of c)
 sound_opening c =
     let rows = sound_empty c in
     record {
-      apart = rows.apart;
-      low = rows.low;
+      apart = apart_of _ _ rows;
+      low = low_of _ _ rows;
       admitted = rows.admitted;
       counted = rows.counted;
       few = rows.few;
@@ -240,8 +241,8 @@ sound_assigned p s n h room undirected may =
     let fits = room_fits p room in
     let most = least_copies p.window in
     record {
-      apart = rows.apart;
-      low = rows.low;
+      apart = apart_of _ _ rows;
+      low = low_of _ _ rows;
       admitted = rows.admitted;
       counted = rows.counted;
       few = rows.few;
@@ -260,8 +261,8 @@ sound_ranged p s row n eqd h room has same =
     let size = length_owing p (RangingTime n eqd) in
     let fits = room_fits p room in
     record {
-      apart = rows.apart;
-      low = rows.low;
+      apart = apart_of _ _ rows;
+      low = low_of _ _ rows;
       admitted = rows.admitted;
       counted = rows.counted;
       few = rows.few;
@@ -289,15 +290,15 @@ may_put_new p s n admitted free =
     }
 
 -- where the ONU-ID that is handed out was free, the state is sound
-abbrev pub IsSoundIfFree : PortState → Outcome → Type 0
-IsSoundIfFree p o = HandsOutFree p o.answer.reply → IsSound o.state
+abbrev pub IsSoundIfFree : PortState → ℕ → Outcome → Type 0
+IsSoundIfFree p n o = HandsOut p n o.answer.reply → IsSound o.state
 
-pub sound_burst : (u : ℕ) (p : PortState) (at : ℕ) (heard : Option Up) (n : ℕ) → IsSound p → OfEachBurst (IsSoundIfFree p) u p at heard n
+pub sound_burst : (u : ℕ) (p : PortState) (at : ℕ) (heard : Option Up) (n : ℕ) → IsSound p → OfEachBurst (IsSoundIfFree p n) u p at heard n
 sound_burst u p at heard n h =
     record {
-      stray = λ free. h;
-      refused = λ refusal free. sound_seen p h;
-      found = λ s from joins free. sound_assigned p s n h joins.room (undirected p heard s from) (may_put_new p s n joins.admitted free);
+      stray = λ shut free. h;
+      refused = λ refusal cause free. sound_seen p h;
+      found = λ s from joins free. sound_assigned p s n h joins.room (undirected p heard s from) (may_put_new p s n joins.admitted free.1);
       repeated = λ s row has free. h;
       again = λ s row from has room free.
           sound_assigned p s row.onu h room (undirected p heard s from) (may_put_again p s row (new_row row.onu) h has refl (omega arith));
@@ -309,13 +310,12 @@ sound_burst u p at heard n h =
 -- ---- a command, and a step
 
 pub sound_command : (u : ℕ) (p : PortState) → IsSound p → OfEachCommand (λ (o : Outcome). IsSound o.state) u p
-sound_command u p h = record { refused = λ refusal. h; searching = with_timer p p.timer true h h.timed }
+sound_command u p h = record { refused = λ cause. h; searching = with_timer p p.timer true h h.timed }
 
 pub sound_step : KeepsSound
 sound_step u p event.Frame o h s =
     subst (λ (x : Outcome). IsSound x.state) (sym s.2) (of_each_frame (λ (x : Outcome). IsSound x.state) u p s.0 (sound_frame u p s.0 h s.1))
 sound_step u p (event.Burst at bytes) o h s =
-    let free = subst (λ (x : Outcome). HandsOutFree p x.answer.reply) s.3 s.2 in
-    subst (λ (x : Outcome). IsSound x.state) (sym s.3)
-    (of_each_burst (IsSoundIfFree p) u p at s.0 (onu_id_in o.answer.reply) (sound_burst u p at s.0 (onu_id_in o.answer.reply) h) free)
+    let free = subst (λ (x : Outcome). HandsOut p s.1 x.answer.reply) s.4 s.3 in
+    subst (λ (x : Outcome). IsSound x.state) (sym s.4) (of_each_burst (IsSoundIfFree p s.1) u p at s.0 s.1 (sound_burst u p at s.0 s.1 h) free)
 sound_step u p (event.Command c) o h s = subst (λ (x : Outcome). IsSound x.state) (sym s) (of_each_command (λ (x : Outcome). IsSound x.state) u p c (sound_command u p h))

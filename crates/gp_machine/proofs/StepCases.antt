@@ -10,11 +10,13 @@ use Rattle.gp_ploam.specs.declared.message.Up.TheVariants as up
 use Rattle.gp_ploam.specs.Copies.{first_of}
 use Rattle.gp_ploam.specs.Mask.{mask_value}
 use Rattle.gp_ploam.specs.Up.{ReadsUp}
+use Rattle.gp_ranging.specs.declared.grant.Grant.TheVariants.{Range}
 use Rattle.gp_ranging.specs.Window.{WindowState}
 use Rattle.gp_common.specs.declared.common.Common.{Common}
 use Rattle.gp_common.specs.declared.common.Common.TheVariants.{Standby, Acquisition, Measuring}
 use Rattle.gp_common.specs.declared.decision.Decision.{Decision}
-use Rattle.gp_common.specs.Decision.{decision_of}
+use Rattle.gp_common.specs.Decision.{grant_of, decision_of}
+use Rattle.gp_common.specs.States.{begins_acquisition}
 use Rattle.gp_machine.specs.declared.event.Event.{Event}
 use Rattle.gp_machine.specs.declared.event.Event.TheVariants as event
 use Rattle.gp_machine.specs.declared.refusal.Refusal.TheVariants as refusal
@@ -22,14 +24,13 @@ use Rattle.gp_machine.specs.declared.reply.Reply.{Reply}
 use Rattle.gp_machine.specs.declared.reply.Reply.TheVariants as reply
 use Rattle.gp_machine.specs.declared.row.Phase.TheVariants.{Operating}
 use Rattle.gp_machine.specs.declared.row.Row.{Row}
-use Rattle.gp_machine.specs.State.{PortState, HasRow, HasOnuId}
+use Rattle.gp_machine.specs.State.{PortState, HasRow, HasOnuId, AsksFor}
 use Rattle.gp_machine.specs.Outcomes.{Outcome, bare_outcome, state_seen}
-use Rattle.gp_machine.specs.Frame.{state_after_decision, decision_after, state_after_sending, state_after_tick, frame_answer, grant_of}
+use Rattle.gp_machine.specs.Frame.{state_after_decision, decision_after, state_after_sending, state_after_tick, frame_answer}
 use Rattle.gp_machine.specs.Burst.{new_row}
-use Rattle.gp_machine.specs.Step.{Step, Hears, onu_id_in}
-use Rattle.gp_machine.specs.Messages.{HearsSerial, begins_acquisition, three_times}
-use Rattle.gp_machine.specs.Delays.{AsksToRange}
-use Rattle.gp_machine.proofs.Cases.{by_timer, IsFromSearch, IsFromRange, OfEachBurst, OfEachFrame, OfEachCommand, of_each_burst, of_each_frame, of_each_command}
+use Rattle.gp_machine.specs.Step.{Step, Hears}
+use Rattle.gp_machine.specs.Messages.{HearsSerial, three_times}
+use Rattle.gp_machine.proofs.Cases.{not_none, one_row, by_timer, IsFromSearch, IsFromRange, OfEachBurst, OfEachFrame, OfEachCommand, of_each_burst, of_each_frame, of_each_command}
 
 -- ---- the cases
 
@@ -76,7 +77,7 @@ ranged_row n eqd = record { onu = n; phase = Operating eqd 0 0 }
 
 -- the unit s is ranged, at its round-trip delay
 pub record IsRanged (p : PortState) (at : ℕ) (s : Serial) (n : ℕ) (o : Outcome) : Type 0 where
-  pub asked : AsksToRange p.window n
+  pub asked : AsksFor p.window (Range n)
   pub active : HasOnuId p.rows s n
   pub near : at ≤ p.config.teqd
   pub reply : o.answer.reply ≡ reply.Ranged n (p.config.teqd - at)
@@ -160,12 +161,6 @@ pub data StepCase (p : PortState) (e : Event) (o : Outcome) : Type 0 where
 quiet_outcome : (u : ℕ) (p : PortState) (w : Option WindowState) (wanted : Bool) (r : Reply) → IsQuietReply r → IsQuiet p (bare_outcome u (record p { window = w; wanted = wanted }) r)
 quiet_outcome u p w wanted r quiet_reply = record { reply = quiet_reply; sent = refl; owed = refl; rows = refl; config = refl }
 
-not_none : (row : Row) → None ≡ Some row → ⊥
-not_none row h = cc
-
-one_row : (row other : Row) → Some row ≡ Some other → other.onu ≡ row.onu
-one_row row other h = let same : row ≡ other = cc in ap (λ (r : Row). r.onu) (sym same)
-
 -- a burst whose octets are read as `heard`
 module _ (u : ℕ) (p : PortState) (at : ℕ) (bytes : List ℕ) (heard : Option Up) (hears : Hears (mask_value p.config.mask) bytes heard) where
   abbrev e : Event
@@ -175,10 +170,10 @@ module _ (u : ℕ) (p : PortState) (at : ℕ) (bytes : List ℕ) (heard : Option
   reads m is = subst (λ (h : Option Up). Hears (mask_value p.config.mask) bytes h) is hears
 
   hears_serial : (s : Serial) → IsFromSearch p heard s → HearsSerial p e 255 s
-  hears_serial s from = (from.random, from.flags, reads (up.SerialNumber 255 s from.random from.flags) from.read)
+  hears_serial s from = (at, record { bytes = bytes; random = from.random; flags = from.flags; burst = refl; read = reads (up.SerialNumber 255 s from.random from.flags) from.read })
 
-  asks : (m : ℕ) (s : Serial) → IsFromRange p heard m s → AsksToRange p.window m
-  asks m s from = subst (λ (w : Option WindowState). AsksToRange w m) (sym from.opened) from.asked
+  asks : (m : ℕ) (s : Serial) → IsFromRange p heard m s → AsksFor p.window (Range m)
+  asks m s from = subst (λ (w : Option WindowState). AsksFor w (Range m)) (sym from.opened) from.asked
 
   quiet_case : (w : Option WindowState) (r : Reply) → IsQuietReply r → StepCase p e (bare_outcome u (record p { window = w }) r)
   quiet_case w r quiet_reply = StepCase.quiet (quiet_outcome u p w p.wanted r quiet_reply)
@@ -189,8 +184,8 @@ module _ (u : ℕ) (p : PortState) (at : ℕ) (bytes : List ℕ) (heard : Option
   burst_case : (n : ℕ) → OfEachBurst (StepCase p e) u p at heard n
   burst_case n =
       record {
-        stray = quiet_case p.window (reply.Refused refusal.Stray) tt;
-        refused = λ r. quiet_case seen (reply.Refused r) tt;
+        stray = λ shut. quiet_case p.window (reply.Refused refusal.Stray) tt;
+        refused = λ r cause. quiet_case seen (reply.Refused r) tt;
         found = λ s from joins.
             StepCase.told s n (hears_serial s from)
             (record { same = λ row has. absurd (not_none row (sym joins.unknown ∙ has)); reply = inl refl; sent = refl; owed = refl; rows = refl; config = refl });
@@ -208,7 +203,7 @@ module _ (u : ℕ) (p : PortState) (at : ℕ) (bytes : List ℕ) (heard : Option
 command_case : (u : ℕ) (p : PortState) (e : Event) → OfEachCommand (StepCase p e) u p
 command_case u p e =
     record {
-      refused = λ why. StepCase.quiet (quiet_outcome u p p.window p.wanted (reply.Refused why) tt);
+      refused = λ cause. StepCase.quiet (quiet_outcome u p p.window p.wanted (reply.Refused refusal.AlreadySearching) tt);
       searching = StepCase.quiet (quiet_outcome u p p.window true reply.Searching tt);
     }
 
@@ -217,8 +212,7 @@ step_case u p event.Frame o h =
     subst (λ (x : Outcome). StepCase p event.Frame x) (sym h.2) (StepCase.frame (of_each_frame (IsFrame p) u p h.0 (frame_case u p h.0)))
 step_case u p (event.Burst at bytes) o h =
     let e = event.Burst at bytes in
-    let n = onu_id_in o.answer.reply in
-    subst (λ (x : Outcome). StepCase p e x) (sym h.3) (of_each_burst (StepCase p e) u p at h.0 n (burst_case u p at bytes h.0 h.1 n))
+    subst (λ (x : Outcome). StepCase p e x) (sym h.4) (of_each_burst (StepCase p e) u p at h.0 h.1 (burst_case u p at bytes h.0 h.2 h.1))
 step_case u p (event.Command c) o h =
     let e = event.Command c in
     subst (λ (x : Outcome). StepCase p e x) (sym h) (of_each_command (StepCase p e) u p c (command_case u p e))

@@ -27,9 +27,9 @@ use Rattle.gp_machine.specs.Outcomes.{bare_outcome, state_seen, refused_burst}
 use Rattle.gp_machine.specs.Burst.{new_row, admitted_outcome, row_outcome}
 use Rattle.gp_machine.specs.Run.{Run}
 use Rattle.gp_machine.specs.Worked.{serial_a, serial_b, config_with, heard_a, heard_b, heard_a_at_0, search, find_a, range_a, find_both, range_a_late, OneUnit, RepeatedAnswer, PeriodicSearch, DelayLimits}
-use Rattle.gp_machine.proofs.Licences.{len-new}
+use Rattle.gp_machine.proofs.Licences.{len-known, len-new}
 use Rattle.gp_machine.proofs.RunParts.{runs_in_parts}
-use Rattle.gp_machine.proofs.SoundRows.{has_put, no_row}
+use Rattle.gp_machine.proofs.SoundRows.{has_it, has_put, no_row}
 
 -- ---- what is heard
 
@@ -82,6 +82,9 @@ no_b = get-insert serials_total empty serial_a (new_row 0) serial_b ∙ get-empt
 
 still_has_a : HasRow rows_ab serial_a (new_row 0)
 still_has_a = get-insert serials_total rows_a serial_b (new_row 1) serial_a ∙ has_a
+
+one_of_rows_a : len rows_a ≡ 1
+one_of_rows_a = len-new empty serial_a (new_row 0) (get-empty serial_cmp serial_a) ∙ ap (λ (n : ℕ). n + 1) (len-empty serial_cmp Row)
 
 a_ranges : IsLeastRanging rows_a (Some 0)
 a_ranges = ((serial_a, new_row 0, has_a, tt, refl), λ m w. omega arith)
@@ -164,7 +167,7 @@ finds_a =
 find_run : (q : PortState) (es : List Entry) → Run asking_port es q → Run searching_port (find_a ++ es) q
 find_run q es rest = (
   found_port,
-  (Some (SerialNumber 255 serial_a 0 0), reads_a, free_a, sym finds_a),
+  (Some (SerialNumber 255 serial_a 0 0), 0, reads_a, (refl, free_a), sym finds_a),
   (
     port rows_a (Acquisition 0) (open_for 2) (assign_a ∷ assign_a ∷ []),
     (Some 0, a_ranges, refl),
@@ -186,8 +189,11 @@ abbrev ranged_port : List Down → PortState
 ranged_port owed = port (insert rows_a serial_a (operating 211040)) Measuring None owed
 
 pub one_unit_run : OneUnit
-one_unit_run = (ended, after_search ended (find_a ++ range_a) (find_run ended range_a ranged_run), operates 211040)
+one_unit_run = (ended, after_search ended (find_a ++ range_a) (find_run ended range_a ranged_run), operates 211040, one_row, refl, refl)
   where
+    one_row : len (insert rows_a serial_a (operating 211040)) ≡ 1
+    one_row = len-known rows_a serial_a (new_row 0) (operating 211040) has_a ∙ one_of_rows_a
+
     ended : PortState
     ended = port (insert rows_a serial_a (operating 211040)) Standby None []
 
@@ -199,6 +205,7 @@ one_unit_run = (ended, after_search ended (find_a ++ range_a) (find_run ended ra
       ranged_port (told ∷ told ∷ told ∷ []),
       (
         Some (SerialNumber 0 serial_a 0 0),
+        0,
         reads_a_at_0,
         tt,
         sym (ap (λ (o : Option Row). row_outcome 1 asking_port 100000 0 serial_a o) has_a),
@@ -215,7 +222,7 @@ one_unit_run = (ended, after_search ended (find_a ++ range_a) (find_run ended ra
     )
 
 pub repeated_answer_run : RepeatedAnswer
-repeated_answer_run = (both_port, after_search both_port find_both heard_run, refl)
+repeated_answer_run = (both_port, after_search both_port find_both heard_run, still_has_a, has_it rows_a serial_b (new_row 1), refl)
   where
     assign_b : Down
     assign_b = AssignOnu 1 serial_b
@@ -230,28 +237,26 @@ repeated_answer_run = (both_port, after_search both_port find_both heard_run, re
           | inr old ↦ no_row s row old
         ]
 
-    one_row : len rows_a ≡ 1
-    one_row = len-new empty serial_a (new_row 0) (get-empty serial_cmp serial_a) ∙ ap (λ (n : ℕ). n + 1) (len-empty serial_cmp Row)
-
     free_b : IsFree found_port 1
-    free_b = record { low = omega arith; room = let one = one_row in omega arith; unused = λ s has. only_a s has.0 has.1 has.2 }
+    free_b = record { low = omega arith; room = let one = one_of_rows_a in omega arith; unused = λ s has. only_a s has.0 has.1 has.2 }
 
     finds_b : admitted_outcome 1 found_port serial_b 1 (get rows_a serial_b) ≡ bare_outcome 0 both_port (Found 1)
     finds_b =
         ap (λ (o : Option Row). admitted_outcome 1 found_port serial_b 1 o) no_b
-        ∙ ap (λ (n : ℕ). cond (nat_lt n 254) (bare_outcome 0 both_port (Found 1)) (refused_burst 1 found_port NoId)) one_row
+        ∙ ap (λ (n : ℕ). cond (nat_lt n 254) (bare_outcome 0 both_port (Found 1)) (refused_burst 1 found_port NoId)) one_of_rows_a
 
     heard_run : Run searching_port find_both both_port
     heard_run = (
       found_port,
-      (Some (SerialNumber 255 serial_a 0 0), reads_a, free_a, sym finds_a),
+      (Some (SerialNumber 255 serial_a 0 0), 0, reads_a, (refl, free_a), sym finds_a),
       (
         both_port,
-        (Some (SerialNumber 255 serial_b 0 0), reads_b, free_b, sym finds_b),
+        (Some (SerialNumber 255 serial_b 0 0), 1, reads_b, (refl, free_b), sym finds_b),
         (
           both_port,
           (
             Some (SerialNumber 255 serial_a 0 0),
+            0,
             reads_a,
             tt,
             sym (ap (λ (o : Option Row). admitted_outcome 1 both_port serial_a 0 o) still_has_a),
@@ -268,6 +273,8 @@ periodic_search_run = (
   (waiting 1, (None, nobody, refl), (waiting 2, (None, nobody, refl), (waiting 3, (None, nobody, refl), (waiting 4, (None, nobody, refl), (begun 3, (None, nobody, refl), refl))))),
   refl,
   (begun 2, (None, nobody, refl), refl),
+  refl,
+  refl,
 )
   where
     waiting : ℕ → PortState
@@ -277,7 +284,7 @@ periodic_search_run = (
     begun copies = record (opening_of (config_with 5)) { common = Acquisition 1; owed = replicate copies overhead }
 
 pub delay_limits_run : DelayLimits
-delay_limits_run = (near_port, after_search near_port (find_a ++ range_a_late) (find_run near_port range_a_late heard_run))
+delay_limits_run = (near_port, after_search near_port (find_a ++ range_a_late) (find_run near_port range_a_late heard_run), operates 0, refl)
   where
     near_port : PortState
     near_port = port (insert rows_a serial_a (operating 0)) Measuring None (RangingTime 0 0 ∷ RangingTime 0 0 ∷ RangingTime 0 0 ∷ [])
@@ -287,6 +294,7 @@ delay_limits_run = (near_port, after_search near_port (find_a ++ range_a_late) (
       state_seen asking_port,
       (
         Some (SerialNumber 0 serial_a 0 0),
+        0,
         reads_a_at_0,
         tt,
         sym (ap (λ (o : Option Row). row_outcome 1 asking_port 311041 0 serial_a o) has_a),
@@ -295,6 +303,7 @@ delay_limits_run = (near_port, after_search near_port (find_a ++ range_a_late) (
         near_port,
         (
           Some (SerialNumber 0 serial_a 0 0),
+          0,
           reads_a_at_0,
           tt,
           sym (ap (λ (o : Option Row). row_outcome 1 (state_seen asking_port) 311040 0 serial_a o) has_a),

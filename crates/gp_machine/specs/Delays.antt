@@ -1,62 +1,46 @@
 -- The equalization delays of a run (G.984.3, clause 10).
-use Rattle.std.specs.Prelude.{◌≡◌, ℕ, ◌+◌, List, Option, None, Some}
+use Rattle.std.specs.Prelude.{◌≡◌, ℕ, ◌+◌, List}
 use Rattle.gp_ploam.specs.declared.message.Serial.{Serial}
-use Rattle.gp_ploam.specs.declared.message.Up.TheVariants.{SerialNumber}
-use Rattle.gp_ploam.specs.Mask.{mask_value}
-use Rattle.gp_ploam.specs.Up.{ReadsUp}
 use Rattle.gp_ranging.specs.declared.grant.Grant.TheVariants.{Range}
-use Rattle.gp_ranging.specs.Window.{WindowState}
 use Rattle.gp_machine.specs.declared.config.PortConfig.{PortConfig}
 use Rattle.gp_machine.specs.declared.entry.Entry.{Entry}
-use Rattle.gp_machine.specs.declared.event.Event.{Event}
-use Rattle.gp_machine.specs.declared.event.Event.TheVariants.{Burst}
 use Rattle.gp_machine.specs.declared.reply.Reply.TheVariants.{Ranged}
 use Rattle.gp_machine.specs.declared.row.Phase.TheVariants.{Operating}
 use Rattle.gp_machine.specs.declared.row.Row.{Row}
-use Rattle.gp_machine.specs.State.{PortState, HasRow, HasOnuId, opening_of}
-use Rattle.gp_machine.specs.Run.{Run}
+use Rattle.gp_machine.specs.State.{PortState, HasRow, HasOnuId, AsksFor, opening_of}
+use Rattle.gp_machine.specs.Messages.{HearsSerialAfter}
+use Rattle.gp_machine.specs.Run.{Run, IsStep}
 use Rattle.gp_machine.specs.Runs.{HasStep}
 
--- the open window asks the unit with this ONU-ID for its round-trip delay
-abbrev pub AsksToRange : Option WindowState → ℕ → Type 0
-AsksToRange None onu = ⊥
-AsksToRange (Some window) onu = window.grant ≡ Range onu
-
--- in this state the event measures the unit with this serial number and this ONU-ID
-pub record IsMeasured (teqd : ℕ) (port : PortState) (event : Event) (serial : Serial) (onu eqd : ℕ) : Type 0 where
-  pub at : ℕ
-  pub bytes : List ℕ
-  pub random : ℕ
-  pub flags : ℕ
-  -- octets arrive after a round-trip delay
-  pub burst : event ≡ Burst at bytes
-  -- they are the unit's Serial_Number_ONU, with its ONU-ID
-  pub read : ReadsUp bytes (mask_value port.config.mask) (SerialNumber onu serial random flags)
-  pub active : HasOnuId port.rows serial onu
+-- between these states the entry ranges the unit with this serial number and this ONU-ID, and gives it this
+-- equalization delay
+pub record RangesUnit (before : PortState) (entry : Entry) (after : PortState) (serial : Serial) (onu eqd : ℕ) : Type 0 where
+  pub round_trip : ℕ
+  -- the unit's Serial_Number_ONU arrives after this round-trip delay, with its ONU-ID
+  pub heard : HearsSerialAfter before entry.event round_trip onu serial
+  pub active : HasOnuId before.rows serial onu
   -- the open window asked it
-  pub asked : AsksToRange port.window onu
+  pub asked : AsksFor before.window (Range onu)
   -- its equalization delay makes its round-trip delay up to the equalized one
-  pub adds_up : at + eqd ≡ teqd
+  pub adds_up : round_trip + eqd ≡ before.config.teqd
+  pub reply : entry.answer.reply ≡ Ranged onu eqd
+  -- it operates with it
+  pub operates : HasRow after.rows serial (record { onu = onu; phase = Operating eqd 0 0 })
 
--- a step that replies Ranged measured a unit, and leaves it operating with what its round-trip delay leaves of the
--- equalized round-trip delay
-abbrev pub RangesWithWhatIsLeft : Type 0
-RangesWithWhatIsLeft =
-    (port last before after : PortState) (entries : List Entry) (entry : Entry) (onu eqd : ℕ)
-    → HasStep port entries last before entry after
+-- a step that replies Ranged ranges a unit so
+abbrev pub EachRangedReplyIsMeasured : Type 0
+EachRangedReplyIsMeasured =
+    (before after : PortState) (entry : Entry) (onu eqd : ℕ)
+    → IsStep before entry after
     → entry.answer.reply ≡ Ranged onu eqd
-    → (serial : Serial)
-    × IsMeasured port.config.teqd before entry.event serial onu eqd
-    × HasRow after.rows serial (record { onu = onu; phase = Operating eqd 0 0 })
+    → (serial : Serial) × RangesUnit before entry after serial onu eqd
 
--- the unit was ranged in the run: a step of it measured the unit, and left it operating with this equalization delay
+-- a step of the run ranged the unit, and gave it this equalization delay
 abbrev pub WasRanged : PortState → List Entry → PortState → Serial → ℕ → ℕ → Type 0
 WasRanged port entries last serial onu eqd =
     (before : PortState) × (entry : Entry) × (after : PortState)
     × HasStep port entries last before entry after
-    × (entry.answer.reply ≡ Ranged onu eqd)
-    × IsMeasured port.config.teqd before entry.event serial onu eqd
-    × HasRow after.rows serial (record { onu = onu; phase = Operating eqd 0 0 })
+    × RangesUnit before entry after serial onu eqd
 
 -- in a run from an opening each operating unit was ranged, and keeps the equalization delay that it was given
 abbrev pub OperatesWithWhatWasMeasured : Type 0

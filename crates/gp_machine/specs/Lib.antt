@@ -10,6 +10,8 @@ pub mod Commands
 pub mod Step
 pub mod Run
 pub mod OneStep
+pub mod Causes
+pub mod Windows
 pub mod Runs
 pub mod Messages
 pub mod OnuIds

@@ -1,6 +1,6 @@
 -- The messages of a run: those that its steps owe, and those that it sends (G.984.3, clauses 9 and 10; that the
 -- three copies go out in a row, behind all that is owed, is this profile's own rule).
-use Rattle.std.specs.Prelude.{◌≡◌, ℕ, ◌<◌, ◌^◌, Bool, true, false, if◌then◌else◌, List, [], ◌∷◌, ◌++◌, length, IfSome, All}
+use Rattle.std.specs.Prelude.{◌≡◌, ℕ, ◌<◌, ◌^◌, if◌then◌else◌, List, [], ◌∷◌, ◌++◌, length, IfSome, All}
 use Rattle.std.specs.List.{flat_map}
 use Rattle.std.specs.Option.{option_to_list}
 use Rattle.gp_ploam.specs.declared.message.Serial.{Serial}
@@ -10,12 +10,11 @@ use Rattle.gp_ploam.specs.declared.message.Up.TheVariants.{SerialNumber}
 use Rattle.gp_ploam.specs.Down.{IsProperDown}
 use Rattle.gp_ploam.specs.Mask.{mask_value}
 use Rattle.gp_ploam.specs.Up.{ReadsUp}
-use Rattle.gp_common.specs.declared.common.Common.{Common}
-use Rattle.gp_common.specs.declared.common.Common.TheVariants.{Standby, Acquisition}
+use Rattle.gp_common.specs.States.{begins_acquisition}
 use Rattle.gp_machine.specs.declared.config.PortConfig.{PortConfig}
 use Rattle.gp_machine.specs.declared.entry.Entry.{Entry}
 use Rattle.gp_machine.specs.declared.event.Event.{Event}
-use Rattle.gp_machine.specs.declared.event.Event.TheVariants.{Frame, Burst, Command}
+use Rattle.gp_machine.specs.declared.event.Event.TheVariants.{Burst}
 use Rattle.gp_machine.specs.declared.reply.Reply.{Reply}
 use Rattle.gp_machine.specs.declared.reply.Reply.TheVariants.{Ticked, Found, Again, Ranged}
 use Rattle.gp_machine.specs.State.{PortState, opening_of}
@@ -25,17 +24,18 @@ use Rattle.gp_machine.specs.Run.{Run, IsStep}
 
 -- ---- the messages that are owed
 
--- the event is a burst that is read as the Serial_Number_ONU of this unit, with this ONU-ID in octet 1
-abbrev pub HearsSerial : PortState → Event → ℕ → Serial → Type 0
-HearsSerial port Frame onu serial = ⊥
-HearsSerial port (Burst round_trip bytes) onu serial =
-    (random : ℕ) × (flags : ℕ) × ReadsUp bytes (mask_value port.config.mask) (SerialNumber onu serial random flags)
-HearsSerial port (Command command) onu serial = ⊥
+-- the event is a burst, after this round-trip delay, that is read as the Serial_Number_ONU of this unit, with this
+-- ONU-ID in octet 1
+pub record HearsSerialAfter (port : PortState) (event : Event) (round_trip onu : ℕ) (serial : Serial) : Type 0 where
+  pub bytes : List ℕ
+  pub random : ℕ
+  pub flags : ℕ
+  pub burst : event ≡ Burst round_trip bytes
+  pub read : ReadsUp bytes (mask_value port.config.mask) (SerialNumber onu serial random flags)
 
--- an acquisition begins: the port leaves standby for it
-abbrev pub begins_acquisition : Common → Common → Bool
-begins_acquisition Standby (Acquisition left) = true
-begins_acquisition _ _ = false
+-- the event is such a burst, after any round-trip delay
+abbrev pub HearsSerial : PortState → Event → ℕ → Serial → Type 0
+HearsSerial port event onu serial = (round_trip : ℕ) × HearsSerialAfter port event round_trip onu serial
 
 -- Assign_ONU-ID of this ONU-ID to the serial number that the event tells, of a unit that has no ONU-ID
 abbrev pub OwesAssign : PortState → Event → ℕ → List Down → Type 0
@@ -74,8 +74,8 @@ abbrev pub three_times : List Down → List Down
 three_times [] = []
 three_times (message ∷ messages) = message ∷ message ∷ message ∷ three_times messages
 
--- in every run from an opening the copies sent, and after them those still owed, are the messages that the
--- steps owe, in order, each three times
+-- in every run from an opening, where nothing is owed, the copies sent, and after them those still owed, are the messages
+-- that the steps owe, in order, each three times: SendsWhatWasOwedFirst, below, at an opening
 abbrev pub SendsEachThreeTimes : Type 0
 SendsEachThreeTimes =
     (config : PortConfig) (last : PortState) (entries : List Entry) (messages : List Down)

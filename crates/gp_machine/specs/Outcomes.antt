@@ -14,7 +14,7 @@ pub record Outcome : Type 0 where
   pub purse : ℕ
   pub state : PortState
 
--- the outcome of a function that gives an answer and the licences left, and leaves the port so
+-- a pair of an answer and the licences left, with the state after it, as an outcome (what `PortCore::step` returns)
 abbrev pub outcome_of : Answer × ℕ → PortState → Outcome
 outcome_of given port = record { answer = given.0; purse = given.1; state = port }
 

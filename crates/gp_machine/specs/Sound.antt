@@ -1,5 +1,6 @@
--- What is true of a port in every run. That no two units have one ONU-ID is G.984.3, clause 10, and that two
--- failed ranging attempts are a start-up failure (SUF) is clause 11; the other numbers are this profile's own rule.
+-- What is true of a port in every run. That no two units have one ONU-ID, and that it is 0 to 253, is G.984.3, clauses 9
+-- and 10; SUF after two failed rangings, LOS after four dark polls and LOAM after three garbled ones are clause 11; the
+-- room for copies, the windows, the cycles and the timer are this profile's own rule.
 use Rattle.std.specs.Prelude.{◌≡◌, ℕ, ◌-◌, ◌≤◌, length, Option, None, Some, Contains}
 use Rattle.gp_ploam.specs.declared.message.Serial.{Serial}
 use Rattle.gp_ranging.specs.declared.grant.Grant.{Grant}
@@ -10,7 +11,7 @@ use Rattle.gp_common.specs.declared.common.Common.TheVariants.{Standby, Acquisit
 use Rattle.gp_machine.specs.declared.row.Phase.{Phase}
 use Rattle.gp_machine.specs.declared.row.Phase.TheVariants.{Ranging, Operating}
 use Rattle.gp_machine.specs.declared.row.Row.{Row}
-use Rattle.gp_machine.specs.State.{PortState, Rows, HasRow, Ranges, rows_of}
+use Rattle.gp_machine.specs.State.{PortState, Rows, HasRow, HasOnuId, Ranges, rows_of}
 
 -- a unit's counts, below their limits (this form of the machine leaves them all 0): one failed ranging attempt at
 -- most, three dark polls and two garbled ones
@@ -47,9 +48,9 @@ copies_at_most (Some window) = 189
 -- what each state of each run keeps
 pub record IsSound (port : PortState) : Type 0 where
   -- no two units have one ONU-ID
-  pub apart : (serial other : Serial) (row other_row : Row) → HasRow port.rows serial row → HasRow port.rows other other_row → row.onu ≡ other_row.onu → serial ≡ other
+  pub apart : (serial other : Serial) (onu : ℕ) → HasOnuId port.rows serial onu → HasOnuId port.rows other onu → serial ≡ other
   -- each ONU-ID is 0 to 253
-  pub low : (serial : Serial) (row : Row) → HasRow port.rows serial row → row.onu ≤ 253
+  pub low : (serial : Serial) (onu : ℕ) → HasOnuId port.rows serial onu → onu ≤ 253
   -- each active unit is admitted
   pub admitted : (serial : Serial) (row : Row) → HasRow port.rows serial row → Contains port.config.admitted serial
   -- each unit's counts are in their ranges
@@ -60,7 +61,9 @@ pub record IsSound (port : PortState) : Type 0 where
   pub owed : length port.owed ≤ copies_at_most port.window
   -- the open window asks units in the right phase
   pub asked : IsAsked port.rows port.window
+  -- it has one to three frames left
   pub left : HasFramesLeft port.window
   -- the timer is below the search period, or 0 where that is 0
   pub timed : port.timer ≤ port.config.search_period - 1
+  -- an acquisition has no more search windows left than the configuration gives it
   pub cycled : HasCyclesLeft port.common port.config.cycles

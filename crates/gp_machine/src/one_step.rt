@@ -1,4 +1,6 @@
-ghost use Rattle.gp_machine.specs.OneStep.{IsDetermined, KeepsLicences, KeepsSound};
+ghost use Rattle.gp_machine.specs.OneStep.{EveryEventHasStep, IsDetermined, KeepsLicences, KeepsSound, MayPickAnyFree, RaisesNoAlarm};
+ghost use Rattle.gp_machine.specs.Causes.{RefusalsChangeNothing};
+ghost use Rattle.gp_machine.specs.Windows.{GrantsOpenWindows, WindowsAreGranted, WindowsClose, WindowsStay};
 
 use gp_ploam::up_read_once;
 
@@ -8,6 +10,36 @@ pub fn one_outcome()
 {
     up_read_once();
 }
+
+/// Each event has a step, in every state of a port whose configuration is within its limits.
+pub fn every_event_has_step()
+    ensures { EveryEventHasStep }
+{}
+
+/// An ONU-ID that a step hands out was free, and the step could have handed out any other free one.
+pub fn may_pick_any_free()
+    ensures { MayPickAnyFree }
+{}
+
+/// A step that refuses has the cause that it tells. It sends, grants and raises nothing, hands every
+/// licence back, and changes nothing but that an open window has seen the burst.
+pub fn refusals_change_nothing()
+    ensures { RefusalsChangeNothing }
+{}
+
+/// A window opens with its grant, in a frame before which no window was open and nothing was owed. It
+/// closes with its third frame, or with the burst by which the unit that it asks is ranged.
+pub fn grants_open_windows()
+    ensures opens { GrantsOpenWindows }
+    ensures granted { WindowsAreGranted }
+    ensures closes { WindowsClose }
+    ensures stays { WindowsStay }
+{}
+
+/// No step raises an alarm: this form of the machine has none.
+pub fn raises_no_alarm()
+    ensures { RaisesNoAlarm }
+{}
 
 /// A step from a sound state ends in a sound one.
 pub fn sound_step()

@@ -1,7 +1,7 @@
 ghost use Rattle.gp_machine.specs.Runs.{RunsInParts, EveryStateIsSound, KeepsConfiguration, RunsKeepLicences};
-ghost use Rattle.gp_machine.specs.OnuIds.{NoSharedOnuId, OnlyAdmittedUnits, AtMostMaxUnits, KeepsOnuIds, AssignsWhatUnitsHave, AssignsOneToOne};
+ghost use Rattle.gp_machine.specs.OnuIds.{NoSharedOnuId, OnlyAdmittedUnits, AtMostMaxUnits, KeepsOnuIds, AssignsWhatUnitsHave, AssignsOneToOne, EachUnitIsTold};
 ghost use Rattle.gp_machine.specs.Messages.{EveryRunHasOwedMessages, SendsEachThreeTimes, SendsWhatWasOwedFirst, KeepsProperMessages, SendsOnlyProperMessages};
-ghost use Rattle.gp_machine.specs.Delays.{RangesWithWhatIsLeft, OperatesWithWhatWasMeasured};
+ghost use Rattle.gp_machine.specs.Delays.{EachRangedReplyIsMeasured, OperatesWithWhatWasMeasured};
 ghost use Rattle.gp_machine.specs.Worked.{OneUnit, RepeatedAnswer, PeriodicSearch, DelayLimits};
 
 use super::one_step::{sound_step, step_keeps_licences};
@@ -61,10 +61,17 @@ pub fn sends_each_message_three_times()
     up_read_once();
 }
 
+/// Each unit that is active was sent Assign_ONU-ID with its ONU-ID, or is still owed it.
+pub fn each_unit_is_told()
+    ensures { EachUnitIsTold }
+{
+    sends_each_message_three_times();
+}
+
 /// A unit is ranged with what its round-trip delay leaves of the equalized round-trip delay, and operates
 /// with it after that step; each operating unit was ranged so.
 pub fn ranged_with_what_is_left()
-    ensures ranged { RangesWithWhatIsLeft }
+    ensures ranged { EachRangedReplyIsMeasured }
     ensures operating { OperatesWithWhatWasMeasured }
 {}
 

@@ -1,7 +1,6 @@
 -- ONU-IDs that no row has.
-use Rattle.std.proofs.Common.{◌≡◌, ℕ, zero, suc, ◌+◌, ◌<◌, ◌≤◌, Bool, true, false, eqb, ltb, cond, List, [], ◌∷◌, length, take, get_or, None, Some, ◌⊎◌, inl, inr, refl, sym, ap, subst, ◌∙◌, arith, ◌||◌, eq-eqb}
+use Rattle.std.proofs.Common.{◌≡◌, ℕ, ◌+◌, ◌<◌, Bool, true, false, eqb, List, [], ◌∷◌, length, take, get_or, None, Some, ◌⊎◌, inl, inr, sym, ap, subst, ◌∙◌, arith, ◌||◌, eq-eqb}
 use Rattle.std.proofs.lemmas.Bool.{cases_Bool, false≢true, eqb-true}
-use Rattle.std.proofs.lemmas.Bool.Decides.{nat_tests}
 use Rattle.std.specs.List.{list_any}
 use Rattle.std.proofs.Math.Bool.{or-true, or-false}
 use Rattle.std.proofs.Math.ListN.{set}
@@ -15,59 +14,6 @@ use Rattle.gp_machine.specs.State.{HasRow}
 use Rattle.gp_port.specs.Listed.{IsApart}
 use Rattle.gp_ploam.proofs.Serials.{serials_total, same_serial-true}
 use Rattle.gp_port.proofs.Listing.{Entries, row_at, row_at-head, row_at-tail}
-
--- how many rows have an ONU-ID below n, and how many have n
-abbrev below : ℕ → Entries → ℕ
-below n [] = 0
-below n (e ∷ es) = cond (ltb e.1.onu n) 1 0 + below n es
-
-abbrev at : ℕ → Entries → ℕ
-at n [] = 0
-at n (e ∷ es) = cond (eqb e.1.onu n) 1 0 + at n es
-
-one_more : (k n : ℕ) → cond (ltb k (suc n)) 1 0 ≡ cond (ltb k n) 1 0 + cond (eqb k n) 1 0
-one_more k n = grind (arith, nat_tests)
-
-below-suc : (n : ℕ) (es : Entries) → below (suc n) es ≡ below n es + at n es
-below-suc n [] = refl
-below-suc n (e ∷ es) = let a = one_more e.1.onu n in let b = below-suc n es in omega arith
-
-yes : (b : Bool) → b ≡ true → ◌≡◌ {A = ℕ} (cond b 1 0) 1
-yes true h = refl
-yes false h = absurd (false≢true h)
-
-no : (b : Bool) → b ≡ false → ◌≡◌ {A = ℕ} (cond b 1 0) 0
-no false h = refl
-no true h = absurd (false≢true (sym h))
-
-at_some : (n : ℕ) (es : Entries) → list_any (λ (e : Serial × Row). eqb e.1.onu n) es ≡ true → 1 ≤ at n es
-at_some n [] h = absurd (false≢true h)
-at_some n (e ∷ es) h =
-    elim (cases_Bool (eqb e.1.onu n)) [
-      | inl t ↦ let z = yes (eqb e.1.onu n) t in omega arith
-      | inr f ↦ let r = at_some n es (sym (ap (λ b. b || list_any (λ (e : Serial × Row). eqb e.1.onu n) es) f) ∙ h) in omega arith
-    ]
-
-below-le : (n : ℕ) (es : Entries) → below n es ≤ length es
-below-le n [] = omega arith
-below-le n (e ∷ es) =
-    let b = below-le n es in
-    elim (cases_Bool (ltb e.1.onu n)) [
-      | inl t ↦ let z = yes (ltb e.1.onu n) t in omega arith
-      | inr f ↦ let z = no (ltb e.1.onu n) f in omega arith
-    ]
-
-all_below : (n : ℕ) (es : Entries) → ((k : ℕ) → k < n → list_any (λ (e : Serial × Row). eqb e.1.onu k) es ≡ true) → n ≤ below n es
-all_below zero es h = omega arith
-all_below (suc n) es h =
-    let r = all_below n es (λ k l. h k (omega arith)) in
-    let a = at_some n es (h n (omega arith)) in
-    let b = below-suc n es in
-    omega arith
-
--- fewer rows than numbers leave a number free
-pub too_few : (n : ℕ) (es : Entries) → ((k : ℕ) → k < n → list_any (λ (e : Serial × Row). eqb e.1.onu k) es ≡ true) → n ≤ length es
-too_few n es h = let a = all_below n es h in let b = below-le n es in omega arith
 
 -- one more row is marked
 pub marked_more : (used : List Bool) (rows : Entries) (i : ℕ) (d : Serial × Row) → length used ≡ 256 → i < length rows → (get_or rows i d).1.onu < 256

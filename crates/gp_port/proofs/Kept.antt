@@ -98,8 +98,8 @@ pub burst_sends_nothing : (u : ℕ) (p : PortState) (at : ℕ) (heard : Option U
 burst_sends_nothing u p at heard n =
     of_each_burst (λ (o : Outcome). o.answer.sent ≡ None) u p at heard n
     (record {
-      stray = refl;
-      refused = λ refusal. refl;
+      stray = λ shut. refl;
+      refused = λ refusal cause. refl;
       found = λ s from joins. refl;
       repeated = λ s row has. refl;
       again = λ s row from has room. refl;

@@ -9,3 +9,4 @@ pub use Rattle.gp_machine.specs.Step
 pub use Rattle.gp_machine.specs.Run
 pub mod Listed
 pub mod Core
+pub mod HandsOut

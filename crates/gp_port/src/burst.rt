@@ -8,8 +8,9 @@ ghost use Rattle.gp_machine.specs.Outcomes as spec;
 ghost use Rattle.gp_machine.specs.Outcomes.{outcome_of, refused_burst, state_seen};
 ghost use Rattle.gp_machine.specs.Burst.{active_outcome, again_outcome, asked_outcome, burst_outcome, measured_outcome, newcomer_outcome, range_outcome, search_outcome, serial_outcome, state_assigned, state_ranged};
 ghost use Rattle.gp_machine.specs.declared.event.Event.TheVariants as event;
-ghost use Rattle.gp_machine.specs.Step.{HandsOutFree, Step, onu_id_in};
+ghost use Rattle.gp_machine.specs.Step.{Step};
 ghost use Rattle.gp_port.specs.Core.{AsksNoUnit};
+ghost use Rattle.gp_port.specs.HandsOut.{HandsOutFree, onu_id_in};
 
 use super::copies::{COPIES, MOST_COPIES};
 use super::port_core::PortCore;

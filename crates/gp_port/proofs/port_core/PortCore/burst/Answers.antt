@@ -1,6 +1,6 @@
 use Rattle.std.proofs.Common.{ap, ◌∙◌}
 use Rattle.gp_machine.specs.Outcomes.{Outcome}
-use Rattle.gp_machine.specs.Step.{onu_id_in}
+use Rattle.gp_port.specs.HandsOut.{onu_id_in}
 use Rattle.gp_port.proofs.Kept.{burst_sends_nothing}
 use Rattle.gp_port.proofs.port_core.PortCore.burst.Goals as goal
 

@@ -1,0 +1,133 @@
+-- Why a burst or a command is refused, and what a refusal leaves (this profile's own rule). Of the causes of one burst
+-- the first in the order Stray, Garbled, WrongWindow, NotAdmitted, NoId, NoLicence, Busy is told: each cause says that
+-- the burst came as far as it.
+use Rattle.std.specs.Prelude.{◌≡◌, ◌≢◌, ℕ, ◌+◌, ◌<◌, ◌≤◌, true, ◌⊎◌, length, Option, None, Some, Contains}
+use Rattle.gp_ploam.specs.declared.message.Serial.{Serial}
+use Rattle.gp_ploam.specs.declared.message.Down.TheVariants.{AssignOnu}
+use Rattle.gp_ploam.specs.declared.message.Up.{Up}
+use Rattle.gp_ploam.specs.declared.message.Up.TheVariants.{SerialNumber}
+use Rattle.gp_ploam.specs.Mask.{mask_value}
+use Rattle.gp_ploam.specs.Up.{octet1_of}
+use Rattle.gp_ranging.specs.declared.grant.Grant.{Grant}
+use Rattle.gp_ranging.specs.declared.grant.Grant.TheVariants.{Search, Range, Poll}
+use Rattle.gp_ranging.specs.Window.{WindowState}
+use Rattle.gp_common.specs.declared.common.Common.TheVariants.{Acquisition}
+use Rattle.gp_machine.specs.declared.event.Event.{Event}
+use Rattle.gp_machine.specs.declared.event.Event.TheVariants as event
+use Rattle.gp_machine.specs.declared.event.Command.{Command}
+use Rattle.gp_machine.specs.declared.event.Command.TheVariants as command
+use Rattle.gp_machine.specs.declared.refusal.Refusal.{Refusal}
+use Rattle.gp_machine.specs.declared.refusal.Refusal.TheVariants.{Stray, Garbled, WrongWindow, NotAdmitted, NoId, NoLicence, Busy, AlreadySearching}
+use Rattle.gp_machine.specs.declared.reply.Reply.TheVariants.{Refused}
+use Rattle.gp_machine.specs.declared.row.Phase.TheVariants.{Operating}
+use Rattle.gp_machine.specs.declared.row.Row.{Row}
+use Rattle.gp_machine.specs.State.{PortState, Rows, HasRow, HasOnuId, IsRanging, AsksFor, rows_of}
+use Rattle.gp_machine.specs.Outcomes.{Outcome}
+use Rattle.gp_machine.specs.Step.{Step, Hears}
+
+-- ---- what a burst may be
+
+-- the unit with this serial number operates
+abbrev pub IsOperating : Rows → Serial → Type 0
+IsOperating rows serial = (row : Row) × (eqd : ℕ) × (dark : ℕ) × (garbled : ℕ) × HasRow rows serial row × (row.phase ≡ Operating eqd dark garbled)
+
+-- in an open search window a unit without an ONU-ID (octet 1 is 255) is heard to have this serial number
+pub record IsHeardInSearch (port : PortState) (heard : Option Up) (serial : Serial) : Type 0 where
+  pub random : ℕ
+  pub flags : ℕ
+  pub asked : AsksFor port.window Search
+  pub read : heard ≡ Some (SerialNumber 255 serial random flags)
+
+-- the unit that is heard in a search window is admitted, and not active
+pub record IsNewcomer (port : PortState) (heard : Option Up) (serial : Serial) : Type 0 where
+  pub searched : IsHeardInSearch port heard serial
+  pub admitted : Contains port.config.admitted serial
+  pub inactive : (row : Row) → HasRow port.rows serial row → ⊥
+
+-- the burst is to be answered by a message
+pub data AsksForMessage (licences : ℕ) (port : PortState) (round_trip : ℕ) (heard : Option Up) : Type 0 where
+  -- by Assign_ONU-ID: of a new unit, for which there are room and a licence
+  assign : (serial : Serial) → IsNewcomer port heard serial → rows_of port < port.config.max_units → 0 < licences → AsksForMessage licences port round_trip heard
+  -- by Assign_ONU-ID again: of a ranging unit, to which none is owed any more
+  again : (serial : Serial) (row : Row)
+      → IsHeardInSearch port heard serial
+      → HasRow port.rows serial row
+      → IsRanging row.phase
+      → (Contains port.owed (AssignOnu row.onu serial) → ⊥)
+      → AsksForMessage licences port round_trip heard
+  -- by Ranging_Time: of the unit that the open window asks for its round-trip delay, which is not too long
+  range : (serial : Serial) (onu random flags : ℕ)
+      → AsksFor port.window (Range onu)
+      → heard ≡ Some (SerialNumber onu serial random flags)
+      → HasOnuId port.rows serial onu
+      → round_trip ≤ port.config.teqd
+      → AsksForMessage licences port round_trip heard
+
+-- the message is no answer to this grant
+abbrev pub IsNoAnswer : PortState → Grant → Up → Type 0
+-- a search window asks the units without an ONU-ID for their serial numbers; an admitted unit that operates has one
+IsNoAnswer port Search (SerialNumber octet1 serial random flags) = (octet1 ≢ 255) ⊎ (Contains port.config.admitted serial × IsOperating port.rows serial)
+IsNoAnswer port Search message = Unit {0}
+-- a ranging window asks one unit, by its ONU-ID
+IsNoAnswer port (Range onu) (SerialNumber octet1 serial random flags) = (octet1 ≢ onu) ⊎ (HasOnuId port.rows serial onu → ⊥)
+IsNoAnswer port (Range onu) message = octet1_of message ≢ onu
+-- no poll window opens in this form of the machine
+IsNoAnswer port (Poll onu) message = Unit {0}
+
+-- ---- the causes
+
+-- why a burst after this round-trip delay, which is read so, is refused
+abbrev pub IsBurstCause : ℕ → PortState → ℕ → Option Up → Refusal → Type 0
+-- no window is open
+IsBurstCause licences port round_trip heard Stray = port.window ≡ None
+-- a window is open, and the octets have not the right check octet
+IsBurstCause licences port round_trip heard Garbled = (grant : Grant) × AsksFor port.window grant × (heard ≡ None)
+-- a message is heard that is no answer to what the window asks
+IsBurstCause licences port round_trip heard WrongWindow = (grant : Grant) × (message : Up) × AsksFor port.window grant × (heard ≡ Some message) × IsNoAnswer port grant message
+-- in a search window a unit is heard that is not admitted
+IsBurstCause licences port round_trip heard NotAdmitted = (serial : Serial) × IsHeardInSearch port heard serial × (Contains port.config.admitted serial → ⊥)
+-- a new unit is heard, and as many units are active as may be
+IsBurstCause licences port round_trip heard NoId = (serial : Serial) × IsNewcomer port heard serial × (port.config.max_units ≤ rows_of port)
+-- a new unit is heard, there is room for it, and no licence is at hand
+IsBurstCause licences port round_trip heard NoLicence =
+    (serial : Serial) × IsNewcomer port heard serial × (rows_of port < port.config.max_units) × (licences ≡ 0)
+-- a message would be owed, and with its three copies more than 189 would be
+IsBurstCause licences port round_trip heard Busy = AsksForMessage licences port round_trip heard × (189 < length port.owed + 3)
+-- no burst asks for a search
+IsBurstCause licences port round_trip heard AlreadySearching = ⊥
+
+-- why a command is refused: a search is wanted already, or an acquisition goes on
+abbrev pub IsCommandCause : PortState → Command → Refusal → Type 0
+IsCommandCause port command.Search AlreadySearching = (port.wanted ≡ true) ⊎ ((left : ℕ) × (port.common ≡ Acquisition left))
+IsCommandCause port command.Search refusal = ⊥
+
+-- why an event is refused; a frame never is
+abbrev pub IsCause : ℕ → PortState → Event → Refusal → Type 0
+IsCause licences port event.Frame refusal = ⊥
+IsCause licences port (event.Burst round_trip bytes) refusal =
+    (heard : Option Up) × Hears (mask_value port.config.mask) bytes heard × IsBurstCause licences port round_trip heard refusal
+IsCause licences port (event.Command asked) refusal = IsCommandCause port asked refusal
+
+-- ---- what a refusal leaves
+
+-- the window after an event that is refused: one that is open has seen a burst
+abbrev pub window_refused : Event → Option WindowState → Option WindowState
+window_refused (event.Burst round_trip bytes) (Some window) = Some (record window { seen = true })
+window_refused _ window = window
+
+-- nothing is sent, granted or raised, each licence is handed back, and nothing changes but that an open window has seen
+-- the burst
+pub record ChangesNothing (licences : ℕ) (port : PortState) (event : Event) (outcome : Outcome) : Type 0 where
+  pub sent : outcome.answer.sent ≡ None
+  pub grant : outcome.answer.grant ≡ None
+  pub alarm : outcome.answer.alarm ≡ None
+  pub handed_back : outcome.purse ≡ licences
+  pub state : outcome.state ≡ record port { window = window_refused event port.window }
+
+-- a step that refuses has the cause that it tells, and changes nothing
+abbrev pub RefusalsChangeNothing : Type 0
+RefusalsChangeNothing =
+    (licences : ℕ) (port : PortState) (event : Event) (outcome : Outcome) (refusal : Refusal)
+    → Step licences port event outcome
+    → outcome.answer.reply ≡ Refused refusal
+    → IsCause licences port event refusal × ChangesNothing licences port event outcome
