@@ -1,20 +1,23 @@
 //! `oltctl`: plays a script and writes its trace, and says in words which message a code is.
 #![tactic(auto)]
 
-mod words;
+mod command_line;
+mod request;
 
+use clap::Error;
 use clap::error::ErrorKind;
-use clap::{ArgMatches, Error};
 use gp_decode::{LineFault, decode_line, line_report};
+use gp_ploam::Mask;
 use gp_replay::{RunFault, run_replay, run_report};
 use gp_stream::{Sink, Source, memory_report, write_report};
+use request::{Request, request_of};
 use std::io;
 use std::io::Read;
 use std::process::ExitCode;
 use std::rt::{Env, Files};
 
 /// The exit status for a command line that is none of this program's.
-const BAD_WORDS: u8 = 2;
+const BAD_ARGUMENTS: u8 = 2;
 
 /// Says on standard error what went wrong, and answers the exit status, which says it too where
 /// standard error takes nothing.
@@ -47,29 +50,31 @@ fn replay<R: AllocGlobal + Files + Print + Input>(
 }
 
 /// Says which message a code is, on standard output.
-fn decode<R: AllocGlobal + Print>(rt: &R, found: &ArgMatches<'_>) -> Result<(), LineFault> {
-    let Some(code) = found.get_str("code") else {
-        return Err(LineFault::Length);
-    };
-    let Ok(mut sink) = Sink::new(rt.alloc(), io::writer(rt)) else {
-        return Err(LineFault::OutOfMemory);
-    };
-    let mask = words::mask_of(found.get_str("mask"));
-    decode_line(rt.alloc(), code, found.get_flag("up"), mask, &mut sink)
+fn decode<R: AllocGlobal + Print>(
+    rt: &R,
+    code: &str,
+    upstream: bool,
+    mask: Mask,
+) -> Result<(), LineFault> {
+    let mut sink = Sink::new(rt.alloc(), io::writer(rt))?;
+    decode_line(rt.alloc(), code, upstream, mask, &mut sink)
 }
 
-/// Does what a command line asks for, and answers the exit status.
-fn obey<R: AllocGlobal + Files + Print + Eprint + Input>(rt: &R, matches: &ArgMatches<'_>) -> u8 {
-    match matches.subcommand() {
-        Some(("replay", found)) => match replay(rt, found.get_str("file")) {
+/// Does what is asked for, and answers the exit status.
+fn serve<R: AllocGlobal + Files + Print + Eprint + Input>(rt: &R, request: Request<'_>) -> u8 {
+    match request {
+        Request::Replay { file } => match replay(rt, file) {
             Ok(()) => 0,
             Err(fault) => report(rt, run_report(&fault)),
         },
-        Some(("decode", found)) => match decode(rt, found) {
+        Request::Decode {
+            code,
+            upstream,
+            mask,
+        } => match decode(rt, code, upstream, mask) {
             Ok(()) => 0,
             Err(fault) => report(rt, line_report(&fault)),
         },
-        _ => BAD_WORDS,
     }
 }
 
@@ -80,34 +85,37 @@ fn explain<R: Print + Eprint>(rt: &R, error: &Error) -> u8 {
         return report(rt, memory_report());
     }
     match error.print(rt) {
-        _ if error.use_stderr() => BAD_WORDS,
+        _ if error.use_stderr() => BAD_ARGUMENTS,
         Ok(()) => 0,
         Err(_) => report(rt, write_report()),
     }
 }
 
-/// The words of the command line.
-fn words_of<R: AllocGlobal + Env>(rt: &R) -> io::Result<Vec<String>> {
+/// The command line, whose first word is the program's name.
+fn arguments_of<R: AllocGlobal + Env>(rt: &R) -> io::Result<Vec<String>> {
     Ok(std::env::args(rt)?.collect(rt.alloc())?)
 }
 
-/// The line on standard error and the exit status where the words were not read: for want of memory,
-/// or since one of them is no UTF-8.
-fn words_report(error: &io::Error) -> (&'static str, u8) {
+/// The line on standard error and the exit status where the command line was not read: for want of
+/// memory, or since one of its words is no UTF-8.
+fn arguments_report(error: &io::Error) -> (&'static str, u8) {
     match error.kind() {
         io::ErrorKind::OutOfMemory => memory_report(),
-        _ => ("oltctl: arguments", BAD_WORDS),
+        _ => ("oltctl: arguments", BAD_ARGUMENTS),
     }
 }
 
 /// Runs the command line, and answers the exit status.
 fn run<R: AllocGlobal + Env + Files + Print + Eprint + Input>(rt: &R) -> u8 {
-    let words = match words_of(rt) {
-        Ok(words) => words,
-        Err(error) => return report(rt, words_report(&error)),
+    let arguments = match arguments_of(rt) {
+        Ok(arguments) => arguments,
+        Err(error) => return report(rt, arguments_report(&error)),
     };
-    match words::parse(rt.alloc(), words.as_slice()) {
-        Ok(matches) => obey(rt, &matches),
+    match command_line::parse(rt.alloc(), arguments.as_slice()) {
+        Ok(matches) => match request_of(&matches) {
+            Some(request) => serve(rt, request),
+            None => BAD_ARGUMENTS,
+        },
         Err(error) => explain(rt, &error),
     }
 }

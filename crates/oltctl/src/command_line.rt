@@ -1,13 +1,12 @@
-//! The words of the command line.
-ghost use Rattle.std.specs.Prelude.{◌≡◌, ◌≢◌, IfErr, IfOk, false, map, option_map};
+//! The command line.
+ghost use Rattle.std.specs.Prelude.{◌≡◌, ◌≢◌, IfErr, IfOk, false, map};
 ghost use Rattle.clap.specs.Words.{app_of, kind_of, rule_of};
 ghost use Rattle.clap.specs.declared.builder.command.Command.TheViews.{out-Command as fields_of};
-ghost use Rattle.oltctl.specs.CommandLine.{AreMasks, IsFaultOf, IsParseOf, MaskNames, code_rule, decode_command, file_rule, mask_named, mask_rule, oltctl_command, replay_command, up_rule};
+ghost use Rattle.oltctl.specs.CommandLine.{AreMasks, IsFaultOf, IsParseOf, MaskNames, code_rule, decode_command, file_rule, mask_rule, oltctl_command, replay_command, up_rule};
 ghost use Rattle.std.specs.String.{string_bytes};
 
 use clap::error::ErrorKind;
 use clap::{Arg, ArgAction, ArgMatches, Command, Error};
-use gp_ploam::Mask;
 use std::alloc::{AllocError, Global};
 
 /// The masks that a code may be read with.
@@ -93,14 +92,4 @@ pub fn parse<'a>(alloc: Global, words: &'a [String]) -> Result<ArgMatches<'a>, E
     ensures fault { IfErr result (λ e. kind_of e ≢ ErrorKind.OutOfMemory → IsFaultOf (map string_bytes words.now) (kind_of e)) }
 {
     command(alloc)?.try_get_matches_from(words)
-}
-
-/// The mask that a value of `--mask` names, and the plain one where there is none.
-pub fn mask_of(name: Option<&str>) -> Mask
-    ensures { result ≡ mask_named (option_map (λ n. n.now) name.entry) }
-{
-    match name {
-        Some("85") => Mask::Coset,
-        _ => Mask::Plain,
-    }
 }

@@ -4,7 +4,7 @@ use Rattle.clap.specs.Words.{App, FailsBy, HasMatchesOf, Text, fault_of, is_simp
 use Rattle.clap.specs.declared.error.Error.{Error}
 use Rattle.clap.specs.declared.parser.matches.ArgMatches.{ArgMatches}
 use Rattle.oltctl.specs.CommandLine.{AreMasks, IsParseOf, MaskNames, oltctl_command}
-use Rattle.oltctl.proofs.words.parse.Goals as goal
+use Rattle.oltctl.proofs.command_line.parse.Goals as goal
 
 -- the command line uses no setting of clap's that its definition leaves out
 is_plain : (names : MaskNames) → is_simple (oltctl_command names) ≡ true

@@ -1,0 +1,34 @@
+-- What a parsed command line asks for (this profile's own rule).
+use Rattle.std.specs.Prelude.{◌≡◌, ◌≢◌, List, Bool, true, false, Option, None, Some, option_map, codes}
+use Rattle.clap.specs.Words.{Row, Text, first_of, one_of}
+use Rattle.oltctl.specs.CommandLine.{mask_named}
+use Rattle.oltctl.specs.declared.request.Request.{Request}
+use Rattle.oltctl.specs.declared.request.Request.TheVariants.{Replay, Decode}
+
+-- a flag is up or not, as its text says, and not where it has none
+pub record IsFlag (rows : List Row) (id : Text) (is_up : Bool) : Type 0 where
+  pub none : one_of id rows ≡ None → is_up ≡ false
+  pub yes : one_of id rows ≡ Some (codes "true") → is_up ≡ true
+  pub no : one_of id rows ≡ Some (codes "false") → is_up ≡ false
+
+-- the rows of `replay` ask to play FILE, or standard input where it is left out
+abbrev pub AsksToReplay : List Row → Request → Type 0
+AsksToReplay rows (Replay file) = option_map (λ name. name.now) file ≡ first_of (codes "file") rows
+AsksToReplay rows (Decode code upstream mask) = ⊥
+
+-- the rows of `decode` ask for the words of HEX, as an upstream message with `--up`, under the mask of `--mask`
+abbrev pub AsksToDecode : List Row → Request → Type 0
+AsksToDecode rows (Replay file) = ⊥
+AsksToDecode rows (Decode code upstream mask) =
+    (first_of (codes "code") rows ≡ Some code.now) × IsFlag rows (codes "up") upstream × (mask ≡ mask_named (first_of (codes "mask") rows))
+
+-- the subcommand that was parsed, with its rows, asks for this
+abbrev pub Asks : Option (Text × List Row) → Request → Type 0
+Asks None request = ⊥
+Asks (Some (name, rows)) (Replay file) = (name ≡ codes "replay") × AsksToReplay rows (Replay file)
+Asks (Some (name, rows)) (Decode code upstream mask) = (name ≡ codes "decode") × AsksToDecode rows (Decode code upstream mask)
+
+-- it asks for nothing that is known: there is none, or another one, or one that has no code to decode
+abbrev pub AsksNothing : Option (Text × List Row) → Type 0
+AsksNothing None = Unit {0}
+AsksNothing (Some (name, rows)) = (name ≢ codes "replay") × (name ≡ codes "decode" → first_of (codes "code") rows ≡ None)

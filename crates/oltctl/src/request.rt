@@ -1,0 +1,67 @@
+//! What a command line asks for.
+ghost use Rattle.std.specs.Prelude.{◌≡◌, IfSome, IfNone, None, codes, option_map};
+ghost use Rattle.clap.specs.Words.{first_of, found_of, rows_of, subcommand_rows_of};
+ghost use Rattle.oltctl.specs.CommandLine.{mask_named};
+ghost use Rattle.oltctl.specs.Requests.{Asks, AsksNothing, AsksToDecode, AsksToReplay};
+
+use clap::ArgMatches;
+use gp_ploam::Mask;
+
+/// What the program is to do.
+#[derive(Clone, Copy)]
+pub enum Request<'a> {
+    /// Play the script of this file, or of standard input.
+    Replay {
+        file: Option<&'a str>,
+    },
+    /// Say which message this code is, in hexadecimal digits: one of a unit where `upstream`, else one of the
+    /// line terminal.
+    Decode {
+        code: &'a str,
+        upstream: bool,
+        mask: Mask,
+    },
+}
+
+/// What the subcommand of a parsed command line asks for; None where it has none that is known, or no code.
+pub fn request_of<'a>(matches: &ArgMatches<'a>) -> Option<Request<'a>>
+    ensures asks { IfSome result (Asks (subcommand_rows_of matches.now)) }
+    ensures nothing { IfNone result (AsksNothing (subcommand_rows_of matches.now)) }
+{
+    match matches.subcommand()? {
+        ("replay", found) => Some(replay_of(found)),
+        ("decode", found) => decode_of(found),
+        _ => None,
+    }
+}
+
+#[tactic(auto, using(crate::proofs::Rows::value_by_rows))]
+fn replay_of<'a>(found: &ArgMatches<'a>) -> Request<'a>
+    ensures { AsksToReplay (rows_of (found_of found.now)) result }
+{
+    Request::Replay {
+        file: found.get_str("file"),
+    }
+}
+
+#[tactic(auto, using(crate::proofs::Rows::value_by_rows, crate::proofs::Rows::flag_by_rows))]
+fn decode_of<'a>(found: &ArgMatches<'a>) -> Option<Request<'a>>
+    ensures asks { IfSome result (AsksToDecode (rows_of (found_of found.now))) }
+    ensures nothing { IfNone result (first_of (codes "code") (rows_of (found_of found.now)) ≡ None) }
+{
+    Some(Request::Decode {
+        code: found.get_str("code")?,
+        upstream: found.get_flag("up"),
+        mask: mask_of(found.get_str("mask")),
+    })
+}
+
+/// The mask that a value of `--mask` names, and the plain one where there is none.
+fn mask_of(name: Option<&str>) -> Mask
+    ensures { result ≡ mask_named (option_map (λ n. n.now) name.entry) }
+{
+    match name {
+        Some("85") => Mask::Coset,
+        _ => Mask::Plain,
+    }
+}
