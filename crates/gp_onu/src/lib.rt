@@ -1,12 +1,12 @@
 //! A simulated unit: the states O1 to O7 of an ONU (G.984.3, clause 10), and what it hears and answers.
 #![tactic(auto)]
 
-mod law;
+mod laws;
 mod stage;
 mod state;
 mod unit;
 
-pub use law::heard_twice;
+pub use laws::heard_twice;
 pub use state::State;
 pub use unit::Unit;
 

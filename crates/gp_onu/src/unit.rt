@@ -12,7 +12,7 @@ ghost use Rattle.gp_onu.specs.Table.{Dark, Frame, Granted, Hears, Light, answer_
 
 use super::stage::Stage;
 use super::state::State;
-use gp_ploam::{Down, Mask, Serial, Up, decode_down, encode_up};
+use gp_ploam::{ASSIGN_ALLOC_ID, BROADCAST_ONU, Down, Mask, Serial, Up, decode_down, encode_up};
 use gp_ranging::Grant;
 use std::marker::Model;
 
@@ -22,14 +22,8 @@ const ACTIVATION_FRAMES: u32 = 80_000;
 /// How many frames of 125 microseconds O6 lasts: the timer TO2, 100 milliseconds (G.984.3, clause 10).
 const POPUP_FRAMES: u32 = 800;
 
-/// What stands in place of an ONU-ID in a message for every unit, and in one of a unit that has none.
-const NO_ONU: u8 = 255;
-
 /// The greatest ONU-ID.
 const GREATEST_ONU: u8 = 253;
-
-/// The identifier of an Alloc-ID assignment.
-const ASSIGN_ALLOC: u8 = 10;
 
 /// A simulated unit.
 #[derive(Debug, Drop)]
@@ -119,29 +113,13 @@ impl Unit {
     pub fn frame(&mut self)
         ensures { self.new ≡ unit_after self.old Frame }
     {
-        self.stage = match self.stage {
-            Stage::Initial if self.lit => Stage::Standby,
-            Stage::SerialNumber { frames } if frames + 1 < ACTIVATION_FRAMES => {
-                Stage::SerialNumber { frames: frames + 1 }
+        self.stage = if self.ends_in() == Some(1) {
+            match self.stage {
+                Stage::Popup { .. } => Stage::Initial,
+                _ => Stage::Standby,
             }
-            Stage::Ranging { onu, frames } if frames + 1 < ACTIVATION_FRAMES => Stage::Ranging {
-                onu,
-                frames: frames + 1,
-            },
-            Stage::SerialNumber { .. } | Stage::Ranging { .. } => Stage::Standby,
-            Stage::Popup {
-                onu,
-                eqd,
-                owed,
-                frames,
-            } if frames + 1 < POPUP_FRAMES => Stage::Popup {
-                onu,
-                eqd,
-                owed,
-                frames: frames + 1,
-            },
-            Stage::Popup { .. } => Stage::Initial,
-            other => other,
+        } else {
+            self.stage.with_more_frames(1)
         };
     }
 
@@ -178,30 +156,30 @@ impl Unit {
             return;
         }
         if let Ok(message) = decode_down(code, self.mask) {
-            self.heed(message, code);
+            self.handle(message, code);
         }
     }
 
-    fn heed(&mut self, message: Down, code: &[u8; 13])
+    fn handle(&mut self, message: Down, code: &[u8; 13])
         requires { IsTrue self.old.lit }
         ensures { self.new ≡ unit_after self.old (Hears code.now message) }
     {
         match message {
-            Down::UpstreamOverhead { .. } => self.heed_overhead(),
-            Down::AssignOnu { onu, serial } => self.heed_assignment(onu, &serial),
-            Down::RangingTime { onu, eqd } => self.heed_ranging_time(onu, eqd),
-            Down::Deactivate { onu } => self.heed_deactivation(onu),
-            Down::DisableSerial { serial } => self.heed_disabling(&serial),
-            Down::EnableSerial { serial } => self.heed_enabling(&serial),
-            Down::EnableAll => self.heed_enabling_of_all(),
-            Down::AssignAlloc { onu, .. } => self.heed_alloc(onu, front_of(code)),
-            Down::Popup { onu } => self.heed_popup(onu),
+            Down::UpstreamOverhead { .. } => self.handle_overhead(),
+            Down::AssignOnu { onu, serial } => self.handle_assignment(onu, &serial),
+            Down::RangingTime { onu, eqd } => self.handle_ranging_time(onu, eqd),
+            Down::Deactivate { onu } => self.handle_deactivation(onu),
+            Down::DisableSerial { serial } => self.handle_disabling(&serial),
+            Down::EnableSerial { serial } => self.handle_enabling(&serial),
+            Down::EnableAll => self.handle_enabling_of_all(),
+            Down::AssignAlloc { onu, .. } => self.handle_alloc(onu, front_of(code)),
+            Down::Popup { onu } => self.handle_popup(onu),
             Down::NoMessage => {}
             Down::Other { .. } => {}
         }
     }
 
-    fn heed_overhead(&mut self)
+    fn handle_overhead(&mut self)
         requires { IsTrue self.old.lit }
         ensures { (code burst : List ℕ) → self.new ≡ unit_after self.old (Hears code (Down.UpstreamOverhead burst)) }
     {
@@ -210,18 +188,19 @@ impl Unit {
         }
     }
 
-    fn heed_assignment(&mut self, onu: u8, serial: &Serial)
+    fn handle_assignment(&mut self, onu: u8, serial: &Serial)
         requires { IsTrue self.old.lit }
         ensures { (code : List ℕ) → self.new ≡ unit_after self.old (Hears code (Down.AssignOnu onu serial.now)) }
     {
-        if let Stage::SerialNumber { frames } = self.stage {
-            if *serial == self.serial && onu <= GREATEST_ONU {
+        match self.stage {
+            Stage::SerialNumber { frames } if *serial == self.serial && onu <= GREATEST_ONU => {
                 self.stage = Stage::Ranging { onu, frames };
             }
+            _ => {}
         }
     }
 
-    fn heed_ranging_time(&mut self, onu: u8, eqd: u32)
+    fn handle_ranging_time(&mut self, onu: u8, eqd: u32)
         requires { IsTrue self.old.lit }
         ensures { (code : List ℕ) → self.new ≡ unit_after self.old (Hears code (Down.RangingTime onu eqd)) }
     {
@@ -240,43 +219,38 @@ impl Unit {
         }
     }
 
-    fn heed_deactivation(&mut self, onu: u8)
+    fn handle_deactivation(&mut self, onu: u8)
         requires { IsTrue self.old.lit }
         ensures { (code : List ℕ) → self.new ≡ unit_after self.old (Hears code (Down.Deactivate onu)) }
     {
-        if let Some(own) = self.stage.number() {
-            if onu == own || onu == NO_ONU {
-                self.stage = Stage::Standby;
-            }
+        match self.stage.number() {
+            Some(own) if onu == own || onu == BROADCAST_ONU => self.stage = Stage::Standby,
+            _ => {}
         }
     }
 
-    fn heed_disabling(&mut self, serial: &Serial)
+    fn handle_disabling(&mut self, serial: &Serial)
         requires { IsTrue self.old.lit }
         ensures { (code : List ℕ) → self.new ≡ unit_after self.old (Hears code (Down.DisableSerial serial.now)) }
     {
         match self.stage {
-            Stage::Initial | Stage::EmergencyStop => {}
-            _ => {
-                if *serial == self.serial {
-                    self.stage = Stage::EmergencyStop;
-                }
-            }
+            Stage::Initial => {}
+            _ if *serial == self.serial => self.stage = Stage::EmergencyStop,
+            _ => {}
         }
     }
 
-    fn heed_enabling(&mut self, serial: &Serial)
+    fn handle_enabling(&mut self, serial: &Serial)
         requires { IsTrue self.old.lit }
         ensures { (code : List ℕ) → self.new ≡ unit_after self.old (Hears code (Down.EnableSerial serial.now)) }
     {
-        if let Stage::EmergencyStop = self.stage {
-            if *serial == self.serial {
-                self.stage = Stage::Standby;
-            }
+        match self.stage {
+            Stage::EmergencyStop if *serial == self.serial => self.stage = Stage::Standby,
+            _ => {}
         }
     }
 
-    fn heed_enabling_of_all(&mut self)
+    fn handle_enabling_of_all(&mut self)
         requires { IsTrue self.old.lit }
         ensures { (code : List ℕ) → self.new ≡ unit_after self.old (Hears code Down.EnableAll) }
     {
@@ -285,7 +259,7 @@ impl Unit {
         }
     }
 
-    fn heed_alloc(&mut self, onu: u8, front: [u8; 9])
+    fn handle_alloc(&mut self, onu: u8, front: [u8; 9])
         requires { IsTrue self.old.lit }
         ensures { (code : List ℕ) (alloc : ℕ) (keep : Bool) → front ≡ take 9 code → self.new ≡ unit_after self.old (Hears code (Down.AssignAlloc onu alloc keep)) }
     {
@@ -301,30 +275,31 @@ impl Unit {
         }
     }
 
-    fn heed_popup(&mut self, onu: u8)
+    fn handle_popup(&mut self, onu: u8)
         requires { IsTrue self.old.lit }
         ensures { (code : List ℕ) → self.new ≡ unit_after self.old (Hears code (Down.Popup onu)) }
     {
-        if let Stage::Popup {
-            onu: own,
-            eqd,
-            owed,
-            ..
-        } = self.stage
-        {
-            if onu == own {
+        match self.stage {
+            Stage::Popup {
+                onu: own,
+                eqd,
+                owed,
+                ..
+            } if own == onu => {
                 self.stage = Stage::Operation { onu, eqd, owed };
-            } else if onu == NO_ONU {
+            }
+            Stage::Popup { onu: own, .. } if onu == BROADCAST_ONU => {
                 self.stage = Stage::Ranging {
                     onu: own,
                     frames: 0,
                 };
             }
+            _ => {}
         }
     }
 
-    /// The code of the unit's answer to a grant, if it answers. `random` is its random delay under a serial number
-    /// request, in units of 32 bytes.
+    /// The code of the unit's answer to a grant, if it answers. `random`, 0 to 4095, is its random delay under a
+    /// serial number request, in units of 32 bytes; other grants don't look at it.
     pub fn grant(&mut self, grant: Grant, random: u16) -> Option<[u8; 13]>
         requires { random ≤ 4095 }
         ensures answer { result ≡ option_map (λ m. code_of_up m (mask_value self.old.mask)) (answer_to self.old (Granted grant random)) }
@@ -360,7 +335,7 @@ impl Unit {
     {
         match self.stage {
             Stage::SerialNumber { .. } => Some(Up::SerialNumber {
-                onu: NO_ONU,
+                onu: BROADCAST_ONU,
                 serial: self.serial,
                 random,
                 flags: 0,
@@ -409,7 +384,7 @@ impl Unit {
                     None => Some(Up::NoMessage { onu }),
                     Some(copy) => Some(Up::Acknowledge {
                         onu,
-                        id: ASSIGN_ALLOC,
+                        id: ASSIGN_ALLOC_ID,
                         copy,
                     }),
                 }
@@ -423,7 +398,7 @@ impl Unit {
 fn front_of(code: &[u8; 13]) -> [u8; 9]
     ensures { result ≡ take 9 code.now }
 {
-    [
-        code[0], code[1], code[2], code[3], code[4], code[5], code[6], code[7], code[8],
-    ]
+    let mut front = [0; 9];
+    front.copy_from_slice(&code[..9]);
+    front
 }

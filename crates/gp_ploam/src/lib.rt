@@ -4,6 +4,7 @@
 
 mod check;
 mod down;
+mod identifier;
 mod message;
 mod octets;
 #[cfg(test)]
@@ -12,5 +13,6 @@ mod up;
 
 pub use check::{Mask, crc};
 pub use down::{decode_down, down_read_once, down_round_trip, encode_down, is_proper};
-pub use message::{Down, PloamFault, Serial, Up};
+pub use identifier::down::ASSIGN_ALLOC_ID;
+pub use message::{BROADCAST_ONU, Down, PloamFault, Serial, Up};
 pub use up::{decode_up, encode_up, is_proper_up, up_read_once, up_round_trip};

@@ -1,12 +1,13 @@
-ghost use Rattle.std.specs.Prelude.{◌≡◌, ◌≢◌, ◌↔◌, ℕ, List, IfNone, IfOk, IfSome, IsErrOf, IsTrue, length};
+ghost use Rattle.std.specs.Prelude.{◌≡◌, ◌≢◌, ◌↔◌, ◌≤◌, ◌+◌, ◌*◌, ◌/◌, ◌%◌, ℕ, List, [], ◌∷◌, ◌++◌, IfNone, IfOk, IfSome, IsErrOf, IsTrue, drop, length, take};
 ghost use Rattle.gp_ploam.specs.declared.message.Up.{Up};
 ghost use Rattle.gp_ploam.specs.Mask.{mask_value};
 ghost use Rattle.gp_ploam.specs.Row.{Agrees, HasRightCheck, written};
 ghost use Rattle.gp_ploam.specs.Up.{IsFittingUp, IsNamedUp, IsProperUp, MatchesNoNamedUp, ReadsUp, code_of_up, up_row};
 
 use super::check::{Mask, checked, sealed};
+use super::identifier::up as identifier;
 use super::message::{PloamFault, Serial, Up};
-use super::octets::{body_of, serial_in, with_body};
+use super::octets::{body_of, with_body};
 
 /// The first twelve octets of a message's code.
 fn up_octets(message: &Up) -> [u8; 12]
@@ -20,24 +21,35 @@ fn up_octets(message: &Up) -> [u8; 12]
             random,
             flags,
         } => {
-            let Serial([a, b, c, d, e, f, g, h]) = serial;
-            let high = (random / 16) as u8;
-            let low = (random % 16) as u8 * 16 + flags;
-            [onu, 1, a, b, c, d, e, f, g, h, high, low]
+            let body = serial_number_body(serial, random, flags);
+            with_body(onu, identifier::SERIAL_NUMBER_ONU, body)
         }
-        Up::DyingGasp { onu } => [onu, 3, 0, 0, 0, 0, 0, 0, 0, 0, 0, 0],
-        Up::NoMessage { onu } => [onu, 4, 0, 0, 0, 0, 0, 0, 0, 0, 0, 0],
+        Up::DyingGasp { onu } => with_body(onu, identifier::DYING_GASP, [0; 10]),
+        Up::NoMessage { onu } => with_body(onu, identifier::NO_MESSAGE, [0; 10]),
         Up::Acknowledge { onu, id, copy } => {
-            let [a, b, c, d, e, f, g, h, i] = copy;
-            [onu, 9, id, a, b, c, d, e, f, g, h, i]
+            let mut body = [id, 0, 0, 0, 0, 0, 0, 0, 0, 0];
+            body[1..].copy_from_slice(&copy);
+            with_body(onu, identifier::ACKNOWLEDGE, body)
         }
         Up::Other { id, octet1, body } => with_body(octet1, id, body),
     }
 }
 
+/// Octets 3 to 12 of Serial_Number_ONU.
+fn serial_number_body(serial: Serial, random: u16, flags: u8) -> [u8; 10]
+    requires random { random ≤ 4095 }
+    requires flags { flags ≤ 15 }
+    ensures { result ≡ serial.0 ++ (random / 16) ∷ (random % 16 * 16 + flags) ∷ [] }
+{
+    let mut body = [0; 10];
+    body[..8].copy_from_slice(&serial.0);
+    body[8] = (random / 16) as u8;
+    body[9] = (random % 16) as u8 * 16 + flags;
+    body
+}
+
 /// The named message that twelve octets stand for.
-fn named_from(octets: &[u8]) -> Option<Up>
-    requires { length octets.now ≡ 12 }
+fn named_from(octets: &[u8; 12]) -> Option<Up>
     ensures named { IfSome result IsNamedUp }
     ensures fitting { IfSome result IsFittingUp }
     ensures row { IfSome result (λ m. Agrees (up_row m) octets.now) }
@@ -45,30 +57,44 @@ fn named_from(octets: &[u8]) -> Option<Up>
 {
     let onu = octets[0];
     let message = match octets[1] {
-        1 => Up::SerialNumber {
+        identifier::SERIAL_NUMBER_ONU => Up::SerialNumber {
             onu,
-            serial: serial_in(&octets[2..10]),
-            random: octets[10] as u16 * 16 + (octets[11] / 16) as u16,
+            serial: serial_in(octets),
+            random: u16::from(octets[10]) * 16 + u16::from(octets[11] / 16),
             flags: octets[11] % 16,
         },
-        3 => Up::DyingGasp { onu },
-        4 => Up::NoMessage { onu },
-        9 => Up::Acknowledge {
+        identifier::DYING_GASP => Up::DyingGasp { onu },
+        identifier::NO_MESSAGE => Up::NoMessage { onu },
+        identifier::ACKNOWLEDGE => Up::Acknowledge {
             onu,
             id: octets[2],
-            copy: [
-                octets[3], octets[4], octets[5], octets[6], octets[7], octets[8], octets[9],
-                octets[10], octets[11],
-            ],
+            copy: copy_in(octets),
         },
         _ => return None,
     };
     Some(message)
 }
 
+/// The serial number from octet 3 on.
+fn serial_in(octets: &[u8; 12]) -> Serial
+    ensures { result.0 ≡ take 8 (drop 2 octets.now) }
+{
+    let mut serial = [0; 8];
+    serial.copy_from_slice(&octets[2..10]);
+    Serial(serial)
+}
+
+/// Octets 4 to 12, what an Acknowledge copies.
+fn copy_in(octets: &[u8; 12]) -> [u8; 9]
+    ensures { result ≡ drop 3 octets.now }
+{
+    let mut copy = [0; 9];
+    copy.copy_from_slice(&octets[3..]);
+    copy
+}
+
 /// The message that twelve octets stand for.
-fn up_from(octets: &[u8]) -> Up
-    requires { length octets.now ≡ 12 }
+fn up_from(octets: &[u8; 12]) -> Up
     ensures proper { IsProperUp result }
     ensures row { Agrees (up_row result) octets.now }
 {

@@ -41,7 +41,7 @@ impl<const FIRST: u16, const WORDS: usize> NumberSet<FIRST, WORDS> {
         requires to { number < FIRST + 64 * WORDS }
         ensures { result ≡ set.contains self.now number }
     {
-        let place = (number - FIRST) as usize;
+        let place = usize::from(number - FIRST);
         self.words[place / 64] >> (place % 64) & 1 == 1
     }
 
@@ -51,7 +51,7 @@ impl<const FIRST: u16, const WORDS: usize> NumberSet<FIRST, WORDS> {
         requires to { number < FIRST + 64 * WORDS }
         ensures { self.new ≡ set.insert self.old number }
     {
-        let place = (number - FIRST) as usize;
+        let place = usize::from(number - FIRST);
         self.words[place / 64] |= 1 << (place % 64);
     }
 
@@ -61,7 +61,7 @@ impl<const FIRST: u16, const WORDS: usize> NumberSet<FIRST, WORDS> {
         requires to { number < FIRST + 64 * WORDS }
         ensures { self.new ≡ set.remove self.old number }
     {
-        let place = (number - FIRST) as usize;
+        let place = usize::from(number - FIRST);
         self.words[place / 64] &= !(1 << (place % 64));
     }
 

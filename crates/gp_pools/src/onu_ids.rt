@@ -56,7 +56,7 @@ impl OnuIds {
         ensures { result ≡ fresh_pool 0 253 max_units }
     {
         OnuIds {
-            pool: NumberPool::new(LAST, max_units as u16),
+            pool: NumberPool::new(LAST, u16::from(max_units)),
         }
     }
 
@@ -79,7 +79,7 @@ impl OnuIds {
         ensures { self.new ≡ pool_without_lease self.old lease }
     {
         let OnuLease { number } = lease;
-        self.pool.give_back(number as u16);
+        self.pool.give_back(u16::from(number));
     }
 
     /// Whether the ONU-ID is one that a unit may get, 0 to 253, and not out. `take` may be None all the
@@ -88,7 +88,7 @@ impl OnuIds {
         ensures free { IsTrue result ↔ IsFree self.now number }
         ensures sound { IsSound self.now }
     {
-        self.pool.is_free(number as u16)
+        self.pool.is_free(u16::from(number))
     }
 
     /// Settles an ONU-ID that is leased from this pool: it stays out, and the plain number stands for it until it is leased again.
@@ -99,7 +99,7 @@ impl OnuIds {
         ensures settled { IsSettled self.new result }
     {
         let OnuLease { number } = lease;
-        self.pool.settle(number as u16);
+        self.pool.settle(u16::from(number));
         number
     }
 
@@ -110,7 +110,7 @@ impl OnuIds {
         ensures pool { self.new ≡ pool_with_lease_again self.old number }
         ensures leased { IsLeased self.new number }
     {
-        self.pool.lease_again(number as u16);
+        self.pool.lease_again(u16::from(number));
         OnuLease { number }
     }
 }

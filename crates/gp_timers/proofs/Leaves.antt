@@ -1,6 +1,6 @@
 -- The map that the leaves make.
 use Rattle.std.proofs.Common.{◌≡◌, ◌≢◌, ℕ, zero, suc, ◌+◌, ◌*◌, ◌<◌, ◌≤◌, Bool, true, false, cond, List, [], ◌∷◌, length, drop, Option, None, Some, ◌⊎◌, inl, inr, refl, sym, ap, ◌∙◌, arith, eqb, eqb-true, ltb, get_or, replicate, is_some, take, subst, ◌++◌}
-use Rattle.std.specs.Option.{option_map}
+use Rattle.std.specs.Option.{option_map, IfSome, IfNone}
 use Rattle.std.specs.Ordering.{nat_cmp}
 use Rattle.std.specs.Cmp.{nat_cmp_total, unsigned_tied}
 use Rattle.std.specs.FinMap.{get, insert, remove, empty, get-empty, get-insert, get-remove, same_map, nat_cmp-IsAntisymmetric}
@@ -9,7 +9,7 @@ use Rattle.std.proofs.lemmas.Bool.{cases_Bool, eqb-false, eq-eqb, ne_eqb}
 use Rattle.std.proofs.Math.Seq.{take-append_seam}
 use borrow.Author.Tests.{ltb-true, ltb-false}
 use Rattle.gp_timers.specs.declared.tournament.Timer.{Timer}
-use Rattle.gp_timers.specs.Timers.{DueFrames}
+use Rattle.gp_timers.specs.Timers.{DueFrames, Timers}
 use Rattle.gp_timers.specs.Tournament.{timer_at, frames_from, IsRewritten}
 
 abbrev pub Nodes : Type 0
@@ -93,6 +93,25 @@ frames_of-set names old new name t size r =
 pub frames_of-clear : (names : ℕ) (old new : Nodes) (name : ℕ) → length old ≡ 2 * names → IsRewritten names old new name None → frames_of names new ≡ remove (frames_of names old) name
 frames_of-clear names old new name size r =
     same_map nat_cmp_total nat_cmp-IsAntisymmetric _ _ (λ q. get-rewritten names old new name None size r q ∙ sym (get_removed (frames_of names old) name q))
+
+-- the timers of these leaves
+abbrev pub timers_of : ℕ → Nodes → Timers
+timers_of names nodes = record { names = names; frames = frames_of names nodes }
+
+abbrev with_frames : ℕ → DueFrames → Timers
+with_frames names frames = record { names = names; frames = frames }
+
+-- where a timer is written, it is set
+pub set_if_some : (names : ℕ) (old new written : Nodes) (name : ℕ) (timer : Option Timer) → length old ≡ 2 * names → written ≡ new → IsRewritten names old new name timer →
+    IfSome timer (λ t. timers_of names written ≡ record { names = names; frames = insert (frames_of names old) name t.frame })
+set_if_some names old new written name None size is r = tt
+set_if_some names old new written name (Some t) size is r = ap (timers_of names) is ∙ ap (with_frames names) (frames_of-set names old new name t size r)
+
+-- where none is written, none is set
+pub cleared_if_none : (names : ℕ) (old new written : Nodes) (name : ℕ) (timer : Option Timer) → length old ≡ 2 * names → written ≡ new → IsRewritten names old new name timer →
+    IfNone timer (timers_of names written ≡ record { names = names; frames = remove (frames_of names old) name })
+cleared_if_none names old new written name None size is r = ap (timers_of names) is ∙ ap (with_frames names) (frames_of-clear names old new name size r)
+cleared_if_none names old new written name (Some t) size is r = tt
 
 none_anyway : (b : Bool) (o : Option ℕ) → o ≡ None → o ≡ cond b None o
 none_anyway true o e = e

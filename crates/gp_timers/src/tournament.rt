@@ -1,7 +1,7 @@
 //! A tournament among timers, as a binary tree in an array: the leaf of name `k` stands at
 //! `names + k`, and the node `i` from 1 to `names - 1` holds the earlier of its two children, the
 //! nodes `2 * i` and `2 * i + 1`. So node 1 holds the earliest of all.
-ghost use Rattle.std.specs.Prelude.{◌≡◌, ◌<◌};
+ghost use Rattle.std.specs.Prelude.{◌≡◌, ◌<◌, ◌/◌, length};
 ghost use Rattle.std.specs.Option.{ForSome};
 ghost use Rattle.gp_timers.specs.Tournament.{IsRewritten, IsTournament, earlier_of, is_earlier, timer_at};
 
@@ -40,13 +40,14 @@ pub fn winner(nodes: &[Option<Timer>]) -> Option<Timer>
 }
 
 /// Writes the leaf of a name, and anew each node above it up to the first that keeps its timer.
-pub fn rewrite(nodes: &mut [Option<Timer>], names: usize, name: u16, timer: Option<Timer>)
-    requires tournament { IsTournament names nodes.old }
-    requires in_range { name < names }
+pub fn rewrite(nodes: &mut [Option<Timer>], name: u16, timer: Option<Timer>)
+    requires tournament { IsTournament (length nodes.old / 2) nodes.old }
+    requires in_range { name < length nodes.old / 2 }
     requires named { ForSome timer (λ t. t.name ≡ name) }
-    ensures { IsRewritten names nodes.old nodes.new name timer }
+    ensures { IsRewritten (length nodes.old / 2) nodes.old nodes.new name timer }
 {
-    let mut node = names + name as usize;
+    let names = nodes.len() / 2;
+    let mut node = names + usize::from(name);
     nodes[node] = timer;
     while node > 1 {
         node /= 2;

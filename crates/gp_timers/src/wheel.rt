@@ -1,5 +1,6 @@
 ghost use Rattle.std.specs.Prelude.{◌≡◌, ◌<◌, ◌↔◌, IfOk, IfSome, IfNone, IsNone, is_some};
 ghost use Rattle.std.specs.FinMap as map;
+ghost use Rattle.std.specs.Option.{ForSome};
 ghost use Rattle.gp_timers.specs.Timers.{IsFirstDue, NoneIsDue};
 
 use super::tournament::{Timer, rewrite, winner};
@@ -10,8 +11,19 @@ use thiserror::Error;
 /// Why no wheel was made.
 #[derive(Clone, Copy, Debug, PartialEq, Eq, Error)]
 pub enum TimerFault {
+    /// The allocator refused memory for the timers.
     #[error("out of memory")]
     OutOfMemory,
+}
+
+impl From<AllocError> for TimerFault {
+    ghost use Rattle.gp_timers.specs.declared.wheel.TimerFault.{TimerFault};
+
+    ghost from_gives = { λ _ fault. fault ≡ TimerFault.OutOfMemory };
+
+    fn from(_error: AllocError) -> TimerFault {
+        TimerFault::OutOfMemory
+    }
 }
 
 /// Timers under names from 0 on, each set for a frame or not set.
@@ -46,7 +58,7 @@ impl Wheel {
     pub fn begin(alloc: Global, names: u16) -> Result<Wheel, TimerFault>
         ensures { IfOk result (λ w. w ≡ record { names = names; frames = map.empty }) }
     {
-        let nodes = vec![in alloc; None; 2 * names as usize].map_err(|_| TimerFault::OutOfMemory)?;
+        let nodes = vec![in alloc; None; 2 * usize::from(names)]?;
         Ok(Wheel { names, nodes })
     }
 
@@ -55,8 +67,7 @@ impl Wheel {
         requires { name < self.old.names }
         ensures { self.new ≡ record self.old { frames = map.insert self.old.frames name frame } }
     {
-        let names = self.names as usize;
-        rewrite(&mut self.nodes, names, name, Some(Timer { frame, name }));
+        self.write(name, Some(Timer { frame, name }));
     }
 
     /// Makes sure that a timer is not set, and tells whether it was.
@@ -67,9 +78,9 @@ impl Wheel {
         if name >= self.names {
             return false;
         }
-        let names = self.names as usize;
-        let was_set = self.nodes[names + name as usize].is_some();
-        rewrite(&mut self.nodes, names, name, None);
+        let leaf = usize::from(self.names) + usize::from(name);
+        let was_set = self.nodes[leaf].is_some();
+        self.write(name, None);
         was_set
     }
 
@@ -84,8 +95,17 @@ impl Wheel {
         if first.frame > frame {
             return None;
         }
-        let names = self.names as usize;
-        rewrite(&mut self.nodes, names, first.name, None);
+        self.write(first.name, None);
         Some(first.name)
+    }
+
+    /// What a name has from now on: a timer under that name, or none.
+    fn write(&mut self, name: u16, timer: Option<Timer>)
+        requires in_range { name < self.old.names }
+        requires named { ForSome timer (λ t. t.name ≡ name) }
+        ensures set { IfSome timer (λ t. self.new ≡ record self.old { frames = map.insert self.old.frames name t.frame }) }
+        ensures cleared { IfNone timer (self.new ≡ record self.old { frames = map.remove self.old.frames name }) }
+    {
+        rewrite(&mut self.nodes, name, timer);
     }
 }

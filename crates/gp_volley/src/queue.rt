@@ -3,7 +3,7 @@ ghost use Rattle.gp_ploam.specs.Copies.{first_of};
 
 use super::volley::Volley;
 use gp_ploam::Down;
-use std::alloc::Global;
+use std::alloc::{AllocError, Global};
 use std::collections::VecDeque;
 use std::marker::Model;
 use thiserror::Error;
@@ -14,8 +14,19 @@ const ROOM: usize = 64;
 /// Why no queue was made.
 #[derive(Clone, Copy, Debug, PartialEq, Eq, Error)]
 pub enum QueueFault {
+    /// The allocator refused memory for the messages.
     #[error("out of memory")]
     OutOfMemory,
+}
+
+impl From<AllocError> for QueueFault {
+    ghost use Rattle.gp_volley.specs.declared.queue.QueueFault.{QueueFault};
+
+    ghost from_gives = { λ _ fault. fault ≡ QueueFault.OutOfMemory };
+
+    fn from(_error: AllocError) -> QueueFault {
+        QueueFault::OutOfMemory
+    }
 }
 
 /// The copies of messages that are owed, in the order in which they are sent. There is room for those of 64 messages.
@@ -41,7 +52,7 @@ impl VolleyQueue {
     pub fn begin(alloc: Global) -> Result<VolleyQueue, QueueFault>
         ensures { IfOk result (λ q. q ≡ []) }
     {
-        let volleys = VecDeque::with_capacity(alloc, ROOM).map_err(|_| QueueFault::OutOfMemory)?;
+        let volleys = VecDeque::with_capacity(alloc, ROOM)?;
         Ok(VolleyQueue { volleys })
     }
 
@@ -71,7 +82,7 @@ impl VolleyQueue {
         ensures room { result ≤ 192 }
     {
         match self.volleys.front() {
-            Some(volley) => volley.left() as usize + 3 * (self.volleys.len() - 1),
+            Some(volley) => usize::from(volley.left()) + 3 * (self.volleys.len() - 1),
             None => 0,
         }
     }
@@ -81,7 +92,7 @@ impl VolleyQueue {
         ensures { result ≡ slice_get self.now i }
     {
         let first = self.volleys.front()?;
-        let left = first.left() as usize;
+        let left = usize::from(first.left());
         if i < left {
             return Some(first.message());
         }

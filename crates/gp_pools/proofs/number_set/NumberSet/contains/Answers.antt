@@ -9,6 +9,7 @@ use Rattle.gp_pools.proofs.number_set.NumberSet.contains.Goals as goal
 pub returns : goal.returns
 unfolding has_place
 returns g c =
-    ap (λ b. nat_eq b 1) (shr_and_one _ ((c.args.number - g.row.FIRST) % 64))
+    rw c.from-place.ensures
+    (ap (λ b. nat_eq b 1) (shr_and_one _ ((c.args.number - g.row.FIRST) % 64))
     ∙ sym (numbers_in-member g.row.FIRST (64 * g.row.WORDS) c.self.inside.words c.args.number c.requires.from c.requires.to)
-    ∙ ap (λ s. set.contains s c.args.number) c.self.view_is
+    ∙ ap (λ s. set.contains s c.args.number) c.self.view_is)

@@ -11,10 +11,10 @@ pub returns-in_err-volley : goal.returns-in_err-volley
 returns-in_err-volley c =
     let items = c.self.inside.volleys.items in
     let first = c.in_ok-first.first.now in
-    let left = c.left-left.ensures.left in
+    let left = c.from-left.ensures ∙ c.left.ensures.left in
     let size = c.self.inside.volleys.ok.0 in
     let some : 0 < length c.self.inside.volleys.items = let h = c.in_ok-first.ensures.variant.0 refl in omega arith in
-    let none : ¬ (1 + (c.args.i - c.left-left.result) / 3 < deque_len c.self.inside.volleys) = λ h. false≢true (c.in_err-volley.ensures.variant.1 h) in
+    let none : ¬ (1 + (c.args.i - c.from-left.result) / 3 < deque_len c.self.inside.volleys) = λ h. false≢true (c.in_err-volley.ensures.variant.1 h) in
     let past : length c.self.inside.volleys.items ≤ 1 + (c.args.i - c.in_ok-first.first.now.left) / 3 = omega arith in
     let there = get-by_first items first some c.in_ok-first.ensures.lookup c.self.invariant.0 c.args.i (omega (arith, c.if-i-left.false)) in
     rw (← c.self.view_is)
@@ -24,11 +24,11 @@ pub returns : goal.returns
 returns c =
     let items = c.self.inside.volleys.items in
     let first = c.in_ok-first.first.now in
-    let left = c.left-left.ensures.left in
+    let left = c.from-left.ensures ∙ c.left.ensures.left in
     let size = c.self.inside.volleys.ok.0 in
     let some : 0 < length c.self.inside.volleys.items = let h = c.in_ok-first.ensures.variant.0 refl in omega arith in
-    let within : 1 + (c.args.i - c.left-left.result) / 3 < length c.self.inside.volleys.items = let h = c.in_ok-volley.ensures.variant.0 refl in omega arith in
-    let read = slice_get_read items (length items) (1 + (c.args.i - c.left-left.result) / 3) c.in_ok-volley.volley.now refl within c.in_ok-volley.ensures.lookup in
+    let within : 1 + (c.args.i - c.from-left.result) / 3 < length c.self.inside.volleys.items = let h = c.in_ok-volley.ensures.variant.0 refl in omega arith in
+    let read = slice_get_read items (length items) (1 + (c.args.i - c.from-left.result) / 3) c.in_ok-volley.volley.now refl within c.in_ok-volley.ensures.lookup in
     let there = get-by_first items first some c.in_ok-first.ensures.lookup c.self.invariant.0 c.args.i (omega (arith, c.if-i-left.false)) in
     rw (← c.self.view_is)
     (ap Some c.message-2.ensures
