@@ -160,13 +160,13 @@ pub(crate) fn events_of(
     ensures ports { IfOk result (λ v. All (λ e. event_port e < ports) v.items) }
     ensures count { IfOk result (λ v. vec_len v ≡ length tables.now) }
 {
-    let mut events = Vec::new(alloc);
+    let mut events = Vec::with_capacity(alloc, tables.len())?;
     'tables: for value in tables {
         let Some(table) = value.as_table() else {
             return Err(ScriptError::Fault(ScriptFault::Shape));
         };
         let event = event_of(ports, mask, table)?;
-        events.push(event)?;
+        events.push_reserved(event);
     }
     Ok(events)
 }

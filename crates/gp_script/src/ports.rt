@@ -100,10 +100,10 @@ fn serials_of(
     ensures count { IfOk result (λ v. vec_len v ≡ length texts.now) }
     ensures distinct { IfOk result (λ v. IsTrue (is_distinct v.items)) }
 {
-    let mut serials = Vec::new(alloc);
+    let mut serials = Vec::with_capacity(alloc, texts.len())?;
     'texts: for text in texts {
         let serial = new_serial(ports, serials.as_slice(), text)?;
-        serials.push(serial)?;
+        serials.push_reserved(serial);
     }
     Ok(serials)
 }
@@ -161,13 +161,13 @@ pub(crate) fn ports_of(
     ensures count { IfOk result (λ v. vec_len v ≡ length tables.now) }
     ensures limits { IfOk result (λ v. All (λ port. IsTrue (is_within_limits port)) v.items) }
 {
-    let mut ports = Vec::new(alloc);
+    let mut ports = Vec::with_capacity(alloc, tables.len())?;
     'tables: for value in tables {
         let Some(table) = value.as_table() else {
             return Err(ScriptError::Fault(ScriptFault::Shape));
         };
         let port = port_of(alloc, mask, ports.as_slice(), table)?;
-        ports.push(port)?;
+        ports.push_reserved(port);
     }
     Ok(ports)
 }
