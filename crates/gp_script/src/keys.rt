@@ -61,7 +61,10 @@ pub(crate) fn text_at<'a>(table: &'a Table, key: &str) -> Result<Option<&'a str>
 fn items_of(value: &Value) -> Result<&[Value], ScriptFault>
     ensures { Sees (λ items. Some (items_view items.now)) result (spec.list_or_none (Some (view value.now))) }
 {
-    value.as_array().map(Vec::as_slice).ok_or(ScriptFault::Shape)
+    value
+        .as_array()
+        .map(Vec::as_slice)
+        .ok_or(ScriptFault::Shape)
 }
 
 /// The list at a key that may be left out; then there is no item.
