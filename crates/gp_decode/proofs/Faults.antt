@@ -76,33 +76,33 @@ fault_in (Err f) = f
 abbrev failing : LineFault → Result (Unit {0}) LineFault
 failing f = Err f
 
-pub told : (mask : Mask) (text : List ℕ) (e f : LineFault) → HasLineFault mask text e → (failing e ≡ failing f) ↔ HasLineFault mask text f
-told mask text e f has = (
+pub own_fault : (mask : Mask) (text : List ℕ) (e f : LineFault) → HasLineFault mask text e → (failing e ≡ failing f) ↔ HasLineFault mask text f
+own_fault mask text e f has = (
   λ same. subst (HasLineFault mask text) (ap fault_in same) has,
   λ h. ap failing (one_fault mask text e f has h),
 )
 
--- where the text says a line, a fault that is none of the text's tells nothing of it
-pub untold : (upstream : Bool) (mask : Mask) (text line : List ℕ) (e f : LineFault) → Says upstream mask text line → IsOfText f → (IsOfText e → ⊥)
+-- where the text says a line, a fault that is none of the text's is not its fault
+pub foreign_fault : (upstream : Bool) (mask : Mask) (text line : List ℕ) (e f : LineFault) → Says upstream mask text line → IsOfText f → (IsOfText e → ⊥)
     → (failing e ≡ failing f) ↔ HasLineFault mask text f
-untold upstream mask text line e f s own foreign = (
+foreign_fault upstream mask text line e f s own foreign = (
   λ same. absurd (foreign (subst IsOfText (sym (ap fault_in same)) own)),
   λ h. absurd (fault_of_said upstream mask text line f s h),
 )
 
--- what is answered where there is no line tells the text's fault
-pub fault_told : (upstream : Bool) (mask : Mask) (text : List ℕ) (e f : LineFault) → LacksLine upstream mask text e → IsOfText f
+-- what is answered where there is no line is the text's fault
+pub fault_without_line : (upstream : Bool) (mask : Mask) (text : List ℕ) (e f : LineFault) → LacksLine upstream mask text e → IsOfText f
     → (failing e ≡ failing f) ↔ HasLineFault mask text f
-fault_told upstream mask text fault.Length f lacks own = told mask text fault.Length f lacks
-fault_told upstream mask text fault.Digit f lacks own = told mask text fault.Digit f lacks
-fault_told upstream mask text fault.Crc f lacks own = told mask text fault.Crc f lacks
-fault_told upstream mask text fault.OutOfMemory f lacks own = untold upstream mask text lacks.0 fault.OutOfMemory f lacks.1 own (λ x. x)
-fault_told upstream mask text fault.Write f lacks own = absurd lacks
+fault_without_line upstream mask text fault.Length f lacks own = own_fault mask text fault.Length f lacks
+fault_without_line upstream mask text fault.Digit f lacks own = own_fault mask text fault.Digit f lacks
+fault_without_line upstream mask text fault.Crc f lacks own = own_fault mask text fault.Crc f lacks
+fault_without_line upstream mask text fault.OutOfMemory f lacks own = foreign_fault upstream mask text lacks.0 fault.OutOfMemory f lacks.1 own (λ x. x)
+fault_without_line upstream mask text fault.Write f lacks own = absurd lacks
 
--- what is answered where there is a line tells no fault
-pub none_told : (upstream : Bool) (mask : Mask) (text line : List ℕ) (f : LineFault) → Says upstream mask text line
+-- what is answered where there is a line is no fault
+pub no_fault_with_line : (upstream : Bool) (mask : Mask) (text line : List ℕ) (f : LineFault) → Says upstream mask text line
     → (◌≡◌ {A = Result (Unit {0}) LineFault} (Ok tt) (Err f)) ↔ HasLineFault mask text f
-none_told upstream mask text line f s = (
+no_fault_with_line upstream mask text line f s = (
   λ same. cc same,
   λ h. absurd (fault_of_said upstream mask text line f s h),
 )

@@ -8,10 +8,10 @@ use Rattle.gp_ploam.specs.declared.message.Up.{Up}
 use Rattle.gp_ploam.specs.declared.message.Up.TheVariants as up
 use Rattle.gp_serial.specs.Spelling.{text_of_serial}
 
--- what becomes of an Alloc-ID
-abbrev pub purpose_text : Bool → List ℕ
-purpose_text true = codes "keep"
-purpose_text false = codes "back"
+-- what becomes of an Alloc-ID: the unit keeps it, or it is taken back
+abbrev pub keep_text : Bool → List ℕ
+keep_text true = codes "keep"
+keep_text false = codes "back"
 
 -- a message of no named row: its identifier, its octet 1, and octets 3 to 12
 abbrev pub other_text : ℕ → ℕ → List ℕ → List ℕ
@@ -27,7 +27,7 @@ down_text (down.DisableSerial serial) = codes "Disable_Serial_Number " ++ text_o
 down_text (down.EnableSerial serial) = codes "Enable_Serial_Number " ++ text_of_serial serial
 down_text down.EnableAll = codes "Enable_All"
 down_text (down.AssignAlloc onu alloc keep) =
-    codes "Assign_Alloc-ID " ++ decimal onu ++ codes " " ++ decimal alloc ++ codes " " ++ purpose_text keep
+    codes "Assign_Alloc-ID " ++ decimal onu ++ codes " " ++ decimal alloc ++ codes " " ++ keep_text keep
 down_text down.NoMessage = codes "No_message"
 down_text (down.Popup onu) = codes "POPUP " ++ decimal onu
 down_text (down.Other id octet1 body) = other_text id octet1 body

@@ -29,11 +29,5 @@ pub fn code_in(text: &[u8]) -> Result<[u8; 13], LineFault>
 fn are_digits(text: &[u8]) -> bool
     ensures { result ≡ list_all is_hex_digit text.now }
 {
-    text.iter().all(|byte| is_digit(*byte))
-}
-
-fn is_digit(byte: u8) -> bool
-    ensures { result ≡ is_hex_digit byte }
-{
-    matches!(byte, b'A'..=b'F' | b'a'..=b'f' | b'0'..=b'9')
+    text.iter().all(u8::is_ascii_hexdigit)
 }

@@ -8,8 +8,8 @@ use gp_stream::{WriteStopped, memory_report, write_report};
 use std::alloc::AllocError;
 use thiserror::Error;
 
-/// Why a code was not told in words. The faults of the text come in this order, and the first that
-/// applies is told; they come before any memory is taken and before anything is written.
+/// Why the message of a code was not written in words. The faults of the text come in this order, and
+/// the first that applies is answered; they come before any memory is taken and before anything is written.
 #[derive(Clone, Copy, Debug, PartialEq, Eq, Error)]
 pub enum LineFault {
     /// An odd number of bytes; or an even number of digits for another number of octets than 13.
@@ -24,7 +24,7 @@ pub enum LineFault {
     /// There was no memory for the line.
     #[error("out of memory")]
     OutOfMemory,
-    /// A write failed or took nothing.
+    /// A write failed or took nothing, or a flush failed.
     #[error("the line was not written")]
     Write,
 }

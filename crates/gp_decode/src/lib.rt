@@ -1,4 +1,4 @@
-//! Codes of messages, given as hexadecimal digits, told in words.
+//! The messages of codes that are given as hexadecimal digits, in words.
 #![tactic(auto)]
 
 mod code;

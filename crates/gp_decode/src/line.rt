@@ -1,7 +1,7 @@
 //! The line of a code.
 ghost use Rattle.std.specs.Prelude.{◌≡◌, ◌≢◌, ◌↔◌, ℕ, List, [], OnOk, OnErr, IfOk, IfErr, IsErr, Err, true, false};
 ghost use Rattle.std.specs.String.{string_bytes};
-ghost use Rattle.gp_stream.specs.Sink.{Takes, TakesFront, gathered_of, has_stopped, sink_state};
+ghost use Rattle.gp_stream.specs.Sink.{Takes, TakesFront, gathered_of, has_flushed, has_stopped, sink_state};
 ghost use Rattle.gp_decode.specs.declared.fault.LineFault.{LineFault as AnyFault};
 ghost use Rattle.gp_decode.specs.Line.{HasLineFault, IsOfText, LacksLine, LacksLineOfCode, Says, SaysCode};
 
@@ -27,6 +27,7 @@ pub fn decode_line<W: Write>(
 ) -> Result<(), LineFault>
     ensures ok { OnOk result ((line : List ℕ) × Says upstream mask text.now line × Takes (sink_state W.contents sink.old) (sink_state W.contents sink.new) line) }
     ensures written { OnOk result (gathered_of sink.new ≡ []) }
+    ensures flushed { has_flushed sink.old ≡ true → OnOk result (has_flushed sink.new ≡ true) }
 
     // Memory and the writer aside, the text alone decides, by its first fault.
     ensures fault { (fault : AnyFault) → IsOfText fault → (result ≡ Err fault) ↔ HasLineFault mask text.now fault }
@@ -44,6 +45,7 @@ pub fn decode_line<W: Write>(
 fn write_line<W: Write>(sink: &mut Sink<W>, line: &[u8]) -> Result<(), WriteStopped>
     ensures ok { OnOk result (Takes (sink_state W.contents sink.old) (sink_state W.contents sink.new) line.now) }
     ensures written { OnOk result (gathered_of sink.new ≡ []) }
+    ensures flushed { has_flushed sink.old ≡ true → OnOk result (has_flushed sink.new ≡ true) }
     ensures front { OnErr result (TakesFront (sink_state W.contents sink.old) (sink_state W.contents sink.new) line.now) }
     ensures stopped { OnErr result (has_stopped sink.new ≡ true) }
 {

@@ -25,20 +25,6 @@ impl Display for Octets {
     }
 }
 
-/// What becomes of an Alloc-ID: the unit keeps it, or it is taken back.
-#[derive(Clone, Copy)]
-struct Purpose(bool);
-
-impl Display for Purpose {
-    ghost use Rattle.gp_decode.specs.Message.{purpose_text};
-
-    ghost output = { λ p. Some (purpose_text p.0) };
-
-    fn fmt<W: Write>(&self, f: &mut Formatter<W>) -> fmt::Result {
-        f.write_str(if self.0 { "keep" } else { "back" })
-    }
-}
-
 /// A message of no named row.
 #[derive(Clone, Copy)]
 struct OtherText {
@@ -91,8 +77,8 @@ impl Display for DownText {
             }
             Down::EnableAll => f.write_str("Enable_All"),
             Down::AssignAlloc { onu, alloc, keep } => {
-                let purpose = Purpose(keep);
-                write!(f, "Assign_Alloc-ID {onu} {alloc} {purpose}")
+                let word = if keep { "keep" } else { "back" };
+                write!(f, "Assign_Alloc-ID {onu} {alloc} {word}")
             }
             Down::NoMessage => f.write_str("No_message"),
             Down::Popup { onu } => write!(f, "POPUP {onu}"),

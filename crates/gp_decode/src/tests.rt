@@ -89,14 +89,14 @@ fn faults_in_their_order(rt: HostRuntime) -> Result<(), Fail> {
     Ok(())
 }
 
-/// Takes so many octets, one a write, and then fails.
+/// Takes one octet a write, and fails once it took so many.
 #[derive(Drop)]
-struct Short {
+struct ShortWriter {
     taken: Vec<u8>,
     room: usize,
 }
 
-impl Write for Short {
+impl Write for ShortWriter {
     fn write(&mut self, buffer: &[u8]) -> io::Result<usize> {
         if self.taken.len() >= self.room {
             return Err(io::Error::from(ErrorKind::Other));
@@ -118,12 +118,12 @@ impl Write for Short {
 #[test]
 fn a_writer_that_stops(rt: HostRuntime) -> Result<(), Fail> {
     let line = b"POPUP 255\n";
-    for room in 0..line.len() + 1 {
-        let short = Short {
+    for room in 0..=line.len() {
+        let writer = ShortWriter {
             taken: Vec::new(rt.alloc()),
             room,
         };
-        let mut sink = Sink::new(rt.alloc(), short)?;
+        let mut sink = Sink::new(rt.alloc(), writer)?;
         let text = "ff0c00000000000000000000c3";
         let outcome = decode_line(rt.alloc(), text, false, Mask::Plain, &mut sink);
         let wanted = if room < line.len() {

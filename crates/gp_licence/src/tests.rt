@@ -6,7 +6,7 @@ use std::marker::Brand;
 use std::sync::ledger::{Blank, Ledger};
 use std::test::Fail;
 
-/// The numbers that a day with two licences shows.
+/// How many licences there are after each step of `take_and_give_two`.
 #[derive(Clone, Copy, Debug, PartialEq, Eq)]
 struct Seen {
     first: u32,
@@ -16,7 +16,7 @@ struct Seen {
     closed: u32,
 }
 
-fn day_of_two<L: Ledger>(blank: Blank) -> Seen
+fn take_and_give_two<L: Ledger>(blank: Blank) -> Seen
     requires name { blank.name ≡ L.name }
     requires parts { (blank.parts ≡ L.parts) × (L.parts ≡ MOST_LICENCES) }
 {
@@ -41,7 +41,7 @@ fn day_of_two<L: Ledger>(blank: Blank) -> Seen
 
 #[test]
 fn last_licence_once(rt: HostRuntime) -> Result<(), Fail> {
-    let seen = day_of_two::<Brand>(Blank::new(4064));
+    let seen = take_and_give_two::<Brand>(Blank::new(4064));
     let expected = Seen {
         first: 1,
         second: 2,

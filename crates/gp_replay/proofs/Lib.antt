@@ -1,5 +1,5 @@
 pub mod SinkLemmas
 pub mod TurnLemmas
 pub mod RoomLemmas
-pub mod LawLemmas
+pub mod LawsLemmas
 pub mod OutcomeLemmas

@@ -4,4 +4,4 @@ pub mod Writing
 pub mod Outcome
 pub mod Fault
 pub mod Report
-pub mod Law
+pub mod Laws

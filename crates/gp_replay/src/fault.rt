@@ -1,6 +1,7 @@
 ghost use Rattle.std.specs.Prelude.{◌≡◌};
 ghost use Rattle.gp_replay.specs.Fault.{fault_of_play, fault_of_script, fault_of_source};
 ghost use Rattle.gp_replay.specs.declared.fault.PlayFault.TheVariants.{OutOfMemory, Write};
+ghost use Rattle.gp_replay.specs.declared.fault.RunFault.TheVariants as runs;
 
 use gp_script::{ScriptError, ScriptFault};
 use gp_stream::{SourceFault, WriteStopped};
@@ -45,12 +46,20 @@ pub enum RunFault {
     /// There was no memory for the input, the script, the ports or a line.
     #[error("memory")]
     OutOfMemory,
-    /// A write failed or took nothing.
+    /// A write failed or took nothing, or a flush failed.
     #[error("write")]
     Write,
     /// What several threads were told does not agree. A replay never answers it.
     #[error("mismatch")]
     Mismatch,
+}
+
+impl From<AllocError> for RunFault {
+    ghost from_gives = { λ _ fault. fault ≡ runs.OutOfMemory };
+
+    fn from(_error: AllocError) -> RunFault {
+        RunFault::OutOfMemory
+    }
 }
 
 impl From<SourceFault> for RunFault {

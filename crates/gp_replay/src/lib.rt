@@ -2,7 +2,7 @@
 #![tactic(auto)]
 
 mod fault;
-mod law;
+mod laws;
 mod line_buffer;
 mod playing;
 mod replaying;
@@ -11,7 +11,7 @@ mod terminal;
 mod turn;
 
 pub use fault::RunFault;
-pub use law::{each_port_runs, licences_are_kept};
+pub use laws::{each_port_runs, licences_are_kept};
 pub use replaying::run_replay;
 pub use report::run_report;
 pub use turn::Turn;

@@ -1,6 +1,6 @@
 ghost use Rattle.std.specs.Prelude.{◌≡◌, ◌<◌, ◌≤◌, ◌*◌, ◌^◌, ◌||◌, [], ◌∷◌, All, OnOk, OnErr, true, is_err, length, replicate};
 ghost use Rattle.gp_script.specs.View.{event_port};
-ghost use Rattle.gp_stream.specs.Sink.{sink_state, has_stopped, writer_of};
+ghost use Rattle.gp_stream.specs.Sink.{sink_state, has_flushed, has_stopped, writer_of};
 ghost use Rattle.gp_replay.specs.Terminal.{HasRoom};
 ghost use Rattle.gp_replay.specs.Play.{all_turns, frame_turn, turns_of};
 ghost use Rattle.gp_replay.specs.Writing.{WritesFront, WritesTurns};
@@ -29,6 +29,7 @@ fn play_turn<L: Ledger, W: Write>(
     ensures err { OnErr result (WritesFront mask terminal.old (turn ∷ []) (sink_state W.contents sink.old) (sink_state W.contents sink.new)) }
     ensures stopped { has_stopped sink.new ≡ (has_stopped sink.old || is_err result) }
     ensures refused { has_stopped sink.old ≡ true → writer_of sink.new ≡ writer_of sink.old }
+    ensures flushed { has_flushed sink.old ≡ true → OnOk result (has_flushed sink.new ≡ true) }
     ensures ports { length terminal.new.ports ≡ length terminal.old.ports }
 {
     let receipt = terminal.take_turn(turn);
@@ -51,6 +52,7 @@ fn play_frames<L: Ledger, W: Write>(
     ensures err { OnErr result (WritesFront mask terminal.old (replicate count (frame_turn port)) (sink_state W.contents sink.old) (sink_state W.contents sink.new)) }
     ensures stopped { has_stopped sink.new ≡ (has_stopped sink.old || is_err result) }
     ensures refused { has_stopped sink.old ≡ true → writer_of sink.new ≡ writer_of sink.old }
+    ensures flushed { has_flushed sink.old ≡ true → OnOk result (has_flushed sink.new ≡ true) }
     ensures ports { length terminal.new.ports ≡ length terminal.old.ports }
 {
     let frame = Turn {
@@ -77,6 +79,7 @@ fn play_event<L: Ledger, W: Write>(
     ensures err { OnErr result (WritesFront mask terminal.old (turns_of event.now) (sink_state W.contents sink.old) (sink_state W.contents sink.new)) }
     ensures stopped { has_stopped sink.new ≡ (has_stopped sink.old || is_err result) }
     ensures refused { has_stopped sink.old ≡ true → writer_of sink.new ≡ writer_of sink.old }
+    ensures flushed { has_flushed sink.old ≡ true → OnOk result (has_flushed sink.new ≡ true) }
     ensures ports { length terminal.new.ports ≡ length terminal.old.ports }
     ensures few { length (turns_of event.now) ≤ 2 ^ 32 }
 {
@@ -109,6 +112,7 @@ pub(crate) fn play_events<L: Ledger, W: Write>(
     ensures err { OnErr result (WritesFront mask terminal.old (all_turns events.now) (sink_state W.contents sink.old) (sink_state W.contents sink.new)) }
     ensures stopped { has_stopped sink.new ≡ (has_stopped sink.old || is_err result) }
     ensures refused { has_stopped sink.old ≡ true → writer_of sink.new ≡ writer_of sink.old }
+    ensures flushed { has_flushed sink.old ≡ true → OnOk result (has_flushed sink.new ≡ true) }
 {
     'events: for event in events {
         play_event(terminal, sink, buffer, mask, event)?;

@@ -1,10 +1,10 @@
-ghost use Rattle.std.specs.Prelude.{◌≡◌, ◌≢◌, ◌<◌, ◌≤◌, ◌⊎◌, ◌↔◌, ℕ, List, All, IfErr, IsErr, OnOk, IsTrue, Err, true, false, length, vec_len};
-ghost use Rattle.gp_machine.specs.Config.{is_within_limits};
+ghost use Rattle.std.specs.Prelude.{◌≡◌, ◌≢◌, ◌<◌, ◌≤◌, ◌⊎◌, ◌↔◌, ℕ, List, IfErr, IsErr, OnOk, Err, true, false, length};
 ghost use Rattle.gp_script.specs.declared.fault.ScriptFault.{ScriptFault as AnyScriptFault};
-ghost use Rattle.gp_script.specs.Script.{script_of, most_events};
-ghost use Rattle.gp_script.specs.View.{event_port, script_view};
+ghost use Rattle.gp_script.specs.Script.{script_of};
+ghost use Rattle.gp_script.specs.Playable.{IsPlayable};
+ghost use Rattle.gp_script.specs.View.{script_view};
 ghost use Rattle.gp_stream.specs.Source.{has_failed, source_state, ReadsTooMuch, WasReadable};
-ghost use Rattle.gp_stream.specs.Sink.{sink_state, has_stopped, writer_of};
+ghost use Rattle.gp_stream.specs.Sink.{sink_state, has_flushed, has_stopped, writer_of};
 ghost use Rattle.gp_replay.specs.Terminal.{opening_terminal};
 ghost use Rattle.gp_replay.specs.Play.{all_turns};
 ghost use Rattle.gp_replay.specs.Writing.{WritesFront, WritesScript};
@@ -31,12 +31,10 @@ fn play_on<L: Ledger, W: Write>(
 ) -> Result<(), PlayFault>
     requires name { blank.name ≡ L.name }
     requires parts { (blank.parts ≡ L.parts) × (L.parts ≡ MOST_LICENCES) }
-    requires licences { script.now.licences ≤ MOST_LICENCES }
-    requires limits { All (λ config. IsTrue (is_within_limits config)) script.now.ports.items }
-    requires events { All (λ e. event_port e < vec_len script.now.ports) script.now.events.items }
-    requires few { length script.now.events.items ≤ most_events }
+    requires playable { IsPlayable (script_view script.now) }
     ensures ok { OnOk result (WritesScript (script_view script.now) (sink_state W.contents sink.old) (sink_state W.contents sink.new)) }
     ensures finished { OnOk result (has_stopped sink.new ≡ false) }
+    ensures flushed { has_flushed sink.old ≡ true → OnOk result (has_flushed sink.new ≡ true) }
     ensures front { result ≡ Err PlayFault.Write → WritesFront script.now.mask (opening_terminal (script_view script.now)) (all_turns script.now.events.items) (sink_state W.contents sink.old) (sink_state W.contents sink.new) }
     ensures write { result ≡ Err PlayFault.Write → has_stopped sink.new ≡ true }
     ensures memory { result ≡ Err PlayFault.OutOfMemory → sink.new ≡ sink.old }
@@ -65,6 +63,7 @@ pub fn run_replay<R: Read, W: Write>(
 ) -> Result<(), RunFault>
     ensures ok { OnOk result (WritesTrace (source_state R.remaining source.old) (source_state R.remaining source.new) (sink_state W.contents sink.old) (sink_state W.contents sink.new)) }
     ensures finished { OnOk result (has_stopped sink.new ≡ false) }
+    ensures flushed { has_flushed sink.old ≡ true → OnOk result (has_flushed sink.new ≡ true) }
 
     // When each fault comes.
     ensures read { result ≡ Err RunFault.Read → let now = source_state R.remaining source.new in (now.has_failed ≡ true) ⊎ (now.reads_left ≡ 0) }

@@ -3,6 +3,7 @@ ghost use Rattle.std.specs.Option.{ForSome};
 ghost use Rattle.gp_ploam.specs.Down.{IsProperDown};
 ghost use Rattle.gp_machine.specs.Config.{is_within_limits};
 ghost use Rattle.gp_machine.specs.Run.{IsStep};
+ghost use Rattle.gp_script.specs.Playable.{IsPlayable};
 ghost use Rattle.gp_script.specs.View.{script_view};
 ghost use Rattle.gp_replay.specs.Terminal.{HasRoom, licences_of, opened_port, opening_terminal, total_licences};
 ghost use Rattle.gp_replay.specs.Play.{TakesTurn, purse_of};
@@ -10,7 +11,7 @@ ghost use Rattle.gp_replay.specs.Play.{TakesTurn, purse_of};
 use super::turn::Turn;
 use gp_licence::{LicenceBook, Licences, MOST_LICENCES};
 use gp_machine::{Entry, Event, PortConfig, Receipt};
-use gp_port::PortCore;
+use gp_port::{OpenFault, PortCore};
 use gp_script::Script;
 use std::alloc::{AllocError, Global};
 use std::marker::Model;
@@ -44,20 +45,22 @@ impl<L: Ledger> NumberedPort<L> {
     {
         match PortCore::begin(alloc, config) {
             Ok(core) => Ok(NumberedPort { core, next: 0 }),
-            Err(_) => Err(AllocError),
+            Err(OpenFault::OutOfMemory) => Err(AllocError),
+            Err(OpenFault::Limit) => unreachable!(),
         }
     }
 
-    /// One step of the port with these licences: the number of its entry, the entry, and the licences
-    /// that are left.
-    fn step(&mut self, purse: Licences<L>, event: Event) -> (u64, Entry, Licences<L>)
+    /// One step of the port at this place of the script with these licences: its receipt, and the
+    /// licences that are left.
+    fn step(&mut self, place: u8, purse: Licences<L>, event: Event) -> (Receipt, Licences<L>)
         requires { self.old.next + 1 < 2 ^ 64 }
-        ensures step { IsStep self.old.state result.1 self.new.state }
-        ensures event { result.1.event ≡ event }
-        ensures purse_in { result.1.purse_in ≡ purse }
-        ensures purse_out { result.1.purse_out ≡ result.2 }
-        ensures proper { ForSome result.1.answer.sent IsProperDown }
-        ensures number { result.0 ≡ self.old.next }
+        ensures step { IsStep self.old.state result.0.entry self.new.state }
+        ensures event { result.0.entry.event ≡ event }
+        ensures purse_in { result.0.entry.purse_in ≡ purse }
+        ensures purse_out { result.0.entry.purse_out ≡ result.1 }
+        ensures proper { ForSome result.0.entry.answer.sent IsProperDown }
+        ensures port { result.0.port ≡ place }
+        ensures number { result.0.number ≡ self.old.next }
         ensures next { self.new.next ≡ self.old.next + 1 }
     {
         let number = self.next;
@@ -70,7 +73,12 @@ impl<L: Ledger> NumberedPort<L> {
             purse_out: rest.count(),
         };
         self.next += 1;
-        (number, entry, rest)
+        let receipt = Receipt {
+            port: place,
+            number,
+            entry,
+        };
+        (receipt, rest)
     }
 
     /// The licences of the port's units.
@@ -113,8 +121,7 @@ impl<L: Ledger> Terminal<L> {
     ) -> Result<Terminal<L>, AllocError>
         requires name { blank.name ≡ L.name }
         requires parts { (blank.parts ≡ L.parts) × (L.parts ≡ MOST_LICENCES) }
-        requires licences { script.now.licences ≤ MOST_LICENCES }
-        requires limits { All (λ config. IsTrue (is_within_limits config)) script.now.ports.items }
+        requires playable { IsPlayable (script_view script.now) }
         ensures opened { IfOk result (λ t. t ≡ opening_terminal (script_view script.now)) }
         ensures ports { IfOk result (λ t. length t.ports ≡ vec_len script.now.ports) }
     {
@@ -143,13 +150,9 @@ impl<L: Ledger> Terminal<L> {
     {
         let port = &mut self.ports[turn.port as usize];
         let purse = take_purse(&mut self.book, &turn.event);
-        let (number, entry, rest) = port.step(purse, turn.event);
+        let (receipt, rest) = port.step(turn.port, purse, turn.event);
         self.book.give(rest);
-        Receipt {
-            port: turn.port,
-            number,
-            entry,
-        }
+        receipt
     }
 
     /// Closes the ports and the book: all licences that there are.

@@ -64,12 +64,12 @@ struct SlowReader<'a> {
 }
 
 impl Read for SlowReader<'_> {
-    fn read(&mut self, buf: &mut [u8]) -> io::Result<usize> {
+    fn read(&mut self, buffer: &mut [u8]) -> io::Result<usize> {
         self.reads = self.reads.saturating_add(1);
         if self.reads == self.fails_at {
             return Err(io::Error::from(ErrorKind::Other));
         }
-        match (self.rest.split_first(), buf.first_mut()) {
+        match (self.rest.split_first(), buffer.first_mut()) {
             (Some((first, rest)), Some(place)) => {
                 *place = *first;
                 self.rest = rest;
@@ -88,11 +88,11 @@ struct ShortWriter {
 }
 
 impl Write for ShortWriter {
-    fn write(&mut self, buf: &[u8]) -> io::Result<usize> {
+    fn write(&mut self, buffer: &[u8]) -> io::Result<usize> {
         if self.taken.len() >= self.room {
             return Err(io::Error::from(ErrorKind::Other));
         }
-        match buf.first() {
+        match buffer.first() {
             Some(first) => {
                 self.taken.push(*first)?;
                 Ok(1)
@@ -202,7 +202,7 @@ fn a_third_read_that_fails(rt: HostRuntime) -> Result<(), Fail> {
 
 /// Scripts that are none: each ends with its fault, and nothing is written.
 #[test]
-fn malicious_scripts(rt: HostRuntime) -> Result<(), Fail> {
+fn faulty_scripts(rt: HostRuntime) -> Result<(), Fail> {
     let rows: [(&[u8], ScriptFault); 9] = [
         (b"\xff", ScriptFault::Syntax),
         (b"licences = 4065\n[[port]]", ScriptFault::Range),
@@ -249,8 +249,6 @@ fn as_long_as_may_be_and_longer(rt: HostRuntime) -> Result<(), Fail> {
     Ok(())
 }
 
-/// The line on standard error and the status of each fault; the line is the program's name and the
-/// fault's text.
 /// Each fault, its line on standard error and the exit status.
 const REPORTS: [(RunFault, &'static str, u8); 11] = [
     (RunFault::Read, "oltctl: read", 1),
@@ -290,6 +288,7 @@ const REPORTS: [(RunFault, &'static str, u8); 11] = [
     (RunFault::Mismatch, "oltctl: mismatch", 5),
 ];
 
+/// The line of a fault is the program's name and the fault's text.
 #[test]
 fn reports(rt: HostRuntime) -> Result<(), Fail> {
     for (fault, line, status) in REPORTS {

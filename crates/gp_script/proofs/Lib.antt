@@ -1,4 +1,5 @@
 pub mod AdmitLemmas
 pub mod EventsLemmas
 pub mod ItemsLemmas
+pub mod NamesLemmas
 pub mod TextLemmas

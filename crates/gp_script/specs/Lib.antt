@@ -5,3 +5,4 @@ pub mod Port
 pub mod Event
 pub mod Script
 pub mod View
+pub mod Playable

@@ -7,7 +7,7 @@ ghost use Rattle.gp_script.specs.View.{event_port};
 use crate::fault::{ScriptError, ScriptFault};
 use crate::keys::{has_only, member, needed_number, needed_text, needs, number_at};
 use crate::script::ScriptEvent;
-use crate::values::{code_of, delay_in, in_range, in_range_or, port_in, serial_of};
+use crate::values::{delay_in, in_range, in_range_or, octets_of, port_in, serial_of};
 use gp_machine::Command;
 use gp_ploam::{Mask, Up, encode_up};
 use std::alloc::Global;
@@ -24,7 +24,7 @@ fn frames_event(ports: u8, table: &Table) -> Result<ScriptEvent, ScriptFault>
     let port = needed_number(table, "port")?;
     let frames = needed_number(table, "frames")?;
     let port = port_in(ports, port)?;
-    let count = in_range(1, 1_000_000, frames)?;
+    let count = in_range(1..=1_000_000, frames)?;
     Ok(ScriptEvent::Frames { port, count })
 }
 
@@ -44,7 +44,7 @@ fn burst_event(ports: u8, table: &Table) -> Result<ScriptEvent, ScriptFault>
     let burst = needed_text(table, "burst")?;
     let port = port_in(ports, port)?;
     let at = delay_in(at)?;
-    let bytes = code_of(burst)?;
+    let bytes = octets_of(burst)?;
     Ok(ScriptEvent::Burst { port, at, bytes })
 }
 
@@ -64,7 +64,7 @@ fn say_serial(ports: u8, mask: Mask, table: &Table) -> Result<ScriptEvent, Scrip
     let port = port_in(ports, port)?;
     let at = delay_in(at)?;
     let serial = serial_of(serial)?;
-    let onu = in_range_or(255, 0, 255, onu)? as u8;
+    let onu = in_range_or(255, 0..=255, onu)? as u8;
     let message = Up::SerialNumber {
         onu,
         serial,
@@ -89,7 +89,7 @@ fn say_none(ports: u8, mask: Mask, table: &Table) -> Result<ScriptEvent, ScriptF
     let onu = needed_number(table, "onu")?;
     let port = port_in(ports, port)?;
     let at = delay_in(at)?;
-    let onu = in_range(0, 255, onu)? as u8;
+    let onu = in_range(0..=255, onu)? as u8;
     let bytes = encode_up(&Up::NoMessage { onu }, mask);
     Ok(ScriptEvent::Burst { port, at, bytes })
 }
@@ -160,13 +160,13 @@ pub(crate) fn events_of(
     ensures ports { IfOk result (λ v. All (λ e. event_port e < ports) v.items) }
     ensures count { IfOk result (λ v. vec_len v ≡ length tables.now) }
 {
-    let mut events = Vec::new(alloc);
+    let mut events = Vec::with_capacity(alloc, tables.len())?;
     'tables: for value in tables {
         let Some(table) = value.as_table() else {
             return Err(ScriptError::Fault(ScriptFault::Shape));
         };
         let event = event_of(ports, mask, table)?;
-        events.push(event)?;
+        events.push_reserved(event);
     }
     Ok(events)
 }

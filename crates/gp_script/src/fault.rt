@@ -1,7 +1,7 @@
 ghost use Rattle.std.specs.Prelude.{◌≡◌};
 ghost use Rattle.gp_script.specs.declared.fault.ScriptError.TheVariants.{OutOfMemory, Fault};
 
-use std::alloc::{AllocError, AllocFailed};
+use std::alloc::AllocError;
 use thiserror::Error;
 
 /// The first fault of a script. It is shown as its number and name.
@@ -52,13 +52,5 @@ impl From<AllocError> for ScriptError {
 
     fn from(_error: AllocError) -> ScriptError {
         ScriptError::OutOfMemory
-    }
-}
-
-impl<T: Drop> From<AllocFailed<T>> for ScriptError {
-    ghost from_gives = { λ _ e. e ≡ OutOfMemory };
-
-    fn from(_error: AllocFailed<T>) -> ScriptError {
-        ScriptError::from(AllocError)
     }
 }

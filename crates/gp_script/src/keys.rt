@@ -16,27 +16,18 @@ pub(crate) fn needs(fault: ScriptFault, test: bool) -> Result<(), ScriptFault>
 }
 
 /// Whether the key is one of these names.
+#[tactic(auto, using(crate::proofs::NamesLemmas::is_one_of_texts))]
 fn is_one_of(names: &[&str], key: &str) -> bool
     ensures { result ≡ spec.is_one_of (map (λ n. n.now) names.now) key.now }
 {
-    for name in names {
-        if *name == key {
-            return true;
-        }
-    }
-    false
+    names.contains(&key)
 }
 
 /// Whether each key of the table is one of these names.
 pub(crate) fn has_only(table: &Table, names: &[&str]) -> bool
     ensures { result ≡ spec.has_only (map (λ n. n.now) names.now) (table_view table.now) }
 {
-    'members: for (key, _value) in table.iter() {
-        if !is_one_of(names, key.as_str()) {
-            return false;
-        }
-    }
-    true
+    table.iter().all(|(key, _)| is_one_of(names, key.as_str()))
 }
 
 /// The value at a key.
@@ -52,10 +43,7 @@ pub(crate) fn number_at(table: &Table, key: &str) -> Result<Option<i64>, ScriptF
 {
     match member(table, key) {
         None => Ok(None),
-        Some(value) => match value.as_integer() {
-            Some(number) => Ok(Some(number)),
-            None => Err(ScriptFault::Shape),
-        },
+        Some(value) => value.as_integer().map(Some).ok_or(ScriptFault::Shape),
     }
 }
 
@@ -65,10 +53,7 @@ pub(crate) fn text_at<'a>(table: &'a Table, key: &str) -> Result<Option<&'a str>
 {
     match member(table, key) {
         None => Ok(None),
-        Some(value) => match value.as_str() {
-            Some(text) => Ok(Some(text)),
-            None => Err(ScriptFault::Shape),
-        },
+        Some(value) => value.as_str().map(Some).ok_or(ScriptFault::Shape),
     }
 }
 
@@ -76,10 +61,10 @@ pub(crate) fn text_at<'a>(table: &'a Table, key: &str) -> Result<Option<&'a str>
 fn items_of(value: &Value) -> Result<&[Value], ScriptFault>
     ensures { Sees (λ items. Some (items_view items.now)) result (spec.list_or_none (Some (view value.now))) }
 {
-    match value.as_array() {
-        Some(list) => Ok(list.as_slice()),
-        None => Err(ScriptFault::Shape),
-    }
+    value
+        .as_array()
+        .map(Vec::as_slice)
+        .ok_or(ScriptFault::Shape)
 }
 
 /// The list at a key that may be left out; then there is no item.
@@ -96,54 +81,35 @@ pub(crate) fn list_at<'a>(table: &'a Table, key: &str) -> Result<&'a [Value], Sc
 pub(crate) fn needed_number(table: &Table, key: &str) -> Result<i64, ScriptFault>
     ensures { result ≡ spec.needed_number key.now (table_view table.now) }
 {
-    match number_at(table, key)? {
-        Some(number) => Ok(number),
-        None => Err(ScriptFault::Shape),
-    }
+    number_at(table, key)?.ok_or(ScriptFault::Shape)
 }
 
 /// The text at a key that has to be there.
 pub(crate) fn needed_text<'a>(table: &'a Table, key: &str) -> Result<&'a str, ScriptFault>
     ensures { Sees (λ s. s.now) result (spec.needed_text key.now (table_view table.now)) }
 {
-    match text_at(table, key)? {
-        Some(text) => Ok(text),
-        None => Err(ScriptFault::Shape),
-    }
+    text_at(table, key)?.ok_or(ScriptFault::Shape)
 }
 
 /// The list at a key that has to be there.
 pub(crate) fn needed_list<'a>(table: &'a Table, key: &str) -> Result<&'a [Value], ScriptFault>
     ensures { Sees (λ items. items_view items.now) result (spec.needed_list key.now (table_view table.now)) }
 {
-    match member(table, key) {
-        Some(value) => items_of(value),
-        None => Err(ScriptFault::Shape),
-    }
+    items_of(member(table, key).ok_or(ScriptFault::Shape)?)
 }
 
 /// Whether each item is a table.
 pub(crate) fn are_tables(items: &[Value]) -> bool
     ensures { result ≡ spec.are_tables (items_view items.now) }
 {
-    for item in items {
-        if !item.is_table() {
-            return false;
-        }
-    }
-    true
+    items.iter().all(Value::is_table)
 }
 
 /// Whether each item is a text.
 pub(crate) fn are_texts(items: &[Value]) -> bool
     ensures { result ≡ spec.are_texts (items_view items.now) }
 {
-    for item in items {
-        if !item.is_str() {
-            return false;
-        }
-    }
-    true
+    items.iter().all(Value::is_str)
 }
 
 /// Whether there is no item.

@@ -8,7 +8,7 @@ ghost use Rattle.gp_script.specs.View.{port_keys_view};
 
 use crate::fault::{ScriptError, ScriptFault};
 use crate::keys::{are_texts, has_only, list_at, needs, number_at, text_at};
-use crate::values::{count_in, in_range_or, overhead_octets, serial_of};
+use crate::values::{count_in, in_range_or, octets_of, serial_of};
 use gp_machine::{Admitted, PortConfig, is_among};
 use gp_ploam::{Mask, Serial};
 use std::alloc::Global;
@@ -65,12 +65,7 @@ fn port_keys(table: &Table) -> Result<PortKeys<'_>, ScriptFault>
 fn is_admitted(serial: Serial, ports: &[PortConfig]) -> bool
     ensures { result ≡ spec.is_admitted serial ports.now }
 {
-    for port in ports {
-        if port.admitted.contains(&serial) {
-            return true;
-        }
-    }
-    false
+    ports.iter().any(|port| port.admitted.contains(&serial))
 }
 
 /// The serial number of a text of `admit`, new on this port and the ports before it.
@@ -100,10 +95,10 @@ fn serials_of(
     ensures count { IfOk result (λ v. vec_len v ≡ length texts.now) }
     ensures distinct { IfOk result (λ v. IsTrue (is_distinct v.items)) }
 {
-    let mut serials = Vec::new(alloc);
+    let mut serials = Vec::with_capacity(alloc, texts.len())?;
     'texts: for text in texts {
         let serial = new_serial(ports, serials.as_slice(), text)?;
-        serials.push(serial)?;
+        serials.push_reserved(serial);
     }
     Ok(serials)
 }
@@ -114,7 +109,7 @@ fn overhead_of(text: Option<&str>) -> Result<[u8; 10], ScriptFault>
 {
     match text {
         None => Ok([0; 10]),
-        Some(text) => overhead_octets(text),
+        Some(text) => octets_of(text),
     }
 }
 
@@ -130,13 +125,13 @@ fn port_of(
     ensures limits { IfOk result (λ port. IsTrue (is_within_limits port)) }
 {
     let shape = port_keys(table)?;
-    let teqd = in_range_or(311_040, 0, u32::MAX, shape.teqd)?;
-    let max_units = in_range_or(254, 1, 254, shape.max_units)?;
-    let alloc_last = in_range_or(4095, 256, 4095, shape.alloc_last)?;
-    let cycles = in_range_or(3, 1, 10, shape.cycles)?;
-    let search_period = in_range_or(0, 0, 1_000_000, shape.search_period)?;
+    let teqd = in_range_or(311_040, 0..=u32::MAX, shape.teqd)?;
+    let max_units = in_range_or(254, 1..=254, shape.max_units)?;
+    let alloc_last = in_range_or(4095, 256..=4095, shape.alloc_last)?;
+    let cycles = in_range_or(3, 1..=10, shape.cycles)?;
+    let search_period = in_range_or(0, 0..=1_000_000, shape.search_period)?;
     let overhead = overhead_of(shape.overhead)?;
-    count_in(0, 512, shape.admit)?;
+    count_in(0..=512, shape.admit)?;
     let admitted = serials_of(alloc, before, shape.admit)?;
     Ok(PortConfig {
         mask,
@@ -161,13 +156,13 @@ pub(crate) fn ports_of(
     ensures count { IfOk result (λ v. vec_len v ≡ length tables.now) }
     ensures limits { IfOk result (λ v. All (λ port. IsTrue (is_within_limits port)) v.items) }
 {
-    let mut ports = Vec::new(alloc);
+    let mut ports = Vec::with_capacity(alloc, tables.len())?;
     'tables: for value in tables {
         let Some(table) = value.as_table() else {
             return Err(ScriptError::Fault(ScriptFault::Shape));
         };
         let port = port_of(alloc, mask, ports.as_slice(), table)?;
-        ports.push(port)?;
+        ports.push_reserved(port);
     }
     Ok(ports)
 }

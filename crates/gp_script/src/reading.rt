@@ -1,11 +1,11 @@
-ghost use Rattle.std.specs.Prelude.{◌≡◌, ◌<◌, ◌≤◌, Err, IfOk, IsTrue, All, vec_len};
+ghost use Rattle.std.specs.Prelude.{◌≡◌, Err, IfOk, IsTrue};
 ghost use Rattle.std.specs.Str.{is_utf8};
 ghost use Rattle.toml.specs.Parse.{parse_document};
 ghost use Rattle.toml.specs.View.{table_view};
-ghost use Rattle.gp_machine.specs.Config.{is_within_limits};
 ghost use Rattle.gp_script.specs.Fault.{Gives, Sees};
-ghost use Rattle.gp_script.specs.Script.{top_shape, script_of_table, script_of, text_of, table_or_fault, most_licences, most_ports, most_events};
-ghost use Rattle.gp_script.specs.View.{top_keys_view, script_view, event_port};
+ghost use Rattle.gp_script.specs.Script.{top_shape, script_of_table, script_of, text_of, table_or_fault};
+ghost use Rattle.gp_script.specs.Playable.{IsPlayable};
+ghost use Rattle.gp_script.specs.View.{top_keys_view, script_view};
 
 use crate::events::events_of;
 use crate::fault::{ScriptError, ScriptFault};
@@ -66,18 +66,13 @@ fn top_keys(table: &Table) -> Result<TopKeys<'_>, ScriptFault>
 #[tactic(auto, unfolding(crate::specs::Script::script_of_table))]
 fn read_table(alloc: Global, table: &Table) -> Result<Script, ScriptError>
     ensures value { Gives script_view result (script_of_table (table_view table.now)) }
-    ensures licences { IfOk result (λ s. s.licences ≤ most_licences) }
-    ensures some_port { IfOk result (λ s. 0 < vec_len s.ports) }
-    ensures few_ports { IfOk result (λ s. vec_len s.ports ≤ most_ports) }
-    ensures limits { IfOk result (λ s. All (λ port. IsTrue (is_within_limits port)) s.ports.items) }
-    ensures events { IfOk result (λ s. All (λ e. event_port e < vec_len s.ports) s.events.items) }
-    ensures few_events { IfOk result (λ s. vec_len s.events ≤ most_events) }
+    ensures playable { IfOk result (λ s. IsPlayable (script_view s)) }
 {
     let shape = top_keys(table)?;
-    let licences = in_range(0, MOST_LICENCES, shape.licences)?;
+    let licences = in_range(0..=MOST_LICENCES, shape.licences)?;
     let mask = mask_of(shape.mask)?;
-    let count = count_in(1, MOST_PORTS, shape.ports)? as u8;
-    count_in(0, MOST_EVENTS, shape.events)?;
+    let count = count_in(1..=MOST_PORTS, shape.ports)? as u8;
+    count_in(0..=MOST_EVENTS, shape.events)?;
     let ports = ports_of(alloc, mask, shape.ports)?;
     let events = events_of(alloc, count, mask, shape.events)?;
     Ok(Script {
@@ -93,21 +88,20 @@ fn read_table(alloc: Global, table: &Table) -> Result<Script, ScriptError>
 fn read_text(bytes: &[u8]) -> Result<&str, ScriptFault>
     ensures { Sees (λ s. s.now) result (text_of bytes.now) }
 {
-    match std::str::from_utf8(bytes) {
-        Ok(text) => Ok(text),
-        Err(_) => Err(ScriptFault::Syntax),
-    }
+    std::str::from_utf8(bytes).map_err(|_| ScriptFault::Syntax)
 }
 
 /// The table that a text stands for.
 fn parse_table(alloc: Global, text: &str) -> Result<Table, ScriptError>
     ensures { Gives table_view result (table_or_fault (parse_document text.now)) }
 {
-    match toml::table_from_str(alloc, text) {
-        Ok(table) => Ok(table),
-        Err(error) if error.is_memory() => Err(ScriptError::OutOfMemory),
-        Err(_) => Err(ScriptError::Fault(ScriptFault::Syntax)),
-    }
+    toml::table_from_str(alloc, text).map_err(|error| {
+        if error.is_memory() {
+            ScriptError::OutOfMemory
+        } else {
+            ScriptError::Fault(ScriptFault::Syntax)
+        }
+    })
 }
 
 /// What the bytes say as a script, or the first fault, before any event runs.
@@ -117,13 +111,8 @@ fn parse_table(alloc: Global, text: &str) -> Result<Table, ScriptError>
 #[tactic(auto, unfolding(crate::specs::Script::script_of))]
 pub fn read_script(alloc: Global, bytes: &[u8]) -> Result<Script, ScriptError>
     ensures value { Gives script_view result (script_of bytes.now) }
-    ensures memory { result ≡ Err ScriptError.OutOfMemory → IsTrue (is_utf8 bytes.now) }
-    ensures licences { IfOk result (λ s. s.licences ≤ most_licences) }
-    ensures some_port { IfOk result (λ s. 0 < vec_len s.ports) }
-    ensures few_ports { IfOk result (λ s. vec_len s.ports ≤ most_ports) }
-    ensures limits { IfOk result (λ s. All (λ port. IsTrue (is_within_limits port)) s.ports.items) }
-    ensures events { IfOk result (λ s. All (λ e. event_port e < vec_len s.ports) s.events.items) }
-    ensures few_events { IfOk result (λ s. vec_len s.events ≤ most_events) }
+    ensures memory_only_of_utf8 { result ≡ Err ScriptError.OutOfMemory → IsTrue (is_utf8 bytes.now) }
+    ensures playable { IfOk result (λ s. IsPlayable (script_view s)) }
 {
     let text = read_text(bytes)?;
     let table = parse_table(alloc, text)?;

@@ -30,16 +30,16 @@ serial = \"ABCD00000001\"
 onu = 0
 ";
 
-/// What stands before a value and behind it, two values outside its range, and its two ends.
-type Range = (
-    &'static str,
-    &'static str,
-    [&'static str; 2],
-    [&'static str; 2],
-);
+/// A value of a script, with texts outside its range and at its ends.
+struct Range {
+    before: &'static str,
+    behind: &'static str,
+    outside: [&'static str; 2],
+    ends: &'static [&'static str],
+}
 
 /// Scripts with a fault of the top.
-const TOP_FAULTS: [(&'static str, ScriptFault); 14] = [
+const TOP_FAULTS: [(&'static str, ScriptFault); 13] = [
     ("", ScriptFault::Shape),
     ("licences = ", ScriptFault::Syntax),
     ("licences = 1", ScriptFault::Shape),
@@ -53,7 +53,6 @@ const TOP_FAULTS: [(&'static str, ScriptFault); 14] = [
     ("licences = 1\nport = [{}]\n[[lose]]", ScriptFault::Shape),
     ("licences = 1\nport = [{}]\n[unit]", ScriptFault::Shape),
     ("licences = 1\nport = [{}]\nevent = [1]", ScriptFault::Shape),
-    ("licences = 1\nport = [{}]\n[[event]]", ScriptFault::Shape),
 ];
 
 /// Scripts with a fault of a port table.
@@ -80,7 +79,8 @@ const PORT_FAULTS: [(&'static str, ScriptFault); 7] = [
 ];
 
 /// Events with a fault.
-const EVENT_FAULTS: [(&'static str, ScriptFault); 18] = [
+const EVENT_FAULTS: [(&'static str, ScriptFault); 19] = [
+    ("", ScriptFault::Shape),
     ("port = 0", ScriptFault::Shape),
     ("frames = 1", ScriptFault::Shape),
     ("port = 0, frames = 1, at = 0", ScriptFault::Shape),
@@ -174,92 +174,92 @@ const TWO_FAULTS: [(&'static str, ScriptFault); 13] = [
 
 /// The ranges of the top.
 const TOP_RANGES: [Range; 2] = [
-    (
-        "licences = ",
-        "\nport = [{}]",
-        ["-1", "4065"],
-        ["0", "4064"],
-    ),
-    (
-        "licences = 1\nport = [{}]\nmask = ",
-        "",
-        ["84", "86"],
-        ["0", "85"],
-    ),
+    Range {
+        before: "licences = ",
+        behind: "\nport = [{}]",
+        outside: ["-1", "4065"],
+        ends: &["0", "4064"],
+    },
+    Range {
+        before: "licences = 1\nport = [{}]\nmask = ",
+        behind: "",
+        outside: ["84", "86"],
+        ends: &["0", "85"],
+    },
 ];
 
 /// The ranges of a port table.
 const PORT_RANGES: [Range; 5] = [
-    (
-        "licences = 1\nport = [{teqd = ",
-        "}]",
-        ["-1", "4294967296"],
-        ["0", "4294967295"],
-    ),
-    (
-        "licences = 1\nport = [{max_units = ",
-        "}]",
-        ["0", "255"],
-        ["1", "254"],
-    ),
-    (
-        "licences = 1\nport = [{alloc_last = ",
-        "}]",
-        ["255", "4096"],
-        ["256", "4095"],
-    ),
-    (
-        "licences = 1\nport = [{cycles = ",
-        "}]",
-        ["0", "11"],
-        ["1", "10"],
-    ),
-    (
-        "licences = 1\nport = [{search_period = ",
-        "}]",
-        ["-1", "1000001"],
-        ["0", "1000000"],
-    ),
+    Range {
+        before: "licences = 1\nport = [{teqd = ",
+        behind: "}]",
+        outside: ["-1", "4294967296"],
+        ends: &["0", "4294967295"],
+    },
+    Range {
+        before: "licences = 1\nport = [{max_units = ",
+        behind: "}]",
+        outside: ["0", "255"],
+        ends: &["1", "254"],
+    },
+    Range {
+        before: "licences = 1\nport = [{alloc_last = ",
+        behind: "}]",
+        outside: ["255", "4096"],
+        ends: &["256", "4095"],
+    },
+    Range {
+        before: "licences = 1\nport = [{cycles = ",
+        behind: "}]",
+        outside: ["0", "11"],
+        ends: &["1", "10"],
+    },
+    Range {
+        before: "licences = 1\nport = [{search_period = ",
+        behind: "}]",
+        outside: ["-1", "1000001"],
+        ends: &["0", "1000000"],
+    },
 ];
 
 /// The ranges of an event table.
 const EVENT_RANGES: [Range; 6] = [
-    (
-        "licences = 1\nport = [{}]\nevent = [{command = \"search\", port = ",
-        "}]",
-        ["-1", "1"],
-        ["0", "0"],
-    ),
-    (
-        "licences = 1\nport = [{}]\nevent = [{port = 0, frames = ",
-        "}]",
-        ["0", "1000001"],
-        ["1", "1000000"],
-    ),
-    (
-        "licences = 1\nport = [{}]\nevent = [{port = 0, burst = \"0004000000000000000000007c\", at = ",
-        "}]",
-        ["-1", "4294967296"],
-        ["0", "4294967295"],
-    ),
-    (
-        "licences = 1\nport = [{}]\nevent = [{port = 0, at = 0, say = \"serial\", serial = \"ABCD00000001\", onu = ",
-        "}]",
-        ["-1", "256"],
-        ["0", "255"],
-    ),
-    (
-        "licences = 1\nport = [{}]\nevent = [{port = 0, say = \"none\", onu = 0, at = ",
-        "}]",
-        ["-1", "4294967296"],
-        ["0", "4294967295"],
-    ),
-    (
-        "licences = 1\nport = [{}]\nevent = [{port = 0, at = 0, say = \"none\", onu = ",
-        "}]",
-        ["-1", "256"],
-        ["0", "255"],
-    ),
+    Range {
+        before: "licences = 1\nport = [{}]\nevent = [{command = \"search\", port = ",
+        behind: "}]",
+        outside: ["-1", "1"],
+        ends: &["0"],
+    },
+    Range {
+        before: "licences = 1\nport = [{}]\nevent = [{port = 0, frames = ",
+        behind: "}]",
+        outside: ["0", "1000001"],
+        ends: &["1", "1000000"],
+    },
+    Range {
+        before: "licences = 1\nport = [{}]\nevent = [{port = 0, burst = \"0004000000000000000000007c\", at = ",
+        behind: "}]",
+        outside: ["-1", "4294967296"],
+        ends: &["0", "4294967295"],
+    },
+    Range {
+        before: "licences = 1\nport = [{}]\nevent = [{port = 0, at = 0, say = \"serial\", serial = \"ABCD00000001\", onu = ",
+        behind: "}]",
+        outside: ["-1", "256"],
+        ends: &["0", "255"],
+    },
+    Range {
+        before: "licences = 1\nport = [{}]\nevent = [{port = 0, say = \"none\", onu = 0, at = ",
+        behind: "}]",
+        outside: ["-1", "4294967296"],
+        ends: &["0", "4294967295"],
+    },
+    Range {
+        before: "licences = 1\nport = [{}]\nevent = [{port = 0, at = 0, say = \"none\", onu = ",
+        behind: "}]",
+        outside: ["-1", "256"],
+        ends: &["0", "255"],
+    },
 ];
 
 /// The fault of a script, if it has one. Want of memory ends the test.
@@ -288,12 +288,11 @@ fn first_other(
 fn all_give(
     alloc: Global,
     range: &Range,
-    values: &[&'static str; 2],
+    values: &[&'static str],
     want: Option<ScriptFault>,
 ) -> Result<bool, ScriptError> {
-    let (before, after, _, _) = range;
     for value in values {
-        let text = format!(in alloc; "{before}{value}{after}")?;
+        let text = format!(in alloc; "{}{value}{}", range.before, range.behind)?;
         if fault_of(alloc, text.as_bytes())? != want {
             return Ok(false);
         }
@@ -304,10 +303,10 @@ fn all_give(
 /// The first of these ranges that takes a value outside it or refuses one of its ends.
 fn first_wrong(alloc: Global, ranges: &[Range]) -> Result<Option<&'static str>, ScriptError> {
     for range in ranges {
-        let refused = all_give(alloc, range, &range.2, Some(ScriptFault::Range))?;
-        let taken = all_give(alloc, range, &range.3, None)?;
+        let refused = all_give(alloc, range, &range.outside, Some(ScriptFault::Range))?;
+        let taken = all_give(alloc, range, range.ends, None)?;
         if !refused || !taken {
-            return Ok(Some(range.0));
+            return Ok(Some(range.before));
         }
     }
     Ok(None)
@@ -377,8 +376,10 @@ fn other_forms(rt: HostRuntime) -> Result<(), ScriptError> {
             bytes: *b"\x00\x04\x00\x00\x00\x00\x00\x00\x00\x00\x00\x00\x29",
         },
     ];
+    assert_eq!(rt; script.licences, 0);
     assert_eq!(rt; script.mask, Mask::Coset);
     assert_eq!(rt; script.events.as_slice(), events.as_slice());
+    assert_eq!(rt; script.ports.len(), 1);
     for port in &script.ports {
         assert_eq!(rt; port.mask, Mask::Coset);
         assert_eq!(rt; port.cycles, 3);
@@ -424,30 +425,60 @@ fn ends_of_ranges(rt: HostRuntime) -> Result<(), ScriptError> {
     Ok(())
 }
 
+/// A script that admits this text and behind it so many serial numbers.
+fn admitting(alloc: Global, first: &str, count: u32) -> Result<String, AllocError> {
+    let mut text = String::new(alloc);
+    text.push_str("licences = 1\nport = [{admit = [")?;
+    text.push_str(first)?;
+    for number in 0..count {
+        let serial = format!(in alloc; "\"ABCD{number:08}\",")?;
+        text.push_str(serial.as_str())?;
+    }
+    text.push_str("]}]")?;
+    Ok(text)
+}
+
 #[test]
-fn many_of_a_kind(rt: HostRuntime) -> Result<(), ScriptError> {
+fn most_serial_numbers(rt: HostRuntime) -> Result<(), ScriptError> {
     for (count, want) in [(512, None), (513, Some(ScriptFault::Range))] {
-        let mut text = String::new(rt.alloc());
-        text.push_str("licences = 1\nport = [{admit = [")?;
-        for number in 0..count {
-            let serial = format!(in rt.alloc(); "\"ABCD{number:08}\",")?;
-            text.push_str(serial.as_str())?;
-        }
-        text.push_str("]}]")?;
+        let text = admitting(rt.alloc(), "", count)?;
         let found = fault_of(rt.alloc(), text.as_bytes())?;
         assert_eq!(rt; found, want, "{count} serial numbers");
     }
+    Ok(())
+}
+
+#[test]
+fn too_many_serial_numbers_before_a_wrong_one(rt: HostRuntime) -> Result<(), ScriptError> {
+    for (count, want) in [(511, ScriptFault::Serial), (512, ScriptFault::Range)] {
+        let text = admitting(rt.alloc(), "\"A\",", count)?;
+        let found = fault_of(rt.alloc(), text.as_bytes())?;
+        assert_eq!(rt;
+            found,
+            Some(want),
+            "{count} serial numbers and another text"
+        );
+    }
+    Ok(())
+}
+
+#[test]
+fn seventeen_ports(rt: HostRuntime) -> Result<(), ScriptError> {
     for (licences, fault) in [("\"1\"", ScriptFault::Shape), ("1", ScriptFault::Range)] {
         let text = format!(in rt.alloc();
             "licences = {licences}\nport = [{}{{}}]",
             "{}, ".repeat(rt.alloc(), 16)?
         )?;
         let found = fault_of(rt.alloc(), text.as_bytes())?;
-        assert_eq!(rt; found, Some(fault), "17 ports");
+        assert_eq!(rt; found, Some(fault), "licences = {licences}");
     }
-    let blank = vec![in rt.alloc(); b' '; 1_048_576]?;
-    let found = fault_of(rt.alloc(), &blank)?;
-    assert_eq!(rt; found, Some(ScriptFault::Shape));
+    Ok(())
+}
+
+#[test]
+fn nothing_but_spaces(rt: HostRuntime) -> Result<(), ScriptError> {
+    let spaces = vec![in rt.alloc(); b' '; 1_048_576]?;
+    assert_eq!(rt; fault_of(rt.alloc(), &spaces)?, Some(ScriptFault::Shape));
     Ok(())
 }
 

@@ -109,7 +109,7 @@ fn write_digits(octets: &[u8], digits: &mut [u8])
     requires { length digits.old ≡ 2 * length octets.now }
     ensures { digits.new ≡ encode_upper octets.now }
 {
-    let _ = hex::encode_to_slice(octets, &mut *digits);
+    hex::encode_to_slice(octets, &mut *digits).unwrap();
     digits.make_ascii_uppercase();
 }
 

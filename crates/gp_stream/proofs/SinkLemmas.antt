@@ -1,8 +1,8 @@
 -- Handing bytes to a sink several times.
-use Rattle.std.proofs.Common.{◌≡◌, ℕ, List, [], ◌++◌, Result, Ok, Err, OnErr, take, drop, take-append-drop, length, subst, sym, ◌∙◌, ap, append_assoc, append-nil}
-use Rattle.std.proofs.Math.Seq.{take-append_seam}
-use Rattle.std.specs.Io.KnownBytes.{Appends}
-use Rattle.std.proofs.KnownBytes.{Appends-nil, Appends-trans}
+use Rattle.std.proofs.Common.{◌≡◌, ℕ, List, [], ◌++◌, Result, Ok, Err, OnErr, take, drop, take-append-drop, length, subst, sym, ◌∙◌, ap, append_assoc, append-nil, Option}
+use Rattle.std.proofs.Math.Seq.{take-append_seam, take-length}
+use Rattle.std.specs.Io.KnownBytes.{Appends, Keeps}
+use Rattle.std.proofs.KnownBytes.{Appends-nil, Appends-kept, Appends-trans}
 use Rattle.gp_stream.specs.Sink.{SinkState, Takes, TakesFront}
 
 -- what holds at all holds where the result is an error
@@ -88,3 +88,7 @@ pub takes_front_count : (a b : SinkState) (bytes : List ℕ) → TakesFront a b 
 takes_front_count a b bytes p none =
     let front = ap (take (length p.written)) (sym (ap (λ l. l ++ bytes) none) ∙ p.rest) ∙ take-append_seam p.written p.unwritten in
     (length p.written, subst (Appends a.held b.held) (sym front) p.appended)
+
+-- what was written stays when the writer then fails to hand it on
+pub front_kept : (a b c : Option (List ℕ)) (bytes : List ℕ) → Appends a b bytes → Keeps b c → (count : ℕ) × Appends a c (take count bytes)
+front_kept a b c bytes p q = (length bytes, rw (take-length bytes) (Appends-kept a b c bytes p q))

@@ -2,7 +2,7 @@
 use Rattle.std.specs.Prelude.{◌≡◌, ℕ, Bool, List, ◌++◌, Option, vec_capacity}
 use Rattle.std.specs.Io.KnownBytes.{Appends}
 use Rattle.gp_stream.specs.declared.sink.Sink.{Sink}
-use Rattle.gp_stream.specs.Watched.{inner_of, is_stopped}
+use Rattle.gp_stream.specs.Watched.{inner_of, is_stopped, is_flushed}
 
 -- the writer below
 abbrev pub writer_of : {W : Type 0} → Sink W → W
@@ -16,9 +16,13 @@ gathered_of s = s.gathered.items
 abbrev pub room_of : {W : Type 0} → Sink W → ℕ
 room_of s = vec_capacity s.gathered
 
--- a write has failed or taken nothing
+-- a write has failed or taken nothing, or a flush has failed
 abbrev pub has_stopped : {W : Type 0} → Sink W → Bool
 has_stopped s = is_stopped s.writer
+
+-- the writer was flushed since it was last written to, so that it keeps nothing back
+abbrev pub has_flushed : {W : Type 0} → Sink W → Bool
+has_flushed s = is_flushed s.writer
 
 -- where a sink stands: what the writer holds, and what is gathered for it. A writer that doesn't tell its bytes (standard
 -- output) has None here; then nothing below says what it got

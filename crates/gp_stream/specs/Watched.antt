@@ -6,9 +6,13 @@ use Rattle.gp_stream.specs.declared.watched.Watched.{Watched}
 abbrev pub inner_of : {W : Type 0} → Watched W → W
 inner_of w = w.inner
 
--- a write has failed or taken nothing
+-- a write has failed or taken nothing, or a flush has failed
 abbrev pub is_stopped : {W : Type 0} → Watched W → Bool
 is_stopped w = w.stopped
+
+-- nothing was written since the last flush
+abbrev pub is_flushed : {W : Type 0} → Watched W → Bool
+is_flushed w = w.flushed
 
 -- there were bytes to write, and the write failed or took none of them
 abbrev pub took_nothing : {E : Type 0} → List ℕ → Result ℕ E → Bool

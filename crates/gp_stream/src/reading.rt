@@ -1,8 +1,9 @@
 ghost use Rattle.std.specs.Prelude.{◌≡◌, ◌≢◌, ◌<◌, ◌≤◌, ◌+◌, ◌⊎◌, ◌↔◌, Err, IfOk, List, ℕ, length, vec_len, true, false};
 ghost use Rattle.gp_stream.specs.Source.{has_failed, reads_left, source_state, ReadsWhole, ReadsSome, ReadsTooMuch, WasReadable};
+ghost use Rattle.gp_stream.specs.declared.reading.SourceFault.TheVariants.{OutOfMemory};
 
 use crate::source::Source;
-use std::alloc::Global;
+use std::alloc::{AllocError, Global};
 use std::io::Read;
 use thiserror::Error;
 
@@ -24,6 +25,14 @@ pub enum SourceFault {
     /// There was no memory for the bytes.
     #[error("out of memory")]
     OutOfMemory,
+}
+
+impl From<AllocError> for SourceFault {
+    ghost from_gives = { λ _ fault. fault ≡ OutOfMemory };
+
+    fn from(_error: AllocError) -> SourceFault {
+        SourceFault::OutOfMemory
+    }
 }
 
 /// All bytes of the input.
@@ -60,9 +69,7 @@ pub fn read_all<R: Read>(alloc: Global, source: &mut Source<R>) -> Result<Vec<u8
                 if count > MOST_BYTES - bytes.len() {
                     return Err(SourceFault::TooLong);
                 }
-                if bytes.extend_from_slice(&block[..count]).is_err() {
-                    return Err(SourceFault::OutOfMemory);
-                }
+                bytes.extend_from_slice(&block[..count])?;
             }
         }
     }

@@ -1,17 +1,18 @@
 use crate::{Sink, Source, SourceFault, WriteStopped, read_all};
 use std::alloc::{AllocError, Global};
 use std::io;
-use std::io::{ErrorKind, Read, Write};
+use std::io::{BufWriter, ErrorKind, Read, Write};
+use std::test::Fail;
 
-/// Gives one octet a read, and fails at one read.
+/// Gives one octet a read, and fails at one read, counted from 1.
 #[derive(Drop)]
-struct Slow<'a> {
+struct SlowReader<'a> {
     rest: &'a [u8],
     reads: usize,
     fails_at: usize,
 }
 
-impl Read for Slow<'_> {
+impl Read for SlowReader<'_> {
     fn read(&mut self, buffer: &mut [u8]) -> io::Result<usize> {
         self.reads = self.reads.saturating_add(1);
         if self.reads == self.fails_at {
@@ -30,11 +31,11 @@ impl Read for Slow<'_> {
 
 /// Gives so many octets, as many in each read as are asked for.
 #[derive(Drop)]
-struct Zeros {
+struct ZerosReader {
     left: usize,
 }
 
-impl Read for Zeros {
+impl Read for ZerosReader {
     fn read(&mut self, buffer: &mut [u8]) -> io::Result<usize> {
         let count = self.left.min(buffer.len());
         self.left -= count;
@@ -42,15 +43,15 @@ impl Read for Zeros {
     }
 }
 
-/// Takes one octet a write, and so many octets.
+/// Takes one octet a write, and once it took so many it fails, or takes nothing.
 #[derive(Drop)]
-struct Short {
+struct ShortWriter {
     taken: Vec<u8>,
     room: usize,
     fails: bool,
 }
 
-impl Write for Short {
+impl Write for ShortWriter {
     fn write(&mut self, buffer: &[u8]) -> io::Result<usize> {
         if self.taken.len() >= self.room {
             return if self.fails {
@@ -87,12 +88,12 @@ fn fault_of<R: Read>(
 
 #[test]
 fn one_octet_a_read(rt: HostRuntime) -> Result<(), SourceFault> {
-    let slow = Slow {
+    let reader = SlowReader {
         rest: b"licences",
         reads: 0,
         fails_at: 0,
     };
-    let bytes = read_all(rt.alloc(), &mut Source::new(slow))?;
+    let bytes = read_all(rt.alloc(), &mut Source::new(reader))?;
     assert_eq!(rt; bytes.as_slice(), b"licences".as_slice());
     Ok(())
 }
@@ -101,12 +102,12 @@ fn one_octet_a_read(rt: HostRuntime) -> Result<(), SourceFault> {
 #[test]
 fn each_read_fails_in_turn(rt: HostRuntime) -> Result<(), SourceFault> {
     for fails_at in 1..12 {
-        let slow = Slow {
+        let reader = SlowReader {
             rest: b"licences",
             reads: 0,
             fails_at,
         };
-        let mut source = Source::new(slow);
+        let mut source = Source::new(reader);
         let fault = fault_of(rt.alloc(), &mut source)?;
         let want = if fails_at < 10 {
             Some(SourceFault::Read)
@@ -125,7 +126,7 @@ fn each_read_fails_in_turn(rt: HostRuntime) -> Result<(), SourceFault> {
 #[test]
 fn longest_input(rt: HostRuntime) -> Result<(), SourceFault> {
     for (left, want) in [(1_048_576, None), (1_048_577, Some(SourceFault::TooLong))] {
-        let fault = fault_of(rt.alloc(), &mut Source::new(Zeros { left }))?;
+        let fault = fault_of(rt.alloc(), &mut Source::new(ZerosReader { left }))?;
         assert_eq!(rt; fault, want, "{left} octets");
     }
     Ok(())
@@ -134,12 +135,12 @@ fn longest_input(rt: HostRuntime) -> Result<(), SourceFault> {
 #[test]
 fn short_writes_and_faults(rt: HostRuntime) -> Result<(), AllocError> {
     for (fails, room) in (0..14).map(|number| (number < 7, number % 7)) {
-        let short = Short {
+        let writer = ShortWriter {
             taken: Vec::with_capacity(rt.alloc(), 6)?,
             room,
             fails,
         };
-        let mut sink = Sink::new(rt.alloc(), short)?;
+        let mut sink = Sink::new(rt.alloc(), writer)?;
         assert_eq!(rt; sink.put(b"abc"), Ok(()));
         assert_eq!(rt; sink.put(b"def"), Ok(()));
         let want = if room < 6 { Err(WriteStopped) } else { Ok(()) };
@@ -154,17 +155,36 @@ fn short_writes_and_faults(rt: HostRuntime) -> Result<(), AllocError> {
 // Nothing is written where nothing was handed in, so nothing fails.
 #[test]
 fn nothing_to_write(rt: HostRuntime) -> Result<(), AllocError> {
-    let short = Short {
+    let writer = ShortWriter {
         taken: Vec::new(rt.alloc()),
         room: 0,
         fails: true,
     };
-    let mut sink = Sink::new(rt.alloc(), short)?;
+    let mut sink = Sink::new(rt.alloc(), writer)?;
     assert_eq!(rt; sink.put(b""), Ok(()));
     assert_eq!(rt; sink.finish(), Ok(()));
     assert_eq!(rt; sink.put(b"abc"), Ok(()));
     assert_eq!(rt; sink.finish(), Err(WriteStopped));
     assert_eq!(rt; sink.put(b""), Err(WriteStopped));
+    Ok(())
+}
+
+/// What a buffer between the sink and the writer keeps back goes out before `finish` answers.
+#[test]
+fn a_writer_behind_a_buffer(rt: HostRuntime) -> Result<(), Fail> {
+    for room in 0..4 {
+        let writer = ShortWriter {
+            taken: Vec::new(rt.alloc()),
+            room,
+            fails: true,
+        };
+        let mut sink = Sink::new(rt.alloc(), BufWriter::new(rt.alloc(), writer)?)?;
+        assert_eq!(rt; sink.put(b"abc"), Ok(()));
+        let want = if room < 3 { Err(WriteStopped) } else { Ok(()) };
+        assert_eq!(rt; sink.finish(), want, "room for {room}");
+        let buffer = sink.into_inner();
+        assert_eq!(rt; buffer.get_ref().taken.as_slice(), &b"abc"[..room]);
+    }
     Ok(())
 }
 

@@ -1,4 +1,4 @@
 use Rattle.gp_licence.proofs.tests.last_licence_once.Given as goal
 
-abbrev pub ghosts-day_of_two : goal.ghosts-day_of_two
-ghosts-day_of_two g a = record { name = a.blank.name; parts = 4064 }
+abbrev pub ghosts-take_and_give_two : goal.ghosts-take_and_give_two
+ghosts-take_and_give_two g a = record { name = a.blank.name; parts = 4064 }

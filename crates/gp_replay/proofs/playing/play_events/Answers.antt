@@ -21,6 +21,7 @@ events-preserved g c =
     record {
       played = writes_on _ _ _ _ _ _ _ _ _ _ (events_more c.args.events.now c.events.event-index (Frames 0 0) c.events-test.true) c.events.invariant.played c.in_ok-play_event.ensures.ok;
       stopped = search rules;
+      flushed = search rules;
       refused = search rules;
       ports = search rules;
       room = room_left rest many _ _ _ _ _ _ c.in_ok-play_event.ensures.ok (omega (arith, few, c.events-test.true)) c.events.invariant.room;

@@ -18,6 +18,7 @@ pub loop-preserved : goal.loop-preserved
 loop-preserved g c = record {
   played = writes_on _ _ _ _ _ _ _ _ _ _ (frames_more c.loop.counter (frame_turn c.args.port)) c.loop.invariant.played c.in_ok-play_turn.ensures.ok;
   stopped = search rules;
+  flushed = search rules;
   refused = search rules;
   ports = search rules;
 }

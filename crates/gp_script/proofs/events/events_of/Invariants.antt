@@ -1,4 +1,4 @@
-use Rattle.std.proofs.Common.{◌≡◌, ◌<◌, drop, vec_len, All}
+use Rattle.std.proofs.Common.{◌≡◌, ◌<◌, ◌≤◌, drop, length, vec_len, vec_capacity, All}
 use Rattle.toml.specs.View.{items_view}
 use Rattle.gp_script.specs.Event.{events_of}
 use Rattle.gp_script.specs.View.{event_port}
@@ -10,4 +10,5 @@ invariant-tables l = record {
   value : behind l.events.items (events_of l.ports l.mask (items_view (drop l.value-index l.tables))) ≡ events_of l.ports l.mask (items_view l.tables);
   ports : All (λ e. event_port e < l.ports) l.events.items;
   count : vec_len l.events ≡ l.value-index;
+  room : length l.tables ≤ vec_capacity l.events;
 }

@@ -10,5 +10,6 @@ unfolding ports_from
 tables-preserved c = record {
   value = grind (arith, common_steps);
   count = search rules;
-  limits = rw c.in_ok-push.ensures.items (All-push (λ port. IsTrue (is_within_limits port)) c.tables.ports.items c.in_ok-port.port c.tables.invariant.limits c.in_ok-port.ensures.limits);
+  room = search rules;
+  limits = rw c.push_reserved.ensures.items (All-push (λ port. IsTrue (is_within_limits port)) c.tables.ports.items c.in_ok-port.port c.tables.invariant.limits c.in_ok-port.ensures.limits);
 }

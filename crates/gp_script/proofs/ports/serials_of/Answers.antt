@@ -10,5 +10,6 @@ texts-preserved c =
     let new = rw c.as_slice.ensures.value at c.in_ok-serial.ensures.new in record {
       value = grind (arith, common_steps);
       count = search rules;
-      distinct = rw c.in_ok-push.ensures.items (is_distinct-push c.texts.serials.items c.in_ok-serial.serial new ∙ c.texts.invariant.distinct);
+      room = search rules;
+      distinct = rw c.push_reserved.ensures.items (is_distinct-push c.texts.serials.items c.in_ok-serial.serial new ∙ c.texts.invariant.distinct);
     }

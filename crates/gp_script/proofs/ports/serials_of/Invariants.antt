@@ -1,4 +1,4 @@
-use Rattle.std.proofs.Common.{◌≡◌, [], drop, vec_len, IsTrue}
+use Rattle.std.proofs.Common.{◌≡◌, ◌≤◌, [], drop, length, vec_len, vec_capacity, IsTrue}
 use Rattle.toml.specs.View.{items_view}
 use Rattle.gp_machine.specs.Config.{is_distinct}
 use Rattle.gp_script.specs.Port.{serials_from}
@@ -8,5 +8,6 @@ abbrev pub invariant-texts : goal.invariant-texts
 invariant-texts l = record {
   value : serials_from l.ports l.serials.items (items_view (drop l.text-index l.texts)) ≡ serials_from l.ports [] (items_view l.texts);
   count : vec_len l.serials ≡ l.text-index;
+  room : length l.texts ≤ vec_capacity l.serials;
   distinct : IsTrue (is_distinct l.serials.items);
 }

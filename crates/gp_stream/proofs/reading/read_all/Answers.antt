@@ -10,8 +10,8 @@ returns-then-count-len-clause-too_long g c = λ _. record {
   unfailed = search rules;
 }
 
-pub returns-then-is_err-clause-memory : goal.returns-then-is_err-clause-memory
-returns-then-is_err-clause-memory g c = λ _. record {
+pub returns-in_err-extend_from_slice-in-Ok-clause-memory : goal.returns-in_err-extend_from_slice-in-Ok-clause-memory
+returns-in_err-extend_from_slice-in-Ok-clause-memory g c = λ _. record {
   bytes = c.reads.bytes.items ++ take c.in-Ok.count c.read.new.buffer;
   consumed = Consumes-trans _ _ _ _ _ c.reads.invariant.consumed c.in-Ok.ensures.bytes.0;
   some = omega (arith, length-append c.reads.bytes.items (take c.in-Ok.count c.read.new.buffer), c.in-Ok.ensures.bound.1, c.in-Ok.count-test);

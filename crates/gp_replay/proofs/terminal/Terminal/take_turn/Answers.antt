@@ -9,18 +9,18 @@ returns-clause-taken g c =
     let same : c.args.self.now.ports ≡ ports = search rules in
     let within : c.args.turn.port < length ports = search rules in
     let found : c.index_mut-port.result.now ≡ get_or ports c.args.turn.port c.index_mut-port.result.now = search rules in
-    let stand : ℕ → PortStand = λ n. record { state = c.step-number.new.self.state; next = n } in
+    let stand : ℕ → PortStand = λ n. record { state = c.step-rest.new.self.state; next = n } in
     record {
       before = c.index_mut-port.result.now;
-      after = c.step-number.new.self.state;
+      after = c.step-rest.new.self.state;
       there = rw same (slice_get_read ports (length ports) c.args.turn.port c.index_mut-port.result.now refl within found);
-      port = refl;
-      number = c.step-number.ensures.number;
-      event = c.step-number.ensures.event;
+      port = c.step-rest.ensures.port;
+      number = c.step-rest.ensures.number;
+      event = c.step-rest.ensures.event;
       purse = search rules;
-      step = c.step-number.ensures.step;
+      step = c.step-rest.ensures.step;
       free = search rules;
       ports =
-          ap (λ (l : List PortStand). slice_set l c.args.turn.port c.step-number.new.self) (sym same)
-          ∙ ap (λ (n : ℕ). slice_set c.args.self.now.ports c.args.turn.port (stand n)) c.step-number.ensures.next;
+          ap (λ (l : List PortStand). slice_set l c.args.turn.port c.step-rest.new.self) (sym same)
+          ∙ ap (λ (n : ℕ). slice_set c.args.self.now.ports c.args.turn.port (stand n)) c.step-rest.ensures.next;
     }

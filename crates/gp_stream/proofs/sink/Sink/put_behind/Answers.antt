@@ -8,9 +8,9 @@ returns-in_err-finish-clause-err g c = on_err _ (takes_front_more _ _ _ c.args.b
 pub returns-then-bytes-capacity-clause-ok : goal.returns-then-bytes-capacity-clause-ok
 returns-then-bytes-capacity-clause-ok g c =
     let before = c.in_ok-finish.ensures in
-    on_ok_weaker _ (λ p. takes_more _ _ _ _ _ before.ok (bytes_whole _ _ _ before.empty before.empty p)) c.write_all.ensures.ok
+    on_ok_weaker _ (λ p. takes_more _ _ _ _ _ before.ok (bytes_whole _ _ _ before.empty before.empty p)) c.write_out.ensures.ok
 
 pub returns-then-bytes-capacity-clause-err : goal.returns-then-bytes-capacity-clause-err
 returns-then-bytes-capacity-clause-err g c =
     let before = c.in_ok-finish.ensures in
-    on_err_weaker _ (λ w. takes_front_after _ _ _ _ _ before.ok (bytes_front _ _ _ w.0 before.empty w.1)) c.write_all.ensures.err
+    on_err_weaker _ (λ w. takes_front_after _ _ _ _ _ before.ok (bytes_front _ _ _ w.0 before.empty w.1)) c.write_out.ensures.err

@@ -15,7 +15,7 @@ use Rattle.gp_script.specs.Script.{ScriptView}
 use Rattle.gp_replay.specs.declared.turn.Turn.{Turn}
 use Rattle.gp_replay.specs.Terminal.{PortStand, TerminalState, opened_port, opening_terminal, licences_of, total_licences}
 use Rattle.gp_replay.specs.Play.{TakesTurn, TakesTurns, Plays}
-use Rattle.gp_replay.specs.Law.{receipts_of_port, entries_of_port, IsNumberedFrom}
+use Rattle.gp_replay.specs.Laws.{receipts_of_port, entries_of_port, IsNumberedFrom}
 
 get_set_same : (xs : List PortStand) (i : ℕ) (v : PortStand) → i < length xs → slice_get (slice_set xs i v) i ≡ Some v
 get_set_same [] i v h = absurd (omega arith)

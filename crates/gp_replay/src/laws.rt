@@ -1,4 +1,4 @@
-ghost use Rattle.gp_replay.specs.Law.{EachPortRuns, LicencesAreKept};
+ghost use Rattle.gp_replay.specs.Laws.{EachPortRuns, LicencesAreKept};
 
 /// Of entries that play a script, those of each port are a run of the activation machine from the
 /// port's opening.

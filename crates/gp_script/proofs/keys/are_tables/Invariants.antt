@@ -1,7 +1,0 @@
-use Rattle.std.proofs.Common.{◌≡◌, drop}
-use Rattle.toml.specs.View.{items_view}
-use Rattle.gp_script.specs.Keys.{are_tables}
-use Rattle.gp_script.proofs.keys.are_tables.Given as goal
-
-abbrev pub invariant-loop-item : goal.invariant-loop-item
-invariant-loop-item l = are_tables (items_view (drop l.item-index l.items)) ≡ are_tables (items_view l.items)

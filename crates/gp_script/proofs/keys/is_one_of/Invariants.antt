@@ -1,6 +1,0 @@
-use Rattle.std.proofs.Common.{◌≡◌, drop, map}
-use Rattle.gp_script.specs.Keys.{is_one_of}
-use Rattle.gp_script.proofs.keys.is_one_of.Given as goal
-
-abbrev pub invariant-loop-name : goal.invariant-loop-name
-invariant-loop-name l = is_one_of (map (λ n. n.now) (drop l.name-index l.names)) l.key ≡ is_one_of (map (λ n. n.now) l.names) l.key
