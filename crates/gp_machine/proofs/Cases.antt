@@ -134,7 +134,7 @@ of_each_pick P u p at heard each = by_window p.window refl
         (λ room. each.again s row from has room)
         (λ full.
         each.refused Busy
-        (AsksForMessage.again s row (in_search p heard s from) has (subst (λ (phase : Phase). IsRanging phase) (sym is) tt) (not_owed row.onu s p.owed untold), is_full p full)))
+        (AsksForMessage.again s row (in_search p heard s from) (admitted_contains s p.config.admitted admitted) has (subst (λ (phase : Phase). IsRanging phase) (sym is) tt) (not_owed row.onu s p.owed untold), is_full p full)))
     by_phase s row from admitted has (Operating eqd dark garbled) is =
         each.refused WrongWindow (
           Search,

@@ -48,9 +48,10 @@ pub record IsNewcomer (port : PortState) (heard : Option Up) (serial : Serial) :
 pub data AsksForMessage (licences : ℕ) (port : PortState) (round_trip : ℕ) (heard : Option Up) : Type 0 where
   -- by Assign_ONU-ID: of a new unit, for which there are room and a licence
   assign : (serial : Serial) → IsNewcomer port heard serial → rows_of port < port.config.max_units → 0 < licences → AsksForMessage licences port round_trip heard
-  -- by Assign_ONU-ID again: of a ranging unit, to which none is owed any more
+  -- by Assign_ONU-ID again: of an admitted ranging unit, to which none is owed any more
   again : (serial : Serial) (row : Row)
       → IsHeardInSearch port heard serial
+      → Contains port.config.admitted serial
       → HasRow port.rows serial row
       → IsRanging row.phase
       → (Contains port.owed (AssignOnu row.onu serial) → ⊥)
