@@ -28,6 +28,7 @@ pub fn decode_line<W: Write>(
     ensures ok { OnOk result ((line : List ℕ) × Says upstream mask text.now line × Takes (sink_state W.contents sink.old) (sink_state W.contents sink.new) line) }
     ensures written { OnOk result (gathered_of sink.new ≡ []) }
     ensures flushed { has_flushed sink.old ≡ true → OnOk result (has_flushed sink.new ≡ true) }
+    ensures finished { OnOk result (has_stopped sink.new ≡ false) }
 
     // Memory and the writer aside, the text alone decides, by its first fault.
     ensures fault { (fault : AnyFault) → IsOfText fault → (result ≡ Err fault) ↔ HasLineFault mask text.now fault }
@@ -47,6 +48,7 @@ fn write_line<W: Write>(sink: &mut Sink<W>, line: &[u8]) -> Result<(), WriteStop
     ensures written { OnOk result (gathered_of sink.new ≡ []) }
     ensures flushed { has_flushed sink.old ≡ true → OnOk result (has_flushed sink.new ≡ true) }
     ensures front { OnErr result (TakesFront (sink_state W.contents sink.old) (sink_state W.contents sink.new) line.now) }
+    ensures finished { OnOk result (has_stopped sink.new ≡ false) }
     ensures stopped { OnErr result (has_stopped sink.new ≡ true) }
 {
     sink.put(line)?;

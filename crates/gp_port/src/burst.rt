@@ -17,7 +17,7 @@ use super::port_core::PortCore;
 use super::windows::put_window;
 use gp_licence::Licences;
 use gp_machine::{Answer, Phase, Refusal, Reply, Row};
-use gp_ploam::{Down, Serial, Up, decode_up};
+use gp_ploam::{BROADCAST_ONU, Down, Serial, Up, decode_up};
 use gp_ranging::{Grant, equalize};
 use std::sync::ledger::Ledger;
 
@@ -87,7 +87,7 @@ impl<L: Ledger> PortCore<L> {
     {
         match message {
             Up::SerialNumber {
-                onu: 255,
+                onu: BROADCAST_ONU,
                 serial,
                 ..
             } => self.search(purse, serial),

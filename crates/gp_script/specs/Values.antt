@@ -1,5 +1,5 @@
 -- The values of keys, each in its range (this profile's own rule).
-use Rattle.std.specs.Prelude.{ℕ, ℤ, pos, negsuc, List, ◌-◌, ◌&&◌, Option, Some, None, Result, Ok, Err, nat_le, ◌==◌, if◌then◌else◌}
+use Rattle.std.specs.Prelude.{ℕ, ℤ, pos, negsuc, List, ◌-◌, ◌&&◌, Option, Some, None, Result, Ok, Err, nat_le, nat_lt, ◌==◌, if◌then◌else◌}
 use Rattle.toml.specs.Data.{Items}
 use Rattle.hex.specs.Hex.{decode_sized}
 use Rattle.hex.specs.declared.error.FromHexError.{FromHexError}
@@ -24,7 +24,8 @@ in_range_or default low high (Some z) = in_range low high z
 
 -- the place of one of so many ports
 abbrev pub port_in : ℕ → ℤ → Result ℕ ScriptFault
-port_in ports number = in_range 0 (ports - 1) number
+port_in ports (pos n) = if nat_lt n ports then Ok n else Err fault.Range
+port_in ports (negsuc n) = Err fault.Range
 
 -- a round-trip delay in bit times
 abbrev pub delay_in : ℤ → Result ℕ ScriptFault

@@ -9,14 +9,13 @@ use crate::keys::{has_only, member, needed_number, needed_text, needs, number_at
 use crate::script::ScriptEvent;
 use crate::values::{delay_in, in_range, in_range_or, octets_of, port_in, serial_of};
 use gp_machine::Command;
-use gp_ploam::{Mask, Up, encode_up};
+use gp_ploam::{BROADCAST_ONU, Mask, Up, encode_up};
 use std::alloc::Global;
 use toml::{Table, Value};
 
 /// So many frames. Each of these functions is given how many ports there are.
 #[tactic(auto, unfolding(crate::specs::Event::frames_event))]
 fn frames_event(ports: u8, table: &Table) -> Result<ScriptEvent, ScriptFault>
-    requires { 0 < ports }
     ensures value { result ≡ spec.frames_event ports (table_view table.now) }
     ensures port { IfOk result (λ e. event_port e < ports) }
 {
@@ -31,7 +30,6 @@ fn frames_event(ports: u8, table: &Table) -> Result<ScriptEvent, ScriptFault>
 /// Thirteen octets that arrive.
 #[tactic(auto, unfolding(crate::specs::Event::burst_event))]
 fn burst_event(ports: u8, table: &Table) -> Result<ScriptEvent, ScriptFault>
-    requires { 0 < ports }
     ensures value { result ≡ spec.burst_event ports (table_view table.now) }
     ensures port { IfOk result (λ e. event_port e < ports) }
 {
@@ -51,7 +49,6 @@ fn burst_event(ports: u8, table: &Table) -> Result<ScriptEvent, ScriptFault>
 /// A unit says its serial number.
 #[tactic(auto, unfolding(crate::specs::Event::say_serial))]
 fn say_serial(ports: u8, mask: Mask, table: &Table) -> Result<ScriptEvent, ScriptFault>
-    requires { 0 < ports }
     ensures value { result ≡ spec.say_serial ports mask (table_view table.now) }
     ensures port { IfOk result (λ e. event_port e < ports) }
 {
@@ -64,7 +61,7 @@ fn say_serial(ports: u8, mask: Mask, table: &Table) -> Result<ScriptEvent, Scrip
     let port = port_in(ports, port)?;
     let at = delay_in(at)?;
     let serial = serial_of(serial)?;
-    let onu = in_range_or(255, 0..=255, onu)? as u8;
+    let onu = in_range_or(u32::from(BROADCAST_ONU), 0..=u32::from(u8::MAX), onu)? as u8;
     let message = Up::SerialNumber {
         onu,
         serial,
@@ -78,7 +75,6 @@ fn say_serial(ports: u8, mask: Mask, table: &Table) -> Result<ScriptEvent, Scrip
 /// A unit says that it has nothing to say.
 #[tactic(auto, unfolding(crate::specs::Event::say_none))]
 fn say_none(ports: u8, mask: Mask, table: &Table) -> Result<ScriptEvent, ScriptFault>
-    requires { 0 < ports }
     ensures value { result ≡ spec.say_none ports mask (table_view table.now) }
     ensures port { IfOk result (λ e. event_port e < ports) }
 {
@@ -89,7 +85,7 @@ fn say_none(ports: u8, mask: Mask, table: &Table) -> Result<ScriptEvent, ScriptF
     let onu = needed_number(table, "onu")?;
     let port = port_in(ports, port)?;
     let at = delay_in(at)?;
-    let onu = in_range(0..=255, onu)? as u8;
+    let onu = in_range(0..=u32::from(u8::MAX), onu)? as u8;
     let bytes = encode_up(&Up::NoMessage { onu }, mask);
     Ok(ScriptEvent::Burst { port, at, bytes })
 }
@@ -97,7 +93,6 @@ fn say_none(ports: u8, mask: Mask, table: &Table) -> Result<ScriptEvent, ScriptF
 /// What a unit says, told by its word.
 #[tactic(auto, unfolding(crate::specs::Event::say_event))]
 fn say_event(ports: u8, mask: Mask, table: &Table) -> Result<ScriptEvent, ScriptFault>
-    requires { 0 < ports }
     ensures value { result ≡ spec.say_event ports mask (table_view table.now) }
     ensures port { IfOk result (λ e. event_port e < ports) }
 {
@@ -112,7 +107,6 @@ fn say_event(ports: u8, mask: Mask, table: &Table) -> Result<ScriptEvent, Script
 /// A search.
 #[tactic(auto, unfolding(crate::specs::Event::command_event))]
 fn command_event(ports: u8, table: &Table) -> Result<ScriptEvent, ScriptFault>
-    requires { 0 < ports }
     ensures value { result ≡ spec.command_event ports (table_view table.now) }
     ensures port { IfOk result (λ e. event_port e < ports) }
 {
@@ -130,7 +124,6 @@ fn command_event(ports: u8, table: &Table) -> Result<ScriptEvent, ScriptFault>
 /// The event of an event table, told by the key that its form alone has.
 #[tactic(auto, unfolding(crate::specs::Event::event_of))]
 fn event_of(ports: u8, mask: Mask, table: &Table) -> Result<ScriptEvent, ScriptFault>
-    requires { 0 < ports }
     ensures value { result ≡ spec.event_of ports mask (table_view table.now) }
     ensures port { IfOk result (λ e. event_port e < ports) }
 {
@@ -155,7 +148,6 @@ pub(crate) fn events_of(
     mask: Mask,
     tables: &[Value],
 ) -> Result<Vec<ScriptEvent>, ScriptError>
-    requires { 0 < ports }
     ensures value { Gives (λ v. v.items) result (spec.events_of ports mask (items_view tables.now)) }
     ensures ports { IfOk result (λ v. All (λ e. event_port e < ports) v.items) }
     ensures count { IfOk result (λ v. vec_len v ≡ length tables.now) }

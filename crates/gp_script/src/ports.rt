@@ -9,7 +9,10 @@ ghost use Rattle.gp_script.specs.View.{port_keys_view};
 use crate::fault::{ScriptError, ScriptFault};
 use crate::keys::{are_texts, has_only, list_at, needs, number_at, text_at};
 use crate::values::{count_in, in_range_or, octets_of, serial_of};
-use gp_machine::{Admitted, PortConfig, is_among};
+use gp_machine::{
+    Admitted, FIRST_ALLOC_ID, LAST_ALLOC_ID, LONGEST_SEARCH_PERIOD, MOST_ADMITTED, MOST_CYCLES,
+    MOST_UNITS, PortConfig, is_among,
+};
 use gp_ploam::{Mask, Serial};
 use std::alloc::Global;
 use toml::{Table, Value};
@@ -123,15 +126,20 @@ fn port_of(
 ) -> Result<PortConfig, ScriptError>
     ensures value { Gives (λ port. port) result (spec.port_of mask before.now (table_view table.now)) }
     ensures limits { IfOk result (λ port. IsTrue (is_within_limits port)) }
+    ensures mask { IfOk result (λ port. port.mask ≡ mask) }
 {
     let shape = port_keys(table)?;
     let teqd = in_range_or(311_040, 0..=u32::MAX, shape.teqd)?;
-    let max_units = in_range_or(254, 1..=254, shape.max_units)?;
-    let alloc_last = in_range_or(4095, 256..=4095, shape.alloc_last)?;
-    let cycles = in_range_or(3, 1..=10, shape.cycles)?;
-    let search_period = in_range_or(0, 0..=1_000_000, shape.search_period)?;
+    let max_units = in_range_or(254, 1..=u32::from(MOST_UNITS), shape.max_units)?;
+    let alloc_last = in_range_or(
+        4095,
+        u32::from(FIRST_ALLOC_ID)..=u32::from(LAST_ALLOC_ID),
+        shape.alloc_last,
+    )?;
+    let cycles = in_range_or(3, 1..=u32::from(MOST_CYCLES), shape.cycles)?;
+    let search_period = in_range_or(0, 0..=LONGEST_SEARCH_PERIOD, shape.search_period)?;
     let overhead = overhead_of(shape.overhead)?;
-    count_in(0..=512, shape.admit)?;
+    count_in(0..=MOST_ADMITTED as u32, shape.admit)?;
     let admitted = serials_of(alloc, before, shape.admit)?;
     Ok(PortConfig {
         mask,
@@ -155,6 +163,7 @@ pub(crate) fn ports_of(
     ensures value { Gives (λ v. v.items) result (spec.ports_from mask [] (items_view tables.now)) }
     ensures count { IfOk result (λ v. vec_len v ≡ length tables.now) }
     ensures limits { IfOk result (λ v. All (λ port. IsTrue (is_within_limits port)) v.items) }
+    ensures mask { IfOk result (λ v. All (λ port. port.mask ≡ mask) v.items) }
 {
     let mut ports = Vec::with_capacity(alloc, tables.len())?;
     'tables: for value in tables {

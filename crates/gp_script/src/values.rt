@@ -41,11 +41,13 @@ pub(crate) fn in_range_or(
 
 /// The place of one of so many ports.
 pub(crate) fn port_in(ports: u8, number: i64) -> Result<u8, ScriptFault>
-    requires { 0 < ports }
     ensures value { result ≡ spec.port_in ports number }
     ensures within { IfOk result (λ port. port < ports) }
 {
-    Ok(in_range(0..=u32::from(ports) - 1, number)? as u8)
+    match u8::try_from(number) {
+        Ok(port) if port < ports => Ok(port),
+        _ => Err(ScriptFault::Range),
+    }
 }
 
 /// A round-trip delay in bit times.

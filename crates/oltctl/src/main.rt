@@ -29,9 +29,7 @@ fn report<R: Eprint>(rt: &R, (line, status): (&'static str, u8)) -> u8 {
 /// Plays the script that a reader gives, to standard output.
 fn replay_from<R: AllocGlobal + Print, S: Read + Drop>(rt: &R, reader: S) -> Result<(), RunFault> {
     let mut source = Source::new(reader);
-    let Ok(mut sink) = Sink::new(rt.alloc(), io::writer(rt)) else {
-        return Err(RunFault::OutOfMemory);
-    };
+    let mut sink = Sink::new(rt.alloc(), io::writer(rt))?;
     run_replay(rt.alloc(), &mut source, &mut sink)
 }
 

@@ -1,4 +1,4 @@
-use Rattle.std.proofs.Common.{IsTrue, arith, rules}
+use Rattle.std.proofs.Common.{◌≡◌, IsTrue, arith, rules}
 use Rattle.std.proofs.lemmas.Grind.{common_steps}
 use Rattle.std.proofs.lemmas.List.Elements.{All-push}
 use Rattle.gp_machine.specs.Config.{is_within_limits}
@@ -12,4 +12,5 @@ tables-preserved c = record {
   count = search rules;
   room = search rules;
   limits = rw c.push_reserved.ensures.items (All-push (λ port. IsTrue (is_within_limits port)) c.tables.ports.items c.in_ok-port.port c.tables.invariant.limits c.in_ok-port.ensures.limits);
+  mask = rw c.push_reserved.ensures.items (All-push (λ port. port.mask ≡ c.args.mask) c.tables.ports.items c.in_ok-port.port c.tables.invariant.mask c.in_ok-port.ensures.mask);
 }

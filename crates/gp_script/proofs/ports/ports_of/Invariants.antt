@@ -10,4 +10,5 @@ invariant-tables l = record {
   count : vec_len l.ports ≡ l.value-index;
   room : length l.tables ≤ vec_capacity l.ports;
   limits : All (λ port. IsTrue (is_within_limits port)) l.ports.items;
+  mask : All (λ port. port.mask ≡ l.mask) l.ports.items;
 }
