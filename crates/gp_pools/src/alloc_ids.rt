@@ -1,7 +1,7 @@
 ghost use Rattle.std.specs.Prelude.{◌≡◌, ℕ, ◌+◌, ◌-◌, ◌≤◌, ◌↔◌, IsTrue, IsNone, IfNone, IfSome};
 ghost use Rattle.gp_pools.specs.Pool.{AreAllOut, IsFree, IsLeased, IsSettled, IsSound, fresh_pool, pool_with_lease, pool_with_lease_again, pool_with_settled, pool_without_lease};
 
-use super::number_pool::NumberPool;
+use super::number_pool::{NeverDropped, NumberPool};
 use std::marker::Model;
 
 /// The first Alloc-ID that is no unit's default one, which is its ONU-ID (G.984.3, clause 8).
@@ -11,6 +11,8 @@ const FIRST: u16 = 256;
 pub struct AllocLease {
     number: u16,
 }
+
+impl NeverDropped for AllocLease {}
 
 impl Model for AllocLease {
     ghost Value = { ℕ };

@@ -4,6 +4,11 @@ ghost use Rattle.gp_pools.specs.Pool.{IsFree, IsLeased, IsSettled, IsSound, coun
 use super::number_set::NumberSet;
 use std::marker::Model;
 
+/// For a type that is ended by its own calls: with a `Drop` it would have this trait by both impls, and not compile.
+pub trait NeverDropped {}
+
+impl<T: Drop> NeverDropped for T {}
+
 /// The numbers from `FIRST` to `last`, of which at most `limit` are out: leased, or settled. It knows
 /// the numbers alone; the leases are those of the pools above it.
 #[derive(Drop)]

@@ -1,7 +1,7 @@
 ghost use Rattle.std.specs.Prelude.{◌≡◌, ℕ, ◌≤◌, ◌↔◌, IsTrue, IsNone, IfNone, IfSome};
 ghost use Rattle.gp_pools.specs.Pool.{IsFree, IsLeased, IsSettled, IsSound, count_out, fresh_pool, pool_with_lease, pool_with_lease_again, pool_with_settled, pool_without_lease};
 
-use super::number_pool::NumberPool;
+use super::number_pool::{NeverDropped, NumberPool};
 use std::marker::Model;
 
 /// The last ONU-ID that a unit may get (G.984.3, clause 9: 254 is reserved, 255 is broadcast).
@@ -11,6 +11,8 @@ const LAST: u16 = 253;
 pub struct OnuLease {
     number: u8,
 }
+
+impl NeverDropped for OnuLease {}
 
 impl Model for OnuLease {
     ghost Value = { ℕ };

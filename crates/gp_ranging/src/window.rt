@@ -15,6 +15,13 @@ pub struct Window {
     seen: bool,
 }
 
+/// For a type that is ended by its own calls: with a `Drop` it would have this trait by both impls, and not compile.
+trait NeverDropped {}
+
+impl<T: Drop> NeverDropped for T {}
+
+impl NeverDropped for Window {}
+
 impl Model for Window {
     ghost use Rattle.std.specs.Prelude.{◌≤◌};
     ghost use Rattle.gp_ranging.specs.Window.{WindowState};

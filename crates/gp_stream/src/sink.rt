@@ -1,4 +1,4 @@
-ghost use Rattle.std.specs.Prelude.{◌≡◌, ◌+◌, ◌≤◌, ◌||◌, [], IfOk, OnOk, OnErr, IsOk, IsErr, IsTrue, ℕ, false, true, length, take, is_err};
+ghost use Rattle.std.specs.Prelude.{◌≡◌, ◌+◌, ◌<◌, ◌≤◌, ◌||◌, [], IfOk, OnOk, OnErr, IsOk, IsErr, IsTrue, ℕ, false, true, length, take, is_err};
 ghost use Rattle.std.specs.Io.KnownBytes.{Appends};
 ghost use Rattle.gp_stream.specs.Watched.{inner_of, is_flushed, is_stopped};
 
@@ -116,6 +116,8 @@ impl<W: Write> Sink<W> {
         ensures refused { IsTrue (has_stopped self.old) → IsErr result × (writer_of self.new ≡ writer_of self.old) }
         ensures fits { has_stopped self.old ≡ false → length (gathered_of self.old) + length bytes.now ≤ room_of self.old
             → IsOk result × (writer_of self.new ≡ writer_of self.old) }
+        ensures gathers { has_stopped self.old ≡ false → room_of self.old < length (gathered_of self.old) + length bytes.now → length bytes.now ≤ room_of self.old
+            → OnOk result (gathered_of self.new ≡ bytes.now) }
         ensures flushed { has_flushed self.old ≡ true → OnOk result (has_flushed self.new ≡ true) }
         ensures room { room_of self.old ≤ room_of self.new }
     {
@@ -136,6 +138,7 @@ impl<W: Write> Sink<W> {
         ensures ok { OnOk result (Takes (sink_state W.contents self.old) (sink_state W.contents self.new) bytes.now) }
         ensures err { OnErr result (TakesFront (sink_state W.contents self.old) (sink_state W.contents self.new) bytes.now) }
         ensures stopped { has_stopped self.new ≡ is_err result }
+        ensures gathers { length bytes.now ≤ room_of self.old → OnOk result (gathered_of self.new ≡ bytes.now) }
         ensures flushed { has_flushed self.old ≡ true → OnOk result (has_flushed self.new ≡ true) }
         ensures room { room_of self.old ≤ room_of self.new }
     {

@@ -13,8 +13,8 @@ use std::alloc::AllocError;
 /// The most bytes that the line of an entry has.
 pub const LONGEST_LINE: usize = 256;
 
-/// Appends the line of an entry. The mask is that of the port's codes. After an error `out` holds what
-/// it held, and behind that it may hold a part of the line.
+/// Appends the line of an entry. The mask is that of the port's codes. What `out` holds after an error is
+/// not said: a part of the line may stand behind what it held.
 #[tactic(auto, unfolding(crate::specs::Text::line_of))]
 pub fn push_line(out: &mut Vec<u8>, mask: Mask, receipt: &Receipt) -> Result<(), AllocError>
     requires { ForSome receipt.now.entry.answer.sent IsProperDown }

@@ -14,6 +14,13 @@ pub struct Volley {
     left: u8,
 }
 
+/// For a type that is ended by its own calls: with a `Drop` it would have this trait by both impls, and not compile.
+trait NeverDropped {}
+
+impl<T: Drop> NeverDropped for T {}
+
+impl NeverDropped for Volley {}
+
 impl Model for Volley {
     ghost use Rattle.std.specs.Prelude.{◌≤◌};
     ghost use Rattle.gp_volley.specs.Volley.{VolleyState};
