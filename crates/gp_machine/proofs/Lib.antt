@@ -5,6 +5,7 @@ pub mod AnyFree
 pub mod Readings
 pub mod FewRows
 pub mod EveryStep
+pub mod Causes
 pub mod Refusing
 pub mod WindowSteps
 pub mod Licences

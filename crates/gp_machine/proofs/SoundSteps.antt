@@ -299,18 +299,18 @@ sound_burst u p at heard n h =
       stray = λ shut free. h;
       refused = λ refusal cause free. sound_seen p h;
       found = λ s from joins free. sound_assigned p s n h joins.room (undirected p heard s from) (may_put_new p s n joins.admitted free.1);
-      repeated = λ s row has free. h;
-      again = λ s row from has room free.
+      repeated = λ s row has cause free. h;
+      again = λ s row from has room ranges cause free.
           sound_assigned p s row.onu h room (undirected p heard s from) (may_put_again p s row (new_row row.onu) h has refl (omega arith));
-      too_far = λ m free. sound_seen p h;
-      still_ranging = λ m free. sound_seen p h;
+      too_far = λ m cause free. sound_seen p h;
+      still_ranging = λ m cause free. sound_seen p h;
       ranged = λ m s from near room free. sound_ranged p s from.row m (p.config.teqd - at) h room from.has from.same;
     }
 
 -- ---- a command, and a step
 
 pub sound_command : (u : ℕ) (p : PortState) → IsSound p → OfEachCommand (λ (o : Outcome). IsSound o.state) u p
-sound_command u p h = record { refused = λ cause. h; searching = with_timer p p.timer true h h.timed }
+sound_command u p h = record { refused = λ cause. h; searching = λ idle. with_timer p p.timer true h h.timed }
 
 pub sound_step : KeepsSound
 sound_step u p event.Frame o h s =

@@ -189,12 +189,12 @@ module _ (u : ℕ) (p : PortState) (at : ℕ) (bytes : List ℕ) (heard : Option
         found = λ s from joins.
             StepCase.told s n (hears_serial s from)
             (record { same = λ row has. absurd (not_none row (sym joins.unknown ∙ has)); reply = inl refl; sent = refl; owed = refl; rows = refl; config = refl });
-        repeated = λ s row has. quiet_case p.window (reply.Repeat row.onu) tt;
-        again = λ s row from has room.
+        repeated = λ s row has cause. quiet_case p.window (reply.Repeat row.onu) tt;
+        again = λ s row from has room ranges cause.
             StepCase.told s row.onu (hears_serial s from)
             (record { same = λ other there. one_row row other (sym has ∙ there); reply = inr refl; sent = refl; owed = refl; rows = refl; config = refl });
-        too_far = λ m. quiet_case seen (reply.TooFar m) tt;
-        still_ranging = λ m. quiet_case seen (reply.StillRanging m) tt;
+        too_far = λ m cause. quiet_case seen (reply.TooFar m) tt;
+        still_ranging = λ m cause. quiet_case seen (reply.StillRanging m) tt;
         ranged = λ m s from near room.
             StepCase.ranged at bytes s m from.random from.flags refl (reads (up.SerialNumber m s from.random from.flags) from.read)
             (record { asked = asks m s from; active = (from.row, from.has, from.same); near = near; reply = refl; sent = refl; owed = refl; rows = refl; config = refl });
@@ -204,7 +204,7 @@ command_case : (u : ℕ) (p : PortState) (e : Event) → OfEachCommand (StepCase
 command_case u p e =
     record {
       refused = λ cause. StepCase.quiet (quiet_outcome u p p.window p.wanted (reply.Refused refusal.AlreadySearching) tt);
-      searching = StepCase.quiet (quiet_outcome u p p.window true reply.Searching tt);
+      searching = λ idle. StepCase.quiet (quiet_outcome u p p.window true reply.Searching tt);
     }
 
 pub step_case : (u : ℕ) (p : PortState) (e : Event) (o : Outcome) → Step u p e o → StepCase p e o

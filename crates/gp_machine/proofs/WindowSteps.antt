@@ -36,10 +36,10 @@ burst_window u p at bytes heard n =
       stray = λ shut. WindowCase.same (λ k. refl) refl refl;
       refused = λ refusal cause. WindowCase.seen (λ k. refl) refl refl;
       found = λ s from joins. WindowCase.same (λ k. refl) refl refl;
-      repeated = λ s row has. WindowCase.same (λ k. refl) refl refl;
-      again = λ s row from has room. WindowCase.same (λ k. refl) refl refl;
-      too_far = λ m. WindowCase.seen (λ k. refl) refl refl;
-      still_ranging = λ m. WindowCase.seen (λ k. refl) refl refl;
+      repeated = λ s row has cause. WindowCase.same (λ k. refl) refl refl;
+      again = λ s row from has room ranges cause. WindowCase.same (λ k. refl) refl refl;
+      too_far = λ m cause. WindowCase.seen (λ k. refl) refl refl;
+      still_ranging = λ m cause. WindowCase.seen (λ k. refl) refl refl;
       ranged = λ m s from near room. WindowCase.ranged from.window m (p.config.teqd - at) from.opened from.asked refl refl refl;
     }
 
@@ -63,7 +63,7 @@ frame_window u p ranging =
     by_decision shut nothing (common, Ask grant) = WindowCase.opened grant refl shut nothing (ap first_of nothing) refl refl
 
 command_window : (u : ℕ) (p : PortState) (e : Event) → ((n : ℕ) → left_after e n ≡ n) → OfEachCommand (WindowCase p e) u p
-command_window u p e stays = record { refused = λ cause. WindowCase.same stays refl refl; searching = WindowCase.same stays refl refl }
+command_window u p e stays = record { refused = λ cause. WindowCase.same stays refl refl; searching = λ idle. WindowCase.same stays refl refl }
 
 pub window_case : (u : ℕ) (p : PortState) (e : Event) (o : Outcome) → Step u p e o → WindowCase p e o
 window_case u p event.Frame o step =
@@ -164,10 +164,10 @@ no_alarm u p (event.Burst at bytes) o step =
       stray = λ shut. refl;
       refused = λ refusal cause. refl;
       found = λ s from joins. refl;
-      repeated = λ s row has. refl;
-      again = λ s row from has room. refl;
-      too_far = λ m. refl;
-      still_ranging = λ m. refl;
+      repeated = λ s row has cause. refl;
+      again = λ s row from has room ranges cause. refl;
+      too_far = λ m cause. refl;
+      still_ranging = λ m cause. refl;
       ranged = λ m s from near room. refl;
     }))
-no_alarm u p (event.Command c) o step = subst IsQuiet (sym step) (of_each_command IsQuiet u p c (record { refused = λ cause. refl; searching = refl }))
+no_alarm u p (event.Command c) o step = subst IsQuiet (sym step) (of_each_command IsQuiet u p c (record { refused = λ cause. refl; searching = λ idle. refl }))

@@ -23,7 +23,7 @@ pub use entry::{Entry, Receipt};
 pub use event::{Command, Event};
 pub use one_step::{
     every_event_has_step, grants_open_windows, may_pick_any_free, one_outcome, raises_no_alarm,
-    refusals_change_nothing, sound_step, step_keeps_licences,
+    refusals_change_nothing, replies_with_cause, sound_step, step_keeps_licences,
 };
 pub use refusal::Refusal;
 pub use reply::Reply;

@@ -1,5 +1,5 @@
 ghost use Rattle.gp_machine.specs.OneStep.{EveryEventHasStep, IsDetermined, KeepsLicences, KeepsSound, MayPickAnyFree, RaisesNoAlarm};
-ghost use Rattle.gp_machine.specs.Causes.{RefusalsChangeNothing};
+ghost use Rattle.gp_machine.specs.Causes.{RefusalsChangeNothing, RepliesWithCause};
 ghost use Rattle.gp_machine.specs.Windows.{GrantsOpenWindows, WindowsAreGranted, WindowsClose, WindowsStay};
 
 use gp_ploam::up_read_once;
@@ -21,8 +21,14 @@ pub fn may_pick_any_free()
     ensures { MayPickAnyFree }
 {}
 
-/// A step that refuses has the cause that it tells. It sends, grants and raises nothing, hands every
-/// licence back, and changes nothing but that an open window has seen the burst.
+/// Each reply has its cause, so nothing is refused that need not be, and of the causes of a refused burst
+/// the first in order is told.
+pub fn replies_with_cause()
+    ensures { RepliesWithCause }
+{}
+
+/// A step that refuses sends, grants and raises nothing, hands every licence back, and changes nothing but
+/// that an open window has seen the burst.
 pub fn refusals_change_nothing()
     ensures { RefusalsChangeNothing }
 {}

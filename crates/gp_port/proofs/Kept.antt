@@ -101,9 +101,9 @@ burst_sends_nothing u p at heard n =
       stray = λ shut. refl;
       refused = λ refusal cause. refl;
       found = λ s from joins. refl;
-      repeated = λ s row has. refl;
-      again = λ s row from has room. refl;
-      too_far = λ m. refl;
-      still_ranging = λ m. refl;
+      repeated = λ s row has cause. refl;
+      again = λ s row from has room ranges cause. refl;
+      too_far = λ m cause. refl;
+      still_ranging = λ m cause. refl;
       ranged = λ m s from near room. refl;
     })
