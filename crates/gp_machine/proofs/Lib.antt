@@ -8,6 +8,7 @@ pub mod EveryStep
 pub mod Causes
 pub mod Refusing
 pub mod WindowSteps
+pub mod TimerSteps
 pub mod Licences
 pub mod SoundRows
 pub mod SoundSteps

@@ -1,5 +1,6 @@
 -- The laws of one step (this profile's own rule).
-use Rattle.std.specs.Prelude.{◌≡◌, ℕ, ◌+◌, ◌<◌, true, length, None, All}
+use Rattle.std.specs.Prelude.{◌≡◌, ◌≢◌, ℕ, ◌+◌, ◌<◌, true, length, None, All}
+use Rattle.gp_common.specs.declared.common.Common.TheVariants.{Standby}
 use Rattle.gp_machine.specs.declared.event.Event.{Event}
 use Rattle.gp_machine.specs.declared.reply.Reply.TheVariants.{Found}
 use Rattle.gp_machine.specs.declared.event.Event.TheVariants.{Frame, Burst, Command}
@@ -60,3 +61,11 @@ KeepsLicences =
 abbrev pub RaisesNoAlarm : Type 0
 RaisesNoAlarm =
     (licences : ℕ) (port : PortState) (event : Event) (outcome : Outcome) → Step licences port event outcome → outcome.answer.alarm ≡ None
+
+-- outside standby the timer stands
+abbrev pub TimerStandsOutsideStandby : Type 0
+TimerStandsOutsideStandby =
+    (licences : ℕ) (port : PortState) (event : Event) (outcome : Outcome)
+    → Step licences port event outcome
+    → port.common ≢ Standby
+    → outcome.state.timer ≡ port.timer

@@ -24,6 +24,7 @@ pub use event::{Command, Event};
 pub use one_step::{
     every_event_has_step, grants_open_windows, may_pick_any_free, one_outcome, raises_no_alarm,
     refusals_change_nothing, replies_with_cause, sound_step, step_keeps_licences,
+    timer_stands_outside_standby,
 };
 pub use refusal::Refusal;
 pub use reply::Reply;

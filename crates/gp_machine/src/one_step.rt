@@ -1,4 +1,4 @@
-ghost use Rattle.gp_machine.specs.OneStep.{EveryEventHasStep, IsDetermined, KeepsLicences, KeepsSound, MayPickAnyFree, RaisesNoAlarm};
+ghost use Rattle.gp_machine.specs.OneStep.{EveryEventHasStep, IsDetermined, KeepsLicences, KeepsSound, MayPickAnyFree, RaisesNoAlarm, TimerStandsOutsideStandby};
 ghost use Rattle.gp_machine.specs.Causes.{RefusalsChangeNothing, RepliesWithCause};
 ghost use Rattle.gp_machine.specs.Windows.{GrantsOpenWindows, WindowsAreGranted, WindowsClose, WindowsStay};
 
@@ -33,13 +33,20 @@ pub fn refusals_change_nothing()
     ensures { RefusalsChangeNothing }
 {}
 
-/// A window opens with its grant, in a frame before which no window was open and nothing was owed. It
-/// closes with its third frame, or with the burst by which the unit that it asks is ranged.
+/// A window opens with its grant, in a frame before which no window was open and nothing was owed, and in
+/// turn: search windows first, while the acquisition has one left, and else that of the ranging unit with
+/// the least ONU-ID. It closes with its third frame, or with the burst by which the unit that it asks is
+/// ranged.
 pub fn grants_open_windows()
     ensures opens { GrantsOpenWindows }
     ensures granted { WindowsAreGranted }
     ensures closes { WindowsClose }
     ensures stays { WindowsStay }
+{}
+
+/// The timer of the periodic search runs in standby alone.
+pub fn timer_stands_outside_standby()
+    ensures { TimerStandsOutsideStandby }
 {}
 
 /// No step raises an alarm: this form of the machine has none.
