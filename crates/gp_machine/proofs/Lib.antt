@@ -17,5 +17,6 @@ pub mod RunParts
 pub mod OwedMessages
 pub mod OnuIds
 pub mod MeasuredDelays
+pub mod OperatingRows
 pub mod ProperMessages
 mod WorkedRuns

@@ -31,6 +31,7 @@ pub use reply::Reply;
 pub use row::{Phase, Row};
 pub use runs::{
     each_unit_is_told, every_state_is_sound, keeps_configuration, no_shared_onu_id,
-    ranged_with_what_is_left, runs_in_parts, runs_keep_licences, sends_each_message_three_times,
-    sends_only_proper_messages, tells_each_unit_its_onu_id, worked_runs,
+    operating_units_stay, ranged_with_what_is_left, runs_in_parts, runs_keep_licences,
+    sends_each_message_three_times, sends_only_proper_messages, tells_each_unit_its_onu_id,
+    worked_runs,
 };

@@ -1,7 +1,7 @@
 ghost use Rattle.gp_machine.specs.Runs.{RunsInParts, EveryStateIsSound, KeepsConfiguration, RunsKeepLicences};
 ghost use Rattle.gp_machine.specs.OnuIds.{NoSharedOnuId, OnlyAdmittedUnits, AtMostMaxUnits, KeepsOnuIds, AssignsWhatUnitsHave, AssignsOneToOne, EachUnitIsTold};
 ghost use Rattle.gp_machine.specs.Messages.{EveryRunHasOwedMessages, SendsEachThreeTimes, SendsWhatWasOwedFirst, KeepsProperMessages, SendsOnlyProperMessages};
-ghost use Rattle.gp_machine.specs.Delays.{EachRangedReplyIsMeasured, OperatesWithWhatWasMeasured};
+ghost use Rattle.gp_machine.specs.Delays.{EachRangedReplyIsMeasured, KeepsOperating, OperatesWithWhatWasMeasured};
 ghost use Rattle.gp_machine.specs.Worked.{OneUnit, RepeatedAnswer, PeriodicSearch, DelayLimits};
 
 use super::one_step::{sound_step, step_keeps_licences};
@@ -73,6 +73,11 @@ pub fn each_unit_is_told()
 pub fn ranged_with_what_is_left()
     ensures ranged { EachRangedReplyIsMeasured }
     ensures operating { OperatesWithWhatWasMeasured }
+{}
+
+/// An operating unit keeps its ONU-ID and its equalization delay.
+pub fn operating_units_stay()
+    ensures { KeepsOperating }
 {}
 
 /// Every message that is owed or sent has a code.
