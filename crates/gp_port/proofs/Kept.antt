@@ -58,7 +58,7 @@ kept_again p held s n h room asks_no_unit known =
       limits = h.limits;
       units = h.units;
       period = h.period;
-      sound = sound_assigned p s n h.sound room asks_no_unit (may_put_again p s known.0 (new_row n) h.sound known.1 known.2 (omega arith));
+      sound = sound_assigned p s n h.sound room asks_no_unit (may_put_again p s known.0 (new_row n) h.sound known.1 known.2 (refl, refl));
       licences = h.licences ∙ sym (len-known p.rows s known.0 (new_row n) known.1);
     }
 
