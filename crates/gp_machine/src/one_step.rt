@@ -1,12 +1,13 @@
-ghost use Rattle.gp_machine.specs.OneStep.{EveryEventHasStep, IsDetermined, KeepsLicences, KeepsSound, MayPickAnyFree, RaisesNoAlarm, TimerStandsOutsideStandby};
+ghost use Rattle.gp_machine.specs.OneStep.{EveryEventHasStep, HearsOneThing, IsDetermined, KeepsLicences, KeepsSound, MayPickAnyFree, RaisesNoAlarm, TimerStandsOutsideStandby};
 ghost use Rattle.gp_machine.specs.Causes.{RefusalsChangeNothing, RepliesWithCause};
 ghost use Rattle.gp_machine.specs.Windows.{GrantsOpenWindows, WindowsAreGranted, WindowsClose, WindowsStay};
 
 use gp_ploam::up_read_once;
 
-/// Given the purse, the state, the event and the reply, all else is determined.
+/// Given the purse, the state, the event and the reply, all else is determined; a burst is heard in one way.
 pub fn one_outcome()
-    ensures { IsDetermined }
+    ensures outcome { IsDetermined }
+    ensures hears { HearsOneThing }
 {
     up_read_once();
 }
