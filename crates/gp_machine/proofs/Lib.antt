@@ -5,8 +5,10 @@ pub mod AnyFree
 pub mod Readings
 pub mod FewRows
 pub mod EveryStep
+pub mod Causes
 pub mod Refusing
 pub mod WindowSteps
+pub mod TimerSteps
 pub mod Licences
 pub mod SoundRows
 pub mod SoundSteps
@@ -15,5 +17,6 @@ pub mod RunParts
 pub mod OwedMessages
 pub mod OnuIds
 pub mod MeasuredDelays
+pub mod OperatingRows
 pub mod ProperMessages
 mod WorkedRuns

@@ -41,7 +41,7 @@ few sound c p reached = subst (λ (x : PortConfig). rows_of p ≤ x.max_units) (
 -- ---- ONU-IDs are kept
 
 -- the row at t after one was put at s
-found : (rows : Rows) (s t : Serial) (row : Row) → get (insert rows s row) t ≡ cond (same_serial t s) (Some row) (get rows t)
+pub found : (rows : Rows) (s t : Serial) (row : Row) → get (insert rows s row) t ≡ cond (same_serial t s) (Some row) (get rows t)
 found rows s t row = get-insert serials_total rows s row t ∙ ap (λ b. cond b (Some row) (get rows t)) (by_cmp-same t s)
 
 there : (rows : Rows) (s : Serial) (row : Row) → HasOnuId (insert rows s row) s row.onu

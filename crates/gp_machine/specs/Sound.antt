@@ -1,7 +1,6 @@
 -- What is true of a port in every run. That no two units have one ONU-ID, and that it is 0 to 253, is G.984.3, clauses 9
--- and 10; SUF after two failed rangings, LOS after four dark polls and LOAM after three garbled ones are clause 11; the
--- room for copies, the windows, the cycles and the timer are this profile's own rule.
-use Rattle.std.specs.Prelude.{◌≡◌, ℕ, ◌-◌, ◌≤◌, length, Option, None, Some, Contains}
+-- and 10; the counts of a unit, the room for copies, the windows, the cycles and the timer are this profile's own rule.
+use Rattle.std.specs.Prelude.{◌≡◌, ℕ, ◌-◌, ◌≤◌, false, length, Option, None, Some, Contains}
 use Rattle.gp_ploam.specs.declared.message.Serial.{Serial}
 use Rattle.gp_ranging.specs.declared.grant.Grant.{Grant}
 use Rattle.gp_ranging.specs.declared.grant.Grant.TheVariants.{Search, Range, Poll}
@@ -13,11 +12,11 @@ use Rattle.gp_machine.specs.declared.row.Phase.TheVariants.{Ranging, Operating}
 use Rattle.gp_machine.specs.declared.row.Row.{Row}
 use Rattle.gp_machine.specs.State.{PortState, Rows, HasRow, HasOnuId, Ranges, rows_of}
 
--- a unit's counts, below their limits (this form of the machine leaves them all 0): one failed ranging attempt at
--- most, three dark polls and two garbled ones
+-- a unit's counts, which this form of the machine leaves as they are at first: no failed ranging attempt, nothing seen
+-- in one, no dark poll and no garbled one
 abbrev pub IsCounted : Phase → Type 0
-IsCounted (Ranging attempts seen) = attempts ≤ 1
-IsCounted (Operating eqd dark garbled) = (dark ≤ 3) × (garbled ≤ 2)
+IsCounted (Ranging attempts seen) = (attempts ≡ 0) × (seen ≡ false)
+IsCounted (Operating eqd dark garbled) = (dark ≡ 0) × (garbled ≡ 0)
 
 -- whom a window asks: every unit that has no ONU-ID, or a ranging unit; no unit is polled
 abbrev pub IsAsked : Rows → Option WindowState → Type 0
@@ -53,7 +52,7 @@ pub record IsSound (port : PortState) : Type 0 where
   pub low : (serial : Serial) (onu : ℕ) → HasOnuId port.rows serial onu → onu ≤ 253
   -- each active unit is admitted
   pub admitted : (serial : Serial) (row : Row) → HasRow port.rows serial row → Contains port.config.admitted serial
-  -- each unit's counts are in their ranges
+  -- each unit's counts are as they were at first
   pub counted : (serial : Serial) (row : Row) → HasRow port.rows serial row → IsCounted row.phase
   -- no more units are active than may be
   pub few : rows_of port ≤ port.config.max_units

@@ -23,13 +23,15 @@ pub use entry::{Entry, Receipt};
 pub use event::{Command, Event};
 pub use one_step::{
     every_event_has_step, grants_open_windows, may_pick_any_free, one_outcome, raises_no_alarm,
-    refusals_change_nothing, sound_step, step_keeps_licences,
+    refusals_change_nothing, replies_with_cause, sound_step, step_keeps_licences,
+    timer_stands_outside_standby,
 };
 pub use refusal::Refusal;
 pub use reply::Reply;
 pub use row::{Phase, Row};
 pub use runs::{
     each_unit_is_told, every_state_is_sound, keeps_configuration, no_shared_onu_id,
-    ranged_with_what_is_left, runs_in_parts, runs_keep_licences, sends_each_message_three_times,
-    sends_only_proper_messages, tells_each_unit_its_onu_id, worked_runs,
+    operating_units_stay, ranged_with_what_is_left, runs_in_parts, runs_keep_licences,
+    sends_each_message_three_times, sends_only_proper_messages, tells_each_unit_its_onu_id,
+    worked_runs,
 };

@@ -1,12 +1,13 @@
-ghost use Rattle.gp_machine.specs.OneStep.{EveryEventHasStep, IsDetermined, KeepsLicences, KeepsSound, MayPickAnyFree, RaisesNoAlarm};
-ghost use Rattle.gp_machine.specs.Causes.{RefusalsChangeNothing};
+ghost use Rattle.gp_machine.specs.OneStep.{EveryEventHasStep, HearsOneThing, IsDetermined, KeepsLicences, KeepsSound, MayPickAnyFree, RaisesNoAlarm, TimerStandsOutsideStandby};
+ghost use Rattle.gp_machine.specs.Causes.{RefusalsChangeNothing, RepliesWithCause};
 ghost use Rattle.gp_machine.specs.Windows.{GrantsOpenWindows, WindowsAreGranted, WindowsClose, WindowsStay};
 
 use gp_ploam::up_read_once;
 
-/// Given the purse, the state, the event and the reply, all else is determined.
+/// Given the purse, the state, the event and the reply, all else is determined; a burst is heard in one way.
 pub fn one_outcome()
-    ensures { IsDetermined }
+    ensures outcome { IsDetermined }
+    ensures hears { HearsOneThing }
 {
     up_read_once();
 }
@@ -21,19 +22,32 @@ pub fn may_pick_any_free()
     ensures { MayPickAnyFree }
 {}
 
-/// A step that refuses has the cause that it tells. It sends, grants and raises nothing, hands every
-/// licence back, and changes nothing but that an open window has seen the burst.
+/// Each reply has its cause, so nothing is refused that need not be, and of the causes of a refused burst
+/// the first in order is told.
+pub fn replies_with_cause()
+    ensures { RepliesWithCause }
+{}
+
+/// A step that refuses sends, grants and raises nothing, hands every licence back, and changes nothing but
+/// that an open window has seen the burst.
 pub fn refusals_change_nothing()
     ensures { RefusalsChangeNothing }
 {}
 
-/// A window opens with its grant, in a frame before which no window was open and nothing was owed. It
-/// closes with its third frame, or with the burst by which the unit that it asks is ranged.
+/// A window opens with its grant, in a frame before which no window was open and nothing was owed, and in
+/// turn: search windows first, while the acquisition has one left, and else that of the ranging unit with
+/// the least ONU-ID. It closes with its third frame, or with the burst by which the unit that it asks is
+/// ranged.
 pub fn grants_open_windows()
     ensures opens { GrantsOpenWindows }
     ensures granted { WindowsAreGranted }
     ensures closes { WindowsClose }
     ensures stays { WindowsStay }
+{}
+
+/// The timer of the periodic search runs in standby alone.
+pub fn timer_stands_outside_standby()
+    ensures { TimerStandsOutsideStandby }
 {}
 
 /// No step raises an alarm: this form of the machine has none.

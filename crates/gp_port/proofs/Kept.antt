@@ -58,7 +58,7 @@ kept_again p held s n h room asks_no_unit known =
       limits = h.limits;
       units = h.units;
       period = h.period;
-      sound = sound_assigned p s n h.sound room asks_no_unit (may_put_again p s known.0 (new_row n) h.sound known.1 known.2 (omega arith));
+      sound = sound_assigned p s n h.sound room asks_no_unit (may_put_again p s known.0 (new_row n) h.sound known.1 known.2 (refl, refl));
       licences = h.licences ∙ sym (len-known p.rows s known.0 (new_row n) known.1);
     }
 
@@ -101,9 +101,9 @@ burst_sends_nothing u p at heard n =
       stray = λ shut. refl;
       refused = λ refusal cause. refl;
       found = λ s from joins. refl;
-      repeated = λ s row has. refl;
-      again = λ s row from has room. refl;
-      too_far = λ m. refl;
-      still_ranging = λ m. refl;
+      repeated = λ s row has cause. refl;
+      again = λ s row from has room ranges cause. refl;
+      too_far = λ m cause. refl;
+      still_ranging = λ m cause. refl;
       ranged = λ m s from near room. refl;
     })

@@ -209,7 +209,7 @@ fn repeated_answer(rt: HostRuntime) -> Result<(), Fail> {
 
 /// A misses its Assign_ONU-ID, and answers in the next search window too.
 #[test]
-fn heard_again(rt: HostRuntime) -> Result<(), Fail> {
+fn told_again(rt: HostRuntime) -> Result<(), Fail> {
     let assign = sends(Down::AssignOnu { onu: 0, serial: A });
     let steps = [
         (burst(100_000, A_SEARCHED), replies(Reply::Found(0))),
@@ -220,6 +220,9 @@ fn heard_again(rt: HostRuntime) -> Result<(), Fail> {
         (burst(100_000, A_SEARCHED), replies(Reply::Again(0))),
         (burst(100_000, A_SEARCHED), replies(Reply::Repeat(0))),
         (Event::Frame, assign),
+        (Event::Frame, assign),
+        (Event::Frame, assign),
+        (Event::Frame, grants(Grant::Range(0))),
     ];
     let config = PortConfig {
         cycles: 2,
@@ -326,6 +329,26 @@ fn periodic_search(rt: HostRuntime) -> Result<(), Fail> {
         (Event::Frame, sends(OVERHEAD)),
     ];
     assert_eq!(rt; surprise(rt.alloc(), &config, &steps)?, None);
+    Ok(())
+}
+
+/// Nobody answers a periodic search, and one period after its end the next one begins.
+#[test]
+fn searches_anew(rt: HostRuntime) -> Result<(), Fail> {
+    let config = PortConfig {
+        search_period: 5,
+        ..of_a_and_b(rt.alloc())?
+    };
+    let quiet = (Event::Frame, replies(Reply::Ticked));
+    let overhead = (Event::Frame, sends(OVERHEAD));
+    let search = (Event::Frame, grants(Grant::Search));
+    let before = [
+        quiet, quiet, quiet, quiet, quiet, overhead, overhead, overhead, search,
+    ];
+    let steps = [
+        quiet, quiet, quiet, quiet, quiet, quiet, quiet, quiet, quiet, overhead,
+    ];
+    assert_eq!(rt; surprise_after(rt.alloc(), &config, &before, &steps)?, None);
     Ok(())
 }
 
