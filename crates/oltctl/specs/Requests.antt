@@ -5,11 +5,11 @@ use Rattle.oltctl.specs.CommandLine.{mask_named}
 use Rattle.oltctl.specs.declared.request.Request.{Request}
 use Rattle.oltctl.specs.declared.request.Request.TheVariants.{Replay, Decode}
 
--- a flag is up or not, as its text says, and not where it has none
-pub record IsFlag (rows : List Row) (id : Text) (is_up : Bool) : Type 0 where
-  pub none : one_of id rows ≡ None → is_up ≡ false
-  pub yes : one_of id rows ≡ Some (codes "true") → is_up ≡ true
-  pub no : one_of id rows ≡ Some (codes "false") → is_up ≡ false
+-- a flag is given or not, as its text says, and is not where it has none
+pub record IsFlag (rows : List Row) (id : Text) (is_given : Bool) : Type 0 where
+  pub none : one_of id rows ≡ None → is_given ≡ false
+  pub yes : one_of id rows ≡ Some (codes "true") → is_given ≡ true
+  pub no : one_of id rows ≡ Some (codes "false") → is_given ≡ false
 
 -- the rows of `replay` ask to play FILE, or standard input where it is left out
 abbrev pub AsksToReplay : List Row → Request → Type 0
