@@ -29,16 +29,17 @@ IsNamedUp _ = Unit {0}
 
 -- no named row agrees with these twelve octets
 abbrev pub MatchesNoNamedUp : List ℕ → Type 0
-MatchesNoNamedUp octets = (m : Up) → IsNamedUp m → IsFittingUp m → Agrees (up_row m) octets → ⊥
+MatchesNoNamedUp octets =
+    (message : Up) → IsNamedUp message → IsFittingUp message → Agrees (up_row message) octets → ⊥
 
 -- a message that its own code stands for: its fields fit, and an `Other` has the octets of no named message
 abbrev pub IsProperUp : Up → Type 0
 IsProperUp (Other id octet1 body) = (length body ≡ 10) × MatchesNoNamedUp (octet1 ∷ id ∷ body)
-IsProperUp m = IsFittingUp m
+IsProperUp message = IsFittingUp message
 
 -- the thirteen octets of a message
 abbrev pub code_of_up : Up → ℕ → List ℕ
-code_of_up m mask = with_check (written (up_row m)) mask
+code_of_up message mask = with_check (written (up_row message)) mask
 
 -- a code is read as this message
 abbrev pub ReadsUp : List ℕ → ℕ → Up → Type 0
@@ -46,4 +47,4 @@ ReadsUp = Reads up_row IsProperUp
 
 -- octet 1 of a message's code
 abbrev pub octet1_of : Up → ℕ
-octet1_of m = slice_index (written (up_row m)) 0
+octet1_of message = slice_index (written (up_row message)) 0

@@ -30,22 +30,25 @@ pool_of first last limit leased settled = record { first = first; last = last; l
 abbrev pub fresh_pool : ℕ → ℕ → ℕ → Pool
 fresh_pool first last limit = pool_of first last limit set.empty set.empty
 
+-- the number is leased
 abbrev pub IsLeased : Pool → ℕ → Type 0
-IsLeased pool n = IsTrue (set.contains pool.leased n)
+IsLeased pool number = IsTrue (set.contains pool.leased number)
 
+-- the number is settled
 abbrev pub IsSettled : Pool → ℕ → Type 0
-IsSettled pool n = IsTrue (set.contains pool.settled n)
+IsSettled pool number = IsTrue (set.contains pool.settled number)
 
+-- the number is leased or settled
 abbrev pub IsOut : Pool → ℕ → Type 0
-IsOut pool n = IsIn pool.leased pool.settled n
+IsOut pool number = IsIn pool.leased pool.settled number
 
 -- the number is one of the pool's, and not out
 abbrev pub IsFree : Pool → ℕ → Type 0
-IsFree pool n = (pool.first ≤ n) × (n ≤ pool.last) × ¬ (IsOut pool n)
+IsFree pool number = (pool.first ≤ number) × (number ≤ pool.last) × ¬ (IsOut pool number)
 
 -- each of the pool's numbers is out
 abbrev pub AreAllOut : Pool → Type 0
-AreAllOut pool = (n : ℕ) → pool.first ≤ n → n ≤ pool.last → IsOut pool n
+AreAllOut pool = (number : ℕ) → pool.first ≤ number → number ≤ pool.last → IsOut pool number
 
 -- how many numbers are out
 abbrev pub count_out : Pool → ℕ
@@ -53,26 +56,26 @@ count_out pool = set.len pool.leased + set.len pool.settled
 
 -- the pool with one number leased that was not out
 abbrev pub pool_with_lease : Pool → ℕ → Pool
-pool_with_lease pool n = record pool { leased = set.insert pool.leased n }
+pool_with_lease pool number = record pool { leased = set.insert pool.leased number }
 
 -- the pool with one leased number given back
 abbrev pub pool_without_lease : Pool → ℕ → Pool
-pool_without_lease pool n = record pool { leased = set.remove pool.leased n }
+pool_without_lease pool number = record pool { leased = set.remove pool.leased number }
 
 -- the pool with one leased number settled
 abbrev pub pool_with_settled : Pool → ℕ → Pool
-pool_with_settled pool n = record pool { leased = set.remove pool.leased n; settled = set.insert pool.settled n }
+pool_with_settled pool number = record pool { leased = set.remove pool.leased number; settled = set.insert pool.settled number }
 
 -- the pool with one settled number leased again
 abbrev pub pool_with_lease_again : Pool → ℕ → Pool
-pool_with_lease_again pool n = record pool { leased = set.insert pool.leased n; settled = set.remove pool.settled n }
+pool_with_lease_again pool number = record pool { leased = set.insert pool.leased number; settled = set.remove pool.settled number }
 
 -- what every pool keeps: no number is both leased and settled, only the pool's own numbers are out, and at most its limit
 -- are out; the limit is no more than it has numbers
 pub record IsSound (pool : Pool) : Type 0 where
-  pub apart : (n : ℕ) → IsLeased pool n → IsSettled pool n → ⊥
-  pub leased : (n : ℕ) → IsLeased pool n → (pool.first ≤ n) × (n ≤ pool.last)
-  pub settled : (n : ℕ) → IsSettled pool n → (pool.first ≤ n) × (n ≤ pool.last)
+  pub apart : (number : ℕ) → IsLeased pool number → IsSettled pool number → ⊥
+  pub leased : (number : ℕ) → IsLeased pool number → (pool.first ≤ number) × (number ≤ pool.last)
+  pub settled : (number : ℕ) → IsSettled pool number → (pool.first ≤ number) × (number ≤ pool.last)
   pub few : count_out pool ≤ pool.limit
   pub reach : pool.limit ≤ pool.last + 1 - pool.first
 

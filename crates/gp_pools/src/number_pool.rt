@@ -5,6 +5,7 @@ use super::number_set::NumberSet;
 use std::marker::Model;
 
 /// For a type that is ended by its own calls: with a `Drop` it would have this trait by both impls, and not compile.
+/// Each crate with such types has this trait for itself, since none of those crates stands on another.
 pub trait NeverDropped {}
 
 impl<T: Drop> NeverDropped for T {}

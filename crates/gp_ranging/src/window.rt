@@ -16,6 +16,7 @@ pub struct Window {
 }
 
 /// For a type that is ended by its own calls: with a `Drop` it would have this trait by both impls, and not compile.
+/// Each crate with such types has this trait for itself, since none of those crates stands on another.
 trait NeverDropped {}
 
 impl<T: Drop> NeverDropped for T {}

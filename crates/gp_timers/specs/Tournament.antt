@@ -1,4 +1,5 @@
--- How the timers are kept (this profile's own rule): a tree in which each node has the earlier of its two children.
+-- How the timers are kept (this profile's own rule): a tree in which each node has the earlier of its two children. No
+-- statement of another crate cites it.
 use Rattle.std.specs.Prelude.{ℕ, suc, ◌+◌, ◌*◌, ◌^◌, ◌≡◌, ◌<◌, ◌==◌, ◌||◌, ◌&&◌, nat_lt, Bool, if◌then◌else◌, List, [], ◌∷◌, length, Option, None, Some, ◌≢◌}
 use Rattle.std.specs.Option.{ForSome}
 use Rattle.std.specs.List.{slice_index_or}
@@ -16,16 +17,18 @@ earlier_of None b = b
 earlier_of (Some a) None = Some a
 earlier_of (Some a) (Some b) = Some (if is_earlier b a then b else a)
 
+-- the timer at a place of the tree, or none
 abbrev pub timer_at : List (Option Timer) → ℕ → Option Timer
-timer_at nodes i = slice_index_or nodes i None
+timer_at nodes place = slice_index_or nodes place None
 
--- the places from `names` on are the leaves, one for each name, with the timer of that name; each place i below them, from 1
--- on, has the earlier of the timers at 2i and 2i + 1
+-- the places from `names` on are the leaves, one for each name, with the timer of that name; each place below them, from 1
+-- on, has the earlier of the timers at twice its number and the place after that
 pub record IsTournament (names : ℕ) (nodes : List (Option Timer)) : Type 0 where
   pub few : names < 2 ^ 16
   pub size : length nodes ≡ 2 * names
-  pub leaf : (k : ℕ) → k < names → ForSome (timer_at nodes (names + k)) (λ t. t.name ≡ k)
-  pub inner : (i : ℕ) → 0 < i → i < names → timer_at nodes i ≡ earlier_of (timer_at nodes (2 * i)) (timer_at nodes (2 * i + 1))
+  pub leaf : (name : ℕ) → name < names → ForSome (timer_at nodes (names + name)) (λ timer. timer.name ≡ name)
+  pub inner : (place : ℕ) → 0 < place → place < names
+      → timer_at nodes place ≡ earlier_of (timer_at nodes (2 * place)) (timer_at nodes (2 * place + 1))
 
 -- the frames of the leaves, whose names count from this one
 abbrev pub frames_from : ℕ → List (Option Timer) → DueFrames
@@ -37,4 +40,4 @@ frames_from name (Some timer ∷ leaves) = insert (frames_from (suc name) leaves
 pub record IsRewritten (names : ℕ) (old new : List (Option Timer)) (name : ℕ) (timer : Option Timer) : Type 0 where
   pub tournament : IsTournament names new
   pub here : timer_at new (names + name) ≡ timer
-  pub others : (k : ℕ) → k < names → k ≢ name → timer_at new (names + k) ≡ timer_at old (names + k)
+  pub others : (other : ℕ) → other < names → other ≢ name → timer_at new (names + other) ≡ timer_at old (names + other)

@@ -1,19 +1,21 @@
--- The copies that are owed, one after the other (this profile's own rule: the copies of a message go out in a row).
+-- How the copies that are owed are kept: as volleys, of which only the first may have been begun (this profile's own rule:
+-- the copies of a message go out in a row). No statement of another crate cites it.
 use Rattle.std.specs.Prelude.{◌≡◌, ◌≤◌, List, [], ◌∷◌, ◌++◌, replicate}
+use Rattle.gp_ploam.specs.Copies.{copies_each}
 use Rattle.gp_ploam.specs.declared.message.Down.{Down}
 use Rattle.gp_volley.specs.Volley.{VolleyState}
 
 -- the copies of volleys, one volley after the other
 abbrev pub copies_of : List VolleyState → List Down
 copies_of [] = []
-copies_of (v ∷ vs) = replicate v.left v.message ++ copies_of vs
+copies_of (volley ∷ later) = replicate volley.left volley.message ++ copies_of later
 
 -- of each message no copy was sent
 abbrev pub AreWhole : List VolleyState → Type 0
 AreWhole [] = Unit {0}
-AreWhole (v ∷ vs) = (v.left ≡ 3) × AreWhole vs
+AreWhole (volley ∷ later) = (volley.left ≡ copies_each) × AreWhole later
 
 -- only of the first message may a copy have been sent, and one at least is still to be sent
 abbrev pub IsInOrder : List VolleyState → Type 0
 IsInOrder [] = Unit {0}
-IsInOrder (v ∷ vs) = (1 ≤ v.left) × (v.left ≤ 3) × AreWhole vs
+IsInOrder (volley ∷ later) = (1 ≤ volley.left) × (volley.left ≤ copies_each) × AreWhole later

@@ -1,5 +1,5 @@
-ghost use Rattle.std.specs.Prelude.{◌≡◌, ◌+◌, ◌≤◌, ◌↔◌, [], ◌∷◌, ◌++◌, drop, length, slice_get, Contains, IfOk, IsTrue};
-ghost use Rattle.gp_ploam.specs.Copies.{first_of};
+ghost use Rattle.std.specs.Prelude.{◌≡◌, ◌+◌, ◌≤◌, ◌↔◌, [], ◌++◌, drop, length, slice_get, Contains, IfOk, IsTrue};
+ghost use Rattle.gp_ploam.specs.Copies.{all_copies, first_of};
 
 use super::volley::Volley;
 use gp_ploam::Down;
@@ -59,7 +59,7 @@ impl VolleyQueue {
     /// Owes a message: three copies after all others.
     pub fn owe(&mut self, message: Down)
         requires { length self.old + 3 ≤ 192 }
-        ensures { self.new ≡ self.old ++ message ∷ message ∷ message ∷ [] }
+        ensures { self.new ≡ self.old ++ all_copies message }
     {
         self.volleys.push_back_reserved(Volley::begin(message));
     }
