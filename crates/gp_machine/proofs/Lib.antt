@@ -1,11 +1,13 @@
 pub mod Determined
 pub mod SerialLists
+pub mod Comparing
 pub mod Cases
 pub mod AnyFree
 pub mod Readings
 pub mod FewRows
 pub mod EveryStep
 pub mod Causes
+pub mod RefusedCauses
 pub mod Refusing
 pub mod WindowSteps
 pub mod TimerSteps

@@ -2,6 +2,7 @@ pub mod Refusals
 pub mod Replies
 pub mod Config
 pub mod State
+pub mod Copies
 pub mod Sound
 pub mod Outcomes
 pub mod Frame
@@ -17,3 +18,4 @@ pub mod Messages
 pub mod OnuIds
 pub mod Delays
 pub mod Worked
+pub mod Comparing

@@ -10,6 +10,7 @@ use Rattle.gp_common.specs.declared.common.Common.TheVariants.{Standby, Acquisit
 use Rattle.gp_machine.specs.declared.row.Phase.{Phase}
 use Rattle.gp_machine.specs.declared.row.Phase.TheVariants.{Ranging, Operating}
 use Rattle.gp_machine.specs.declared.row.Row.{Row}
+use Rattle.gp_machine.specs.Copies.{most_copies, most_copies_owed}
 use Rattle.gp_machine.specs.State.{PortState, Rows, HasRow, HasOnuId, Ranges, rows_of}
 
 -- a unit's counts, which this form of the machine leaves as they are at first: no failed ranging attempt, nothing seen
@@ -39,10 +40,10 @@ HasCyclesLeft Standby cycles = Unit {0}
 HasCyclesLeft (Acquisition left) cycles = left ≤ cycles
 HasCyclesLeft Measuring cycles = Unit {0}
 
--- how many copies may be owed: 64 messages, or 63 while a window is open
+-- how many copies may be owed: those of 64 messages, or of 63 while a window is open
 abbrev pub copies_at_most : Option WindowState → ℕ
-copies_at_most None = 192
-copies_at_most (Some window) = 189
+copies_at_most None = most_copies
+copies_at_most (Some window) = most_copies_owed
 
 -- what each state of each run keeps
 pub record IsSound (port : PortState) : Type 0 where

@@ -17,14 +17,14 @@ pub use admitted::{Admitted, is_among};
 pub use answer::Answer;
 pub use config::{
     FIRST_ALLOC_ID, LAST_ALLOC_ID, LONGEST_SEARCH_PERIOD, MOST_ADMITTED, MOST_CYCLES, MOST_UNITS,
-    PortConfig,
+    PortConfig, compares_configs,
 };
 pub use entry::{Entry, Receipt};
 pub use event::{Command, Event};
 pub use one_step::{
     every_event_has_step, grants_open_windows, may_pick_any_free, one_outcome, raises_no_alarm,
-    refusals_change_nothing, replies_with_cause, sound_step, step_keeps_licences,
-    timer_stands_outside_standby,
+    refusals_change_nothing, refuses_for_cause, replies_with_cause, sound_step,
+    step_keeps_licences, timer_stands_outside_standby,
 };
 pub use refusal::Refusal;
 pub use reply::Reply;

@@ -1,5 +1,5 @@
 ghost use Rattle.gp_machine.specs.OneStep.{EveryEventHasStep, HearsOneThing, IsDetermined, KeepsLicences, KeepsSound, MayPickAnyFree, RaisesNoAlarm, TimerStandsOutsideStandby};
-ghost use Rattle.gp_machine.specs.Causes.{RefusalsChangeNothing, RepliesWithCause};
+ghost use Rattle.gp_machine.specs.Causes.{RefusalsChangeNothing, RefusesForCause, RepliesWithCause};
 ghost use Rattle.gp_machine.specs.Windows.{GrantsOpenWindows, WindowsAreGranted, WindowsClose, WindowsStay};
 
 use gp_ploam::up_read_once;
@@ -27,6 +27,13 @@ pub fn may_pick_any_free()
 pub fn replies_with_cause()
     ensures { RepliesWithCause }
 {}
+
+/// Where the cause of a refusal holds, the step refuses, and tells it.
+pub fn refuses_for_cause()
+    ensures { RefusesForCause }
+{
+    one_outcome();
+}
 
 /// A step that refuses sends, grants and raises nothing, hands every licence back, and changes nothing but
 /// that an open window has seen the burst.

@@ -1,167 +1,152 @@
 -- The least ONU-ID of a ranging unit, over a list and over the map that it makes.
-use Rattle.std.proofs.Common.{◌≡◌, ℕ, ◌<◌, ◌≤◌, false, nat_le, cond, [], ◌∷◌, Option, None, Some, ◌⊎◌, inl, inr, refl, sym, ap, subst, ◌∙◌, arith, ⊎_elim}
+use Rattle.std.proofs.Common.{◌≡◌, ℕ, zero, suc, ◌+◌, ◌<◌, ◌≤◌, cond, List, [], ◌∷◌, ◌++◌, length, take, get_or, Option, None, Some, ◌⊎◌, inl, inr, refl, sym, ap, subst, ◌∙◌, arith, ⊎_elim}
+use Rattle.std.specs.Prelude.{Contains}
+use Rattle.std.proofs.Math.Seq.{take-suc}
 use Rattle.std.proofs.lemmas.Bool.{cases_Bool}
-use Rattle.std.proofs.lemmas.Bool.{leb-true, leb-false}
+use Rattle.std.proofs.lemmas.List.Elements.{Contains-append_left, Contains-append_cases, Contains-push}
 use Rattle.std.specs.FinMap.{from_entries, get, insert, get-from_entries, get-insert}
 use Rattle.gp_ploam.specs.declared.message.Serial.{Serial}
-use Rattle.gp_machine.specs.declared.row.Phase.{Phase}
-use Rattle.gp_machine.specs.declared.row.Phase.TheVariants.{Ranging, Operating}
 use Rattle.gp_machine.specs.declared.row.Row.{Row}
 use Rattle.gp_ploam.specs.Serials.{serial_cmp, same_serial}
 use Rattle.gp_machine.specs.State.{Rows, IsRanging, Ranges, IsLeastRanging}
-use Rattle.gp_port.specs.Listed.{IsApart, lesser_of, least_from}
+use Rattle.gp_port.specs.Listed.{IsApart, RangesWith, RangesIn, IsEither, IsLeast}
 use Rattle.gp_ploam.proofs.Serials.{serials_total, by_cmp-same, same_serial-true, same_serial-itself}
 use Rattle.gp_port.proofs.Listing.{Entries, row_at, row_at-head, row_at-tail}
 
--- a row of the list is ranging with this ONU-ID
-abbrev RangesIn : Entries → ℕ → Type 0
-RangesIn [] n = ⊥
-RangesIn (e ∷ es) n = (IsRanging e.1.phase × (e.1.onu ≡ n)) ⊎ RangesIn es n
+-- ---- the least of a kind
 
--- the least of the numbers of a kind, if there are any
-abbrev IsLeast : (ℕ → Type 0) → Option ℕ → Type 0
-IsLeast P None = (n : ℕ) → P n → ⊥
-IsLeast P (Some n) = P n × ((m : ℕ) → P m → n ≤ m)
+-- it is of the kind
+is_of_kind : (P : ℕ → Type 0) (o : Option ℕ) (n : ℕ) → IsLeast P o → o ≡ Some n → P n
+is_of_kind P None n h e = absurd (cc)
+is_of_kind P (Some k) n h e = let i : k ≡ n = cc in subst P i h.0
 
-abbrev Among : Option ℕ → Entries → ℕ → Type 0
-Among least es n = (least ≡ Some n) ⊎ RangesIn es n
+-- none of the kind is less
+has_below : (P : ℕ → Type 0) (o : Option ℕ) (n : ℕ) → IsLeast P o → P n → (k : ℕ) × (k ≤ n) × (o ≡ Some k)
+has_below P None n h p = absurd (h n p)
+has_below P (Some k) n h p = (k, h.1 n p, refl)
 
--- from one kind to another, whose numbers are of the first, and none is less than all of the first
+-- a kind whose numbers are of another, none of which is less than all of the first, has the same least number
 carried : (P Q : ℕ → Type 0) (o : Option ℕ) → ((n : ℕ) → P n → Q n) → ((n : ℕ) → Q n → (m : ℕ) × (m ≤ n) × P m) → IsLeast P o → IsLeast Q o
 carried P Q None f g h = λ n q. let w = g n q in h w.0 w.2
 carried P Q (Some k) f g h = (f k h.0, λ n q. let w = g n q in let b = h.1 w.0 w.2 in let c = w.1 in omega arith)
 
--- what a row adds
-lesser_among : (acc : Option ℕ) (onu : ℕ) (phase : Phase) (es : Entries) (n : ℕ) → Among (lesser_of acc (record { onu = onu; phase = phase })) es n → (acc ≡ Some n) ⊎ ((IsRanging phase × (onu ≡ n)) ⊎ RangesIn es n)
-lesser_among acc onu (Operating q d g) es n h = ⊎_elim (λ e. inl e) (λ r. inr (inr r)) h
-lesser_among None onu (Ranging a s) es n h = ⊎_elim (λ (e : Some onu ≡ Some n). inr (inl (tt, cc))) (λ r. inr (inr r)) h
-lesser_among (Some k) onu (Ranging a s) es n h =
-    elim (cases_Bool (nat_le k onu)) [
-      | inl t ↦ ⊎_elim (λ (e : cond (nat_le k onu) (Some k) (Some onu) ≡ Some n). inl (sym (ap (λ b. cond b (Some k) (Some onu)) t) ∙ e)) (λ r. inr (inr r)) h
-      | inr f ↦ ⊎_elim (λ (e : cond (nat_le k onu) (Some k) (Some onu) ≡ Some n). let e' : Some onu ≡ Some n = sym (ap (λ b. cond b (Some k) (Some onu)) f) ∙ e in inr (inl (tt, cc))) (λ r. inr (inr r)) h
-    ]
+-- the least of a kind, once a row is added to it
+with_row : (P Q : ℕ → Type 0) (least after : Option ℕ) (row : Row) → ((n : ℕ) → least ≡ Some n → P n → Q n) → ((n : ℕ) → RangesWith row n → Q n) → ((n : ℕ) → Q n → P n ⊎ RangesWith row n)
+    → IsLeast P least → IsLeast (IsEither least row) after → IsLeast Q after
+with_row P Q least after row still new split h either =
+    carried (IsEither least row) Q after
+    (λ n x. ⊎_elim (λ e. still n e (is_of_kind P least n h e)) (λ r. new n r) x)
+    (λ n q. ⊎_elim (λ p. let b = has_below P least n h p in (b.0, b.1, inl b.2)) (λ r. (n, omega arith, inr r)) (split n q))
+    either
 
-among_lesser : (acc : Option ℕ) (onu : ℕ) (phase : Phase) (es : Entries) (n : ℕ) → (acc ≡ Some n) ⊎ ((IsRanging phase × (onu ≡ n)) ⊎ RangesIn es n) → (m : ℕ) × (m ≤ n) × Among (lesser_of acc (record { onu = onu; phase = phase })) es m
-among_lesser acc onu (Operating q d g) es n h = ⊎_elim (λ e. (n, omega arith, inl e)) (λ x. ⊎_elim (λ y. absurd y.0) (λ r. (n, omega arith, inr r)) x) h
-among_lesser None onu (Ranging a s) es n h = ⊎_elim (λ (e : None ≡ Some n). absurd (cc)) (λ x. ⊎_elim (λ y. (n, omega arith, inl (ap Some y.1))) (λ r. (n, omega arith, inr r)) x) h
-among_lesser (Some k) onu (Ranging a s) es n h =
-    elim (cases_Bool (nat_le k onu)) [
-      | inl t ↦
-          let at : cond (nat_le k onu) (Some k) (Some onu) ≡ Some k = ap (λ b. cond b (Some k) (Some onu)) t in
-          let below : k ≤ onu = leb-true k onu t in
-          ⊎_elim (λ (e : Some k ≡ Some n). let i : k ≡ n = cc in (k, omega arith, inl at)) (λ x. ⊎_elim (λ y. let i = y.1 in (k, omega arith, inl at)) (λ r. (n, omega arith, inr r)) x) h
-      | inr f ↦
-          let at : cond (nat_le k onu) (Some k) (Some onu) ≡ Some onu = ap (λ b. cond b (Some k) (Some onu)) f in
-          let below : onu < k = leb-false k onu f in
-          ⊎_elim (λ (e : Some k ≡ Some n). let i : k ≡ n = cc in (onu, omega arith, inl at)) (λ x. ⊎_elim (λ y. let i = y.1 in (onu, omega arith, inl at)) (λ r. (n, omega arith, inr r)) x) h
-    ]
+-- a row alone
+pub least_of_row : (row : Row) (o : Option ℕ) (n : ℕ) → IsLeast (IsEither None row) o → RangesWith row n → o ≡ Some n
+least_of_row row None n h r = absurd (h n (inr r))
+least_of_row row (Some k) n h r = ⊎_elim (λ (e : None ≡ Some k). absurd (cc)) (λ x. ap Some (sym x.1 ∙ r.1)) h.0
 
-over_list : (es : Entries) (acc : Option ℕ) → IsLeast (Among acc es) (least_from acc es)
-over_list [] None = λ n h. ⊎_elim (λ (e : None ≡ Some n). cc) (λ r. r) h
-over_list [] (Some k) = (inl refl, λ n h. ⊎_elim (λ (e : Some k ≡ Some n). let i : k ≡ n = cc in omega arith) (λ r. absurd r) h)
-over_list (e ∷ es) acc =
-    carried (Among (lesser_of acc e.1) es) (Among acc (e ∷ es)) (least_from (lesser_of acc e.1) es)
-    (λ n h. lesser_among acc e.1.onu e.1.phase es n h)
-    (λ n h. among_lesser acc e.1.onu e.1.phase es n h)
-    (over_list es (lesser_of acc e.1))
+-- ---- the least of a list
+
+-- one more row
+pub least_more : (rows : Entries) (i : ℕ) (d : Serial × Row) (least after : Option ℕ) → i < length rows
+    → IsLeast (RangesIn (take i rows)) least → IsLeast (IsEither least (get_or rows i d).1) after → IsLeast (RangesIn (take (i + 1) rows)) after
+least_more rows i d least after within =
+    with_row (RangesIn (take i rows)) (RangesIn (take (i + 1) rows)) least after e.1
+    (λ n is w. (w.0, subst (λ xs. Contains xs w.0) (sym longer) (Contains-append_left (take i rows) (e ∷ []) w.0 w.1), w.2))
+    (λ n r. (e, subst (λ xs. Contains xs e) (sym longer) (Contains-push (take i rows) e), r))
+    (λ n w.
+    ⊎_elim (λ c. inl (w.0, c, w.2)) (λ c. inr (subst (λ (x : Serial × Row). RangesWith x.1 n) (only w.0 c) w.2))
+    (Contains-append_cases (take i rows) (e ∷ []) w.0 (subst (λ xs. Contains xs w.0) longer w.1)))
+  where
+    e : Serial × Row
+    e = get_or rows i d
+
+    longer : take (i + 1) rows ≡ take i rows ++ e ∷ []
+    longer = let next : i + 1 ≡ suc i = omega arith in ap (λ k. take k rows) next ∙ take-suc rows i d within
+
+    only : (x : Serial × Row) → Contains (e ∷ []) x → x ≡ e
+    only x (zero, l, is) = sym is
+    only x (suc k, l, is) = absurd (omega arith)
 
 -- the rows of the list are those of the map
-listed_ranges : (es : Entries) (n : ℕ) → IsApart es → RangesIn es n → (s : Serial) × (row : Row) × (row_at s es ≡ Some row) × IsRanging row.phase × (row.onu ≡ n)
-listed_ranges [] n a h = absurd h
-listed_ranges (e ∷ es) n a h =
-    ⊎_elim
-    (λ (x : IsRanging e.1.phase × (e.1.onu ≡ n)). (e.0, e.1, row_at-head e es, x.0, x.1))
-    (λ (r : RangesIn es n).
-    let w = listed_ranges es n a.1 r in
-    let apart : same_serial w.0 e.0 ≡ false =
-    elim (cases_Bool (same_serial w.0 e.0)) [
-      | inl t ↦ absurd (let f : None ≡ Some w.1 = sym a.0 ∙ subst (λ (x : Serial). row_at x es ≡ Some w.1) (same_serial-true w.0 e.0 t) w.2 in none_is_not_some w.1 f)
-      | inr f ↦ f
-    ] in
-    (w.0, w.1, row_at-tail w.0 e es apart ∙ w.2, w.3, w.4))
-    h
+row_of_entry : (es : Entries) (e : Serial × Row) → IsApart es → Contains es e → row_at e.0 es ≡ Some e.1
+row_of_entry [] e a c = absurd (let l = c.1 in omega arith)
+row_of_entry (x ∷ es) e a (zero, l, is) = subst (λ (y : Serial × Row). row_at y.0 (x ∷ es) ≡ Some y.1) is (row_at-head x es)
+row_of_entry (x ∷ es) e a (suc k, l, is) =
+    let later = row_of_entry es e a.1 (k, omega arith, is) in
+    elim (cases_Bool (same_serial e.0 x.0)) [
+      | inl t ↦ absurd (none_is_not_some e.1 (sym a.0 ∙ subst (λ (s : Serial). row_at s es ≡ Some e.1) (same_serial-true e.0 x.0 t) later))
+      | inr f ↦ row_at-tail e.0 x es f ∙ later
+    ]
   where
     none_is_not_some : (r : Row) → None ≡ Some r → ⊥
     none_is_not_some r f = cc
 
-ranges_listed : (es : Entries) (n : ℕ) (s : Serial) (row : Row) → row_at s es ≡ Some row → IsRanging row.phase → row.onu ≡ n → RangesIn es n
-ranges_listed [] n s row h p e = absurd (cc)
-ranges_listed (x ∷ es) n s row h p e =
+entry_of_row : (es : Entries) (s : Serial) (row : Row) → row_at s es ≡ Some row → Contains es (s, row)
+entry_of_row [] s row h = absurd (cc)
+entry_of_row (x ∷ es) s row h =
     elim (cases_Bool (same_serial s x.0)) [
       | inl t ↦
           let same : Some x.1 ≡ Some row = sym (subst (λ (q : Serial). row_at q (x ∷ es) ≡ Some x.1) (sym (same_serial-true s x.0 t)) (row_at-head x es)) ∙ h in
           let i : x.1 ≡ row = cc in
-          inl (subst (λ (r : Row). IsRanging r.phase) (sym i) p, ap (λ (r : Row). r.onu) i ∙ e)
-      | inr f ↦ inr (ranges_listed es n s row (sym (row_at-tail s x es f) ∙ h) p e)
+          (0, omega arith, ap (λ (q : Serial). (q, x.1)) (sym (same_serial-true s x.0 t)) ∙ ap (λ (r : Row). (s, r)) i)
+      | inr f ↦ let w = entry_of_row es s row (sym (row_at-tail s x es f) ∙ h) in let l = w.1 in (suc w.0, omega arith, w.2)
     ]
 
-pub least_of_map : (es : Entries) → IsApart es → IsLeastRanging (from_entries {R = serial_cmp} es) (least_from None es)
-least_of_map es a =
-    by_option (least_from None es)
-    (carried (Among None es) (Ranges (from_entries {R = serial_cmp} es)) (least_from None es)
-    (λ n h. ⊎_elim (λ (e : None ≡ Some n). absurd (cc)) (λ r. let w = listed_ranges es n a r in (w.0, w.1, get-from_entries serials_total es w.0 ∙ w.2, w.3, w.4)) h)
-    (λ n w. (n, omega arith, inr (ranges_listed es n w.0 w.1 (sym (get-from_entries serials_total es w.0) ∙ w.2) w.3 w.4)))
-    (over_list es None))
-  where
-    by_option : (o : Option ℕ) → IsLeast (Ranges (from_entries {R = serial_cmp} es)) o → IsLeastRanging (from_entries {R = serial_cmp} es) o
-    by_option None h = h
-    by_option (Some n) h = h
+-- ---- the least of a map
 
--- the least ONU-ID of a ranging unit, after a unit gets this row in the place of one that did not have it
-pub least_after_put : (m : Rows) (least : Option ℕ) (s : Serial) (onu : ℕ) (phase : Phase) → IsLeastRanging m least
-    → ((old : Row) → get m s ≡ Some old → least ≡ Some old.onu → lesser_of None (record { onu = onu; phase = phase }) ≡ least)
-    → IsLeastRanging (insert m s (record { onu = onu; phase = phase })) (lesser_of least (record { onu = onu; phase = phase }))
-least_after_put m least s onu phase h kept = by_case least phase h kept
-  where
-    row_with : Phase → Row
-    row_with p = record { onu = onu; phase = p }
+as_ranging : (m : Rows) (o : Option ℕ) → IsLeast (Ranges m) o → IsLeastRanging m o
+as_ranging m None h = h
+as_ranging m (Some n) h = h
 
-    at : (p : Phase) (t : Serial) → get (insert m s (row_with p)) t ≡ cond (same_serial t s) (Some (row_with p)) (get m t)
-    at p t = get-insert serials_total m s (row_with p) t ∙ ap (λ b. cond b (Some (row_with p)) (get m t)) (by_cmp-same t s)
+of_ranging : (m : Rows) (o : Option ℕ) → IsLeastRanging m o → IsLeast (Ranges m) o
+of_ranging m None h = h
+of_ranging m (Some n) h = h
+
+pub least_of_map : (es : Entries) (least : Option ℕ) → IsApart es → IsLeast (RangesIn es) least → IsLeastRanging (from_entries {R = serial_cmp} es) least
+least_of_map es least a h =
+    as_ranging (from_entries {R = serial_cmp} es) least
+    (carried (RangesIn es) (Ranges (from_entries {R = serial_cmp} es)) least
+    (λ n w. (w.0.0, w.0.1, get-from_entries serials_total es w.0.0 ∙ row_of_entry es w.0 a w.1, w.2.0, w.2.1))
+    (λ n w. (n, omega arith, ((w.0, w.1), entry_of_row es w.0 w.1 (sym (get-from_entries serials_total es w.0) ∙ w.2), (w.3, w.4))))
+    h)
+
+pub none_range : IsLeast (RangesIn []) None
+none_range n w = let l = w.1.1 in omega arith
+
+-- the least ONU-ID of a ranging unit, after a unit gets this row in the place of one that did not have it, or in the
+-- place of one that had it and in whose row it ranges with it still
+pub least_after_put : (m : Rows) (least after : Option ℕ) (s : Serial) (row : Row) → IsLeastRanging m least
+    → ((old : Row) → get m s ≡ Some old → least ≡ Some old.onu → RangesWith row old.onu)
+    → IsLeast (IsEither least row) after
+    → IsLeastRanging (insert m s row) after
+least_after_put m least after s row h kept either =
+    as_ranging (insert m s row) after (with_row (Ranges m) (Ranges (insert m s row)) least after row still new split (of_ranging m least h) either)
+  where
+    at : (t : Serial) → get (insert m s row) t ≡ cond (same_serial t s) (Some row) (get m t)
+    at t = get-insert serials_total m s row t ∙ ap (λ b. cond b (Some row) (get m t)) (by_cmp-same t s)
 
     -- the unit itself
-    new : (p : Phase) → IsRanging p → Ranges (insert m s (row_with p)) onu
-    new p r = (s, row_with p, at p s ∙ ap (λ b. cond b (Some (row_with p)) (get m s)) (same_serial-itself s), r, refl)
-
-    -- who ranges then is the unit itself, or ranged before
-    split : (p : Phase) (n : ℕ) → Ranges (insert m s (row_with p)) n → (IsRanging p × (onu ≡ n)) ⊎ Ranges m n
-    split p n w =
-        elim (cases_Bool (same_serial w.0 s)) [
-          | inl t ↦
-              let same : Some (row_with p) ≡ Some w.1 = sym (at p w.0 ∙ ap (λ b. cond b (Some (row_with p)) (get m w.0)) t) ∙ w.2 in
-              let i : row_with p ≡ w.1 = cc in
-              inl (subst (λ (r : Row). IsRanging r.phase) (sym i) w.3, ap (λ (r : Row). r.onu) i ∙ w.4)
-          | inr f ↦ inr (w.0, w.1, sym (at p w.0 ∙ ap (λ b. cond b (Some (row_with p)) (get m w.0)) f) ∙ w.2, w.3, w.4)
-        ]
+    new : (n : ℕ) → RangesWith row n → Ranges (insert m s row) n
+    new n r = (s, row, at s ∙ ap (λ b. cond b (Some row) (get m s)) (same_serial-itself s), r.0, r.1)
 
     -- the least one before still ranges, or the unit itself was it
-    still : (p : Phase) (k : ℕ) → Ranges m k → ((old : Row) → get m s ≡ Some old → Some k ≡ Some old.onu → lesser_of None (row_with p) ≡ Some k) → Ranges (insert m s (row_with p)) k
-    still p k w kept =
+    still : (n : ℕ) → least ≡ Some n → Ranges m n → Ranges (insert m s row) n
+    still n e w =
         elim (cases_Bool (same_serial w.0 s)) [
           | inl t ↦
               let had : get m s ≡ Some w.1 = subst (λ (x : Serial). get m x ≡ Some w.1) (same_serial-true w.0 s t) w.2 in
-              itself p (kept w.1 had (ap Some (sym w.4)))
-          | inr f ↦ (w.0, w.1, at p w.0 ∙ ap (λ b. cond b (Some (row_with p)) (get m w.0)) f ∙ w.2, w.3, w.4)
+              let r = kept w.1 had (e ∙ ap Some (sym w.4)) in
+              new n (r.0, r.1 ∙ w.4)
+          | inr f ↦ (w.0, w.1, at w.0 ∙ ap (λ b. cond b (Some row) (get m w.0)) f ∙ w.2, w.3, w.4)
         ]
-      where
-        itself : (p : Phase) → lesser_of None (row_with p) ≡ Some k → Ranges (insert m s (row_with p)) k
-        itself (Operating q d g) e = absurd (cc)
-        itself (Ranging a b) e = let i : onu ≡ k = cc in subst (λ (j : ℕ). Ranges (insert m s (row_with (Ranging a b))) j) i (new (Ranging a b) tt)
 
-    by_case : (o : Option ℕ) (p : Phase) → IsLeastRanging m o → ((old : Row) → get m s ≡ Some old → o ≡ Some old.onu → lesser_of None (row_with p) ≡ o) → IsLeastRanging (insert m s (row_with p)) (lesser_of o (row_with p))
-    by_case None (Operating q d g) h kept = λ n w. ⊎_elim (λ x. x.0) (λ r. h n r) (split (Operating q d g) n w)
-    by_case None (Ranging a b) h kept =
-        (new (Ranging a b) tt, λ n w. ⊎_elim (λ (x : IsRanging (Ranging a b) × (onu ≡ n)). let e = x.1 in omega arith) (λ r. absurd (h n r)) (split (Ranging a b) n w))
-    by_case (Some k) (Operating q d g) h kept =
-        (still (Operating q d g) k h.0 kept, λ n w. ⊎_elim (λ (x : IsRanging (Operating q d g) × (onu ≡ n)). absurd x.0) (λ r. h.1 n r) (split (Operating q d g) n w))
-    by_case (Some k) (Ranging a b) h kept =
-        elim (cases_Bool (nat_le k onu)) [
+    -- who ranges then ranged before, or is the unit itself
+    split : (n : ℕ) → Ranges (insert m s row) n → Ranges m n ⊎ RangesWith row n
+    split n w =
+        elim (cases_Bool (same_serial w.0 s)) [
           | inl t ↦
-              let below : k ≤ onu = leb-true k onu t in
-              subst (IsLeastRanging (insert m s (row_with (Ranging a b)))) (sym (ap (λ b. cond b (Some k) (Some onu)) t))
-              (still (Ranging a b) k h.0 kept, λ n w. ⊎_elim (λ (x : IsRanging (Ranging a b) × (onu ≡ n)). let e = x.1 in omega arith) (λ r. h.1 n r) (split (Ranging a b) n w))
-          | inr f ↦
-              let below : onu < k = leb-false k onu f in
-              subst (IsLeastRanging (insert m s (row_with (Ranging a b)))) (sym (ap (λ b. cond b (Some k) (Some onu)) f))
-              (new (Ranging a b) tt, λ n w. ⊎_elim (λ (x : IsRanging (Ranging a b) × (onu ≡ n)). let e = x.1 in omega arith) (λ r. let e = h.1 n r in omega arith) (split (Ranging a b) n w))
+              let same : Some row ≡ Some w.1 = sym (at w.0 ∙ ap (λ b. cond b (Some row) (get m w.0)) t) ∙ w.2 in
+              let i : row ≡ w.1 = cc in
+              inr (subst (λ (r : Row). IsRanging r.phase) (sym i) w.3, ap (λ (r : Row). r.onu) i ∙ w.4)
+          | inr f ↦ inl (w.0, w.1, sym (at w.0 ∙ ap (λ b. cond b (Some row) (get m w.0)) f) ∙ w.2, w.3, w.4)
         ]

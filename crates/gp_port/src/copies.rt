@@ -1,8 +1,8 @@
-ghost use Rattle.std.specs.Prelude.{◌≡◌, ◌+◌, ◌≤◌, [], ◌∷◌, ◌++◌, drop, length, IfOk, is_none};
+ghost use Rattle.std.specs.Prelude.{◌≡◌, ◌+◌, ◌≤◌, [], ◌++◌, drop, length, IfOk, is_none};
 ghost use Rattle.std.specs.Option.{ForSome};
 ghost use Rattle.std.specs.List.{list_any};
 ghost use Rattle.gp_ploam.specs.Down.{IsProperDown};
-ghost use Rattle.gp_ploam.specs.Copies.{first_of};
+ghost use Rattle.gp_ploam.specs.Copies.{all_copies, first_of};
 ghost use Rattle.gp_machine.specs.Burst.{is_assign};
 
 use gp_ploam::{Down, Serial};
@@ -28,12 +28,13 @@ impl Model for Copies {
     ghost use Rattle.std.specs.VecDeque.{deque_capacity};
     ghost use Rattle.gp_ploam.specs.declared.message.Down.{Down};
     ghost use Rattle.gp_ploam.specs.Down.{IsProperDown};
+    ghost use Rattle.gp_machine.specs.Copies.{most_copies};
 
     ghost Value = { List Down };
 
     ghost view = { λ a. a.copies.items };
 
-    ghost invariant = { λ a. (192 ≤ deque_capacity a.copies) × All IsProperDown a.copies.items };
+    ghost invariant = { λ a. (most_copies ≤ deque_capacity a.copies) × All IsProperDown a.copies.items };
 }
 
 impl Copies {
@@ -61,7 +62,7 @@ impl Copies {
     pub fn owe(&mut self, message: Down)
         requires room { length self.old + COPIES ≤ MOST_COPIES }
         requires proper { IsProperDown message }
-        ensures { self.new ≡ self.old ++ message ∷ message ∷ message ∷ [] }
+        ensures { self.new ≡ self.old ++ all_copies message }
     {
         self.copies.push_back_reserved(message);
         self.copies.push_back_reserved(message);

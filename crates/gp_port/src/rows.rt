@@ -3,7 +3,7 @@ ghost use Rattle.std.specs.FinMap as map;
 ghost use Rattle.std.specs.List.{list_any};
 ghost use Rattle.gp_ploam.specs.declared.message.Serial.{Serial};
 ghost use Rattle.gp_machine.specs.declared.row.Row.{Row};
-ghost use Rattle.gp_port.specs.Listed.{IsApart, lesser_of, least_from};
+ghost use Rattle.gp_port.specs.Listed.{IsApart, IsEither, IsLeast, RangesIn};
 ghost use Rattle.gp_ploam.specs.Serials.{same_serial, serial_cmp};
 
 use gp_machine::{Phase, Row};
@@ -56,7 +56,7 @@ pub fn put_row(rows: &mut Vec<(Serial, Row)>, serial: Serial, row: Row) -> Optio
 
 /// The lesser of an ONU-ID and that of a row, if its unit is ranging.
 pub fn lesser(least: Option<u8>, row: Row) -> Option<u8>
-    ensures { result ≡ lesser_of least row }
+    ensures { IsLeast (IsEither least row) result }
 {
     match row.phase {
         Phase::Ranging { .. } => match least {
@@ -69,7 +69,7 @@ pub fn lesser(least: Option<u8>, row: Row) -> Option<u8>
 
 /// The least ONU-ID of a ranging unit.
 pub fn least_ranging(rows: &[(Serial, Row)]) -> Option<u8>
-    ensures { result ≡ least_from None rows.now }
+    ensures { IsLeast (RangesIn rows.now) result }
 {
     let mut least: Option<u8> = None;
     for entry in rows {

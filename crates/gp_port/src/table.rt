@@ -4,7 +4,7 @@ ghost use Rattle.gp_ploam.specs.declared.message.Serial.{Serial};
 ghost use Rattle.gp_machine.specs.declared.row.Row.{Row};
 ghost use Rattle.gp_ploam.specs.Serials.{serial_cmp};
 ghost use Rattle.gp_machine.specs.State.{HasRow, IsLeastRanging};
-ghost use Rattle.gp_port.specs.Listed.{IsApart, lesser_of};
+ghost use Rattle.gp_port.specs.Listed.{IsApart, RangesWith};
 
 use super::rows::{ONU_IDS, free_onu, least_ranging, lesser, put_row, row_of};
 use gp_machine::Row;
@@ -92,8 +92,8 @@ impl UnitTable {
 
 /// Whether the replaced row had the least ONU-ID of a ranging unit, and the new row is not ranging with it.
 fn ends_least(least: Option<u8>, replaced: Option<Row>, row: Row) -> bool
-    ensures only { result ≡ true → (old : Row) × (replaced ≡ Some old) × (least ≡ Some old.onu) × (lesser_of None row ≢ least) }
-    ensures stays { (old : Row) → replaced ≡ Some old → least ≡ Some old.onu → result ≡ false → lesser_of None row ≡ least }
+    ensures only { result ≡ true → (old : Row) × (replaced ≡ Some old) × (least ≡ Some old.onu) × (RangesWith row old.onu → ⊥) }
+    ensures stays { (old : Row) → replaced ≡ Some old → least ≡ Some old.onu → result ≡ false → RangesWith row old.onu }
 {
     match replaced {
         Some(old) => least == Some(old.onu) && lesser(None, row) != least,

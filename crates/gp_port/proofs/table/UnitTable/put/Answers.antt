@@ -25,9 +25,9 @@ invariant_of-self c =
     least =
         elim c.if-ends_least.branch [
           | then-ends_least w ↦
-              rw (w.self-is, w.least_ranging-self-inside.ensures, w.deref.ensures.value) (least_of_map c.put_row-replaced.new.rows.items c.put_row-replaced.ensures.apart)
+              rw w.self-is (least_of_map c.put_row-replaced.new.rows.items w.least_ranging-self-inside.result c.put_row-replaced.ensures.apart (rw w.deref.ensures.value at w.least_ranging-self-inside.ensures))
           | else-ends_least w ↦
-              rw (w.self-is, w.lesser-self-inside.ensures, c.put_row-replaced.ensures.rows)
-              (least_after_put (map.from_entries c.self.inside.rows.items) c.self.inside.least c.args.serial c.args.row.onu c.args.row.phase c.self.invariant.2
-              (λ old has is. c.ends_least.ensures.stays old (c.put_row-replaced.ensures.replaced ∙ sym (map.get-from_entries serials_total c.self.inside.rows.items c.args.serial) ∙ has) is w.if-ends_least.false))
+              rw (w.self-is, c.put_row-replaced.ensures.rows)
+              (least_after_put (map.from_entries c.self.inside.rows.items) c.self.inside.least w.lesser-self-inside.result c.args.serial c.args.row c.self.invariant.2
+              (λ old has is. c.ends_least.ensures.stays old (c.put_row-replaced.ensures.replaced ∙ sym (map.get-from_entries serials_total c.self.inside.rows.items c.args.serial) ∙ has) is w.if-ends_least.false) w.lesser-self-inside.ensures)
         ]
