@@ -1,8 +1,8 @@
-ghost use Rattle.std.specs.Prelude.{◌+◌, ◌++◌, length, codes, decimal};
+ghost use Rattle.std.specs.Prelude.{◌+◌, ◌++◌, OnErr, length, codes, decimal};
 ghost use Rattle.std.specs.Option.{ForSome};
 ghost use Rattle.gp_ploam.specs.Down.{IsProperDown};
 ghost use Rattle.gp_machine.specs.Replies.{reply_text};
-ghost use Rattle.gp_trace.specs.Pushes.{Pushes};
+ghost use Rattle.gp_trace.specs.Pushes.{AppendsFront, Pushes};
 ghost use Rattle.gp_trace.specs.Text.{alarm_text, answer_text, grant_text, sent_text};
 
 use super::pieces::{push_code, push_number};
@@ -15,7 +15,8 @@ use std::alloc::AllocError;
 
 /// A word and a number.
 fn push_numbered(out: &mut Vec<u8>, word: &str, number: u64) -> Result<(), AllocError>
-    ensures { Pushes (length word.now + 21) (word.now ++ codes " " ++ decimal number) out.old out.new result }
+    ensures pushed { Pushes (length word.now + 21) (word.now ++ codes " " ++ decimal number) out.old out.new result }
+    ensures front { OnErr result (AppendsFront (word.now ++ codes " " ++ decimal number) out.old.items out.new.items) }
 {
     out.extend_from_slice(word.as_bytes())?;
     out.extend_from_slice(b" ")?;
@@ -23,7 +24,8 @@ fn push_numbered(out: &mut Vec<u8>, word: &str, number: u64) -> Result<(), Alloc
 }
 
 fn push_refusal(out: &mut Vec<u8>, refusal: Refusal) -> Result<(), AllocError>
-    ensures { Pushes 46 (reply_text (Reply.Refused refusal)) out.old out.new result }
+    ensures pushed { Pushes 46 (reply_text (Reply.Refused refusal)) out.old out.new result }
+    ensures front { OnErr result (AppendsFront (reply_text (Reply.Refused refusal)) out.old.items out.new.items) }
 {
     push_numbered(out, "refused", u64::from(refusal.number()))?;
     out.extend_from_slice(b" ")?;
@@ -31,7 +33,8 @@ fn push_refusal(out: &mut Vec<u8>, refusal: Refusal) -> Result<(), AllocError>
 }
 
 fn push_ranged(out: &mut Vec<u8>, onu: u8, eqd: u32) -> Result<(), AllocError>
-    ensures { Pushes 48 (reply_text (Reply.Ranged onu eqd)) out.old out.new result }
+    ensures pushed { Pushes 48 (reply_text (Reply.Ranged onu eqd)) out.old out.new result }
+    ensures front { OnErr result (AppendsFront (reply_text (Reply.Ranged onu eqd)) out.old.items out.new.items) }
 {
     push_numbered(out, "ranged", u64::from(onu))?;
     out.extend_from_slice(b" ")?;
@@ -40,7 +43,8 @@ fn push_ranged(out: &mut Vec<u8>, onu: u8, eqd: u32) -> Result<(), AllocError>
 
 /// Appends what the port replied.
 fn push_reply(out: &mut Vec<u8>, reply: &Reply) -> Result<(), AllocError>
-    ensures { Pushes 48 (reply_text reply.now) out.old out.new result }
+    ensures pushed { Pushes 48 (reply_text reply.now) out.old out.new result }
+    ensures front { OnErr result (AppendsFront (reply_text reply.now) out.old.items out.new.items) }
 {
     match *reply {
         Reply::Ticked => out.extend_from_slice(b"ok"),
@@ -58,7 +62,8 @@ fn push_reply(out: &mut Vec<u8>, reply: &Reply) -> Result<(), AllocError>
 /// Appends the code of the message that was sent, where there is one.
 fn push_sent(out: &mut Vec<u8>, mask: Mask, sent: &Option<Down>) -> Result<(), AllocError>
     requires { ForSome sent.now IsProperDown }
-    ensures { Pushes 32 (sent_text mask sent.now) out.old out.new result }
+    ensures pushed { Pushes 32 (sent_text mask sent.now) out.old out.new result }
+    ensures front { OnErr result (AppendsFront (sent_text mask sent.now) out.old.items out.new.items) }
 {
     if let Some(message) = sent {
         out.extend_from_slice(b" sent ")?;
@@ -69,7 +74,8 @@ fn push_sent(out: &mut Vec<u8>, mask: Mask, sent: &Option<Down>) -> Result<(), A
 
 /// Appends the grant that was issued, where there is one.
 fn push_grant(out: &mut Vec<u8>, grant: &Option<Grant>) -> Result<(), AllocError>
-    ensures { Pushes 33 (grant_text grant.now) out.old out.new result }
+    ensures pushed { Pushes 33 (grant_text grant.now) out.old out.new result }
+    ensures front { OnErr result (AppendsFront (grant_text grant.now) out.old.items out.new.items) }
 {
     match *grant {
         None => Ok(()),
@@ -81,7 +87,8 @@ fn push_grant(out: &mut Vec<u8>, grant: &Option<Grant>) -> Result<(), AllocError
 
 /// Appends the alarm that was raised, where there is one.
 fn push_alarm(out: &mut Vec<u8>, alarm: &Option<Alarm>) -> Result<(), AllocError>
-    ensures { Pushes 28 (alarm_text alarm.now) out.old out.new result }
+    ensures pushed { Pushes 28 (alarm_text alarm.now) out.old out.new result }
+    ensures front { OnErr result (AppendsFront (alarm_text alarm.now) out.old.items out.new.items) }
 {
     if let Some(alarm) = alarm {
         out.extend_from_slice(b" alarm ")?;
@@ -96,7 +103,8 @@ fn push_alarm(out: &mut Vec<u8>, alarm: &Option<Alarm>) -> Result<(), AllocError
 /// the mask.
 pub(crate) fn push_answer(out: &mut Vec<u8>, mask: Mask, answer: &Answer) -> Result<(), AllocError>
     requires { ForSome answer.now.sent IsProperDown }
-    ensures { Pushes 141 (answer_text mask answer.now) out.old out.new result }
+    ensures pushed { Pushes 141 (answer_text mask answer.now) out.old out.new result }
+    ensures front { OnErr result (AppendsFront (answer_text mask answer.now) out.old.items out.new.items) }
 {
     push_reply(out, &answer.reply)?;
     push_sent(out, mask, &answer.sent)?;
