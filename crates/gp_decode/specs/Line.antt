@@ -24,14 +24,17 @@ pub record Says (upstream : Bool) (mask : Mask) (text line : List ℕ) : Type 0 
   pub spelled : decode_of text ≡ Ok code
   pub said : SaysCode upstream mask code line
 
+-- thirteen octets of which the last is not the check octet of the others under the mask
+abbrev pub HasWrongCheck : Mask → List ℕ → Type 0
+HasWrongCheck mask code = HasRightCheck code (mask_value mask) → ⊥
+
 -- the first fault of a text: an odd number of bytes, then a byte that is no hexadecimal digit, then another number of
--- octets than thirteen, then a check octet that is wrong
+-- octets than thirteen, then a check octet that is wrong. Memory and the writer are no matter of the text
 abbrev pub HasLineFault : Mask → List ℕ → LineFault → Type 0
 HasLineFault mask text fault.Length =
     (length text % 2 ≡ 1) ⊎ ((length text % 2 ≡ 0) × (list_all is_hex_digit text ≡ true) × (length text ≢ 26))
 HasLineFault mask text fault.Digit = (length text % 2 ≡ 0) × (list_all is_hex_digit text ≡ false)
-HasLineFault mask text fault.Crc =
-    (code : List ℕ) × (decode_of text ≡ Ok code) × (length code ≡ 13) × (HasRightCheck code (mask_value mask) → ⊥)
+HasLineFault mask text fault.Crc = (code : List ℕ) × (decode_of text ≡ Ok code) × (length code ≡ 13) × HasWrongCheck mask code
 HasLineFault mask text fault.OutOfMemory = ⊥
 HasLineFault mask text fault.Write = ⊥
 
@@ -41,16 +44,13 @@ IsOfText fault.OutOfMemory = ⊥
 IsOfText fault.Write = ⊥
 IsOfText _ = Unit {0}
 
--- why there is no line for a text: its own fault, or want of memory for the line that it says
+-- why there is no line for a text: want of memory for the line that it says, or the text's own fault
 abbrev pub LacksLine : Bool → Mask → List ℕ → LineFault → Type 0
 LacksLine upstream mask text fault.OutOfMemory = (line : List ℕ) × Says upstream mask text line
-LacksLine upstream mask text fault.Write = ⊥
-LacksLine upstream mask text fault.Length = HasLineFault mask text fault.Length
-LacksLine upstream mask text fault.Digit = HasLineFault mask text fault.Digit
-LacksLine upstream mask text fault.Crc = HasLineFault mask text fault.Crc
+LacksLine upstream mask text own = HasLineFault mask text own
 
--- why there is no line for thirteen octets
+-- why there is no line for thirteen octets: want of memory for the line that they say, or a check octet that is wrong
 abbrev pub LacksLineOfCode : Bool → Mask → List ℕ → LineFault → Type 0
 LacksLineOfCode upstream mask code fault.OutOfMemory = (line : List ℕ) × SaysCode upstream mask code line
-LacksLineOfCode upstream mask code fault.Crc = HasRightCheck code (mask_value mask) → ⊥
+LacksLineOfCode upstream mask code fault.Crc = HasWrongCheck mask code
 LacksLineOfCode upstream mask code _ = ⊥

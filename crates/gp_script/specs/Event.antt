@@ -18,21 +18,21 @@ use Rattle.gp_script.specs.Values.{delay_in, in_range, in_range_or, octets_of, p
 
 -- so many frames at a port; each function is given how many ports there are
 unfoldable pub frames_event : ℕ → Members → Result ScriptEvent ScriptFault
-frames_event ports ms = do
-  _ ← needs fault.Shape (has_only (codes "port" ∷ codes "frames" ∷ []) ms)
-  port ← needed_number (codes "port") ms
-  frames ← needed_number (codes "frames") ms
+frames_event ports members = do
+  _ ← needs fault.Shape (has_only (codes "port" ∷ codes "frames" ∷ []) members)
+  port ← needed_number (codes "port") members
+  frames ← needed_number (codes "frames") members
   port ← port_in ports port
   count ← in_range 1 1000000 frames
   Ok (Frames port count)
 
 -- thirteen octets that arrive at a port
 unfoldable pub burst_event : ℕ → Members → Result ScriptEvent ScriptFault
-burst_event ports ms = do
-  _ ← needs fault.Shape (has_only (codes "port" ∷ codes "at" ∷ codes "burst" ∷ []) ms)
-  port ← needed_number (codes "port") ms
-  at ← needed_number (codes "at") ms
-  burst ← needed_text (codes "burst") ms
+burst_event ports members = do
+  _ ← needs fault.Shape (has_only (codes "port" ∷ codes "at" ∷ codes "burst" ∷ []) members)
+  port ← needed_number (codes "port") members
+  at ← needed_number (codes "at") members
+  burst ← needed_text (codes "burst") members
   port ← port_in ports port
   at ← delay_in at
   bytes ← octets_of 13 burst
@@ -44,12 +44,12 @@ said mask port at message = Burst port at (code_of_up message (mask_value mask))
 
 -- a unit says its serial number
 unfoldable pub say_serial : ℕ → Mask → Members → Result ScriptEvent ScriptFault
-say_serial ports mask ms = do
-  _ ← needs fault.Shape (has_only (codes "port" ∷ codes "at" ∷ codes "say" ∷ codes "serial" ∷ codes "onu" ∷ []) ms)
-  port ← needed_number (codes "port") ms
-  at ← needed_number (codes "at") ms
-  serial ← needed_text (codes "serial") ms
-  onu ← number_at (codes "onu") ms
+say_serial ports mask members = do
+  _ ← needs fault.Shape (has_only (codes "port" ∷ codes "at" ∷ codes "say" ∷ codes "serial" ∷ codes "onu" ∷ []) members)
+  port ← needed_number (codes "port") members
+  at ← needed_number (codes "at") members
+  serial ← needed_text (codes "serial") members
+  onu ← number_at (codes "onu") members
   port ← port_in ports port
   at ← delay_in at
   serial ← serial_of serial
@@ -58,11 +58,11 @@ say_serial ports mask ms = do
 
 -- a unit says that it has nothing to say
 unfoldable pub say_none : ℕ → Mask → Members → Result ScriptEvent ScriptFault
-say_none ports mask ms = do
-  _ ← needs fault.Shape (has_only (codes "port" ∷ codes "at" ∷ codes "say" ∷ codes "onu" ∷ []) ms)
-  port ← needed_number (codes "port") ms
-  at ← needed_number (codes "at") ms
-  onu ← needed_number (codes "onu") ms
+say_none ports mask members = do
+  _ ← needs fault.Shape (has_only (codes "port" ∷ codes "at" ∷ codes "say" ∷ codes "onu" ∷ []) members)
+  port ← needed_number (codes "port") members
+  at ← needed_number (codes "at") members
+  onu ← needed_number (codes "onu") members
   port ← port_in ports port
   at ← delay_in at
   onu ← in_range 0 255 onu
@@ -70,36 +70,36 @@ say_none ports mask ms = do
 
 -- what a unit says is told by its word
 unfoldable pub say_event : ℕ → Mask → Members → Result ScriptEvent ScriptFault
-say_event ports mask ms = do
-  word ← needed_text (codes "say") ms
-  if bytes_eq word (codes "serial") then say_serial ports mask ms
-      else if bytes_eq word (codes "none") then say_none ports mask ms
+say_event ports mask members = do
+  word ← needed_text (codes "say") members
+  if bytes_eq word (codes "serial") then say_serial ports mask members
+      else if bytes_eq word (codes "none") then say_none ports mask members
       else Err fault.Shape
 
 -- a search
 unfoldable pub command_event : ℕ → Members → Result ScriptEvent ScriptFault
-command_event ports ms = do
-  _ ← needs fault.Shape (has_only (codes "port" ∷ codes "command" ∷ []) ms)
-  port ← needed_number (codes "port") ms
-  word ← needed_text (codes "command") ms
+command_event ports members = do
+  _ ← needs fault.Shape (has_only (codes "port" ∷ codes "command" ∷ []) members)
+  port ← needed_number (codes "port") members
+  word ← needed_text (codes "command") members
   _ ← needs fault.Shape (bytes_eq word (codes "search"))
   port ← port_in ports port
   Ok (Command port commands.Search)
 
 -- an event table; its form is told by the key that this form alone has
 unfoldable pub event_of : ℕ → Mask → Members → Result ScriptEvent ScriptFault
-event_of ports mask ms =
-    if is_some (get_member (codes "frames") ms) then frames_event ports ms
-    else if is_some (get_member (codes "burst") ms) then burst_event ports ms
-    else if is_some (get_member (codes "say") ms) then say_event ports mask ms
-    else if is_some (get_member (codes "command") ms) then command_event ports ms
+event_of ports mask members =
+    if is_some (get_member (codes "frames") members) then frames_event ports members
+    else if is_some (get_member (codes "burst") members) then burst_event ports members
+    else if is_some (get_member (codes "say") members) then say_event ports mask members
+    else if is_some (get_member (codes "command") members) then command_event ports members
     else Err fault.Shape
 
 -- the events of the event tables, in their order
 unfoldable pub events_of : ℕ → Mask → Items → Result (List ScriptEvent) ScriptFault
 events_of ports mask no_items = Ok []
-events_of ports mask (item (table ms) ds) = do
-  event ← event_of ports mask ms
-  events ← events_of ports mask ds
+events_of ports mask (item (table members) rest) = do
+  event ← event_of ports mask members
+  events ← events_of ports mask rest
   Ok (event ∷ events)
-events_of ports mask (item _ ds) = Err fault.Shape
+events_of ports mask (item _ rest) = Err fault.Shape

@@ -7,25 +7,25 @@ use Rattle.gp_script.specs.declared.fault.ScriptError.TheVariants as errors
 -- the next step of the walk, unless there was a fault
 infixl 10 ◌>>=◌
 abbrev pub ◌>>=◌ : {A B : Type 0} → Result A ScriptFault → (A → Result B ScriptFault) → Result B ScriptFault
-(Ok x) >>= f = f x
-(Err e) >>= f = Err e
+(Ok value) >>= next = next value
+(Err fault) >>= next = Err fault
 
 -- a test that has to hold
 abbrev pub needs : ScriptFault → Bool → Result (Unit {0}) ScriptFault
-needs f true = Ok tt
-needs f false = Err f
+needs fault true = Ok tt
+needs fault false = Err fault
 
--- the fault, where it is none of memory
+-- the fault is the one of what the script says, unless memory ran out
 abbrev pub Fails : {Y : Type 0} → ScriptError → Result Y ScriptFault → Type 0
 Fails errors.OutOfMemory says = Unit {0}
-Fails (errors.Fault f) says = says ≡ Err f
+Fails (errors.Fault fault) says = says ≡ Err fault
 
 -- what was returned, seen by view, is what the script says, unless memory ran out
 abbrev pub Gives : {X Y : Type 0} → (X → Y) → Result X ScriptError → Result Y ScriptFault → Type 0
-Gives view (Ok x) says = says ≡ Ok (view x)
-Gives view (Err e) says = Fails e says
+Gives view (Ok value) says = says ≡ Ok (view value)
+Gives view (Err error) says = Fails error says
 
 -- the same of a function that needs no memory
 abbrev pub Sees : {X Y : Type 0} → (X → Y) → Result X ScriptFault → Result Y ScriptFault → Type 0
-Sees view (Ok x) says = says ≡ Ok (view x)
-Sees view (Err f) says = says ≡ Err f
+Sees view (Ok value) says = says ≡ Ok (view value)
+Sees view (Err fault) says = says ≡ Err fault

@@ -4,13 +4,19 @@ use Rattle.gp_machine.specs.Config.{is_within_limits}
 use Rattle.gp_script.specs.Script.{ScriptView, most_licences, most_ports, most_events}
 use Rattle.gp_script.specs.View.{event_port}
 
--- it has licences, ports and events within their bounds, each port's configuration is within its limits and has the
--- script's mask, and each event names a port that is there
+-- what a line terminal needs of a script so that it can play it
 pub record IsPlayable (script : ScriptView) : Type 0 where
+  -- no more licences than there may be
   pub licences : script.licences ≤ most_licences
+  -- a port at least
   pub some_port : 0 < length script.ports
+  -- no more ports than there may be
   pub few_ports : length script.ports ≤ most_ports
+  -- each port's configuration is within its limits
   pub limits : All (λ port. IsTrue (is_within_limits port)) script.ports
+  -- each port has the script's mask
   pub one_mask : All (λ port. port.mask ≡ script.mask) script.ports
-  pub events : All (λ e. event_port e < length script.ports) script.events
+  -- each event names a port that is there
+  pub events : All (λ event. event_port event < length script.ports) script.events
+  -- no more events than there may be
   pub few_events : length script.events ≤ most_events

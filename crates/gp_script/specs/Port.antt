@@ -16,26 +16,34 @@ use Rattle.gp_script.specs.Values.{in_range_or, count_in, serial_of, octets_of}
 abbrev pub port_names : List (List ℕ)
 port_names = codes "teqd" ∷ codes "max_units" ∷ codes "alloc_last" ∷ codes "cycles" ∷ codes "search_period" ∷ codes "overhead" ∷ codes "admit" ∷ []
 
--- what stands at the keys, each of its type
+-- what stands at the keys of a port table, each of its type and in no range yet
 pub record PortShape : Type 0 where
+  -- the equalized round-trip delay, in bit times
   pub teqd : Option ℤ
+  -- how many units may be active at once
   pub max_units : Option ℤ
+  -- the greatest Alloc-ID
   pub alloc_last : Option ℤ
+  -- the search windows of one search
   pub cycles : Option ℤ
+  -- after how many frames in standby a search begins by itself
   pub search_period : Option ℤ
+  -- the digits of the ten octets of Upstream_Overhead
   pub overhead : Option (List ℕ)
+  -- the serial numbers that may be activated
   pub admit : Items
 
+-- a port table by its shape: the keys that it may have, each value of its type, and nothing but texts in `admit`
 unfoldable pub port_shape : Members → Result PortShape ScriptFault
-port_shape ms = do
-  _ ← needs fault.Shape (has_only port_names ms)
-  teqd ← number_at (codes "teqd") ms
-  max_units ← number_at (codes "max_units") ms
-  alloc_last ← number_at (codes "alloc_last") ms
-  cycles ← number_at (codes "cycles") ms
-  search_period ← number_at (codes "search_period") ms
-  overhead ← text_at (codes "overhead") ms
-  admit ← list_at (codes "admit") ms
+port_shape members = do
+  _ ← needs fault.Shape (has_only port_names members)
+  teqd ← number_at (codes "teqd") members
+  max_units ← number_at (codes "max_units") members
+  alloc_last ← number_at (codes "alloc_last") members
+  cycles ← number_at (codes "cycles") members
+  search_period ← number_at (codes "search_period") members
+  overhead ← text_at (codes "overhead") members
+  admit ← list_at (codes "admit") members
   _ ← needs fault.Shape (are_texts admit)
   Ok (record { teqd = teqd; max_units = max_units; alloc_last = alloc_last; cycles = cycles; search_period = search_period; overhead = overhead; admit = admit })
 
@@ -54,9 +62,9 @@ new_serial ports before _ = Err fault.Shape
 -- the serial numbers of the texts of `admit`, behind those before them
 unfoldable pub serials_from : List PortConfig → List Serial → Items → Result (List Serial) ScriptFault
 serials_from ports before no_items = Ok before
-serials_from ports before (item d ds) = do
-  serial ← new_serial ports before d
-  serials_from ports (before ++ serial ∷ []) ds
+serials_from ports before (item first rest) = do
+  serial ← new_serial ports before first
+  serials_from ports (before ++ serial ∷ []) rest
 
 -- the ten octets of Upstream_Overhead, or zeros
 abbrev pub overhead_of : Option (List ℕ) → Result (List ℕ) ScriptFault
@@ -65,8 +73,8 @@ overhead_of (Some text) = octets_of 10 text
 
 -- the configuration of a port table, after the ports before it
 unfoldable pub port_of : Mask → List PortConfig → Members → Result PortConfig ScriptFault
-port_of mask before ms = do
-  shape ← port_shape ms
+port_of mask before members = do
+  shape ← port_shape members
   teqd ← in_range_or 311040 0 4294967295 shape.teqd
   max_units ← in_range_or 254 1 254 shape.max_units
   alloc_last ← in_range_or 4095 256 4095 shape.alloc_last
@@ -80,7 +88,7 @@ port_of mask before ms = do
 -- the configurations of the port tables, behind those before them
 unfoldable pub ports_from : Mask → List PortConfig → Items → Result (List PortConfig) ScriptFault
 ports_from mask before no_items = Ok before
-ports_from mask before (item (table ms) ds) = do
-  port ← port_of mask before ms
-  ports_from mask (before ++ port ∷ []) ds
-ports_from mask before (item _ ds) = Err fault.Shape
+ports_from mask before (item (table members) rest) = do
+  port ← port_of mask before members
+  ports_from mask (before ++ port ∷ []) rest
+ports_from mask before (item _ rest) = Err fault.Shape

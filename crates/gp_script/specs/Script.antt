@@ -14,7 +14,7 @@ use Rattle.gp_script.specs.Values.{in_range, count_in, mask_of}
 use Rattle.gp_script.specs.Port.{ports_from}
 use Rattle.gp_script.specs.Event.{events_of}
 
--- how many licences a script may have
+-- how many licences a script may have: one for each unit of 16 ports with 254 units each
 abbrev pub most_licences : ℕ
 most_licences = 4064
 
@@ -26,23 +26,28 @@ most_ports = 1
 abbrev pub most_events : ℕ
 most_events = 1048576
 
--- what stands at the keys of the top, each of its type
+-- what stands at the keys of the top, each of its type and in no range yet
 pub record TopShape : Type 0 where
+  -- how many licences there are
   pub licences : ℤ
+  -- the number of the mask, where it isn't left out
   pub mask : Option ℤ
+  -- the port tables
   pub ports : Items
+  -- the event tables
   pub events : Items
 
--- tables under `unit` and `lose` aren't read yet, so those lists have to be empty
+-- the top by its shape: the keys that it may have, each value of its type, and nothing but tables in `port` and `event`.
+-- Tables under `unit` and `lose` aren't read yet, so those lists have to be empty
 unfoldable pub top_shape : Members → Result TopShape ScriptFault
-top_shape ms = do
-  _ ← needs fault.Shape (has_only (codes "licences" ∷ codes "mask" ∷ codes "port" ∷ codes "unit" ∷ codes "lose" ∷ codes "event" ∷ []) ms)
-  licences ← needed_number (codes "licences") ms
-  mask ← number_at (codes "mask") ms
-  ports ← needed_list (codes "port") ms
-  units ← list_at (codes "unit") ms
-  losses ← list_at (codes "lose") ms
-  events ← list_at (codes "event") ms
+top_shape members = do
+  _ ← needs fault.Shape (has_only (codes "licences" ∷ codes "mask" ∷ codes "port" ∷ codes "unit" ∷ codes "lose" ∷ codes "event" ∷ []) members)
+  licences ← needed_number (codes "licences") members
+  mask ← number_at (codes "mask") members
+  ports ← needed_list (codes "port") members
+  units ← list_at (codes "unit") members
+  losses ← list_at (codes "lose") members
+  events ← list_at (codes "event") members
   _ ← needs fault.Shape (are_tables ports)
   _ ← needs fault.Shape (is_empty units)
   _ ← needs fault.Shape (is_empty losses)
@@ -51,15 +56,19 @@ top_shape ms = do
 
 -- what a script says
 pub record ScriptView : Type 0 where
+  -- how many licences the terminal has
   pub licences : ℕ
+  -- the mask of every port
   pub mask : Mask
+  -- the configuration of each port
   pub ports : List PortConfig
+  -- what happens, in order
   pub events : List ScriptEvent
 
 -- the tables in their order: the top, the ports, the events
 unfoldable pub script_of_table : Members → Result ScriptView ScriptFault
-script_of_table ms = do
-  shape ← top_shape ms
+script_of_table members = do
+  shape ← top_shape members
   licences ← in_range 0 most_licences shape.licences
   mask ← mask_of shape.mask
   count ← count_in 1 most_ports shape.ports
@@ -75,11 +84,11 @@ text_of bytes = if is_utf8 bytes then Ok bytes else Err fault.Syntax
 -- a table, where the text is TOML at all
 abbrev pub table_or_fault : Option Members → Result Members ScriptFault
 table_or_fault None = Err fault.Syntax
-table_or_fault (Some ms) = Ok ms
+table_or_fault (Some members) = Ok members
 
 -- what the bytes say as a script, or the first fault
 unfoldable pub script_of : List ℕ → Result ScriptView ScriptFault
 script_of bytes = do
   text ← text_of bytes
-  ms ← table_or_fault (parse_document text)
-  script_of_table ms
+  members ← table_or_fault (parse_document text)
+  script_of_table members

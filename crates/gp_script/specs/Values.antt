@@ -1,5 +1,5 @@
 -- The values of keys, each in its range (this profile's own rule).
-use Rattle.std.specs.Prelude.{ℕ, ℤ, pos, negsuc, List, ◌-◌, ◌&&◌, Option, Some, None, Result, Ok, Err, nat_le, nat_lt, ◌==◌, if◌then◌else◌}
+use Rattle.std.specs.Prelude.{ℕ, ℤ, pos, negsuc, List, ◌&&◌, Option, Some, None, Result, Ok, Err, nat_le, nat_lt, ◌==◌, if◌then◌else◌}
 use Rattle.toml.specs.Data.{Items}
 use Rattle.hex.specs.Hex.{decode_sized}
 use Rattle.hex.specs.declared.error.FromHexError.{FromHexError}
@@ -14,18 +14,18 @@ use Rattle.gp_script.specs.Keys.{item_count}
 
 -- a number within its range
 abbrev pub in_range : ℕ → ℕ → ℤ → Result ℕ ScriptFault
-in_range low high (pos n) = if nat_le low n && nat_le n high then Ok n else Err fault.Range
-in_range low high (negsuc n) = Err fault.Range
+in_range low high (pos number) = if nat_le low number && nat_le number high then Ok number else Err fault.Range
+in_range low high (negsuc _) = Err fault.Range
 
 -- a number within its range, or the default where it is left out
 abbrev pub in_range_or : ℕ → ℕ → ℕ → Option ℤ → Result ℕ ScriptFault
 in_range_or default low high None = Ok default
-in_range_or default low high (Some z) = in_range low high z
+in_range_or default low high (Some number) = in_range low high number
 
 -- the place of one of so many ports
 abbrev pub port_in : ℕ → ℤ → Result ℕ ScriptFault
-port_in ports (pos n) = if nat_lt n ports then Ok n else Err fault.Range
-port_in ports (negsuc n) = Err fault.Range
+port_in ports (pos place) = if nat_lt place ports then Ok place else Err fault.Range
+port_in ports (negsuc _) = Err fault.Range
 
 -- a round-trip delay in bit times
 abbrev pub delay_in : ℤ → Result ℕ ScriptFault
@@ -33,18 +33,18 @@ delay_in number = in_range 0 4294967295 number
 
 -- as many items as a range allows
 abbrev pub count_in : ℕ → ℕ → Items → Result ℕ ScriptFault
-count_in low high ds = if nat_le low (item_count ds) && nat_le (item_count ds) high then Ok (item_count ds) else Err fault.Range
+count_in low high items = in_range low high (pos (item_count items))
 
 -- the mask of a number: 0, which is also the default, or 85
 abbrev pub mask_of : Option ℤ → Result Mask ScriptFault
 mask_of None = Ok Plain
-mask_of (Some (pos n)) = if n == 0 then Ok Plain else if n == 85 then Ok Coset else Err fault.Range
-mask_of (Some (negsuc n)) = Err fault.Range
+mask_of (Some (pos number)) = if number == 0 then Ok Plain else if number == 85 then Ok Coset else Err fault.Range
+mask_of (Some (negsuc _)) = Err fault.Range
 
 -- a serial number, whatever is wrong with its text
 abbrev pub serial_or_script_fault : Result Serial SerialFault → Result Serial ScriptFault
 serial_or_script_fault (Ok serial) = Ok serial
-serial_or_script_fault (Err e) = Err fault.Serial
+serial_or_script_fault (Err _) = Err fault.Serial
 
 -- the serial number that a text spells
 abbrev pub serial_of : List ℕ → Result Serial ScriptFault
@@ -53,7 +53,7 @@ serial_of text = serial_or_script_fault (serial_of_text text)
 -- octets, whatever is wrong with their digits
 abbrev pub octets_or_fault : Result (List ℕ) FromHexError → Result (List ℕ) ScriptFault
 octets_or_fault (Ok octets) = Ok octets
-octets_or_fault (Err e) = Err fault.Hex
+octets_or_fault (Err _) = Err fault.Hex
 
 -- so many octets, as twice as many hex digits
 abbrev pub octets_of : ℕ → List ℕ → Result (List ℕ) ScriptFault

@@ -11,7 +11,7 @@ use Rattle.gp_script.specs.Script.{ScriptView, TopShape}
 
 -- what a script says, without where it lies in memory
 abbrev pub script_view : Script → ScriptView
-script_view s = record { licences = s.licences; mask = s.mask; ports = s.ports.items; events = s.events.items }
+script_view script = record { licences = script.licences; mask = script.mask; ports = script.ports.items; events = script.events.items }
 
 -- the port that an event names
 abbrev pub event_port : ScriptEvent → ℕ
@@ -19,10 +19,18 @@ event_port (Frames port count) = port
 event_port (Burst port at bytes) = port
 event_port (Command port command) = port
 
--- the keys of a port table
+-- what stands at the keys of a port table, without where it lies in memory
 abbrev pub port_keys_view : PortKeys → PortShape
-port_keys_view k = record { teqd = k.teqd; max_units = k.max_units; alloc_last = k.alloc_last; cycles = k.cycles; search_period = k.search_period; overhead = option_map (λ s. s.now) k.overhead; admit = items_view k.admit.now }
+port_keys_view keys = record {
+  teqd = keys.teqd;
+  max_units = keys.max_units;
+  alloc_last = keys.alloc_last;
+  cycles = keys.cycles;
+  search_period = keys.search_period;
+  overhead = option_map (λ text. text.now) keys.overhead;
+  admit = items_view keys.admit.now;
+}
 
--- the keys of the top
+-- what stands at the keys of the top, without where it lies in memory
 abbrev pub top_keys_view : TopKeys → TopShape
-top_keys_view k = record { licences = k.licences; mask = k.mask; ports = items_view k.ports.now; events = items_view k.events.now }
+top_keys_view keys = record { licences = keys.licences; mask = keys.mask; ports = items_view keys.ports.now; events = items_view keys.events.now }

@@ -18,7 +18,10 @@ use crate::values::{count_in, in_range, mask_of};
 use std::alloc::Global;
 use toml::{Table, Value};
 
-/// How many licences a script may have.
+/// How many licences a script may have: one for each unit of 16 ports with 254 units each.
+///
+/// It belongs to the form of a script, which is read without a licence book. `gp_replay`, which makes the
+/// book, proves that the book has room for as many.
 const MOST_LICENCES: u32 = 4064;
 
 /// How many ports a script may have: one for now.

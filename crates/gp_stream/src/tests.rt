@@ -29,20 +29,6 @@ impl Read for SlowReader<'_> {
     }
 }
 
-/// Gives so many octets, as many in each read as are asked for.
-#[derive(Drop)]
-struct ZerosReader {
-    left: usize,
-}
-
-impl Read for ZerosReader {
-    fn read(&mut self, buffer: &mut [u8]) -> io::Result<usize> {
-        let count = self.left.min(buffer.len());
-        self.left -= count;
-        Ok(count)
-    }
-}
-
 /// Takes one octet a write, and once it took so many it fails, or takes nothing.
 #[derive(Drop)]
 struct ShortWriter {
@@ -125,9 +111,10 @@ fn each_read_fails_in_turn(rt: HostRuntime) -> Result<(), SourceFault> {
 
 #[test]
 fn longest_input(rt: HostRuntime) -> Result<(), SourceFault> {
-    for (left, want) in [(1_048_576, None), (1_048_577, Some(SourceFault::TooLong))] {
-        let fault = fault_of(rt.alloc(), &mut Source::new(ZerosReader { left }))?;
-        assert_eq!(rt; fault, want, "{left} octets");
+    for (octets, want) in [(1_048_576, None), (1_048_577, Some(SourceFault::TooLong))] {
+        let reader = io::repeat(0).take(octets);
+        let fault = fault_of(rt.alloc(), &mut Source::new(reader))?;
+        assert_eq!(rt; fault, want, "{octets} octets");
     }
     Ok(())
 }
