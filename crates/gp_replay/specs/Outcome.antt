@@ -1,5 +1,5 @@
 -- How a replay may end (this profile's own rule).
-use Rattle.std.specs.Prelude.{◌≡◌, ℕ, ◌≤◌, List, length, Ok, Err}
+use Rattle.std.specs.Prelude.{◌≡◌, ℕ, ◌≤◌, List, Result, Ok, length}
 use Rattle.gp_machine.specs.declared.entry.Receipt.{Receipt}
 use Rattle.gp_stream.specs.Source.{SourceState, ReadsWhole}
 use Rattle.gp_stream.specs.Sink.{SinkState, TakesFront}
@@ -10,32 +10,25 @@ use Rattle.gp_trace.specs.Text.{trace_text}
 use Rattle.gp_replay.specs.Play.{PlaysFront}
 use Rattle.gp_replay.specs.Writing.{WritesScript}
 
--- the input was read to its end without a failed read, it is not too long, and this is the script that it says; which
--- bytes came is said of a reader that tells its bytes
-pub record ReadsScript (before after : SourceState) (script : ScriptView) : Type 0 where
+-- the input was read to its end without a failed read, it is not too long, and this is what it says: a script, or its first
+-- fault; which bytes came is said of a reader that tells its bytes
+pub record ReadsAs (before after : SourceState) (answer : Result ScriptView ScriptFault) : Type 0 where
   pub bytes : List ℕ
   pub read : ReadsWhole before after bytes
   pub short : length bytes ≤ MOST_BYTES
-  pub says : script_of bytes ≡ Ok script
-
--- the input was read to its end without a failed read, it is not too long, and this is its first fault
-pub record ReadsFault (before after : SourceState) (fault : ScriptFault) : Type 0 where
-  pub bytes : List ℕ
-  pub read : ReadsWhole before after bytes
-  pub short : length bytes ≤ MOST_BYTES
-  pub says : script_of bytes ≡ Err fault
+  pub says : script_of bytes ≡ answer
 
 -- the input says a script, which was played, and a writer that tells its bytes got the whole trace
 pub record WritesTrace (before after : SourceState) (old new : SinkState) : Type 0 where
   pub script : ScriptView
-  pub input : ReadsScript before after script
+  pub input : ReadsAs before after (Ok script)
   pub trace : WritesScript script old new
 
 -- the input says a script, and a writer that tells its bytes got no more than a front of what was gathered before and of
 -- the trace of entries that play the script from its first event on
 pub record LeavesFront (before after : SourceState) (old new : SinkState) : Type 0 where
   pub script : ScriptView
-  pub input : ReadsScript before after script
+  pub input : ReadsAs before after (Ok script)
   pub receipts : List Receipt
   pub plays : PlaysFront script receipts
   pub written : TakesFront old new (trace_text script.mask receipts)

@@ -1,14 +1,14 @@
-ghost use Rattle.std.specs.Prelude.{◌≡◌, ◌≢◌, ◌<◌, ◌≤◌, ◌⊎◌, ◌↔◌, ℕ, List, IfErr, IsErr, OnOk, Err, true, false, length};
+ghost use Rattle.std.specs.Prelude.{◌≡◌, ◌≢◌, ◌<◌, ◌≤◌, ◌⊎◌, ◌↔◌, ℕ, List, All, IfErr, IsErr, IsTrue, OnOk, Err, true, false, length};
 ghost use Rattle.gp_script.specs.declared.fault.ScriptFault.{ScriptFault as AnyScriptFault};
-ghost use Rattle.gp_script.specs.Script.{script_of};
-ghost use Rattle.gp_script.specs.Playable.{IsPlayable};
-ghost use Rattle.gp_script.specs.View.{script_view};
+ghost use Rattle.gp_machine.specs.Config.{is_within_limits};
+ghost use Rattle.gp_script.specs.Script.{most_events, most_licences, script_of};
+ghost use Rattle.gp_script.specs.View.{event_port, script_view};
 ghost use Rattle.gp_stream.specs.Source.{has_failed, source_state, ReadsTooMuch, WasReadable};
 ghost use Rattle.gp_stream.specs.Sink.{sink_state, has_flushed, has_stopped, writer_of};
 ghost use Rattle.gp_replay.specs.Terminal.{opening_terminal};
 ghost use Rattle.gp_replay.specs.Play.{all_turns};
 ghost use Rattle.gp_replay.specs.Writing.{WritesFront, WritesScript};
-ghost use Rattle.gp_replay.specs.Outcome.{LeavesFront, ReadsFault, WritesTrace};
+ghost use Rattle.gp_replay.specs.Outcome.{LeavesFront, ReadsAs, WritesTrace};
 
 use super::fault::{PlayFault, RunFault};
 use super::line_buffer::LineBuffer;
@@ -31,7 +31,10 @@ fn play_on<L: Ledger, W: Write>(
 ) -> Result<(), PlayFault>
     requires name { blank.name ≡ L.name }
     requires parts { (blank.parts ≡ L.parts) × (L.parts ≡ MOST_LICENCES) }
-    requires playable { IsPlayable (script_view script.now) }
+    requires licences { script.now.licences ≤ most_licences }
+    requires limits { All (λ port. IsTrue (is_within_limits port)) script.now.ports.items }
+    requires ports { All (λ e. event_port e < length script.now.ports.items) script.now.events.items }
+    requires few_events { length script.now.events.items ≤ most_events }
     ensures ok { OnOk result (WritesScript (script_view script.now) (sink_state W.contents sink.old) (sink_state W.contents sink.new)) }
     ensures finished { OnOk result (has_stopped sink.new ≡ false) }
     ensures flushed { has_flushed sink.old ≡ true → OnOk result (has_flushed sink.new ≡ true) }
@@ -68,7 +71,7 @@ pub fn run_replay<R: Read, W: Write>(
     // When each fault comes.
     ensures read { result ≡ Err RunFault.Read → let now = source_state R.remaining source.new in (now.has_failed ≡ true) ⊎ (now.reads_left ≡ 0) }
     ensures too_long { result ≡ Err RunFault.TooLong → ReadsTooMuch MOST_BYTES (source_state R.remaining source.old) (source_state R.remaining source.new) }
-    ensures script { (fault : AnyScriptFault) → result ≡ Err (RunFault.Script fault) → ReadsFault (source_state R.remaining source.old) (source_state R.remaining source.new) fault }
+    ensures script { (fault : AnyScriptFault) → result ≡ Err (RunFault.Script fault) → ReadsAs (source_state R.remaining source.old) (source_state R.remaining source.new) (Err fault) }
     ensures write { result ≡ Err RunFault.Write → has_stopped sink.new ≡ true }
     ensures refused { has_failed source.old ≡ true → (result ≡ Err RunFault.Read) × (source.new ≡ source.old) }
     ensures stopped { has_stopped sink.old ≡ true → IsErr result × (writer_of sink.new ≡ writer_of sink.old) }

@@ -3,7 +3,7 @@ ghost use Rattle.std.specs.Option.{ForSome};
 ghost use Rattle.gp_ploam.specs.Down.{IsProperDown};
 ghost use Rattle.gp_machine.specs.Config.{is_within_limits};
 ghost use Rattle.gp_machine.specs.Run.{IsStep};
-ghost use Rattle.gp_script.specs.Playable.{IsPlayable};
+ghost use Rattle.gp_script.specs.Script.{most_licences};
 ghost use Rattle.gp_script.specs.View.{script_view};
 ghost use Rattle.gp_replay.specs.Terminal.{HasRoom, licences_of, opened_port, opening_terminal, total_licences};
 ghost use Rattle.gp_replay.specs.Play.{TakesTurn, purse_of};
@@ -121,7 +121,8 @@ impl<L: Ledger> Terminal<L> {
     ) -> Result<Terminal<L>, AllocError>
         requires name { blank.name ≡ L.name }
         requires parts { (blank.parts ≡ L.parts) × (L.parts ≡ MOST_LICENCES) }
-        requires playable { IsPlayable (script_view script.now) }
+        requires licences { script.now.licences ≤ most_licences }
+        requires limits { All (λ port. IsTrue (is_within_limits port)) script.now.ports.items }
         ensures opened { IfOk result (λ t. t ≡ opening_terminal (script_view script.now)) }
         ensures ports { IfOk result (λ t. length t.ports ≡ vec_len script.now.ports) }
     {
@@ -148,7 +149,7 @@ impl<L: Ledger> Terminal<L> {
         ensures proper { ForSome result.entry.answer.sent IsProperDown }
         ensures ports { length self.new.ports ≡ length self.old.ports }
     {
-        let port = &mut self.ports[turn.port as usize];
+        let port = &mut self.ports[usize::from(turn.port)];
         let purse = take_purse(&mut self.book, &turn.event);
         let (receipt, rest) = port.step(turn.port, purse, turn.event);
         self.book.give(rest);

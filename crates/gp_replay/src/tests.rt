@@ -3,7 +3,7 @@ use gp_script::ScriptFault;
 use gp_stream::{Sink, Source};
 use std::alloc::{AllocError, Global};
 use std::io;
-use std::io::{ErrorKind, Read, Write};
+use std::io::{ErrorKind, Read};
 use std::test::Fail;
 
 const ONE_UNIT: &str = r#"
@@ -55,54 +55,13 @@ const ONE_UNIT_TRACE: &str = "\
 0 15 frame = ok
 ";
 
-/// Gives one octet a read, and fails at one read, counted from 1.
+/// Fails at each read.
 #[derive(Drop)]
-struct SlowReader<'a> {
-    rest: &'a [u8],
-    reads: usize,
-    fails_at: usize,
-}
+struct FailingReader;
 
-impl Read for SlowReader<'_> {
-    fn read(&mut self, buffer: &mut [u8]) -> io::Result<usize> {
-        self.reads = self.reads.saturating_add(1);
-        if self.reads == self.fails_at {
-            return Err(io::Error::from(ErrorKind::Other));
-        }
-        match (self.rest.split_first(), buffer.first_mut()) {
-            (Some((first, rest)), Some(place)) => {
-                *place = *first;
-                self.rest = rest;
-                Ok(1)
-            }
-            _ => Ok(0),
-        }
-    }
-}
-
-/// Takes one octet a write, and fails once it took so many.
-#[derive(Drop)]
-struct ShortWriter {
-    taken: Vec<u8>,
-    room: usize,
-}
-
-impl Write for ShortWriter {
-    fn write(&mut self, buffer: &[u8]) -> io::Result<usize> {
-        if self.taken.len() >= self.room {
-            return Err(io::Error::from(ErrorKind::Other));
-        }
-        match buffer.first() {
-            Some(first) => {
-                self.taken.push(*first)?;
-                Ok(1)
-            }
-            None => Ok(0),
-        }
-    }
-
-    fn flush(&mut self) -> io::Result<()> {
-        Ok(())
+impl Read for FailingReader {
+    fn read(&mut self, _buffer: &mut [u8]) -> io::Result<usize> {
+        Err(io::Error::from(ErrorKind::Other))
     }
 }
 
@@ -154,45 +113,33 @@ fn empty_script(rt: HostRuntime) -> Result<(), Fail> {
     Ok(())
 }
 
-/// A slow reader and a writer that stops: the writer has the first octets of the trace, as many as it
-/// takes.
+/// A script that comes in two pieces, and a slice that takes as many bytes as it has room for, and then
+/// none: it has the first octets of the trace.
 #[test]
-fn one_octet_at_a_time(rt: HostRuntime) -> Result<(), Fail> {
+fn a_writer_that_stops(rt: HostRuntime) -> Result<(), Fail> {
     let trace = ONE_UNIT_TRACE.as_bytes();
+    let script = ONE_UNIT.as_bytes();
+    let (front, back) = script.split_at(script.len() / 2);
     for room in 0..=trace.len() {
-        let mut source = Source::new(SlowReader {
-            rest: ONE_UNIT.as_bytes(),
-            reads: 0,
-            fails_at: 0,
-        });
-        let writer = ShortWriter {
-            taken: Vec::new(rt.alloc()),
-            room,
-        };
-        let mut sink = Sink::new(rt.alloc(), writer)?;
+        let mut source = Source::new(front.chain(back));
+        let mut taken = vec![in rt.alloc(); 0; trace.len()]?;
+        let mut sink = Sink::new(rt.alloc(), &mut taken[..room])?;
         let outcome = run_replay(rt.alloc(), &mut source, &mut sink);
+        drop(sink);
         let ends = if room < trace.len() {
             Err(RunFault::Write)
         } else {
             Ok(())
         };
         assert_eq!(rt; outcome, ends, "{room}");
-        assert_eq!(rt;
-            sink.into_inner().taken.as_slice(),
-            &trace[..room],
-            "{room}"
-        );
+        assert_eq!(rt; &taken[..room], &trace[..room], "{room}");
     }
     Ok(())
 }
 
 #[test]
-fn a_third_read_that_fails(rt: HostRuntime) -> Result<(), Fail> {
-    let mut source = Source::new(SlowReader {
-        rest: ONE_UNIT.as_bytes(),
-        reads: 0,
-        fails_at: 3,
-    });
+fn a_second_read_that_fails(rt: HostRuntime) -> Result<(), Fail> {
+    let mut source = Source::new(ONE_UNIT.as_bytes().chain(FailingReader));
     let mut sink = Sink::new(rt.alloc(), Vec::new(rt.alloc()))?;
     let outcome = run_replay(rt.alloc(), &mut source, &mut sink);
     assert_eq!(rt; outcome, Err(RunFault::Read));

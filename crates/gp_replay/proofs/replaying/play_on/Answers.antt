@@ -6,7 +6,7 @@ use Rattle.gp_replay.proofs.replaying.play_on.Goals as goal
 
 pub play_events-outcome-requires-clause-room : goal.play_events-outcome-requires-clause-room
 play_events-outcome-requires-clause-room g c =
-    let few : length c.args.script.now.events.items ≤ 1048576 = c.requires.playable.few_events in
+    let few : length c.args.script.now.events.items ≤ 1048576 = c.requires.few_events in
     let within : length c.args.script.now.events.items * 2 ^ 32 < 2 ^ 64 = omega (arith, few) in
     rw (c.in_ok-terminal.ensures.opened, c.as_slice-events.ensures.value) (opening_room _ (script_view c.args.script.now) within)
 

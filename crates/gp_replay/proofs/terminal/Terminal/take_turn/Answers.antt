@@ -21,6 +21,7 @@ returns-clause-taken g c =
       step = c.step-rest.ensures.step;
       free = search rules;
       ports =
-          ap (λ (l : List PortStand). slice_set l c.args.turn.port c.step-rest.new.self) (sym same)
+          ap (λ (n : ℕ). slice_set ports n c.step-rest.new.self) c.from.ensures
+          ∙ ap (λ (l : List PortStand). slice_set l c.args.turn.port c.step-rest.new.self) (sym same)
           ∙ ap (λ (n : ℕ). slice_set c.args.self.now.ports c.args.turn.port (stand n)) c.step-rest.ensures.next;
     }
