@@ -118,7 +118,7 @@ impl<L: Ledger> PortCore<L> {
         ensures free { HandsOutFree self.old result.0.reply }
         ensures outcome { outcome_of result self.new ≡ newcomer_outcome purse self.old serial (onu_id_in result.0.reply) }
     {
-        if self.table.len() >= self.config.max_units as usize {
+        if self.table.len() >= usize::from(self.config.max_units) {
             return self.refuse(purse, Refusal::NoId);
         }
         if purse.count() == 0 {

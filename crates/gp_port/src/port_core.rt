@@ -1,9 +1,9 @@
 ghost use Rattle.std.specs.Prelude.{◌≡◌, ◌+◌, ◌≤◌, false, true, [], length, IfOk, IsErrOf, IsTrue, ◌↔◌};
 ghost use Rattle.std.specs.FinMap as map;
 ghost use Rattle.std.specs.Option.{ForSome};
+ghost use Rattle.gp_ploam.specs.Copies.{most_copies};
 ghost use Rattle.gp_ploam.specs.Down.{IsProperDown};
 ghost use Rattle.gp_machine.specs.Config.{is_within_limits};
-ghost use Rattle.gp_machine.specs.Copies.{most_copies};
 ghost use Rattle.gp_machine.specs.State.{opening_of, rows_of};
 ghost use Rattle.gp_machine.specs.Sound.{IsSound};
 ghost use Rattle.gp_machine.specs.Outcomes.{outcome_of};

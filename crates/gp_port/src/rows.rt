@@ -85,7 +85,7 @@ fn used_octets(rows: &[(Serial, Row)]) -> [bool; OCTETS]
 {
     let mut used = [false; OCTETS];
     for entry in rows {
-        used[entry.1.onu as usize] = true;
+        used[usize::from(entry.1.onu)] = true;
     }
     used
 }
@@ -99,7 +99,7 @@ pub fn free_onu(rows: &[(Serial, Row)]) -> u8
 {
     let used = used_octets(rows);
     for onu in 0..ONU_IDS {
-        if !used[onu as usize] {
+        if !used[usize::from(onu)] {
             return onu;
         }
     }

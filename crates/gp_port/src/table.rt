@@ -43,7 +43,7 @@ impl UnitTable {
     pub fn begin(alloc: Global) -> Result<UnitTable, AllocError>
         ensures { IfOk result (λ t. t ≡ map.empty) }
     {
-        let rows = Vec::with_capacity(alloc, ONU_IDS as usize)?;
+        let rows = Vec::with_capacity(alloc, usize::from(ONU_IDS))?;
         Ok(UnitTable { rows, least: None })
     }
 

@@ -1,7 +1,7 @@
 ghost use Rattle.std.specs.Prelude.{◌≡◌, ◌+◌, ◌≤◌, ◌↔◌, [], ◌++◌, drop, length, slice_get, Contains, IfOk, IsTrue};
-ghost use Rattle.gp_ploam.specs.Copies.{all_copies, first_of};
+ghost use Rattle.gp_ploam.specs.Copies.{all_copies, copies_each, first_of, most_copies};
 
-use super::volley::Volley;
+use super::volley::{COPIES, Volley};
 use gp_ploam::Down;
 use std::alloc::{AllocError, Global};
 use std::collections::VecDeque;
@@ -58,7 +58,7 @@ impl VolleyQueue {
 
     /// Owes a message: three copies after all others.
     pub fn owe(&mut self, message: Down)
-        requires { length self.old + 3 ≤ 192 }
+        requires { length self.old + copies_each ≤ most_copies }
         ensures { self.new ≡ self.old ++ all_copies message }
     {
         self.volleys.push_back_reserved(Volley::begin(message));
@@ -79,10 +79,10 @@ impl VolleyQueue {
     /// How many copies are owed.
     pub fn len_copies(&self) -> usize
         ensures len { result ≡ length self.now }
-        ensures room { result ≤ 192 }
+        ensures room { result ≤ most_copies }
     {
         match self.volleys.front() {
-            Some(volley) => usize::from(volley.left()) + 3 * (self.volleys.len() - 1),
+            Some(volley) => usize::from(volley.left()) + COPIES as usize * (self.volleys.len() - 1),
             None => 0,
         }
     }
@@ -96,7 +96,7 @@ impl VolleyQueue {
         if i < left {
             return Some(first.message());
         }
-        let volley = self.volleys.get(1 + (i - left) / 3)?;
+        let volley = self.volleys.get(1 + (i - left) / COPIES as usize)?;
         Some(volley.message())
     }
 

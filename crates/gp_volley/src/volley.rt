@@ -1,11 +1,12 @@
 ghost use Rattle.std.specs.Prelude.{◌≡◌, ◌-◌, ◌≤◌};
+ghost use Rattle.gp_ploam.specs.Copies.{copies_each};
 ghost use Rattle.gp_volley.specs.Volley.{volley_of, volley_after_copy};
 
 use gp_ploam::Down;
 use std::marker::Model;
 
 /// How many times a message is sent.
-const COPIES: u8 = 3;
+pub(crate) const COPIES: u8 = 3;
 
 /// A message with the copies of it that are still to be sent. It is no `Drop`, so that a volley ends with its last
 /// copy, or is closed.
@@ -24,13 +25,14 @@ impl NeverDropped for Volley {}
 
 impl Model for Volley {
     ghost use Rattle.std.specs.Prelude.{◌≤◌};
+    ghost use Rattle.gp_ploam.specs.Copies.{copies_each};
     ghost use Rattle.gp_volley.specs.Volley.{VolleyState};
 
     ghost Value = { VolleyState };
 
     ghost view = { λ v. record { message = v.message; left = v.left } };
 
-    ghost invariant = { λ v. (1 ≤ v.left) × (v.left ≤ 3) };
+    ghost invariant = { λ v. (1 ≤ v.left) × (v.left ≤ copies_each) };
 }
 
 impl Volley {
@@ -55,7 +57,7 @@ impl Volley {
     pub fn left(&self) -> u8
         ensures left { result ≡ self.now.left }
         ensures some { 1 ≤ result }
-        ensures at_most { result ≤ 3 }
+        ensures at_most { result ≤ copies_each }
     {
         self.left
     }
