@@ -1,2 +1,4 @@
 pub mod CommandLine
+pub mod Replays
 pub mod Requests
+pub mod Statuses

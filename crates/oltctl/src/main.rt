@@ -1,6 +1,16 @@
 //! `oltctl`: plays a script and writes its trace, and says in words which message a code is.
 #![tactic(auto)]
 
+ghost use Rattle.std.specs.Prelude.{◌≡◌, ◌≢◌, ◌≤◌, ◌↔◌, ℕ, List, Ok, Err, OnOk};
+ghost use Rattle.clap.specs.Values.{kind_of};
+ghost use Rattle.std.specs.IoError.{error_kind};
+ghost use Rattle.gp_decode.specs.declared.fault.LineFault.{LineFault as AnyFault};
+ghost use Rattle.gp_decode.specs.Line.{HasLineFault, IsOfText, Says};
+ghost use Rattle.gp_script.specs.declared.fault.ScriptFault.{ScriptFault};
+ghost use Rattle.gp_script.specs.Script.{ScriptView};
+ghost use Rattle.oltctl.specs.Replays.{IsReadAs};
+ghost use Rattle.oltctl.specs.Statuses.{IsArgumentsReport, IsServed, IsStatusOf, greatest_status, replay_status};
+
 mod command_line;
 mod request;
 
@@ -21,13 +31,20 @@ const BAD_ARGUMENTS: u8 = 2;
 
 /// Says on standard error what went wrong, and answers the exit status, which says it too where
 /// standard error takes nothing.
-fn report<R: Eprint>(rt: &R, (line, status): (&'static str, u8)) -> u8 {
+fn report<R: Eprint>(rt: &R, told: (&'static str, u8)) -> u8
+    ensures { result ≡ told.entry.1 }
+{
+    let (line, status) = told;
     let _ = eprintln!(rt; "{line}");
     status
 }
 
 /// Plays the script that a reader gives, to standard output.
-fn replay_from<R: AllocGlobal + Print, S: Read + Drop>(rt: &R, reader: S) -> Result<(), RunFault> {
+fn replay_from<R: AllocGlobal + Print, S: Read + Drop>(rt: &R, reader: S) -> Result<(), RunFault>
+    ensures ok { OnOk result ((script : ScriptView) × IsReadAs (S.remaining reader) (Ok script)) }
+    ensures script { (fault : ScriptFault) → result ≡ Err (RunFault.Script fault) → IsReadAs (S.remaining reader) (Err fault) }
+    ensures mismatch { result ≢ Err RunFault.Mismatch }
+{
     let mut source = Source::new(reader);
     let mut sink = Sink::new(rt.alloc(), io::writer(rt))?;
     run_replay(rt.alloc(), &mut source, &mut sink)
@@ -37,7 +54,9 @@ fn replay_from<R: AllocGlobal + Print, S: Read + Drop>(rt: &R, reader: S) -> Res
 fn replay<R: AllocGlobal + Files + Print + Input>(
     rt: &R,
     file: Option<&str>,
-) -> Result<(), RunFault> {
+) -> Result<(), RunFault>
+    ensures { result ≢ Err RunFault.Mismatch }
+{
     match file {
         None => replay_from(rt, rt.reader()),
         Some(path) => match std::fs::open(rt, path) {
@@ -47,24 +66,36 @@ fn replay<R: AllocGlobal + Files + Print + Input>(
     }
 }
 
+/// Says on standard error what went wrong with a replay, if anything did, and answers the exit status.
+fn end_replay<R: Eprint>(rt: &R, outcome: &Result<(), RunFault>) -> u8
+    ensures { result ≡ replay_status outcome.now }
+{
+    match outcome {
+        Ok(()) => 0,
+        Err(fault) => report(rt, run_report(fault)),
+    }
+}
+
 /// Says which message a code is, on standard output.
 fn decode<R: AllocGlobal + Print>(
     rt: &R,
     code: &str,
     upstream: bool,
     mask: Mask,
-) -> Result<(), LineFault> {
+) -> Result<(), LineFault>
+    ensures ok { OnOk result ((line : List ℕ) × Says upstream mask code.now line) }
+    ensures fault { result ≢ Err LineFault.OutOfMemory → (fault : AnyFault) → IsOfText fault → (result ≡ Err fault) ↔ HasLineFault mask code.now fault }
+{
     let mut sink = Sink::new(rt.alloc(), io::writer(rt))?;
     decode_line(rt.alloc(), code, upstream, mask, &mut sink)
 }
 
 /// Does what is asked for, and answers the exit status.
-fn serve<R: AllocGlobal + Files + Print + Eprint + Input>(rt: &R, request: Request<'_>) -> u8 {
+fn serve<R: AllocGlobal + Files + Print + Eprint + Input>(rt: &R, request: Request<'_>) -> u8
+    ensures { IsServed request.entry result }
+{
     match request {
-        Request::Replay { file } => match replay(rt, file) {
-            Ok(()) => 0,
-            Err(fault) => report(rt, run_report(&fault)),
-        },
+        Request::Replay { file } => end_replay(rt, &replay(rt, file)),
         Request::Decode {
             code,
             upstream,
@@ -78,7 +109,9 @@ fn serve<R: AllocGlobal + Files + Print + Eprint + Input>(rt: &R, request: Reque
 
 /// Shows the help that was asked for, or what is wrong with a command line, and answers the exit
 /// status.
-fn explain<R: Print + Eprint>(rt: &R, error: &Error) -> u8 {
+fn explain<R: Print + Eprint>(rt: &R, error: &Error) -> u8
+    ensures { IsStatusOf (kind_of error.now) result }
+{
     if error.kind() == ErrorKind::OutOfMemory {
         return report(rt, memory_report());
     }
@@ -96,7 +129,9 @@ fn arguments_of<R: AllocGlobal + Env>(rt: &R) -> io::Result<Vec<String>> {
 
 /// The line on standard error and the exit status where the command line was not read: for want of
 /// memory, or since one of its words is no UTF-8.
-fn arguments_report(error: &io::Error) -> (&'static str, u8) {
+fn arguments_report(error: &io::Error) -> (&'static str, u8)
+    ensures { IsArgumentsReport (error_kind error.now) result.0.now result.1 }
+{
     match error.kind() {
         io::ErrorKind::OutOfMemory => memory_report(),
         _ => ("oltctl: arguments", BAD_ARGUMENTS),
@@ -104,7 +139,9 @@ fn arguments_report(error: &io::Error) -> (&'static str, u8) {
 }
 
 /// Runs the command line, and answers the exit status.
-fn run<R: AllocGlobal + Env + Files + Print + Eprint + Input>(rt: &R) -> u8 {
+fn run<R: AllocGlobal + Env + Files + Print + Eprint + Input>(rt: &R) -> u8
+    ensures { result ≤ greatest_status }
+{
     let arguments = match arguments_of(rt) {
         Ok(arguments) => arguments,
         Err(error) => return report(rt, arguments_report(&error)),

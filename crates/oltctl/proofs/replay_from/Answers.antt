@@ -1,0 +1,4 @@
+use Rattle.oltctl.proofs.replay_from.Goals as goal
+
+pub returns-clause-script : goal.returns-clause-script
+returns-clause-script g c = λ fault is. (_, rw (c.new-source.ensures.reader, c.new-source.ensures.left, c.new-source.ensures.failed) at c.run_replay.ensures.script fault is)

@@ -1,0 +1,11 @@
+-- What a replay found in its input (this profile's own rule).
+use Rattle.std.specs.Prelude.{ℕ, false, List, Option, Result}
+use Rattle.gp_script.specs.declared.fault.ScriptFault.{ScriptFault}
+use Rattle.gp_script.specs.Script.{ScriptView}
+use Rattle.gp_stream.specs.declared.source.TheConstants.{MOST_READS}
+use Rattle.gp_stream.specs.Source.{SourceState}
+use Rattle.gp_replay.specs.Outcome.{ReadsAs}
+
+-- all that a reader had to give, where it tells its bytes, is read as this
+abbrev pub IsReadAs : Option (List ℕ) → Result ScriptView ScriptFault → Type 0
+IsReadAs remaining answer = (after : SourceState) × ReadsAs (record { remaining = remaining; reads_left = MOST_READS; has_failed = false }) after answer
