@@ -12,6 +12,10 @@ use Rattle.gp_decode.specs.Line.{HasLineFault, IsOfText, Says}
 use Rattle.gp_replay.specs.declared.fault.RunFault.{RunFault}
 use Rattle.gp_replay.specs.declared.fault.RunFault.TheVariants as run
 use Rattle.gp_replay.specs.Report.{report_status as run_status}
+use Rattle.clap.specs.Words.{Text, subcommand_rows_of}
+use Rattle.clap.specs.declared.parser.matches.ArgMatches.{ArgMatches}
+use Rattle.oltctl.specs.CommandLine.{IsFaultOf, IsParseOf}
+use Rattle.oltctl.specs.Requests.{Asks, AsksNothing}
 use Rattle.oltctl.specs.declared.request.Request.{Request}
 use Rattle.oltctl.specs.declared.request.Request.TheVariants.{Replay, Decode}
 
@@ -68,3 +72,12 @@ pub record IsDecoded (code : List ℕ) (upstream : Bool) (mask : Mask) (status :
 abbrev pub IsServed : Request → ℕ → Type 0
 IsServed (Replay file) status = IsPlayed status
 IsServed (Decode code upstream mask) status = IsDecoded code.now upstream mask status
+
+-- how a run over the words of a command line may end, with this status
+pub data IsRun (words : List Text) (status : ℕ) : Type 0 where
+  -- they are not parsed: for want of memory, or for a fault that they have, as which asking for help is told
+  refused : (kind : ErrorKind) → (kind ≢ error.OutOfMemory → IsFaultOf words kind) → IsStatusOf kind status → IsRun words status
+  -- they are parsed, and what they ask for is done
+  served : (parsed : ArgMatches) (request : Request) → IsParseOf words parsed → Asks (subcommand_rows_of parsed) request → IsServed request status → IsRun words status
+  -- they are parsed, and ask for nothing that is known
+  idle : (parsed : ArgMatches) → IsParseOf words parsed → AsksNothing (subcommand_rows_of parsed) → status ≡ bad_arguments → IsRun words status

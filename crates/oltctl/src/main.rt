@@ -1,15 +1,16 @@
 //! `oltctl`: plays a script and writes its trace, and says in words which message a code is.
 #![tactic(auto)]
 
-ghost use Rattle.std.specs.Prelude.{◌≡◌, ◌≢◌, ◌≤◌, ◌↔◌, ℕ, List, Ok, Err, OnOk};
+ghost use Rattle.std.specs.Prelude.{◌≡◌, ◌≢◌, ◌≤◌, ◌↔◌, ℕ, List, Ok, Err, OnOk, map};
+ghost use Rattle.std.specs.String.{string_bytes};
 ghost use Rattle.clap.specs.Values.{kind_of};
 ghost use Rattle.std.specs.IoError.{error_kind};
 ghost use Rattle.gp_decode.specs.declared.fault.LineFault.{LineFault as AnyFault};
 ghost use Rattle.gp_decode.specs.Line.{HasLineFault, IsOfText, Says};
 ghost use Rattle.gp_script.specs.declared.fault.ScriptFault.{ScriptFault};
 ghost use Rattle.gp_script.specs.Script.{ScriptView};
-ghost use Rattle.oltctl.specs.Replays.{IsReadAs};
-ghost use Rattle.oltctl.specs.Statuses.{IsArgumentsReport, IsServed, IsStatusOf, greatest_status, replay_status};
+ghost use Rattle.oltctl.specs.Replays.{IsReadAs, IsTooLong};
+ghost use Rattle.oltctl.specs.Statuses.{IsArgumentsReport, IsRun, IsServed, IsStatusOf, greatest_status, replay_status};
 
 mod command_line;
 mod request;
@@ -43,6 +44,7 @@ fn report<R: Eprint>(rt: &R, told: (&'static str, u8)) -> u8
 fn replay_from<R: AllocGlobal + Print, S: Read + Drop>(rt: &R, reader: S) -> Result<(), RunFault>
     ensures ok { OnOk result ((script : ScriptView) × IsReadAs (S.remaining reader) (Ok script)) }
     ensures script { (fault : ScriptFault) → result ≡ Err (RunFault.Script fault) → IsReadAs (S.remaining reader) (Err fault) }
+    ensures too_long { result ≡ Err RunFault.TooLong → IsTooLong (S.remaining reader) }
     ensures mismatch { result ≢ Err RunFault.Mismatch }
 {
     let mut source = Source::new(reader);
@@ -138,20 +140,27 @@ fn arguments_report(error: &io::Error) -> (&'static str, u8)
     }
 }
 
-/// Runs the command line, and answers the exit status.
-fn run<R: AllocGlobal + Env + Files + Print + Eprint + Input>(rt: &R) -> u8
-    ensures { result ≤ greatest_status }
+/// Does what the words of a command line ask for, and answers the exit status. The first word is the program's name.
+fn run_words<R: AllocGlobal + Files + Print + Eprint + Input>(rt: &R, words: &[String]) -> u8
+    ensures ended { IsRun (map string_bytes words.now) result }
+    ensures bound { result ≤ greatest_status }
 {
-    let arguments = match arguments_of(rt) {
-        Ok(arguments) => arguments,
-        Err(error) => return report(rt, arguments_report(&error)),
-    };
-    match command_line::parse(rt.alloc(), arguments.as_slice()) {
+    match command_line::parse(rt.alloc(), words) {
         Ok(matches) => match request_of(&matches) {
             Some(request) => serve(rt, request),
             None => BAD_ARGUMENTS,
         },
         Err(error) => explain(rt, &error),
+    }
+}
+
+/// Runs the command line, and answers the exit status.
+fn run<R: AllocGlobal + Env + Files + Print + Eprint + Input>(rt: &R) -> u8
+    ensures { result ≤ greatest_status }
+{
+    match arguments_of(rt) {
+        Ok(arguments) => run_words(rt, arguments.as_slice()),
+        Err(error) => report(rt, arguments_report(&error)),
     }
 }
 
