@@ -13,7 +13,8 @@ pub enum AlarmKind {
     Los,
     /// Loss of PLOAM: what came in its poll windows was no message of the unit.
     Loam,
-    /// Loss of acknowledge: the unit answers, and acknowledges no Alloc-ID.
+    /// Loss of acknowledge: poll windows of the unit ended without an Acknowledge of its pending Alloc-ID, whether it
+    /// answered in them or not.
     Loa,
     /// Start-up failure: the unit was seen while ranging, and not ranged.
     Suf,
@@ -33,7 +34,7 @@ pub struct Alarm {
 }
 
 impl AlarmKind {
-    /// The name that is printed, of at most four letters.
+    /// Gives the name that is printed, of at most four letters.
     pub fn name(self) -> &'static str
         ensures name { result.now ≡ alarm_name self }
         ensures short { length result.now ≤ 4 }

@@ -9,7 +9,7 @@ const DARK_LIMIT: u8 = 4;
 /// How many garbled poll windows with no message of the unit between give LOAM (three: G.984.3, clause 11).
 const GARBLED_LIMIT: u8 = 3;
 
-/// How many poll windows without an Acknowledge of a pending Alloc-ID give LOA (this profile's own rule).
+/// How many poll windows without an Acknowledge of a pending Alloc-ID, dark ones too, give LOA (this profile's own rule).
 const WAITING_LIMIT: u8 = 3;
 
 /// What was counted of the poll windows of an operating unit. LOS at four and LOAM at three are
@@ -21,7 +21,7 @@ pub struct PollCounts {
     pub dark: u8,
     /// Garbled windows since the last message of the unit, 0 to 2.
     pub garbled: u8,
-    /// Windows that ended without an Acknowledge of the pending Alloc-ID, 0 to 2.
+    /// Windows that ended without an Acknowledge of the pending Alloc-ID, dark ones too, 0 to 2.
     pub waiting: u8,
 }
 
@@ -56,7 +56,7 @@ pub fn close_poll(
     (counts, alarm_at(counts))
 }
 
-/// The counts with one window more.
+/// Counts one window more.
 fn counted(counts: PollCounts, outcome: Outcome, pending: bool) -> PollCounts
     requires { IsBelowEachLimit counts }
     ensures { result ≡ counts_after counts outcome pending }
@@ -96,7 +96,7 @@ fn counted(counts: PollCounts, outcome: Outcome, pending: bool) -> PollCounts
     }
 }
 
-/// The first alarm whose count is at its limit.
+/// Gives the first alarm whose count is at its limit.
 fn alarm_at(counts: PollCounts) -> Option<AlarmKind>
     ensures { result ≡ alarm_of counts }
 {

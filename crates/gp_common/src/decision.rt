@@ -15,7 +15,7 @@ pub enum Decision {
     Ask(Grant),
 }
 
-/// What a port in the common state `common` does next, and its common state then. `wanted`: an
+/// Decides what a port in the common state `common` does next, and its common state then. `wanted`: an
 /// acquisition is wanted. `ranging`: the least ONU-ID of a ranging unit. `next_poll`: the ONU-ID of
 /// the operating unit whose turn it is. `cycles`: how many search windows an acquisition opens.
 pub fn decide(
@@ -37,7 +37,7 @@ pub fn decide(
     }
 }
 
-/// In standby: a ranging unit comes first, and else the operating unit whose turn it is.
+/// Decides in standby: a ranging unit comes first, and else the operating unit whose turn it is.
 fn stand_by(ranging: Option<u8>, next_poll: Option<u8>) -> (Common, Decision)
     ensures { result ≡ standby_decision_of ranging next_poll }
 {
@@ -47,7 +47,7 @@ fn stand_by(ranging: Option<u8>, next_poll: Option<u8>) -> (Common, Decision)
     }
 }
 
-/// A ranging unit is asked for its round-trip delay. With none left the port stands by.
+/// Asks a ranging unit for its round-trip delay. With none left the port stands by.
 fn measure(ranging: Option<u8>) -> (Common, Decision)
     ensures { result ≡ measurement_of ranging }
 {

@@ -1,17 +1,17 @@
 -- A line that goes through a sink, and why there is none.
 use Rattle.std.proofs.Common.{ℕ, Bool, List, [], Result, Ok, Err, OnOk, OnErr, subst, append-nil}
 use Rattle.gp_stream.specs.declared.sink.WriteStopped.{WriteStopped}
-use Rattle.gp_stream.specs.Sink.{SinkState, Takes, TakesFront}
-use Rattle.gp_stream.proofs.SinkLemmas.{takes_more, takes_front_after}
+use Rattle.gp_stream.specs.Sink.{SinkState, Takes, TakesPrefix}
+use Rattle.gp_stream.proofs.SinkLemmas.{takes_more, takes_prefix_after}
 use Rattle.gp_ploam.specs.declared.check.Mask.{Mask}
 use Rattle.gp_decode.specs.declared.fault.LineFault.{LineFault}
 use Rattle.gp_decode.specs.declared.fault.LineFault.TheVariants as fault
 use Rattle.gp_decode.specs.Line.{HasLineFault, LacksLine}
 
--- where what was handed in isn't all written out, a front of it was
-pub front_of_line : (r : Result (Unit {0}) WriteStopped) (a b c : SinkState) (line : List ℕ) → Takes a b line → OnErr r (TakesFront b c []) → OnErr r (TakesFront a c line)
-front_of_line (Ok x) a b c line p q = tt
-front_of_line (Err e) a b c line p q = subst (TakesFront a c) (append-nil line) (takes_front_after a b c line [] p q)
+-- where what was handed in isn't all written out, a prefix of it was
+pub prefix_of_line : (r : Result (Unit {0}) WriteStopped) (a b c : SinkState) (line : List ℕ) → Takes a b line → OnErr r (TakesPrefix b c []) → OnErr r (TakesPrefix a c line)
+prefix_of_line (Ok x) a b c line p q = tt
+prefix_of_line (Err e) a b c line p q = subst (TakesPrefix a c) (append-nil line) (takes_prefix_after a b c line [] p q)
 
 -- where what was handed in is all written out, so is the line
 pub all_of_line : (r : Result (Unit {0}) WriteStopped) (a b c : SinkState) (line : List ℕ) → Takes a b line → OnOk r (Takes b c []) → OnOk r (Takes a c line)

@@ -44,12 +44,12 @@ IsOfText fault.OutOfMemory = ⊥
 IsOfText fault.Write = ⊥
 IsOfText _ = Unit {0}
 
--- why there is no line for a text: want of memory for the line that it says, or the text's own fault
+-- why there is no line for a text: out of memory for the line that it says, or the text's own fault
 abbrev pub LacksLine : Bool → Mask → List ℕ → LineFault → Type 0
 LacksLine upstream mask text fault.OutOfMemory = (line : List ℕ) × Says upstream mask text line
 LacksLine upstream mask text own = HasLineFault mask text own
 
--- why there is no line for thirteen octets: want of memory for the line that they say, or a check octet that is wrong
+-- why there is no line for thirteen octets: out of memory for the line that they say, or a check octet that is wrong
 abbrev pub LacksLineOfCode : Bool → Mask → List ℕ → LineFault → Type 0
 LacksLineOfCode upstream mask code fault.OutOfMemory = (line : List ℕ) × SaysCode upstream mask code line
 LacksLineOfCode upstream mask code fault.Crc = HasWrongCheck mask code

@@ -13,7 +13,7 @@ abbrev pub keep_text : Bool → List ℕ
 keep_text true = codes "keep"
 keep_text false = codes "back"
 
--- a message of no named row: its identifier, its octet 1, and octets 3 to 12
+-- a message that this profile has no name for: its identifier, its octet 1, and octets 3 to 12
 abbrev pub other_text : ℕ → ℕ → List ℕ → List ℕ
 other_text id octet1 body = codes "Other " ++ decimal id ++ codes " " ++ decimal octet1 ++ codes " " ++ encode_lower body
 

@@ -8,7 +8,7 @@ ghost use Rattle.gp_decode.specs.Line.{HasLineFault};
 use super::fault::LineFault;
 use hex::FromHex;
 
-/// The thirteen octets that a text of 26 digits stands for, or the text's first fault.
+/// Reads the thirteen octets that a text of 26 digits stands for, or answers the text's first fault.
 pub fn code_in(text: &[u8]) -> Result<[u8; 13], LineFault>
     ensures code { IfOk result (λ code. decode_of text.now ≡ Ok code) }
     ensures fault { IfErr result (λ fault. (mask : Mask) → HasLineFault mask text.now fault) }
@@ -25,7 +25,7 @@ pub fn code_in(text: &[u8]) -> Result<[u8; 13], LineFault>
     }
 }
 
-/// Whether each byte is a hexadecimal digit.
+/// Tells whether each byte is a hexadecimal digit.
 fn are_digits(text: &[u8]) -> bool
     ensures { result ≡ list_all is_hex_digit text.now }
 {

@@ -21,10 +21,10 @@ pub enum LineFault {
     /// The check octet is wrong under the mask.
     #[error("the check octet is wrong")]
     Crc,
-    /// There was no memory for the line.
+    /// Out of memory for the line.
     #[error("out of memory")]
     OutOfMemory,
-    /// A write failed or took nothing, or a flush failed.
+    /// A write failed or took nothing, or a flush failed, which counts as a failed write.
     #[error("the line was not written")]
     Write,
 }
@@ -58,7 +58,7 @@ impl From<WriteStopped> for LineFault {
     }
 }
 
-/// The line on standard error and the exit status of a program that meets the fault.
+/// Answers the line on standard error, without its line feed, and the exit status of a program that meets the fault.
 pub fn line_report(fault: &LineFault) -> (&'static str, u8)
     ensures line { result.0.now ≡ report_line fault.now }
     ensures status { result.1 ≡ report_status fault.now }

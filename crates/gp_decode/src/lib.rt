@@ -1,4 +1,13 @@
-//! The messages of codes that are given as hexadecimal digits, in words.
+//! Says in words which PLOAM message a code is, where the code is given as hexadecimal digits.
+//!
+//! - `line.rt`: `decode_line`, which reads the digits and writes the message's line.
+//! - `code.rt`: the thirteen octets of a text of hexadecimal digits.
+//! - `message.rt`: a message as its name and its fields.
+//! - `fault.rt`: what may be wrong with a text, and the line and the exit status of a program that meets it.
+//!
+//! Where to make which change: the words for a message stand in `message.rt` and `specs/Message.antt`; what is wrong with
+//! a text, and in which order, in `code.rt` and `specs/Line.antt`; a line on standard error or an exit status in `fault.rt`
+//! and `specs/Faults.antt`.
 #![tactic(auto)]
 
 mod code;

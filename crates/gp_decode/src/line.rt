@@ -1,7 +1,7 @@
 //! The line of a code.
 ghost use Rattle.std.specs.Prelude.{◌≡◌, ◌≢◌, ◌↔◌, ℕ, List, [], OnOk, OnErr, IfOk, IfErr, IsErr, Err, true, false};
 ghost use Rattle.std.specs.String.{string_bytes};
-ghost use Rattle.gp_stream.specs.Sink.{Takes, TakesFront, gathered_of, has_flushed, has_stopped, sink_state};
+ghost use Rattle.gp_stream.specs.Sink.{Takes, TakesPrefix, gathered_of, has_flushed, has_stopped, sink_state};
 ghost use Rattle.gp_decode.specs.declared.fault.LineFault.{LineFault as AnyFault};
 ghost use Rattle.gp_decode.specs.Line.{HasLineFault, IsOfText, LacksLine, LacksLineOfCode, Says, SaysCode};
 
@@ -34,7 +34,7 @@ pub fn decode_line<W: Write>(
     ensures fault { (fault : AnyFault) → IsOfText fault → (result ≡ Err fault) ↔ HasLineFault mask text.now fault }
 
     ensures write { result ≡ Err LineFault.Write → has_stopped sink.new ≡ true }
-    ensures front { result ≡ Err LineFault.Write → (line : List ℕ) × Says upstream mask text.now line × TakesFront (sink_state W.contents sink.old) (sink_state W.contents sink.new) line }
+    ensures prefix { result ≡ Err LineFault.Write → (line : List ℕ) × Says upstream mask text.now line × TakesPrefix (sink_state W.contents sink.old) (sink_state W.contents sink.new) line }
     ensures kept { IfErr result (λ fault. fault ≢ LineFault.Write → sink.new ≡ sink.old) }
 {
     let line = line_for(alloc, text, upstream, mask)?;
@@ -47,7 +47,7 @@ fn write_line<W: Write>(sink: &mut Sink<W>, line: &[u8]) -> Result<(), WriteStop
     ensures ok { OnOk result (Takes (sink_state W.contents sink.old) (sink_state W.contents sink.new) line.now) }
     ensures written { OnOk result (gathered_of sink.new ≡ []) }
     ensures flushed { has_flushed sink.old ≡ true → OnOk result (has_flushed sink.new ≡ true) }
-    ensures front { OnErr result (TakesFront (sink_state W.contents sink.old) (sink_state W.contents sink.new) line.now) }
+    ensures prefix { OnErr result (TakesPrefix (sink_state W.contents sink.old) (sink_state W.contents sink.new) line.now) }
     ensures finished { OnOk result (has_stopped sink.new ≡ false) }
     ensures stopped { OnErr result (has_stopped sink.new ≡ true) }
 {
@@ -55,7 +55,7 @@ fn write_line<W: Write>(sink: &mut Sink<W>, line: &[u8]) -> Result<(), WriteStop
     sink.finish()
 }
 
-/// The line of the message that a text is the code of.
+/// Makes the line of the message that a text is the code of.
 fn line_for(alloc: Global, text: &str, upstream: bool, mask: Mask) -> Result<String, LineFault>
     ensures line { IfOk result (λ line. Says upstream mask text.now (string_bytes line)) }
     ensures fault { IfErr result (LacksLine upstream mask text.now) }
@@ -64,7 +64,7 @@ fn line_for(alloc: Global, text: &str, upstream: bool, mask: Mask) -> Result<Str
     line_of(alloc, &code, upstream, mask)
 }
 
-/// The line of the message that a code is read as.
+/// Makes the line of the message that a code is read as.
 fn line_of(alloc: Global, code: &[u8; 13], upstream: bool, mask: Mask) -> Result<String, LineFault>
     ensures line { IfOk result (λ line. SaysCode upstream mask code.now (string_bytes line)) }
     ensures fault { IfErr result (LacksLineOfCode upstream mask code.now) }
@@ -76,6 +76,7 @@ fn line_of(alloc: Global, code: &[u8; 13], upstream: bool, mask: Mask) -> Result
     }
 }
 
+/// Makes the line of the upstream message that a code is read as.
 fn up_line(alloc: Global, code: &[u8; 13], mask: Mask) -> Result<String, LineFault>
     ensures line { IfOk result (λ line. SaysCode true mask code.now (string_bytes line)) }
     ensures fault { IfErr result (LacksLineOfCode true mask code.now) }
@@ -84,6 +85,7 @@ fn up_line(alloc: Global, code: &[u8; 13], mask: Mask) -> Result<String, LineFau
     Ok(format!(in alloc; "{message}\n")?)
 }
 
+/// Makes the line of the downstream message that a code is read as.
 fn down_line(alloc: Global, code: &[u8; 13], mask: Mask) -> Result<String, LineFault>
     ensures line { IfOk result (λ line. SaysCode false mask code.now (string_bytes line)) }
     ensures fault { IfErr result (LacksLineOfCode false mask code.now) }

@@ -25,7 +25,7 @@ impl Display for Octets {
     }
 }
 
-/// A message of no named row.
+/// A message that this profile has no name for.
 #[derive(Clone, Copy)]
 struct OtherText {
     id: u8,

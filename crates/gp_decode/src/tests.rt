@@ -4,7 +4,7 @@ use gp_stream::Sink;
 use std::alloc::Global;
 use std::test::Fail;
 
-/// What is written for a text, and how the decoding ends.
+/// Decodes a text, and answers what is written and how it ends.
 fn decoded(
     alloc: Global,
     text: &str,
@@ -87,7 +87,7 @@ fn faults_in_their_order(rt: HostRuntime) -> Result<(), Fail> {
     Ok(())
 }
 
-/// A slice takes as many bytes as it has room for, and then none.
+// A slice takes as many bytes as it has room for, and then none.
 #[test]
 fn a_writer_that_stops(rt: HostRuntime) -> Result<(), Fail> {
     let line = b"POPUP 255\n";

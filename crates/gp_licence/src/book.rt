@@ -1,15 +1,11 @@
 //! The book that hands licences out and takes them back.
 ghost use Rattle.std.specs.Prelude.{◌≡◌, ℕ, ◌+◌, ◌≤◌, min};
 
+use crate::ledger_parts::{LedgerParts, MAX_LICENCES};
 use crate::licences::Licences;
-use crate::stake::Stake;
+use gp_linear::NeverDropped;
 use std::marker::Model;
 use std::sync::ledger::{Blank, Ledger};
-
-/// The most licences that a book can have: one for each unit of 16 ports with 254 units each.
-///
-/// A book's ledger is cut into so many parts, whatever the book's own total.
-pub const MOST_LICENCES: u32 = 4064;
 
 /// All licences that nobody holds. Contracts see how many are free and how many there are in all.
 ///
@@ -17,40 +13,43 @@ pub const MOST_LICENCES: u32 = 4064;
 pub struct LicenceBook<L: Ledger> {
     free: u32,
     total: u32,
-    stake: Stake<L>,
+    parts: LedgerParts<L>,
 }
+
+impl<L: Ledger> NeverDropped for LicenceBook<L> {}
 
 impl<L: Ledger> Model for LicenceBook<L> {
     ghost use Rattle.std.specs.Prelude.{◌≡◌, ◌+◌, ◌≤◌};
-    ghost use Rattle.gp_licence.specs.Standing.{Standing};
+    ghost use Rattle.gp_licence.specs.declared.ledger_parts.TheConstants.{MAX_LICENCES};
+    ghost use Rattle.gp_licence.specs.Book.{BookState};
 
-    ghost Value = { Standing };
+    ghost Value = { BookState };
 
     ghost view = { λ b. record { free = b.free; total = b.total } };
 
     // The book keeps the parts of the ledger that stand for no licence, too.
-    ghost invariant = { λ b. (b.stake + b.total ≡ 4064 + b.free) × (b.free ≤ b.total) × (b.total ≤ 4064) };
+    ghost invariant = { λ b. (b.parts + b.total ≡ MAX_LICENCES + b.free) × (b.free ≤ b.total) × (b.total ≤ MAX_LICENCES) };
 }
 
 impl<L: Ledger> LicenceBook<L> {
-    /// A book of so many licences, all of them free, at most `MOST_LICENCES`.
+    /// Makes a book of so many licences, all of them free, at most `MAX_LICENCES`.
     ///
-    /// `blank` is a new ledger of `MOST_LICENCES` parts, made by `Blank::new`, and `L` its name.
+    /// `blank` is a new ledger of `MAX_LICENCES` parts, made by `Blank::new`, and `L` its name.
     pub fn new(blank: Blank, total: u32) -> LicenceBook<L>
         requires name { blank.name ≡ L.name }
-        requires parts { (blank.parts ≡ L.parts) × (L.parts ≡ MOST_LICENCES) }
-        requires total { total ≤ MOST_LICENCES }
+        requires parts { (blank.parts ≡ L.parts) × (L.parts ≡ MAX_LICENCES) }
+        requires total { total ≤ MAX_LICENCES }
         ensures free { result.free ≡ total }
         ensures total { result.total ≡ total }
     {
         LicenceBook {
             free: total,
             total,
-            stake: Stake::whole(blank),
+            parts: LedgerParts::whole(blank),
         }
     }
 
-    /// How many licences nobody holds.
+    /// Tells how many licences nobody holds.
     pub fn free(&self) -> u32
         ensures free { result ≡ self.now.free }
         ensures most { result ≤ self.now.total }
@@ -58,15 +57,15 @@ impl<L: Ledger> LicenceBook<L> {
         self.free
     }
 
-    /// How many licences the book was made with.
+    /// Tells how many licences the book was made with.
     pub fn total(&self) -> u32
         ensures total { result ≡ self.now.total }
-        ensures most { result ≤ MOST_LICENCES }
+        ensures most { result ≤ MAX_LICENCES }
     {
         self.total
     }
 
-    /// One licence where one is free, else none.
+    /// Takes one licence where one is free, else none.
     pub fn take(&mut self) -> Licences<L>
         ensures taken { result ≡ min 1 self.old.free }
         ensures free { self.new.free + result ≡ self.old.free }
@@ -76,7 +75,7 @@ impl<L: Ledger> LicenceBook<L> {
             return Licences::none();
         }
         self.free -= 1;
-        Licences::on_stake(1, self.stake.split_one())
+        Licences::of_parts(1, self.parts.split_one())
     }
 
     /// Takes licences back. They are never more than are out.
@@ -86,8 +85,8 @@ impl<L: Ledger> LicenceBook<L> {
         ensures most { self.old.free + back ≤ self.old.total }
     {
         let count = back.count();
-        if let Some(stake) = back.into_stake() {
-            self.stake.merge(stake);
+        if let Some(parts) = back.into_parts() {
+            self.parts.merge(parts);
             self.free += count;
         }
     }
@@ -102,9 +101,9 @@ impl<L: Ledger> LicenceBook<L> {
         let LicenceBook {
             free,
             total: _,
-            stake,
+            parts,
         } = book;
-        stake.end();
+        parts.end();
         free
     }
 }

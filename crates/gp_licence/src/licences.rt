@@ -1,7 +1,8 @@
 //! Licences in somebody's hands.
 ghost use Rattle.std.specs.Prelude.{◌≡◌, ℕ, ◌+◌, ◌<◌, IfSome, IfNone};
 
-use crate::stake::Stake;
+use crate::ledger_parts::LedgerParts;
+use gp_linear::NeverDropped;
 use std::marker::Model;
 use std::mem;
 use std::sync::ledger::Ledger;
@@ -13,72 +14,74 @@ use std::sync::ledger::Ledger;
 /// licences of two books can't be brought together.
 pub struct Licences<L: Ledger> {
     count: u32,
-    stake: Option<Stake<L>>,
+    parts: Option<LedgerParts<L>>,
 }
+
+impl<L: Ledger> NeverDropped for Licences<L> {}
 
 impl<L: Ledger> Model for Licences<L> {
     ghost Value = { ℕ };
 
     ghost view = { λ l. l.count };
 
-    ghost invariant = { λ l. IfSome l.stake (λ s. s ≡ l.count) × IfNone l.stake (l.count ≡ 0) };
+    ghost invariant = { λ l. IfSome l.parts (λ p. p ≡ l.count) × IfNone l.parts (l.count ≡ 0) };
 }
 
 impl<L: Ledger> Licences<L> {
-    /// No licences, for any book.
+    /// Makes no licences, for any book.
     pub fn none() -> Licences<L>
         ensures { result ≡ 0 }
     {
         Licences {
             count: 0,
-            stake: None,
+            parts: None,
         }
     }
 
-    /// As many licences as the stake has parts.
-    pub(crate) fn on_stake(count: u32, stake: Stake<L>) -> Licences<L>
-        requires { stake ≡ count }
+    /// Makes as many licences as there are parts.
+    pub(crate) fn of_parts(count: u32, parts: LedgerParts<L>) -> Licences<L>
+        requires { parts ≡ count }
         ensures { result ≡ count }
     {
         Licences {
             count,
-            stake: Some(stake),
+            parts: Some(parts),
         }
     }
 
-    /// The parts of the ledger that these licences stand for.
-    pub(crate) fn into_stake(self) -> Option<Stake<L>>
-        ensures some { IfSome result (λ s. s ≡ self) }
+    /// Gives the parts of the ledger that stand for these licences.
+    pub(crate) fn into_parts(self) -> Option<LedgerParts<L>>
+        ensures some { IfSome result (λ p. p ≡ self) }
         ensures none { IfNone result (self ≡ 0) }
     {
-        let Licences { count: _, stake } = self;
-        stake
+        let Licences { count: _, parts } = self;
+        parts
     }
 
-    /// How many there are.
+    /// Tells how many there are.
     pub fn count(&self) -> u32
         ensures { result ≡ self.now }
     {
         self.count
     }
 
-    /// All of both.
+    /// Joins both, all of them.
     pub fn join(self, other: Licences<L>) -> Licences<L>
         ensures { result ≡ self + other }
     {
-        let Licences { count, stake } = self;
+        let Licences { count, parts } = self;
         let Licences {
             count: more,
-            stake: others,
+            parts: others,
         } = other;
-        match (stake, others) {
-            (None, stake) => Licences { count: more, stake },
-            (stake, None) => Licences { count, stake },
-            (Some(mut stake), Some(others)) => {
-                stake.merge(others);
+        match (parts, others) {
+            (None, parts) => Licences { count: more, parts },
+            (parts, None) => Licences { count, parts },
+            (Some(mut parts), Some(others)) => {
+                parts.merge(others);
                 Licences {
                     count: count + more,
-                    stake: Some(stake),
+                    parts: Some(parts),
                 }
             }
         }
@@ -92,7 +95,7 @@ impl<L: Ledger> Licences<L> {
         mem::replace(self, held.join(others)).drop_empty();
     }
 
-    /// One, and the rest.
+    /// Splits these into one and the rest.
     pub fn split_one(self) -> (Licences<L>, Licences<L>)
         requires { 0 < self }
         ensures one { result.0 ≡ 1 }
@@ -109,20 +112,20 @@ impl<L: Ledger> Licences<L> {
         ensures one { result ≡ 1 }
         ensures rest { self.new + 1 ≡ self.old }
     {
-        let Licences { count, stake } = self;
-        let Some(stake) = stake else {
+        let Licences { count, parts } = self;
+        let Some(parts) = parts else {
             unreachable!();
         };
         *count -= 1;
-        Licences::on_stake(1, stake.split_one())
+        Licences::of_parts(1, parts.split_one())
     }
 
     /// Ends a value that holds no licence.
     pub fn drop_empty(self)
         requires { self ≡ 0 }
     {
-        if let Some(stake) = self.into_stake() {
-            stake.end();
+        if let Some(parts) = self.into_parts() {
+            parts.end();
         }
     }
 }

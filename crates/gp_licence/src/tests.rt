@@ -1,7 +1,7 @@
 //! The generic code, once at a ledger of its own.
 ghost use Rattle.std.specs.Prelude.{◌≡◌};
 
-use crate::{LicenceBook, Licences, MOST_LICENCES};
+use crate::{LicenceBook, Licences, MAX_LICENCES};
 use std::marker::Brand;
 use std::sync::ledger::{Blank, Ledger};
 use std::test::Fail;
@@ -18,7 +18,7 @@ struct Seen {
 
 fn take_and_give_two<L: Ledger>(blank: Blank) -> Seen
     requires name { blank.name ≡ L.name }
-    requires parts { (blank.parts ≡ L.parts) × (L.parts ≡ MOST_LICENCES) }
+    requires parts { (blank.parts ≡ L.parts) × (L.parts ≡ MAX_LICENCES) }
 {
     let mut book = LicenceBook::<L>::new(blank, 2);
     let mut held = book.take();
@@ -41,7 +41,7 @@ fn take_and_give_two<L: Ledger>(blank: Blank) -> Seen
 
 #[test]
 fn last_licence_once(rt: HostRuntime) -> Result<(), Fail> {
-    let seen = take_and_give_two::<Brand>(Blank::new(4064));
+    let seen = take_and_give_two::<Brand>(Blank::new(u64::from(MAX_LICENCES)));
     let expected = Seen {
         first: 1,
         second: 2,

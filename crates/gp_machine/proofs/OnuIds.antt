@@ -16,7 +16,7 @@ use Rattle.gp_machine.specs.declared.config.PortConfig.{PortConfig}
 use Rattle.gp_machine.specs.declared.entry.Entry.{Entry}
 use Rattle.gp_machine.specs.declared.row.Row.{Row}
 use Rattle.gp_machine.specs.State.{PortState, Rows, HasRow, HasOnuId, opening_of, rows_of}
-use Rattle.gp_ploam.specs.Copies.{first_of}
+use Rattle.gp_volley.specs.Copies.{first_of}
 use Rattle.gp_machine.specs.Burst.{new_row}
 use Rattle.gp_machine.specs.Run.{Run, IsStep, entry_outcome}
 use Rattle.gp_machine.specs.Runs.{EveryStateIsSound}

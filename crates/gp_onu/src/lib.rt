@@ -1,4 +1,12 @@
 //! A simulated unit: the states O1 to O7 of an ONU (G.984.3, clause 10), and what it hears and answers.
+//!
+//! - `state.rt`: `State`, the public names of the states; `specs/State.antt` has the printed ones.
+//! - `stage.rt`: a state with exactly what the unit has in it. `specs/Stage.antt` reads it.
+//! - `unit.rt`: `Unit`, one small method for each message and each grant. `specs/Table.antt` is the unit table;
+//!   `specs/Frames.antt` has many frames, the count to the end of a state, and the limits that every unit keeps.
+//! - `laws.rt`: the law that a code heard twice is as one heard once.
+//!
+//! A new rule is a line of `unit_table` and a method.
 #![tactic(auto)]
 
 mod laws;

@@ -3,6 +3,7 @@ ghost use Rattle.std.specs.Option.{ForSome, option_map};
 ghost use Rattle.gp_ploam.specs.declared.message.Down.{Down};
 ghost use Rattle.gp_ploam.specs.Down.{ReadsDown};
 ghost use Rattle.gp_ploam.specs.Mask.{mask_value};
+ghost use Rattle.gp_ploam.specs.OnuIds.{last_onu};
 ghost use Rattle.gp_ploam.specs.Row.{HasRightCheck};
 ghost use Rattle.gp_ploam.specs.Up.{IsProperUp, code_of_up};
 ghost use Rattle.gp_ranging.specs.declared.grant.Grant.TheVariants.{Poll, Range, Search};
@@ -12,7 +13,9 @@ ghost use Rattle.gp_onu.specs.Table.{Dark, Frame, Granted, Hears, Light, answer_
 
 use super::stage::Stage;
 use super::state::State;
-use gp_ploam::{ASSIGN_ALLOC_ID, BROADCAST_ONU, Down, Mask, Serial, Up, decode_down, encode_up};
+use gp_ploam::{
+    ASSIGN_ALLOC_ID, BROADCAST_ONU, Down, LAST_ONU, Mask, Serial, Up, decode_down, encode_up,
+};
 use gp_ranging::Grant;
 use std::marker::Model;
 
@@ -21,9 +24,6 @@ const ACTIVATION_FRAMES: u32 = 80_000;
 
 /// How many frames of 125 microseconds O6 lasts: the timer TO2, 100 milliseconds (G.984.3, clause 10).
 const POPUP_FRAMES: u32 = 800;
-
-/// The greatest ONU-ID.
-const GREATEST_ONU: u8 = 253;
 
 /// A simulated unit.
 #[derive(Debug, Drop)]
@@ -48,7 +48,7 @@ impl Model for Unit {
 }
 
 impl Unit {
-    /// A unit in O1 that no light reaches. Its codes have their check octets under `mask`.
+    /// Makes a unit in O1 that no light reaches. Its codes have their check octets under `mask`.
     pub fn new(serial: Serial, mask: Mask) -> Unit
         ensures { result ≡ record { serial = serial; mask = mask; lit = false; stage = Stage.Initial } }
     {
@@ -60,29 +60,29 @@ impl Unit {
         }
     }
 
-    /// Which of the states O1 to O7 the unit is in.
+    /// Tells which of the states O1 to O7 the unit is in.
     pub fn state(&self) -> State
         ensures { result ≡ state_of self.now.stage }
     {
         self.stage.state()
     }
 
-    /// The ONU-ID, in O4, O5 and O6.
+    /// Gives the ONU-ID, in O4, O5 and O6.
     pub fn number(&self) -> Option<u8>
         ensures value { result ≡ onu_id_of self.now.stage }
-        ensures low { IfSome result (λ onu. onu ≤ 253) }
+        ensures low { IfSome result (λ onu. onu ≤ last_onu) }
     {
         self.stage.number()
     }
 
-    /// The equalization delay in bit times, in O5 and O6.
+    /// Gives the equalization delay in bit times, in O5 and O6.
     pub fn eqd(&self) -> Option<u32>
         ensures { result ≡ eqd_of self.now.stage }
     {
         self.stage.eqd()
     }
 
-    /// Light reaches the unit.
+    /// Lets light reach the unit.
     pub fn light(&mut self)
         ensures { self.new ≡ unit_after self.old Light }
     {
@@ -92,7 +92,7 @@ impl Unit {
         }
     }
 
-    /// The light is lost.
+    /// Takes the light away.
     pub fn dark(&mut self)
         ensures { self.new ≡ unit_after self.old Dark }
     {
@@ -109,7 +109,7 @@ impl Unit {
         };
     }
 
-    /// A frame ends.
+    /// Ends a frame.
     pub fn frame(&mut self)
         ensures { self.new ≡ unit_after self.old Frame }
     {
@@ -123,7 +123,7 @@ impl Unit {
         };
     }
 
-    /// How many frames there are up to and with the one that ends the unit's state, if nothing else happens: 1 in O1
+    /// Counts the frames up to and with the one that ends the unit's state, if nothing else happens: 1 in O1
     /// where light reaches it, up to 80,000 in O3 and O4, up to 800 in O6. None where no frame ends it.
     pub fn ends_in(&self) -> Option<u32>
         ensures value { result ≡ frames_left self.now }
@@ -139,7 +139,7 @@ impl Unit {
         }
     }
 
-    /// `frames` frames end, none of which ends the unit's state.
+    /// Ends `frames` frames, none of which ends the unit's state.
     pub fn skip(&mut self, frames: u32)
         requires { ForSome (frames_left self.old) (λ left. frames < left) }
         ensures { self.new ≡ unit_after_frames frames self.old }
@@ -147,7 +147,7 @@ impl Unit {
         self.stage = self.stage.with_more_frames(frames);
     }
 
-    /// The unit hears a code. One with a wrong check octet changes nothing.
+    /// Lets the unit hear a code. One with a wrong check octet changes nothing.
     pub fn hear(&mut self, code: &[u8; 13])
         ensures read { (m : Down) → ReadsDown code.now (mask_value self.old.mask) m → self.new ≡ unit_after self.old (Hears code.now m) }
         ensures unread { ¬ HasRightCheck code.now (mask_value self.old.mask) → self.new ≡ self.old }
@@ -172,7 +172,7 @@ impl Unit {
             Down::DisableSerial { serial } => self.handle_disabling(&serial),
             Down::EnableSerial { serial } => self.handle_enabling(&serial),
             Down::EnableAll => self.handle_enabling_of_all(),
-            Down::AssignAlloc { onu, .. } => self.handle_alloc(onu, front_of(code)),
+            Down::AssignAlloc { onu, .. } => self.handle_alloc(onu, prefix_of(code)),
             Down::Popup { onu } => self.handle_popup(onu),
             Down::NoMessage => {}
             Down::Other { .. } => {}
@@ -193,7 +193,7 @@ impl Unit {
         ensures { (code : List ℕ) → self.new ≡ unit_after self.old (Hears code (Down.AssignOnu onu serial.now)) }
     {
         match self.stage {
-            Stage::SerialNumber { frames } if *serial == self.serial && onu <= GREATEST_ONU => {
+            Stage::SerialNumber { frames } if *serial == self.serial && onu <= LAST_ONU => {
                 self.stage = Stage::Ranging { onu, frames };
             }
             _ => {}
@@ -259,16 +259,16 @@ impl Unit {
         }
     }
 
-    fn handle_alloc(&mut self, onu: u8, front: [u8; 9])
+    fn handle_alloc(&mut self, onu: u8, prefix: [u8; 9])
         requires { IsTrue self.old.lit }
-        ensures { (code : List ℕ) (alloc : ℕ) (keep : Bool) → front ≡ take 9 code → self.new ≡ unit_after self.old (Hears code (Down.AssignAlloc onu alloc keep)) }
+        ensures { (code : List ℕ) (alloc : ℕ) (keep : Bool) → prefix ≡ take 9 code → self.new ≡ unit_after self.old (Hears code (Down.AssignAlloc onu alloc keep)) }
     {
         match self.stage {
             Stage::Operation { onu: own, eqd, .. } if own == onu => {
                 self.stage = Stage::Operation {
                     onu,
                     eqd,
-                    owed: Some(front),
+                    owed: Some(prefix),
                 };
             }
             _ => {}
@@ -298,7 +298,7 @@ impl Unit {
         }
     }
 
-    /// The code of the unit's answer to a grant, if it answers. `random`, 0 to 4095, is its random delay under a
+    /// Gives the code of the unit's answer to a grant, if it answers. `random`, 0 to 4095, is its random delay under a
     /// serial number request, in units of 32 bytes; other grants don't look at it.
     pub fn grant(&mut self, grant: Grant, random: u16) -> Option<[u8; 13]>
         requires { random ≤ 4095 }
@@ -394,11 +394,11 @@ impl Unit {
     }
 }
 
-/// The first nine octets of a code.
-fn front_of(code: &[u8; 13]) -> [u8; 9]
+/// Gives the first nine octets of a code.
+fn prefix_of(code: &[u8; 13]) -> [u8; 9]
     ensures { result ≡ take 9 code.now }
 {
-    let mut front = [0; 9];
-    front.copy_from_slice(&code[..9]);
-    front
+    let mut prefix = [0; 9];
+    prefix.copy_from_slice(&code[..9]);
+    prefix
 }

@@ -59,12 +59,12 @@ serial_at onu random flags serial bs f h =
     let rest = drop 2 bs in
     let first : get_or bs 0 0 ≡ onu = octet_at m bs 0 h in
     let part = agrees-split serial.0 rest ends (agrees_after 2 (up_row m) bs h) in
-    let front : take 8 (drop 2 bs) ≡ serial.0 = subst (λ (k : ℕ). take k rest ≡ serial.0) f.0 part.front in
+    let prefix : take 8 (drop 2 bs) ≡ serial.0 = subst (λ (k : ℕ). take k rest ≡ serial.0) f.0 part.prefix in
     let back : Agrees ends (drop 8 rest) = subst (λ (k : ℕ). Agrees ends (drop k rest)) f.0 part.back in
     let both = delay_and_flags random flags (get_or (drop 8 rest) 0 0) (get_or (drop 8 rest) 1 0) f.2 (agrees_at ends (drop 8 rest) 0 back) (agrees_at ends (drop 8 rest) 1 back) in
     let delay : get_or (drop 8 (drop 2 bs)) 0 0 * 16 + get_or (drop 8 (drop 2 bs)) 1 0 / 16 ≡ random = both.0 in
     let low : get_or (drop 8 (drop 2 bs)) 1 0 % 16 ≡ flags = both.1 in
-    rw (first, front, delay, low) refl
+    rw (first, prefix, delay, low) refl
 
 -- what agrees with a named row is that row's message
 named_at : (m : Up) (bs : List ℕ) → IsNamedUp m → IsFittingUp m → Agrees (up_row m) bs → message_at bs ≡ m

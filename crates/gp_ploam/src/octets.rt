@@ -1,10 +1,11 @@
 ghost use Rattle.std.specs.Prelude.{◌≡◌, ◌∷◌, ◌++◌, [], drop, length, map, take};
+ghost use Rattle.gp_ploam.specs.OnuIds.{broadcast_onu};
 ghost use Rattle.gp_ploam.specs.Row.{written};
 ghost use Rattle.gp_ploam.specs.Row.Cell.{Free, Is};
 
 use super::message::{BROADCAST_ONU, Serial};
 
-/// A row that is spelled out: octet 1, the identifier, and ten octets.
+/// Writes a row that is spelled out: octet 1, the identifier, and ten octets.
 #[inline]
 pub fn with_body(octet1: u8, id: u8, body: [u8; 10]) -> [u8; 12]
     ensures { result ≡ written (Is octet1 ∷ Is id ∷ map Is body) }
@@ -14,17 +15,17 @@ pub fn with_body(octet1: u8, id: u8, body: [u8; 10]) -> [u8; 12]
     octets
 }
 
-/// A row for every unit, with a serial number from octet 4 on.
+/// Writes a row for every unit, with a serial number from octet 4 on.
 #[inline]
 pub fn with_serial(id: u8, octet3: u8, serial: Serial) -> [u8; 12]
-    ensures { result ≡ written (Is 255 ∷ Is id ∷ Is octet3 ∷ map Is serial.0 ++ Free 0 ∷ []) }
+    ensures { result ≡ written (Is broadcast_onu ∷ Is id ∷ Is octet3 ∷ map Is serial.0 ++ Free 0 ∷ []) }
 {
     let mut octets = [BROADCAST_ONU, id, octet3, 0, 0, 0, 0, 0, 0, 0, 0, 0];
     octets[3..11].copy_from_slice(&serial.0);
     octets
 }
 
-/// Octets 3 to 12.
+/// Gives octets 3 to 12.
 #[inline]
 pub fn body_of(octets: &[u8; 12]) -> [u8; 10]
     ensures { result ≡ drop 2 octets.now }
@@ -34,7 +35,7 @@ pub fn body_of(octets: &[u8; 12]) -> [u8; 10]
     body
 }
 
-/// The serial number from octet 4 on.
+/// Gives the serial number from octet 4 on.
 #[inline]
 pub fn serial_in(octets: &[u8; 12]) -> Serial
     ensures { result.0 ≡ take 8 (drop 3 octets.now) }

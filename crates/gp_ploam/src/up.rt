@@ -9,7 +9,7 @@ use super::identifier::up as identifier;
 use super::message::{PloamFault, Serial, Up};
 use super::octets::{body_of, with_body};
 
-/// The first twelve octets of a message's code.
+/// Writes the first twelve octets of a message's code.
 fn up_octets(message: &Up) -> [u8; 12]
     requires { IsFittingUp message.now }
     ensures { result ≡ written (up_row message.now) }
@@ -35,7 +35,7 @@ fn up_octets(message: &Up) -> [u8; 12]
     }
 }
 
-/// Octets 3 to 12 of Serial_Number_ONU.
+/// Writes octets 3 to 12 of Serial_Number_ONU.
 fn serial_number_body(serial: Serial, random: u16, flags: u8) -> [u8; 10]
     requires random { random ≤ 4095 }
     requires flags { flags ≤ 15 }
@@ -48,7 +48,7 @@ fn serial_number_body(serial: Serial, random: u16, flags: u8) -> [u8; 10]
     body
 }
 
-/// The named message that twelve octets stand for.
+/// Reads the named message that twelve octets stand for.
 fn named_from(octets: &[u8; 12]) -> Option<Up>
     ensures named { IfSome result IsNamedUp }
     ensures fitting { IfSome result IsFittingUp }
@@ -75,7 +75,7 @@ fn named_from(octets: &[u8; 12]) -> Option<Up>
     Some(message)
 }
 
-/// The serial number from octet 3 on.
+/// Reads the serial number from octet 3 on.
 fn serial_in(octets: &[u8; 12]) -> Serial
     ensures { result.0 ≡ take 8 (drop 2 octets.now) }
 {
@@ -84,7 +84,7 @@ fn serial_in(octets: &[u8; 12]) -> Serial
     Serial(serial)
 }
 
-/// Octets 4 to 12, what an Acknowledge copies.
+/// Reads octets 4 to 12, what an Acknowledge copies.
 fn copy_in(octets: &[u8; 12]) -> [u8; 9]
     ensures { result ≡ drop 3 octets.now }
 {
@@ -93,7 +93,7 @@ fn copy_in(octets: &[u8; 12]) -> [u8; 9]
     copy
 }
 
-/// The message that twelve octets stand for.
+/// Reads the message that twelve octets stand for.
 fn up_from(octets: &[u8; 12]) -> Up
     ensures proper { IsProperUp result }
     ensures row { Agrees (up_row result) octets.now }
@@ -108,7 +108,7 @@ fn up_from(octets: &[u8; 12]) -> Up
     }
 }
 
-/// Whether the message is the one that its own code stands for: `random` is at
+/// Tells whether the message is the one that its own code stands for: `random` is at
 /// most 4095, `flags` at most 15, and an `Other` has the octets of no named
 /// message.
 pub fn is_proper_up(message: &Up) -> bool
@@ -117,6 +117,7 @@ pub fn is_proper_up(message: &Up) -> bool
     stands_for_itself(*message)
 }
 
+/// Tells the same of a message by value.
 fn stands_for_itself(message: Up) -> bool
     ensures { IsTrue result ↔ IsProperUp message }
 {
@@ -127,7 +128,7 @@ fn stands_for_itself(message: Up) -> bool
     }
 }
 
-/// The code of a message, with its check octet.
+/// Writes the code of a message, with its check octet.
 pub fn encode_up(message: &Up, mask: Mask) -> [u8; 13]
     requires { IsProperUp message.now }
     ensures { result ≡ code_of_up message.now (mask_value mask) }
@@ -135,7 +136,7 @@ pub fn encode_up(message: &Up, mask: Mask) -> [u8; 13]
     sealed(up_octets(message), mask)
 }
 
-/// The message that a code is read as. Octets that its row leaves free are not
+/// Reads the message of a code. Octets that its row leaves free are not
 /// looked at, and a code of no named row is an `Other`.
 pub fn decode_up(code: &[u8], mask: Mask) -> Result<Up, PloamFault>
     ensures read { IfOk result (ReadsUp code.now (mask_value mask)) }
@@ -147,12 +148,12 @@ pub fn decode_up(code: &[u8], mask: Mask) -> Result<Up, PloamFault>
     Ok(up_from(checked(code, mask)?))
 }
 
-/// What is encoded is read back as it was.
+/// States that what is encoded is read back as it was.
 pub fn up_round_trip()
     ensures { (m : Up) (mask : ℕ) → IsProperUp m → ReadsUp (code_of_up m mask) mask m }
 {}
 
-/// A code is read as one message at most.
+/// States that a code is read as one message at most.
 pub fn up_read_once()
     ensures { (code : List ℕ) (mask : ℕ) (m n : Up) →
         ReadsUp code mask m → ReadsUp code mask n → m ≡ n }

@@ -1,7 +1,7 @@
 ghost use Rattle.std.specs.Prelude.{◌≡◌, []};
 ghost use Rattle.std.specs.Option.{ForSome};
 ghost use Rattle.gp_ploam.specs.declared.message.Down.TheVariants as down;
-ghost use Rattle.gp_ploam.specs.Copies.{first_of};
+ghost use Rattle.gp_volley.specs.Copies.{first_of};
 ghost use Rattle.gp_ploam.specs.Down.{IsProperDown};
 ghost use Rattle.gp_machine.specs.State.{IsLeastRanging};
 ghost use Rattle.gp_machine.specs.Sound.{IsSound};

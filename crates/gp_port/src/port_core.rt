@@ -1,7 +1,7 @@
 ghost use Rattle.std.specs.Prelude.{◌≡◌, ◌+◌, ◌≤◌, false, true, [], length, IfOk, IsErrOf, IsTrue, ◌↔◌};
 ghost use Rattle.std.specs.FinMap as map;
 ghost use Rattle.std.specs.Option.{ForSome};
-ghost use Rattle.gp_ploam.specs.Copies.{most_copies};
+ghost use Rattle.gp_volley.specs.Copies.{max_copies};
 ghost use Rattle.gp_ploam.specs.Down.{IsProperDown};
 ghost use Rattle.gp_machine.specs.Config.{is_within_limits};
 ghost use Rattle.gp_machine.specs.State.{opening_of, rows_of};
@@ -122,7 +122,7 @@ impl<L: Ledger> PortCore<L> {
     /// How many copies of messages are still to be sent, one with each frame.
     pub fn owed(&self) -> usize
         ensures owed { result ≡ length self.now.owed }
-        ensures most { result ≤ most_copies }
+        ensures most { result ≤ max_copies }
     {
         self.owed.len()
     }

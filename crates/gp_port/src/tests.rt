@@ -2,7 +2,7 @@
 ghost use Rattle.std.specs.Prelude.{◌≡◌, ◌≤◌};
 
 use super::{OpenFault, PortCore};
-use gp_licence::{LicenceBook, Licences, MOST_LICENCES};
+use gp_licence::{LicenceBook, Licences, MAX_LICENCES};
 use gp_machine::{Admitted, Answer, Command, Event, PortConfig, Refusal, Reply};
 use gp_ploam::{Down, Mask, Serial, Up, encode_up};
 use gp_ranging::Grant;
@@ -76,7 +76,7 @@ fn first_surprise<L: Ledger>(
     steps: &[(Event, Answer)],
 ) -> Result<Option<usize>, OpenFault>
     requires name { blank.name ≡ L.name }
-    requires parts { (blank.parts ≡ L.parts) × (L.parts ≡ MOST_LICENCES) }
+    requires parts { (blank.parts ≡ L.parts) × (L.parts ≡ MAX_LICENCES) }
 {
     let mut port = PortCore::<L>::begin(alloc, config)?;
     let mut book = LicenceBook::<L>::new(blank, 2);
@@ -101,7 +101,7 @@ fn surprise_after(
 ) -> Result<Option<usize>, OpenFault> {
     first_surprise::<Brand>(
         alloc,
-        Blank::new(u64::from(MOST_LICENCES)),
+        Blank::new(u64::from(MAX_LICENCES)),
         config,
         before,
         steps,
@@ -388,8 +388,8 @@ fn replies_in_search<L: Ledger>(
     serials: &[Serial],
 ) -> Result<Vec<Reply>, OpenFault>
     requires name { blank.name ≡ L.name }
-    requires parts { (blank.parts ≡ L.parts) × (L.parts ≡ MOST_LICENCES) }
-    requires few { licences ≤ MOST_LICENCES }
+    requires parts { (blank.parts ≡ L.parts) × (L.parts ≡ MAX_LICENCES) }
+    requires few { licences ≤ MAX_LICENCES }
 {
     let mut replies = Vec::with_capacity(alloc, serials.len())?;
     let mut port = PortCore::<L>::begin(alloc, config)?;
@@ -413,9 +413,9 @@ fn replies_with(
     config: &PortConfig,
     serials: &[Serial],
 ) -> Result<Vec<Reply>, OpenFault>
-    requires { licences ≤ MOST_LICENCES }
+    requires { licences ≤ MAX_LICENCES }
 {
-    let blank = Blank::new(u64::from(MOST_LICENCES));
+    let blank = Blank::new(u64::from(MAX_LICENCES));
     replies_in_search::<Brand>(alloc, blank, licences, config, serials)
 }
 
@@ -437,7 +437,7 @@ fn no_licence(rt: HostRuntime) -> Result<(), Fail> {
 fn full_queue(rt: HostRuntime) -> Result<(), Fail> {
     let serials = numbered(rt.alloc(), 65)?;
     let config = config_of(serials.as_slice().to_vec(rt.alloc())?);
-    let replies = replies_with(rt.alloc(), MOST_LICENCES, &config, serials.as_slice())?;
+    let replies = replies_with(rt.alloc(), MAX_LICENCES, &config, serials.as_slice())?;
     for (place, reply) in replies.iter().enumerate() {
         let expected = if place < 63 {
             Reply::Found(place as u8)

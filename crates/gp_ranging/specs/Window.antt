@@ -2,15 +2,19 @@
 use Rattle.std.specs.Prelude.{ℕ, ◌-◌, ◌==◌, if◌then◌else◌, Bool, true, false, Option, None, Some}
 use Rattle.gp_ranging.specs.declared.grant.Grant.{Grant}
 
+-- for how many frames a window stays open
+abbrev pub window_frames : ℕ
+window_frames = 3
+
 -- who was asked, for how many frames the window is still open, and whether anything was seen in it
 pub record WindowState : Type 0 where
   pub grant : Grant
   pub left : ℕ
   pub seen : Bool
 
--- a window is open for three frames, and at first nothing was seen
+-- a window stays open for all its frames, and at first nothing was seen
 abbrev pub fresh_window : Grant → WindowState
-fresh_window grant = record { grant = grant; left = 3; seen = false }
+fresh_window grant = record { grant = grant; left = window_frames; seen = false }
 
 -- the window once something was seen
 abbrev pub marked_window : WindowState → WindowState

@@ -1,7 +1,7 @@
 ghost use Rattle.std.specs.Prelude.{◌≡◌};
 ghost use Rattle.gp_ranging.specs.Delay.{equalization_delay};
 
-/// The equalization delay of a unit, in bit times: what is left of the equalized round-trip delay
+/// Computes the equalization delay of a unit, in bit times: what is left of the equalized round-trip delay
 /// `teqd` after the measured round-trip delay `rtd` (G.984.3, clause 10). None for a unit that is
 /// farther away than `teqd` allows.
 pub fn equalize(teqd: u32, rtd: u32) -> Option<u32>

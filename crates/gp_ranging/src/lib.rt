@@ -1,4 +1,11 @@
 //! Equalization delays, and the windows in which units answer (G.984.3, clause 10).
+//!
+//! - `delay.rt`: `equalize`; `specs/Delay.antt` says which delay it is.
+//! - `grant.rt`: `Grant`, who is asked to answer.
+//! - `window.rt`: `Window`, what becomes of one with a frame (`Ticked`), and `WINDOW_FRAMES`. `specs/Window.antt`
+//!   has a window as contracts see it, and what each call makes of it.
+//!
+//! Another number of frames is a change of `WINDOW_FRAMES` and of `window_frames` in `specs/Window.antt`.
 #![tactic(auto)]
 
 mod delay;
@@ -7,4 +14,4 @@ mod window;
 
 pub use delay::equalize;
 pub use grant::Grant;
-pub use window::{Ticked, Window};
+pub use window::{Ticked, WINDOW_FRAMES, Window};

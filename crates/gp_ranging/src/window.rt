@@ -1,13 +1,14 @@
 ghost use Rattle.std.specs.Prelude.{◌≡◌, ◌≤◌, MatchOption};
-ghost use Rattle.gp_ranging.specs.Window.{fresh_window, marked_window, window_after_frame};
+ghost use Rattle.gp_ranging.specs.Window.{fresh_window, marked_window, window_after_frame, window_frames};
 
 use super::grant::Grant;
+use gp_linear::NeverDropped;
 use std::marker::Model;
 
-/// How many frames a window stays open.
-const FRAMES: u8 = 3;
+/// How many frames a window stays open (this profile's own rule).
+pub const WINDOW_FRAMES: u8 = 3;
 
-/// A window: three frames in which answers to a grant may arrive. It is no `Drop`, so that each
+/// A window: `WINDOW_FRAMES` frames in which answers to a grant may arrive. It is no `Drop`, so that each
 /// window is ended by its last frame or closed.
 pub struct Window {
     grant: Grant,
@@ -15,23 +16,17 @@ pub struct Window {
     seen: bool,
 }
 
-/// For a type that is ended by its own calls: with a `Drop` it would have this trait by both impls, and not compile.
-/// Each crate with such types has this trait for itself, since none of those crates stands on another.
-trait NeverDropped {}
-
-impl<T: Drop> NeverDropped for T {}
-
 impl NeverDropped for Window {}
 
 impl Model for Window {
     ghost use Rattle.std.specs.Prelude.{◌≤◌};
-    ghost use Rattle.gp_ranging.specs.Window.{WindowState};
+    ghost use Rattle.gp_ranging.specs.Window.{WindowState, window_frames};
 
     ghost Value = { WindowState };
 
     ghost view = { λ w. record { grant = w.grant; left = w.left; seen = w.seen } };
 
-    ghost invariant = { λ w. (1 ≤ w.left) × (w.left ≤ 3) };
+    ghost invariant = { λ w. (1 ≤ w.left) × (w.left ≤ window_frames) };
 }
 
 /// What is left of a window after a frame.
@@ -49,28 +44,28 @@ impl Window {
     {
         Window {
             grant,
-            left: FRAMES,
+            left: WINDOW_FRAMES,
             seen: false,
         }
     }
 
-    /// Who was asked.
+    /// Tells who was asked.
     pub fn grant(&self) -> Grant
         ensures { result ≡ self.now.grant }
     {
         self.grant
     }
 
-    /// How many frames the window is still open, 1 to 3.
+    /// Tells how many frames the window is still open, 1 to 3.
     pub fn left(&self) -> u8
         ensures left { result ≡ self.now.left }
         ensures open { 1 ≤ result }
-        ensures at_most { result ≤ 3 }
+        ensures at_most { result ≤ window_frames }
     {
         self.left
     }
 
-    /// Whether anything was seen in the window that did not close it.
+    /// Tells whether anything was seen in the window that did not close it.
     pub fn seen(&self) -> bool
         ensures { result ≡ self.now.seen }
     {
@@ -84,7 +79,7 @@ impl Window {
         self.seen = true;
     }
 
-    /// A frame goes by. The window ends with its third.
+    /// Counts a frame that goes by. The window ends with its third.
     pub fn tick(self) -> Ticked
         ensures { MatchOption (window_after_frame self) (result ≡ Ticked.Ended self.grant self.seen) (λ next. result ≡ Ticked.Still next) }
     {
@@ -100,7 +95,7 @@ impl Window {
         }
     }
 
-    /// Closes the window before its end: its grant, and whether anything was seen in it.
+    /// Closes the window before its end, and gives its grant and whether anything was seen in it.
     pub fn close(self) -> (Grant, bool)
         ensures grant { result.0 ≡ self.grant }
         ensures seen { result.1 ≡ self.seen }

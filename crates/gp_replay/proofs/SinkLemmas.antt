@@ -2,7 +2,7 @@
 use Rattle.std.proofs.Common.{◌≡◌, List, ℕ, [], ◌++◌, refl, sym, ap, ◌∙◌, append_assoc}
 use Rattle.std.proofs.lemmas.List.{append-nil}
 use Rattle.std.proofs.KnownBytes.{Appends-nil, Appends-trans}
-use Rattle.gp_stream.specs.Sink.{SinkState, Takes, TakesFront}
+use Rattle.gp_stream.specs.Sink.{SinkState, Takes, TakesPrefix}
 
 split_more : (gathered xs written between ys after rest : List ℕ) → gathered ++ xs ≡ written ++ between → between ++ ys ≡ after ++ rest
     → gathered ++ (xs ++ ys) ≡ (written ++ after) ++ rest
@@ -23,11 +23,11 @@ takes_more a b c xs ys p q = record {
 }
 
 -- nothing of some bytes
-pub takes_front_of_any : (a : SinkState) (xs : List ℕ) → TakesFront a a xs
+pub takes_front_of_any : (a : SinkState) (xs : List ℕ) → TakesPrefix a a xs
 takes_front_of_any a xs = record { written = []; unwritten = a.gathered ++ xs; appended = Appends-nil a.held; rest = refl }
 
 -- bytes, and then a front of more
-pub takes_front_after : (a b c : SinkState) (xs ys : List ℕ) → Takes a b xs → TakesFront b c ys → TakesFront a c (xs ++ ys)
+pub takes_front_after : (a b c : SinkState) (xs ys : List ℕ) → Takes a b xs → TakesPrefix b c ys → TakesPrefix a c (xs ++ ys)
 takes_front_after a b c xs ys p q = record {
   written = p.written ++ q.written;
   unwritten = q.unwritten;

@@ -6,7 +6,7 @@ use Rattle.gp_ploam.specs.declared.check.Mask.{Mask}
 use Rattle.gp_machine.specs.declared.entry.Receipt.{Receipt}
 use Rattle.gp_script.specs.declared.script.ScriptEvent.{ScriptEvent}
 use Rattle.gp_script.specs.Script.{ScriptView}
-use Rattle.gp_stream.specs.Sink.{SinkState, Takes, TakesFront}
+use Rattle.gp_stream.specs.Sink.{SinkState, Takes, TakesPrefix}
 use Rattle.gp_trace.specs.Text.{line_of, trace_text}
 use Rattle.gp_replay.specs.declared.turn.Turn.{Turn}
 use Rattle.gp_replay.specs.Terminal.{TerminalState, opening_terminal}
@@ -49,7 +49,7 @@ pub front_nothing : (mask : Mask) (w : TerminalState) (ts : List Turn) (x : Sink
 front_nothing mask w ts x = record { done = []; left = ts; split = refl; receipts = []; new = w; taken = refl; lines = takes_front_of_any x [] }
 
 pub front_one : (mask : Mask) (old new : TerminalState) (turn : Turn) (receipt : Receipt) (x y : SinkState)
-    → TakesTurn old turn receipt new → TakesFront x y (line_of mask receipt) → WritesFront mask old (turn ∷ []) x y
+    → TakesTurn old turn receipt new → TakesPrefix x y (line_of mask receipt) → WritesFront mask old (turn ∷ []) x y
 front_one mask old new turn receipt x y h w = record {
   done = turn ∷ [];
   left = [];
@@ -74,7 +74,7 @@ front_on mask a b ts us left all x y z e p q = record {
 }
 
 -- all turns, and a front of what was gathered of them
-pub front_of_all : (mask : Mask) (a b : TerminalState) (ts : List Turn) (x y z : SinkState) → WritesTurns mask a ts b x y → TakesFront y z [] → WritesFront mask a ts x z
+pub front_of_all : (mask : Mask) (a b : TerminalState) (ts : List Turn) (x y z : SinkState) → WritesTurns mask a ts b x y → TakesPrefix y z [] → WritesFront mask a ts x z
 front_of_all mask a b ts x y z p w = record {
   done = ts;
   left = [];

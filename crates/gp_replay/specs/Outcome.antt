@@ -2,8 +2,8 @@
 use Rattle.std.specs.Prelude.{◌≡◌, ℕ, ◌≤◌, List, Result, Ok, length}
 use Rattle.gp_machine.specs.declared.entry.Receipt.{Receipt}
 use Rattle.gp_stream.specs.Source.{SourceState, ReadsWhole}
-use Rattle.gp_stream.specs.Sink.{SinkState, TakesFront}
-use Rattle.gp_stream.specs.declared.reading.TheConstants.{MOST_BYTES}
+use Rattle.gp_stream.specs.Sink.{SinkState, TakesPrefix}
+use Rattle.gp_stream.specs.declared.reading.TheConstants.{MAX_BYTES}
 use Rattle.gp_script.specs.declared.fault.ScriptFault.{ScriptFault}
 use Rattle.gp_script.specs.Script.{ScriptView, script_of}
 use Rattle.gp_trace.specs.Text.{trace_text}
@@ -15,7 +15,7 @@ use Rattle.gp_replay.specs.Writing.{WritesScript}
 pub record ReadsAs (before after : SourceState) (answer : Result ScriptView ScriptFault) : Type 0 where
   pub bytes : List ℕ
   pub read : ReadsWhole before after bytes
-  pub short : length bytes ≤ MOST_BYTES
+  pub short : length bytes ≤ MAX_BYTES
   pub says : script_of bytes ≡ answer
 
 -- the input says a script, which was played, and a writer that tells its bytes got the whole trace
@@ -31,4 +31,4 @@ pub record LeavesFront (before after : SourceState) (old new : SinkState) : Type
   pub input : ReadsAs before after (Ok script)
   pub receipts : List Receipt
   pub plays : PlaysFront script receipts
-  pub written : TakesFront old new (trace_text script.mask receipts)
+  pub written : TakesPrefix old new (trace_text script.mask receipts)

@@ -3,7 +3,7 @@ use Rattle.std.specs.Prelude.{◌≡◌, List, [], ◌++◌}
 use Rattle.std.specs.Io.KnownBytes.{Appends}
 use Rattle.gp_ploam.specs.declared.check.Mask.{Mask}
 use Rattle.gp_machine.specs.declared.entry.Receipt.{Receipt}
-use Rattle.gp_stream.specs.Sink.{SinkState, Takes, TakesFront}
+use Rattle.gp_stream.specs.Sink.{SinkState, Takes, TakesPrefix}
 use Rattle.gp_trace.specs.Text.{trace_text}
 use Rattle.gp_replay.specs.Terminal.{TerminalState}
 use Rattle.gp_script.specs.Script.{ScriptView}
@@ -24,7 +24,7 @@ pub record WritesFront (mask : Mask) (old : TerminalState) (turns : List Turn) (
   pub receipts : List Receipt
   pub new : TerminalState
   pub taken : TakesTurns old done receipts new
-  pub lines : TakesFront before after (trace_text mask receipts)
+  pub lines : TakesPrefix before after (trace_text mask receipts)
 
 -- the script was played, and the writer got all of what was gathered before and of the trace
 pub record WritesScript (script : ScriptView) (before after : SinkState) : Type 0 where

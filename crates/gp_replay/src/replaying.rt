@@ -14,9 +14,9 @@ use super::fault::{PlayFault, RunFault};
 use super::line_buffer::LineBuffer;
 use super::playing::play_events;
 use super::terminal::Terminal;
-use gp_licence::MOST_LICENCES;
+use gp_licence::MAX_LICENCES;
 use gp_script::Script;
-use gp_stream::{MOST_BYTES, Sink, Source};
+use gp_stream::{MAX_BYTES, Sink, Source};
 use std::alloc::Global;
 use std::io::{Read, Write};
 use std::marker::Brand;
@@ -30,7 +30,7 @@ fn play_on<L: Ledger, W: Write>(
     sink: &mut Sink<W>,
 ) -> Result<(), PlayFault>
     requires name { blank.name ≡ L.name }
-    requires parts { (blank.parts ≡ L.parts) × (L.parts ≡ MOST_LICENCES) }
+    requires parts { (blank.parts ≡ L.parts) × (L.parts ≡ MAX_LICENCES) }
     requires licences { script.now.licences ≤ most_licences }
     requires limits { All (λ port. IsTrue (is_within_limits port)) script.now.ports.items }
     requires ports { All (λ e. event_port e < length script.now.ports.items) script.now.events.items }
@@ -70,7 +70,7 @@ pub fn run_replay<R: Read, W: Write>(
 
     // When each fault comes.
     ensures read { result ≡ Err RunFault.Read → let now = source_state R.remaining source.new in (now.has_failed ≡ true) ⊎ (now.reads_left ≡ 0) }
-    ensures too_long { result ≡ Err RunFault.TooLong → ReadsTooMuch MOST_BYTES (source_state R.remaining source.old) (source_state R.remaining source.new) }
+    ensures too_long { result ≡ Err RunFault.TooLong → ReadsTooMuch MAX_BYTES (source_state R.remaining source.old) (source_state R.remaining source.new) }
     ensures script { (fault : AnyScriptFault) → result ≡ Err (RunFault.Script fault) → ReadsAs (source_state R.remaining source.old) (source_state R.remaining source.new) (Err fault) }
     ensures write { result ≡ Err RunFault.Write → has_stopped sink.new ≡ true }
     ensures refused { has_failed source.old ≡ true → (result ≡ Err RunFault.Read) × (source.new ≡ source.old) }
@@ -81,9 +81,9 @@ pub fn run_replay<R: Read, W: Write>(
     // fault are.
     ensures failed { let now = source_state R.remaining source.new in now.has_failed ≡ true → result ≡ Err RunFault.Read }
     ensures long { (input : List ℕ) → WasReadable (source_state R.remaining source.old) (source_state R.remaining source.new) input
-        → result ≢ Err RunFault.OutOfMemory → (MOST_BYTES < length input) ↔ (result ≡ Err RunFault.TooLong) }
+        → result ≢ Err RunFault.OutOfMemory → (MAX_BYTES < length input) ↔ (result ≡ Err RunFault.TooLong) }
     ensures faulty { (input : List ℕ) (fault : AnyScriptFault) → WasReadable (source_state R.remaining source.old) (source_state R.remaining source.new) input
-        → result ≢ Err RunFault.OutOfMemory → length input ≤ MOST_BYTES → (script_of input ≡ Err fault) ↔ (result ≡ Err (RunFault.Script fault)) }
+        → result ≢ Err RunFault.OutOfMemory → length input ≤ MAX_BYTES → (script_of input ≡ Err fault) ↔ (result ≡ Err (RunFault.Script fault)) }
 
     // What a fault leaves written.
     ensures untouched { IfErr result (λ fault. fault ≢ RunFault.Write → sink.new ≡ sink.old) }
@@ -91,6 +91,6 @@ pub fn run_replay<R: Read, W: Write>(
 {
     let bytes = gp_stream::read_all(alloc, source)?;
     let script = gp_script::read_script(alloc, bytes.as_slice())?;
-    play_on::<Brand, W>(alloc, Blank::new(u64::from(MOST_LICENCES)), &script, sink)?;
+    play_on::<Brand, W>(alloc, Blank::new(u64::from(MAX_LICENCES)), &script, sink)?;
     Ok(())
 }

@@ -9,7 +9,7 @@ ghost use Rattle.gp_replay.specs.Terminal.{HasRoom, licences_of, opened_port, op
 ghost use Rattle.gp_replay.specs.Play.{TakesTurn, purse_of};
 
 use super::turn::Turn;
-use gp_licence::{LicenceBook, Licences, MOST_LICENCES};
+use gp_licence::{LicenceBook, Licences, MAX_LICENCES};
 use gp_machine::{Entry, Event, PortConfig, Receipt};
 use gp_port::{OpenFault, PortCore};
 use gp_script::Script;
@@ -120,7 +120,7 @@ impl<L: Ledger> Terminal<L> {
         script: &Script,
     ) -> Result<Terminal<L>, AllocError>
         requires name { blank.name ≡ L.name }
-        requires parts { (blank.parts ≡ L.parts) × (L.parts ≡ MOST_LICENCES) }
+        requires parts { (blank.parts ≡ L.parts) × (L.parts ≡ MAX_LICENCES) }
         requires licences { script.now.licences ≤ most_licences }
         requires limits { All (λ port. IsTrue (is_within_limits port)) script.now.ports.items }
         ensures opened { IfOk result (λ t. t ≡ opening_terminal (script_view script.now)) }

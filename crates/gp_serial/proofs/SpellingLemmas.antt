@@ -34,8 +34,8 @@ fault_in (Err f) = f
 abbrev pub read_as : List ℕ → Read
 read_as octets = Ok (record { 0 = octets })
 
-pub drop_four : (front back : List ℕ) → length front ≡ 4 → drop 4 (front ++ back) ≡ back
-drop_four front back four = subst (λ (n : ℕ). drop n (front ++ back) ≡ back) four (drop-append_seam front back)
+pub drop_four : (prefix back : List ℕ) → length prefix ≡ 4 → drop 4 (prefix ++ back) ≡ back
+drop_four prefix back four = subst (λ (n : ℕ). drop n (prefix ++ back) ≡ back) four (drop-append_seam prefix back)
 
 -- ---- what is read, by the text's length
 
@@ -67,7 +67,7 @@ pub serial_of_text-Spells : (text : List ℕ) (serial : Serial) → Spells text 
 serial_of_text-Spells text serial (inl by) =
     read-by_vendor text by.long by.characters
     ∙ ap (serial_or_fault (take 4 text)) by.digits
-    ∙ ap read_as (ap (λ (front : List ℕ). front ++ drop 4 serial.0) by.vendor ∙ take-append-drop 4 serial.0)
+    ∙ ap read_as (ap (λ (prefix : List ℕ). prefix ++ drop 4 serial.0) by.vendor ∙ take-append-drop 4 serial.0)
 serial_of_text-Spells text serial (inr by) = read-by_digits text by.long ∙ ap (serial_or_fault []) by.digits
 
 -- a text is a spelling of what is read from it
@@ -157,10 +157,10 @@ HasFault-serial_of_text text f h =
 -- ---- the parts that the code reads
 
 -- a list of eight, each half written anew
-pub halves_written : (front back first second : List ℕ) → length front ≡ 4 → length back ≡ 4 → first ≡ front → second ≡ back → put_mid 4 4 (first ++ 0 ∷ 0 ∷ 0 ∷ 0 ∷ []) second ≡ front ++ back
-halves_written front back first second four four_more is_first is_second =
-    let eight : length (front ++ 0 ∷ 0 ∷ 0 ∷ 0 ∷ []) ≡ 8 = let len = length-append front (0 ∷ 0 ∷ 0 ∷ 0 ∷ []) in omega (arith, len, four) in
-    rw (is_first, is_second, take_at front (0 ∷ 0 ∷ 0 ∷ 0 ∷ []) 4 four, drop_four front (0 ∷ 0 ∷ 0 ∷ 0 ∷ []) four) (ap (λ (xs : List ℕ). front ++ xs) (append-nil back))
+pub halves_written : (prefix back first second : List ℕ) → length prefix ≡ 4 → length back ≡ 4 → first ≡ prefix → second ≡ back → put_mid 4 4 (first ++ 0 ∷ 0 ∷ 0 ∷ 0 ∷ []) second ≡ prefix ++ back
+halves_written prefix back first second four four_more is_first is_second =
+    let eight : length (prefix ++ 0 ∷ 0 ∷ 0 ∷ 0 ∷ []) ≡ 8 = let len = length-append prefix (0 ∷ 0 ∷ 0 ∷ 0 ∷ []) in omega (arith, len, four) in
+    rw (is_first, is_second, take_at prefix (0 ∷ 0 ∷ 0 ∷ 0 ∷ []) 4 four, drop_four prefix (0 ∷ 0 ∷ 0 ∷ 0 ∷ []) four) (ap (λ (xs : List ℕ). prefix ++ xs) (append-nil back))
 
 -- the octets of eight digits after a vendor code
 pub read-number : (text digits : List ℕ) (octets : Octets) → length text ≡ 12 → has_vendor_code text ≡ true → digits ≡ drop 4 text → octets ≡ decode_sized digits 4 → serial_of_text text ≡ serial_or_fault (take 4 text) octets

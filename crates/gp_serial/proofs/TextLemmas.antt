@@ -48,12 +48,12 @@ IsAscii-vendor vendor characters =
 
 -- ---- the text of a vendor code and digits, as it is written
 
-pub text_written : (vendor digits front : List ℕ) → length vendor ≡ 4 → length digits ≡ 8 → front ≡ vendor
-    → take 12 (put_mid 4 8 (front ++ 0 ∷ 0 ∷ 0 ∷ 0 ∷ 0 ∷ 0 ∷ 0 ∷ 0 ∷ 0 ∷ 0 ∷ 0 ∷ 0 ∷ []) digits) ≡ vendor ++ digits
-text_written vendor digits front four eight is_front =
+pub text_written : (vendor digits prefix : List ℕ) → length vendor ≡ 4 → length digits ≡ 8 → prefix ≡ vendor
+    → take 12 (put_mid 4 8 (prefix ++ 0 ∷ 0 ∷ 0 ∷ 0 ∷ 0 ∷ 0 ∷ 0 ∷ 0 ∷ 0 ∷ 0 ∷ 0 ∷ 0 ∷ []) digits) ≡ vendor ++ digits
+text_written vendor digits prefix four eight is_prefix =
     let zeros : List ℕ = 0 ∷ 0 ∷ 0 ∷ 0 ∷ 0 ∷ 0 ∷ 0 ∷ 0 ∷ 0 ∷ 0 ∷ 0 ∷ 0 ∷ [] in
     let long : length (vendor ++ digits) ≡ 12 = let len = length-append vendor digits in omega (arith, len, four, eight) in
-    rw (is_front, take_at vendor zeros 4 four, drop_four vendor zeros four, ← append_assoc vendor digits (0 ∷ 0 ∷ 0 ∷ 0 ∷ []))
+    rw (is_prefix, take_at vendor zeros 4 four, drop_four vendor zeros four, ← append_assoc vendor digits (0 ∷ 0 ∷ 0 ∷ 0 ∷ []))
     (take_at (vendor ++ digits) (0 ∷ 0 ∷ 0 ∷ 0 ∷ []) 12 long)
 
 -- ---- texts are spellings

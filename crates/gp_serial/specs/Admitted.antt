@@ -15,7 +15,11 @@ admission_on port = record { port = port; disabled = false }
 abbrev pub count_on : ℕ → Admissions → ℕ
 count_on port admissions = count_by (λ a. a.port == port) (values admissions)
 
--- these are the counts of all ports, none above 512
+-- how many serial numbers are admitted on one port at most
+abbrev pub max_on_a_port : ℕ
+max_on_a_port = 512
+
+-- these are the counts of all ports, none above the limit
 pub record AreCounts (admissions : Admissions) (counts : List ℕ) : Type 0 where
   pub counted : (port : ℕ) → port < 256 → slice_index counts port ≡ count_on port admissions
-  pub most : (port : ℕ) → port < 256 → slice_index counts port ≤ 512
+  pub most : (port : ℕ) → port < 256 → slice_index counts port ≤ max_on_a_port

@@ -9,13 +9,13 @@ use gp_ploam::Serial;
 use std::alloc::Global;
 use std::marker::Model;
 
-/// The most serial numbers that are admitted on one port.
-pub const MOST_ON_A_PORT: u16 = 512;
+/// The most serial numbers that are admitted on one port (this profile's own rule).
+pub const MAX_ON_A_PORT: u16 = 512;
 
 /// The admitted serial numbers. Contracts see them as a map from serial number to `Admission`.
 ///
 /// A call takes time by the logarithm of their number. A port is any `u8`. No serial number is
-/// admitted on two ports, and no port admits more than `MOST_ON_A_PORT`.
+/// admitted on two ports, and no port admits more than `MAX_ON_A_PORT`.
 #[derive(Drop)]
 pub struct AdmissionList {
     index: Index,
@@ -40,7 +40,7 @@ impl Model for AdmissionList {
 }
 
 impl AdmissionList {
-    /// None is admitted.
+    /// Makes a list on which none is admitted.
     pub fn new(alloc: Global) -> AdmissionList
         ensures { result ≡ map.empty }
     {
@@ -51,20 +51,20 @@ impl AdmissionList {
     }
 
     /// Admits a serial number on a port, not disabled. A refusal changes nothing: `Duplicate` where the serial
-    /// number is admitted already, on this port or another, else `Full` where the port has `MOST_ON_A_PORT`,
+    /// number is admitted already, on this port or another, else `Full` where the port has `MAX_ON_A_PORT`,
     /// else `OutOfMemory`.
     pub fn admit(&mut self, port: u8, serial: Serial) -> Result<(), AdmitFault>
         ensures ok { OnOk result (self.new ≡ map.insert self.old serial (admission_on port)) }
         ensures duplicate { (result ≡ Err AdmitFault.Duplicate) ↔ IsSome (map.get self.old serial) }
         ensures full { (result ≡ Err AdmitFault.Full)
-            ↔ ((map.get self.old serial ≡ None) × (count_on port self.old ≡ MOST_ON_A_PORT)) }
+            ↔ ((map.get self.old serial ≡ None) × (count_on port self.old ≡ MAX_ON_A_PORT)) }
         ensures err { OnErr result (self.new ≡ self.old) }
     {
         if self.index.get(&serial).is_some() {
             return Err(AdmitFault::Duplicate);
         }
         let count = self.admitted_on(port);
-        if count >= MOST_ON_A_PORT {
+        if count >= MAX_ON_A_PORT {
             return Err(AdmitFault::Full);
         }
         let admission = Admission {
@@ -76,22 +76,22 @@ impl AdmissionList {
         Ok(())
     }
 
-    /// How many serial numbers are admitted on a port.
+    /// Counts the serial numbers that are admitted on a port.
     pub fn admitted_on(&self, port: u8) -> u16
         ensures count { result ≡ count_on port self.now }
-        ensures most { result ≤ MOST_ON_A_PORT }
+        ensures most { result ≤ MAX_ON_A_PORT }
     {
         self.counts[usize::from(port)]
     }
 
-    /// The port that a serial number is admitted on.
+    /// Gives the port that a serial number is admitted on.
     pub fn port_of(&self, serial: &Serial) -> Option<u8>
         ensures { MatchOption (map.get self.now serial.now) (result ≡ None) (λ a. result ≡ Some a.port) }
     {
         self.index.get(serial).map(|admission| admission.port)
     }
 
-    /// Whether a serial number is admitted, and disabled.
+    /// Tells whether a serial number is admitted, and disabled.
     pub fn is_disabled(&self, serial: &Serial) -> bool
         ensures { MatchOption (map.get self.now serial.now) (result ≡ false) (λ a. result ≡ a.disabled) }
     {
@@ -110,7 +110,7 @@ impl AdmissionList {
     }
 }
 
-/// None on any port.
+/// Counts none on any port.
 fn no_counts() -> [u16; 256]
     ensures { (port : ℕ) → port < 256 → slice_index result port ≡ 0 }
 {

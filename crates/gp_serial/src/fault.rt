@@ -16,7 +16,7 @@ pub enum SerialFault {
     /// A character that is no hex digit, where one has to be.
     #[error("a serial number's octets are hex digits")]
     Digit,
-    /// No memory for a text. Reading one takes none.
+    /// Out of memory for a text. Reading one takes none.
     #[error("out of memory")]
     OutOfMemory,
 }
@@ -27,10 +27,10 @@ pub enum AdmitFault {
     /// It is admitted already, on this port or another.
     #[error("the serial number is admitted already")]
     Duplicate,
-    /// The port has 512 already.
+    /// The port has `MAX_ON_A_PORT` already.
     #[error("512 serial numbers are admitted on the port")]
     Full,
-    /// No memory for one more.
+    /// Out of memory for one more.
     #[error("out of memory")]
     OutOfMemory,
 }

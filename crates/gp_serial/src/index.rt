@@ -41,6 +41,7 @@ impl Model for Index {
 }
 
 impl Index {
+    /// Makes an empty map.
     pub(crate) fn new(alloc: Global) -> Index
         ensures { result ≡ map.empty }
     {
@@ -49,7 +50,7 @@ impl Index {
         }
     }
 
-    /// The admission of a serial number.
+    /// Gives the admission of a serial number.
     pub(crate) fn get(&self, serial: &Serial) -> Option<Admission>
         ensures { result ≡ map.get self.now serial.now }
     {

@@ -1,4 +1,11 @@
 //! Serial numbers as people write them, and the list of those that are admitted.
+//!
+//! - `reading.rt`: `parse_serial`, and the law that what is read is what is spelled.
+//! - `text.rt`: `SerialText` and the calls that write.
+//! - `admission.rt`: `AdmissionList`, its limit `MAX_ON_A_PORT` and the count of each port; it stands on `index.rt`,
+//!   the map itself (a `BTreeMap`). Another representation of the map changes `index.rt` alone.
+//! - `fault.rt`: both fault enums.
+//! - `specs/Spelling.antt`: what a spelling is. `specs/Admitted.antt`: what the list is, and its limit.
 #![tactic(auto)]
 
 mod admission;
@@ -9,7 +16,7 @@ mod reading;
 mod tests;
 mod text;
 
-pub use admission::{AdmissionList, MOST_ON_A_PORT};
+pub use admission::{AdmissionList, MAX_ON_A_PORT};
 pub use fault::{AdmitFault, SerialFault};
 pub use index::Admission;
 pub use reading::{parse_serial, spellings_are_read};

@@ -9,7 +9,7 @@ use crate::fault::SerialFault;
 use gp_ploam::Serial;
 use hex::FromHex;
 
-/// The serial number that a text spells: four characters A to Z or 0 to 9, and eight hex digits, or
+/// Reads the serial number that a text spells: four characters A to Z or 0 to 9, and eight hex digits, or
 /// sixteen hex digits. Hex digits stand in either case.
 pub fn parse_serial(text: &str) -> Result<Serial, SerialFault>
     ensures value { result ≡ serial_of_text text.now }
@@ -20,12 +20,13 @@ pub fn parse_serial(text: &str) -> Result<Serial, SerialFault>
     read(text.as_bytes())
 }
 
-/// What is read from a text is what it spells, and a text that spells nothing has one first fault.
+/// States that what is read from a text is what it spells, and that a text that spells nothing has one first fault.
 pub fn spellings_are_read()
     ensures spelling { (text : List ℕ) (serial : AnySerial) → (serial_of_text text ≡ Ok serial) ↔ Spells text serial }
     ensures fault { (text : List ℕ) (fault : AnyFault) → (serial_of_text text ≡ Err fault) ↔ HasFault text fault }
 {}
 
+/// Reads a text of either form, by its length.
 #[tactic(auto, unfolding(crate::specs::Spelling::serial_of_text))]
 fn read(text: &[u8]) -> Result<Serial, SerialFault>
     ensures { result ≡ serial_of_text text.now }
@@ -37,13 +38,14 @@ fn read(text: &[u8]) -> Result<Serial, SerialFault>
     }
 }
 
-/// Whether these octets can stand for themselves, as a vendor code.
+/// Tells whether these octets can stand for themselves, as a vendor code.
 pub(crate) fn is_vendor_code(octets: &[u8]) -> bool
     ensures { result ≡ list_all is_vendor_character octets.now }
 {
     octets.iter().all(|octet| octet.is_ascii_uppercase() || octet.is_ascii_digit())
 }
 
+/// Reads a vendor code and eight digits.
 #[tactic(auto, unfolding(crate::specs::Spelling::serial_of_text))]
 fn read_vendor_form(text: &[u8]) -> Result<Serial, SerialFault>
     requires { length text.now ≡ 12 }
@@ -59,7 +61,7 @@ fn read_vendor_form(text: &[u8]) -> Result<Serial, SerialFault>
     }
 }
 
-/// Four octets of a vendor code, then the vendor's own four.
+/// Joins four octets of a vendor code and the vendor's own four.
 fn joined(vendor: &[u8], number: &[u8; 4]) -> Serial
     requires { length vendor.now ≡ 4 }
     ensures { result.0 ≡ vendor.now ++ number.now }
@@ -70,6 +72,7 @@ fn joined(vendor: &[u8], number: &[u8; 4]) -> Serial
     Serial(octets)
 }
 
+/// Reads sixteen digits.
 #[tactic(auto, unfolding(crate::specs::Spelling::serial_of_text))]
 fn read_digits(text: &[u8]) -> Result<Serial, SerialFault>
     requires { length text.now ≡ 16 }

@@ -1,6 +1,6 @@
 //! Worked spellings, printed faults, and what only a run shows: that memory suffices, or is told.
 use crate::{
-    AdmissionList, AdmitFault, MOST_ON_A_PORT, SerialFault, SerialText, parse_serial,
+    AdmissionList, AdmitFault, MAX_ON_A_PORT, SerialFault, SerialText, parse_serial,
     push_serial_text, serial_text,
 };
 use gp_ploam::Serial;
@@ -58,7 +58,7 @@ fn a_full_port(rt: HostRuntime) {
     for number in 0..512u16 {
         assert_eq!(rt; list.admit(0, numbered(number)), Ok(()));
     }
-    assert_eq!(rt; list.admitted_on(0), MOST_ON_A_PORT);
+    assert_eq!(rt; list.admitted_on(0), MAX_ON_A_PORT);
     assert_eq!(rt; list.admit(0, numbered(512)), Err(AdmitFault::Full));
     assert_eq!(rt; list.admit(1, numbered(512)), Ok(()));
     assert_eq!(rt; list.port_of(&numbered(512)), Some(1));

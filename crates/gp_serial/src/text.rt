@@ -36,7 +36,7 @@ impl Model for SerialText {
 }
 
 impl SerialText {
-    /// The text of this serial number.
+    /// Makes the text of this serial number.
     #[tactic(auto, unfolding(crate::specs::Spelling::text_of_serial))]
     pub fn of(serial: &Serial) -> SerialText
         ensures { result ≡ text_of_serial serial.now }
@@ -49,7 +49,7 @@ impl SerialText {
         }
     }
 
-    /// A vendor code as it is, then four octets in digits.
+    /// Writes a vendor code as it is, then four octets in digits.
     fn of_vendor(vendor: &[u8], number: &[u8]) -> SerialText
         requires code { list_all is_vendor_character vendor.now ≡ true }
         requires vendor { length vendor.now ≡ 4 }
@@ -65,7 +65,7 @@ impl SerialText {
         }
     }
 
-    /// Eight octets in digits.
+    /// Writes eight octets in digits.
     fn of_digits(octets: &[u8; 8]) -> SerialText
         ensures { result ≡ encode_upper octets.now }
     {
@@ -77,7 +77,7 @@ impl SerialText {
         }
     }
 
-    /// Its characters, one octet each.
+    /// Gives its characters, one octet each.
     pub fn as_bytes(&self) -> &[u8]
         ensures characters { result.now ≡ self.now }
         ensures ascii { IsAscii result.now }
@@ -85,7 +85,7 @@ impl SerialText {
         &self.characters[..self.len]
     }
 
-    /// The same, as text.
+    /// Gives the same as text.
     pub fn as_str(&self) -> &str
         ensures { result.now ≡ self.now }
     {
@@ -113,7 +113,7 @@ fn write_digits(octets: &[u8], digits: &mut [u8])
     digits.make_ascii_uppercase();
 }
 
-/// The text of a serial number, as `SerialText` shows it. `OutOfMemory` is the only fault.
+/// Writes the text of a serial number, as `SerialText` shows it. `OutOfMemory` is the only fault.
 pub fn serial_text(alloc: Global, serial: &Serial) -> Result<String, SerialFault>
     ensures text { IfOk result (λ text. string_bytes text ≡ text_of_serial serial.now) }
     ensures read_back { IfOk result (λ text. serial_of_text (string_bytes text) ≡ Ok serial.now) }
@@ -123,8 +123,8 @@ pub fn serial_text(alloc: Global, serial: &Serial) -> Result<String, SerialFault
     Ok(String::from_str(alloc, SerialText::of(serial).as_str())?)
 }
 
-/// Appends the text of a serial number to these octets, and changes nothing where memory is short,
-/// which it can't be where there is room for the text. The room never gets less.
+/// Appends the text of a serial number to these octets, and changes nothing where it is out of memory,
+/// which doesn't happen where there is room for the text. The room never gets less.
 pub fn push_serial_text(out: &mut Vec<u8>, serial: &Serial) -> Result<(), AllocError>
     ensures ok { OnOk result (out.new.items ≡ out.old.items ++ text_of_serial serial.now) }
     ensures err { OnErr result (out.new.items ≡ out.old.items) }
@@ -134,7 +134,7 @@ pub fn push_serial_text(out: &mut Vec<u8>, serial: &Serial) -> Result<(), AllocE
     out.extend_from_slice(SerialText::of(serial).as_bytes())
 }
 
-/// The text of a serial number is a spelling of it, and is read back as it.
+/// States that the text of a serial number is a spelling of it, and is read back as it.
 pub fn text_spells_serial(serial: &Serial)
     ensures spelling { Spells (text_of_serial serial.now) serial.now }
     ensures read_back { serial_of_text (text_of_serial serial.now) ≡ Ok serial.now }
@@ -143,7 +143,7 @@ pub fn text_spells_serial(serial: &Serial)
     spellings_are_read();
 }
 
-/// The same, of the octets.
+/// States the same of the octets.
 fn octets_are_spelled(octets: &[u8])
     requires { length octets.now ≡ 8 }
     ensures { Spells (text_of_serial (serial_with octets.now)) (serial_with octets.now) }

@@ -9,9 +9,9 @@ known_all input bytes None p q = absurd p
 known_all input bytes (Some ys) p q = sym (p ∙ ap (λ l. bytes ++ l) q ∙ append-nil bytes)
 
 -- no more was read than a known input has
-pub known_front : (input bytes : List ℕ) (new : Option (List ℕ)) → Consumes (Some input) new bytes → length bytes ≤ length input
-known_front input bytes None p = absurd p
-known_front input bytes (Some ys) p = omega (arith, ap length p, length-append bytes ys)
+pub known_prefix : (input bytes : List ℕ) (new : Option (List ℕ)) → Consumes (Some input) new bytes → length bytes ≤ length input
+known_prefix input bytes None p = absurd p
+known_prefix input bytes (Some ys) p = omega (arith, ap length p, length-append bytes ys)
 
 -- the whole input is the known one
 pub reads_known : (old new : SourceState) (bytes input : List ℕ) → ReadsWhole old new bytes → old.remaining ≡ Some input → bytes ≡ input
@@ -23,4 +23,4 @@ reads_known old new bytes input p e =
 pub too_long_known : (limit : ℕ) (old new : SourceState) (input : List ℕ) → ReadsTooMuch limit old new → old.remaining ≡ Some input → limit < length input
 too_long_known limit old new input p e =
     let consumed = subst (λ known. Consumes known new.remaining p.bytes) e p.consumed in
-    omega (arith, p.more, known_front input p.bytes new.remaining consumed)
+    omega (arith, p.more, known_prefix input p.bytes new.remaining consumed)

@@ -1,11 +1,11 @@
--- What a program says of what may befall each of its commands (this profile's own rule).
+-- How a program reports what may go wrong with each of its commands (this profile's own rule).
 use Rattle.std.specs.Prelude.{ℕ, List, codes}
 
--- the line on standard error for want of memory
+-- the line on standard error of a program that is out of memory
 abbrev pub memory_line : List ℕ
 memory_line = codes "oltctl: memory"
 
--- the exit status for want of memory
+-- the exit status of a program that is out of memory
 abbrev pub memory_status : ℕ
 memory_status = 3
 

@@ -1,4 +1,4 @@
--- What a source shows, and what reading it whole means (this profile's own rule).
+-- The state of a source, and what reading it whole means (this profile's own rule).
 use Rattle.std.specs.Prelude.{◌≡◌, ◌<◌, ◌≤◌, ℕ, Bool, false, List, length, Option, Some}
 use Rattle.std.specs.Io.KnownBytes.{Consumes, IsAtEnd}
 use Rattle.gp_stream.specs.declared.source.Source.{Source}
@@ -15,7 +15,7 @@ reads_left source = source.left
 abbrev pub has_failed : {R : Type 0} → Source R → Bool
 has_failed source = source.failed
 
--- where a source stands
+-- the state of a source
 pub record SourceState : Type 0 where
   -- the bytes still to come. A reader that doesn't tell its bytes (a file, standard input) has None here; then nothing below
   -- says which bytes came
@@ -25,7 +25,7 @@ pub record SourceState : Type 0 where
   -- a read has failed
   pub has_failed : Bool
 
--- where this source stands, by what its reader tells of its bytes
+-- the state of this source, by what its reader tells of its bytes
 abbrev pub source_state : {R : Type 0} → (R → Option (List ℕ)) → Source R → SourceState
 source_state remaining source = record { remaining = remaining (reader_of source); reads_left = reads_left source; has_failed = has_failed source }
 

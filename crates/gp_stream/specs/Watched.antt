@@ -1,4 +1,4 @@
--- What a watched writer shows (this profile's own rule).
+-- The state of a watched writer (this profile's own rule).
 use Rattle.std.specs.Prelude.{ℕ, Bool, true, false, List, [], ◌∷◌, Result, Ok, Err, ◌==◌}
 use Rattle.gp_stream.specs.declared.watched.Watched.{Watched}
 

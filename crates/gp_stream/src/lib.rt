@@ -1,4 +1,15 @@
-//! Reading a whole input within bounds, and writing that gathers and stops at its first fault.
+//! Reads a whole input within bounds, and writes an output in large pieces, up to the first fault and no further.
+//!
+//! - `source.rt`: `Source`, a reader that counts its reads and remembers whether one failed.
+//! - `reading.rt`: `read_all`, which reads a source to its end, and the faults of reading.
+//! - `watched.rt`: a writer that remembers whether a write or a flush failed.
+//! - `sink.rt`: `Sink`, which gathers bytes, hands them on in large pieces and flushes behind each.
+//! - `report.rt`: what a program says, and its exit status, when it is out of memory or its output takes no more.
+//!
+//! Where to make which change: a limit stands beside what it limits (`MAX_READS` in `source.rt`, `MAX_BYTES` in
+//! `reading.rt`, `GATHERED_BYTES` in `sink.rt`). What counts as a failed read is decided in `source.rt`, what counts as a
+//! failed write in `watched.rt`: a write that fails, a write that takes nothing, and a flush that fails. A line on
+//! standard error or an exit status stands in `report.rt` and `specs/Report.antt`.
 #![tactic(auto)]
 
 mod reading;
@@ -9,7 +20,7 @@ mod source;
 mod tests;
 mod watched;
 
-pub use reading::{MOST_BYTES, SourceFault, read_all};
+pub use reading::{MAX_BYTES, SourceFault, read_all};
 pub use report::{memory_report, write_report};
 pub use sink::{GATHERED_BYTES, Sink, WriteStopped};
-pub use source::{MOST_READS, Source};
+pub use source::{MAX_READS, Source};

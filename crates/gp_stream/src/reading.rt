@@ -8,7 +8,7 @@ use std::io::Read;
 use thiserror::Error;
 
 /// The most bytes that an input may have.
-pub const MOST_BYTES: usize = 1_048_576;
+pub const MAX_BYTES: usize = 1_048_576;
 
 /// How many bytes are asked for in one read.
 const BLOCK_BYTES: usize = 16_384;
@@ -16,13 +16,13 @@ const BLOCK_BYTES: usize = 16_384;
 /// Why the whole input was not read.
 #[derive(Clone, Copy, Debug, PartialEq, Eq, Error)]
 pub enum SourceFault {
-    /// A read failed, now or before, or the input took more than [`crate::MOST_READS`] reads.
+    /// A read failed, now or before, or the input took more than [`crate::MAX_READS`] reads.
     #[error("a read failed, or the input took too many reads")]
     Read,
-    /// More than [`MOST_BYTES`] bytes came.
+    /// More than [`MAX_BYTES`] bytes came.
     #[error("the input is too long")]
     TooLong,
-    /// There was no memory for the bytes.
+    /// Out of memory for the bytes.
     #[error("out of memory")]
     OutOfMemory,
 }
@@ -35,16 +35,16 @@ impl From<AllocError> for SourceFault {
     }
 }
 
-/// All bytes of the input.
+/// Reads all bytes of the input.
 ///
 /// Reading stops at the first read that fails, whatever its error, and where more than
-/// [`MOST_BYTES`] bytes have come. Of a source with a failed read nothing more is read, and `Read` is
+/// [`MAX_BYTES`] bytes have come. Of a source with a failed read nothing more is read, and `Read` is
 /// answered.
 pub fn read_all<R: Read>(alloc: Global, source: &mut Source<R>) -> Result<Vec<u8>, SourceFault>
     ensures whole { IfOk result (λ bytes. ReadsWhole (source_state R.remaining source.old) (source_state R.remaining source.new) bytes.items) }
-    ensures short { IfOk result (λ bytes. vec_len bytes ≤ MOST_BYTES) }
-    ensures memory { result ≡ Err SourceFault.OutOfMemory → ReadsSome MOST_BYTES (source_state R.remaining source.old) (source_state R.remaining source.new) }
-    ensures too_long { result ≡ Err SourceFault.TooLong → ReadsTooMuch MOST_BYTES (source_state R.remaining source.old) (source_state R.remaining source.new) }
+    ensures short { IfOk result (λ bytes. vec_len bytes ≤ MAX_BYTES) }
+    ensures memory { result ≡ Err SourceFault.OutOfMemory → ReadsSome MAX_BYTES (source_state R.remaining source.old) (source_state R.remaining source.new) }
+    ensures too_long { result ≡ Err SourceFault.TooLong → ReadsTooMuch MAX_BYTES (source_state R.remaining source.old) (source_state R.remaining source.new) }
 
     // A failed read is always answered, and only it and the bound of reads are.
     ensures read { result ≡ Err SourceFault.Read → let now = source_state R.remaining source.new in (now.has_failed ≡ true) ⊎ (now.reads_left ≡ 0) }
@@ -52,12 +52,12 @@ pub fn read_all<R: Read>(alloc: Global, source: &mut Source<R>) -> Result<Vec<u8
     ensures refused { has_failed source.old ≡ true → (result ≡ Err SourceFault.Read) × (source.new ≡ source.old) }
 
     // Each read but the last gives a byte, so the bound of reads is met only by a source of which
-    // `MOST_BYTES` reads or fewer are left.
-    ensures reads { reads_left source.old ≤ reads_left source.new + MOST_BYTES + 1 }
+    // `MAX_BYTES` reads or fewer are left.
+    ensures reads { reads_left source.old ≤ reads_left source.new + MAX_BYTES + 1 }
 
     // Of a known input, memory aside, the length alone decides.
     ensures exact { (input : List ℕ) → WasReadable (source_state R.remaining source.old) (source_state R.remaining source.new) input
-        → result ≢ Err SourceFault.OutOfMemory → (MOST_BYTES < length input) ↔ (result ≡ Err SourceFault.TooLong) }
+        → result ≢ Err SourceFault.OutOfMemory → (MAX_BYTES < length input) ↔ (result ≡ Err SourceFault.TooLong) }
 {
     let mut bytes = Vec::new(alloc);
     let mut block = [0u8; BLOCK_BYTES];
@@ -66,7 +66,7 @@ pub fn read_all<R: Read>(alloc: Global, source: &mut Source<R>) -> Result<Vec<u8
             Err(_) => return Err(SourceFault::Read),
             Ok(0) => return Ok(bytes),
             Ok(count) => {
-                if count > MOST_BYTES - bytes.len() {
+                if count > MAX_BYTES - bytes.len() {
                     return Err(SourceFault::TooLong);
                 }
                 bytes.extend_from_slice(&block[..count])?;

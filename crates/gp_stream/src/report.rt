@@ -1,8 +1,9 @@
-//! How a program reports what may befall each of its commands.
+//! How a program reports what may go wrong with each of its commands.
 ghost use Rattle.std.specs.Prelude.{◌≡◌};
 ghost use Rattle.gp_stream.specs.Report.{memory_line, memory_status, write_line, write_status};
 
-/// The line on standard error for want of memory, without its line feed, and the exit status.
+/// Answers the line on standard error, without its line feed, and the exit status of a program that
+/// is out of memory.
 pub fn memory_report() -> (&'static str, u8)
     ensures line { result.0.now ≡ memory_line }
     ensures status { result.1 ≡ memory_status }
@@ -10,8 +11,8 @@ pub fn memory_report() -> (&'static str, u8)
     ("oltctl: memory", 3)
 }
 
-/// The line on standard error for an output that took no more, without its line feed, and the exit
-/// status.
+/// Answers the line on standard error, without its line feed, and the exit status of a program whose
+/// output took no more: a write failed or took nothing, or a flush failed.
 pub fn write_report() -> (&'static str, u8)
     ensures line { result.0.now ≡ write_line }
     ensures status { result.1 ≡ write_status }

@@ -10,7 +10,7 @@ use thiserror::Error;
 /// How many bytes a sink gathers before it writes them.
 pub const GATHERED_BYTES: usize = 65_536;
 
-/// A write failed or took nothing, or a flush failed.
+/// A write failed or took nothing, or a flush failed, which counts as a failed write.
 #[derive(Clone, Copy, Debug, PartialEq, Eq, Error)]
 #[error("a write failed or took nothing")]
 pub struct WriteStopped;
@@ -64,9 +64,9 @@ fn write_out<W: Write>(writer: &mut Watched<W>, bytes: &[u8]) -> Result<(), Writ
 }
 
 impl<W: Write> Sink<W> {
-    ghost use Rattle.gp_stream.specs.Sink.{writer_of, gathered_of, has_stopped, has_flushed, room_of, sink_state, Takes, TakesFront};
+    ghost use Rattle.gp_stream.specs.Sink.{writer_of, gathered_of, has_stopped, has_flushed, room_of, sink_state, Takes, TakesPrefix};
 
-    /// A sink with room for [`GATHERED_BYTES`] bytes.
+    /// Makes a sink with room for [`GATHERED_BYTES`] bytes.
     pub fn new(alloc: Global, inner: W) -> Result<Self, AllocError>
     where
         W: Drop,
@@ -81,7 +81,7 @@ impl<W: Write> Sink<W> {
         Ok(Sink { writer, gathered })
     }
 
-    /// The writer below. What is gathered is lost.
+    /// Returns the writer below. What is gathered is lost.
     pub fn into_inner(self) -> W
         ensures { result ≡ writer_of self }
     {
@@ -94,7 +94,7 @@ impl<W: Write> Sink<W> {
     pub fn finish(&mut self) -> Result<(), WriteStopped>
         ensures ok { OnOk result (Takes (sink_state W.contents self.old) (sink_state W.contents self.new) []) }
         ensures empty { OnOk result (gathered_of self.new ≡ []) }
-        ensures err { OnErr result (TakesFront (sink_state W.contents self.old) (sink_state W.contents self.new) []) }
+        ensures err { OnErr result (TakesPrefix (sink_state W.contents self.old) (sink_state W.contents self.new) []) }
         ensures stopped { has_stopped self.new ≡ (has_stopped self.old || is_err result) }
         ensures refused { IsTrue (has_stopped self.old) → IsErr result × (writer_of self.new ≡ writer_of self.old) }
         ensures idle { has_stopped self.old ≡ false → gathered_of self.old ≡ [] → IsOk result × (writer_of self.new ≡ writer_of self.old) }
@@ -111,7 +111,7 @@ impl<W: Write> Sink<W> {
     /// nothing more is written.
     pub fn put(&mut self, bytes: &[u8]) -> Result<(), WriteStopped>
         ensures ok { OnOk result (Takes (sink_state W.contents self.old) (sink_state W.contents self.new) bytes.now) }
-        ensures err { OnErr result (TakesFront (sink_state W.contents self.old) (sink_state W.contents self.new) bytes.now) }
+        ensures err { OnErr result (TakesPrefix (sink_state W.contents self.old) (sink_state W.contents self.new) bytes.now) }
         ensures stopped { has_stopped self.new ≡ (has_stopped self.old || is_err result) }
         ensures refused { IsTrue (has_stopped self.old) → IsErr result × (writer_of self.new ≡ writer_of self.old) }
         ensures fits { has_stopped self.old ≡ false → length (gathered_of self.old) + length bytes.now ≤ room_of self.old
@@ -136,7 +136,7 @@ impl<W: Write> Sink<W> {
     fn put_behind(&mut self, bytes: &[u8]) -> Result<(), WriteStopped>
         requires { has_stopped self.old ≡ false }
         ensures ok { OnOk result (Takes (sink_state W.contents self.old) (sink_state W.contents self.new) bytes.now) }
-        ensures err { OnErr result (TakesFront (sink_state W.contents self.old) (sink_state W.contents self.new) bytes.now) }
+        ensures err { OnErr result (TakesPrefix (sink_state W.contents self.old) (sink_state W.contents self.new) bytes.now) }
         ensures stopped { has_stopped self.new ≡ is_err result }
         ensures gathers { length bytes.now ≤ room_of self.old → OnOk result (gathered_of self.new ≡ bytes.now) }
         ensures flushed { has_flushed self.old ≡ true → OnOk result (has_flushed self.new ≡ true) }

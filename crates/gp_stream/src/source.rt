@@ -6,7 +6,7 @@ use std::io;
 use std::io::Read;
 
 /// The most reads that are made of one source.
-pub const MOST_READS: u32 = 2_097_152;
+pub const MAX_READS: u32 = 2_097_152;
 
 /// A reader that counts its reads down and remembers whether one failed.
 #[derive(Drop)]
@@ -19,27 +19,27 @@ pub struct Source<R> {
 impl<R: Read> Source<R> {
     ghost use Rattle.gp_stream.specs.Source.{reader_of, reads_left, has_failed};
 
-    /// A source of which nothing was read.
+    /// Makes a source of which nothing was read.
     pub fn new(inner: R) -> Self
         ensures reader { reader_of result ≡ inner }
-        ensures left { reads_left result ≡ MOST_READS }
+        ensures left { reads_left result ≡ MAX_READS }
         ensures failed { has_failed result ≡ false }
     {
         Source {
             inner,
-            left: MOST_READS,
+            left: MAX_READS,
             failed: false,
         }
     }
 
-    /// Whether a read may still be made: none failed, and the bound of reads is not met.
+    /// Tells whether a read may still be made: none failed, and the bound of reads is not met.
     pub(crate) fn can_read(&self) -> bool
         ensures { IsTrue result ↔ ((0 < reads_left self.now) × (has_failed self.now ≡ false)) }
     {
         self.left > 0 && !self.failed
     }
 
-    /// One read of those that are left.
+    /// Makes one read of those that are left.
     pub(crate) fn read(&mut self, buffer: &mut [u8]) -> io::Result<usize>
         requires { 0 < reads_left self.old }
         ensures bound { ReadsAtMost result buffer.new }

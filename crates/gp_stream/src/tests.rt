@@ -60,7 +60,7 @@ impl Write for ShortWriter {
     }
 }
 
-/// The fault of reading it all, if there is one. Want of memory ends the test.
+/// Answers the fault of reading it all, if there is one. The test ends where it is out of memory.
 fn fault_of<R: Read>(
     alloc: Global,
     source: &mut Source<R>,

@@ -17,6 +17,7 @@ pub struct Watched<W> {
 impl<W: Write> Watched<W> {
     ghost use Rattle.gp_stream.specs.Watched.{inner_of, is_stopped, is_flushed, took_nothing};
 
+    /// Makes a watched writer that has not failed and has nothing to flush.
     pub(crate) fn new(inner: W) -> Self
         ensures inner { inner_of result ≡ inner }
         ensures stopped { is_stopped result ≡ false }
@@ -29,6 +30,7 @@ impl<W: Write> Watched<W> {
         }
     }
 
+    /// Returns the writer below.
     pub(crate) fn into_inner(self) -> W
         ensures { result ≡ inner_of self }
     {
@@ -36,14 +38,14 @@ impl<W: Write> Watched<W> {
         inner
     }
 
-    /// Whether a write failed or took nothing, or a flush failed.
+    /// Tells whether a write failed or took nothing, or a flush failed.
     pub(crate) fn is_stopped(&self) -> bool
         ensures { result ≡ is_stopped self.now }
     {
         self.stopped
     }
 
-    /// One write, if there is anything to write.
+    /// Makes one write, if there is anything to write.
     pub(crate) fn write(&mut self, bytes: &[u8]) -> io::Result<usize>
         ensures bound { WritesAtMost result bytes.now }
         ensures bytes { WriteAppends (W.contents (inner_of self.old)) (W.contents (inner_of self.new)) result bytes.now }
@@ -61,7 +63,8 @@ impl<W: Write> Watched<W> {
         }
         outcome
     }
-    /// Has the writer hand on all that it took.
+
+    /// Has the writer hand on all that it took. A flush that fails counts as a failed write.
     pub(crate) fn flush(&mut self) -> io::Result<()>
         ensures bytes { Keeps (W.contents (inner_of self.old)) (W.contents (inner_of self.new)) }
         ensures stopped { is_stopped self.new ≡ (is_stopped self.old || is_err result) }

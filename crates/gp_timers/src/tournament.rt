@@ -13,7 +13,7 @@ pub struct Timer {
 }
 
 impl Timer {
-    /// Whether this timer comes first: it is due in an earlier frame, or in the same one under a lesser name.
+    /// Tells whether this timer comes first: it is due in an earlier frame, or in the same one under a lesser name.
     fn is_before(self, other: Timer) -> bool
         ensures { result ≡ is_earlier self other }
     {
@@ -21,7 +21,7 @@ impl Timer {
     }
 }
 
-/// The winner of two nodes.
+/// Finds the winner of two nodes.
 fn earlier(left: Option<Timer>, right: Option<Timer>) -> Option<Timer>
     ensures { result ≡ earlier_of left right }
 {
@@ -32,7 +32,7 @@ fn earlier(left: Option<Timer>, right: Option<Timer>) -> Option<Timer>
     }
 }
 
-/// The winner of all.
+/// Finds the winner of all.
 pub fn winner(nodes: &[Option<Timer>]) -> Option<Timer>
     ensures { result ≡ timer_at nodes.now 1 }
 {

@@ -54,7 +54,7 @@ impl Model for Wheel {
 }
 
 impl Wheel {
-    /// A wheel for the names from 0 to `names - 1`, none of them set. No later call takes memory.
+    /// Makes a wheel for the names from 0 to `names - 1`, none of them set. No later call takes memory.
     pub fn begin(alloc: Global, names: u16) -> Result<Wheel, TimerFault>
         ensures { IfOk result (λ w. w ≡ record { names = names; frames = map.empty }) }
     {
@@ -99,7 +99,7 @@ impl Wheel {
         Some(first.name)
     }
 
-    /// What a name has from now on: a timer under that name, or none.
+    /// Writes what a name has from now on: a timer under that name, or none.
     fn write(&mut self, name: u16, timer: Option<Timer>)
         requires in_range { name < self.old.names }
         requires named { ForSome timer (λ t. t.name ≡ name) }

@@ -7,6 +7,7 @@ use Rattle.std.proofs.lemmas.List.Elements.{Contains-append_left, Contains-appen
 use Rattle.std.proofs.lemmas.Option.{slice_get-get_or}
 use Rattle.std.proofs.lemmas.Bool.{false≢true}
 use Rattle.gp_ploam.specs.declared.message.Down.{Down}
+use Rattle.gp_volley.specs.Copies.{max_copies}
 use Rattle.gp_volley.specs.Volley.{VolleyState, volley_of}
 use Rattle.gp_volley.specs.Queue.{copies_of, AreWhole, IsInOrder}
 
@@ -30,7 +31,7 @@ length-copies v vs w =
     length-append (replicate v.left v.message) (copies_of vs) ∙ omega arith
 
 -- copies leave room for a message
-pub few_volleys : (vs : Volleys) → IsInOrder vs → length (copies_of vs) + 3 ≤ 192 → length vs ≤ 63
+pub few_volleys : (vs : Volleys) → IsInOrder vs → length (copies_of vs) + 3 ≤ max_copies → length vs ≤ 63
 few_volleys [] o h = omega arith
 few_volleys (v ∷ vs) o h = let n = length-copies v vs o.2 in let some = o.0 in omega arith
 

@@ -1,6 +1,6 @@
 -- A message with the copies of it that are still to be sent (G.984.3, clause 9).
 use Rattle.std.specs.Prelude.{ℕ, ◌-◌, nat_lt, Option, None, Some, if◌then◌else◌}
-use Rattle.gp_ploam.specs.Copies.{copies_each}
+use Rattle.gp_volley.specs.Copies.{copies_each}
 use Rattle.gp_ploam.specs.declared.message.Down.{Down}
 
 -- the message, and how many copies of it are still to be sent

@@ -1,12 +1,21 @@
 //! The messages that a port still owes to its units: each is sent three times in a row, one copy in
 //! a frame.
+//!
+//! - `volley.rt`: `Volley`, one message with the copies of it that are left, and `COPIES`.
+//! - `queue.rt`: `VolleyQueue`, the volleys in a ring of std's with room for 64 of them, and the limits.
+//! - `specs/Copies.antt`: how many copies are sent, and how many there is room for. `specs/Volley.antt`: a
+//!   volley's state. `specs/Queue.antt`: what the queue keeps; only of its first message may a copy have been sent.
+//! - `proofs/Copies.antt`: lemmas on copies in a row.
+//!
+//! Contracts see a queue as the list of its copies. Neither type has `Drop`: what is owed is sent, or closed.
+//! Another number of copies or messages is a change of the constants and of `specs/Copies.antt`.
 #![tactic(auto)]
 
 mod queue;
 mod volley;
 
-pub use queue::{QueueFault, VolleyQueue};
-pub use volley::Volley;
+pub use queue::{MAX_COPIES, MAX_COPIES_WITH_ROOM, MAX_MESSAGES, QueueFault, VolleyQueue};
+pub use volley::{COPIES, Volley};
 
 #[cfg(test)]
 mod tests;

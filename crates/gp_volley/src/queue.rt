@@ -1,5 +1,5 @@
 ghost use Rattle.std.specs.Prelude.{◌≡◌, ◌+◌, ◌≤◌, ◌↔◌, [], ◌++◌, drop, length, slice_get, Contains, IfOk, IsTrue};
-ghost use Rattle.gp_ploam.specs.Copies.{all_copies, copies_each, first_of, most_copies};
+ghost use Rattle.gp_volley.specs.Copies.{all_copies, copies_each, first_of, max_copies};
 
 use super::volley::{COPIES, Volley};
 use gp_ploam::Down;
@@ -8,8 +8,14 @@ use std::collections::VecDeque;
 use std::marker::Model;
 use thiserror::Error;
 
-/// How many messages there is room for.
-const ROOM: usize = 64;
+/// How many messages there is room for (this profile's own rule).
+pub const MAX_MESSAGES: usize = 64;
+
+/// How many copies there is room for: 192.
+pub const MAX_COPIES: usize = MAX_MESSAGES * COPIES as usize;
+
+/// How many copies may be owed with room left for those of one message more: 189.
+pub const MAX_COPIES_WITH_ROOM: usize = MAX_COPIES - COPIES as usize;
 
 /// Why no queue was made.
 #[derive(Clone, Copy, Debug, PartialEq, Eq, Error)]
@@ -29,7 +35,8 @@ impl From<AllocError> for QueueFault {
     }
 }
 
-/// The copies of messages that are owed, in the order in which they are sent. There is room for those of 64 messages.
+/// The copies of messages that are owed, in the order in which they are sent. There is room for those of
+/// `MAX_MESSAGES` messages.
 pub struct VolleyQueue {
     volleys: VecDeque<Volley>,
 }
@@ -38,27 +45,28 @@ impl Model for VolleyQueue {
     ghost use Rattle.std.specs.Prelude.{List, ◌≤◌, length};
     ghost use Rattle.std.specs.VecDeque.{deque_capacity};
     ghost use Rattle.gp_ploam.specs.declared.message.Down.{Down};
+    ghost use Rattle.gp_volley.specs.Copies.{max_messages};
     ghost use Rattle.gp_volley.specs.Queue.{IsInOrder, copies_of};
 
     ghost Value = { List Down };
 
     ghost view = { λ q. copies_of q.volleys.items };
 
-    ghost invariant = { λ q. IsInOrder q.volleys.items × (length q.volleys.items ≤ 64) × (64 ≤ deque_capacity q.volleys) };
+    ghost invariant = { λ q. IsInOrder q.volleys.items × (length q.volleys.items ≤ max_messages) × (max_messages ≤ deque_capacity q.volleys) };
 }
 
 impl VolleyQueue {
-    /// A queue that owes nothing. No later call takes memory.
+    /// Makes a queue that owes nothing. No later call takes memory.
     pub fn begin(alloc: Global) -> Result<VolleyQueue, QueueFault>
         ensures { IfOk result (λ q. q ≡ []) }
     {
-        let volleys = VecDeque::with_capacity(alloc, ROOM)?;
+        let volleys = VecDeque::with_capacity(alloc, MAX_MESSAGES)?;
         Ok(VolleyQueue { volleys })
     }
 
-    /// Owes a message: three copies after all others.
+    /// Owes a message: three copies after all others. There must be room: at most `MAX_COPIES_WITH_ROOM` are owed.
     pub fn owe(&mut self, message: Down)
-        requires { length self.old + copies_each ≤ most_copies }
+        requires { length self.old + copies_each ≤ max_copies }
         ensures { self.new ≡ self.old ++ all_copies message }
     {
         self.volleys.push_back_reserved(Volley::begin(message));
@@ -76,10 +84,10 @@ impl VolleyQueue {
         Some(copy)
     }
 
-    /// How many copies are owed.
+    /// Counts the copies that are owed, 0 to 192.
     pub fn len_copies(&self) -> usize
         ensures len { result ≡ length self.now }
-        ensures room { result ≤ most_copies }
+        ensures room { result ≤ max_copies }
     {
         match self.volleys.front() {
             Some(volley) => usize::from(volley.left()) + COPIES as usize * (self.volleys.len() - 1),
@@ -87,7 +95,7 @@ impl VolleyQueue {
         }
     }
 
-    /// The copy with `i` others before it.
+    /// Gives the copy with `i` others before it, if so many are owed.
     pub fn copy_at(&self, i: usize) -> Option<Down>
         ensures { result ≡ slice_get self.now i }
     {
@@ -100,7 +108,7 @@ impl VolleyQueue {
         Some(volley.message())
     }
 
-    /// Whether a copy of this message is owed. It looks at up to 64 messages.
+    /// Tells whether a copy of this message is owed. It looks at up to 64 messages.
     pub fn owes(&self, message: &Down) -> bool
         ensures { IsTrue result ↔ Contains self.now message.now }
     {

@@ -1,12 +1,13 @@
 ghost use Rattle.std.specs.Prelude.{◌≡◌, ◌-◌, ◌≤◌};
-ghost use Rattle.gp_ploam.specs.Copies.{copies_each};
+ghost use Rattle.gp_volley.specs.Copies.{copies_each};
 ghost use Rattle.gp_volley.specs.Volley.{volley_of, volley_after_copy};
 
+use gp_linear::NeverDropped;
 use gp_ploam::Down;
 use std::marker::Model;
 
-/// How many times a message is sent.
-pub(crate) const COPIES: u8 = 3;
+/// How many times a message is sent (G.984.3, clause 9).
+pub const COPIES: u8 = 3;
 
 /// A message with the copies of it that are still to be sent. It is no `Drop`, so that a volley ends with its last
 /// copy, or is closed.
@@ -15,17 +16,11 @@ pub struct Volley {
     left: u8,
 }
 
-/// For a type that is ended by its own calls: with a `Drop` it would have this trait by both impls, and not compile.
-/// Each crate with such types has this trait for itself, since none of those crates stands on another.
-trait NeverDropped {}
-
-impl<T: Drop> NeverDropped for T {}
-
 impl NeverDropped for Volley {}
 
 impl Model for Volley {
     ghost use Rattle.std.specs.Prelude.{◌≤◌};
-    ghost use Rattle.gp_ploam.specs.Copies.{copies_each};
+    ghost use Rattle.gp_volley.specs.Copies.{copies_each};
     ghost use Rattle.gp_volley.specs.Volley.{VolleyState};
 
     ghost Value = { VolleyState };
@@ -36,7 +31,7 @@ impl Model for Volley {
 }
 
 impl Volley {
-    /// All copies of a message.
+    /// Begins the volley of a message, with all its copies.
     pub fn begin(message: Down) -> Volley
         ensures { result ≡ volley_of message }
     {
@@ -46,14 +41,14 @@ impl Volley {
         }
     }
 
-    /// The message of which copies are left.
+    /// Gives the message of which copies are left.
     pub fn message(&self) -> Down
         ensures { result ≡ self.now.message }
     {
         self.message
     }
 
-    /// How many copies are still to be sent, 1 to 3.
+    /// Tells how many copies are still to be sent, 1 to 3.
     pub fn left(&self) -> u8
         ensures left { result ≡ self.now.left }
         ensures some { 1 ≤ result }
@@ -62,7 +57,7 @@ impl Volley {
         self.left
     }
 
-    /// Sends a copy: the message, and what is left of the volley, if anything is.
+    /// Sends a copy, and gives the message, and what is left of the volley, if anything is.
     pub fn send(self) -> (Down, Option<Volley>)
         ensures copy { result.0 ≡ self.message }
         ensures rest { result.1 ≡ volley_after_copy self }
@@ -79,7 +74,7 @@ impl Volley {
         }
     }
 
-    /// Ends the volley before its last copy: the message, and how many copies were left.
+    /// Ends the volley before its last copy, and gives the message and how many copies were left.
     pub fn close(self) -> (Down, u8)
         ensures message { result.0 ≡ self.message }
         ensures left { result.1 ≡ self.left }

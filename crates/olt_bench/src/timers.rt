@@ -4,7 +4,7 @@ use std::alloc::Global;
 use std::io;
 use std::marker::Model;
 
-/// The names in use: two for each of 160 units on each of 16 ports.
+/// The names in use: five for each of 1,024 units.
 const NAMES: u16 = 5120;
 
 /// How many frames after it went off a timer goes off again.

@@ -2,14 +2,14 @@
 use Rattle.std.specs.Prelude.{ℕ, false, List, Option, Result}
 use Rattle.gp_script.specs.declared.fault.ScriptFault.{ScriptFault}
 use Rattle.gp_script.specs.Script.{ScriptView}
-use Rattle.gp_stream.specs.declared.source.TheConstants.{MOST_READS}
-use Rattle.gp_stream.specs.declared.reading.TheConstants.{MOST_BYTES}
+use Rattle.gp_stream.specs.declared.source.TheConstants.{MAX_READS}
+use Rattle.gp_stream.specs.declared.reading.TheConstants.{MAX_BYTES}
 use Rattle.gp_stream.specs.Source.{SourceState, ReadsTooMuch}
 use Rattle.gp_replay.specs.Outcome.{ReadsAs}
 
 -- where a source stands from which nothing was read yet
 abbrev pub unread : Option (List ℕ) → SourceState
-unread remaining = record { remaining = remaining; reads_left = MOST_READS; has_failed = false }
+unread remaining = record { remaining = remaining; reads_left = MAX_READS; has_failed = false }
 
 -- all that a reader had to give, where it tells its bytes, is read as this
 abbrev pub IsReadAs : Option (List ℕ) → Result ScriptView ScriptFault → Type 0
@@ -17,4 +17,4 @@ IsReadAs remaining answer = (after : SourceState) × ReadsAs (unread remaining) 
 
 -- a reader had more to give than a script may have
 abbrev pub IsTooLong : Option (List ℕ) → Type 0
-IsTooLong remaining = (after : SourceState) × ReadsTooMuch MOST_BYTES (unread remaining) after
+IsTooLong remaining = (after : SourceState) × ReadsTooMuch MAX_BYTES (unread remaining) after

@@ -1,10 +1,10 @@
 use Rattle.gp_stream.specs.Sink.{sink_state}
-use Rattle.gp_decode.proofs.Lines.{all_of_line, front_of_line}
+use Rattle.gp_decode.proofs.Lines.{all_of_line, prefix_of_line}
 use Rattle.gp_decode.proofs.line.write_line.Goals as goal
 
-pub returns-clause-front : goal.returns-clause-front
-returns-clause-front g c =
-    front_of_line c.finish.result (sink_state g.W.Write.contents c.args.sink.now) (sink_state g.W.Write.contents c.put.new.self) (sink_state g.W.Write.contents c.finish.new.self) c.args.line.now c.in_ok-put.ensures.ok c.finish.ensures.err
+pub returns-clause-prefix : goal.returns-clause-prefix
+returns-clause-prefix g c =
+    prefix_of_line c.finish.result (sink_state g.W.Write.contents c.args.sink.now) (sink_state g.W.Write.contents c.put.new.self) (sink_state g.W.Write.contents c.finish.new.self) c.args.line.now c.in_ok-put.ensures.ok c.finish.ensures.err
 
 pub returns-clause-ok : goal.returns-clause-ok
 returns-clause-ok g c =

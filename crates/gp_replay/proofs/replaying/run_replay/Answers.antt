@@ -1,5 +1,5 @@
 use Rattle.std.proofs.Common.{◌≡◌, ◌≤◌, length, Ok, rules}
-use Rattle.gp_stream.specs.declared.reading.TheConstants.{MOST_BYTES}
+use Rattle.gp_stream.specs.declared.reading.TheConstants.{MAX_BYTES}
 use Rattle.gp_script.specs.Script.{script_of}
 use Rattle.gp_script.specs.View.{script_view}
 use Rattle.gp_replay.proofs.OutcomeLemmas.{leaves_front}
@@ -8,7 +8,7 @@ use Rattle.gp_replay.proofs.replaying.run_replay.Goals as goal
 pub returns-in_err-play_on-clause-front : goal.returns-in_err-play_on-clause-front
 returns-in_err-play_on-clause-front g c =
     let says : script_of c.in_ok-bytes.bytes.items ≡ Ok (script_view c.in_ok-script.script) = search rules in
-    let short : length c.in_ok-bytes.bytes.items ≤ MOST_BYTES = search rules in
+    let short : length c.in_ok-bytes.bytes.items ≤ MAX_BYTES = search rules in
     λ told. leaves_front _ _ (script_view c.in_ok-script.script) _ _
     (record { bytes = c.in_ok-bytes.bytes.items; read = c.in_ok-bytes.ensures.whole; short = short; says = says })
     (c.in_err-play_on.ensures.front (search (rules, told)))

@@ -7,7 +7,7 @@ pub invariant_of-self-2 : goal.invariant_of-self-2
 invariant_of-self-2 c =
     let long : length c.self.inside.counts ≡ 256 = search rules in
     let low : c.args.port < 256 = let fits = c.ranges.port.fits in omega arith in
-    let few : c.admitted_on-count.result < 512 = let below = c.if-count-ge-MOST_ON_A_PORT.false in omega arith in
+    let few : c.admitted_on-count.result < 512 = let below = c.if-count-ge-MAX_ON_A_PORT.false in omega arith in
     rw c.from.ensures (
     counted_more c.self.inside.index c.insert.new.self c.self.inside.counts c.args.port c.admitted_on-count.result c.self.invariant long low (c.admitted_on-count.ensures.count ∙ ap (count_on c.args.port) (sym c.self.view_is)) few c.in_ok-insert.ensures.counts
     )

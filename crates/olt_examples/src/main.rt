@@ -1,0 +1,88 @@
+//! `olt_examples`: replays the scripts of `data/`, each of which stands beside its trace, and compares what each
+//! replay writes with that trace.
+//!
+//! It reads the folder where it runs, so that a new example takes three things: NAME.toml, NAME.trace, and its line in
+//! the crate's file `stdout`. `examples` at the top of the repository is a link to `data/`.
+#![tactic(auto)]
+
+use gp_replay::{RunFault, run_replay};
+use gp_stream::{Sink, Source};
+use std::alloc::{AllocError, Global};
+use std::process::ExitCode;
+use std::rt::Files;
+use std::{fs, io};
+
+/// How a script's file name ends; the rest of it is the example's name.
+const SCRIPT_ENDING: &str = ".toml";
+
+/// Lists the names of the examples in the folder, in alphabetical order.
+fn examples<R: AllocGlobal + Files + Clone + Drop>(rt: &R) -> io::Result<Vec<String>> {
+    let mut names = Vec::new(rt.alloc());
+    for entry in fs::read_dir(rt, ".")? {
+        let entry = entry?;
+        if let Some(name) = entry.file_name().strip_suffix(SCRIPT_ENDING) {
+            names.push(String::from_str(rt.alloc(), name)?)?;
+        }
+    }
+    names.sort()?;
+    Ok(names)
+}
+
+/// Replays a script, and answers what the replay writes.
+fn replayed(alloc: Global, script: &[u8]) -> Result<Vec<u8>, RunFault> {
+    let mut source = Source::new(script);
+    let mut sink = Sink::new(alloc, Vec::new(alloc))?;
+    run_replay(alloc, &mut source, &mut sink)?;
+    Ok(sink.into_inner())
+}
+
+/// Counts the lines that two texts have in common before they differ, or all of them where they don't.
+fn common_lines(one: &[u8], other: &[u8]) -> usize {
+    one.iter()
+        .zip(other.iter())
+        .take_while(|pair| pair.0 == pair.1)
+        .filter(|pair| *pair.0 == b'\n')
+        .count()
+}
+
+/// Says in a line how a replay of the script compares with the trace.
+fn verdict_of(
+    alloc: Global,
+    name: &str,
+    script: &[u8],
+    trace: &[u8],
+) -> Result<String, AllocError> {
+    match replayed(alloc, script) {
+        Err(fault) => format!(in alloc; "{name}: {fault}"),
+        Ok(written) => {
+            let lines = common_lines(&written, trace);
+            if written.as_slice() == trace {
+                format!(in alloc; "{name}: {lines} lines, as in its trace")
+            } else {
+                format!(in alloc; "{name}: another line than in its trace after {lines} lines")
+            }
+        }
+    }
+}
+
+/// Replays each example of the folder, and prints a line on each.
+fn check<R: AllocGlobal + Files + Print + Clone + Drop>(rt: &R) -> io::Result<()> {
+    let alloc = rt.alloc();
+    for name in examples(rt)? {
+        let script = fs::read(rt, format!(in alloc; "{name}{SCRIPT_ENDING}")?)?;
+        let trace = fs::read(rt, format!(in alloc; "{name}.trace")?)?;
+        let verdict = verdict_of(alloc, name.as_str(), &script, &trace)?;
+        println!(rt; "{verdict}")?;
+    }
+    Ok(())
+}
+
+fn main(rt: HostRuntime) -> ExitCode {
+    match check(&rt) {
+        Ok(()) => ExitCode::SUCCESS,
+        Err(error) => {
+            let _ = eprintln!(&rt; "olt_examples: {error}");
+            ExitCode::FAILURE
+        }
+    }
+}
