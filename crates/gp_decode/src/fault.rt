@@ -1,10 +1,9 @@
 //! What is wrong with a line that is to be decoded, or with decoding it.
-ghost use Rattle.gp_decode.specs.declared.fault.LineFault.TheVariants as faults;
 ghost use Rattle.std.specs.Prelude.{◌≡◌};
-ghost use Rattle.gp_decode.specs.Faults.{report_line, report_status};
+ghost use Rattle.gp_decode.specs.declared.fault.LineFault.TheVariants as faults;
 
 use gp_ploam::PloamFault;
-use gp_stream::{WriteStopped, memory_report, write_report};
+use gp_stream::WriteStopped;
 use std::alloc::AllocError;
 use thiserror::Error;
 
@@ -55,19 +54,5 @@ impl From<WriteStopped> for LineFault {
 
     fn from(_error: WriteStopped) -> LineFault {
         LineFault::Write
-    }
-}
-
-/// Answers the line on standard error, without its line feed, and the exit status of a program that meets the fault.
-pub fn line_report(fault: &LineFault) -> (&'static str, u8)
-    ensures line { result.0.now ≡ report_line fault.now }
-    ensures status { result.1 ≡ report_status fault.now }
-{
-    match fault {
-        LineFault::Length => ("oltctl: decode length", 1),
-        LineFault::Digit => ("oltctl: decode digit", 1),
-        LineFault::Crc => ("oltctl: decode crc", 1),
-        LineFault::OutOfMemory => memory_report(),
-        LineFault::Write => write_report(),
     }
 }

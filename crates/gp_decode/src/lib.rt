@@ -15,7 +15,7 @@ mod fault;
 mod line;
 mod message;
 
-pub use fault::{LineFault, line_report};
+pub use fault::LineFault;
 pub use line::decode_line;
 
 #[cfg(test)]

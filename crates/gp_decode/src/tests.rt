@@ -1,4 +1,4 @@
-use crate::{LineFault, decode_line, line_report};
+use crate::{LineFault, decode_line};
 use gp_ploam::Mask;
 use gp_stream::Sink;
 use std::alloc::Global;
@@ -106,18 +106,4 @@ fn a_writer_that_stops(rt: HostRuntime) -> Result<(), Fail> {
         assert_eq!(rt; &taken[..room], &line[..room]);
     }
     Ok(())
-}
-
-#[test]
-fn reports(rt: HostRuntime) {
-    let rows = [
-        (LineFault::Length, "oltctl: decode length", 1),
-        (LineFault::Digit, "oltctl: decode digit", 1),
-        (LineFault::Crc, "oltctl: decode crc", 1),
-        (LineFault::OutOfMemory, "oltctl: memory", 3),
-        (LineFault::Write, "oltctl: write", 4),
-    ];
-    for (fault, line, status) in rows {
-        assert_eq!(rt; line_report(&fault), (line, status));
-    }
 }

@@ -39,11 +39,14 @@ pub(crate) struct LedgerParts<L: Ledger> {
 impl<L: Ledger> NeverDropped for LedgerParts<L> {}
 
 impl<L: Ledger> Model for LedgerParts<L> {
+    ghost use Rattle.std.specs.Prelude.{◌≡◌, ℕ, ◌≤◌};
+    ghost use Rattle.gp_licence.specs.declared.ledger_parts.TheConstants.{MAX_LICENCES};
+
     ghost Value = { ℕ };
 
     ghost view = { λ p. p.share.parts };
 
-    ghost invariant = { λ p. p.share.amount ≡ 0 };
+    ghost invariant = { λ p. (p.share.amount ≡ 0) × (p.share.parts ≤ MAX_LICENCES) };
 }
 
 impl<L: Ledger> LedgerParts<L> {
@@ -65,9 +68,20 @@ impl<L: Ledger> LedgerParts<L> {
         requires { 0 < self.old }
         ensures one { result ≡ 1 }
         ensures rest { self.new + 1 ≡ self.old }
+        ensures most { self.old ≤ MAX_LICENCES }
+    {
+        self.split_off(1)
+    }
+
+    /// Takes so many parts off.
+    pub(crate) fn split_off(&mut self, count: u32) -> LedgerParts<L>
+        requires { count ≤ self.old }
+        ensures taken { result ≡ count }
+        ensures rest { self.new + count ≡ self.old }
+        ensures most { self.old ≤ MAX_LICENCES }
     {
         LedgerParts {
-            share: self.share.split_off(1, 0),
+            share: self.share.split_off(u64::from(count), 0),
             bounded: self.bounded.again(),
         }
     }

@@ -1,5 +1,6 @@
 //! Licences in somebody's hands.
-ghost use Rattle.std.specs.Prelude.{◌≡◌, ℕ, ◌+◌, ◌<◌, IfSome, IfNone};
+ghost use Rattle.std.specs.Prelude.{◌≡◌, ℕ, ◌+◌, ◌<◌, ◌≤◌, IfSome, IfNone};
+ghost use Rattle.gp_licence.specs.declared.ledger_parts.TheConstants.{MAX_LICENCES};
 
 use crate::ledger_parts::LedgerParts;
 use gp_linear::NeverDropped;
@@ -20,11 +21,14 @@ pub struct Licences<L: Ledger> {
 impl<L: Ledger> NeverDropped for Licences<L> {}
 
 impl<L: Ledger> Model for Licences<L> {
+    ghost use Rattle.std.specs.Prelude.{◌≡◌, ℕ, ◌≤◌, IfSome, IfNone};
+    ghost use Rattle.gp_licence.specs.declared.ledger_parts.TheConstants.{MAX_LICENCES};
+
     ghost Value = { ℕ };
 
     ghost view = { λ l. l.count };
 
-    ghost invariant = { λ l. IfSome l.parts (λ p. p ≡ l.count) × IfNone l.parts (l.count ≡ 0) };
+    ghost invariant = { λ l. IfSome l.parts (λ p. p ≡ l.count) × IfNone l.parts (l.count ≡ 0) × (l.count ≤ MAX_LICENCES) };
 }
 
 impl<L: Ledger> Licences<L> {
@@ -40,7 +44,8 @@ impl<L: Ledger> Licences<L> {
 
     /// Makes as many licences as there are parts.
     pub(crate) fn of_parts(count: u32, parts: LedgerParts<L>) -> Licences<L>
-        requires { parts ≡ count }
+        requires count { parts ≡ count }
+        requires most { count ≤ MAX_LICENCES }
         ensures { result ≡ count }
     {
         Licences {
@@ -60,7 +65,8 @@ impl<L: Ledger> Licences<L> {
 
     /// Tells how many there are.
     pub fn count(&self) -> u32
-        ensures { result ≡ self.now }
+        ensures count { result ≡ self.now }
+        ensures most { result ≤ MAX_LICENCES }
     {
         self.count
     }
@@ -112,12 +118,22 @@ impl<L: Ledger> Licences<L> {
         ensures one { result ≡ 1 }
         ensures rest { self.new + 1 ≡ self.old }
     {
-        let Licences { count, parts } = self;
+        self.split_off(1)
+    }
+
+    /// Takes so many off these, in place.
+    pub fn split_off(&mut self, count: u32) -> Licences<L>
+        requires some { 0 < count }
+        requires there { count ≤ self.old }
+        ensures taken { result ≡ count }
+        ensures rest { self.new + count ≡ self.old }
+    {
+        let Licences { count: held, parts } = self;
         let Some(parts) = parts else {
             unreachable!();
         };
-        *count -= 1;
-        Licences::of_parts(1, parts.split_one())
+        *held -= count;
+        Licences::of_parts(count, parts.split_off(count))
     }
 
     /// Ends a value that holds no licence.

@@ -1,5 +1,14 @@
-//! The activation machine of one port after G.984.3, clause 10: its plain types here, its states,
-//! steps and runs in `specs/`, and the laws of single steps and of whole runs.
+//! The activation machine of one port after G.984.3, clause 10: its plain types in `src/`, its states, steps
+//! and runs in `specs/`, and those laws of single steps that the code of a port needs (`one_step`). The other
+//! laws, and those of whole runs, stand in `gp_laws`.
+//!
+//! Where to make which change, in `specs/`:
+//! - limits of a configuration: `Config`; a refusal's number and name: `Refusals`, and `src/refusal.rt`.
+//! - what a port knows, and which numbers are free: `State`; what holds in every state: `Sound`.
+//! - what may change in one go, and what each change does: `Changes`; what a line of a table says: `Responses`.
+//! - the tables: `Frame`, with `Closes` for the end of a window; `Burst`, with `SearchWindow`, `RangeWindow` and
+//!   `PollWindow`; `Commands`.
+//! - a step, a run, and the messages that they owe: `Step`, `Run`, `Messages`.
 #![tactic(auto)]
 
 mod admitted;
@@ -10,28 +19,19 @@ mod event;
 mod one_step;
 mod refusal;
 mod reply;
-mod row;
-mod runs;
 
 pub use admitted::{Admitted, is_among};
 pub use answer::Answer;
 pub use config::{
-    FIRST_ALLOC_ID, LAST_ALLOC_ID, LONGEST_SEARCH_PERIOD, MOST_ADMITTED, MOST_CYCLES, MOST_UNITS,
+    FIRST_ALLOC_ID, LAST_ALLOC_ID, MAX_CYCLES, MAX_QUARANTINE, MAX_SEARCH_PERIOD, MAX_UNITS,
     PortConfig, compares_configs,
 };
 pub use entry::{Entry, Receipt};
 pub use event::{Command, Event};
+pub use gp_unit::{Allocs, Phase, Row};
 pub use one_step::{
-    every_event_has_step, grants_open_windows, may_pick_any_free, one_outcome, raises_no_alarm,
-    refusals_change_nothing, refuses_for_cause, replies_with_cause, sound_step,
-    step_keeps_licences, timer_stands_outside_standby,
+    finds_unit_with, one_outcome, refusals_change_nothing, sound_step, step_keeps_licences,
+    step_sends_in_order, tells_free_numbers,
 };
 pub use refusal::Refusal;
 pub use reply::Reply;
-pub use row::{Phase, Row};
-pub use runs::{
-    each_unit_is_told, every_state_is_sound, keeps_configuration, no_shared_onu_id,
-    operating_units_stay, ranged_with_what_is_left, runs_in_parts, runs_keep_licences,
-    sends_each_message_three_times, sends_only_proper_messages, tells_each_unit_its_onu_id,
-    worked_runs,
-};

@@ -1,5 +1,12 @@
-pub mod Members
-pub mod Places
-pub mod Least
 pub mod Counting
 pub mod Pools
+pub mod Cool
+pub mod Barred
+pub mod Apart
+pub mod Entries
+pub mod AllocPlaces
+pub mod Slots
+pub mod Each
+pub mod Further
+pub mod All
+pub mod Callers

@@ -1,11 +1,11 @@
 -- What each call of a pool keeps.
-use Rattle.std.proofs.Common.{◌≡◌, ℕ, ◌+◌, ◌-◌, ◌^◌, ◌<◌, ◌≤◌, Bool, true, false, ◌||◌, refl, sym, ap, ◌∙◌, inl, inr, arith}
+use Rattle.std.proofs.Common.{◌≡◌, ℕ, zero, suc, ◌⊎◌, ◌+◌, ◌-◌, ◌^◌, ◌<◌, ◌≤◌, Bool, true, false, ◌||◌, refl, sym, ap, ◌∙◌, inl, inr, arith}
 use Rattle.std.proofs.lemmas.Bool.{cases_Bool, cases_lt, false≢true}
 use Rattle.std.specs.Ordering.{nat_cmp}
 use Rattle.std.specs.FinSet.{empty, insert, contains, contains-empty, len-empty}
-use Rattle.gp_pools.specs.Numbers.{AreAllIn, IsLeastOutside}
-use Rattle.gp_pools.specs.Pool.{Pool, AreAllOut, IsFree, IsLeased, IsOut, IsKept, IsSettled, IsSound, count_out, fresh_pool, pool_with_lease, pool_with_lease_again, pool_with_settled, pool_without_lease}
-use Rattle.gp_pools.proofs.Members.{of_insert, of_remove, len-insert_new, len-remove_member}
+use Rattle.gp_numbers.specs.Numbers.{AreAllIn, IsLeastOutside}
+use Rattle.gp_pools.specs.Pool.{Pool, AreAllOut, HasRoom, IsFree, IsLeased, IsOut, IsKept, IsSettled, IsSound, count_out, fresh_pool, pool_with_lease, pool_with_lease_again, pool_with_settled, pool_without_lease}
+use Rattle.gp_numbers.proofs.Members.{of_insert, of_remove, len-insert_new, len-remove_member}
 use Rattle.gp_pools.proofs.Counting.{IsApart, IsWithin, filled, room_for}
 
 or_right : (a b : Bool) → b ≡ true → (a || b) ≡ true
@@ -168,6 +168,34 @@ all_at_limit pool sound size full n low high = elim (cases_Bool (contains pool.l
         members = λ q b. let at : (pool.first ≤ q) × (q ≤ pool.last) = sound.settled q b in (omega arith, omega arith);
       } in
       absurd (omega (arith, count-lease pool n free, room_for pool.first (pool.last + 1 - pool.first) (insert pool.leased n) pool.settled apart leased settled))
+]
+
+-- among numbers from the first one some is not out, or all are
+search_free : (pool : Pool) (k : ℕ) → ((n : ℕ) × (pool.first ≤ n) × (n < pool.first + k) × (IsOut pool n → ⊥)) ⊎ ((n : ℕ) → pool.first ≤ n → n < pool.first + k → IsOut pool n)
+search_free pool zero = inr (λ n from to. absurd (omega arith))
+search_free pool (suc k) = elim (search_free pool k) [
+  | inl found ↦ inl (found.0, found.1, let below = found.2 in omega arith, found.3)
+  | inr all ↦ elim (cases_Bool (contains pool.leased (pool.first + k) || contains pool.settled (pool.first + k))) [
+    | inl out ↦ inr (λ n from to. elim (cases_lt n (pool.first + k)) [
+      | inl low ↦ all n from low
+      | inr high ↦ let same : n ≡ pool.first + k = omega arith in rw same out
+    ])
+    | inr is_not ↦ inl (pool.first + k, omega arith, omega arith, λ out. false≢true (sym is_not ∙ out))
+  ]
+]
+
+-- below the limit some number is free
+pub room_has_free : (pool : Pool) → IsSound pool → HasRoom pool → (n : ℕ) × IsFree pool n
+room_has_free pool sound room = elim (search_free pool (pool.last + 1 - pool.first)) [
+  | inl found ↦ let below = found.2 in (found.0, (found.1, omega arith, found.3))
+  | inr all ↦ absurd (omega (arith, all_out-count pool (λ n low high. all n low (omega arith)), sound.reach))
+]
+
+-- and where the limit is the number of the pool's numbers, a free one is below it
+pub free_has_room : (pool : Pool) → IsSound pool → pool.limit ≡ pool.last + 1 - pool.first → (n : ℕ) → IsFree pool n → HasRoom pool
+free_has_room pool sound size n free = elim (cases_lt (count_out pool) pool.limit) [
+  | inl room ↦ room
+  | inr full ↦ let few = sound.few in absurd (free.2 (all_at_limit pool sound size (omega arith) n free.0 free.1))
 ]
 
 -- the same, counted

@@ -1,2 +1,6 @@
-pub mod Numbers
+pub mod Allocs
+pub mod Cooling
+pub mod Onu
 pub mod Pool
+pub mod Slots
+pub mod SameSlots

@@ -1,10 +1,10 @@
 -- A pool of numbers as contracts see it (this profile's own rule: G.984.3 says which numbers there are, and not which a
 -- unit gets).
-use Rattle.std.specs.Prelude.{◌≡◌, ℕ, ◌+◌, ◌-◌, ◌^◌, ◌<◌, ◌≤◌, IsTrue, refl}
+use Rattle.std.specs.Prelude.{◌≡◌, ℕ, ◌+◌, ◌-◌, ◌^◌, ◌<◌, ◌≤◌, Bool, List, [], ◌∷◌, IsTrue, refl}
 use Rattle.std.specs.Coded.{Coded, code_by, coded×, coded_ℕ}
 use Rattle.std.specs.Ordering.{nat_cmp}
 use Rattle.std.specs.FinSet as set
-use Rattle.gp_pools.specs.Numbers.{IsIn}
+use Rattle.gp_numbers.specs.Numbers.{IsIn}
 
 -- its numbers go from `first` to `last`; those that are leased and those that are settled are out, at most `limit` in all
 pub record Pool : Type 0 where
@@ -54,6 +54,10 @@ AreAllOut pool = (number : ℕ) → pool.first ≤ number → number ≤ pool.la
 abbrev pub count_out : Pool → ℕ
 count_out pool = set.len pool.leased + set.len pool.settled
 
+-- fewer numbers are out than may be
+abbrev pub HasRoom : Pool → Type 0
+HasRoom pool = count_out pool < pool.limit
+
 -- the pool with one number leased that was not out
 abbrev pub pool_with_lease : Pool → ℕ → Pool
 pool_with_lease pool number = record pool { leased = set.insert pool.leased number }
@@ -85,3 +89,18 @@ pub record IsKept (pool : Pool) (out end : ℕ) : Type 0 where
   pub counted : out ≡ count_out pool
   pub held : pool.last < end
   pub fits : end ≤ 2 ^ 16
+
+-- each of these numbers is settled, one after another; the numbers stand with their flags
+abbrev pub settle_each : Pool → List (ℕ × Bool) → Pool
+settle_each pool [] = pool
+settle_each pool (e ∷ es) = settle_each (pool_with_settled pool e.0) es
+
+-- each of these numbers is leased again
+abbrev pub lease_each : Pool → List (ℕ × Bool) → Pool
+lease_each pool [] = pool
+lease_each pool (e ∷ es) = lease_each (pool_with_lease_again pool e.0) es
+
+-- each of these numbers is given back
+abbrev pub give_back_each : Pool → List (ℕ × Bool) → Pool
+give_back_each pool [] = pool
+give_back_each pool (e ∷ es) = give_back_each (pool_without_lease pool e.0) es

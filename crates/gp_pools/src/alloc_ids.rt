@@ -1,7 +1,12 @@
 ghost use Rattle.std.specs.Prelude.{◌≡◌, ℕ, ◌+◌, ◌-◌, ◌≤◌, ◌↔◌, IsTrue, IsNone, IfNone, IfSome};
-ghost use Rattle.gp_pools.specs.Pool.{AreAllOut, IsFree, IsLeased, IsSettled, IsSound, fresh_pool, pool_with_lease, pool_with_lease_again, pool_with_settled, pool_without_lease};
+ghost use Rattle.std.specs.FinMap as map;
+ghost use Rattle.gp_pools.specs.Allocs.{AreFurther, AreLeased, AreSettled};
+ghost use Rattle.gp_pools.specs.Pool.{give_back_each, lease_each, settle_each, AreAllOut, IsFree, IsLeased, IsSettled, IsSound, fresh_pool, pool_with_lease, pool_with_lease_again, pool_with_settled, pool_without_lease};
 
-use super::number_pool::{NeverDropped, NumberPool};
+use super::alloc_leases::AllocLeases;
+use super::allocs::Allocs;
+use super::number_pool::NumberPool;
+use gp_linear::NeverDropped;
 use std::marker::Model;
 
 /// The first Alloc-ID that is no unit's default one, which is its ONU-ID (G.984.3, clause 8).
@@ -9,7 +14,7 @@ const FIRST: u16 = 256;
 
 /// A leased Alloc-ID. It is no `Drop`: it goes back to its pool, or is settled there.
 pub struct AllocLease {
-    number: u16,
+    pub(super) number: u16,
 }
 
 impl NeverDropped for AllocLease {}
@@ -23,7 +28,7 @@ impl Model for AllocLease {
 }
 
 impl AllocLease {
-    /// The Alloc-ID.
+    /// Tells the Alloc-ID, 256 to 4095.
     pub fn number(&self) -> u16
         ensures number { result ≡ self.now }
         ensures from { 256 ≤ result }
@@ -37,7 +42,7 @@ impl AllocLease {
 /// settled; both are out.
 #[derive(Drop)]
 pub struct AllocIds {
-    pool: NumberPool<256, 60>,
+    pub(super) pool: NumberPool<256, 60>,
 }
 
 impl Model for AllocIds {
@@ -54,7 +59,7 @@ impl Model for AllocIds {
 }
 
 impl AllocIds {
-    /// The Alloc-IDs from 256 to `alloc_last`, none where that is less.
+    /// Makes the pool of the Alloc-IDs from 256 to `alloc_last`, none where that is less.
     pub fn new(alloc_last: u16) -> AllocIds
         requires { alloc_last ≤ 4095 }
         ensures { result ≡ fresh_pool 256 alloc_last (alloc_last + 1 - 256) }
@@ -77,6 +82,13 @@ impl AllocIds {
         Some(AllocLease { number })
     }
 
+    /// Tells whether `take` would lease an Alloc-ID. It takes none.
+    pub fn any_free(&self) -> bool
+        ensures { IsTrue result ↔ ((number : ℕ) × IsFree self.now number) }
+    {
+        self.pool.has_room()
+    }
+
     /// Takes back a lease of this pool: its number is not out any more. A lease doesn't name its pool; that it
     /// is not of another port's pool is for the caller to see to.
     pub fn give_back(&mut self, lease: AllocLease)
@@ -87,7 +99,7 @@ impl AllocIds {
         self.pool.give_back(number);
     }
 
-    /// Whether the Alloc-ID is one of the pool's, and not out.
+    /// Tells whether the Alloc-ID is one of the pool's, and not out.
     pub fn is_free(&self, number: u16) -> bool
         ensures free { IsTrue result ↔ IsFree self.now number }
         ensures sound { IsSound self.now }
@@ -108,7 +120,7 @@ impl AllocIds {
         number
     }
 
-    /// The lease of a settled Alloc-ID, which is settled no more.
+    /// Leases a settled Alloc-ID again; it is settled no more.
     pub fn lease_of(&mut self, number: u16) -> AllocLease
         requires { IsSettled self.old number }
         ensures number { result ≡ number }
@@ -117,5 +129,38 @@ impl AllocIds {
     {
         self.pool.lease_again(number);
         AllocLease { number }
+    }
+
+    /// Settles each of these leases: the plain numbers stand for them until they are leased again.
+    pub fn settle_all(&mut self, leases: AllocLeases) -> Allocs
+        requires { AreLeased self.old leases }
+        ensures allocs { result ≡ leases }
+        ensures pool { self.new ≡ settle_each self.old (map.entries leases) }
+        ensures settled { AreSettled self.new leases }
+    {
+        let AllocLeases { allocs } = leases;
+        self.pool.settle_each(&allocs.slots());
+        allocs
+    }
+
+    /// Leases these settled Alloc-IDs again; they are settled no more.
+    pub fn leases_of(&mut self, allocs: Allocs) -> AllocLeases
+        requires settled { AreSettled self.old allocs }
+        requires further { AreFurther allocs }
+        ensures leases { result ≡ allocs }
+        ensures pool { self.new ≡ lease_each self.old (map.entries allocs) }
+        ensures leased { AreLeased self.new allocs }
+    {
+        self.pool.lease_each(&allocs.slots());
+        AllocLeases { allocs }
+    }
+
+    /// Takes back each of these leases.
+    pub fn give_back_all(&mut self, leases: AllocLeases)
+        requires { AreLeased self.old leases }
+        ensures { self.new ≡ give_back_each self.old (map.entries leases) }
+    {
+        let AllocLeases { allocs } = leases;
+        self.pool.give_back_each(&allocs.slots());
     }
 }

@@ -1,13 +1,29 @@
 //! The pools of ONU-IDs and Alloc-IDs of a port. A number is handed out as a lease, which can't be
-//! dropped: it goes back to its pool, or is settled there and leased again.
+//! dropped: it goes back to its pool, or is settled there and leased again. A freed ONU-ID cools for the
+//! port's quarantine before it is handed out anew.
+//!
+//! - `onu_ids.rt`: the ONU-IDs, a `NumberPool` with its `Cooling`; change there what a unit's number is.
+//! - `alloc_ids.rt`: the further Alloc-IDs, a `NumberPool`.
+//! - `named_leases.rt`: the number that would be leased next, and leases of a number that the caller names.
+//! - `number_pool.rt`: which numbers are leased and settled, as two sets of bits, and the choice of the next one.
+//! - `cooling.rt`: how long a freed number stays away. A frame in which none leaves looks at none.
+//! - `allocs.rt`: the further Alloc-IDs of one unit, plain data in eight places.
+//! - `alloc_leases.rt`: the leases of these, one spent value.
+//!
+//! `specs/` has the pools and the places as contracts see them, `proofs/` the lemmas.
 #![tactic(auto)]
 
 mod alloc_ids;
+mod alloc_leases;
+mod allocs;
+mod cooling;
+mod named_leases;
 mod number_pool;
-mod number_set;
 mod onu_ids;
 
 pub use alloc_ids::{AllocIds, AllocLease};
+pub use alloc_leases::AllocLeases;
+pub use allocs::{Allocs, MAX_ALLOCS};
 pub use onu_ids::{OnuIds, OnuLease};
 
 #[cfg(test)]

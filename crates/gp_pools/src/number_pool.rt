@@ -1,14 +1,11 @@
-ghost use Rattle.std.specs.Prelude.{◌≡◌, ℕ, ◌+◌, ◌-◌, ◌*◌, ◌^◌, ◌<◌, ◌≤◌, ◌↔◌, IsTrue, IsNone, IfNone, IfSome};
-ghost use Rattle.gp_pools.specs.Pool.{IsFree, IsLeased, IsSettled, IsSound, count_out, fresh_pool, pool_with_lease, pool_with_lease_again, pool_with_settled, pool_without_lease};
+ghost use Rattle.std.specs.Prelude.{◌≡◌, ℕ, ◌+◌, ◌-◌, ◌*◌, ◌^◌, ◌<◌, ◌≤◌, ◌↔◌, IsTrue, IsNone, IfNone, IfSome, EachIndex, false};
+ghost use Rattle.std.specs.FinSet as set;
+ghost use Rattle.gp_pools.specs.Pool.{IsFree, IsLeased, IsSettled, IsSound, HasRoom, count_out, fresh_pool, give_back_each, lease_each, settle_each, pool_with_lease, pool_with_lease_again, pool_with_settled, pool_without_lease};
+ghost use Rattle.gp_pools.specs.Allocs.{IsRising, number_at};
+ghost use Rattle.gp_pools.specs.Slots.{filled};
 
-use super::number_set::NumberSet;
+use gp_numbers::NumberSet;
 use std::marker::Model;
-
-/// For a type that is ended by its own calls: with a `Drop` it would have this trait by both impls, and not compile.
-/// Each crate with such types has this trait for itself, since none of those crates stands on another.
-pub trait NeverDropped {}
-
-impl<T: Drop> NeverDropped for T {}
 
 /// The numbers from `FIRST` to `last`, of which at most `limit` are out: leased, or settled. It knows
 /// the numbers alone; the leases are those of the pools above it.
@@ -35,7 +32,7 @@ impl<const FIRST: u16, const WORDS: usize> Model for NumberPool<FIRST, WORDS> {
 }
 
 impl<const FIRST: u16, const WORDS: usize> NumberPool<FIRST, WORDS> {
-    /// A pool with nothing out.
+    /// Makes a pool with nothing out.
     pub fn new(last: u16, limit: u16) -> Self
         requires fits { FIRST + 64 * WORDS ≤ 2 ^ 16 }
         requires last { last < FIRST + 64 * WORDS }
@@ -71,16 +68,54 @@ impl<const FIRST: u16, const WORDS: usize> NumberPool<FIRST, WORDS> {
         Some(number)
     }
 
+    /// Tells whether fewer numbers are out than may be.
+    pub fn has_room(&self) -> bool
+        ensures room { IsTrue result ↔ HasRoom self.now }
+        ensures sound { IsSound self.now }
+    {
+        self.out < self.limit
+    }
+
+    /// Finds the least number that is not out and not barred, where one more may be out.
+    pub fn least_free(&self, barred: &NumberSet<FIRST, WORDS>) -> Option<u16>
+        ensures none { IfNone result ((number : ℕ) → IsFree self.now number → set.contains barred.now number ≡ false → HasRoom self.now → ⊥) }
+        ensures free { IfSome result (IsFree self.now) }
+        ensures unbarred { IfSome result (λ number. set.contains barred.now number ≡ false) }
+        ensures room { IfSome result (λ _. HasRoom self.now) }
+    {
+        if self.out == self.limit {
+            return None;
+        }
+        let taken = self.settled.union(barred);
+        let number = self.leased.least_outside(&taken)?;
+        if number > self.last {
+            return None;
+        }
+        Some(number)
+    }
+
+    /// Leases a number that is free, where one more may be out.
+    pub fn lease(&mut self, number: u16)
+        requires free { IsFree self.old number }
+        requires room { HasRoom self.old }
+        ensures pool { self.new ≡ pool_with_lease self.old number }
+        ensures leased { IsLeased self.new number }
+    {
+        self.leased.insert(number);
+        self.out += 1;
+    }
+
     /// Takes back a leased number.
     pub fn give_back(&mut self, number: u16)
         requires { IsLeased self.old number }
-        ensures { self.new ≡ pool_without_lease self.old number }
+        ensures pool { self.new ≡ pool_without_lease self.old number }
+        ensures sound { IsSound self.old }
     {
         self.leased.remove(number);
         self.out -= 1;
     }
 
-    /// Whether the number is one of the pool's, and not out.
+    /// Tells whether the number is one of the pool's, and not out.
     pub fn is_free(&self, number: u16) -> bool
         ensures free { IsTrue result ↔ IsFree self.now number }
         ensures sound { IsSound self.now }
@@ -110,5 +145,49 @@ impl<const FIRST: u16, const WORDS: usize> NumberPool<FIRST, WORDS> {
     {
         self.settled.remove(number);
         self.leased.insert(number);
+    }
+
+    /// Settles each of these leased numbers.
+    pub fn settle_each(&mut self, slots: &[Option<(u16, bool)>])
+        requires rising { IsRising (filled slots.now) }
+        requires leased { EachIndex (filled slots.now) (λ k. IsLeased self.old (number_at (filled slots.now) k)) }
+        ensures pool { self.new ≡ settle_each self.old (filled slots.now) }
+        ensures settled { EachIndex (filled slots.now) (λ k. IsSettled self.new (number_at (filled slots.now) k)) }
+    {
+        for slot in slots {
+            let Some((number, _)) = slot else {
+                continue;
+            };
+            self.settle(*number);
+        }
+    }
+
+    /// Leases each of these settled numbers again.
+    pub fn lease_each(&mut self, slots: &[Option<(u16, bool)>])
+        requires rising { IsRising (filled slots.now) }
+        requires settled { EachIndex (filled slots.now) (λ k. IsSettled self.old (number_at (filled slots.now) k)) }
+        ensures pool { self.new ≡ lease_each self.old (filled slots.now) }
+        ensures leased { EachIndex (filled slots.now) (λ k. IsLeased self.new (number_at (filled slots.now) k)) }
+    {
+        for slot in slots {
+            let Some((number, _)) = slot else {
+                continue;
+            };
+            self.lease_again(*number);
+        }
+    }
+
+    /// Takes back each of these leased numbers.
+    pub fn give_back_each(&mut self, slots: &[Option<(u16, bool)>])
+        requires rising { IsRising (filled slots.now) }
+        requires leased { EachIndex (filled slots.now) (λ k. IsLeased self.old (number_at (filled slots.now) k)) }
+        ensures { self.new ≡ give_back_each self.old (filled slots.now) }
+    {
+        for slot in slots {
+            let Some((number, _)) = slot else {
+                continue;
+            };
+            self.give_back(*number);
+        }
     }
 }

@@ -1,16 +1,18 @@
 use super::*;
 
+/// Leases the next ONU-ID, and settles it.
 fn settle_next_onu_id(ids: &mut OnuIds) -> Option<u8> {
     let lease = ids.take()?;
     Some(ids.settle(lease))
 }
 
+/// Leases the next Alloc-ID, and settles it.
 fn settle_next_alloc_id(ids: &mut AllocIds) -> Option<u16> {
     let lease = ids.take()?;
     Some(ids.settle(lease))
 }
 
-/// The next ONU-ID, settled, leased again and given back.
+/// Leases the next ONU-ID, settles it, leases it again and gives it back.
 fn pass_next_onu_id_through(ids: &mut OnuIds) -> Option<u8> {
     let lease = ids.take()?;
     let settled = ids.settle(lease);
@@ -20,7 +22,7 @@ fn pass_next_onu_id_through(ids: &mut OnuIds) -> Option<u8> {
     Some(number)
 }
 
-/// The next Alloc-ID, settled, leased again and given back.
+/// Leases the next Alloc-ID, settles it, leases it again and gives it back.
 fn pass_next_alloc_id_through(ids: &mut AllocIds) -> Option<u16> {
     let lease = ids.take()?;
     let settled = ids.settle(lease);
@@ -32,75 +34,96 @@ fn pass_next_alloc_id_through(ids: &mut AllocIds) -> Option<u16> {
 
 #[test]
 fn each_onu_id_in_turn(rt: HostRuntime) {
-    let mut ids = OnuIds::new(254);
+    let mut ids = OnuIds::new(254, 0);
     assert!(rt; ids.is_free(0) && ids.is_free(253) && !ids.is_free(254) && !ids.is_free(255));
     for number in 0..254 {
+        assert!(rt; ids.any_free());
+        assert_eq!(rt; pass_next_onu_id_through(&mut ids), Some(number));
         assert_eq!(rt; settle_next_onu_id(&mut ids), Some(number));
     }
+    assert!(rt; !ids.any_free() && !ids.is_free(0) && !ids.is_free(253));
     assert_eq!(rt; settle_next_onu_id(&mut ids), None);
-    assert!(rt; !ids.is_free(0) && !ids.is_free(253) && !ids.is_free(254) && !ids.is_free(255));
 }
 
 #[test]
 fn each_alloc_id_in_turn(rt: HostRuntime) {
-    let mut ids = AllocIds::new(4095);
-    assert!(rt; !ids.is_free(255) && ids.is_free(256) && ids.is_free(4095) && !ids.is_free(4096));
-    for number in 256..4096 {
-        assert_eq!(rt; settle_next_alloc_id(&mut ids), Some(number));
+    for (last, end) in [(255, 256), (256, 257), (4095, 4096)] {
+        let mut ids = AllocIds::new(last);
+        assert!(rt; !ids.is_free(255) && ids.is_free(256) == (last >= 256) && !ids.is_free(4096));
+        for number in 256..end {
+            assert!(rt; ids.any_free());
+            assert_eq!(rt; pass_next_alloc_id_through(&mut ids), Some(number));
+            assert_eq!(rt; settle_next_alloc_id(&mut ids), Some(number));
+        }
+        assert!(rt; !ids.any_free() && !ids.is_free(256));
+        assert_eq!(rt; settle_next_alloc_id(&mut ids), None);
     }
-    assert_eq!(rt; settle_next_alloc_id(&mut ids), None);
-    assert!(rt; !ids.is_free(256) && !ids.is_free(4095));
+}
+
+/// A gets 0 and gives it back. Then B gets a number, and C one after the quarantine.
+#[test]
+fn a_freed_number_cools(rt: HostRuntime) {
+    for (quarantine, number_of_b, number_of_c) in [
+        (0, 0, 1),
+        (1, 1, 0),
+        (800, 1, 0),
+        (8000, 1, 0),
+    ] {
+        let mut ids = OnuIds::new(254, quarantine);
+        assert_eq!(rt; pass_next_onu_id_through(&mut ids), Some(0));
+        assert_eq!(rt; settle_next_onu_id(&mut ids), Some(number_of_b));
+        for frame in 0..quarantine {
+            assert!(rt;
+                ids.is_cooling(0) && !ids.is_free(0),
+                "{quarantine} {frame}"
+            );
+            ids.tick();
+        }
+        assert!(rt; !ids.is_cooling(0), "{quarantine}");
+        assert_eq!(rt; settle_next_onu_id(&mut ids), Some(number_of_c));
+    }
+}
+
+/// A cooling number doesn't count among those that are out, and isn't handed out either.
+#[test]
+fn no_number_but_a_cooling_one(rt: HostRuntime) {
+    for (max_units, settled) in [(254, 253), (2, 1)] {
+        let mut ids = OnuIds::new(max_units, 800);
+        for _ in 0..settled {
+            let _ = settle_next_onu_id(&mut ids);
+        }
+        assert_eq!(rt; pass_next_onu_id_through(&mut ids), Some(settled));
+        assert_eq!(rt; ids.any_free(), max_units == 2);
+        assert_eq!(rt; settle_next_onu_id(&mut ids).is_some(), max_units == 2);
+        for _ in 0..800 {
+            ids.tick();
+        }
+        assert_eq!(rt; ids.any_free(), max_units == 254);
+    }
 }
 
 #[test]
-fn a_number_given_back_is_taken_again(rt: HostRuntime) {
-    let mut ids = OnuIds::new(1);
-    let lease = ids.take().expect(&rt, "one may be out");
-    assert_eq!(rt; lease.number(), 0);
-    ids.give_back(lease);
-    assert_eq!(rt; settle_next_onu_id(&mut ids), Some(0));
-    assert_eq!(rt; settle_next_onu_id(&mut ids), None);
-}
-
-#[test]
-fn one_alloc_id_and_none(rt: HostRuntime) {
-    let mut one = AllocIds::new(256);
-    assert_eq!(rt; settle_next_alloc_id(&mut one), Some(256));
-    assert_eq!(rt; settle_next_alloc_id(&mut one), None);
-    let mut none = AllocIds::new(255);
-    assert_eq!(rt; settle_next_alloc_id(&mut none), None);
-}
-
-/// Settles so many of the next ONU-IDs.
-fn settle_onu_ids(ids: &mut OnuIds, count: u8) {
-    for _ in 0..count {
-        let _ = settle_next_onu_id(ids);
+fn alloc_ids_of_a_unit_rise(rt: HostRuntime) {
+    let mut allocs = Allocs::new();
+    for alloc in [300, 4095, 256, 300, 257] {
+        if allocs.len() < MAX_ALLOCS {
+            allocs.insert(alloc, alloc == 4095);
+        }
     }
-}
-
-/// Settles so many of the next Alloc-IDs.
-fn settle_alloc_ids(ids: &mut AllocIds, count: u16) {
-    for _ in 0..count {
-        let _ = settle_next_alloc_id(ids);
-    }
-}
-
-#[test]
-fn the_last_onu_id_comes_back(rt: HostRuntime) {
-    let mut ids = OnuIds::new(254);
-    settle_onu_ids(&mut ids, 253);
-    for _ in 0..2 {
-        assert_eq!(rt; pass_next_onu_id_through(&mut ids), Some(253));
-        assert!(rt; ids.is_free(253));
-    }
-}
-
-#[test]
-fn the_last_alloc_id_comes_back(rt: HostRuntime) {
-    let mut ids = AllocIds::new(4095);
-    settle_alloc_ids(&mut ids, 3839);
-    for _ in 0..2 {
-        assert_eq!(rt; pass_next_alloc_id_through(&mut ids), Some(4095));
-        assert!(rt; ids.is_free(4095));
-    }
+    allocs.remove(257);
+    allocs.remove(258);
+    let want = [
+        Some((256, false)),
+        Some((300, false)),
+        Some((4095, true)),
+        None,
+        None,
+        None,
+        None,
+        None,
+    ];
+    assert_eq!(rt; allocs.slots(), want);
+    assert_eq!(rt; allocs.len(), 3);
+    assert_eq!(rt; allocs.get(4095), Some(true));
+    assert_eq!(rt; allocs.get(257), None);
 }

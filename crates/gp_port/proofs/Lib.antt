@@ -1,4 +1,6 @@
-pub mod Listing
-pub mod Least
-pub mod Free
-pub mod Kept
+pub mod Units
+pub mod Stepping
+pub mod Owed
+pub mod Cores
+pub mod PopUp
+pub mod Tables

@@ -1,35 +1,105 @@
-ghost use Rattle.std.specs.Prelude.{◌≡◌, None};
-ghost use Rattle.gp_machine.specs.Outcomes.{outcome_of};
-ghost use Rattle.gp_machine.specs.Commands.{command_outcome};
+ghost use Rattle.std.specs.Prelude.{◌≡◌, ◌≤◌, None};
+ghost use Rattle.gp_machine.specs.declared.event.Command.TheVariants as command;
+ghost use Rattle.gp_machine.specs.declared.reply.Reply.TheVariants as reply;
+ghost use Rattle.gp_machine.specs.Sound.{IsSound};
+ghost use Rattle.gp_machine.specs.Changes.{step_result_of};
+ghost use Rattle.gp_machine.specs.Responses.{MayPick, bare_answer, step_result_with};
+ghost use Rattle.gp_machine.specs.Commands.{command_response};
+ghost use Rattle.gp_port.specs.Numbers.{number_in};
 
-use super::port_core::PortCore;
+use super::port_machine::PortMachine;
 use gp_common::Common;
-use gp_licence::Licences;
 use gp_machine::{Answer, Command, Refusal, Reply};
-use std::sync::ledger::Ledger;
+use gp_ploam::{BROADCAST_ONU, Down, Serial};
 
-impl<L: Ledger> PortCore<L> {
-    /// A command of the operator.
-    pub(super) fn command(&mut self, purse: Licences<L>, command: Command) -> (Answer, Licences<L>)
-        ensures outcome { outcome_of result self.new ≡ command_outcome purse self.old command }
-        ensures sent { result.0.sent ≡ None }
+impl PortMachine {
+    /// Carries out a command. An Alloc-ID that a unit gets is the wished one, where that is free.
+    pub(super) fn command(
+        &mut self,
+        purse: u32,
+        command: Command,
+        wished: Option<u16>,
+    ) -> (Answer, u32)
+        requires sound { IsSound self.old }
+        requires units { self.old.config.max_units ≤ 254 }
+        requires last { self.old.config.alloc_last ≤ 4095 }
+        requires purse { purse ≤ 4064 }
+        ensures free { MayPick self.old (command_response self.old command) (number_in result.0.reply) }
+        ensures outcome { step_result_of result self.new ≡ step_result_with purse self.old None (command_response self.old command) (number_in result.0.reply) }
     {
         match command {
-            Command::Search => self.want_search(purse),
+            Command::Search => self.command_search(purse),
+            Command::Alloc(serial) => self.command_alloc(purse, serial, wished),
+            Command::Dealloc { serial, alloc } => self.command_dealloc(purse, serial, alloc),
+            Command::Deactivate(serial) => self.command_deactivate(purse, serial),
+            Command::Disable(serial) => self.command_disable(purse, serial),
+            Command::Enable(serial) => self.command_enable(purse, serial),
+            Command::EnableAll => self.command_enable_all(purse),
+            Command::Popup(serial) => self.command_popup(purse, serial),
+            Command::PopupAll => self.command_popup_all(purse),
+            Command::Show(serial) => self.command_show(purse, serial),
         }
     }
 
-    /// A search is wanted, but where one is wanted already or goes on.
-    fn want_search(&mut self, purse: Licences<L>) -> (Answer, Licences<L>)
-        ensures outcome { outcome_of result self.new ≡ command_outcome purse self.old Command.Search }
-        ensures sent { result.0.sent ≡ None }
+    /// Carries out the command search.
+    fn command_search(&mut self, purse: u32) -> (Answer, u32)
+        ensures free { MayPick self.old (command_response self.old command.Search) (number_in result.0.reply) }
+        ensures outcome { step_result_of result self.new ≡ step_result_with purse self.old None (command_response self.old command.Search) (number_in result.0.reply) }
     {
-        let acquiring = matches!(self.common, Common::Acquisition(_));
-        if self.wanted || acquiring {
-            let reply = Reply::Refused(Refusal::AlreadySearching);
-            return (Answer::from(reply), purse);
+        if self.wanted || matches!(self.common, Common::Acquisition(_)) {
+            return (refused(Refusal::AlreadySearching), purse);
         }
-        self.wanted = true;
+        self.want(true);
         (Answer::from(Reply::Searching), purse)
     }
+
+    /// Carries out the command enable all.
+    fn command_enable_all(&mut self, purse: u32) -> (Answer, u32)
+        requires sound { IsSound self.old }
+        ensures free { MayPick self.old (command_response self.old command.EnableAll) (number_in result.0.reply) }
+        ensures outcome { step_result_of result self.new ≡ step_result_with purse self.old None (command_response self.old command.EnableAll) (number_in result.0.reply) }
+    {
+        if !self.has_room() {
+            return (refused(Refusal::Busy), purse);
+        }
+        self.enable_all();
+        self.owe(Down::EnableAll);
+        (Answer::from(Reply::EnabledAll), purse)
+    }
+
+    /// Carries out the command popup to all units.
+    fn command_popup_all(&mut self, purse: u32) -> (Answer, u32)
+        requires sound { IsSound self.old }
+        requires units { self.old.config.max_units ≤ 254 }
+        ensures free { MayPick self.old (command_response self.old command.PopupAll) (number_in result.0.reply) }
+        ensures outcome { step_result_of result self.new ≡ step_result_with purse self.old None (command_response self.old command.PopupAll) (number_in result.0.reply) }
+    {
+        if !self.has_room() {
+            return (refused(Refusal::Busy), purse);
+        }
+        let count = self.pop_up_all();
+        self.owe(Down::Popup { onu: BROADCAST_ONU });
+        (Answer::from(Reply::PoppedUpAll(count)), purse)
+    }
+
+    /// Carries out the command show.
+    fn command_show(&mut self, purse: u32, serial: Serial) -> (Answer, u32)
+        ensures free { MayPick self.old (command_response self.old (command.Show serial)) (number_in result.0.reply) }
+        ensures outcome { step_result_of result self.new ≡ step_result_with purse self.old None (command_response self.old (command.Show serial)) (number_in result.0.reply) }
+    {
+        let Some(known) = self.look_up(&serial) else {
+            return (refused(Refusal::NotAdmitted), purse);
+        };
+        match known.row {
+            Some(row) => (Answer::from(Reply::Shown(row)), purse),
+            None => (refused(Refusal::NotActive), purse),
+        }
+    }
+}
+
+/// Makes the answer to a command that is refused.
+pub(super) fn refused(refusal: Refusal) -> Answer
+    ensures { result ≡ bare_answer (reply.Refused refusal) }
+{
+    Answer::from(Reply::Refused(refusal))
 }

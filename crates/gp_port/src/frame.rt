@@ -1,54 +1,86 @@
-ghost use Rattle.std.specs.Prelude.{◌≡◌, []};
-ghost use Rattle.std.specs.Option.{ForSome};
-ghost use Rattle.gp_ploam.specs.declared.message.Down.TheVariants as down;
-ghost use Rattle.gp_volley.specs.Copies.{first_of};
-ghost use Rattle.gp_ploam.specs.Down.{IsProperDown};
-ghost use Rattle.gp_machine.specs.State.{IsLeastRanging};
-ghost use Rattle.gp_machine.specs.Sound.{IsSound};
-ghost use Rattle.gp_machine.specs.Outcomes.{outcome_of};
-ghost use Rattle.gp_machine.specs.Frame as spec;
+ghost use Rattle.std.specs.Prelude.{◌≡◌, ℕ, ◌+◌, ◌-◌, ◌≤◌, None, Some, length, map};
+ghost use Rattle.gp_volley.specs.Copies.{copies_each, first_of, max_copies};
 ghost use Rattle.gp_machine.specs.declared.event.Event.TheVariants as event;
+ghost use Rattle.gp_machine.specs.Sound.{IsSound};
 ghost use Rattle.gp_machine.specs.Step.{Step};
+ghost use Rattle.gp_ploam.specs.declared.message.Down.TheVariants as down;
+ghost use Rattle.gp_ploam.specs.Down.{IsProperDown};
+ghost use Rattle.gp_unit.specs.Rows.{alarm_polled, row_unranged, was_seen};
+ghost use Rattle.gp_unit.specs.Sound.{IsSoundRow};
+ghost use Rattle.gp_machine.specs.declared.reply.Reply.TheVariants as reply;
+ghost use Rattle.gp_machine.specs.State.{HasRow};
+ghost use Rattle.gp_machine.specs.Responses.{MayPick, step_result_with};
+ghost use Rattle.gp_machine.specs.Changes.{step_result_of};
+ghost use Rattle.gp_machine.specs.Frame as spec;
+ghost use Rattle.gp_machine.specs.Frame.{decided_response, frame_response, state_begun, window_response};
+ghost use Rattle.gp_machine.specs.Closes.{poll_ended, suf_alarm, unpolled_response, unranged_response};
 
-use super::port_core::PortCore;
-use super::windows::{put_window, ticked};
+use super::answers::ticked;
+use super::port_machine::PortMachine;
+use gp_alarms::{Alarm, AlarmKind, Outcome};
 use gp_common::{Common, Decision, decide};
-use gp_licence::Licences;
-use gp_machine::{Answer, Reply};
-use gp_ploam::Down;
-use gp_ranging::{Grant, Window};
-use std::sync::ledger::Ledger;
+use gp_machine::{Answer, Phase, Reply, Row};
+use gp_ploam::{Down, Serial};
+use gp_ranging::Grant;
 
-impl<L: Ledger> PortCore<L> {
-    /// A frame: the timer, the sending, the window, and the decision where the port was idle.
-    pub(super) fn frame(&mut self, purse: Licences<L>) -> (Answer, Licences<L>)
-        ensures step { Step purse self.old event.Frame (outcome_of result self.new) }
-        ensures proper { ForSome result.0.sent IsProperDown }
+impl PortMachine {
+    /// Makes a frame: cooling, timer and sending, then the open window, or a decision.
+    pub(super) fn frame(&mut self, purse: u32) -> (Answer, u32)
+        requires sound { IsSound self.old }
+        requires purse { purse ≤ 4064 }
+        requires period { self.old.config.search_period ≤ 1000000 }
+        ensures { Step purse self.old event.Frame (step_result_of result self.new) }
     {
-        let ranging = self.table.least_ranging();
-        let idle = self.is_idle();
+        let ranging = self.least_ranging();
+        let next = self.next_poll();
+        self.frame_by(purse, ranging, next)
+    }
+
+    /// Makes a frame, where these are the least ranging unit and the one that is polled next.
+    fn frame_by(&mut self, purse: u32, ranging: Option<u8>, next: Option<u8>) -> (Answer, u32)
+        requires sound { IsSound self.old }
+        requires purse { purse ≤ 4064 }
+        requires period { self.old.config.search_period ≤ 1000000 }
+        ensures free { MayPick (state_begun self.old) (frame_response self.old ranging next) 0 }
+        ensures outcome { step_result_of result self.new ≡ step_result_with purse (state_begun self.old) (first_of self.old.owed) (frame_response self.old ranging next) 0 }
+    {
+        let quiet = self.owed.len_copies() == 0;
+        let sent = self.begin_frame();
+        match &self.window {
+            Some(window) => {
+                let grant = window.grant();
+                let seen = window.seen();
+                let left = window.left();
+                self.window_frame(purse, sent, grant, seen, left)
+            }
+            None if quiet => {
+                let (common, decision) = decide(
+                    self.common,
+                    self.wanted,
+                    ranging,
+                    next,
+                    self.config.cycles,
+                );
+                self.decided(purse, sent, common, decision)
+            }
+            None => (ticked(sent, None), purse),
+        }
+    }
+
+    /// Begins a frame: cooling ONU-IDs have a frame less, the timer runs, and the first copy is sent.
+    fn begin_frame(&mut self) -> Option<Down>
+        requires timer { self.old.timer ≤ 1000000 }
+        ensures first { result ≡ first_of self.old.owed }
+        ensures state { self.new ≡ state_begun self.old }
+    {
+        self.cool();
         self.run_timer();
-        let sent = self.send();
-        self.tick_window();
-        let grant = if idle { self.decide(ranging) } else { None };
-        let answer = Answer {
-            reply: Reply::Ticked,
-            sent,
-            grant,
-            alarm: None,
-        };
-        (answer, purse)
+        self.owed.send_one()
     }
 
-    /// Whether no window is open and nothing is owed.
-    fn is_idle(&self) -> bool
-        ensures { result ≡ spec.is_idle self.now }
-    {
-        self.window.is_none() && self.owed.is_empty()
-    }
-
-    /// The timer of the search rises in standby.
+    /// Runs the timer of the search, which rises in standby.
     fn run_timer(&mut self)
+        requires timer { self.old.timer ≤ 1000000 }
         ensures { self.new ≡ spec.state_after_timer self.old }
     {
         if matches!(self.common, Common::Standby) && self.config.search_period > 0 {
@@ -60,60 +92,170 @@ impl<L: Ledger> PortCore<L> {
         }
     }
 
-    /// Sends the first copy that is owed.
-    fn send(&mut self) -> Option<Down>
-        ensures first { result ≡ first_of self.old.owed }
-        ensures rest { self.new ≡ spec.state_after_sending self.old }
-        ensures proper { ForSome result IsProperDown }
+    /// Takes a frame off the open window, which closes with its last.
+    fn window_frame(
+        &mut self,
+        purse: u32,
+        sent: Option<Down>,
+        grant: Grant,
+        seen: bool,
+        left: u8,
+    ) -> (Answer, u32)
+        requires sound { IsSound self.old }
+        requires purse { purse ≤ 4064 }
+        requires window { self.old.window ≡ Some (record { grant = grant; left = left; seen = seen }) }
+        ensures free { MayPick self.old (window_response self.old (record { grant = grant; left = left; seen = seen })) 0 }
+        ensures outcome { step_result_of result self.new ≡ step_result_with purse self.old sent (window_response self.old (record { grant = grant; left = left; seen = seen })) 0 }
     {
-        self.owed.send_one()
-    }
-
-    /// The open window has a frame less, and closes with its last.
-    fn tick_window(&mut self)
-        ensures { self.new ≡ spec.state_after_tick self.old }
-    {
-        let window = ticked(self.window.take());
-        put_window(&mut self.window, window);
-    }
-
-    /// Decides, and does what was decided. Nothing is owed.
-    fn decide(&mut self, ranging: Option<u8>) -> Option<Grant>
-        requires idle { self.old.owed ≡ [] }
-        requires ranging { IsLeastRanging self.old.rows ranging }
-        ensures state { self.new ≡ spec.state_after_decision self.old (spec.decision_after self.old ranging) }
-        ensures grant { result ≡ spec.grant_of (spec.decision_after self.old ranging).1 }
-    {
-        let (common, decision) = decide(
-            self.common,
-            self.wanted,
-            ranging,
-            None,
-            self.config.cycles,
-        );
-        self.act(common, decision);
-        grant_of(decision)
-    }
-
-    /// Does what was decided, which keeps the port sound.
-    fn act(&mut self, common: Common, decision: Decision)
-        requires idle { self.old.owed ≡ [] }
-        requires sound { IsSound (spec.state_after_decision self.old (common, decision)) }
-        ensures { self.new ≡ spec.state_after_decision self.old (common, decision) }
-    {
-        self.common = common;
-        match decision {
-            Decision::Nothing => {}
-            Decision::Overhead => {
-                self.wanted = false;
-                self.owed.owe(overhead_with(self.config.overhead));
+        if left > 1 {
+            self.count_down();
+            return (ticked(sent, None), purse);
+        }
+        match grant {
+            Grant::Search => {
+                self.close_window();
+                (ticked(sent, None), purse)
             }
-            Decision::Ask(grant) => put_window(&mut self.window, Some(Window::begin(grant))),
+            Grant::Range(onu) => match self.unit_with(onu) {
+                Some((serial, row)) => self.unranged(purse, sent, serial, row, seen),
+                None => {
+                    self.close_window();
+                    (ticked(sent, None), purse)
+                }
+            },
+            Grant::Poll(onu) => match self.unit_with(onu) {
+                Some((serial, row)) => self.unpolled(purse, sent, serial, row, seen),
+                None => {
+                    self.close_window();
+                    (ticked(sent, None), purse)
+                }
+            },
+        }
+    }
+
+    /// Does what follows from a decision.
+    pub(super) fn decided(
+        &mut self,
+        purse: u32,
+        sent: Option<Down>,
+        common: Common,
+        decision: Decision,
+    ) -> (Answer, u32)
+        requires idle { length self.old.owed + copies_each ≤ max_copies }
+        ensures free { MayPick self.old (decided_response self.old (common, decision)) 0 }
+        ensures outcome { step_result_of result self.new ≡ step_result_with purse self.old sent (decided_response self.old (common, decision)) 0 }
+    {
+        self.enter(common);
+        match decision {
+            Decision::Nothing => (ticked(sent, None), purse),
+            Decision::Overhead => {
+                self.want(false);
+                let message = overhead_with(self.config.overhead);
+                self.owe(message);
+                (ticked(sent, None), purse)
+            }
+            Decision::Ask(grant) => {
+                self.open_window(grant);
+                let answer = Answer {
+                    reply: Reply::Ticked,
+                    sent,
+                    grant: Some(grant),
+                    alarm: None,
+                };
+                (answer, purse)
+            }
+        }
+    }
+
+    /// Closes a ranging window without a result.
+    pub(super) fn unranged(
+        &mut self,
+        purse: u32,
+        sent: Option<Down>,
+        serial: Serial,
+        row: Row,
+        heard: bool,
+    ) -> (Answer, u32)
+        requires fits { IsSoundRow self.old.config.alloc_last row }
+        requires purse { purse ≤ 4064 }
+        requires has { HasRow self.old.rows serial row }
+        requires room { length self.old.owed + copies_each ≤ max_copies }
+        ensures free { MayPick self.old (unranged_response serial row heard (row_unranged row heard row.phase)) 0 }
+        ensures outcome { step_result_of result self.new ≡ step_result_with purse self.old sent (unranged_response serial row heard (row_unranged row heard row.phase)) 0 }
+    {
+        let onu = row.onu;
+        self.close_window();
+        match row.unranged(heard) {
+            Some(still) => {
+                self.set_row(serial, still);
+                (ticked(sent, None), purse)
+            }
+            None => {
+                self.remove_unit(&serial, onu);
+                self.owe(Down::Deactivate { onu });
+                let alarm = suf(was_seen(row.phase) || heard, serial);
+                (ticked(sent, alarm), purse + 1)
+            }
+        }
+    }
+
+    /// Closes a poll window with its last frame.
+    pub(super) fn unpolled(
+        &mut self,
+        purse: u32,
+        sent: Option<Down>,
+        serial: Serial,
+        row: Row,
+        heard: bool,
+    ) -> (Answer, u32)
+        requires fits { IsSoundRow self.old.config.alloc_last row }
+        requires purse { purse ≤ 4064 }
+        requires has { HasRow self.old.rows serial row }
+        requires room { length self.old.owed + copies_each ≤ max_copies }
+        ensures free { MayPick self.old (unpolled_response serial row (poll_ended heard) (alarm_polled row (poll_ended heard))) 0 }
+        ensures outcome { step_result_of result self.new ≡ step_result_with purse self.old sent (unpolled_response serial row (poll_ended heard) (alarm_polled row (poll_ended heard))) 0 }
+    {
+        let onu = row.onu;
+        let (still, alarm) = row.polled(ended(heard));
+        self.close_window();
+        match alarm {
+            None => {
+                self.set_row(serial, still);
+                (ticked(sent, None), purse)
+            }
+            Some(kind) => {
+                self.remove_unit(&serial, onu);
+                self.owe(Down::Deactivate { onu });
+                (ticked(sent, Some(Alarm { kind, serial })), purse + 1)
+            }
         }
     }
 }
 
-/// Upstream_Overhead with these ten octets.
+/// Tells how a poll window ends that closes with its last frame.
+fn ended(heard: bool) -> Outcome
+    ensures { result ≡ poll_ended heard }
+{
+    if heard {
+        Outcome::Garbled
+    } else {
+        Outcome::Dark
+    }
+}
+
+/// Makes SUF of a unit of which something was heard while it was ranging.
+fn suf(heard: bool, serial: Serial) -> Option<Alarm>
+    ensures { result ≡ suf_alarm heard serial }
+{
+    let kind = AlarmKind::Suf;
+    if heard {
+        Some(Alarm { kind, serial })
+    } else {
+        None
+    }
+}
+
+/// Makes Upstream_Overhead with these ten octets.
 fn overhead_with(burst: [u8; 10]) -> Down
     ensures message { result ≡ down.UpstreamOverhead burst }
     ensures proper { IsProperDown result }
@@ -121,12 +263,12 @@ fn overhead_with(burst: [u8; 10]) -> Down
     Down::UpstreamOverhead { burst }
 }
 
-/// What a decision grants.
-fn grant_of(decision: Decision) -> Option<Grant>
-    ensures { result ≡ spec.grant_of decision }
+/// Tells whether anything was heard of a unit while it was ranging.
+fn was_seen(phase: Phase) -> bool
+    ensures { result ≡ was_seen phase }
 {
-    match decision {
-        Decision::Ask(grant) => Some(grant),
-        Decision::Nothing | Decision::Overhead => None,
+    match phase {
+        Phase::Ranging { seen, .. } => seen,
+        Phase::Operating { .. } => false,
     }
 }

@@ -1,21 +1,39 @@
-//! The activation machine of one port, as code: each step of `PortCore` is a step of the machine that
-//! `gp_machine` defines.
+//! The activation machine of one port, as code (G.984.3, clause 10).
+//!
+//! - `port_machine.rt`: `PortMachine`, the machine without its licences, and the questions that it asks itself.
+//! - `changes.rt`, `unit_changes.rt`: a method for each change that a step makes.
+//! - `frame.rt`, `burst.rt`, `search_window.rt`, `range_window.rt`, `poll_window.rt`, `command.rt`, `unit_command.rt`,
+//!   `alloc_command.rt`: a method for each table of `gp_machine`, whose clause is that table.
+//! - `port_core.rt`: `PortCore`, a `PortMachine` with one licence for each active unit. Its `step` carries the promises.
+//! - `octets.rt`: octets of any length as a burst. `open.rt`: why a port is not opened.
+//!
+//! A changed rule is changed in its table in `gp_machine` and in the method of the same name here; another representation
+//! of the units, in `gp_table`.
 #![tactic(auto)]
 
+mod alloc_command;
+mod answers;
 mod burst;
+mod changes;
 mod command;
-mod copies;
 mod frame;
+mod octets;
 mod open;
+mod poll_window;
 mod port_core;
-mod rows;
-mod table;
-#[cfg(test)]
-mod tests;
-mod windows;
+mod port_machine;
+mod range_window;
+mod search_window;
+mod unit_changes;
+mod unit_command;
 
 pub use gp_machine::{
     Admitted, Answer, Command, Entry, Event, Phase, PortConfig, Receipt, Refusal, Reply, Row,
 };
+pub use octets::burst_of;
 pub use open::OpenFault;
 pub use port_core::PortCore;
+pub use port_machine::PortMachine;
+
+#[cfg(test)]
+mod tests;

@@ -1,6 +1,7 @@
 ghost use Rattle.std.specs.Prelude.{◌≡◌};
 ghost use Rattle.gp_port.specs.declared.open.OpenFault.TheVariants.{OutOfMemory};
 
+use gp_volley::QueueFault;
 use std::alloc::AllocError;
 use thiserror::Error;
 
@@ -20,6 +21,14 @@ impl From<AllocError> for OpenFault {
     ghost from_gives = { λ _ fault. fault ≡ OutOfMemory };
 
     fn from(_error: AllocError) -> OpenFault {
+        OpenFault::OutOfMemory
+    }
+}
+
+impl From<QueueFault> for OpenFault {
+    ghost from_gives = { λ _ fault. fault ≡ OutOfMemory };
+
+    fn from(_fault: QueueFault) -> OpenFault {
         OpenFault::OutOfMemory
     }
 }

@@ -1,23 +1,32 @@
-ghost use Rattle.std.specs.Prelude.{◌≡◌, ◌+◌, ◌≤◌, false, true, [], length, IfOk, IsErrOf, IsTrue, ◌↔◌};
+ghost use Rattle.std.specs.Prelude.{◌≡◌, ◌+◌, ◌≤◌, ◌++◌, List, false, true, length, IfOk, IsErrOf, IsTrue, ◌↔◌};
 ghost use Rattle.std.specs.FinMap as map;
-ghost use Rattle.std.specs.Option.{ForSome};
+ghost use Rattle.std.specs.FinSet as set;
+ghost use Rattle.std.specs.Option.{ForSome, option_map, option_to_list};
+ghost use Rattle.gp_ploam.specs.declared.message.Down.{Down};
 ghost use Rattle.gp_volley.specs.Copies.{max_copies};
 ghost use Rattle.gp_ploam.specs.Down.{IsProperDown};
+ghost use Rattle.gp_machine.specs.declared.refusal.Refusal.{Refusal};
+ghost use Rattle.gp_machine.specs.declared.reply.Reply.TheVariants.{Refused};
+ghost use Rattle.gp_unit.specs.Records.{view_of};
 ghost use Rattle.gp_machine.specs.Config.{is_within_limits};
 ghost use Rattle.gp_machine.specs.State.{opening_of, rows_of};
 ghost use Rattle.gp_machine.specs.Sound.{IsSound};
-ghost use Rattle.gp_machine.specs.Outcomes.{outcome_of};
-ghost use Rattle.gp_machine.specs.Step.{Step};
+ghost use Rattle.gp_machine.specs.Changes.{step_result_of};
+ghost use Rattle.gp_machine.specs.Responses.{bare_answer};
+ghost use Rattle.gp_machine.specs.Step.{Step, StepOwing};
+ghost use Rattle.gp_machine.specs.OneStep.{state_refused};
+ghost use Rattle.gp_machine.specs.Messages.{three_times};
 
-use super::copies::Copies;
 use super::open::OpenFault;
-use super::table::UnitTable;
-use super::windows::put_window;
+use super::port_machine::PortMachine;
 use gp_common::Common;
 use gp_licence::Licences;
-use gp_machine::{Answer, Event, PortConfig, Row};
+use gp_machine::{
+    Answer, Event, PortConfig, refusals_change_nothing, sound_step, step_keeps_licences,
+    step_sends_in_order,
+};
 use gp_ploam::Serial;
-use gp_ranging::Window;
+use gp_unit::RowView;
 use std::alloc::Global;
 use std::marker::Model;
 use std::sync::ledger::Ledger;
@@ -26,149 +35,131 @@ use std::sync::ledger::Ledger;
 /// active unit, so it is ended by `close` and never dropped. Its clock is the downstream frame (125
 /// microseconds), and its delays are in bit times. Contracts see its state.
 pub struct PortCore<L: Ledger> {
-    pub(super) config: PortConfig,
-    pub(super) table: UnitTable,
-    pub(super) common: Common,
-    pub(super) wanted: bool,
-    pub(super) timer: u32,
-    pub(super) window: Option<Window>,
-    pub(super) owed: Copies,
-    pub(super) held: Licences<L>,
+    machine: PortMachine,
+    held: Licences<L>,
 }
 
 impl<L: Ledger> Model for PortCore<L> {
     ghost use Rattle.std.specs.FinMap as map;
+    ghost use Rattle.std.specs.FinSet as set;
     ghost use Rattle.std.specs.Coded.{codes};
     ghost use Rattle.gp_ploam.specs.Serials.{serial_cmp, coded_serial};
-    ghost use Rattle.gp_machine.specs.contracts.row.Row as row;
+    ghost use Rattle.gp_unit.specs.contracts.row.Row as row;
     ghost use Rattle.gp_machine.specs.State.{PortState};
-    ghost use Rattle.gp_port.specs.Core.{state_with, IsKept};
+    ghost use Rattle.gp_port.specs.Parts.{IsKept};
 
     ghost Value = { PortState };
 
-    ghost coded = { Prim.hlevel (codes, map.code {R = serial_cmp} coded_serial row.the_row.coded) };
+    ghost coded = { Prim.hlevel (codes, map.code {R = serial_cmp} coded_serial row.the_row.coded, set.code {R = serial_cmp} coded_serial) };
 
-    ghost view = { λ c. state_with c.config c.table c.common c.wanted c.timer c.window c.owed };
+    ghost view = { λ c. c.machine };
 
-    ghost invariant = { λ c. IsKept (state_with c.config c.table c.common c.wanted c.timer c.window c.owed) c.held };
+    ghost invariant = { λ c. IsKept c.machine c.held };
 }
 
 impl<L: Ledger> PortCore<L> {
-    /// A port with no units, in standby. All the memory that it ever needs is taken here: for a copy of the
-    /// config, 254 units and 192 copies of messages. `OpenFault` says when it is not opened.
+    /// Opens a port with no units, in standby. All the memory that it ever needs is taken here: for a copy of the
+    /// config, 254 units and 64 messages. `OpenFault` says when it is not opened.
     pub fn begin(alloc: Global, config: &PortConfig) -> Result<PortCore<L>, OpenFault>
         ensures opening { IfOk result (λ port. port ≡ opening_of config.now) }
         ensures limit { IsErrOf result OpenFault.Limit ↔ (is_within_limits config.now ≡ false) }
     {
-        if !config.is_within_limits() {
-            return Err(OpenFault::Limit);
-        }
-        let config = config.copy(alloc)?;
-        let table = UnitTable::begin(alloc)?;
-        let owed = Copies::begin(alloc)?;
-        Ok(assemble(config, table, owed))
+        let machine = PortMachine::begin(alloc, config)?;
+        Ok(PortCore {
+            machine,
+            held: Licences::none(),
+        })
     }
 
-    /// One step of the machine, with these licences at hand: a new unit takes one of them. What is left
-    /// of them is given back. It takes no memory. A burst's delay and an equalization delay in the answer
-    /// are in bit times. A frame sends one copy at most.
+    /// Makes one step of the machine with these licences at hand: a new unit takes one of them, and a unit that is
+    /// removed gives its one back. What is left of them is given back. It takes no memory. Which of the free numbers a new
+    /// unit or a command gets is not promised. A burst's delay and an equalization delay in the answer are in bit times.
     pub fn step(&mut self, purse: Licences<L>, event: Event) -> (Answer, Licences<L>)
-        ensures step { Step purse self.old event (outcome_of result self.new) }
+        ensures step { Step purse self.old event (step_result_of result self.new) }
         ensures sound { IsSound self.new }
         ensures licences { result.1 + rows_of self.new ≡ purse + rows_of self.old }
+        ensures sends { (messages : List Down) × StepOwing purse self.old event (step_result_of result self.new) messages × (option_to_list result.0.sent ++ self.new.owed ≡ self.old.owed ++ three_times messages) }
+        ensures refused { (refusal : Refusal) → result.0.reply ≡ Refused refusal → step_result_of result self.new ≡ record { answer = bare_answer (Refused refusal); purse = purse; state = state_refused self.old event } }
         ensures proper { ForSome result.0.sent IsProperDown }
     {
-        let done = self.react(purse, event);
-        // A field is looked at, so that the invariant, soundness among it, is known here.
-        let _ = &self.config;
-        done
+        sound_step();
+        step_keeps_licences();
+        step_sends_in_order();
+        refusals_change_nothing();
+        let (answer, left) = self.machine.step(purse.count(), event, None);
+        let rest = share_out(purse, &mut self.held, left);
+        (answer, rest)
     }
 
-    /// The step, by the kind of event.
-    fn react(&mut self, purse: Licences<L>, event: Event) -> (Answer, Licences<L>)
-        ensures step { Step purse self.old event (outcome_of result self.new) }
-        ensures proper { ForSome result.0.sent IsProperDown }
-    {
-        match event {
-            Event::Frame => self.frame(purse),
-            Event::Burst { at, bytes } => self.burst(purse, at, bytes),
-            Event::Command(command) => self.command(purse, command),
-        }
-    }
-
-    /// What the port was opened with. It never changes, and is within the limits.
+    /// Gives what the port was opened with. It never changes, and is within the limits.
     pub fn config(&self) -> &PortConfig
         ensures config { result.now ≡ self.now.config }
         ensures limits { IsTrue (is_within_limits result.now) }
     {
-        &self.config
+        self.machine.config()
     }
 
-    /// What the port knows of the unit with this serial number, if it is active: its ONU-ID, 0 to 253, and
-    /// how far its activation has gone, with its equalization delay in bit times.
-    pub fn row_of(&self, serial: &Serial) -> Option<Row>
-        ensures { result ≡ map.get self.now.rows serial.now }
+    /// Tells what the port knows of the unit with this serial number, if it is active.
+    pub fn row_of(&self, serial: &Serial) -> Option<RowView>
+        ensures { result ≡ option_map view_of (map.get self.now.rows serial.now) }
     {
-        self.table.row_of(serial)
+        match self.machine.row_of(serial) {
+            Some(row) => Some(row.view()),
+            None => None,
+        }
     }
 
-    /// How many units are active, at most `max_units` of the config.
+    /// Tells whether the serial number is disabled: its unit is not to send, and gets no ONU-ID.
+    pub fn is_disabled(&self, serial: &Serial) -> bool
+        ensures { result ≡ set.contains self.now.disabled serial.now }
+    {
+        self.machine.is_disabled(serial)
+    }
+
+    /// Tells how many units are active, at most `max_units` of the config.
     pub fn rows(&self) -> usize
         ensures { result ≡ rows_of self.now }
     {
-        self.table.len()
+        self.machine.rows()
     }
 
-    /// How many copies of messages are still to be sent, one with each frame.
+    /// Tells how many copies of messages are still to be sent, one with each frame.
     pub fn owed(&self) -> usize
         ensures owed { result ≡ length self.now.owed }
         ensures most { result ≤ max_copies }
     {
-        self.owed.len()
+        self.machine.owed()
     }
 
-    /// What the port does for all units together: it is in standby, searches for units, or measures delays.
+    /// Tells what the port does for all units together: it is in standby, searches for units, or measures delays.
     pub fn common(&self) -> Common
         ensures { result ≡ self.now.common }
     {
-        self.common
+        self.machine.common()
     }
 
     /// Ends the port, with the licence of each unit. A window that is open is closed.
     pub fn close(self) -> Licences<L>
         ensures { result ≡ rows_of self }
     {
-        let PortCore {
-            config: _,
-            table: _,
-            common: _,
-            wanted: _,
-            timer: _,
-            mut window,
-            owed: _,
-            held,
-        } = self;
-        put_window(&mut window, None);
-        let None = window else { unreachable!() };
+        let PortCore { machine, held } = self;
+        machine.close();
         held
     }
 }
 
-/// The port that has just been opened.
-fn assemble<L: Ledger>(config: PortConfig, table: UnitTable, owed: Copies) -> PortCore<L>
-    requires within { is_within_limits config ≡ true }
-    requires empty { table ≡ map.empty }
-    requires nothing { owed ≡ [] }
-    ensures { result ≡ opening_of config }
+/// Moves licences between the two, so that `left` of them are given back and the port holds the others.
+fn share_out<L: Ledger>(purse: Licences<L>, held: &mut Licences<L>, left: u32) -> Licences<L>
+    requires { left ≤ purse + held.old }
+    ensures left { result ≡ left }
+    ensures held { held.new + result ≡ purse + held.old }
 {
-    PortCore {
-        config,
-        table,
-        common: Common::Standby,
-        wanted: false,
-        timer: 0,
-        window: None,
-        owed,
-        held: Licences::none(),
+    let mut purse = purse;
+    let had = purse.count();
+    if left < had {
+        held.absorb(purse.split_off(had - left));
+    } else if had < left {
+        purse.absorb(held.split_off(left - had));
     }
+    purse
 }

@@ -1,21 +1,24 @@
 -- What holds of turns that are taken one after the other: each port's entries are a run, and no licence is lost.
-use Rattle.std.proofs.Common.{◌≡◌, ◌≢◌, ℕ, zero, suc, ◌+◌, ◌<◌, List, [], ◌∷◌, length, map, Some, Option, option_map, refl, sym, ap, ◌∙◌, inl, inr, slice_get, slice_set, arith, sum_by}
-use Rattle.std.proofs.lemmas.Option.{slice_get_within, slice_get-map, same_Some}
+use Rattle.std.proofs.Common.{◌≡◌, ◌≢◌, ℕ, zero, suc, ◌+◌, ◌<◌, List, [], ◌∷◌, length, map, Some, Option, option_map, refl, sym, ap, ◌∙◌, inl, inr, slice_get, slice_set, arith, sum_by, All, get_or, subst}
+use Rattle.std.proofs.lemmas.List.Elements.{All-get_or, All-map, All-set}
+use Rattle.std.proofs.lemmas.Option.{get_or_from_slice_get, slice_get_within, slice_get-map, same_Some}
 use Rattle.std.proofs.lemmas.Bool.Decides.{eqb_tells}
 use Rattle.std.proofs.lemmas.List.Sums.{sum_by-cons}
 use Rattle.std.specs.FinMap.{len-empty}
 use Rattle.gp_ploam.specs.Serials.{serial_cmp}
-use Rattle.gp_machine.specs.declared.row.Row.{Row}
+use Rattle.gp_unit.specs.declared.row.Row.{Row}
 use Rattle.gp_machine.specs.declared.config.PortConfig.{PortConfig}
 use Rattle.gp_machine.specs.declared.entry.Receipt.{Receipt}
 use Rattle.gp_machine.specs.State.{opening_of, rows_of}
 use Rattle.gp_machine.specs.Run.{Run, IsStep, entry_outcome}
-use Rattle.gp_machine.specs.OneStep.{KeepsLicences}
+use Rattle.gp_machine.specs.OneStep.{KeepsLicences, KeepsSound}
+use Rattle.gp_machine.specs.Sound.{IsSound}
+use Rattle.gp_machine.proofs.SoundFrames.{sound_opening}
 use Rattle.gp_script.specs.Script.{ScriptView}
 use Rattle.gp_replay.specs.declared.turn.Turn.{Turn}
 use Rattle.gp_replay.specs.Terminal.{PortStand, TerminalState, opened_port, opening_terminal, licences_of, total_licences}
 use Rattle.gp_replay.specs.Play.{TakesTurn, TakesTurns, Plays}
-use Rattle.gp_replay.specs.Laws.{receipts_of_port, entries_of_port, IsNumberedFrom}
+use Rattle.gp_replay.specs.Runs.{receipts_of_port, entries_of_port, IsNumberedFrom}
 
 get_set_same : (xs : List PortStand) (i : ℕ) (v : PortStand) → i < length xs → slice_get (slice_set xs i v) i ≡ Some v
 get_set_same [] i v h = absurd (omega arith)
@@ -73,21 +76,41 @@ licences_set (z ∷ zs) (suc i) x y h =
     let more = licences_set zs i x y h in
     rw (sum_by-cons licences_of z (slice_set zs i y), sum_by-cons licences_of z zs) (omega (arith, more))
 
+-- each port is in a sound state
+abbrev pub AreSound : TerminalState → Type 0
+AreSound t = All (λ p. IsSound p.state) t.ports
+
+-- a port that is there is in a sound state
+sound_port : (old : TerminalState) (turn : Turn) (r : Receipt) (new : TerminalState) → TakesTurn old turn r new → AreSound old → (before : PortStand)
+    → slice_get old.ports turn.port ≡ Some before → IsSound before.state
+sound_port old turn r new k sound before there =
+    subst (λ (p : PortStand). IsSound p.state) (get_or_from_slice_get old.ports turn.port before before there)
+    (All-get_or (λ p. IsSound p.state) old.ports turn.port before (slice_get_within old.ports turn.port before there) sound)
+
+-- a turn keeps them so
+turn_sound : KeepsSound → (old : TerminalState) (turn : Turn) (r : Receipt) (new : TerminalState) → TakesTurn old turn r new → AreSound old → AreSound new
+turn_sound keeps old turn r new k sound =
+    let now : PortStand = record { state = k.after; next = k.before.next + 1 } in
+    let own : IsSound now.state = keeps r.entry.purse_in k.before.state r.entry.event (entry_outcome r.entry k.after) (sound_port old turn r new k sound k.before k.there) k.step in
+    subst (λ (ps : List PortStand). All (λ p. IsSound p.state) ps) (sym k.ports) (All-set (λ p. IsSound p.state) old.ports turn.port now own sound)
+
 -- a turn keeps the number of all licences
-turn_keeps : KeepsLicences → (old : TerminalState) (turn : Turn) (r : Receipt) (new : TerminalState) → TakesTurn old turn r new → total_licences new ≡ total_licences old
-turn_keeps keeps old turn r new k =
+turn_keeps : KeepsLicences → (old : TerminalState) (turn : Turn) (r : Receipt) (new : TerminalState) → TakesTurn old turn r new → AreSound old → total_licences new ≡ total_licences old
+turn_keeps keeps old turn r new k sound =
     let now : PortStand = record { state = k.after; next = k.before.next + 1 } in
     let sum : sum_by licences_of (slice_set old.ports turn.port now) + licences_of k.before ≡ sum_by licences_of old.ports + licences_of now = licences_set old.ports turn.port k.before now k.there in
     let same : sum_by licences_of new.ports ≡ sum_by licences_of (slice_set old.ports turn.port now) = ap (λ (l : List PortStand). sum_by licences_of l) k.ports in
-    let kept : r.entry.purse_out + rows_of k.after ≡ r.entry.purse_in + rows_of k.before.state = keeps r.entry.purse_in k.before.state r.entry.event (entry_outcome r.entry k.after) k.step in
+    let kept : r.entry.purse_out + rows_of k.after ≡ r.entry.purse_in + rows_of k.before.state = keeps r.entry.purse_in k.before.state r.entry.event (entry_outcome r.entry k.after) (sound_port old turn r new k sound k.before k.there) k.step in
     let free : new.free + r.entry.purse_in ≡ old.free + r.entry.purse_out = k.free in
     omega (arith, sum, same, kept, free)
 
-turns_keep : KeepsLicences → (turns : List Turn) (receipts : List Receipt) (old new : TerminalState) → TakesTurns old turns receipts new → total_licences new ≡ total_licences old
-turns_keep keeps [] [] old new run = ap total_licences run
-turns_keep keeps [] (r ∷ rs) old new run = absurd run
-turns_keep keeps (turn ∷ turns) [] old new run = absurd run
-turns_keep keeps (turn ∷ turns) (r ∷ rs) old new (mid, k, rest) = turns_keep keeps turns rs mid new rest ∙ turn_keeps keeps old turn r mid k
+turns_keep : KeepsSound → KeepsLicences → (turns : List Turn) (receipts : List Receipt) (old new : TerminalState) → TakesTurns old turns receipts new → AreSound old
+    → total_licences new ≡ total_licences old
+turns_keep safe keeps [] [] old new run sound = ap total_licences run
+turns_keep safe keeps [] (r ∷ rs) old new run sound = absurd run
+turns_keep safe keeps (turn ∷ turns) [] old new run sound = absurd run
+turns_keep safe keeps (turn ∷ turns) (r ∷ rs) old new (mid, k, rest) sound =
+    turns_keep safe keeps turns rs mid new rest (turn_sound safe old turn r mid k sound) ∙ turn_keeps keeps old turn r mid k sound
 
 -- at an opening all licences are free
 no_licences_out : (configs : List PortConfig) → sum_by licences_of (map opened_port configs) ≡ 0
@@ -97,7 +120,11 @@ no_licences_out (c ∷ cs) =
     let rest : sum_by licences_of (map opened_port cs) ≡ 0 = no_licences_out cs in
     sum_by-cons licences_of (opened_port c) (map opened_port cs) ∙ omega (arith, head, rest)
 
-pub all_licences : KeepsLicences → (script : ScriptView) (receipts : List Receipt) (play : Plays script receipts) → total_licences play.end ≡ script.licences
-all_licences keeps script receipts play =
+-- the ports of an opening are in sound states
+opening_sound : (script : ScriptView) → AreSound (opening_terminal script)
+opening_sound script = All-map (λ p. IsSound p.state) opened_port script.ports (λ k d within. sound_opening (get_or script.ports k d))
+
+pub all_licences : KeepsSound → KeepsLicences → (script : ScriptView) (receipts : List Receipt) (play : Plays script receipts) → total_licences play.end ≡ script.licences
+all_licences safe keeps script receipts play =
     let none : sum_by licences_of (map opened_port script.ports) ≡ 0 = no_licences_out script.ports in
-    turns_keep keeps _ receipts (opening_terminal script) play.end play.turns ∙ omega (arith, none)
+    turns_keep safe keeps _ receipts (opening_terminal script) play.end play.turns (opening_sound script) ∙ omega (arith, none)

@@ -5,15 +5,15 @@ use Rattle.gp_stream.specs.Source.{SourceState}
 use Rattle.gp_stream.specs.Sink.{SinkState}
 use Rattle.gp_replay.specs.Terminal.{opening_terminal}
 use Rattle.gp_replay.specs.Play.{all_turns}
-use Rattle.gp_replay.specs.Writing.{WritesFront}
-use Rattle.gp_replay.specs.Outcome.{ReadsAs, LeavesFront}
+use Rattle.gp_replay.specs.Writing.{WritesPrefix}
+use Rattle.gp_replay.specs.Outcome.{ReadsAs, LeavesPrefix}
 
-pub leaves_front : (before after : SourceState) (script : ScriptView) (old new : SinkState) → ReadsAs before after (Ok script)
-    → WritesFront script.mask (opening_terminal script) (all_turns script.events) old new → LeavesFront before after old new
-leaves_front before after script old new input front = record {
+pub leaves_prefix : (before after : SourceState) (script : ScriptView) (old new : SinkState) → ReadsAs before after (Ok script)
+    → WritesPrefix script.mask (opening_terminal script) (all_turns script.events) old new → LeavesPrefix before after old new
+leaves_prefix before after script old new input prefix = record {
   script = script;
   input = input;
-  receipts = front.receipts;
-  plays = record { taken = front.done; left = front.left; split = front.split; end = front.new; turns = front.taken };
-  written = front.lines;
+  receipts = prefix.receipts;
+  plays = record { taken = prefix.done; left = prefix.left; split = prefix.split; end = prefix.new; turns = prefix.taken };
+  written = prefix.lines;
 }

@@ -23,12 +23,12 @@ takes_more a b c xs ys p q = record {
 }
 
 -- nothing of some bytes
-pub takes_front_of_any : (a : SinkState) (xs : List ℕ) → TakesPrefix a a xs
-takes_front_of_any a xs = record { written = []; unwritten = a.gathered ++ xs; appended = Appends-nil a.held; rest = refl }
+pub takes_prefix_of_any : (a : SinkState) (xs : List ℕ) → TakesPrefix a a xs
+takes_prefix_of_any a xs = record { written = []; unwritten = a.gathered ++ xs; appended = Appends-nil a.held; rest = refl }
 
--- bytes, and then a front of more
-pub takes_front_after : (a b c : SinkState) (xs ys : List ℕ) → Takes a b xs → TakesPrefix b c ys → TakesPrefix a c (xs ++ ys)
-takes_front_after a b c xs ys p q = record {
+-- bytes, and then a prefix of more
+pub takes_prefix_after : (a b c : SinkState) (xs ys : List ℕ) → Takes a b xs → TakesPrefix b c ys → TakesPrefix a c (xs ++ ys)
+takes_prefix_after a b c xs ys p q = record {
   written = p.written ++ q.written;
   unwritten = q.unwritten;
   appended = Appends-trans a.held b.held c.held p.written q.written p.appended q.appended;

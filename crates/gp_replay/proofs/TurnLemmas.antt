@@ -10,9 +10,10 @@ use Rattle.gp_stream.specs.Sink.{SinkState, Takes, TakesPrefix}
 use Rattle.gp_trace.specs.Text.{line_of, trace_text}
 use Rattle.gp_replay.specs.declared.turn.Turn.{Turn}
 use Rattle.gp_replay.specs.Terminal.{TerminalState, opening_terminal}
-use Rattle.gp_replay.specs.Play.{TakesTurn, TakesTurns, all_turns, turns_of}
-use Rattle.gp_replay.specs.Writing.{WritesTurns, WritesFront, WritesScript}
-use Rattle.gp_replay.proofs.SinkLemmas.{takes_nothing, takes_more, takes_front_of_any, takes_front_after}
+use Rattle.gp_replay.specs.Play.{TakesTurn, TakesTurns, Plays, all_turns, turns_of}
+use Rattle.gp_replay.specs.Writing.{WritesTurns, WritesPrefix, WritesScript}
+use Rattle.gp_replay.proofs.LawsLemmas.{port_runs}
+use Rattle.gp_replay.proofs.SinkLemmas.{takes_nothing, takes_more, takes_prefix_of_any, takes_prefix_after}
 
 pub on_err : {T E P : Type 0} (r : Result T E) → P → OnErr r P
 on_err (Ok x) p = tt
@@ -45,12 +46,12 @@ writes_on mask a b c ts us all x y z e p q = rw e (record {
 })
 
 -- no turn was taken
-pub front_nothing : (mask : Mask) (w : TerminalState) (ts : List Turn) (x : SinkState) → WritesFront mask w ts x x
-front_nothing mask w ts x = record { done = []; left = ts; split = refl; receipts = []; new = w; taken = refl; lines = takes_front_of_any x [] }
+pub prefix_nothing : (mask : Mask) (w : TerminalState) (ts : List Turn) (x : SinkState) → WritesPrefix mask w ts x x
+prefix_nothing mask w ts x = record { done = []; left = ts; split = refl; receipts = []; new = w; taken = refl; lines = takes_prefix_of_any x [] }
 
-pub front_one : (mask : Mask) (old new : TerminalState) (turn : Turn) (receipt : Receipt) (x y : SinkState)
-    → TakesTurn old turn receipt new → TakesPrefix x y (line_of mask receipt) → WritesFront mask old (turn ∷ []) x y
-front_one mask old new turn receipt x y h w = record {
+pub prefix_one : (mask : Mask) (old new : TerminalState) (turn : Turn) (receipt : Receipt) (x y : SinkState)
+    → TakesTurn old turn receipt new → TakesPrefix x y (line_of mask receipt) → WritesPrefix mask old (turn ∷ []) x y
+prefix_one mask old new turn receipt x y h w = record {
   done = turn ∷ [];
   left = [];
   split = refl;
@@ -60,29 +61,29 @@ front_one mask old new turn receipt x y h w = record {
   lines = rw (append-nil (line_of mask receipt)) w;
 }
 
--- turns, then a front of further ones, and some that are left
-pub front_on : (mask : Mask) (a b : TerminalState) (ts us left all : List Turn) (x y z : SinkState) → all ≡ (ts ++ us) ++ left
-    → WritesTurns mask a ts b x y → WritesFront mask b us y z → WritesFront mask a all x z
-front_on mask a b ts us left all x y z e p q = record {
+-- turns, then a prefix of further ones, and some that are left
+pub prefix_on : (mask : Mask) (a b : TerminalState) (ts us left all : List Turn) (x y z : SinkState) → all ≡ (ts ++ us) ++ left
+    → WritesTurns mask a ts b x y → WritesPrefix mask b us y z → WritesPrefix mask a all x z
+prefix_on mask a b ts us left all x y z e p q = record {
   done = ts ++ q.done;
   left = q.left ++ left;
   split = e ∙ ap (λ (l : List Turn). (ts ++ l) ++ left) q.split ∙ ap (λ (l : List Turn). l ++ left) (sym (append_assoc ts q.done q.left)) ∙ append_assoc (ts ++ q.done) q.left left;
   receipts = p.receipts ++ q.receipts;
   new = q.new;
   taken = turns_append a b q.new ts q.done p.receipts q.receipts p.taken q.taken;
-  lines = rw (flat_map-append (line_of mask) p.receipts q.receipts) (takes_front_after x y z _ _ p.lines q.lines);
+  lines = rw (flat_map-append (line_of mask) p.receipts q.receipts) (takes_prefix_after x y z _ _ p.lines q.lines);
 }
 
--- all turns, and a front of what was gathered of them
-pub front_of_all : (mask : Mask) (a b : TerminalState) (ts : List Turn) (x y z : SinkState) → WritesTurns mask a ts b x y → TakesPrefix y z [] → WritesFront mask a ts x z
-front_of_all mask a b ts x y z p w = record {
+-- all turns, and a prefix of what was gathered of them
+pub prefix_of_all : (mask : Mask) (a b : TerminalState) (ts : List Turn) (x y z : SinkState) → WritesTurns mask a ts b x y → TakesPrefix y z [] → WritesPrefix mask a ts x z
+prefix_of_all mask a b ts x y z p w = record {
   done = ts;
   left = [];
   split = sym (append-nil ts);
   receipts = p.receipts;
   new = b;
   taken = p.taken;
-  lines = rw (← append-nil (trace_text mask p.receipts)) (takes_front_after x y z _ _ p.lines w);
+  lines = rw (← append-nil (trace_text mask p.receipts)) (takes_prefix_after x y z _ _ p.lines w);
 }
 
 -- all turns of a script, and all that was gathered of them
@@ -92,9 +93,11 @@ writes_script script end x y z p w finished =
     let all = takes_more x y z _ _ p.lines w in
     let text : x.gathered ++ trace_text script.mask p.receipts ≡ all.written =
     ap (λ (l : List ℕ). x.gathered ++ l) (sym (append-nil (trace_text script.mask p.receipts))) ∙ all.rest ∙ ap (λ (l : List ℕ). all.written ++ l) finished ∙ append-nil all.written in
+    let plays : Plays script p.receipts = record { end = end; turns = p.taken } in
     record {
       receipts = p.receipts;
-      plays = record { end = end; turns = p.taken };
+      plays = plays;
+      runs = port_runs script p.receipts plays;
       written = rw text all.appended;
       finished = finished;
     }

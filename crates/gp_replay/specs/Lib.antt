@@ -3,5 +3,5 @@ pub mod Play
 pub mod Writing
 pub mod Outcome
 pub mod Fault
-pub mod Report
+pub mod Runs
 pub mod Laws

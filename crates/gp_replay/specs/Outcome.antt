@@ -7,7 +7,7 @@ use Rattle.gp_stream.specs.declared.reading.TheConstants.{MAX_BYTES}
 use Rattle.gp_script.specs.declared.fault.ScriptFault.{ScriptFault}
 use Rattle.gp_script.specs.Script.{ScriptView, script_of}
 use Rattle.gp_trace.specs.Text.{trace_text}
-use Rattle.gp_replay.specs.Play.{PlaysFront}
+use Rattle.gp_replay.specs.Play.{PlaysPrefix}
 use Rattle.gp_replay.specs.Writing.{WritesScript}
 
 -- the input was read to its end without a failed read, it is not too long, and this is what it says: a script, or its first
@@ -24,11 +24,11 @@ pub record WritesTrace (before after : SourceState) (old new : SinkState) : Type
   pub input : ReadsAs before after (Ok script)
   pub trace : WritesScript script old new
 
--- the input says a script, and a writer that tells its bytes got no more than a front of what was gathered before and of
+-- the input says a script, and a writer that tells its bytes got no more than a prefix of what was gathered before and of
 -- the trace of entries that play the script from its first event on
-pub record LeavesFront (before after : SourceState) (old new : SinkState) : Type 0 where
+pub record LeavesPrefix (before after : SourceState) (old new : SinkState) : Type 0 where
   pub script : ScriptView
   pub input : ReadsAs before after (Ok script)
   pub receipts : List Receipt
-  pub plays : PlaysFront script receipts
+  pub plays : PlaysPrefix script receipts
   pub written : TakesPrefix old new (trace_text script.mask receipts)

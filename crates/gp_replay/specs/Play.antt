@@ -61,7 +61,7 @@ pub record Plays (script : ScriptView) (receipts : List Receipt) : Type 0 where
   pub turns : TakesTurns (opening_terminal script) (all_turns script.events) receipts end
 
 -- the receipts are those of some of these turns, from the first on
-pub record PlaysFront (script : ScriptView) (receipts : List Receipt) : Type 0 where
+pub record PlaysPrefix (script : ScriptView) (receipts : List Receipt) : Type 0 where
   pub taken : List Turn
   pub left : List Turn
   pub split : all_turns script.events ≡ taken ++ left

@@ -9,6 +9,7 @@ use Rattle.gp_replay.specs.Terminal.{TerminalState}
 use Rattle.gp_script.specs.Script.{ScriptView}
 use Rattle.gp_replay.specs.declared.turn.Turn.{Turn}
 use Rattle.gp_replay.specs.Play.{TakesTurns, Plays}
+use Rattle.gp_replay.specs.Runs.{PortsRun}
 
 -- the turns were taken, and the lines of their entries handed to the sink
 pub record WritesTurns (mask : Mask) (old : TerminalState) (turns : List Turn) (new : TerminalState) (before after : SinkState) : Type 0 where
@@ -16,8 +17,8 @@ pub record WritesTurns (mask : Mask) (old : TerminalState) (turns : List Turn) (
   pub taken : TakesTurns old turns receipts new
   pub lines : Takes before after (trace_text mask receipts)
 
--- some of the turns were taken, from the first on, and the writer got a front of what was gathered and of their lines
-pub record WritesFront (mask : Mask) (old : TerminalState) (turns : List Turn) (before after : SinkState) : Type 0 where
+-- some of the turns were taken, from the first on, and the writer got a prefix of what was gathered and of their lines
+pub record WritesPrefix (mask : Mask) (old : TerminalState) (turns : List Turn) (before after : SinkState) : Type 0 where
   pub done : List Turn
   pub left : List Turn
   pub split : turns ≡ done ++ left
@@ -26,9 +27,11 @@ pub record WritesFront (mask : Mask) (old : TerminalState) (turns : List Turn) (
   pub taken : TakesTurns old done receipts new
   pub lines : TakesPrefix before after (trace_text mask receipts)
 
--- the script was played, and the writer got all of what was gathered before and of the trace
+-- the script was played, each port's entries are a run from its opening, and the writer got all of what was gathered
+-- before and of the trace
 pub record WritesScript (script : ScriptView) (before after : SinkState) : Type 0 where
   pub receipts : List Receipt
   pub plays : Plays script receipts
+  pub runs : PortsRun script.ports receipts plays.end.ports
   pub written : Appends before.held after.held (before.gathered ++ trace_text script.mask receipts)
   pub finished : after.gathered ≡ []

@@ -43,7 +43,7 @@ pub enum RunFault {
     /// The input is no script.
     #[error("script {0}")]
     Script(ScriptFault),
-    /// There was no memory for the input, the script, the ports or a line.
+    /// Out of memory for the input, the script, the ports or a line.
     #[error("memory")]
     OutOfMemory,
     /// A write failed or took nothing, or a flush failed.

@@ -5,7 +5,7 @@ ghost use Rattle.gp_trace.specs.Text.{line_of};
 
 use gp_machine::Receipt;
 use gp_ploam::Mask;
-use gp_trace::LONGEST_LINE;
+use gp_trace::MAX_LINE;
 use std::alloc::{AllocError, Global};
 use std::marker::Model;
 
@@ -18,20 +18,20 @@ pub(crate) struct LineBuffer {
 
 impl Model for LineBuffer {
     ghost use Rattle.std.specs.Prelude.{ℕ, List, ◌≤◌, vec_capacity};
-    ghost use Rattle.gp_trace.specs.declared.line.TheConstants.{LONGEST_LINE};
+    ghost use Rattle.gp_trace.specs.declared.line.TheConstants.{MAX_LINE};
 
     ghost Value = { List ℕ };
 
     ghost view = { λ b. b.bytes.items };
 
-    ghost invariant = { λ b. LONGEST_LINE ≤ vec_capacity b.bytes };
+    ghost invariant = { λ b. MAX_LINE ≤ vec_capacity b.bytes };
 }
 
 impl LineBuffer {
     pub(crate) fn new(alloc: Global) -> Result<LineBuffer, AllocError>
         ensures { IfOk result (λ buffer. buffer ≡ []) }
     {
-        let bytes = Vec::with_capacity(alloc, LONGEST_LINE)?;
+        let bytes = Vec::with_capacity(alloc, MAX_LINE)?;
         Ok(LineBuffer { bytes })
     }
 

@@ -3,7 +3,7 @@ ghost use Rattle.gp_script.specs.View.{event_port};
 ghost use Rattle.gp_stream.specs.Sink.{sink_state, has_flushed, has_stopped, writer_of};
 ghost use Rattle.gp_replay.specs.Terminal.{HasRoom};
 ghost use Rattle.gp_replay.specs.Play.{all_turns, frame_turn, turns_of};
-ghost use Rattle.gp_replay.specs.Writing.{WritesFront, WritesTurns};
+ghost use Rattle.gp_replay.specs.Writing.{WritesPrefix, WritesTurns};
 
 use super::line_buffer::LineBuffer;
 use super::terminal::Terminal;
@@ -26,7 +26,7 @@ fn play_turn<L: Ledger, W: Write>(
     requires port { turn.port < length terminal.old.ports }
     requires room { HasRoom 1 terminal.old }
     ensures ok { OnOk result (WritesTurns mask terminal.old (turn ∷ []) terminal.new (sink_state W.contents sink.old) (sink_state W.contents sink.new)) }
-    ensures err { OnErr result (WritesFront mask terminal.old (turn ∷ []) (sink_state W.contents sink.old) (sink_state W.contents sink.new)) }
+    ensures err { OnErr result (WritesPrefix mask terminal.old (turn ∷ []) (sink_state W.contents sink.old) (sink_state W.contents sink.new)) }
     ensures stopped { has_stopped sink.new ≡ (has_stopped sink.old || is_err result) }
     ensures refused { has_stopped sink.old ≡ true → writer_of sink.new ≡ writer_of sink.old }
     ensures flushed { has_flushed sink.old ≡ true → OnOk result (has_flushed sink.new ≡ true) }
@@ -49,7 +49,7 @@ fn play_frames<L: Ledger, W: Write>(
     requires port { port < length terminal.old.ports }
     requires room { HasRoom count terminal.old }
     ensures ok { OnOk result (WritesTurns mask terminal.old (replicate count (frame_turn port)) terminal.new (sink_state W.contents sink.old) (sink_state W.contents sink.new)) }
-    ensures err { OnErr result (WritesFront mask terminal.old (replicate count (frame_turn port)) (sink_state W.contents sink.old) (sink_state W.contents sink.new)) }
+    ensures err { OnErr result (WritesPrefix mask terminal.old (replicate count (frame_turn port)) (sink_state W.contents sink.old) (sink_state W.contents sink.new)) }
     ensures stopped { has_stopped sink.new ≡ (has_stopped sink.old || is_err result) }
     ensures refused { has_stopped sink.old ≡ true → writer_of sink.new ≡ writer_of sink.old }
     ensures flushed { has_flushed sink.old ≡ true → OnOk result (has_flushed sink.new ≡ true) }
@@ -76,7 +76,7 @@ fn play_event<L: Ledger, W: Write>(
     requires port { event_port event.now < length terminal.old.ports }
     requires room { HasRoom (2 ^ 32) terminal.old }
     ensures ok { OnOk result (WritesTurns mask terminal.old (turns_of event.now) terminal.new (sink_state W.contents sink.old) (sink_state W.contents sink.new)) }
-    ensures err { OnErr result (WritesFront mask terminal.old (turns_of event.now) (sink_state W.contents sink.old) (sink_state W.contents sink.new)) }
+    ensures err { OnErr result (WritesPrefix mask terminal.old (turns_of event.now) (sink_state W.contents sink.old) (sink_state W.contents sink.new)) }
     ensures stopped { has_stopped sink.new ≡ (has_stopped sink.old || is_err result) }
     ensures refused { has_stopped sink.old ≡ true → writer_of sink.new ≡ writer_of sink.old }
     ensures flushed { has_flushed sink.old ≡ true → OnOk result (has_flushed sink.new ≡ true) }
@@ -109,7 +109,7 @@ pub(crate) fn play_events<L: Ledger, W: Write>(
     requires ports { All (λ e. event_port e < length terminal.old.ports) events.now }
     requires room { HasRoom (length events.now * 2 ^ 32) terminal.old }
     ensures ok { OnOk result (WritesTurns mask terminal.old (all_turns events.now) terminal.new (sink_state W.contents sink.old) (sink_state W.contents sink.new)) }
-    ensures err { OnErr result (WritesFront mask terminal.old (all_turns events.now) (sink_state W.contents sink.old) (sink_state W.contents sink.new)) }
+    ensures err { OnErr result (WritesPrefix mask terminal.old (all_turns events.now) (sink_state W.contents sink.old) (sink_state W.contents sink.new)) }
     ensures stopped { has_stopped sink.new ≡ (has_stopped sink.old || is_err result) }
     ensures refused { has_stopped sink.old ≡ true → writer_of sink.new ≡ writer_of sink.old }
     ensures flushed { has_flushed sink.old ≡ true → OnOk result (has_flushed sink.new ≡ true) }

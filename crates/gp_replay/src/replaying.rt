@@ -1,14 +1,14 @@
-ghost use Rattle.std.specs.Prelude.{◌≡◌, ◌≢◌, ◌<◌, ◌≤◌, ◌⊎◌, ◌↔◌, ℕ, List, All, IfErr, IsErr, IsTrue, OnOk, Err, true, false, length};
+ghost use Rattle.std.specs.Prelude.{◌≡◌, ◌≢◌, ◌+◌, ◌<◌, ◌≤◌, ◌⊎◌, ◌↔◌, ℕ, List, All, IfErr, IsErr, IsTrue, OnOk, Err, true, false, length};
 ghost use Rattle.gp_script.specs.declared.fault.ScriptFault.{ScriptFault as AnyScriptFault};
 ghost use Rattle.gp_machine.specs.Config.{is_within_limits};
-ghost use Rattle.gp_script.specs.Script.{most_events, most_licences, script_of};
+ghost use Rattle.gp_script.specs.Script.{max_events, script_of};
 ghost use Rattle.gp_script.specs.View.{event_port, script_view};
-ghost use Rattle.gp_stream.specs.Source.{has_failed, source_state, ReadsTooMuch, WasReadable};
+ghost use Rattle.gp_stream.specs.Source.{has_failed, reads_left, source_state, ReadsTooMuch, WasReadable};
 ghost use Rattle.gp_stream.specs.Sink.{sink_state, has_flushed, has_stopped, writer_of};
 ghost use Rattle.gp_replay.specs.Terminal.{opening_terminal};
 ghost use Rattle.gp_replay.specs.Play.{all_turns};
-ghost use Rattle.gp_replay.specs.Writing.{WritesFront, WritesScript};
-ghost use Rattle.gp_replay.specs.Outcome.{LeavesFront, ReadsAs, WritesTrace};
+ghost use Rattle.gp_replay.specs.Writing.{WritesPrefix, WritesScript};
+ghost use Rattle.gp_replay.specs.Outcome.{LeavesPrefix, ReadsAs, WritesTrace};
 
 use super::fault::{PlayFault, RunFault};
 use super::line_buffer::LineBuffer;
@@ -31,14 +31,14 @@ fn play_on<L: Ledger, W: Write>(
 ) -> Result<(), PlayFault>
     requires name { blank.name ≡ L.name }
     requires parts { (blank.parts ≡ L.parts) × (L.parts ≡ MAX_LICENCES) }
-    requires licences { script.now.licences ≤ most_licences }
+    requires licences { script.now.licences ≤ MAX_LICENCES }
     requires limits { All (λ port. IsTrue (is_within_limits port)) script.now.ports.items }
     requires ports { All (λ e. event_port e < length script.now.ports.items) script.now.events.items }
-    requires few_events { length script.now.events.items ≤ most_events }
+    requires few_events { length script.now.events.items ≤ max_events }
     ensures ok { OnOk result (WritesScript (script_view script.now) (sink_state W.contents sink.old) (sink_state W.contents sink.new)) }
     ensures finished { OnOk result (has_stopped sink.new ≡ false) }
     ensures flushed { has_flushed sink.old ≡ true → OnOk result (has_flushed sink.new ≡ true) }
-    ensures front { result ≡ Err PlayFault.Write → WritesFront script.now.mask (opening_terminal (script_view script.now)) (all_turns script.now.events.items) (sink_state W.contents sink.old) (sink_state W.contents sink.new) }
+    ensures prefix { result ≡ Err PlayFault.Write → WritesPrefix script.now.mask (opening_terminal (script_view script.now)) (all_turns script.now.events.items) (sink_state W.contents sink.old) (sink_state W.contents sink.new) }
     ensures write { result ≡ Err PlayFault.Write → has_stopped sink.new ≡ true }
     ensures memory { result ≡ Err PlayFault.OutOfMemory → sink.new ≡ sink.old }
     ensures refused { has_stopped sink.old ≡ true → IsErr result × (writer_of sink.new ≡ writer_of sink.old) }
@@ -73,6 +73,10 @@ pub fn run_replay<R: Read, W: Write>(
     ensures too_long { result ≡ Err RunFault.TooLong → ReadsTooMuch MAX_BYTES (source_state R.remaining source.old) (source_state R.remaining source.new) }
     ensures script { (fault : AnyScriptFault) → result ≡ Err (RunFault.Script fault) → ReadsAs (source_state R.remaining source.old) (source_state R.remaining source.new) (Err fault) }
     ensures write { result ≡ Err RunFault.Write → has_stopped sink.new ≡ true }
+
+    // Each read but the last gives a byte, so the bound of reads is met only by a source of which
+    // `MAX_BYTES` reads or fewer are left.
+    ensures reads { reads_left source.old ≤ reads_left source.new + MAX_BYTES + 1 }
     ensures refused { has_failed source.old ≡ true → (result ≡ Err RunFault.Read) × (source.new ≡ source.old) }
     ensures stopped { has_stopped sink.old ≡ true → IsErr result × (writer_of sink.new ≡ writer_of sink.old) }
     ensures mismatch { result ≢ Err RunFault.Mismatch }
@@ -87,7 +91,7 @@ pub fn run_replay<R: Read, W: Write>(
 
     // What a fault leaves written.
     ensures untouched { IfErr result (λ fault. fault ≢ RunFault.Write → sink.new ≡ sink.old) }
-    ensures front { result ≡ Err RunFault.Write → LeavesFront (source_state R.remaining source.old) (source_state R.remaining source.new) (sink_state W.contents sink.old) (sink_state W.contents sink.new) }
+    ensures prefix { result ≡ Err RunFault.Write → LeavesPrefix (source_state R.remaining source.old) (source_state R.remaining source.new) (sink_state W.contents sink.old) (sink_state W.contents sink.new) }
 {
     let bytes = gp_stream::read_all(alloc, source)?;
     let script = gp_script::read_script(alloc, bytes.as_slice())?;

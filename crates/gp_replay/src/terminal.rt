@@ -3,7 +3,6 @@ ghost use Rattle.std.specs.Option.{ForSome};
 ghost use Rattle.gp_ploam.specs.Down.{IsProperDown};
 ghost use Rattle.gp_machine.specs.Config.{is_within_limits};
 ghost use Rattle.gp_machine.specs.Run.{IsStep};
-ghost use Rattle.gp_script.specs.Script.{most_licences};
 ghost use Rattle.gp_script.specs.View.{script_view};
 ghost use Rattle.gp_replay.specs.Terminal.{HasRoom, licences_of, opened_port, opening_terminal, total_licences};
 ghost use Rattle.gp_replay.specs.Play.{TakesTurn, purse_of};
@@ -25,14 +24,15 @@ struct NumberedPort<L: Ledger> {
 
 impl<L: Ledger> Model for NumberedPort<L> {
     ghost use Rattle.std.specs.FinMap as map;
+    ghost use Rattle.std.specs.FinSet as set;
     ghost use Rattle.std.specs.Coded.{codes};
     ghost use Rattle.gp_ploam.specs.Serials.{serial_cmp, coded_serial};
-    ghost use Rattle.gp_machine.specs.contracts.row.Row as row;
+    ghost use Rattle.gp_unit.specs.contracts.row.Row as row;
     ghost use Rattle.gp_replay.specs.Terminal.{PortStand};
 
     ghost Value = { PortStand };
 
-    ghost coded = { Prim.hlevel (codes, map.code {R = serial_cmp} coded_serial row.the_row.coded) };
+    ghost coded = { Prim.hlevel (codes, map.code {R = serial_cmp} coded_serial row.the_row.coded, set.code {R = serial_cmp} coded_serial) };
 
     ghost view = { λ p. record { state = p.core; next = p.next } };
 }
@@ -50,7 +50,7 @@ impl<L: Ledger> NumberedPort<L> {
         }
     }
 
-    /// One step of the port at this place of the script with these licences: its receipt, and the
+    /// Makes one step of the port at this place of the script with these licences. Gives its receipt, and the
     /// licences that are left.
     fn step(&mut self, place: u8, purse: Licences<L>, event: Event) -> (Receipt, Licences<L>)
         requires { self.old.next + 1 < 2 ^ 64 }
@@ -81,7 +81,7 @@ impl<L: Ledger> NumberedPort<L> {
         (receipt, rest)
     }
 
-    /// The licences of the port's units.
+    /// Ends the port, with the licences of its units.
     fn close(self) -> Licences<L>
         ensures { result ≡ licences_of self }
     {
@@ -100,20 +100,21 @@ pub(crate) struct Terminal<L: Ledger> {
 
 impl<L: Ledger> Model for Terminal<L> {
     ghost use Rattle.std.specs.FinMap as map;
+    ghost use Rattle.std.specs.FinSet as set;
     ghost use Rattle.std.specs.Coded.{codes};
     ghost use Rattle.gp_ploam.specs.Serials.{serial_cmp, coded_serial};
-    ghost use Rattle.gp_machine.specs.contracts.row.Row as row;
+    ghost use Rattle.gp_unit.specs.contracts.row.Row as row;
     ghost use Rattle.gp_replay.specs.Terminal.{TerminalState};
 
     ghost Value = { TerminalState };
 
-    ghost coded = { Prim.hlevel (codes, map.code {R = serial_cmp} coded_serial row.the_row.coded) };
+    ghost coded = { Prim.hlevel (codes, map.code {R = serial_cmp} coded_serial row.the_row.coded, set.code {R = serial_cmp} coded_serial) };
 
     ghost view = { λ t. record { free = t.book.free; ports = t.ports.items } };
 }
 
 impl<L: Ledger> Terminal<L> {
-    /// The terminal of a script, before its first event.
+    /// Opens the terminal of a script, before its first event.
     pub(crate) fn begin(
         alloc: Global,
         blank: Blank,
@@ -121,7 +122,7 @@ impl<L: Ledger> Terminal<L> {
     ) -> Result<Terminal<L>, AllocError>
         requires name { blank.name ≡ L.name }
         requires parts { (blank.parts ≡ L.parts) × (L.parts ≡ MAX_LICENCES) }
-        requires licences { script.now.licences ≤ most_licences }
+        requires licences { script.now.licences ≤ MAX_LICENCES }
         requires limits { All (λ port. IsTrue (is_within_limits port)) script.now.ports.items }
         ensures opened { IfOk result (λ t. t ≡ opening_terminal (script_view script.now)) }
         ensures ports { IfOk result (λ t. length t.ports ≡ vec_len script.now.ports) }
@@ -140,7 +141,7 @@ impl<L: Ledger> Terminal<L> {
         Ok(Terminal { book, ports })
     }
 
-    /// One event of one port. A burst takes one licence where one is free, and gives back what it
+    /// Takes one event to its port. A burst takes one licence where one is free, and gives back what it
     /// does not use.
     pub(crate) fn take_turn(&mut self, turn: Turn) -> Receipt
         requires port { turn.port < length self.old.ports }
@@ -165,7 +166,7 @@ impl<L: Ledger> Terminal<L> {
     }
 }
 
-/// The licences that are taken for an event: one for a burst, where one is free.
+/// Takes the licences for an event: one for a burst, where one is free.
 fn take_purse<L: Ledger>(book: &mut LicenceBook<L>, event: &Event) -> Licences<L>
     ensures purse { result ≡ purse_of event.now book.old.free }
     ensures free { book.new.free + result ≡ book.old.free }

@@ -1,4 +1,4 @@
-use crate::{RunFault, run_replay, run_report};
+use crate::{RunFault, run_replay};
 use gp_script::ScriptFault;
 use gp_stream::{Sink, Source};
 use std::alloc::{AllocError, Global};
@@ -106,10 +106,6 @@ fn empty_script(rt: HostRuntime) -> Result<(), Fail> {
     let (outcome, trace) = replay(rt.alloc(), b"")?;
     assert_eq!(rt; outcome, Err(RunFault::Script(ScriptFault::Shape)));
     assert!(rt; trace.is_empty());
-    assert_eq!(rt;
-        run_report(&RunFault::Script(ScriptFault::Shape)),
-        ("oltctl: script 2 shape", 1)
-    );
     Ok(())
 }
 
@@ -119,9 +115,9 @@ fn empty_script(rt: HostRuntime) -> Result<(), Fail> {
 fn a_writer_that_stops(rt: HostRuntime) -> Result<(), Fail> {
     let trace = ONE_UNIT_TRACE.as_bytes();
     let script = ONE_UNIT.as_bytes();
-    let (front, back) = script.split_at(script.len() / 2);
+    let (prefix, back) = script.split_at(script.len() / 2);
     for room in 0..=trace.len() {
-        let mut source = Source::new(front.chain(back));
+        let mut source = Source::new(prefix.chain(back));
         let mut taken = vec![in rt.alloc(); 0; trace.len()]?;
         let mut sink = Sink::new(rt.alloc(), &mut taken[..room])?;
         let outcome = run_replay(rt.alloc(), &mut source, &mut sink);
@@ -193,55 +189,5 @@ fn as_long_as_may_be_and_longer(rt: HostRuntime) -> Result<(), Fail> {
     let (outcome, trace) = replay(rt.alloc(), spaces.as_slice())?;
     assert_eq!(rt; outcome, Err(RunFault::TooLong));
     assert!(rt; trace.is_empty());
-    Ok(())
-}
-
-/// Each fault, its line on standard error and the exit status.
-const REPORTS: [(RunFault, &'static str, u8); 11] = [
-    (RunFault::Read, "oltctl: read", 1),
-    (RunFault::TooLong, "oltctl: too long", 1),
-    (
-        RunFault::Script(ScriptFault::Syntax),
-        "oltctl: script 1 syntax",
-        1,
-    ),
-    (
-        RunFault::Script(ScriptFault::Shape),
-        "oltctl: script 2 shape",
-        1,
-    ),
-    (
-        RunFault::Script(ScriptFault::Range),
-        "oltctl: script 3 range",
-        1,
-    ),
-    (
-        RunFault::Script(ScriptFault::Serial),
-        "oltctl: script 4 serial",
-        1,
-    ),
-    (
-        RunFault::Script(ScriptFault::Hex),
-        "oltctl: script 5 hex",
-        1,
-    ),
-    (
-        RunFault::Script(ScriptFault::Duplicate),
-        "oltctl: script 6 duplicate",
-        1,
-    ),
-    (RunFault::OutOfMemory, "oltctl: memory", 3),
-    (RunFault::Write, "oltctl: write", 4),
-    (RunFault::Mismatch, "oltctl: mismatch", 5),
-];
-
-/// The line of a fault is the program's name and the fault's text.
-#[test]
-fn reports(rt: HostRuntime) -> Result<(), Fail> {
-    for (fault, line, status) in REPORTS {
-        assert_eq!(rt; run_report(&fault), (line, status));
-        let text = format!(in rt.alloc(); "oltctl: {fault}")?;
-        assert_eq!(rt; text.as_str(), line);
-    }
     Ok(())
 }

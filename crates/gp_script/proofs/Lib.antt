@@ -1,4 +1,5 @@
 pub mod AdmitLemmas
+pub mod AdmissionLemmas
 pub mod EventsLemmas
 pub mod ItemsLemmas
 pub mod NamesLemmas

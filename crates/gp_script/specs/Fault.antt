@@ -1,8 +1,17 @@
 -- A walk that ends at its first fault, and what a function of the walk returned against it (this profile's own rule).
 use Rattle.std.specs.Prelude.{◌≡◌, Bool, true, false, Result, Ok, Err}
+use Rattle.gp_serial.specs.declared.fault.AdmitFault.{AdmitFault}
+use Rattle.gp_serial.specs.declared.fault.AdmitFault.TheVariants as admits
 use Rattle.gp_script.specs.declared.fault.ScriptFault.{ScriptFault}
+use Rattle.gp_script.specs.declared.fault.ScriptFault.TheVariants as faults
 use Rattle.gp_script.specs.declared.fault.ScriptError.{ScriptError}
 use Rattle.gp_script.specs.declared.fault.ScriptError.TheVariants as errors
+
+-- why a serial number isn't admitted. More than a port may have are refused before the first is read
+abbrev pub error_of_admit : AdmitFault → ScriptError
+error_of_admit admits.Duplicate = errors.Fault faults.Duplicate
+error_of_admit admits.Full = errors.Fault faults.Range
+error_of_admit admits.OutOfMemory = errors.OutOfMemory
 
 -- the next step of the walk, unless there was a fault
 infixl 10 ◌>>=◌

@@ -2,6 +2,9 @@ pub mod Fault
 pub mod Keys
 pub mod Values
 pub mod Port
+pub mod Admits
+pub mod Say
+pub mod Command
 pub mod Event
 pub mod Script
 pub mod View

@@ -5,6 +5,7 @@ use Rattle.toml.specs.Data.{Data, string, table, Items, no_items, item, Members}
 use Rattle.gp_ploam.specs.declared.check.Mask.{Mask}
 use Rattle.gp_ploam.specs.declared.message.Serial.{Serial}
 use Rattle.gp_ploam.specs.Serials.{is_among}
+use Rattle.gp_serial.specs.Admitted.{max_on_a_port}
 use Rattle.gp_machine.specs.declared.config.PortConfig.{PortConfig}
 use Rattle.gp_script.specs.declared.fault.ScriptFault.{ScriptFault}
 use Rattle.gp_script.specs.declared.fault.ScriptFault.TheVariants as fault
@@ -14,7 +15,7 @@ use Rattle.gp_script.specs.Values.{in_range_or, count_in, serial_of, octets_of}
 
 -- the keys of a port table
 abbrev pub port_names : List (List ℕ)
-port_names = codes "teqd" ∷ codes "max_units" ∷ codes "alloc_last" ∷ codes "cycles" ∷ codes "search_period" ∷ codes "overhead" ∷ codes "admit" ∷ []
+port_names = codes "teqd" ∷ codes "max_units" ∷ codes "alloc_last" ∷ codes "cycles" ∷ codes "search_period" ∷ codes "quarantine" ∷ codes "overhead" ∷ codes "admit" ∷ []
 
 -- what stands at the keys of a port table, each of its type and in no range yet
 pub record PortShape : Type 0 where
@@ -28,6 +29,8 @@ pub record PortShape : Type 0 where
   pub cycles : Option ℤ
   -- after how many frames in standby a search begins by itself
   pub search_period : Option ℤ
+  -- for how many frames a freed ONU-ID is not given to another unit
+  pub quarantine : Option ℤ
   -- the digits of the ten octets of Upstream_Overhead
   pub overhead : Option (List ℕ)
   -- the serial numbers that may be activated
@@ -42,22 +45,27 @@ port_shape members = do
   alloc_last ← number_at (codes "alloc_last") members
   cycles ← number_at (codes "cycles") members
   search_period ← number_at (codes "search_period") members
+  quarantine ← number_at (codes "quarantine") members
   overhead ← text_at (codes "overhead") members
   admit ← list_at (codes "admit") members
   _ ← needs fault.Shape (are_texts admit)
-  Ok (record { teqd = teqd; max_units = max_units; alloc_last = alloc_last; cycles = cycles; search_period = search_period; overhead = overhead; admit = admit })
+  Ok (record { teqd = teqd; max_units = max_units; alloc_last = alloc_last; cycles = cycles; search_period = search_period; quarantine = quarantine; overhead = overhead; admit = admit })
 
 -- the serial number is admitted on one of these ports
 abbrev pub is_admitted : Serial → List PortConfig → Bool
 is_admitted serial ports = list_any (λ port. is_among serial port.admitted) ports
 
--- the serial number of a text of `admit`, new on this port and the ports before it
+-- the serial number of a text of `admit`
+abbrev pub serial_in : Data → Result Serial ScriptFault
+serial_in (string text) = serial_of text
+serial_in _ = Err fault.Shape
+
+-- the same, new on this port and the ports before it
 unfoldable pub new_serial : List PortConfig → List Serial → Data → Result Serial ScriptFault
-new_serial ports before (string text) = do
-  serial ← serial_of text
+new_serial ports before value = do
+  serial ← serial_in value
   _ ← needs fault.Duplicate (not (is_among serial before || is_admitted serial ports))
   Ok serial
-new_serial ports before _ = Err fault.Shape
 
 -- the serial numbers of the texts of `admit`, behind those before them
 unfoldable pub serials_from : List PortConfig → List Serial → Items → Result (List Serial) ScriptFault
@@ -80,10 +88,11 @@ port_of mask before members = do
   alloc_last ← in_range_or 4095 256 4095 shape.alloc_last
   cycles ← in_range_or 3 1 10 shape.cycles
   search_period ← in_range_or 0 0 1000000 shape.search_period
+  quarantine ← in_range_or 800 0 8000 shape.quarantine
   overhead ← overhead_of shape.overhead
-  _ ← count_in 0 512 shape.admit
+  _ ← count_in 0 max_on_a_port shape.admit
   admitted ← serials_from before [] shape.admit
-  Ok (record { mask = mask; teqd = teqd; overhead = overhead; max_units = max_units; alloc_last = alloc_last; cycles = cycles; search_period = search_period; admitted = admitted })
+  Ok (record { mask = mask; teqd = teqd; overhead = overhead; max_units = max_units; alloc_last = alloc_last; cycles = cycles; search_period = search_period; quarantine = quarantine; admitted = admitted })
 
 -- the configurations of the port tables, behind those before them
 unfoldable pub ports_from : Mask → List PortConfig → Items → Result (List PortConfig) ScriptFault

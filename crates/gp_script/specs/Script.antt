@@ -4,6 +4,7 @@ use Rattle.std.specs.Str.{is_utf8}
 use Rattle.toml.specs.Data.{Items, Members}
 use Rattle.toml.specs.Parse.{parse_document}
 use Rattle.gp_ploam.specs.declared.check.Mask.{Mask}
+use Rattle.gp_licence.specs.declared.ledger_parts.TheConstants.{MAX_LICENCES}
 use Rattle.gp_machine.specs.declared.config.PortConfig.{PortConfig}
 use Rattle.gp_script.specs.declared.script.ScriptEvent.{ScriptEvent}
 use Rattle.gp_script.specs.declared.fault.ScriptFault.{ScriptFault}
@@ -14,17 +15,13 @@ use Rattle.gp_script.specs.Values.{in_range, count_in, mask_of}
 use Rattle.gp_script.specs.Port.{ports_from}
 use Rattle.gp_script.specs.Event.{events_of}
 
--- how many licences a script may have: one for each unit of 16 ports with 254 units each
-abbrev pub most_licences : ℕ
-most_licences = 4064
+-- how many ports a script may have at most: one for now
+abbrev pub max_ports : ℕ
+max_ports = 1
 
--- how many ports a script may have: one for now
-abbrev pub most_ports : ℕ
-most_ports = 1
-
--- how many events a script may have
-abbrev pub most_events : ℕ
-most_events = 1048576
+-- how many events a script may have at most
+abbrev pub max_events : ℕ
+max_events = 1048576
 
 -- what stands at the keys of the top, each of its type and in no range yet
 pub record TopShape : Type 0 where
@@ -69,10 +66,10 @@ pub record ScriptView : Type 0 where
 unfoldable pub script_of_table : Members → Result ScriptView ScriptFault
 script_of_table members = do
   shape ← top_shape members
-  licences ← in_range 0 most_licences shape.licences
+  licences ← in_range 0 MAX_LICENCES shape.licences
   mask ← mask_of shape.mask
-  count ← count_in 1 most_ports shape.ports
-  _ ← count_in 0 most_events shape.events
+  count ← count_in 1 max_ports shape.ports
+  _ ← count_in 0 max_events shape.events
   ports ← ports_from mask [] shape.ports
   events ← events_of count mask shape.events
   Ok (record { licences = licences; mask = mask; ports = ports; events = events })

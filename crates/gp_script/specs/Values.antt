@@ -31,6 +31,10 @@ port_in ports (negsuc _) = Err fault.Range
 abbrev pub delay_in : ℤ → Result ℕ ScriptFault
 delay_in number = in_range 0 4294967295 number
 
+-- a number of one octet
+abbrev pub octet_in : ℤ → Result ℕ ScriptFault
+octet_in number = in_range 0 255 number
+
 -- as many items as a range allows
 abbrev pub count_in : ℕ → ℕ → Items → Result ℕ ScriptFault
 count_in low high items = in_range low high (pos (item_count items))

@@ -27,6 +27,7 @@ port_keys_view keys = record {
   alloc_last = keys.alloc_last;
   cycles = keys.cycles;
   search_period = keys.search_period;
+  quarantine = keys.quarantine;
   overhead = option_map (λ text. text.now) keys.overhead;
   admit = items_view keys.admit.now;
 }

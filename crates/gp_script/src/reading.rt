@@ -15,20 +15,15 @@ use crate::keys::{
 use crate::ports::ports_of;
 use crate::script::Script;
 use crate::values::{count_in, in_range, mask_of};
+use gp_licence::MAX_LICENCES;
 use std::alloc::Global;
 use toml::{Table, Value};
 
-/// How many licences a script may have: one for each unit of 16 ports with 254 units each.
-///
-/// It belongs to the form of a script, which is read without a licence book. `gp_replay`, which makes the
-/// book, proves that the book has room for as many.
-const MOST_LICENCES: u32 = 4064;
+/// How many ports a script may have at most: one for now.
+const MAX_PORTS: u32 = 1;
 
-/// How many ports a script may have: one for now.
-const MOST_PORTS: u32 = 1;
-
-/// How many events a script may have.
-const MOST_EVENTS: u32 = 1_048_576;
+/// How many events a script may have at most.
+const MAX_EVENTS: u32 = 1_048_576;
 
 /// The keys of the top.
 const TOP_NAMES: [&str; 6] = ["licences", "mask", "port", "unit", "lose", "event"];
@@ -42,6 +37,7 @@ struct TopKeys<'a> {
     events: &'a [Value],
 }
 
+/// Reads the keys of the top, each value of its type.
 #[tactic(auto, unfolding(crate::specs::Script::top_shape))]
 fn top_keys(table: &Table) -> Result<TopKeys<'_>, ScriptFault>
     ensures { Sees top_keys_view result (top_shape (table_view table.now)) }
@@ -65,17 +61,17 @@ fn top_keys(table: &Table) -> Result<TopKeys<'_>, ScriptFault>
     })
 }
 
-/// What the tables say.
+/// Reads what the tables say.
 #[tactic(auto, unfolding(crate::specs::Script::script_of_table))]
 fn read_table(alloc: Global, table: &Table) -> Result<Script, ScriptError>
     ensures value { Gives script_view result (script_of_table (table_view table.now)) }
     ensures playable { IfOk result (λ s. IsPlayable (script_view s)) }
 {
     let shape = top_keys(table)?;
-    let licences = in_range(0..=MOST_LICENCES, shape.licences)?;
+    let licences = in_range(0..=MAX_LICENCES, shape.licences)?;
     let mask = mask_of(shape.mask)?;
-    let count = count_in(1..=MOST_PORTS, shape.ports)? as u8;
-    count_in(0..=MOST_EVENTS, shape.events)?;
+    let count = count_in(1..=MAX_PORTS, shape.ports)? as u8;
+    count_in(0..=MAX_EVENTS, shape.events)?;
     let ports = ports_of(alloc, mask, shape.ports)?;
     let events = events_of(alloc, count, mask, shape.events)?;
     Ok(Script {
@@ -86,7 +82,7 @@ fn read_table(alloc: Global, table: &Table) -> Result<Script, ScriptError>
     })
 }
 
-/// The text that bytes are.
+/// Gives the text that bytes are.
 #[tactic(auto, using(crate::proofs::TextLemmas::utf8_yes, crate::proofs::TextLemmas::utf8_no))]
 fn read_text(bytes: &[u8]) -> Result<&str, ScriptFault>
     ensures { Sees (λ s. s.now) result (text_of bytes.now) }
@@ -94,7 +90,7 @@ fn read_text(bytes: &[u8]) -> Result<&str, ScriptFault>
     std::str::from_utf8(bytes).map_err(|_| ScriptFault::Syntax)
 }
 
-/// The table that a text stands for.
+/// Reads the table that a text stands for.
 fn parse_table(alloc: Global, text: &str) -> Result<Table, ScriptError>
     ensures { Gives table_view result (table_or_fault (parse_document text.now)) }
 {
@@ -107,7 +103,7 @@ fn parse_table(alloc: Global, text: &str) -> Result<Table, ScriptError>
     })
 }
 
-/// What the bytes say as a script, or the first fault, before any event runs.
+/// Reads what the bytes say as a script, or the first fault, before any event runs.
 ///
 /// Of a script that is read, each number is within its range, each serial number is admitted once,
 /// and each event names a port that is there.

@@ -79,7 +79,7 @@ const PORT_FAULTS: [(&'static str, ScriptFault); 7] = [
 ];
 
 /// Events with a fault.
-const EVENT_FAULTS: [(&'static str, ScriptFault); 19] = [
+const EVENT_FAULTS: [(&'static str, ScriptFault); 30] = [
     ("", ScriptFault::Shape),
     ("port = 0", ScriptFault::Shape),
     ("frames = 1", ScriptFault::Shape),
@@ -106,15 +106,50 @@ const EVENT_FAULTS: [(&'static str, ScriptFault); 19] = [
     ),
     ("port = 0, at = 0, say = \"none\"", ScriptFault::Shape),
     (
-        "port = 0, at = 0, say = \"gasp\", onu = 0",
+        "port = 0, at = 0, say = \"none\", onu = 0, id = 10",
+        ScriptFault::Shape,
+    ),
+    ("port = 0, at = 0, say = \"gasp\"", ScriptFault::Shape),
+    ("port = 0, say = \"gasp\", onu = 0", ScriptFault::Shape),
+    (
+        "port = 0, at = 0, say = \"ack\", onu = 0",
         ScriptFault::Shape,
     ),
     (
-        "port = 0, at = 0, say = \"ack\", onu = 0, id = 10",
+        "port = 0, at = 0, say = \"ack\", id = 10",
+        ScriptFault::Shape,
+    ),
+    (
+        "port = 0, at = 0, say = \"hello\", onu = 0",
         ScriptFault::Shape,
     ),
     ("port = 0, at = 0, say = 0, onu = 0", ScriptFault::Shape),
-    ("port = 0, command = \"enable-all\"", ScriptFault::Shape),
+    ("port = 0, command = \"reset\"", ScriptFault::Shape),
+    ("port = 0, command = \"show\"", ScriptFault::Shape),
+    (
+        "port = 0, command = \"enable-all\", serial = \"ABCD00000001\"",
+        ScriptFault::Shape,
+    ),
+    (
+        "port = 0, command = \"alloc\", serial = \"ABCD00000001\", alloc = 256",
+        ScriptFault::Shape,
+    ),
+    (
+        "port = 0, command = \"dealloc\", serial = \"ABCD00000001\"",
+        ScriptFault::Shape,
+    ),
+    (
+        "port = 0, command = \"popup\", serial = \"A\"",
+        ScriptFault::Serial,
+    ),
+    (
+        "port = 0, command = \"dealloc\", serial = \"A\", alloc = 4096",
+        ScriptFault::Serial,
+    ),
+    (
+        "port = 1, command = \"disable\", serial = \"A\"",
+        ScriptFault::Range,
+    ),
     (
         "port = 0, command = \"search\", serial = \"ABCD00000001\"",
         ScriptFault::Shape,
@@ -123,7 +158,7 @@ const EVENT_FAULTS: [(&'static str, ScriptFault); 19] = [
 ];
 
 /// Scripts with two faults, and the first of them.
-const TWO_FAULTS: [(&'static str, ScriptFault); 13] = [
+const TWO_FAULTS: [(&'static str, ScriptFault); 14] = [
     ("licences = \"1\"\n[[port", ScriptFault::Syntax),
     ("licences = 4065\nport = [{cycle = 1}]", ScriptFault::Range),
     (
@@ -140,6 +175,10 @@ const TWO_FAULTS: [(&'static str, ScriptFault); 13] = [
     ),
     (
         "licences = 1\nport = [{overhead = \"0\", cycles = 0}]",
+        ScriptFault::Range,
+    ),
+    (
+        "licences = 1\nport = [{overhead = \"0\", quarantine = 8001}]",
         ScriptFault::Range,
     ),
     (
@@ -189,7 +228,7 @@ const TOP_RANGES: [Range; 2] = [
 ];
 
 /// The ranges of a port table.
-const PORT_RANGES: [Range; 5] = [
+const PORT_RANGES: [Range; 6] = [
     Range {
         before: "licences = 1\nport = [{teqd = ",
         behind: "}]",
@@ -220,10 +259,16 @@ const PORT_RANGES: [Range; 5] = [
         outside: ["-1", "1000001"],
         ends: &["0", "1000000"],
     },
+    Range {
+        before: "licences = 1\nport = [{quarantine = ",
+        behind: "}]",
+        outside: ["-1", "8001"],
+        ends: &["0", "8000"],
+    },
 ];
 
 /// The ranges of an event table.
-const EVENT_RANGES: [Range; 6] = [
+const EVENT_RANGES: [Range; 9] = [
     Range {
         before: "licences = 1\nport = [{}]\nevent = [{command = \"search\", port = ",
         behind: "}]",
@@ -259,6 +304,24 @@ const EVENT_RANGES: [Range; 6] = [
         behind: "}]",
         outside: ["-1", "256"],
         ends: &["0", "255"],
+    },
+    Range {
+        before: "licences = 1\nport = [{}]\nevent = [{port = 0, at = 0, say = \"gasp\", onu = ",
+        behind: "}]",
+        outside: ["-1", "256"],
+        ends: &["0", "255"],
+    },
+    Range {
+        before: "licences = 1\nport = [{}]\nevent = [{port = 0, at = 0, say = \"ack\", onu = 0, id = ",
+        behind: "}]",
+        outside: ["-1", "256"],
+        ends: &["0", "255"],
+    },
+    Range {
+        before: "licences = 1\nport = [{}]\nevent = [{port = 0, command = \"dealloc\", serial = \"ABCD00000001\", alloc = ",
+        behind: "}]",
+        outside: ["-1", "4096"],
+        ends: &["0", "4095"],
     },
 ];
 
@@ -348,6 +411,7 @@ fn one_unit(rt: HostRuntime) -> Result<(), ScriptError> {
         assert_eq!(rt; port.alloc_last, 4095);
         assert_eq!(rt; port.cycles, 1);
         assert_eq!(rt; port.search_period, 0);
+        assert_eq!(rt; port.quarantine, 800);
         assert_eq!(rt; port.admitted.as_slice(), serials.as_slice());
     }
     Ok(())
@@ -384,6 +448,72 @@ fn other_forms(rt: HostRuntime) -> Result<(), ScriptError> {
         assert_eq!(rt; port.mask, Mask::Coset);
         assert_eq!(rt; port.cycles, 3);
         assert_eq!(rt; port.overhead, [1, 2, 3, 4, 5, 6, 7, 8, 9, 10]);
+    }
+    Ok(())
+}
+
+#[test]
+fn sayings(rt: HostRuntime) -> Result<(), ScriptError> {
+    let text = "licences = 1
+        port = [{}]
+        event = [{port = 0, at = 1, say = \"gasp\", onu = 5},
+        {port = 0, at = 2, say = \"ack\", onu = 0, id = 10},
+        {port = 0, at = 3, say = \"ack\", onu = 255, id = 255}]";
+    let script = read_script(rt.alloc(), text.as_bytes())?;
+    // The last octets are the remainders of the twelve before them.
+    let bursts = [
+        (1, *b"\x05\x03\0\0\0\0\0\0\0\0\0\0\x0f"),
+        (2, *b"\x00\x09\x0a\0\0\0\0\0\0\0\0\0\x7e"),
+        (3, *b"\xff\x09\xff\0\0\0\0\0\0\0\0\0\x8d"),
+    ];
+    let events = bursts.map(|(at, bytes)| ScriptEvent::Burst { port: 0, at, bytes });
+    assert_eq!(rt; script.events.as_slice(), events.as_slice());
+    Ok(())
+}
+
+#[test]
+fn commands(rt: HostRuntime) -> Result<(), ScriptError> {
+    let serial = Serial(*b"ABCD\x00\x00\x00\x01");
+    let commands = [
+        ("\"search\"", Command::Search),
+        ("\"enable-all\"", Command::EnableAll),
+        ("\"popup-all\"", Command::PopupAll),
+        (
+            "\"alloc\", serial = \"ABCD00000001\"",
+            Command::Alloc(serial),
+        ),
+        (
+            "\"deactivate\", serial = \"ABCD00000001\"",
+            Command::Deactivate(serial),
+        ),
+        (
+            "\"disable\", serial = \"ABCD00000001\"",
+            Command::Disable(serial),
+        ),
+        (
+            "\"enable\", serial = \"ABCD00000001\"",
+            Command::Enable(serial),
+        ),
+        (
+            "\"popup\", serial = \"ABCD00000001\"",
+            Command::Popup(serial),
+        ),
+        (
+            "\"show\", serial = \"4142434400000001\"",
+            Command::Show(serial),
+        ),
+        (
+            "\"dealloc\", serial = \"ABCD00000001\", alloc = 256",
+            Command::Dealloc { serial, alloc: 256 },
+        ),
+    ];
+    for (keys, command) in commands {
+        let text = format!(in rt.alloc();
+            "licences = 1\nport = [{{}}]\nevent = [{{port = 0, command = {keys}}}]"
+        )?;
+        let script = read_script(rt.alloc(), text.as_bytes())?;
+        let events = [ScriptEvent::Command { port: 0, command }];
+        assert_eq!(rt; script.events.as_slice(), events.as_slice(), "{keys}");
     }
     Ok(())
 }

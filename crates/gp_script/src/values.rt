@@ -10,7 +10,7 @@ use hex::FromHex;
 use std::ops::RangeInclusive;
 use toml::Value;
 
-/// The number within its range.
+/// Reads a number within its range.
 pub(crate) fn in_range(range: RangeInclusive<u32>, number: i64) -> Result<u32, ScriptFault>
     ensures value { result ≡ spec.in_range (low_of range) (high_of range) number }
     ensures within { IfOk result (λ n. (low_of range ≤ n) × (n ≤ high_of range)) }
@@ -22,7 +22,7 @@ pub(crate) fn in_range(range: RangeInclusive<u32>, number: i64) -> Result<u32, S
     }
 }
 
-/// The number within its range, or the default where it is left out.
+/// Reads a number within its range, or the default where it is left out.
 pub(crate) fn in_range_or(
     default: u32,
     range: RangeInclusive<u32>,
@@ -39,7 +39,7 @@ pub(crate) fn in_range_or(
     }
 }
 
-/// The place of one of so many ports.
+/// Reads the place of one of so many ports.
 pub(crate) fn port_in(ports: u8, number: i64) -> Result<u8, ScriptFault>
     ensures value { result ≡ spec.port_in ports number }
     ensures within { IfOk result (λ port. port < ports) }
@@ -50,14 +50,22 @@ pub(crate) fn port_in(ports: u8, number: i64) -> Result<u8, ScriptFault>
     }
 }
 
-/// A round-trip delay in bit times.
+/// Reads a round-trip delay in bit times.
 pub(crate) fn delay_in(number: i64) -> Result<u32, ScriptFault>
     ensures { result ≡ spec.delay_in number }
 {
     in_range(0..=u32::MAX, number)
 }
 
-/// How many items there are, within a range.
+/// Reads a number of one octet.
+pub(crate) fn octet_in(number: i64) -> Result<u8, ScriptFault>
+    ensures { result ≡ spec.octet_in number }
+{
+    let octet = in_range(0..=u32::from(u8::MAX), number)?;
+    Ok(octet as u8)
+}
+
+/// Counts the items, of which there have to be as many as a range allows.
 #[tactic(auto, using(crate::proofs::ItemsLemmas::item_count_view))]
 pub(crate) fn count_in(range: RangeInclusive<u32>, items: &[Value]) -> Result<u32, ScriptFault>
     ensures value { result ≡ spec.count_in (low_of range) (high_of range) (items_view items.now) }
@@ -73,7 +81,7 @@ pub(crate) fn count_in(range: RangeInclusive<u32>, items: &[Value]) -> Result<u3
     }
 }
 
-/// The mask of a number, 0 or 85.
+/// Gives the mask of a number, 0 or 85.
 pub(crate) fn mask_of(number: Option<i64>) -> Result<Mask, ScriptFault>
     ensures { result ≡ spec.mask_of number }
 {
@@ -84,14 +92,14 @@ pub(crate) fn mask_of(number: Option<i64>) -> Result<Mask, ScriptFault>
     }
 }
 
-/// The serial number that a text spells.
+/// Reads the serial number that a text spells.
 pub(crate) fn serial_of(text: &str) -> Result<Serial, ScriptFault>
     ensures { result ≡ spec.serial_of text.now }
 {
     parse_serial(text).map_err(|_| ScriptFault::Serial)
 }
 
-/// The octets that twice as many hex digits spell.
+/// Reads the octets that twice as many hex digits spell.
 pub(crate) fn octets_of<const N: usize>(text: &str) -> Result<[u8; N], ScriptFault>
     ensures { result ≡ spec.octets_of N text.now }
 {

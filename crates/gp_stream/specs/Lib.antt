@@ -1,4 +1,3 @@
-pub mod Report
 pub mod Sink
 pub mod Source
 pub mod Watched

@@ -4,16 +4,13 @@
 //! - `reading.rt`: `read_all`, which reads a source to its end, and the faults of reading.
 //! - `watched.rt`: a writer that remembers whether a write or a flush failed.
 //! - `sink.rt`: `Sink`, which gathers bytes, hands them on in large pieces and flushes behind each.
-//! - `report.rt`: what a program says, and its exit status, when it is out of memory or its output takes no more.
 //!
 //! Where to make which change: a limit stands beside what it limits (`MAX_READS` in `source.rt`, `MAX_BYTES` in
 //! `reading.rt`, `GATHERED_BYTES` in `sink.rt`). What counts as a failed read is decided in `source.rt`, what counts as a
-//! failed write in `watched.rt`: a write that fails, a write that takes nothing, and a flush that fails. A line on
-//! standard error or an exit status stands in `report.rt` and `specs/Report.antt`.
+//! failed write in `watched.rt`: a write that fails, a write that takes nothing, and a flush that fails.
 #![tactic(auto)]
 
 mod reading;
-mod report;
 mod sink;
 mod source;
 #[cfg(test)]
@@ -21,6 +18,5 @@ mod tests;
 mod watched;
 
 pub use reading::{MAX_BYTES, SourceFault, read_all};
-pub use report::{memory_report, write_report};
 pub use sink::{GATHERED_BYTES, Sink, WriteStopped};
 pub use source::{MAX_READS, Source};

@@ -3,6 +3,7 @@ use Rattle.std.specs.Prelude.{ℕ, List, [], ◌++◌, Option, None, Some, codes
 use Rattle.std.specs.List.{flat_map}
 use Rattle.hex.specs.Hex.{encode_lower}
 use Rattle.gp_ploam.specs.declared.message.Down.{Down}
+use Rattle.gp_ploam.specs.declared.message.Serial.{Serial}
 use Rattle.gp_ploam.specs.declared.check.Mask.{Mask}
 use Rattle.gp_ploam.specs.Mask.{mask_value}
 use Rattle.gp_ploam.specs.Down.{code_of_down}
@@ -17,16 +18,29 @@ use Rattle.gp_machine.specs.declared.event.Event.{Event}
 use Rattle.gp_machine.specs.declared.event.Event.TheVariants as events
 use Rattle.gp_machine.specs.declared.answer.Answer.{Answer}
 use Rattle.gp_machine.specs.declared.entry.Receipt.{Receipt}
-use Rattle.gp_machine.specs.Replies.{reply_text}
+use Rattle.gp_trace.specs.Reply.{numbered, reply_text}
+
+-- a word and a unit's serial number
+abbrev pub of_unit : List ℕ → Serial → List ℕ
+of_unit word serial = word ++ codes " " ++ text_of_serial serial
 
 -- what the operator asked for
 abbrev pub command_text : Command → List ℕ
 command_text commands.Search = codes "search"
+command_text (commands.Alloc serial) = of_unit (codes "alloc") serial
+command_text (commands.Dealloc serial alloc) = of_unit (codes "dealloc") serial ++ codes " " ++ decimal alloc
+command_text (commands.Deactivate serial) = of_unit (codes "deactivate") serial
+command_text (commands.Disable serial) = of_unit (codes "disable") serial
+command_text (commands.Enable serial) = of_unit (codes "enable") serial
+command_text commands.EnableAll = codes "enable-all"
+command_text (commands.Popup serial) = of_unit (codes "popup") serial
+command_text commands.PopupAll = codes "popup-all"
+command_text (commands.Show serial) = of_unit (codes "show") serial
 
 -- what happened at the port; a burst with its round-trip delay in bit times and its octets
 abbrev pub event_text : Event → List ℕ
 event_text events.Frame = codes "frame"
-event_text (events.Burst at bytes) = codes "burst " ++ decimal at ++ codes " " ++ encode_lower bytes
+event_text (events.Burst at bytes) = numbered (codes "burst") at ++ codes " " ++ encode_lower bytes
 event_text (events.Command command) = command_text command
 
 -- the message that was sent, as its code under the mask
@@ -38,13 +52,13 @@ sent_text mask (Some message) = codes " sent " ++ encode_lower (code_of_down mes
 abbrev pub grant_text : Option Grant → List ℕ
 grant_text None = []
 grant_text (Some grants.Search) = codes " grant search"
-grant_text (Some (grants.Range onu)) = codes " grant range " ++ decimal onu
-grant_text (Some (grants.Poll onu)) = codes " grant poll " ++ decimal onu
+grant_text (Some (grants.Range onu)) = numbered (codes " grant range") onu
+grant_text (Some (grants.Poll onu)) = numbered (codes " grant poll") onu
 
 -- the alarm that was raised, with its unit's serial number
 abbrev pub alarm_text : Option Alarm → List ℕ
 alarm_text None = []
-alarm_text (Some alarm) = codes " alarm " ++ alarm_name alarm.kind ++ codes " " ++ text_of_serial alarm.serial
+alarm_text (Some alarm) = of_unit (codes " alarm " ++ alarm_name alarm.kind) alarm.serial
 
 -- what the port gave for an event: its reply, and what was sent, granted and raised, where there is something
 abbrev pub answer_text : Mask → Answer → List ℕ

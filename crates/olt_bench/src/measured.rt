@@ -1,21 +1,38 @@
-/// What the calls of one part came to.
-#[derive(Clone, Copy, Drop)]
+use std::io;
+use std::rt::Clock;
+use std::time::{Duration, Instant};
+
+/// How many calls one part made, a sum over their answers without the carry out of 64 bits, and how long they took.
+#[derive(Clone, Copy, Default, Drop)]
 pub(crate) struct Measured {
-    /// How many calls were made.
-    pub(crate) calls: u64,
-    /// A sum over their answers, without the carry out of 64 bits.
-    pub(crate) sum: u64,
+    calls: u64,
+    sum: u64,
+    took: Duration,
 }
 
 impl Measured {
-    /// No call yet.
-    pub(crate) fn none() -> Measured {
-        Measured { calls: 0, sum: 0 }
-    }
-
     /// Counts a call and adds its answer.
     pub(crate) fn count(&mut self, answer: u64) {
         self.calls = self.calls.wrapping_add(1);
         self.sum = self.sum.wrapping_add(answer);
+    }
+
+    /// Adds the time since the clock was read.
+    pub(crate) fn add_time<R: Clock>(&mut self, rt: &R, begin: Instant) -> io::Result<()> {
+        self.took = self.took.saturating_add(begin.elapsed(rt)?);
+        Ok(())
+    }
+
+    /// Prints what the calls of a part came to and what is left in it, and on standard error how long they took.
+    pub(crate) fn tell<R: Print + Eprint>(
+        &self,
+        rt: &R,
+        part: &str,
+        left: usize,
+    ) -> io::Result<()> {
+        let Measured { calls, sum, took } = *self;
+        let micros = took.as_micros();
+        println!(rt; "{part}, {left} left: {calls} calls, {sum}")?;
+        eprintln!(rt; "{part}, {left} left: {calls} calls in {micros} microseconds")
     }
 }

@@ -1,61 +1,46 @@
-use super::measured::Measured;
-use gp_onu::Unit;
-use gp_ploam::{Down, Mask, Serial, encode_down};
-use gp_ranging::Grant;
+use gp_ploam::{BROADCAST_ONU, Mask, Serial, Up, encode_up};
+use std::alloc::{AllocError, Global};
 
-/// The unit's serial number, ABCD00000001.
-const SERIAL: Serial = Serial([0x41, 0x42, 0x43, 0x44, 0, 0, 0, 1]);
-
-/// The code that gives the unit an equalization delay.
-fn ranging_time(eqd: u32) -> [u8; 13] {
-    encode_down(&Down::RangingTime { onu: 0, eqd }, Mask::Plain)
+/// What a unit answers to each grant, encoded beforehand. It takes the unit's place among the units for its ONU-ID: a port
+/// that has freed none gives them in this order.
+#[derive(Clone, Copy, Drop)]
+pub(crate) struct Unit {
+    pub(crate) serial: Serial,
+    /// To a serial number request.
+    pub(crate) searched: [u8; 13],
+    /// To a ranging request.
+    pub(crate) ranged: [u8; 13],
+    /// To a poll.
+    pub(crate) polled: [u8; 13],
 }
 
-/// A unit with the ONU-ID 0, and the codes of the two equalization delays that it hears in turn.
-#[derive(Drop)]
-pub(crate) struct Listener {
-    unit: Unit,
-    even: [u8; 13],
-    odd: [u8; 13],
+/// Makes the unit that is to have this ONU-ID.
+fn unit_with(onu: u8) -> Unit {
+    let serial = Serial([0x41, 0x42, 0x43, 0x44, 0, 0, 0, onu]);
+    Unit {
+        serial,
+        searched: serial_number(BROADCAST_ONU, serial),
+        ranged: serial_number(onu, serial),
+        polled: encode_up(&Up::NoMessage { onu }, Mask::Plain),
+    }
 }
 
-/// A unit in O4. The first equalization delay that it hears takes it to O5.
-pub(crate) fn ranging() -> Listener {
-    let overhead = Down::UpstreamOverhead { burst: [0; 10] };
-    let assignment = Down::AssignOnu {
-        onu: 0,
-        serial: SERIAL,
+/// Makes the code of a serial number.
+fn serial_number(onu: u8, serial: Serial) -> [u8; 13] {
+    let message = Up::SerialNumber {
+        onu,
+        serial,
+        random: 0,
+        flags: 0,
     };
-    let mut unit = Unit::new(SERIAL, Mask::Plain);
-    unit.light();
-    unit.hear(&encode_down(&overhead, Mask::Plain));
-    unit.hear(&encode_down(&assignment, Mask::Plain));
-    Listener {
-        unit,
-        even: ranging_time(211_040),
-        odd: ranging_time(211_041),
-    }
+    encode_up(&message, Mask::Plain)
 }
 
-/// Hears one of two equalization delays in turn, and answers a ranging request. A delay or a last octet n counts as
-/// n + 1, none as 0.
-pub(crate) fn hear_and_answer(listener: &mut Listener, rounds: u32) -> Measured {
-    let mut measured = Measured::none();
-    for round in 0..rounds {
-        let code = if round % 2 == 0 {
-            listener.even
-        } else {
-            listener.odd
-        };
-        listener.unit.hear(&code);
-        measured.count(left_in(listener));
-        let answer = listener.unit.grant(Grant::Range(0), 0);
-        measured.count(answer.map_or(0, |code| u64::from(code[12]) + 1));
+/// Makes so many units.
+pub(crate) fn units_of(alloc: Global, count: u8) -> Result<Vec<Unit>, AllocError> {
+    let mut units = Vec::new(alloc);
+    for onu in 0..count {
+        units.push(unit_with(onu))?;
     }
-    measured
-}
-
-/// The equalization delay that the unit has, and 1 more; 0 where it has none.
-pub(crate) fn left_in(listener: &Listener) -> u64 {
-    listener.unit.eqd().map_or(0, |eqd| u64::from(eqd) + 1)
+    Ok(units)
 }

@@ -1,17 +1,16 @@
 -- The exit statuses of the program (this profile's own rule).
-use Rattle.std.specs.Prelude.{◌≡◌, ◌≢◌, ℕ, Bool, List, ◌⊎◌, Result, Ok, Err, codes}
+use Rattle.std.specs.Prelude.{◌≡◌, ◌≢◌, ℕ, Bool, List, ◌⊎◌, Result, Ok, Err}
 use Rattle.std.specs.declared.io.ErrorKind.{ErrorKind as IoErrorKind}
 use Rattle.std.specs.declared.io.ErrorKind.TheVariants as io_error
 use Rattle.clap.specs.declared.error.kind.ErrorKind.{ErrorKind}
 use Rattle.clap.specs.declared.error.kind.ErrorKind.TheVariants as error
 use Rattle.gp_ploam.specs.declared.check.Mask.{Mask}
-use Rattle.gp_stream.specs.Report.{memory_line, memory_status, write_status}
 use Rattle.gp_decode.specs.declared.fault.LineFault.{LineFault}
-use Rattle.gp_decode.specs.Faults.{report_status as code_status}
 use Rattle.gp_decode.specs.Line.{HasLineFault, IsOfText, Says}
 use Rattle.gp_replay.specs.declared.fault.RunFault.{RunFault}
 use Rattle.gp_replay.specs.declared.fault.RunFault.TheVariants as run
-use Rattle.gp_replay.specs.Report.{report_status as run_status}
+use Rattle.gp_report.specs.declared.status.TheConstants.{BAD_ARGUMENTS, NOT_WRITTEN, OUT_OF_MEMORY, SUCCESS}
+use Rattle.gp_report.specs.Report.{arguments_line, code_status, memory_line, run_status}
 use Rattle.clap.specs.Words.{Text, subcommand_rows_of}
 use Rattle.clap.specs.declared.parser.matches.ArgMatches.{ArgMatches}
 use Rattle.oltctl.specs.CommandLine.{IsFaultOf, IsParseOf}
@@ -19,34 +18,26 @@ use Rattle.oltctl.specs.Requests.{Asks, AsksNothing}
 use Rattle.oltctl.specs.declared.request.Request.{Request}
 use Rattle.oltctl.specs.declared.request.Request.TheVariants.{Replay, Decode}
 
--- all went well
-abbrev pub success : ℕ
-success = 0
-
--- the command line is none of this program's
-abbrev pub bad_arguments : ℕ
-bad_arguments = 2
-
 -- no status is greater: that of a terminal whose licences disagree with its units, 5, never comes
 abbrev pub greatest_status : ℕ
-greatest_status = 4
+greatest_status = NOT_WRITTEN
 
 -- the line on standard error and the status where the words of the command line could not be had
 abbrev pub IsArgumentsReport : IoErrorKind → List ℕ → ℕ → Type 0
-IsArgumentsReport io_error.OutOfMemory line status = (line ≡ memory_line) × (status ≡ memory_status)
-IsArgumentsReport _ line status = (line ≡ codes "oltctl: arguments") × (status ≡ bad_arguments)
+IsArgumentsReport io_error.OutOfMemory line status = (line ≡ memory_line) × (status ≡ OUT_OF_MEMORY)
+IsArgumentsReport _ line status = (line ≡ arguments_line) × (status ≡ BAD_ARGUMENTS)
 
 -- the status where the words were not parsed, by what was the matter; help that was asked for is no mistake, but may not
 -- get out
 abbrev pub IsStatusOf : ErrorKind → ℕ → Type 0
-IsStatusOf error.OutOfMemory status = status ≡ memory_status
-IsStatusOf error.DisplayHelp status = (status ≡ success) ⊎ (status ≡ write_status)
-IsStatusOf error.DisplayVersion status = (status ≡ success) ⊎ (status ≡ write_status)
-IsStatusOf _ status = status ≡ bad_arguments
+IsStatusOf error.OutOfMemory status = status ≡ OUT_OF_MEMORY
+IsStatusOf error.DisplayHelp status = (status ≡ SUCCESS) ⊎ (status ≡ NOT_WRITTEN)
+IsStatusOf error.DisplayVersion status = (status ≡ SUCCESS) ⊎ (status ≡ NOT_WRITTEN)
+IsStatusOf _ status = status ≡ BAD_ARGUMENTS
 
 -- the status after a replay, by how it ended
 abbrev pub replay_status : Result (Unit {0}) RunFault → ℕ
-replay_status (Ok done) = success
+replay_status (Ok done) = SUCCESS
 replay_status (Err fault) = run_status fault
 
 -- the status after a replay of a file or of standard input: what they hold no contract can tell, so it is that of some
@@ -56,7 +47,7 @@ IsPlayed status = (outcome : Result (Unit {0}) RunFault) × (outcome ≢ Err run
 
 -- all went well, and the code has a line
 abbrev pub IsSaid : List ℕ → Bool → Mask → ℕ → Type 0
-IsSaid code upstream mask status = (status ≡ success) × ((line : List ℕ) × Says upstream mask code line)
+IsSaid code upstream mask status = (status ≡ SUCCESS) × ((line : List ℕ) × Says upstream mask code line)
 
 -- it is the status of a fault, and the code has that fault, where it isn't one of memory or of the output
 abbrev pub IsFaulty : List ℕ → Mask → ℕ → Type 0
@@ -66,7 +57,7 @@ IsFaulty code mask status = (fault : LineFault) × (status ≡ code_status fault
 pub record IsDecoded (code : List ℕ) (upstream : Bool) (mask : Mask) (status : ℕ) : Type 0 where
   pub ended : IsSaid code upstream mask status ⊎ IsFaulty code mask status
   -- memory aside, a code that has a fault has its status
-  pub faulty : status ≢ memory_status → (fault : LineFault) → IsOfText fault → HasLineFault mask code fault → status ≡ code_status fault
+  pub faulty : status ≢ OUT_OF_MEMORY → (fault : LineFault) → IsOfText fault → HasLineFault mask code fault → status ≡ code_status fault
 
 -- the status after what was asked for
 abbrev pub IsServed : Request → ℕ → Type 0
@@ -80,4 +71,4 @@ pub data IsRun (words : List Text) (status : ℕ) : Type 0 where
   -- they are parsed, and what they ask for is done
   served : (parsed : ArgMatches) (request : Request) → IsParseOf words parsed → Asks (subcommand_rows_of parsed) request → IsServed request status → IsRun words status
   -- they are parsed, and ask for nothing that is known
-  idle : (parsed : ArgMatches) → IsParseOf words parsed → AsksNothing (subcommand_rows_of parsed) → status ≡ bad_arguments → IsRun words status
+  idle : (parsed : ArgMatches) → IsParseOf words parsed → AsksNothing (subcommand_rows_of parsed) → status ≡ BAD_ARGUMENTS → IsRun words status

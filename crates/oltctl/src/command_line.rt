@@ -84,7 +84,7 @@ fn command<'a>(alloc: Global) -> Result<Command<'a>, AllocError>
         .subcommand(decode(alloc)?)
 }
 
-/// What the words of a command line ask for.
+/// Reads what the words of a command line ask for.
 ///
 /// The first word is the program's name.
 pub fn parse<'a>(alloc: Global, words: &'a [String]) -> Result<ArgMatches<'a>, Error>

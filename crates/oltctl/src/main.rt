@@ -17,18 +17,18 @@ mod request;
 
 use clap::Error;
 use clap::error::ErrorKind;
-use gp_decode::{LineFault, decode_line, line_report};
+use gp_decode::{LineFault, decode_line};
 use gp_ploam::Mask;
-use gp_replay::{RunFault, run_replay, run_report};
-use gp_stream::{Sink, Source, memory_report, write_report};
+use gp_replay::{RunFault, run_replay};
+use gp_report::{
+    BAD_ARGUMENTS, SUCCESS, arguments_report, line_report, memory_report, run_report, write_report,
+};
+use gp_stream::{Sink, Source};
 use request::{Request, request_of};
 use std::io;
 use std::io::Read;
 use std::process::ExitCode;
 use std::rt::{Env, Files};
-
-/// The exit status for a command line that is none of this program's.
-const BAD_ARGUMENTS: u8 = 2;
 
 /// Says on standard error what went wrong, and answers the exit status, which says it too where
 /// standard error takes nothing.
@@ -73,7 +73,7 @@ fn end_replay<R: Eprint>(rt: &R, outcome: &Result<(), RunFault>) -> u8
     ensures { result ≡ replay_status outcome.now }
 {
     match outcome {
-        Ok(()) => 0,
+        Ok(()) => SUCCESS,
         Err(fault) => report(rt, run_report(fault)),
     }
 }
@@ -103,7 +103,7 @@ fn serve<R: AllocGlobal + Files + Print + Eprint + Input>(rt: &R, request: Reque
             upstream,
             mask,
         } => match decode(rt, code, upstream, mask) {
-            Ok(()) => 0,
+            Ok(()) => SUCCESS,
             Err(fault) => report(rt, line_report(&fault)),
         },
     }
@@ -119,24 +119,24 @@ fn explain<R: Print + Eprint>(rt: &R, error: &Error) -> u8
     }
     match error.print(rt) {
         _ if error.use_stderr() => BAD_ARGUMENTS,
-        Ok(()) => 0,
+        Ok(()) => SUCCESS,
         Err(_) => report(rt, write_report()),
     }
 }
 
-/// The command line, whose first word is the program's name.
+/// Gives the words of the command line, the first of which is the program's name.
 fn arguments_of<R: AllocGlobal + Env>(rt: &R) -> io::Result<Vec<String>> {
     Ok(std::env::args(rt)?.collect(rt.alloc())?)
 }
 
-/// The line on standard error and the exit status where the command line was not read: for want of
-/// memory, or since one of its words is no UTF-8.
-fn arguments_report(error: &io::Error) -> (&'static str, u8)
+/// Answers the line on standard error and the exit status where the command line was not read: the program is
+/// out of memory, or one of its words is no UTF-8.
+fn words_report(error: &io::Error) -> (&'static str, u8)
     ensures { IsArgumentsReport (error_kind error.now) result.0.now result.1 }
 {
     match error.kind() {
         io::ErrorKind::OutOfMemory => memory_report(),
-        _ => ("oltctl: arguments", BAD_ARGUMENTS),
+        _ => arguments_report(),
     }
 }
 
@@ -160,7 +160,7 @@ fn run<R: AllocGlobal + Env + Files + Print + Eprint + Input>(rt: &R) -> u8
 {
     match arguments_of(rt) {
         Ok(arguments) => run_words(rt, arguments.as_slice()),
-        Err(error) => report(rt, arguments_report(&error)),
+        Err(error) => report(rt, words_report(&error)),
     }
 }
 

@@ -23,7 +23,7 @@ pub enum Request<'a> {
     },
 }
 
-/// What the subcommand of a parsed command line asks for; None where it has none that is known, or no code.
+/// Tells what the subcommand of a parsed command line asks for; None where it has none that is known, or no code.
 pub fn request_of<'a>(matches: &ArgMatches<'a>) -> Option<Request<'a>>
     ensures asks { IfSome result (Asks (subcommand_rows_of matches.now)) }
     ensures nothing { IfNone result (AsksNothing (subcommand_rows_of matches.now)) }
@@ -56,7 +56,7 @@ fn decode_of<'a>(found: &ArgMatches<'a>) -> Option<Request<'a>>
     })
 }
 
-/// The mask that a value of `--mask` names, and the plain one where there is none.
+/// Gives the mask that a value of `--mask` names, and the plain one where there is none.
 fn mask_of(name: Option<&str>) -> Mask
     ensures { result ≡ mask_named (option_map (λ n. n.now) name.entry) }
 {

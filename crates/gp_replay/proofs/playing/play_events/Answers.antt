@@ -1,6 +1,6 @@
 use Rattle.std.proofs.Common.{rules, arith, ◌≤◌, ◌+◌, ◌-◌, ◌*◌, ◌^◌, length}
 use Rattle.gp_script.specs.declared.script.ScriptEvent.TheVariants.{Frames}
-use Rattle.gp_replay.proofs.TurnLemmas.{on_err, writes_on, front_on, events_more, events_rest}
+use Rattle.gp_replay.proofs.TurnLemmas.{on_err, writes_on, prefix_on, events_more, events_rest}
 use Rattle.gp_replay.proofs.RoomLemmas.{room_for_fewer, room_left}
 use Rattle.gp_replay.proofs.playing.play_events.Goals as goal
 
@@ -11,7 +11,7 @@ play_event-requires-clause-room g c =
 
 pub returns-in_err-play_event-clause-err : goal.returns-in_err-play_event-clause-err
 returns-in_err-play_event-clause-err g c =
-    on_err _ (front_on _ _ _ _ _ _ _ _ _ _ (events_rest c.args.events.now c.events.event-index (Frames 0 0) c.events-test.true) c.events.invariant.played c.in_err-play_event.ensures.err)
+    on_err _ (prefix_on _ _ _ _ _ _ _ _ _ _ (events_rest c.args.events.now c.events.event-index (Frames 0 0) c.events-test.true) c.events.invariant.played c.in_err-play_event.ensures.err)
 
 pub events-preserved : goal.events-preserved
 events-preserved g c =

@@ -2,6 +2,7 @@ use Rattle.std.proofs.Common.{◌≡◌, ◌≤◌, [], drop, length, vec_len, v
 use Rattle.toml.specs.View.{items_view}
 use Rattle.gp_machine.specs.Config.{is_within_limits}
 use Rattle.gp_script.specs.Port.{ports_from}
+use Rattle.gp_script.specs.Admits.{Admits}
 use Rattle.gp_script.proofs.ports.ports_of.Given as goal
 
 abbrev pub invariant-tables : goal.invariant-tables
@@ -11,4 +12,5 @@ invariant-tables l = record {
   room : length l.tables ≤ vec_capacity l.ports;
   limits : All (λ port. IsTrue (is_within_limits port)) l.ports.items;
   mask : All (λ port. port.mask ≡ l.mask) l.ports.items;
+  admits : Admits l.admitted l.ports.items [];
 }

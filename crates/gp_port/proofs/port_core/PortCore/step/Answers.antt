@@ -1,5 +1,47 @@
-use Rattle.gp_machine.proofs.Licences.{step_keeps}
+use Rattle.std.proofs.Common.{◌≡◌, ◌+◌, arith}
+use Rattle.gp_machine.specs.State.{rows_of}
+use Rattle.gp_machine.specs.Changes.{step_result_of}
+use Rattle.gp_port.proofs.Cores.{kept, moved, same_config, shared}
 use Rattle.gp_port.proofs.port_core.PortCore.step.Goals as goal
 
+pub share_out-rest-requires : goal.share_out-rest-requires
+share_out-rest-requires g c =
+    let o = step_result_of c.step-answer.result c.step-answer.new.self in
+    let sums : c.step-answer.result.1 + rows_of c.step-answer.new.self ≡ c.count.result + rows_of c.self.inside.machine =
+    c.step_keeps_licences.ensures c.count.result c.self.inside.machine c.args.event o c.self.invariant.sound c.step-answer.ensures.step in
+    let licences = c.self.invariant.licences in
+    omega (arith, c.count.ensures.count)
+
+pub invariant_of-self : goal.invariant_of-self
+invariant_of-self g c =
+    let o = step_result_of c.step-answer.result c.step-answer.new.self in
+    let step = c.step-answer.ensures.step in
+    kept c.count.result c.self.inside.held c.step-answer.result.1 c.share_out-rest.new.held c.self.inside.machine c.step-answer.new.self c.self.invariant.limits c.self.invariant.licences
+    (c.sound_step.ensures c.count.result c.self.inside.machine c.args.event o c.self.invariant.sound step)
+    (same_config c.count.result c.self.inside.machine c.args.event o step)
+    (c.step_keeps_licences.ensures c.count.result c.self.inside.machine c.args.event o c.self.invariant.sound step)
+    (shared c.share_out-rest.new.held c.share_out-rest.result c.args.purse c.self.inside.held c.step-answer.result.1 c.count.result c.share_out-rest.ensures.held c.share_out-rest.ensures.left c.count.ensures.count)
+
+pub returns-clause-sound : goal.returns-clause-sound
+returns-clause-sound g c =
+    c.sound_step.ensures c.count.result c.self.inside.machine c.args.event (step_result_of c.step-answer.result c.step-answer.new.self) c.self.invariant.sound c.step-answer.ensures.step
+
 pub returns-clause-licences : goal.returns-clause-licences
-returns-clause-licences g c = step_keeps c.args.purse c.args.self.now c.args.event _ c.react-done.ensures.step
+returns-clause-licences g c =
+    let o = step_result_of c.step-answer.result c.step-answer.new.self in
+    let sums : c.step-answer.result.1 + rows_of c.step-answer.new.self ≡ c.count.result + rows_of c.self.inside.machine =
+    c.step_keeps_licences.ensures c.count.result c.self.inside.machine c.args.event o c.self.invariant.sound c.step-answer.ensures.step in
+    rw (← c.self.view_is) (omega (arith, c.share_out-rest.ensures.left, c.count.ensures.count))
+
+pub returns-clause-sends : goal.returns-clause-sends
+returns-clause-sends g c =
+    let step = moved c.count.result c.args.purse c.step-answer.result.1 c.share_out-rest.result c.self.inside.machine c.step-answer.new.self c.args.event c.step-answer.result.0 c.count.ensures.count c.share_out-rest.ensures.left c.step-answer.ensures.step in
+    rw (← c.self.view_is)
+    (step.0, step.1, c.step_sends_in_order.ensures c.args.purse c.self.inside.machine c.args.event (step_result_of (c.step-answer.result.0, c.share_out-rest.result) c.step-answer.new.self) step.0 step.1)
+
+pub returns-clause-refused : goal.returns-clause-refused
+returns-clause-refused g c =
+    let step = moved c.count.result c.args.purse c.step-answer.result.1 c.share_out-rest.result c.self.inside.machine c.step-answer.new.self c.args.event c.step-answer.result.0 c.count.ensures.count c.share_out-rest.ensures.left c.step-answer.ensures.step in
+    rw (← c.self.view_is)
+    (λ refusal is.
+    c.refusals_change_nothing.ensures c.args.purse c.self.inside.machine c.args.event (step_result_of (c.step-answer.result.0, c.share_out-rest.result) c.step-answer.new.self) refusal c.self.invariant.sound step is)

@@ -1,0 +1,13 @@
+pub mod AnyFree
+pub mod Readings
+pub mod EveryStep
+pub mod TableLines
+pub mod WholeRuns
+pub mod RunMessages
+pub mod HeldNumbers
+pub mod Wants
+pub mod Orderly
+pub mod OrderlyFrames
+pub mod Losing
+pub mod ProperMessages
+pub mod Resting

@@ -1,0 +1,9 @@
+pub mod Steps
+pub mod TableLines
+pub mod Runs
+pub mod Messages
+pub mod Numbers
+pub mod Causes
+pub mod Removals
+pub mod Alarms
+pub mod Quarantine

@@ -1,0 +1,15 @@
+ghost use Rattle.gp_laws.specs.Messages.{EveryRunHasOwedMessages, SendsEachThreeTimes, SendsWhatWasOwedFirst, SendsOnlyProperMessages};
+
+/// States that the copies sent along a run, and after them those still owed, are the messages that its
+/// steps owe, in order, each three times; the copies that were owed at its start come first.
+pub fn sends_each_message_three_times()
+    ensures opening { SendsEachThreeTimes }
+    ensures any_start { SendsWhatWasOwedFirst }
+    ensures owes { EveryRunHasOwedMessages }
+{}
+
+/// States that every message that is sent or owed along a run from an opening is proper, so that it has a
+/// code.
+pub fn sends_only_proper_messages()
+    ensures { SendsOnlyProperMessages }
+{}

@@ -1,0 +1,7 @@
+ghost use Rattle.gp_laws.specs.Quarantine.{FreedOnuIdsRest};
+
+/// States that an ONU-ID that was freed is given to a new unit only after as many frames as the quarantine
+/// of the port's configuration has.
+pub fn freed_onu_ids_rest()
+    ensures { FreedOnuIdsRest }
+{}

@@ -1,0 +1,22 @@
+ghost use Rattle.gp_laws.specs.Runs.{RunsInParts, EveryStateIsSound, KeepsConfiguration, RunsKeepLicences};
+
+/// States that a run may be cut anywhere, and that runs may be joined.
+pub fn runs_in_parts()
+    ensures { RunsInParts }
+{}
+
+/// States that every state of every run from an opening is sound.
+pub fn every_state_is_sound()
+    ensures { EveryStateIsSound }
+{}
+
+/// States that the licences handed in along a run, and those of the units at its start, are as many as those
+/// handed back and those of the units at its end.
+pub fn runs_keep_licences()
+    ensures { RunsKeepLicences }
+{}
+
+/// States that the configuration of a port never changes.
+pub fn keeps_configuration()
+    ensures { KeepsConfiguration }
+{}

@@ -1,0 +1,134 @@
+ghost use Rattle.std.specs.Prelude.{◌≡◌, ◌<◌, ◌≤◌, IfOk, IfErr, None};
+ghost use Rattle.std.specs.FinMap as map;
+ghost use Rattle.gp_pools.specs.Allocs.{IsGapFor, IsPlaceOf, IsRising};
+ghost use Rattle.gp_pools.specs.Slots.{AreSlots, filled, slots_of};
+
+use std::marker::Model;
+
+/// The most further Alloc-IDs of one unit (this profile's own rule).
+pub const MAX_ALLOCS: usize = 8;
+
+/// The further Alloc-IDs of a unit, at most eight. Contracts see a finite map from Alloc-ID to whether it
+/// is leaving: the unit was told to give it back, and has not yet acknowledged that.
+#[derive(Clone, Copy, Debug, PartialEq, Eq)]
+pub struct Allocs {
+    slots: [Option<(u16, bool)>; MAX_ALLOCS],
+}
+
+impl Model for Allocs {
+    ghost use Rattle.std.specs.Prelude.{Bool};
+    ghost use Rattle.std.proofs.Common.{ap};
+    ghost use Rattle.std.specs.FinMap as map;
+    ghost use Rattle.std.specs.Ordering.{nat_cmp};
+    ghost use Rattle.std.specs.Coded.{coded_ℕ, coded_bool};
+    ghost use Rattle.gp_pools.specs.Allocs.{allocs_of};
+    ghost use Rattle.gp_pools.specs.Slots.{AreSlots, filled, slots_of};
+    ghost use Rattle.gp_pools.specs.SameSlots.{same_slots};
+
+    ghost Value = { map.FinMap nat_cmp Bool };
+
+    ghost coded = { map.code coded_ℕ coded_bool };
+
+    ghost view = { λ a. allocs_of (filled a.slots) };
+
+    ghost invariant = { λ a. AreSlots a.slots };
+
+    ghost inverse = { λ m. record { slots = slots_of (map.entries m) } };
+
+    ghost inverse_ok = { λ a h. ap (λ xs. record { slots = xs }) (same_slots a.slots h) };
+}
+
+/// Finds the place of the Alloc-ID, or where it would go.
+fn search(slots: &[Option<(u16, bool)>; 8], alloc: u16) -> Result<usize, usize>
+    requires { AreSlots slots.now }
+    ensures found { IfOk result (IsPlaceOf (filled slots.now) alloc) }
+    ensures absent { IfErr result (IsGapFor (filled slots.now) alloc) }
+{
+    for place in 0..MAX_ALLOCS {
+        match slots[place] {
+            Some((number, _)) if number < alloc => {}
+            Some((number, _)) if number == alloc => return Ok(place),
+            _ => return Err(place),
+        }
+    }
+    Err(MAX_ALLOCS)
+}
+
+impl Allocs {
+    /// Makes a map without Alloc-IDs.
+    pub fn new() -> Allocs
+        ensures { result ≡ map.empty }
+    {
+        Allocs {
+            slots: [None; MAX_ALLOCS],
+        }
+    }
+
+    /// Counts the Alloc-IDs, 0 to 8.
+    pub fn len(&self) -> usize
+        ensures len { result ≡ map.len self.now }
+        ensures few { result ≤ 8 }
+    {
+        for place in 0..MAX_ALLOCS {
+            if self.slots[place].is_none() {
+                return place;
+            }
+        }
+        MAX_ALLOCS
+    }
+
+    /// Tells whether this Alloc-ID is leaving, if it is here.
+    pub fn get(&self, alloc: u16) -> Option<bool>
+        ensures { result ≡ map.get self.now alloc }
+    {
+        let Ok(place) = search(&self.slots, alloc) else {
+            return None;
+        };
+        let (_, leaving) = self.slots[place]?;
+        Some(leaving)
+    }
+
+    /// Puts in an Alloc-ID, leaving or not; one that is here already becomes so.
+    pub fn insert(&mut self, alloc: u16, leaving: bool)
+        requires room { map.get self.old alloc ≡ None → map.len self.old < 8 }
+        ensures { self.new ≡ map.insert self.old alloc leaving }
+    {
+        self.remove(alloc);
+        self.add(alloc, leaving);
+    }
+
+    /// Puts in an Alloc-ID that is not here yet.
+    fn add(&mut self, alloc: u16, leaving: bool)
+        requires room { map.len self.old < 8 }
+        requires new { map.get self.old alloc ≡ None }
+        ensures { self.new ≡ map.insert self.old alloc leaving }
+    {
+        match search(&self.slots, alloc) {
+            Ok(_) => unreachable!(),
+            Err(place) => {
+                self.slots[place..].rotate_right(1);
+                self.slots[place] = Some((alloc, leaving));
+            }
+        }
+    }
+
+    /// Takes out an Alloc-ID, where it is here.
+    pub fn remove(&mut self, alloc: u16)
+        ensures rest { self.new ≡ map.remove self.old alloc }
+        ensures few { map.len self.old ≤ 8 }
+    {
+        if let Ok(place) = search(&self.slots, alloc) {
+            self.slots[place..].rotate_left(1);
+            self.slots[MAX_ALLOCS - 1] = None;
+        }
+    }
+
+    /// Tells the Alloc-IDs in rising order, each with whether it is leaving; None after the last.
+    pub fn slots(&self) -> [Option<(u16, bool)>; 8]
+        ensures slots { result ≡ slots_of (map.entries self.now) }
+        ensures entries { filled result ≡ map.entries self.now }
+        ensures rising { IsRising (filled result) }
+    {
+        self.slots
+    }
+}

@@ -1,0 +1,5 @@
+use Rattle.std.proofs.Common.{refl}
+use Rattle.gp_port.proofs.port_machine.PortMachine.active.Goals as goal
+
+pub remove_unit-requires : goal.remove_unit-requires
+remove_unit-requires c = (c.args.row, c.requires.has, refl, (c.requires.sound.units.each c.args.serial c.args.row c.requires.has).fits)

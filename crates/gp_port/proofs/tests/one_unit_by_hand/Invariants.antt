@@ -1,0 +1,4 @@
+use Rattle.gp_port.proofs.tests.one_unit_by_hand.Given as goal
+
+abbrev pub ghosts-find_one : goal.ghosts-find_one
+ghosts-find_one g a = record { name = a.blank.name; parts = 4064 }

@@ -1,0 +1,47 @@
+-- What the parts of a port stand for (this profile's own rule).
+use Rattle.std.specs.Prelude.{◌≡◌, ℕ, Bool, true, List, Option, All}
+use Rattle.gp_ploam.specs.declared.message.Down.{Down}
+use Rattle.std.specs.FinSet.{from_list}
+use Rattle.gp_ploam.specs.Down.{IsProperDown}
+use Rattle.gp_ranging.specs.Window.{WindowState}
+use Rattle.gp_common.specs.declared.common.Common.{Common}
+use Rattle.gp_table.specs.Active.{ActiveState}
+use Rattle.gp_machine.specs.declared.config.PortConfig.{PortConfig}
+use Rattle.gp_machine.specs.Config.{is_within_limits}
+use Rattle.gp_machine.specs.State.{PortState, rows_of}
+use Rattle.gp_machine.specs.Sound.{IsSound}
+
+-- the state of a port, part by part
+abbrev pub state_with : PortConfig → ActiveState → Common → Bool → ℕ → Option WindowState → List Down → Option ℕ → PortState
+state_with config units common wanted timer window owed polled =
+    record {
+      config = config;
+      rows = units.rows;
+      disabled = units.disabled;
+      common = common;
+      wanted = wanted;
+      timer = timer;
+      window = window;
+      owed = owed;
+      polled = polled;
+      cooling = units.cooling;
+    }
+
+-- the unit table is that of this configuration
+pub record IsConfigured (config : PortConfig) (units : ActiveState) : Type 0 where
+  pub admitted : units.admitted ≡ from_list config.admitted
+  pub max_units : units.max_units ≡ config.max_units
+  pub alloc_last : units.alloc_last ≡ config.alloc_last
+  pub quarantine : units.quarantine ≡ config.quarantine
+
+-- what is true of the parts of each port: the unit table is that of its configuration, and each copy that is owed has a code
+pub record IsAssembled (config : PortConfig) (units : ActiveState) (owed : List Down) : Type 0 where
+  pub configured : IsConfigured config units
+  pub proper : All IsProperDown owed
+
+-- what is true of each port with these licences: its configuration is within the limits, it is sound, and it holds one licence
+-- for each active unit
+pub record IsKept (port : PortState) (held : ℕ) : Type 0 where
+  pub limits : is_within_limits port.config ≡ true
+  pub sound : IsSound port
+  pub licences : held ≡ rows_of port

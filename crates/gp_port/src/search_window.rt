@@ -1,0 +1,139 @@
+ghost use Rattle.std.specs.Prelude.{◌≡◌, ◌≤◌, None, true};
+ghost use Rattle.std.specs.FinMap as map;
+ghost use Rattle.std.specs.FinSet as set;
+ghost use Rattle.gp_ploam.specs.Serials.{is_among};
+ghost use Rattle.gp_unit.specs.declared.row.Row.{Row};
+ghost use Rattle.gp_machine.specs.State.{HasRow};
+ghost use Rattle.gp_machine.specs.Sound.{IsSound};
+ghost use Rattle.gp_machine.specs.Changes.{step_result_of};
+ghost use Rattle.gp_machine.specs.Responses.{MayPick, step_result_with};
+ghost use Rattle.gp_machine.specs.SearchWindow.{active_response, admitted_response, again_response, enabled_response, newcomer_response, refuses_burst, search_response};
+ghost use Rattle.gp_port.specs.Numbers.{number_in};
+
+use super::answers::raises;
+use super::port_machine::PortMachine;
+use gp_alarms::AlarmKind;
+use gp_machine::{Answer, Phase, Refusal, Reply, Row};
+use gp_ploam::{BROADCAST_ONU, Down, Serial, Up};
+use gp_table::Entry;
+
+impl PortMachine {
+    /// Refuses a burst: the window has seen it, and nothing else changes.
+    pub(super) fn refuse(&mut self, purse: u32, refusal: Refusal) -> (Answer, u32)
+        ensures free { MayPick self.old (refuses_burst refusal) (number_in result.0.reply) }
+        ensures outcome { step_result_of result self.new ≡ step_result_with purse self.old None (refuses_burst refusal) (number_in result.0.reply) }
+    {
+        self.mark_seen();
+        (Answer::from(Reply::Refused(refusal)), purse)
+    }
+
+    /// Hears a message in a search window. A new unit gets the wished ONU-ID, where that is free.
+    pub(super) fn search(&mut self, purse: u32, message: Up, wished: Option<u16>) -> (Answer, u32)
+        requires sound { IsSound self.old }
+        requires units { self.old.config.max_units ≤ 254 }
+        requires purse { purse ≤ 4064 }
+        ensures free { MayPick self.old (search_response purse self.old message) (number_in result.0.reply) }
+        ensures outcome { step_result_of result self.new ≡ step_result_with purse self.old None (search_response purse self.old message) (number_in result.0.reply) }
+    {
+        let Up::SerialNumber { onu, serial, .. } = message else {
+            return self.refuse(purse, Refusal::WrongWindow);
+        };
+        if onu != BROADCAST_ONU {
+            return self.refuse(purse, Refusal::WrongWindow);
+        }
+        let Some(known) = self.look_up(&serial) else {
+            return self.refuse(purse, Refusal::NotAdmitted);
+        };
+        self.admitted(purse, serial, known, wished)
+    }
+
+    /// Hears an admitted unit.
+    fn admitted(
+        &mut self,
+        purse: u32,
+        serial: Serial,
+        known: Entry,
+        wished: Option<u16>,
+    ) -> (Answer, u32)
+        requires sound { IsSound self.old }
+        requires units { self.old.config.max_units ≤ 254 }
+        requires purse { purse ≤ 4064 }
+        requires admitted { is_among serial self.old.config.admitted ≡ true }
+        requires disabled { known.disabled ≡ set.contains self.old.disabled serial }
+        requires row { known.row ≡ map.get self.old.rows serial }
+        ensures free { MayPick self.old (admitted_response purse self.old serial) (number_in result.0.reply) }
+        ensures outcome { step_result_of result self.new ≡ step_result_with purse self.old None (admitted_response purse self.old serial) (number_in result.0.reply) }
+    {
+        if known.disabled {
+            return (raises(Reply::DisabledSeen, AlarmKind::Df, serial), purse);
+        }
+        match known.row {
+            Some(row) => self.active(purse, serial, row),
+            None => self.newcomer(purse, serial, wished),
+        }
+    }
+
+    /// Hears an admitted unit that is not active.
+    fn newcomer(&mut self, purse: u32, serial: Serial, wished: Option<u16>) -> (Answer, u32)
+        requires sound { IsSound self.old }
+        requires units { self.old.config.max_units ≤ 254 }
+        requires admitted { is_among serial self.old.config.admitted ≡ true }
+        requires unknown { map.get self.old.rows serial ≡ None }
+        ensures free { MayPick self.old (newcomer_response purse self.old serial) (number_in result.0.reply) }
+        ensures outcome { step_result_of result self.new ≡ step_result_with purse self.old None (newcomer_response purse self.old serial) (number_in result.0.reply) }
+    {
+        let Some(onu) = self.free_onu(wished) else {
+            return self.refuse(purse, Refusal::NoId);
+        };
+        if purse == 0 {
+            return self.refuse(purse, Refusal::NoLicence);
+        }
+        if !self.has_room() {
+            return self.refuse(purse, Refusal::Busy);
+        }
+        self.add_unit(serial, onu);
+        self.owe(Down::AssignOnu { onu, serial });
+        (Answer::from(Reply::Found(onu)), purse - 1)
+    }
+
+    /// Hears a unit that is active already: an operating one is removed.
+    fn active(&mut self, purse: u32, serial: Serial, row: Row) -> (Answer, u32)
+        requires sound { IsSound self.old }
+        requires purse { purse ≤ 4064 }
+        requires has { HasRow self.old.rows serial row }
+        ensures free { MayPick self.old (active_response self.old serial row.onu row.phase) (number_in result.0.reply) }
+        ensures outcome { step_result_of result self.new ≡ step_result_with purse self.old None (active_response self.old serial row.onu row.phase) (number_in result.0.reply) }
+    {
+        let onu = row.onu;
+        match row.phase {
+            Phase::Ranging { .. } => self.again(purse, serial, row),
+            Phase::Operating { .. } => {
+                if !self.has_room() {
+                    return self.refuse(purse, Refusal::Busy);
+                }
+                self.remove_unit(&serial, onu);
+                self.owe(Down::Deactivate { onu });
+                (Answer::from(Reply::Restarted(onu)), purse + 1)
+            }
+        }
+    }
+
+    /// Begins anew with a ranging unit and its own ONU-ID, which it is told again, but where it is still to be told it.
+    fn again(&mut self, purse: u32, serial: Serial, row: Row) -> (Answer, u32)
+        requires sound { IsSound self.old }
+        requires has { HasRow self.old.rows serial row }
+        ensures free { MayPick self.old (again_response self.old serial row.onu) (number_in result.0.reply) }
+        ensures outcome { step_result_of result self.new ≡ step_result_with purse self.old None (again_response self.old serial row.onu) (number_in result.0.reply) }
+    {
+        let onu = row.onu;
+        if self.owes_assign(onu, serial) {
+            return (Answer::from(Reply::Repeat(onu)), purse);
+        }
+        if !self.has_room() {
+            return self.refuse(purse, Refusal::Busy);
+        }
+        self.restart_unit(serial, row);
+        self.owe(Down::AssignOnu { onu, serial });
+        (Answer::from(Reply::Again(onu)), purse)
+    }
+}

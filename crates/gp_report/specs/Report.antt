@@ -1,0 +1,60 @@
+-- What the program says on standard error of each fault, and its exit status (this profile's own rule).
+use Rattle.std.specs.Prelude.{ℕ, List, codes}
+use Rattle.gp_script.specs.declared.fault.ScriptFault.{ScriptFault}
+use Rattle.gp_script.specs.declared.fault.ScriptFault.TheVariants as scripts
+use Rattle.gp_replay.specs.declared.fault.RunFault.{RunFault}
+use Rattle.gp_replay.specs.declared.fault.RunFault.TheVariants as runs
+use Rattle.gp_decode.specs.declared.fault.LineFault.{LineFault}
+use Rattle.gp_decode.specs.declared.fault.LineFault.TheVariants as lines
+use Rattle.gp_report.specs.declared.status.TheConstants.{BAD_INPUT, DISAGREEMENT, NOT_WRITTEN, OUT_OF_MEMORY}
+
+-- out of memory
+abbrev pub memory_line : List ℕ
+memory_line = codes "oltctl: memory"
+
+-- a write failed or took nothing, or a flush failed
+abbrev pub write_line : List ℕ
+write_line = codes "oltctl: write"
+
+-- a word of the command line is no UTF-8
+abbrev pub arguments_line : List ℕ
+arguments_line = codes "oltctl: arguments"
+
+-- a fault of a script, by its number and its name
+abbrev pub script_line : ScriptFault → List ℕ
+script_line scripts.Syntax = codes "oltctl: script 1 syntax"
+script_line scripts.Shape = codes "oltctl: script 2 shape"
+script_line scripts.Range = codes "oltctl: script 3 range"
+script_line scripts.Serial = codes "oltctl: script 4 serial"
+script_line scripts.Hex = codes "oltctl: script 5 hex"
+script_line scripts.Duplicate = codes "oltctl: script 6 duplicate"
+
+-- a fault of a replay
+abbrev pub run_line : RunFault → List ℕ
+run_line runs.Read = codes "oltctl: read"
+run_line runs.TooLong = codes "oltctl: too long"
+run_line (runs.Script fault) = script_line fault
+run_line runs.OutOfMemory = memory_line
+run_line runs.Write = write_line
+run_line runs.Mismatch = codes "oltctl: mismatch"
+
+-- its exit status
+abbrev pub run_status : RunFault → ℕ
+run_status runs.OutOfMemory = OUT_OF_MEMORY
+run_status runs.Write = NOT_WRITTEN
+run_status runs.Mismatch = DISAGREEMENT
+run_status _ = BAD_INPUT
+
+-- a fault of a code that was to be said in words
+abbrev pub code_line : LineFault → List ℕ
+code_line lines.Length = codes "oltctl: decode length"
+code_line lines.Digit = codes "oltctl: decode digit"
+code_line lines.Crc = codes "oltctl: decode crc"
+code_line lines.OutOfMemory = memory_line
+code_line lines.Write = write_line
+
+-- its exit status
+abbrev pub code_status : LineFault → ℕ
+code_status lines.OutOfMemory = OUT_OF_MEMORY
+code_status lines.Write = NOT_WRITTEN
+code_status _ = BAD_INPUT

@@ -1,0 +1,16 @@
+//! What `oltctl` says on standard error of all that may go wrong, and its exit statuses.
+//!
+//! - `report.rt`: the line and the status of each fault.
+//! - `status.rt`: the statuses.
+//!
+//! Where to make which change: a line stands in `report.rt` and `specs/Report.antt`, a status in `status.rt`. Which
+//! faults there are is decided where they arise: `gp_replay` for a replay, `gp_decode` for a code.
+#![tactic(auto)]
+
+mod report;
+mod status;
+#[cfg(test)]
+mod tests;
+
+pub use report::{arguments_report, line_report, memory_report, run_report, write_report};
+pub use status::{BAD_ARGUMENTS, BAD_INPUT, DISAGREEMENT, NOT_WRITTEN, OUT_OF_MEMORY, SUCCESS};

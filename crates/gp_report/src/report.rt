@@ -1,0 +1,75 @@
+//! The line on standard error, without its line feed, and the exit status of each fault.
+ghost use Rattle.std.specs.Prelude.{◌≡◌};
+ghost use Rattle.gp_report.specs.Report.{arguments_line, code_line, code_status, memory_line, run_line, run_status, script_line, write_line};
+
+use crate::status::{BAD_ARGUMENTS, BAD_INPUT, DISAGREEMENT, NOT_WRITTEN, OUT_OF_MEMORY};
+use gp_decode::LineFault;
+use gp_replay::RunFault;
+use gp_script::ScriptFault;
+
+/// Answers the line and the status of a program that is out of memory.
+pub fn memory_report() -> (&'static str, u8)
+    ensures line { result.0.now ≡ memory_line }
+    ensures status { result.1 ≡ OUT_OF_MEMORY }
+{
+    ("oltctl: memory", OUT_OF_MEMORY)
+}
+
+/// Answers the line and the status of a program whose output took no more.
+pub fn write_report() -> (&'static str, u8)
+    ensures line { result.0.now ≡ write_line }
+    ensures status { result.1 ≡ NOT_WRITTEN }
+{
+    ("oltctl: write", NOT_WRITTEN)
+}
+
+/// Answers the line and the status of a program one of whose words is no UTF-8.
+pub fn arguments_report() -> (&'static str, u8)
+    ensures line { result.0.now ≡ arguments_line }
+    ensures status { result.1 ≡ BAD_ARGUMENTS }
+{
+    ("oltctl: arguments", BAD_ARGUMENTS)
+}
+
+/// Answers the line and the status of a replay that ended with this fault.
+pub fn run_report(fault: &RunFault) -> (&'static str, u8)
+    ensures line { result.0.now ≡ run_line fault.now }
+    ensures status { result.1 ≡ run_status fault.now }
+{
+    match *fault {
+        RunFault::Read => ("oltctl: read", BAD_INPUT),
+        RunFault::TooLong => ("oltctl: too long", BAD_INPUT),
+        RunFault::Script(fault) => (script_report_line(fault), BAD_INPUT),
+        RunFault::OutOfMemory => memory_report(),
+        RunFault::Write => write_report(),
+        RunFault::Mismatch => ("oltctl: mismatch", DISAGREEMENT),
+    }
+}
+
+/// Answers the line of a fault of a script.
+fn script_report_line(fault: ScriptFault) -> &'static str
+    ensures { result.now ≡ script_line fault }
+{
+    match fault {
+        ScriptFault::Syntax => "oltctl: script 1 syntax",
+        ScriptFault::Shape => "oltctl: script 2 shape",
+        ScriptFault::Range => "oltctl: script 3 range",
+        ScriptFault::Serial => "oltctl: script 4 serial",
+        ScriptFault::Hex => "oltctl: script 5 hex",
+        ScriptFault::Duplicate => "oltctl: script 6 duplicate",
+    }
+}
+
+/// Answers the line and the status of a code that was not said in words.
+pub fn line_report(fault: &LineFault) -> (&'static str, u8)
+    ensures line { result.0.now ≡ code_line fault.now }
+    ensures status { result.1 ≡ code_status fault.now }
+{
+    match fault {
+        LineFault::Length => ("oltctl: decode length", BAD_INPUT),
+        LineFault::Digit => ("oltctl: decode digit", BAD_INPUT),
+        LineFault::Crc => ("oltctl: decode crc", BAD_INPUT),
+        LineFault::OutOfMemory => memory_report(),
+        LineFault::Write => write_report(),
+    }
+}

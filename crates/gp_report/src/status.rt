@@ -1,0 +1,19 @@
+//! The exit statuses of `oltctl` (this profile's own rule).
+
+/// All went well.
+pub const SUCCESS: u8 = 0;
+
+/// What was read is no input of the command, or was not read to its end.
+pub const BAD_INPUT: u8 = 1;
+
+/// The command line is none of this program's.
+pub const BAD_ARGUMENTS: u8 = 2;
+
+/// Out of memory.
+pub const OUT_OF_MEMORY: u8 = 3;
+
+/// A write failed or took nothing, or a flush failed.
+pub const NOT_WRITTEN: u8 = 4;
+
+/// What several threads were told does not agree.
+pub const DISAGREEMENT: u8 = 5;

@@ -1,0 +1,16 @@
+pub mod Entries
+pub mod Values
+pub mod Places
+pub mod Gets
+pub mod Admissions
+pub mod Marks
+pub mod Tables
+pub mod Kept
+pub mod PopUp
+pub mod PopOne
+pub mod Over
+pub mod Numbers
+pub mod PoolMembers
+pub mod Counts
+pub mod AllocEnds
+pub mod Together

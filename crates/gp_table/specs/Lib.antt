@@ -1,0 +1,7 @@
+pub mod Values
+pub mod Index
+pub mod Rows
+pub mod Units
+pub mod Table
+pub mod Active
+pub mod Awake
