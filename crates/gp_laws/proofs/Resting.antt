@@ -14,7 +14,8 @@ use Rattle.gp_machine.specs.declared.config.PortConfig.{PortConfig}
 use Rattle.gp_machine.specs.declared.entry.Entry.{Entry}
 use Rattle.gp_machine.specs.declared.event.Event.{Event}
 use Rattle.gp_machine.specs.declared.event.Event.TheVariants as event
-use Rattle.gp_machine.specs.State.{PortState, Rows, onu_ids, cooling_of}
+use Rattle.gp_ploam.specs.OnuIds.{onu_ids}
+use Rattle.gp_machine.specs.State.{PortState, Rows, cooling_of}
 use Rattle.gp_machine.specs.Changes.{Change, StepResult, AddsUnit, SetsRow, RemovesUnit, PopsUpAll, state_after_change, state_after}
 use Rattle.gp_machine.specs.Responses.{changes_with}
 use Rattle.gp_machine.specs.Step.{state_at}

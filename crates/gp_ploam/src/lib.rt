@@ -1,7 +1,7 @@
 //! The PLOAM messages of ITU-T G.984.3, clause 9, and their codes of thirteen
 //! octets.
 //!
-//! - `message.rt`: the messages of both directions (`Down`, `Up`), `Serial`, `LAST_ONU` and `BROADCAST_ONU`.
+//! - `message.rt`: the messages of both directions (`Down`, `Up`), `Serial`, `LAST_ONU`, `ONU_IDS` and `BROADCAST_ONU`.
 //! - `identifier.rt`: the identifiers of both directions.
 //! - `check.rt`: `Mask`, the check octet, and what both directions do with it.
 //! - `octets.rt`: the parts of codes that several messages share.
@@ -27,5 +27,5 @@ mod up;
 pub use check::{Mask, crc};
 pub use down::{decode_down, down_read_once, down_round_trip, encode_down, is_proper};
 pub use identifier::down::ASSIGN_ALLOC_ID;
-pub use message::{BROADCAST_ONU, Down, LAST_ONU, PloamFault, Serial, Up};
+pub use message::{BROADCAST_ONU, Down, LAST_ONU, ONU_IDS, PloamFault, Serial, Up};
 pub use up::{decode_up, encode_up, is_proper_up, up_read_once, up_round_trip};

@@ -4,6 +4,7 @@ use Rattle.std.specs.Coded.{Coded, code_by, coded×, coded_ℕ}
 use Rattle.std.specs.Ordering.{nat_cmp}
 use Rattle.std.specs.FinMap as map
 use Rattle.std.specs.FinSet as set
+use Rattle.gp_ploam.specs.OnuIds.{last_onu}
 
 -- from each cooling number to the frames that it has left
 abbrev pub FramesLeft : Type 0
@@ -59,7 +60,7 @@ cooling_in (suc n) members leaves now =
 -- what each quarantine keeps: members are ONU-IDs with 1 to `frames` frames left, and none leaves before `wait` more frames
 pub record IsCool (frames : ℕ) (members : set.FinSet nat_cmp) (leaves : List ℕ) (now wait : ℕ) : Type 0 where
   pub short : frames ≤ 8000
-  pub low : (number : ℕ) → IsTrue (set.contains members number) → number ≤ 253
+  pub low : (number : ℕ) → IsTrue (set.contains members number) → number ≤ last_onu
   pub some : (number : ℕ) → IsTrue (set.contains members number) → 1 ≤ left_at leaves now number
   pub most : (number : ℕ) → IsTrue (set.contains members number) → left_at leaves now number ≤ frames
   pub later : (number : ℕ) → IsTrue (set.contains members number) → wait ≤ left_at leaves now number

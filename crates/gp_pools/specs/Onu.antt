@@ -2,6 +2,7 @@
 use Rattle.std.specs.Prelude.{◌≡◌, ℕ, None, refl}
 use Rattle.std.specs.Coded.{Coded, code_by, coded×}
 use Rattle.std.specs.FinMap as map
+use Rattle.gp_ploam.specs.OnuIds.{last_onu}
 use Rattle.gp_pools.specs.Pool.{Pool, pool_code, fresh_pool, IsFree, IsOut, HasRoom, pool_with_lease, pool_with_lease_again, pool_with_settled, pool_without_lease}
 use Rattle.gp_pools.specs.Cooling.{Quarantine, quarantine_code, fresh_quarantine, quarantine_with, quarantine_after_frame}
 
@@ -16,7 +17,7 @@ onu_pool_code = code_by (Pool × Quarantine) (coded× pool_code quarantine_code)
 
 -- nothing is out and nothing cools
 abbrev pub fresh_onu_pool : ℕ → ℕ → OnuPool
-fresh_onu_pool most frames = record { pool = fresh_pool 0 253 most; quarantine = fresh_quarantine frames }
+fresh_onu_pool most frames = record { pool = fresh_pool 0 last_onu most; quarantine = fresh_quarantine frames }
 
 -- the number does not cool
 abbrev pub IsWarm : OnuPool → ℕ → Type 0

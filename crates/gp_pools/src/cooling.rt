@@ -1,13 +1,12 @@
 ghost use Rattle.std.specs.Prelude.{◌≡◌, ◌≢◌, ℕ, ◌<◌, ◌≤◌, IsTrue, is_some, slice_index};
 ghost use Rattle.std.specs.FinMap as map;
 ghost use Rattle.std.specs.FinSet as set;
+ghost use Rattle.gp_ploam.specs.OnuIds.{last_onu};
 ghost use Rattle.gp_pools.specs.Cooling.{fresh_quarantine, left_at, quarantine_after_frame, quarantine_with};
 
 use gp_numbers::NumberSet;
+use gp_ploam::ONU_IDS;
 use std::marker::Model;
-
-/// How many ONU-IDs there are for units, 0 to 253 (G.984.3, clause 9).
-const NUMBERS: u16 = 254;
 
 /// How many values an octet has.
 const OCTETS: usize = 256;
@@ -26,13 +25,14 @@ pub struct Cooling {
 }
 
 impl Model for Cooling {
+    ghost use Rattle.gp_ploam.specs.OnuIds.{onu_ids};
     ghost use Rattle.gp_pools.specs.Cooling.{Quarantine, quarantine_code, cooling_in, IsCool};
 
     ghost Value = { Quarantine };
 
     ghost coded = { quarantine_code };
 
-    ghost view = { λ c. record { frames = c.frames; cooling = cooling_in 254 c.members c.leaves c.clock } };
+    ghost view = { λ c. record { frames = c.frames; cooling = cooling_in onu_ids c.members c.leaves c.clock } };
 
     ghost invariant = { λ c. IsCool c.frames c.members c.leaves c.clock c.wait };
 }
@@ -61,7 +61,7 @@ impl Cooling {
 
     /// Makes a number cool, from now on.
     pub fn begin(&mut self, number: u16)
-        requires { number ≤ 253 }
+        requires { number ≤ last_onu }
         ensures { self.new ≡ quarantine_with self.old number }
     {
         if self.frames == 0 {
@@ -111,13 +111,13 @@ fn sooner(wait: u16, left: u16) -> u16
 fn let_out(members: &mut NumberSet<0, 4>, leaves: &[u16; OCTETS], now: u16) -> u16
     ensures stays { (number : ℕ) → IsTrue (set.contains members.old number) → left_at leaves.now now number ≢ 0 → IsTrue (set.contains members.new number) }
     ensures were { (number : ℕ) → IsTrue (set.contains members.new number) → IsTrue (set.contains members.old number) }
-    ensures left { (number : ℕ) → number ≤ 253 → IsTrue (set.contains members.new number) → left_at leaves.now now number ≢ 0 }
-    ensures later { (number : ℕ) → number ≤ 253 → IsTrue (set.contains members.new number) → result ≤ left_at leaves.now now number }
-    ensures awaited { (number : ℕ) → number ≤ 253 → IsTrue (set.contains members.new number) → 1 ≤ result }
-    ensures soon { (most : ℕ) → ((number : ℕ) → number ≤ 253 → IsTrue (set.contains members.old number) → left_at leaves.now now number ≤ most) → result ≤ most }
+    ensures left { (number : ℕ) → number ≤ last_onu → IsTrue (set.contains members.new number) → left_at leaves.now now number ≢ 0 }
+    ensures later { (number : ℕ) → number ≤ last_onu → IsTrue (set.contains members.new number) → result ≤ left_at leaves.now now number }
+    ensures awaited { (number : ℕ) → number ≤ last_onu → IsTrue (set.contains members.new number) → 1 ≤ result }
+    ensures soon { (most : ℕ) → ((number : ℕ) → number ≤ last_onu → IsTrue (set.contains members.old number) → left_at leaves.now now number ≤ most) → result ≤ most }
 {
     let mut wait = 0;
-    'numbers: for number in 0..NUMBERS {
+    'numbers: for number in 0..u16::from(ONU_IDS) {
         if members.contains(number) {
             let left = leaves[usize::from(number)].wrapping_sub(now);
             if left == 0 {

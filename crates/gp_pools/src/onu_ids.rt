@@ -1,15 +1,14 @@
 ghost use Rattle.std.specs.Prelude.{◌≡◌, ℕ, ◌≤◌, ◌↔◌, IsTrue, IsNone, IfNone, IfSome, is_some};
 ghost use Rattle.std.specs.FinMap as map;
+ghost use Rattle.gp_ploam.specs.OnuIds.{last_onu, onu_ids};
 ghost use Rattle.gp_pools.specs.Pool.{IsLeased, IsSettled, IsSound};
 ghost use Rattle.gp_pools.specs.Onu.{IsApart, IsFreeOnu, NoneIsFree, SomeIsFree, fresh_onu_pool, onus_after_frame, onus_with_lease, onus_with_lease_again, onus_with_settled, onus_without_lease};
 
 use super::cooling::Cooling;
 use super::number_pool::NumberPool;
 use gp_linear::NeverDropped;
+use gp_ploam::LAST_ONU;
 use std::marker::Model;
-
-/// The last ONU-ID that a unit may get (G.984.3, clause 9: 254 is reserved, 255 is broadcast).
-const LAST: u16 = 253;
 
 /// A leased ONU-ID. It is no `Drop`: it goes back to its pool, or is settled there.
 pub struct OnuLease {
@@ -19,18 +18,21 @@ pub struct OnuLease {
 impl NeverDropped for OnuLease {}
 
 impl Model for OnuLease {
+    ghost use Rattle.std.specs.Prelude.{ℕ, ◌≤◌};
+    ghost use Rattle.gp_ploam.specs.OnuIds.{last_onu};
+
     ghost Value = { ℕ };
 
     ghost view = { λ lease. lease.number };
 
-    ghost invariant = { λ lease. lease.number ≤ 253 };
+    ghost invariant = { λ lease. lease.number ≤ last_onu };
 }
 
 impl OnuLease {
     /// Tells the ONU-ID, 0 to 253.
     pub fn number(&self) -> u8
         ensures number { result ≡ self.now }
-        ensures to { result ≤ 253 }
+        ensures to { result ≤ last_onu }
     {
         self.number
     }
@@ -46,6 +48,7 @@ pub struct OnuIds {
 
 impl Model for OnuIds {
     ghost use Rattle.std.specs.Prelude.{◌≡◌};
+    ghost use Rattle.gp_ploam.specs.OnuIds.{last_onu};
     ghost use Rattle.gp_pools.specs.Onu.{OnuPool, onu_pool_code, IsApart};
 
     ghost Value = { OnuPool };
@@ -54,19 +57,19 @@ impl Model for OnuIds {
 
     ghost view = { λ ids. record { pool = ids.pool; quarantine = ids.cooling } };
 
-    ghost invariant = { λ ids. (ids.pool.first ≡ 0) × (ids.pool.last ≡ 253) × IsApart (record { pool = ids.pool; quarantine = ids.cooling }) };
+    ghost invariant = { λ ids. (ids.pool.first ≡ 0) × (ids.pool.last ≡ last_onu) × IsApart (record { pool = ids.pool; quarantine = ids.cooling }) };
 }
 
 impl OnuIds {
     /// Makes the pool of all ONU-IDs, of which at most `max_units` may be out. One that is given back cools for
     /// `quarantine` frames, 0 to 8000.
     pub fn new(max_units: u8, quarantine: u16) -> OnuIds
-        requires units { max_units ≤ 254 }
+        requires units { max_units ≤ onu_ids }
         requires frames { quarantine ≤ 8000 }
         ensures { result ≡ fresh_onu_pool max_units quarantine }
     {
         OnuIds {
-            pool: NumberPool::new(LAST, u16::from(max_units)),
+            pool: NumberPool::new(u16::from(LAST_ONU), u16::from(max_units)),
             cooling: Cooling::new(quarantine),
         }
     }

@@ -11,7 +11,8 @@ use Rattle.std.specs.FinMap as fin
 use Rattle.std.specs.Ordering.{nat_cmp}
 use Rattle.gp_pools.specs.Cooling.{FramesLeft, Quarantine, cooling_after_frame, left_after_frame, quarantine_with}
 use Rattle.gp_pools.proofs.Cool.{get-after_frame, get-insert_same, get-insert_other}
-use Rattle.gp_table.specs.Active.{counts_of, left_or_zero, onu_ids}
+use Rattle.gp_ploam.specs.OnuIds.{onu_ids}
+use Rattle.gp_table.specs.Active.{counts_of, left_or_zero}
 
 pub length-counts_of : (m : FramesLeft) → length (counts_of m) ≡ onu_ids
 unfolding counts_of

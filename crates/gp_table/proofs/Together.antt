@@ -27,7 +27,8 @@ use Rattle.gp_unit.specs.Rows.{has_alloc, new_row, row_releasing}
 use Rattle.gp_table.specs.Rows.{Rows, HasRow}
 use Rattle.gp_table.specs.Values.{map_values}
 use Rattle.gp_table.specs.Units.{Units}
-use Rattle.gp_table.specs.Active.{ActiveState, AreNumbersOf, AreTogether, IsFreeAllocId, IsFreeOnuId, active_of, has_onu, left_or_zero, onu_ids, without}
+use Rattle.gp_ploam.specs.OnuIds.{onu_ids}
+use Rattle.gp_table.specs.Active.{ActiveState, AreNumbersOf, AreTogether, IsFreeAllocId, IsFreeOnuId, active_of, has_onu, left_or_zero, without}
 use Rattle.gp_table.proofs.AllocEnds.{Ends, has_in}
 use Rattle.gp_table.proofs.Counts.{counts-quarantine, frames-after_frame, frames-quarantine, get-counts_of, get-quarantine_other, warm_count}
 use Rattle.gp_table.proofs.Gets.{len-insert_new as len-rows_new, len-remove_known, same_value, no_value}

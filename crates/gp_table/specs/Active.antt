@@ -5,6 +5,7 @@ use Rattle.std.specs.List.{range_with_len}
 use Rattle.std.specs.FinMap as finmap
 use Rattle.std.specs.FinSet as finset
 use Rattle.gp_ploam.specs.declared.message.Serial.{Serial}
+use Rattle.gp_ploam.specs.OnuIds.{onu_ids, last_onu as greatest_onu}
 use Rattle.gp_ploam.specs.Serials.{serial_cmp}
 use Rattle.gp_pools.specs.Cooling.{FramesLeft}
 use Rattle.gp_pools.specs.Onu.{OnuPool}
@@ -14,10 +15,6 @@ use Rattle.gp_unit.specs.Rows.{has_alloc}
 use Rattle.gp_table.specs.declared.unit_table.Entry.{Entry}
 use Rattle.gp_table.specs.Rows.{Rows, HasRow}
 use Rattle.gp_table.specs.Units.{Units}
-
--- how many ONU-IDs there are for units
-abbrev pub onu_ids : ℕ
-onu_ids = 254
 
 -- the admitted serial numbers, from the serial number of each active unit to its row, and the disabled serial numbers; how
 -- many units may be active, the greatest Alloc-ID, for how many frames a freed ONU-ID is given to no other unit, and for each
@@ -140,7 +137,7 @@ pub record AreTogether (rows : Rows) (onus : OnuPool) (allocs : Pool) : Type 0 w
   pub are_allocs : AreNumbersOf rows has_alloc (finset.contains allocs.settled)
   pub counted : finmap.len rows ≡ finset.len onus.pool.settled
   pub first_onu : onus.pool.first ≡ 0
-  pub last_onu : onus.pool.last ≡ 253
+  pub last_onu : onus.pool.last ≡ greatest_onu
   pub few : onus.pool.limit ≤ onu_ids
   pub first_alloc : allocs.first ≡ 256
   pub last_alloc : allocs.last ≤ 4095

@@ -5,6 +5,7 @@ use Rattle.std.specs.Ordering.{nat_cmp}
 use Rattle.std.specs.FinMap as map
 use Rattle.std.specs.FinSet as set
 use Rattle.gp_ploam.specs.declared.message.Serial.{Serial}
+use Rattle.gp_ploam.specs.OnuIds.{last_onu, onu_ids}
 use Rattle.gp_ploam.specs.Serials.{serial_cmp}
 use Rattle.gp_unit.specs.declared.record.Record.{Record}
 use Rattle.gp_unit.specs.declared.row.Row.{Row}
@@ -44,7 +45,7 @@ pub record IsThere (slots : Slots) (onus : List (Option ℕ)) (serial : Serial) 
   pub unit : Record
   pub slot : slot_at slots key ≡ Some unit
   pub is_serial : unit.serial ≡ serial
-  pub low : unit.row.onu ≤ 253
+  pub low : unit.row.onu ≤ last_onu
   pub indexed : key_of_onu onus unit.row.onu ≡ Some key
 
 -- the record of this ONU-ID is at this key, and the other index has the key for its serial number
@@ -61,9 +62,9 @@ pub record IsSetOf (onus : set.FinSet nat_cmp) (rows : Rows) (ranging : Bool) : 
 
 -- what every unit table keeps: the indexes name the same records, no record stands beside them, and there is room
 pub record IsKept (slots : Slots) (capacity : ℕ) (serials : map.FinMap serial_cmp ℕ) (onus : List (Option ℕ)) (ranging operating : set.FinSet nat_cmp) : Type 0 where
-  pub room : 254 ≤ capacity
+  pub room : onu_ids ≤ capacity
   pub counted : count_by is_some slots ≡ map.len serials
-  pub places : length onus ≡ 254
+  pub places : length onus ≡ onu_ids
   pub there : (serial : Serial) (key : ℕ) → map.get serials serial ≡ Some key → IsThere slots onus serial key
   pub holder : (onu key : ℕ) → key_of_onu onus onu ≡ Some key → IsHolder slots serials onu key
   pub marks_ranging : IsSetOf ranging (rows_of slots serials) true

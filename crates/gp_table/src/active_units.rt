@@ -4,6 +4,7 @@ ghost use Rattle.std.specs.FinMap as map;
 ghost use Rattle.std.specs.FinSet as set;
 ghost use Rattle.gp_alarms.specs.declared.poll.Outcome.TheVariants.{Acked};
 ghost use Rattle.gp_ploam.specs.declared.message.Serial.{Serial};
+ghost use Rattle.gp_ploam.specs.OnuIds.{onu_ids};
 ghost use Rattle.gp_pools.specs.Pool.{IsLeased};
 ghost use Rattle.gp_unit.specs.declared.row.Row.{Row};
 ghost use Rattle.gp_unit.specs.Records.{row_of};
@@ -65,7 +66,7 @@ impl ActiveUnits {
         admitted: &[Serial],
         limits: NumberLimits,
     ) -> Result<ActiveUnits, AllocError>
-        requires units { limits.max_units ≤ 254 }
+        requires units { limits.max_units ≤ onu_ids }
         requires allocs { limits.alloc_last ≤ 4095 }
         requires frames { limits.quarantine ≤ 8000 }
         ensures { IfOk result (λ units. units ≡ no_active_units admitted.now limits.max_units limits.alloc_last limits.quarantine) }

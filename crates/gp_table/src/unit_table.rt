@@ -3,6 +3,7 @@ ghost use Rattle.std.specs.Option.{option_map};
 ghost use Rattle.std.specs.FinMap as map;
 ghost use Rattle.std.specs.FinSet as set;
 ghost use Rattle.gp_ploam.specs.declared.message.Serial.{Serial};
+ghost use Rattle.gp_ploam.specs.OnuIds.{last_onu, onu_ids};
 ghost use Rattle.gp_unit.specs.declared.row.Row.{Row};
 ghost use Rattle.gp_unit.specs.Records.{row_of, record_of};
 ghost use Rattle.gp_table.specs.Rows.{HasOnuId, HasRow, IsLeastRanging, IsNextPoll, Operates, PopsUpOne, count_operating, popped_rows};
@@ -11,14 +12,14 @@ ghost use Rattle.gp_table.specs.Units.{entry_for, no_units};
 
 use super::admission_index::AdmissionIndex;
 use gp_numbers::NumberSet;
-use gp_ploam::Serial;
+use gp_ploam::{ONU_IDS, Serial};
 use gp_unit::{Phase, Record, Row};
 use slab::Slab;
 use std::alloc::{AllocError, Global};
 use std::marker::Model;
 
-/// How many units a port may have: as many as there are ONU-IDs for units, 0 to 253 (G.984.3, clause 9).
-pub const ONU_IDS: usize = 254;
+/// A place for each ONU-ID.
+const PLACES: usize = ONU_IDS as usize;
 
 /// What the table has for an admitted serial number.
 #[derive(Clone, Copy, Debug)]
@@ -92,9 +93,9 @@ impl UnitTable {
     pub fn begin(alloc: Global, admitted: &[Serial]) -> Result<UnitTable, AllocError>
         ensures { IfOk result (λ table. table ≡ no_units admitted.now) }
     {
-        let records = Slab::with_capacity(alloc, ONU_IDS)?;
+        let records = Slab::with_capacity(alloc, PLACES)?;
         let admissions = AdmissionIndex::begin(alloc, admitted)?;
-        let onus = vec![in alloc; None; ONU_IDS]?;
+        let onus = vec![in alloc; None; PLACES]?;
         Ok(UnitTable {
             records,
             admissions,
@@ -158,7 +159,7 @@ impl UnitTable {
     {
         let onus = self.onus.as_slice();
         let place = usize::from(onu);
-        if place >= ONU_IDS {
+        if place >= PLACES {
             return None;
         }
         match onus[place] {
@@ -169,10 +170,10 @@ impl UnitTable {
 
     /// Adds a unit, whose ONU-ID no other has.
     pub fn insert(&mut self, unit: Record)
-        requires room { map.len self.old.rows < 254 }
+        requires room { map.len self.old.rows < onu_ids }
         requires admitted { IsTrue (set.contains self.old.admitted unit.serial) }
         requires new { map.get self.old.rows unit.serial ≡ None }
-        requires low { unit.row.onu ≤ 253 }
+        requires low { unit.row.onu ≤ last_onu }
         requires unused { (serial : Serial) → HasOnuId self.old.rows serial unit.row.onu → ⊥ }
         ensures { self.new ≡ record self.old { rows = map.insert self.old.rows unit.serial (row_of unit) } }
     {

@@ -10,11 +10,11 @@ use Rattle.gp_table.specs.Index.{keys_of}
 use Rattle.gp_table.proofs.Over.{same_rows}
 use Rattle.gp_table.proofs.unit_table.UnitTable.holder.Goals as goal
 
-pub returns-then-place-ge-ONU_IDS-clause-none : goal.returns-then-place-ge-ONU_IDS-clause-none
-returns-then-place-ge-ONU_IDS-clause-none c s has =
+pub returns-then-place-ge-PLACES-clause-none : goal.returns-then-place-ge-PLACES-clause-none
+returns-then-place-ge-PLACES-clause-none c s has =
     let q = c.self.inside in
     let at = holds q.records.slots (keys_of q.admissions) q.onus.items s c.args.onu (indexed _ _ _ _ _ _ c.self.invariant) (subst (λ (rows : Rows). HasOnuId rows s c.args.onu) (sym (same_rows q.records.slots q.admissions _ c.self.view_is)) has) in
-    omega (arith, at.1, c.from-place.ensures, c.if-place-ge-ONU_IDS.true)
+    omega (arith, at.1, c.from-place.ensures, c.if-place-ge-PLACES.true)
 
 pub returns-in-None-clause-none : goal.returns-in-None-clause-none
 returns-in-None-clause-none c s has =
