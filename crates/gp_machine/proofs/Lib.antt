@@ -1,4 +1,5 @@
 pub mod SerialLists
+pub mod Distinct
 pub mod Comparing
 pub mod Units
 pub mod SoundChanges
