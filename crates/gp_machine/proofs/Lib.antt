@@ -11,3 +11,4 @@ pub mod ProperFrames
 pub mod Steps
 pub mod OwedMessages
 pub mod Determined
+pub mod EqualAnswers

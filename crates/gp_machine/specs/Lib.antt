@@ -16,3 +16,4 @@ pub mod Run
 pub mod Messages
 pub mod OneStep
 pub mod Comparing
+pub mod ComparingAnswers

@@ -1,5 +1,5 @@
 //! The activation machine of one port after G.984.3, clause 10: its plain types in `src/`, its states, steps
-//! and runs in `specs/`, and those laws of single steps that the code of a port needs (`one_step`). The other
+//! and runs in `specs/`, and those laws of single steps that the code of a port needs (`one_step`), and of `==` (`config`, `equal_replies`). The other
 //! laws, and those of whole runs, stand in `gp_laws`.
 //!
 //! Where to make which change, in `specs/`:
@@ -15,6 +15,7 @@ mod admitted;
 mod answer;
 mod config;
 mod entry;
+mod equal_replies;
 mod event;
 mod one_step;
 mod refusal;
@@ -27,6 +28,7 @@ pub use config::{
     PortConfig, compares_configs,
 };
 pub use entry::{Entry, Receipt};
+pub use equal_replies::compares_replies;
 pub use event::{Command, Event};
 pub use gp_unit::{Allocs, Phase, Row};
 pub use one_step::{

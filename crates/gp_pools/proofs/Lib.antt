@@ -10,3 +10,4 @@ pub mod Each
 pub mod Further
 pub mod All
 pub mod Callers
+pub mod SecondPools

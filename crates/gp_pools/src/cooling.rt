@@ -52,6 +52,29 @@ impl Cooling {
         }
     }
 
+    /// Makes a second quarantine with the same numbers in it.
+    pub fn copy(&self) -> Cooling
+        ensures { result ≡ self.now }
+    {
+        Cooling {
+            frames: self.frames,
+            members: self.members.union(&self.members),
+            leaves: self.leaves,
+            clock: self.clock,
+            wait: self.wait,
+        }
+    }
+
+    /// Tells how many frames a number has left, if it is in quarantine.
+    pub fn frames_left(&self, number: u8) -> Option<u16>
+        ensures { result ≡ map.get self.now.cooling number }
+    {
+        if !self.members.contains(u16::from(number)) {
+            return None;
+        }
+        Some(self.leaves[usize::from(number)].wrapping_sub(self.clock))
+    }
+
     /// Tells the numbers in quarantine.
     pub fn members(&self) -> &NumberSet<0, 4>
         ensures { (number : ℕ) → set.contains result.now number ≡ is_some (map.get self.now.cooling number) }

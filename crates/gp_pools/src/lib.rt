@@ -7,6 +7,7 @@
 //! - `named_leases.rt`: the number that would be leased next, and leases of a number that the caller names.
 //! - `number_pool.rt`: which numbers are leased and settled, as two sets of bits, and the choice of the next one.
 //! - `cooling.rt`: how long a freed number stays away. A frame in which none leaves looks at none.
+//! - `copies.rt`: a second pool with the same numbers out, for an image of a port.
 //! - `allocs.rt`: the further Alloc-IDs of one unit, plain data in eight places.
 //! - `alloc_leases.rt`: the leases of these, one spent value.
 //!
@@ -17,6 +18,7 @@ mod alloc_ids;
 mod alloc_leases;
 mod allocs;
 mod cooling;
+mod copies;
 mod named_leases;
 mod number_pool;
 mod onu_ids;

@@ -48,6 +48,19 @@ impl<const FIRST: u16, const WORDS: usize> NumberPool<FIRST, WORDS> {
         }
     }
 
+    /// Makes a second pool with the same numbers out.
+    pub fn copy(&self) -> Self
+        ensures { result ≡ self.now }
+    {
+        NumberPool {
+            leased: self.leased.union(&self.leased),
+            settled: self.settled.union(&self.settled),
+            out: self.out,
+            last: self.last,
+            limit: self.limit,
+        }
+    }
+
     /// Leases a number that is not out, the least.
     pub fn take(&mut self) -> Option<u16>
         ensures none { IsNone result ↔ (count_out self.old ≡ self.old.limit) }

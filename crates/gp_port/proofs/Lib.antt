@@ -1,6 +1,9 @@
 pub mod Units
+pub mod Wishes
+pub mod SameUnits
 pub mod Stepping
 pub mod Owed
 pub mod Cores
 pub mod PopUp
 pub mod Tables
+pub mod Following

@@ -1,11 +1,10 @@
 -- What the unit table answers and requires, in the words of the port.
-use Rattle.std.proofs.Common.{◌≡◌, ℕ, ◌+◌, ◌<◌, ◌≤◌, Bool, true, false, cond, length, List, Option, None, Some, refl, sym, ap, subst, ◌∙◌, arith}
+use Rattle.std.proofs.Common.{◌≡◌, ℕ, ◌<◌, ◌≤◌, Bool, true, false, length, List, Option, None, Some, refl, sym, ap, subst, ◌∙◌, arith}
 use Rattle.std.proofs.lemmas.List.{length-map}
 use Rattle.std.specs.Prelude.{◌↔◌, count_by, IfNone, IfSome, if◌then◌else◌}
 use Rattle.std.specs.Option.{is_some}
 use Rattle.std.specs.FinMap.{values, len, len-entries, entries}
 use Rattle.std.specs.FinSet.{FinSet, contains, from_list}
-use Rattle.std.proofs.lemmas.Bool.{false≢true}
 use Rattle.std.proofs.lemmas.List.Sums.{count_by-le-length}
 use Rattle.gp_ploam.specs.declared.message.Serial.{Serial}
 use Rattle.gp_ploam.specs.declared.message.Down.{Down}
@@ -40,6 +39,15 @@ pub told : (P Q : ℕ → Type 0) (has : Bool) (found : Option ℕ) → ((has �
 told P Q has (Some n) tells into back none some = sym (tells.1 (n, back n some))
 told P Q true None tells into back none some = let free = tells.0 refl in absurd (none free.0 (into free.0 free.1))
 told P Q false None tells into back none some = refl
+
+-- the number that is found, if one is, is the wished one where that is free
+pub picked : (P Q : ℕ → Type 0) (found asked wished : Option ℕ) → ((n : ℕ) → wished ≡ Some n → P n → asked ≡ Some n) → ((n : ℕ) → P n → Q n) → ((n : ℕ) → asked ≡ Some n → Q n → found ≡ Some n)
+    → IfSome found (λ (onu : ℕ). (n : ℕ) → wished ≡ Some n → P n → onu ≡ n)
+picked P Q None asked wished reads into table = tt
+picked P Q (Some onu) asked wished reads into table = λ n is free. one n (table n (reads n is free) (into n free))
+  where
+    one : (n : ℕ) → Some onu ≡ Some n → onu ≡ n
+    one n e = cc
 
 module _ (config : PortConfig) (units : ActiveState) (common : Common) (wanted : Bool) (timer : ℕ) (window : Option WindowState) (owed : List Down) (polled : Option ℕ) (configured : IsConfigured config units) where
   pub onu_of_table : (n : ℕ) → IsFreeOnuId units n → IsFree (state_with config units common wanted timer window owed polled) n

@@ -1,7 +1,10 @@
 -- What the parts of a port stand for (this profile's own rule).
-use Rattle.std.specs.Prelude.{◌≡◌, ℕ, Bool, true, List, Option, All}
+use Rattle.std.specs.Prelude.{◌≡◌, ℕ, Bool, true, List, length, Option, Some, All, Contains}
+use Rattle.std.specs.FinMap.{get}
 use Rattle.gp_ploam.specs.declared.message.Down.{Down}
-use Rattle.std.specs.FinSet.{from_list}
+use Rattle.std.specs.FinSet.{contains, from_list}
+use Rattle.gp_ploam.specs.declared.message.Serial.{Serial}
+use Rattle.gp_unit.specs.declared.row.Row.{Row}
 use Rattle.gp_ploam.specs.Down.{IsProperDown}
 use Rattle.gp_ranging.specs.Window.{WindowState}
 use Rattle.gp_common.specs.declared.common.Common.{Common}
@@ -45,3 +48,20 @@ pub record IsKept (port : PortState) (held : ℕ) : Type 0 where
   pub limits : is_within_limits port.config ≡ true
   pub sound : IsSound port
   pub licences : held ≡ rows_of port
+
+-- each active unit and each disabled serial number is one of these, and each ONU-ID has its count of cooling frames
+pub record AreListed (admitted : List Serial) (units : ActiveState) : Type 0 where
+  pub active : (serial : Serial) (row : Row) → get units.rows serial ≡ Some row → Contains admitted serial
+  pub disabled : (serial : Serial) → contains units.disabled serial ≡ true → Contains admitted serial
+  pub counted : length units.cooling ≡ 254
+
+-- both have the same units, disabled serial numbers and cooling ONU-IDs
+pub record KnowSameUnits (units other : ActiveState) : Type 0 where
+  pub rows : units.rows ≡ other.rows
+  pub disabled : units.disabled ≡ other.disabled
+  pub cooling : units.cooling ≡ other.cooling
+
+-- what is true of each port that follows a history or is kept as an image: its configuration is within the limits, and it is sound
+pub record IsSteady (port : PortState) : Type 0 where
+  pub limits : is_within_limits port.config ≡ true
+  pub sound : IsSound port

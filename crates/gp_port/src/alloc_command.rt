@@ -5,7 +5,7 @@ ghost use Rattle.gp_machine.specs.Sound.{IsSound};
 ghost use Rattle.gp_machine.specs.Changes.{step_result_of};
 ghost use Rattle.gp_machine.specs.Responses.{MayPick, step_result_with};
 ghost use Rattle.gp_machine.specs.Commands.{alloc_response, command_response, dealloc_response};
-ghost use Rattle.gp_port.specs.Numbers.{number_in};
+ghost use Rattle.gp_port.specs.Numbers.{PicksWished, number_in};
 
 use super::command::refused;
 use super::port_machine::PortMachine;
@@ -24,6 +24,7 @@ impl PortMachine {
         requires sound { IsSound self.old }
         requires last { self.old.config.alloc_last ≤ 4095 }
         ensures free { MayPick self.old (command_response self.old (command.Alloc serial)) (number_in result.0.reply) }
+        ensures wished { PicksWished self.old (command_response self.old (command.Alloc serial)) wished (number_in result.0.reply) }
         ensures outcome { step_result_of result self.new ≡ step_result_with purse self.old None (command_response self.old (command.Alloc serial)) (number_in result.0.reply) }
     {
         let Some(known) = self.look_up(&serial) else {
@@ -41,6 +42,7 @@ impl PortMachine {
         requires last { self.old.config.alloc_last ≤ 4095 }
         requires has { HasRow self.old.rows serial row }
         ensures free { MayPick self.old (alloc_response self.old serial row) (number_in result.0.reply) }
+        ensures wished { PicksWished self.old (alloc_response self.old serial row) wished (number_in result.0.reply) }
         ensures outcome { step_result_of result self.new ≡ step_result_with purse self.old None (alloc_response self.old serial row) (number_in result.0.reply) }
     {
         if row.phase.is_ranging() {

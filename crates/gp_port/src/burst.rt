@@ -8,10 +8,10 @@ ghost use Rattle.gp_machine.specs.Changes.{step_result_of};
 ghost use Rattle.gp_machine.specs.Responses.{MayPick, step_result_with};
 ghost use Rattle.gp_machine.specs.Burst.{burst_response, message_response};
 ghost use Rattle.gp_machine.specs.Step.{Step};
-ghost use Rattle.gp_port.specs.Numbers.{number_in};
+ghost use Rattle.gp_port.specs.Numbers.{GrantsWish, PicksWished, number_in};
 
 use super::port_machine::PortMachine;
-use gp_machine::{Answer, Refusal};
+use gp_machine::{Answer, Refusal, one_outcome};
 use gp_ploam::{Up, decode_up};
 use gp_ranging::Grant;
 
@@ -27,8 +27,10 @@ impl PortMachine {
         requires sound { IsSound self.old }
         requires units { self.old.config.max_units ≤ 254 }
         requires purse { purse ≤ 4064 }
-        ensures { Step purse self.old (event.Burst at bytes.now) (step_result_of result self.new) }
+        ensures step { Step purse self.old (event.Burst at bytes.now) (step_result_of result self.new) }
+        ensures wished { GrantsWish purse self.old (event.Burst at bytes.now) wished (step_result_of result self.new) }
     {
+        one_outcome();
         let heard = decode_up(bytes, self.config.mask).ok();
         self.receive(purse, at, heard, wished)
     }
@@ -45,6 +47,7 @@ impl PortMachine {
         requires units { self.old.config.max_units ≤ 254 }
         requires purse { purse ≤ 4064 }
         ensures free { MayPick self.old (burst_response purse self.old at heard) (number_in result.0.reply) }
+        ensures wished { PicksWished self.old (burst_response purse self.old at heard) wished (number_in result.0.reply) }
         ensures outcome { step_result_of result self.new ≡ step_result_with purse self.old None (burst_response purse self.old at heard) (number_in result.0.reply) }
     {
         let Some(window) = &self.window else {

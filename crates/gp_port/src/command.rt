@@ -5,7 +5,7 @@ ghost use Rattle.gp_machine.specs.Sound.{IsSound};
 ghost use Rattle.gp_machine.specs.Changes.{step_result_of};
 ghost use Rattle.gp_machine.specs.Responses.{MayPick, bare_answer, step_result_with};
 ghost use Rattle.gp_machine.specs.Commands.{command_response};
-ghost use Rattle.gp_port.specs.Numbers.{number_in};
+ghost use Rattle.gp_port.specs.Numbers.{PicksWished, number_in};
 
 use super::port_machine::PortMachine;
 use gp_common::Common;
@@ -25,6 +25,7 @@ impl PortMachine {
         requires last { self.old.config.alloc_last ≤ 4095 }
         requires purse { purse ≤ 4064 }
         ensures free { MayPick self.old (command_response self.old command) (number_in result.0.reply) }
+        ensures wished { PicksWished self.old (command_response self.old command) wished (number_in result.0.reply) }
         ensures outcome { step_result_of result self.new ≡ step_result_with purse self.old None (command_response self.old command) (number_in result.0.reply) }
     {
         match command {

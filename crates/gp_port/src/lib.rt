@@ -5,6 +5,9 @@
 //! - `frame.rt`, `burst.rt`, `search_window.rt`, `range_window.rt`, `poll_window.rt`, `command.rt`, `unit_command.rt`,
 //!   `alloc_command.rt`: a method for each table of `gp_machine`, whose clause is that table.
 //! - `port_core.rt`: `PortCore`, a `PortMachine` with one licence for each active unit. Its `step` carries the promises.
+//! - `image.rt`: `PortImage`, what a port knows as plain data, and the machine made of it again; `comparing.rt`: when two ports
+//!   know the same.
+//! - `follower.rt`: `PortFollower`, a `PortMachine` without licences that follows the entries of a history.
 //! - `octets.rt`: octets of any length as a burst. `open.rt`: why a port is not opened.
 //!
 //! A changed rule is changed in its table in `gp_machine` and in the method of the same name here; another representation
@@ -16,7 +19,10 @@ mod answers;
 mod burst;
 mod changes;
 mod command;
+mod comparing;
+mod follower;
 mod frame;
+mod image;
 mod octets;
 mod open;
 mod poll_window;
@@ -27,13 +33,14 @@ mod search_window;
 mod unit_changes;
 mod unit_command;
 
+pub use follower::PortFollower;
 pub use gp_machine::{
     Admitted, Answer, Command, Entry, Event, Phase, PortConfig, Receipt, Refusal, Reply, Row,
 };
+pub use image::{ImageFault, PortImage};
 pub use octets::burst_of;
 pub use open::OpenFault;
 pub use port_core::PortCore;
-pub use port_machine::PortMachine;
 
 #[cfg(test)]
 mod tests;

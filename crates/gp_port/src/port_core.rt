@@ -17,6 +17,7 @@ ghost use Rattle.gp_machine.specs.Step.{Step, StepOwing};
 ghost use Rattle.gp_machine.specs.OneStep.{state_refused};
 ghost use Rattle.gp_machine.specs.Messages.{three_times};
 
+use super::image::{ImageFault, PortImage};
 use super::open::OpenFault;
 use super::port_machine::PortMachine;
 use gp_common::Common;
@@ -136,6 +137,28 @@ impl<L: Ledger> PortCore<L> {
         ensures { result ≡ self.now.common }
     {
         self.machine.common()
+    }
+
+    /// Makes an image of the port as it stands.
+    pub fn image(&self, alloc: Global) -> Result<PortImage, ImageFault>
+        ensures { IfOk result (λ image. image ≡ self.now) }
+    {
+        self.machine.image(alloc)
+    }
+
+    /// Tells whether the port stands as the image has it.
+    pub fn stands_for(&self, image: &PortImage) -> bool
+        ensures { IsTrue result ↔ (self.now ≡ image.now) }
+    {
+        self.machine.stands_for(image)
+    }
+
+    /// Tells whether a machine stands where the port does.
+    pub(super) fn stands_as(&self, machine: &PortMachine) -> bool
+        requires { IsSound machine.now }
+        ensures { IsTrue result ↔ (machine.now ≡ self.now) }
+    {
+        machine.is_same_as(&self.machine)
     }
 
     /// Ends the port, with the licence of each unit. A window that is open is closed.

@@ -1,4 +1,4 @@
-ghost use Rattle.std.specs.Prelude.{◌≡◌, ◌+◌, ◌≤◌, IfOk, IfSome, None, is_some, length, true, false, IsErrOf, ◌↔◌};
+ghost use Rattle.std.specs.Prelude.{◌≡◌, ℕ, ◌+◌, ◌<◌, ◌≤◌, IfOk, IfSome, None, Some, is_some, length, true, false, IsErrOf, ◌↔◌};
 ghost use Rattle.std.specs.FinMap as map;
 ghost use Rattle.std.specs.FinSet as set;
 ghost use Rattle.std.specs.List.{list_any};
@@ -14,10 +14,13 @@ ghost use Rattle.gp_machine.specs.Sound.{IsSound};
 ghost use Rattle.gp_machine.specs.Changes.{step_result_of};
 ghost use Rattle.gp_machine.specs.Responses as spec;
 ghost use Rattle.gp_machine.specs.Step.{Step};
+ghost use Rattle.gp_port.specs.Numbers.{GrantsWish};
 
 use super::open::OpenFault;
 use gp_common::Common;
-use gp_machine::{Answer, Event, PortConfig, Row, finds_unit_with, tells_free_numbers};
+use gp_machine::{
+    Answer, Event, PortConfig, Row, finds_unit_with, one_outcome, tells_free_numbers,
+};
 use gp_ploam::{Down, Serial};
 use gp_ranging::Window;
 use gp_table::{ActiveUnits, Entry, NumberLimits};
@@ -155,8 +158,10 @@ impl PortMachine {
         requires sound { IsSound self.old }
         requires purse { purse ≤ 4064 }
         ensures step { Step purse self.old event (step_result_of result self.new) }
+        ensures wished { GrantsWish purse self.old event wished (step_result_of result self.new) }
         ensures proper { ForSome result.0.sent IsProperDown }
     {
+        one_outcome();
         let _ = &self.config;
         match event {
             Event::Frame => self.frame(purse),
@@ -221,18 +226,29 @@ impl PortMachine {
     pub(super) fn free_onu(&self, wished: Option<u16>) -> Option<u8>
         ensures told { is_some result ≡ has_free_onu self.now }
         ensures free { IfSome result (IsFree self.now) }
+        ensures wished { IfSome result (λ onu. (number : ℕ) → wished ≡ Some number → IsFree self.now number → onu ≡ number) }
     {
         tells_free_numbers();
-        self.units
-            .free_onu(wished.and_then(|number| u8::try_from(number).ok()))
+        self.units.free_onu(octet_of(wished))
     }
 
     /// Finds a further Alloc-ID for a unit: the wished one where it is free, else any free one. None where none is free.
     pub(super) fn free_alloc(&self, wished: Option<u16>) -> Option<u16>
         ensures told { is_some result ≡ has_free_alloc self.now }
         ensures free { IfSome result (IsFreeAlloc self.now) }
+        ensures wished { IfSome result (λ alloc. (number : ℕ) → wished ≡ Some number → IsFreeAlloc self.now number → alloc ≡ number) }
     {
         tells_free_numbers();
         self.units.free_alloc(wished)
+    }
+}
+
+/// The wished number, where it is an octet.
+fn octet_of(wished: Option<u16>) -> Option<u8>
+    ensures { (number : ℕ) → wished ≡ Some number → number < 254 → result ≡ Some number }
+{
+    match wished {
+        Some(number) if number < 254 => Some(number as u8),
+        _ => None,
     }
 }

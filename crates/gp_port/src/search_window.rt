@@ -8,7 +8,7 @@ ghost use Rattle.gp_machine.specs.Sound.{IsSound};
 ghost use Rattle.gp_machine.specs.Changes.{step_result_of};
 ghost use Rattle.gp_machine.specs.Responses.{MayPick, step_result_with};
 ghost use Rattle.gp_machine.specs.SearchWindow.{active_response, admitted_response, again_response, enabled_response, newcomer_response, refuses_burst, search_response};
-ghost use Rattle.gp_port.specs.Numbers.{number_in};
+ghost use Rattle.gp_port.specs.Numbers.{PicksWished, number_in};
 
 use super::answers::raises;
 use super::port_machine::PortMachine;
@@ -33,6 +33,7 @@ impl PortMachine {
         requires units { self.old.config.max_units ≤ 254 }
         requires purse { purse ≤ 4064 }
         ensures free { MayPick self.old (search_response purse self.old message) (number_in result.0.reply) }
+        ensures wished { PicksWished self.old (search_response purse self.old message) wished (number_in result.0.reply) }
         ensures outcome { step_result_of result self.new ≡ step_result_with purse self.old None (search_response purse self.old message) (number_in result.0.reply) }
     {
         let Up::SerialNumber { onu, serial, .. } = message else {
@@ -62,6 +63,7 @@ impl PortMachine {
         requires disabled { known.disabled ≡ set.contains self.old.disabled serial }
         requires row { known.row ≡ map.get self.old.rows serial }
         ensures free { MayPick self.old (admitted_response purse self.old serial) (number_in result.0.reply) }
+        ensures wished { PicksWished self.old (admitted_response purse self.old serial) wished (number_in result.0.reply) }
         ensures outcome { step_result_of result self.new ≡ step_result_with purse self.old None (admitted_response purse self.old serial) (number_in result.0.reply) }
     {
         if known.disabled {
@@ -80,6 +82,7 @@ impl PortMachine {
         requires admitted { is_among serial self.old.config.admitted ≡ true }
         requires unknown { map.get self.old.rows serial ≡ None }
         ensures free { MayPick self.old (newcomer_response purse self.old serial) (number_in result.0.reply) }
+        ensures wished { PicksWished self.old (newcomer_response purse self.old serial) wished (number_in result.0.reply) }
         ensures outcome { step_result_of result self.new ≡ step_result_with purse self.old None (newcomer_response purse self.old serial) (number_in result.0.reply) }
     {
         let Some(onu) = self.free_onu(wished) else {

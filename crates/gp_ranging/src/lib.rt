@@ -4,6 +4,7 @@
 //! - `grant.rt`: `Grant`, who is asked to answer.
 //! - `window.rt`: `Window`, what becomes of one with a frame (`Ticked`), and `WINDOW_FRAMES`. `specs/Window.antt`
 //!   has a window as contracts see it, and what each call makes of it.
+//! - `window_image.rt`: `WindowImage`, where a window stands, as plain data.
 //!
 //! Another number of frames is a change of `WINDOW_FRAMES` and of `window_frames` in `specs/Window.antt`.
 #![tactic(auto)]
@@ -11,7 +12,9 @@
 mod delay;
 mod grant;
 mod window;
+mod window_image;
 
 pub use delay::equalize;
 pub use grant::Grant;
 pub use window::{Ticked, WINDOW_FRAMES, Window};
+pub use window_image::WindowImage;

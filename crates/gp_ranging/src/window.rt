@@ -49,6 +49,15 @@ impl Window {
         }
     }
 
+    /// Opens a window that was open before, for so many frames more, 1 to 3.
+    pub(super) fn resume(grant: Grant, left: u8, seen: bool) -> Window
+        requires open { 1 ≤ left }
+        requires at_most { left ≤ window_frames }
+        ensures { result ≡ record { grant = grant; left = left; seen = seen } }
+    {
+        Window { grant, left, seen }
+    }
+
     /// Tells who was asked.
     pub fn grant(&self) -> Grant
         ensures { result ≡ self.now.grant }

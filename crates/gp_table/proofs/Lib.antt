@@ -14,3 +14,4 @@ pub mod PoolMembers
 pub mod Counts
 pub mod AllocEnds
 pub mod Together
+pub mod SecondTables

@@ -1,4 +1,4 @@
-ghost use Rattle.std.specs.Prelude.{◌≡◌, ℕ, ◌-◌, ◌<◌, ◌≤◌, Bool, IfNone, IfOk, IfSome, IsSome, IsTrue, None, Some, false, map as list_map, true};
+ghost use Rattle.std.specs.Prelude.{◌≡◌, ℕ, ◌-◌, ◌<◌, ◌≤◌, Bool, IfNone, IfOk, IfSome, IsSome, IsTrue, None, Some, false, get_or, map as list_map, true};
 ghost use Rattle.std.specs.Option.{ForSome};
 ghost use Rattle.std.specs.FinMap as map;
 ghost use Rattle.std.specs.FinSet as set;
@@ -79,6 +79,18 @@ impl ActiveUnits {
         })
     }
 
+    /// Makes a second table of the same units, with the same numbers free and cooling. Fails only where there is no memory.
+    pub fn try_clone(&self, alloc: Global) -> Result<ActiveUnits, AllocError>
+        ensures { IfOk result (λ units. units ≡ self.now) }
+    {
+        let table = self.table.try_clone(alloc)?;
+        Ok(ActiveUnits {
+            table,
+            onus: self.onus.copy(),
+            allocs: self.allocs.copy(),
+        })
+    }
+
     /// Tells what the table has for a serial number, found by one search; None where it isn't admitted.
     pub fn look_up(&self, serial: &Serial) -> Option<Entry>
         ensures { result ≡ entry_of_active self.now serial.now }
@@ -149,6 +161,17 @@ impl ActiveUnits {
             }
         }
         self.onus.free_one()
+    }
+
+    /// Tells for how many frames more an ONU-ID, 0 to 253, cools; 0 where it doesn't.
+    pub fn frames_left(&self, onu: u8) -> u16
+        requires { onu ≤ 253 }
+        ensures { result ≡ get_or self.now.cooling onu 0 }
+    {
+        match self.onus.frames_left(onu) {
+            Some(left) => left,
+            None => 0,
+        }
     }
 
     /// Tells a further Alloc-ID that a unit may get: the wished one where it is free, else the least; None exactly where

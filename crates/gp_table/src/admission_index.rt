@@ -111,6 +111,14 @@ impl AdmissionIndex {
         Ok(index)
     }
 
+    /// Makes a second index that has the same. Fails only where there is no memory.
+    pub fn try_clone(&self, alloc: Global) -> Result<AdmissionIndex, AllocError>
+        ensures { IfOk result (λ index. index ≡ self.now) }
+    {
+        let places = self.places.as_slice().to_vec(alloc)?;
+        Ok(AdmissionIndex { places })
+    }
+
     /// Admits a serial number, where it isn't admitted yet. Fails only where there is no memory.
     fn admit(&mut self, serial: &Serial) -> Result<(), AllocError>
         ensures { IfOk result (λ _. self.new ≡ admitting self.old serial.now) }

@@ -105,6 +105,23 @@ impl UnitTable {
         })
     }
 
+    /// Makes a second table of the same units, with as much room. Fails only where there is no memory.
+    pub fn try_clone(&self, alloc: Global) -> Result<UnitTable, AllocError>
+        ensures { IfOk result (λ table. table ≡ self.now) }
+    {
+        let mut records = self.records.clone()?;
+        records.reserve(PLACES.saturating_sub(records.len()))?;
+        let admissions = self.admissions.try_clone(alloc)?;
+        let onus = self.onus.as_slice().to_vec(alloc)?;
+        Ok(UnitTable {
+            records,
+            admissions,
+            onus,
+            ranging: self.ranging.union(&self.ranging),
+            operating: self.operating.union(&self.operating),
+        })
+    }
+
     /// What the table has for a serial number, found by one search; None where it isn't admitted.
     pub fn look_up(&self, serial: &Serial) -> Option<Entry>
         ensures { result ≡ entry_for self.now serial.now }

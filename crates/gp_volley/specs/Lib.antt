@@ -1,3 +1,4 @@
 pub mod Copies
 pub mod Queue
 pub mod Volley
+pub mod Images

@@ -38,7 +38,7 @@ impl From<AllocError> for QueueFault {
 /// The copies of messages that are owed, in the order in which they are sent. There is room for those of
 /// `MAX_MESSAGES` messages.
 pub struct VolleyQueue {
-    volleys: VecDeque<Volley>,
+    pub(super) volleys: VecDeque<Volley>,
 }
 
 impl Model for VolleyQueue {

@@ -41,6 +41,15 @@ impl Volley {
         }
     }
 
+    /// Makes a volley of a message of which so many copies are left, 1 to 3.
+    pub(super) fn resume(message: Down, left: u8) -> Volley
+        requires some { 1 ≤ left }
+        requires at_most { left ≤ copies_each }
+        ensures { result ≡ record { message = message; left = left } }
+    {
+        Volley { message, left }
+    }
+
     /// Gives the message of which copies are left.
     pub fn message(&self) -> Down
         ensures { result ≡ self.now.message }
