@@ -1,0 +1,209 @@
+-- A chassis on one thread: what each call leaves of it.
+use Rattle.std.proofs.Common.{◌≡◌, ◌<◌, ◌≤◌, ◌+◌, ◌-◌, ◌==◌, ◌&&◌, ℕ, Bool, true, false, List, [], ◌∷◌, length, map, set, get_or, refl, sym, ap, subst, ◌∙◌, arith, length-set, IsTrue}
+use Rattle.std.specs.Prelude.{Some, slice_get, slice_set, slice_index, sum_by, All, if◌then◌else◌, nat_lt, option_map, ◌↔◌}
+use Rattle.std.specs.FinMap.{len-empty}
+use Rattle.std.proofs.lemmas.List.{map-set, set-set, set-get_or, length-replicate}
+use Rattle.std.proofs.lemmas.List.Elements.{All-set, All-map}
+use Rattle.std.proofs.lemmas.List.Folds.{sum_by-replicate}
+use Rattle.std.proofs.lemmas.List.Sums.{sum_by-cons}
+use Rattle.std.proofs.lemmas.Option.{slice_get-map, get_or_from_slice_get, slice_get_read, slice_get_within}
+use Rattle.gp_ploam.specs.Serials.{serial_cmp}
+use Rattle.gp_unit.specs.declared.row.Row.{Row}
+use Rattle.gp_machine.specs.declared.config.PortConfig.{PortConfig}
+use Rattle.gp_machine.specs.declared.event.Event.{Event}
+use Rattle.gp_machine.specs.declared.event.Event.TheVariants.{Frame, Burst, Command}
+use Rattle.gp_machine.specs.declared.entry.Receipt.{Receipt}
+use Rattle.gp_machine.specs.Config.{is_within_limits}
+use Rattle.gp_machine.specs.State.{PortState, opening_of, rows_of}
+use Rattle.gp_machine.specs.Sound.{IsSound}
+use Rattle.gp_laws.proofs.WholeRuns.{every_state}
+use Rattle.gp_journal.specs.declared.piece.Piece.{Piece}
+use Rattle.gp_journal.proofs.Runs.{Replays-opened}
+use Rattle.gp_chassis.specs.Desk.{DeskState, DeskStands, HasRoom, opened, Serves, Cuts}
+use Rattle.gp_chassis.specs.World.{ChassisWorld, Port, hand, taken, ChassisStep, ChassisRun, IsBalanced, HoldsApart, units_of}
+use Rattle.gp_chassis.specs.Core.{CoreState, Stands, CoreServes, CoreCuts, CoreApplies, world_of, with_licences, lent, moves_of, core_opened, IsFullAt, JoinsAt}
+use Rattle.gp_chassis.proofs.Worlds.{move_keeps, taken_ports, set_same, apart_reached}
+
+same_desk : (s : CoreState) (p : ℕ) (d e : DeskState) → slice_get s.desks p ≡ Some d → slice_get s.desks p ≡ Some e → d ≡ e
+same_desk s p d e f g = let h = sym f ∙ g in cc
+
+set_back : (ds : List DeskState) (p : ℕ) (d : DeskState) → slice_get ds p ≡ Some d → set ds p d ≡ ds
+set_back ds p d is = ap (set ds p) (sym (get_or_from_slice_get ds p d d is)) ∙ set-get_or ds p d
+
+hands_kept : (old new : CoreState) (a p : ℕ) (event : Event) (r : Receipt) → a < length old.hands → CoreServes old new a p event r → a < length new.hands
+hands_kept old new a p event r l h = subst (λ (n : ℕ). a < n) (sym (ap (λ (s : CoreState). length s.hands) h.core ∙ length-set old.hands a h.rest)) l
+
+pub taken_actors : (s : CoreState) (a : ℕ) → a < length s.hands → a < length (taken a (world_of s)).hands
+taken_actors s a l =
+    let w : ChassisWorld = world_of s in
+    elim ((hand w a == 0) && nat_lt 0 w.free) as (λ (t : Bool). a < length (if t then record w { free = w.free - 1; hands = slice_set w.hands a 1 } else w).hands)
+    [ true ↦ subst (λ (n : ℕ). a < n) (sym (length-set w.hands a 1)) l | false ↦ l ]
+
+-- ---- what holds of every chassis
+
+-- every port is sound
+ports_sound : (ds : List DeskState) → All DeskStands ds → All IsSound (map (λ (d : DeskState). d.state) ds)
+ports_sound ds h =
+    All-map IsSound (λ (d : DeskState). d.state) ds (λ k d l. every_state (get_or ds k d).state.config (get_or ds k d).state (h k d l).reached)
+
+-- no two units of a port share a number
+pub ports_apart : (s : CoreState) → Stands s → All HoldsApart (world_of s).ports
+ports_apart s h =
+    All-map HoldsApart (λ (d : DeskState). d.state) s.desks (λ k d l. apart_reached (get_or s.desks k d).state.config (get_or s.desks k d).state (h.desks k d l).reached)
+
+-- no more units than licences
+pub units_few : (s : CoreState) → Stands s → units_of (world_of s) ≤ s.licences
+units_few s h = let balance = h.balance in omega (arith, balance)
+
+-- ---- a desk serves
+
+-- a desk that serves is one port that moves
+pub served_step : (old new : CoreState) (a p : ℕ) (event : Event) (r : Receipt) → a < length old.hands → CoreServes old new a p event r
+    → ChassisStep (Port a p r.entry) (world_of old) (world_of new)
+served_step old new a p event r l h =
+    let f : DeskState → PortState = λ d. d.state in
+    let ports : map f (set old.desks p h.next) ≡ set (map f old.desks) p h.next.state = map-set f old.desks p h.next in
+    let W : List PortState → List ℕ → ChassisWorld = λ xs ys. record { ports = xs; free = old.free; hands = ys } in (
+      l,
+      record {
+        stood = h.desk.state;
+        next = h.next.state;
+        is = slice_get-map f old.desks p ∙ ap (option_map f) h.is;
+        purse = h.serves.purse_in;
+        step = h.serves.step;
+        world_is = ap world_of h.core ∙ ap (λ (xs : List PortState). W xs (set old.hands a h.rest)) ports ∙ ap (λ (n : ℕ). W (set (map f old.desks) p h.next.state) (set old.hands a n)) h.serves.rest_is;
+      },
+    )
+
+pub served_stands : (old new : CoreState) (a p : ℕ) (event : Event) (r : Receipt) → a < length old.hands → Stands old → CoreServes old new a p event r → Stands new
+served_stands old new a p event r l s h =
+    let balance : IsBalanced old.licences (world_of new) =
+    move_keeps old.licences (Port a p r.entry) (world_of old) (world_of new) (ports_sound old.desks s.desks) (served_step old new a p event r l h) s.balance in
+    subst Stands (sym h.core) (record {
+      desks = All-set DeskStands old.desks p h.next h.serves.stands s.desks;
+      balance = subst (λ (t : CoreState). IsBalanced old.licences (world_of t)) h.core balance;
+      hands_are = length-set old.hands a h.rest ∙ s.hands_are;
+    })
+
+-- the desk of a port serves with what was pulled out of an actor's hands, and the rest is put there
+pub served_core : (s : CoreState) (a p q : ℕ) (event : Event) (r : Receipt) (d next : DeskState) (rest purse : ℕ) (h1 h2 : List ℕ)
+    → p < length s.desks → q ≡ p → d ≡ get_or s.desks q d → purse ≡ slice_index s.hands a → h1 ≡ set s.hands a 0 → h2 ≡ set h1 a rest → Serves d next p purse event r rest
+    → CoreServes s (record s { desks = set s.desks q next; hands = h2 }) a p event r
+served_core s a p q event r d next rest purse h1 h2 l is at pulled one two serves =
+    let hands : h2 ≡ set s.hands a rest = two ∙ ap (λ (h : List ℕ). set h a rest) one ∙ set-set s.hands a 0 rest in
+    record {
+      desk = d;
+      next = next;
+      rest = rest;
+      is = slice_get_read s.desks (length s.desks) p d refl l (subst (λ (n : ℕ). d ≡ get_or s.desks n d) is at);
+      serves = subst (λ (n : ℕ). Serves d next p n event r rest) pulled serves;
+      core = ap (λ (n : ℕ). record s { desks = set s.desks n next; hands = h2 }) is ∙ ap (λ (h : List ℕ). record s { desks = set s.desks p next; hands = h }) hands;
+    }
+
+-- it refuses, and all is as it was
+pub refused_core : (s : CoreState) (a q : ℕ) (d next : DeskState) (back purse : ℕ) (h1 h2 : List ℕ)
+    → d ≡ get_or s.desks q d → purse ≡ slice_index s.hands a → h1 ≡ set s.hands a 0 → h2 ≡ set h1 a back → back ≡ purse → next ≡ d
+    → record s { desks = set s.desks q next; hands = h2 } ≡ s
+refused_core s a q d next back purse h1 h2 at pulled one two same kept =
+    let hands : h2 ≡ s.hands = two ∙ ap (λ (h : List ℕ). set h a back) one ∙ set-set s.hands a 0 back ∙ ap (set s.hands a) (same ∙ pulled) ∙ set-get_or s.hands a 0 in
+    let desks : set s.desks q next ≡ s.desks = ap (set s.desks q) (kept ∙ at) ∙ set-get_or s.desks q d in
+    ap (λ (ds : List DeskState). record s { desks = ds; hands = h2 }) desks ∙ ap (λ (h : List ℕ). record s { hands = h }) hands
+
+-- the journal that the port has is full just where its desk has no room
+pub full_core : (s : CoreState) (p q : ℕ) (d : DeskState) (b : Type 0) → p < length s.desks → q ≡ p → d ≡ get_or s.desks q d → (b ↔ (HasRoom d → ⊥)) → (b ↔ IsFullAt s p)
+full_core s p q d b l is at tells =
+    let there : slice_get s.desks p ≡ Some d = slice_get_read s.desks (length s.desks) p d refl l (subst (λ (n : ℕ). d ≡ get_or s.desks n d) is at) in (
+      λ h. record { desk = d; is = there; full = tells.0 h },
+      λ f. tells.1 (subst (λ (x : DeskState). HasRoom x → ⊥) (same_desk s p f.desk d f.is there) f.full),
+    )
+
+-- ---- a journal is cut
+
+pub cut_stands : (old new : CoreState) (p : ℕ) (piece : Piece) → Stands old → CoreCuts old new p piece → Stands new
+cut_stands old new p piece s h =
+    let f : DeskState → PortState = λ d. d.state in
+    let ports : map f (set old.desks p h.next) ≡ map f old.desks =
+    map-set f old.desks p h.next ∙ ap (λ (d : DeskState). set (map f old.desks) p d.state) h.cuts.desk
+    ∙ sym (map-set f old.desks p h.desk) ∙ ap (map f) (set_back old.desks p h.desk h.is) in
+    subst Stands (sym h.core) (record {
+      desks = All-set DeskStands old.desks p h.next h.cuts.stands s.desks;
+      balance = subst (λ (xs : List PortState). IsBalanced old.licences (record { ports = xs; free = old.free; hands = old.hands })) (sym ports) s.balance;
+      hands_are = s.hands_are;
+    })
+
+pub cut_core : (s : CoreState) (p q : ℕ) (piece : Piece) (d next : DeskState) → p < length s.desks → q ≡ p → d ≡ get_or s.desks q d → Cuts d next piece
+    → CoreCuts s (record s { desks = set s.desks q next }) p piece
+cut_core s p q piece d next l is at cuts = record {
+  desk = d;
+  next = next;
+  is = slice_get_read s.desks (length s.desks) p d refl l (subst (λ (n : ℕ). d ≡ get_or s.desks n d) is at);
+  cuts = cuts;
+  core = ap (λ (n : ℕ). record s { desks = set s.desks n next }) is;
+}
+
+-- a desk as it was changes nothing
+pub same_core : (s : CoreState) (q : ℕ) (d next : DeskState) → d ≡ get_or s.desks q d → next ≡ d → record s { desks = set s.desks q next } ≡ s
+same_core s q d next at kept = ap (λ (ds : List DeskState). record s { desks = ds }) (ap (set s.desks q) (kept ∙ at) ∙ set-get_or s.desks q d)
+
+pub cut_joins : (old new : CoreState) (p : ℕ) (piece : Piece) → CoreCuts old new p piece → JoinsAt new p piece
+cut_joins old new p piece h =
+    let within : p < length old.desks = slice_get_within old.desks p h.desk h.is in
+    let desk = h.cuts.desk in
+    let of = h.cuts.of in
+    let end : piece.to ≡ h.desk.state = ap (λ (x : Piece). x.to) of in
+    record {
+      desk = h.next;
+      is = ap (λ (s : CoreState). slice_get s.desks p) h.core ∙ set_same old.desks p h.next within;
+      number = ap (λ (x : Piece). x.first + length x.entries) of ∙ sym (ap (λ (d : DeskState). d.first) desk);
+      state = ap (λ (d : DeskState). d.base) desk ∙ ap (λ (q : PortState). Some q) (sym end);
+    }
+
+-- ---- it is opened
+
+opened_desks : (limit : ℕ) (cs : List PortConfig) → All (λ (c : PortConfig). IsTrue (is_within_limits c)) cs → All DeskStands (map (opened limit) cs)
+opened_desks limit cs h = All-map DeskStands (opened limit) cs (λ k d l. record { replays = Replays-opened (get_or cs k d) (h k d l); reached = ([], refl) })
+
+opened_units : (limit : ℕ) (cs : List PortConfig) → sum_by rows_of (map (λ (d : DeskState). d.state) (map (opened limit) cs)) ≡ 0
+opened_units limit [] = refl
+opened_units limit (c ∷ cs) =
+    let rest = opened_units limit cs in
+    let none : rows_of (opening_of c) ≡ 0 = len-empty serial_cmp Row in
+    let first = sum_by-cons rows_of (opening_of c) (map (λ (d : DeskState). d.state) (map (opened limit) cs)) in
+    first ∙ omega (arith, rest, none)
+
+pub opened_stands : (cs : List PortConfig) (licences limit : ℕ) → All (λ (c : PortConfig). IsTrue (is_within_limits c)) cs → Stands (core_opened cs licences limit)
+opened_stands cs licences limit h = record {
+  desks = opened_desks limit cs h;
+  balance = let rows = opened_units limit cs in let hands = sum_by-replicate (λ (n : ℕ). n) 64 0 in omega (arith, rows, hands);
+  hands_are = length-replicate {A = ℕ} 64 0;
+}
+
+-- ---- take, step, give
+
+took_step : (s : CoreState) (a : ℕ) → world_of (with_licences s (taken a (world_of s))) ≡ taken a (world_of s)
+took_step s a =
+    let w : ChassisWorld = world_of s in
+    ap (λ (xs : List PortState). record { ports = xs; free = (taken a w).free; hands = (taken a w).hands }) (sym (taken_ports a w))
+
+pub applied_run : (old new : CoreState) (p : ℕ) (event : Event) (r : Receipt) → 0 < length old.hands → CoreApplies old new p event r
+    → ChassisRun (moves_of event p r.entry) (world_of old) (world_of new)
+applied_run old new p Frame r l h =
+    let s = served_step old h.between 0 p Frame r l h.serves in
+    (world_of h.between, s, (world_of new, (hands_kept old h.between 0 p Frame r l h.serves, ap world_of h.given_is), refl))
+applied_run old new p (Command command) r l h =
+    let s = served_step old h.between 0 p (Command command) r l h.serves in
+    (world_of h.between, s, (world_of new, (hands_kept old h.between 0 p (Command command) r l h.serves, ap world_of h.given_is), refl))
+applied_run old new p (Burst at bytes) r l h =
+    let mid : CoreState = with_licences old (taken 0 (world_of old)) in
+    let short : 0 < length mid.hands = taken_actors old 0 l in
+    let s = served_step mid h.between 0 p (Burst at bytes) r short h.serves in
+    let t : world_of mid ≡ taken 0 (world_of old) = took_step old 0 in
+    (world_of mid, (l, t), (world_of h.between, s, (world_of new, (hands_kept mid h.between 0 p (Burst at bytes) r short h.serves, ap world_of h.given_is), refl)))
+
+-- ---- what is lent for an event
+
+-- lending fills no journal
+pub lent_full : (event : Event) (s : CoreState) (p : ℕ) → IsFullAt (lent event s) p ↔ IsFullAt s p
+lent_full (Burst at bytes) s p = (λ f. record { desk = f.desk; is = f.is; full = f.full }, λ f. record { desk = f.desk; is = f.is; full = f.full })
+lent_full Frame s p = (λ f. f, λ f. f)
+lent_full (Command command) s p = (λ f. f, λ f. f)

@@ -1,0 +1,47 @@
+-- A desk that serves one event more.
+use Rattle.std.proofs.Common.{◌≡◌, ◌≤◌, ◌+◌, ℕ, List, [], ◌∷◌, ◌++◌, length, sym, ap, subst, ◌∙◌, length-append}
+use Rattle.std.specs.Prelude.{Option}
+use Rattle.gp_licence.specs.declared.ledger_parts.TheConstants.{MAX_LICENCES}
+use Rattle.gp_machine.specs.declared.config.PortConfig.{PortConfig}
+use Rattle.gp_machine.specs.declared.answer.Answer.{Answer}
+use Rattle.gp_machine.specs.declared.event.Event.{Event}
+use Rattle.gp_machine.specs.declared.entry.Entry.{Entry}
+use Rattle.gp_machine.specs.State.{PortState, opening_of}
+use Rattle.gp_machine.specs.Step.{Step}
+use Rattle.gp_machine.specs.Run.{IsStep, IsReached}
+use Rattle.gp_laws.proofs.WholeRuns.{step_config}
+use Rattle.gp_journal.specs.Replays.{Replays}
+use Rattle.gp_journal.proofs.Runs.{Replays-push, Run-push}
+use Rattle.gp_chassis.specs.Desk.{DeskState, DeskStands, desk_after}
+
+-- a step, with the licences counted before and after it
+pub step_counted : (purse rest counted left : ℕ) (p next : PortState) (event : Event) (answer : Answer) → counted ≡ purse → left ≡ rest
+    → Step purse p event (record { answer = answer; purse = rest; state = next })
+    → IsStep p (record { purse_in = counted; event = event; answer = answer; purse_out = left }) next
+step_counted purse rest counted left p next event answer q r step =
+    let counts : Step counted p event (record { answer = answer; purse = rest; state = next }) = subst (λ (n : ℕ). Step n p event (record { answer = answer; purse = rest; state = next })) (sym q) step in
+    subst (λ (n : ℕ). Step counted p event (record { answer = answer; purse = n; state = next })) (sym r) counts
+
+-- what holds of a desk holds of it after a step more
+pub stepped_desk : (d : DeskState) (e : Entry) (next : PortState) → DeskStands d → e.purse_in ≤ MAX_LICENCES → IsStep d.state e next → DeskStands (desk_after d e next)
+stepped_desk d e next h few step =
+    let config : next.config ≡ d.state.config = step_config d.state next e step in
+    let c : PortConfig = d.state.config in
+    let replays : Replays c d.base (d.entries ++ e ∷ []) next = Replays-push c d.base d.state next d.entries e h.replays few step in
+    let reached : IsReached c next = (h.reached.0 ++ e ∷ [], Run-push (opening_of c) d.state next h.reached.0 e h.reached.1 step) in
+    record {
+      replays = subst (λ (x : PortConfig). Replays x d.base (d.entries ++ e ∷ []) next) (sym config) replays;
+      reached = subst (λ (x : PortConfig). IsReached x next) (sym config) reached;
+    }
+
+-- the desk whose journal made room, and then kept one entry more
+pub desk_recorded : (d : DeskState) (e : Entry) (next : PortState) (first1 first2 : ℕ) (base1 base2 : Option PortState) (es1 es2 : List Entry)
+    → first1 ≡ d.first → first2 ≡ first1 → base1 ≡ d.base → base2 ≡ base1 → es1 ≡ d.entries → es2 ≡ es1 ++ e ∷ []
+    → record { limit = d.limit; first = first2; base = base2; entries = es2; state = next } ≡ desk_after d e next
+desk_recorded d e next first1 first2 base1 base2 es1 es2 f1 f2 b1 b2 h1 h2 =
+    let M : ℕ → Option PortState → List Entry → DeskState = λ f b es. record { limit = d.limit; first = f; base = b; entries = es; state = next } in
+    ap (λ (f : ℕ). M f base2 es2) (f2 ∙ f1) ∙ ap (λ (b : Option PortState). M d.first b es2) (b2 ∙ b1) ∙ ap (λ (es : List Entry). M d.first d.base es) (h2 ∙ ap (λ (es : List Entry). es ++ e ∷ []) h1)
+
+-- so many entries it then keeps
+pub one_more : (d : DeskState) (e : Entry) (next : PortState) → length (desk_after d e next).entries ≡ length d.entries + 1
+one_more d e next = length-append d.entries (e ∷ [])

@@ -1,0 +1,4 @@
+pub mod Worlds
+pub mod Desks
+pub mod Cores
+pub mod Admitted

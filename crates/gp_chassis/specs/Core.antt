@@ -1,0 +1,95 @@
+-- A chassis on one thread (this profile's own rule).
+use Rattle.std.specs.Prelude.{ℕ, ◌≡◌, ◌+◌, List, [], ◌∷◌, Some, All, map, length, slice_set, slice_get, replicate}
+use Rattle.gp_machine.specs.declared.config.PortConfig.{PortConfig}
+use Rattle.gp_machine.specs.declared.event.Event.{Event}
+use Rattle.gp_machine.specs.declared.event.Event.TheVariants.{Frame, Burst, Command}
+use Rattle.gp_machine.specs.declared.entry.Entry.{Entry}
+use Rattle.gp_machine.specs.declared.entry.Receipt.{Receipt}
+use Rattle.gp_journal.specs.declared.piece.Piece.{Piece}
+use Rattle.gp_chassis.specs.Desk.{DeskState, DeskStands, HasRoom, opened, Serves, Cuts}
+use Rattle.gp_chassis.specs.World.{ChassisWorld, Move, Take, Port, Give, hand, taken, given, IsBalanced, actors}
+
+-- a chassis: its desks, how many licences are free, how many each actor has in hand, and how many there are in all
+pub record CoreState : Type 0 where
+  pub desks : List DeskState
+  pub free : ℕ
+  pub hands : List ℕ
+  pub licences : ℕ
+
+-- where its ports stand, and where its licences are
+abbrev pub world_of : CoreState → ChassisWorld
+world_of core = record { ports = map (λ (desk : DeskState). desk.state) core.desks; free = core.free; hands = core.hands }
+
+-- what holds of every chassis on one thread
+pub record Stands (core : CoreState) : Type 0 where
+  -- each port came to where it stands by the entries that its journal keeps
+  pub desks : All DeskStands core.desks
+  -- each licence is free, in an actor's hands, or with an active unit
+  pub balance : IsBalanced core.licences (world_of core)
+  pub hands_are : length core.hands ≡ actors
+
+-- a chassis that was just opened
+abbrev pub core_opened : List PortConfig → ℕ → ℕ → CoreState
+core_opened configs licences limit = record { desks = map (opened limit) configs; free = licences; hands = replicate actors 0; licences = licences }
+
+-- the same desks, and licences as in this world
+abbrev pub with_licences : CoreState → ChassisWorld → CoreState
+with_licences core world = record core { free = world.free; hands = world.hands }
+
+-- ---- serving
+
+-- the desk of one port serves an event with what the actor has in hand, and nothing else changes
+pub record CoreServes (old new : CoreState) (actor port : ℕ) (event : Event) (receipt : Receipt) : Type 0 where
+  pub desk : DeskState
+  pub next : DeskState
+  pub rest : ℕ
+  pub is : slice_get old.desks port ≡ Some desk
+  pub serves : Serves desk next port (hand (world_of old) actor) event receipt rest
+  pub core : new ≡ record old { desks = slice_set old.desks port next; hands = slice_set old.hands actor rest }
+
+-- what is lent to actor 0 before an event: for a burst a licence, if one is free and none is in hand
+abbrev pub lent : Event → CoreState → CoreState
+lent (Burst at bytes) core = with_licences core (taken 0 (world_of core))
+lent Frame core = core
+lent (Command command) core = core
+
+-- actor 0 takes for a burst, has the event served, and gives
+pub record CoreApplies (old new : CoreState) (port : ℕ) (event : Event) (receipt : Receipt) : Type 0 where
+  pub between : CoreState
+  pub serves : CoreServes (lent event old) between 0 port event receipt
+  pub given_is : new ≡ with_licences between (given 0 (world_of between))
+
+-- the moves of actor 0 that serve an event: take (for a burst alone), the port's step, give
+abbrev pub moves_of : Event → ℕ → Entry → List Move
+moves_of (Burst at bytes) port entry = Take 0 ∷ Port 0 port entry ∷ Give 0 ∷ []
+moves_of Frame port entry = Port 0 port entry ∷ Give 0 ∷ []
+moves_of (Command command) port entry = Port 0 port entry ∷ Give 0 ∷ []
+
+-- an event is a burst
+abbrev pub IsBurst : Event → Type 0
+IsBurst (Burst at bytes) = Unit {0}
+IsBurst Frame = ⊥
+IsBurst (Command command) = ⊥
+
+-- there is this port, and its journal may keep no entry more
+pub record IsFullAt (core : CoreState) (port : ℕ) : Type 0 where
+  pub desk : DeskState
+  pub is : slice_get core.desks port ≡ Some desk
+  pub full : HasRoom desk → ⊥
+
+-- ---- cutting
+
+-- the journal of one port is cut, and nothing else changes
+pub record CoreCuts (old new : CoreState) (port : ℕ) (piece : Piece) : Type 0 where
+  pub desk : DeskState
+  pub next : DeskState
+  pub is : slice_get old.desks port ≡ Some desk
+  pub cuts : Cuts desk next piece
+  pub core : new ≡ record old { desks = slice_set old.desks port next }
+
+-- the port's journal goes on with the number and in the state in which the piece ends
+pub record JoinsAt (core : CoreState) (port : ℕ) (piece : Piece) : Type 0 where
+  pub desk : DeskState
+  pub is : slice_get core.desks port ≡ Some desk
+  pub number : piece.first + length piece.entries ≡ desk.first
+  pub state : desk.base ≡ Some piece.to

@@ -1,0 +1,4 @@
+pub mod World
+pub mod Limits
+pub mod Desk
+pub mod Core

@@ -1,0 +1,193 @@
+ghost use Rattle.std.specs.Prelude.{◌≡◌, ◌+◌, ◌<◌, ◌≤◌, ◌↔◌, ◌^◌, ◌++◌, ◌∷◌, [], length, IfOk, IfErr, OnErr, IsErrOf, IsTrue};
+ghost use Rattle.gp_machine.specs.State.{rows_of};
+ghost use Rattle.gp_chassis.specs.Desk.{DeskStands, HasRoom, MayOpen, Serves, Cuts, opened};
+ghost use Rattle.gp_chassis.specs.Limits.{max_journal_limit};
+
+use crate::fault::ApplyFault;
+use gp_journal::{Journal, Piece};
+use gp_licence::Licences;
+use gp_linear::NeverDropped;
+use gp_machine::{Entry, Event, PortConfig, Receipt};
+use gp_port::{ImageFault, OpenFault, PortCore, PortImage};
+use std::alloc::Global;
+use std::marker::Model;
+use std::sync::ledger::Ledger;
+
+/// The most entries that the journal of a port may be told to keep (this profile's own rule).
+pub const MAX_JOURNAL_LIMIT: u32 = 1_000_000;
+
+/// A port with its journal. Contracts see how many entries the journal may keep, what it keeps, and where the port stands.
+///
+/// The entries that are kept always tell how the port came to stand where it stands. There is no `Drop`: a desk ends by
+/// `close`.
+pub struct PortDesk<L: Ledger> {
+    core: PortCore<L>,
+    journal: Journal,
+    limit: u32,
+}
+
+impl<L: Ledger> NeverDropped for PortDesk<L> {}
+
+impl<L: Ledger> Model for PortDesk<L> {
+    ghost use Rattle.std.specs.FinMap as map;
+    ghost use Rattle.std.specs.FinSet as set;
+    ghost use Rattle.std.specs.Coded.{codes};
+    ghost use Rattle.std.specs.Prelude.{◌≤◌, length};
+    ghost use Rattle.gp_ploam.specs.Serials.{serial_cmp, coded_serial};
+    ghost use Rattle.gp_unit.specs.contracts.row.Row as row;
+    ghost use Rattle.gp_machine.specs.contracts.entry.Entry as entry;
+    ghost use Rattle.gp_chassis.specs.Limits.{max_journal_limit};
+    ghost use Rattle.gp_chassis.specs.Desk.{DeskState, DeskStands};
+
+    ghost Value = { DeskState };
+
+    ghost coded = { Prim.hlevel (codes, map.code {R = serial_cmp} coded_serial row.the_row.coded, set.code {R = serial_cmp} coded_serial, entry.the_row.coded) };
+
+    ghost view = { λ d. record { limit = d.limit; first = d.journal.first; base = d.journal.base; entries = d.journal.entries; state = d.core } };
+
+    ghost invariant = { λ d. DeskStands (record { limit = d.limit; first = d.journal.first; base = d.journal.base; entries = d.journal.entries; state = d.core })
+        × (length d.journal.entries ≤ d.limit)
+        × (d.limit ≤ max_journal_limit) };
+}
+
+impl<L: Ledger> PortDesk<L> {
+    /// Opens a port of this configuration, with a journal that keeps so many entries at most, 1 to `MAX_JOURNAL_LIMIT`.
+    /// `OpenFault` says when it is not opened.
+    pub fn begin(
+        alloc: Global,
+        config: &PortConfig,
+        journal_limit: u32,
+    ) -> Result<PortDesk<L>, OpenFault>
+        ensures ok { IfOk result (λ desk. desk ≡ opened journal_limit config.now) }
+        ensures limit { IsErrOf result OpenFault.Limit ↔ (MayOpen config.now journal_limit → ⊥) }
+    {
+        if journal_limit == 0 || journal_limit > MAX_JOURNAL_LIMIT {
+            return Err(OpenFault::Limit);
+        }
+        let core = PortCore::begin(alloc, config)?;
+        Ok(PortDesk {
+            core,
+            journal: Journal::new(alloc),
+            limit: journal_limit,
+        })
+    }
+
+    /// Tells whether the journal may keep an entry more.
+    pub fn has_room(&self) -> bool
+        ensures { IsTrue result ↔ HasRoom self.now }
+    {
+        self.journal.entries().len() < self.limit as usize && self.journal.len() < u64::MAX
+    }
+
+    /// Makes one step of the port with these licences at hand, and records it. `port` is the number that the receipt has.
+    /// What the port leaves of the licences is given back, and all of them where there is a fault: `JournalFull`, else
+    /// `OutOfMemory`.
+    pub fn serve(
+        &mut self,
+        port: u8,
+        purse: Licences<L>,
+        event: Event,
+    ) -> Result<(Receipt, Licences<L>), (ApplyFault, Licences<L>)>
+        ensures ok { IfOk result (λ served. Serves self.old self.new port purse event served.0 served.1) }
+        ensures err { IfErr result (λ fault. (fault.1 ≡ purse) × (self.new ≡ self.old)) }
+        ensures full { IfErr result (λ fault. (fault.0 ≡ ApplyFault.JournalFull) ↔ (HasRoom self.old → ⊥)) }
+        ensures some_port { IfErr result (λ fault. fault.0 ≡ ApplyFault.NoPort → ⊥) }
+    {
+        if !self.has_room() {
+            return Err((ApplyFault::JournalFull, purse));
+        }
+        if self.journal.reserve_one().is_err() {
+            return Err((ApplyFault::OutOfMemory, purse));
+        }
+        let purse_in = purse.count();
+        let (answer, rest) = self.core.step(purse, event);
+        let entry = Entry {
+            purse_in,
+            event,
+            answer,
+            purse_out: rest.count(),
+        };
+        let receipt = record(&mut self.journal, port, entry);
+        Ok((receipt, rest))
+    }
+
+    /// Hands out what the journal keeps, and begins it anew after that: the next entry has the next number. Memory is taken
+    /// for two images of the port; without it nothing changes.
+    pub fn cut(&mut self, alloc: Global) -> Result<Piece, ImageFault>
+        ensures ok { IfOk result (λ piece. Cuts self.old self.new piece) }
+        ensures err { OnErr result (self.new ≡ self.old) }
+    {
+        let base = self.core.image(alloc)?;
+        let to = base.try_clone(alloc)?;
+        Ok(self.cut_at(base, to))
+    }
+
+    /// Hands out what the journal keeps, and begins it anew after that, with two images of where the port stands. It takes no
+    /// memory.
+    pub fn cut_at(&mut self, base: PortImage, to: PortImage) -> Piece
+        requires base { base ≡ self.old.state }
+        requires to { to ≡ self.old.state }
+        ensures { Cuts self.old self.new result }
+    {
+        self.journal.cut(base, to)
+    }
+
+    /// Gives the port.
+    pub fn core(&self) -> &PortCore<L>
+        ensures { result.now ≡ self.now.state }
+    {
+        &self.core
+    }
+
+    /// Gives what the port was opened with.
+    pub fn config(&self) -> &PortConfig
+        ensures { result.now ≡ self.now.state.config }
+    {
+        self.core.config()
+    }
+
+    /// Gives the journal, which tells how the port came to stand where it stands.
+    pub fn journal(&self) -> &Journal
+        ensures first { result.now.first ≡ self.now.first }
+        ensures base { result.now.base ≡ self.now.base }
+        ensures entries { result.now.entries ≡ self.now.entries }
+        ensures stands { DeskStands self.now }
+        ensures kept { length self.now.entries ≤ max_journal_limit }
+    {
+        &self.journal
+    }
+
+    /// Ends the port, with its journal and the licence of each active unit.
+    pub fn close(self) -> (Journal, Licences<L>)
+        ensures first { result.0.first ≡ self.first }
+        ensures base { result.0.base ≡ self.base }
+        ensures entries { result.0.entries ≡ self.entries }
+        ensures stands { DeskStands self }
+        ensures licences { result.1 ≡ rows_of self.state }
+    {
+        let PortDesk {
+            core,
+            journal,
+            limit: _,
+        } = self;
+        (journal, core.close())
+    }
+}
+
+/// Records an entry, and gives its receipt, with this port's number.
+fn record(journal: &mut Journal, port: u8, entry: Entry) -> Receipt
+    requires room { 0 < journal.old.room }
+    requires count { journal.old.first + length journal.old.entries + 1 < 2 ^ 64 }
+    ensures receipt { result ≡ record { port = port; number = journal.old.first + length journal.old.entries; entry = entry } }
+    ensures first { journal.new.first ≡ journal.old.first }
+    ensures base { journal.new.base ≡ journal.old.base }
+    ensures entries { journal.new.entries ≡ journal.old.entries ++ entry ∷ [] }
+{
+    let receipt = Receipt {
+        port,
+        number: journal.len(),
+        entry,
+    };
+    journal.append(receipt.entry);
+    receipt
+}
