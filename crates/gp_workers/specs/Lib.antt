@@ -1,0 +1,5 @@
+pub mod Chassis
+pub mod Totals
+pub mod Closing
+pub mod Asked
+pub mod Ring

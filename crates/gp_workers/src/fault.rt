@@ -1,0 +1,9 @@
+use thiserror::Error;
+
+/// Why no worker is made.
+#[derive(Clone, Copy, Debug, PartialEq, Eq, Error)]
+pub enum WorkerFault {
+    /// The chassis has `MAX_WORKERS` workers.
+    #[error("too many workers")]
+    TooMany,
+}
