@@ -8,6 +8,7 @@ ghost use Rattle.gp_ploam.specs.Row.{HasRightCheck};
 ghost use Rattle.gp_ploam.specs.Up.{IsProperUp, code_of_up};
 ghost use Rattle.gp_ranging.specs.declared.grant.Grant.TheVariants.{Poll, Range, Search};
 ghost use Rattle.gp_onu.specs.Frames.{IsFirstChange, NeverChanges, frames_left, unit_after_frames};
+ghost use Rattle.gp_onu.specs.Noticing.{LeavesUnanswered, PassesOver};
 ghost use Rattle.gp_onu.specs.Stage.{eqd_of, onu_id_of, state_of};
 ghost use Rattle.gp_onu.specs.Table.{Dark, Frame, Granted, Hears, Light, answer_to, unit_after};
 
@@ -145,6 +146,27 @@ impl Unit {
         ensures { self.new ≡ unit_after_frames frames self.old }
     {
         self.stage = self.stage.with_more_frames(frames);
+    }
+
+    /// Tells whether a message may change the unit. Where it can't, it can't either after frames that don't end the unit's
+    /// state.
+    pub fn may_notice(&self, message: &Down) -> bool
+        ensures { result ≡ false → PassesOver self.now message.now }
+    {
+        match *message {
+            Down::UpstreamOverhead { .. } => self.stage.state() == State::Standby,
+            Down::AssignOnu { serial, .. }
+            | Down::DisableSerial { serial }
+            | Down::EnableSerial { serial } => serial == self.serial,
+            Down::RangingTime { onu, .. } | Down::AssignAlloc { onu, .. } => {
+                Some(onu) == self.stage.number()
+            }
+            Down::Deactivate { onu } | Down::Popup { onu } => {
+                onu == BROADCAST_ONU || Some(onu) == self.stage.number()
+            }
+            Down::EnableAll => self.stage.state() == State::EmergencyStop,
+            Down::NoMessage | Down::Other { .. } => false,
+        }
     }
 
     /// Lets the unit hear a code. One with a wrong check octet changes nothing.
@@ -295,6 +317,16 @@ impl Unit {
                 };
             }
             _ => {}
+        }
+    }
+
+    /// Tells whether the unit may answer a grant. Where it can't, it can't either after frames that don't end its state.
+    pub fn may_answer(&self, grant: Grant) -> bool
+        ensures { result ≡ false → LeavesUnanswered self.now grant }
+    {
+        match grant {
+            Grant::Search => self.stage.state() == State::SerialNumber,
+            Grant::Range(onu) | Grant::Poll(onu) => Some(onu) == self.stage.number(),
         }
     }
 

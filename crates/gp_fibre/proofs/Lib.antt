@@ -1,0 +1,7 @@
+pub mod Steps
+pub mod Frames
+pub mod Telling
+pub mod Losing
+pub mod StoredUnits
+pub mod Parts
+pub mod Playing

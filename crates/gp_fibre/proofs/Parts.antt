@@ -1,0 +1,203 @@
+-- The parts of a frame of a run, one input after the other.
+use Rattle.std.proofs.Common.{◌≡◌, ℕ, ◌+◌, ◌-◌, ◌/◌, ◌<◌, ◌≤◌, get_or, Bool, true, false, cond, List, [], ◌∷◌, ◌++◌, length, take, drop, Option, None, Some, refl, sym, ap, subst, ◌∙◌, arith, append_assoc, Vec, Global, vec_len, vec_capacity}
+use Rattle.std.specs.Prelude.{◌&&◌, All, not, map, slice_get}
+use Rattle.std.proofs.lemmas.Option.{slice_get_within, get_or_from_slice_get}
+use Rattle.std.proofs.lemmas.List.Elements.{All-nil, All-cons, All-append, All-same, filter-append}
+use Rattle.std.specs.List.{filter}
+use Rattle.std.specs.Option.{option_to_list}
+use Rattle.std.proofs.lemmas.List.{append-nil, length-set, length-append, take_at, take_all, take-take, take_more, length-drop, length-take-le, get_or-drop, map-append}
+use Rattle.std.proofs.lemmas.List.FromFn.{map-range_with_len_more}
+use Rattle.gp_ploam.specs.declared.message.Down.{Down}
+use Rattle.gp_ranging.specs.declared.grant.Grant.{Grant}
+use Rattle.gp_machine.specs.declared.entry.Entry.{Entry}
+use Rattle.gp_machine.specs.declared.event.Event.TheVariants as event
+use Rattle.gp_fibre.specs.declared.flight.Flight.{Flight}
+use Rattle.gp_fibre.specs.declared.sent_burst.SentBurst.{SentBurst}
+use Rattle.gp_fibre.specs.declared.world_step.WorldStep.TheVariants as steps
+use Rattle.gp_fibre.specs.World.{FibreUnit, FibreWorld}
+use Rattle.gp_fibre.specs.Step.{FibreInput, Whole, FibreStep, PortTakes, UnitChanges, UnitAnswers, unit_hearing, burst_answered}
+use Rattle.gp_fibre.specs.Run.{FibreRun}
+use Rattle.gp_fibre.specs.Fibre.{FibreStand}
+use Rattle.gp_fibre.specs.Parts.{PortPuts, UnitsTake}
+use Rattle.gp_fibre.specs.Schedule.{IsProperEntry, arrivals, deliveries, flights_of, grants_given, is_due, is_lost}
+use Rattle.gp_fibre.proofs.Steps.{one_step, runs_in_parts}
+
+pub run_more : (a b c : FibreWorld) (is : List FibreInput) (es : List Entry) (i : FibreInput) (g : Option Entry) → FibreRun a is es b → FibreStep b i g c
+    → FibreRun a (is ++ i ∷ []) (es ++ option_to_list g) c
+run_more a b c is es i g run step = runs_in_parts a b c is (i ∷ []) es (option_to_list g) run (one_step b i g c step)
+
+pub takes_nothing : (a : FibreWorld) → UnitsTake a [] a
+takes_nothing a =
+    record {
+      run = (refl, refl);
+      port = refl;
+      free = refl;
+      copies = refl;
+      grants = refl;
+      many = refl;
+      front = take_all (length a.bursts) a.bursts (omega arith);
+      more = omega arith;
+      most = omega arith;
+    }
+
+-- two parts, one after the other
+pub takes_both : (a b c : FibreWorld) (is more : List FibreInput) → UnitsTake a is b → UnitsTake b more c → UnitsTake a (is ++ more) c
+takes_both a b c is more x y =
+    record {
+      run = runs_in_parts a b c is more [] [] x.run y.run;
+      port = y.port ∙ x.port;
+      free = y.free ∙ x.free;
+      copies = y.copies ∙ x.copies;
+      grants = y.grants ∙ x.grants;
+      many = y.many ∙ x.many;
+      front = front_of;
+      more = let p = x.more in let q = y.more in omega arith;
+      most = let p = x.most in let q = y.most in omega (arith, length-append is more);
+    }
+  where
+    front_of : take (length a.bursts) c.bursts ≡ a.bursts
+    front_of =
+        let low = x.more in
+        sym (take-take (length a.bursts) (length b.bursts) c.bursts low) ∙ ap (λ (bs : List SentBurst). take (length a.bursts) bs) y.front ∙ x.front
+
+-- one unit hears a copy
+heard_one : (a b : FibreWorld) (copy place : ℕ) (m : Down) → slice_get a.copies copy ≡ Some m → UnitChanges a place (unit_hearing m) b → UnitsTake a (Whole (steps.Deliver copy place) ∷ []) b
+heard_one a b copy place m sent changes =
+    record {
+      run = one_step a (Whole (steps.Deliver copy place)) None b (m, refl, sent, changes);
+      port = ap (λ (w : FibreWorld). w.port) changes.rest;
+      free = ap (λ (w : FibreWorld). w.free) changes.rest;
+      copies = ap (λ (w : FibreWorld). w.copies) changes.rest;
+      grants = ap (λ (w : FibreWorld). w.grants) changes.rest;
+      many = ap (λ (us : List FibreUnit). length us) changes.units.after ∙ length-set a.units place (unit_hearing m changes.units.unit);
+      front = ap (λ (w : FibreWorld). take (length a.bursts) w.bursts) changes.rest ∙ take_all (length a.bursts) a.bursts (omega arith);
+      more = let same = ap (λ (w : FibreWorld). length w.bursts) changes.rest in omega arith;
+      most = let same = ap (λ (w : FibreWorld). length w.bursts) changes.rest in omega arith;
+    }
+
+at_most_one : (o : Option SentBurst) → length (option_to_list o) ≤ 1
+at_most_one None = omega arith
+at_most_one (Some b) = omega arith
+
+-- one unit takes a grant
+granted_one : (a b : FibreWorld) (grant place : ℕ) (issued : Grant) → slice_get a.grants grant ≡ Some issued → UnitAnswers a place issued b → UnitsTake a (Whole (steps.Give grant place) ∷ []) b
+granted_one a b grant place issued there answers =
+    let o = burst_answered issued answers.units.unit in
+    let few = at_most_one o in
+    let many : length b.bursts ≡ length a.bursts + length (option_to_list o) = ap (λ (bs : List SentBurst). length bs) answers.answer ∙ length-append a.bursts (option_to_list o) in
+    record {
+      run = one_step a (Whole (steps.Give grant place)) None b (issued, refl, there, answers);
+      port = ap (λ (w : FibreWorld). w.port) answers.rest;
+      free = ap (λ (w : FibreWorld). w.free) answers.rest;
+      copies = ap (λ (w : FibreWorld). w.copies) answers.rest;
+      grants = ap (λ (w : FibreWorld). w.grants) answers.rest;
+      many = ap (λ (us : List FibreUnit). length us) answers.units.after ∙ length-set a.units place _;
+      front = ap (λ (bs : List SentBurst). take (length a.bursts) bs) answers.answer ∙ take_at a.bursts (option_to_list o) (length a.bursts) refl;
+      more = omega arith;
+      most = omega arith;
+    }
+
+pub heard_more : (a b c : FibreWorld) (copy place : ℕ) (m : Down) → slice_get a.copies copy ≡ Some m → UnitsTake a (deliveries copy place) b → UnitChanges b place (unit_hearing m) c
+    → UnitsTake a (deliveries copy (place + 1)) c
+heard_more a b c copy place m sent so_far changes =
+    subst (λ (is : List FibreInput). UnitsTake a is c) (sym (map-range_with_len_more (λ unit. Whole (steps.Deliver copy unit)) 0 place place (omega arith)))
+    (takes_both a b c (deliveries copy place) (Whole (steps.Deliver copy place) ∷ []) so_far
+    (heard_one b c copy place m (ap (λ (cs : List Down). slice_get cs copy) so_far.copies ∙ sent) changes))
+
+pub granted_more : (a b c : FibreWorld) (grant place : ℕ) (issued : Grant) → slice_get a.grants grant ≡ Some issued → UnitsTake a (grants_given grant place) b → UnitAnswers b place issued c
+    → UnitsTake a (grants_given grant (place + 1)) c
+granted_more a b c grant place issued there so_far answers =
+    subst (λ (is : List FibreInput). UnitsTake a is c) (sym (map-range_with_len_more (λ unit. Whole (steps.Give grant unit)) 0 place place (omega arith)))
+    (takes_both a b c (grants_given grant place) (Whole (steps.Give grant place) ∷ []) so_far
+    (granted_one b c grant place issued (ap (λ (gs : List Grant). slice_get gs grant) so_far.grants ∙ there) answers))
+
+-- ---- bursts that will come
+
+flights_push : (frame number last : ℕ) (bs : List SentBurst) (b : SentBurst) → number + length bs ≡ last
+    → flights_of frame number (bs ++ b ∷ []) ≡ flights_of frame number bs ++ record { number = last; due = frame + b.at / 155520 } ∷ []
+flights_push frame number last [] b e =
+    let same : number ≡ last = omega arith in
+    ap (λ (n : ℕ). let f : Flight = record { number = n; due = frame + b.at / 155520 } in f ∷ []) same
+flights_push frame number last (x ∷ xs) b e =
+    ap (λ (fs : List Flight). let f : Flight = record { number = number; due = frame + x.at / 155520 } in f ∷ fs) (flights_push frame (number + 1) last xs b (omega arith))
+
+pub flights_more : (frame from number : ℕ) (bs : List SentBurst) (b : SentBurst) → from ≤ number → slice_get bs number ≡ Some b
+    → flights_of frame from (take ((number + 1) - from) (drop from bs))
+    ≡ flights_of frame from (take (number - from) (drop from bs)) ++ record { number = number; due = frame + b.at / 155520 } ∷ []
+flights_more frame from number bs b low there =
+    let k = number - from in
+    let xs = drop from bs in
+    let within = slice_get_within bs number b there in
+    let long = length-drop from bs in
+    let in_xs : number - from < length xs = omega arith in
+    let next : (number + 1) - from ≡ (number - from) + 1 = omega arith in
+    let at : from + (number - from) ≡ number = omega arith in
+    let read : get_or xs (number - from) b ≡ b = get_or-drop from bs (number - from) b ∙ ap (λ (n : ℕ). get_or bs n b) at ∙ get_or_from_slice_get bs number b b there in
+    let short = length-take-le (number - from) xs (omega arith) in
+    ap (λ (n : ℕ). flights_of frame from (take n xs)) next
+    ∙ ap (flights_of frame from) (take_more xs (number - from) b in_xs ∙ ap (λ (x : SentBurst). take (number - from) xs ++ x ∷ []) read)
+    ∙ flights_push frame from number (take (number - from) xs) b (omega arith)
+
+pub flights_all : (frame from number : ℕ) (bs : List SentBurst) → number ≡ length bs → flights_of frame from (take (number - from) (drop from bs)) ≡ flights_of frame from (drop from bs)
+flights_all frame from number bs e = let long = length-drop from bs in ap (flights_of frame from) (take_all (number - from) (drop from bs) (omega arith))
+
+-- ---- bursts that come
+
+pub puts_both : (a b c : FibreWorld) (is more : List FibreInput) (before mid after : List Entry) → PortPuts a is before mid b → PortPuts b more mid after c → PortPuts a (is ++ more) before after c
+puts_both a b c is more before mid after x y =
+    record {
+      more = x.more ++ y.more;
+      run = runs_in_parts a b c is more x.more y.more x.run y.run;
+      after_is = y.after_is ∙ ap (λ (es : List Entry). es ++ y.more) x.after_is ∙ append_assoc before x.more y.more;
+      bursts = y.bursts ∙ x.bursts;
+    }
+
+pub puts_nothing : (a : FibreWorld) (entries : List Entry) → PortPuts a [] entries entries a
+puts_nothing a entries = record { more = []; run = (refl, refl); after_is = sym (append-nil entries); bursts = refl }
+
+pub puts_one : (a b : FibreWorld) (number : ℕ) (burst : SentBurst) (entry : Entry) (before after : List Entry) → slice_get a.bursts number ≡ Some burst
+    → PortTakes a (event.Burst burst.at burst.bytes) entry b → after ≡ before ++ entry ∷ [] → PortPuts a (Whole (steps.Arrive number) ∷ []) before after b
+puts_one a b number burst entry before after there takes is =
+    record { more = entry ∷ []; run = one_step a (Whole (steps.Arrive number)) (Some entry) b (entry, burst, refl, there, takes); after_is = is; bursts = takes.bursts }
+
+arrivals_append : (lost : List ℕ) (frame : ℕ) (xs ys : List Flight) → arrivals lost frame (xs ++ ys) ≡ arrivals lost frame xs ++ arrivals lost frame ys
+arrivals_append lost frame xs ys =
+    let kept : Flight → Bool = λ f. is_due frame f && not (is_lost lost f.number) in
+    let input : Flight → FibreInput = λ f. Whole (steps.Arrive f.number) in
+    ap (map input) (filter-append kept xs ys) ∙ map-append input (filter kept xs) (filter kept ys)
+
+pub puts_more : (a b c : FibreWorld) (lost : List ℕ) (frame place : ℕ) (flights : List Flight) (flight : Flight) (before mid after : List Entry)
+    → slice_get flights place ≡ Some flight
+    → PortPuts a (arrivals lost frame (take place flights)) before mid b → PortPuts b (arrivals lost frame (flight ∷ [])) mid after c
+    → PortPuts a (arrivals lost frame (take (place + 1) flights)) before after c
+puts_more a b c lost frame place flights flight before mid after there x y =
+    let low = slice_get_within flights place flight there in
+    let next : take (place + 1) flights ≡ take place flights ++ flight ∷ [] =
+    take_more flights place flight low ∙ ap (λ (f : Flight). take place flights ++ f ∷ []) (get_or_from_slice_get flights place flight flight there) in
+    subst (λ (is : List FibreInput). PortPuts a is before after c)
+    (sym (ap (arrivals lost frame) next ∙ arrivals_append lost frame (take place flights) (flight ∷ [])))
+    (puts_both a b c (arrivals lost frame (take place flights)) (arrivals lost frame (flight ∷ [])) before mid after x y)
+
+-- a burst that comes, and is not lost
+pub arrives_one : (lost : List ℕ) (frame : ℕ) (flight : Flight) → is_due frame flight ≡ true → is_lost lost flight.number ≡ false
+    → arrivals lost frame (flight ∷ []) ≡ Whole (steps.Arrive flight.number) ∷ []
+arrives_one lost frame flight due kept =
+    let test : is_due frame flight && not (is_lost lost flight.number) ≡ true = ap (λ b. b && not (is_lost lost flight.number)) due ∙ ap not kept in
+    let input : Flight → FibreInput = λ f. Whole (steps.Arrive f.number) in
+    ap (λ b. map input (cond b (flight ∷ []) [])) test
+
+-- what the loop over the bursts to come keeps
+pub record ArrivesSoFar (old new : FibreStand) (before after : Vec Entry Global) (lost : List ℕ) (frame : ℕ) (flights : List Flight) (place : ℕ) : Type 0 where
+  pub puts : PortPuts old.world (arrivals lost frame (take place flights)) before.items after.items new.world
+  pub total : new.total ≡ old.total
+  pub frames : new.frames ≡ old.frames
+  pub copies : old.copies_room ≤ new.copies_room + place
+  pub grants : old.grants_room ≤ new.grants_room + place
+  pub len : vec_len after ≤ vec_len before + place
+  pub capacity : vec_capacity after ≡ vec_capacity before
+  pub proper : All IsProperEntry after.items
+
+-- an entry that is proper was put behind others that are
+pub proper_push : (before after : List Entry) (entry : Entry) → after ≡ before ++ entry ∷ [] → All IsProperEntry before → IsProperEntry entry → All IsProperEntry after
+proper_push before after entry is them it =
+    All-same IsProperEntry after (before ++ entry ∷ []) is (All-append IsProperEntry before (entry ∷ []) them (All-cons IsProperEntry entry [] it (All-nil IsProperEntry)))

@@ -1,0 +1,166 @@
+-- A frame of a run, put together from its parts, and runs of many frames.
+use Rattle.std.proofs.Common.{◌≡◌, ℕ, zero, suc, ◌+◌, ◌-◌, ◌*◌, ◌/◌, ◌<◌, ◌≤◌, Bool, true, false, cond, List, [], ◌∷◌, ◌++◌, length, drop, Option, None, Some, refl, sym, ap, subst, ◌∙◌, arith, append_assoc}
+use Rattle.std.specs.Prelude.{All, not}
+use Rattle.std.proofs.lemmas.List.{append-nil, length-append, length-drop}
+use Rattle.std.proofs.lemmas.List.FromFn.{length-map-range_with_len}
+use Rattle.std.proofs.lemmas.List.Elements.{All-nil, All-cons, All-append, All-weaker, All-filter, All-same}
+use Rattle.gp_ploam.specs.declared.message.Down.{Down}
+use Rattle.gp_ranging.specs.declared.grant.Grant.{Grant}
+use Rattle.gp_machine.specs.declared.entry.Entry.{Entry}
+use Rattle.gp_machine.specs.declared.event.Event.TheVariants as event
+use Rattle.gp_fibre.specs.declared.fault.WorldFault.{WorldFault}
+use Rattle.gp_fibre.specs.declared.flight.Flight.{Flight}
+use Rattle.gp_fibre.specs.declared.sent_burst.SentBurst.{SentBurst}
+use Rattle.gp_fibre.specs.declared.world_step.WorldStep.TheVariants as steps
+use Rattle.gp_fibre.specs.World.{FibreUnit, FibreWorld}
+use Rattle.gp_fibre.specs.Step.{FibreInput, Whole, PortTakes, world_after_frame}
+use Rattle.gp_fibre.specs.Parts.{Asks, PortPuts, UnitsTake}
+use Rattle.gp_fibre.specs.Schedule.{WorldState, FrameRuns, FramesRun, PutsFrame, IsRunFault, StopsShort, arrivals, deliveries, flights_of, flights_after, inputs_of_copy, inputs_of_grant, is_due, is_lost}
+use Rattle.gp_fibre.proofs.Parts.{takes_both}
+
+-- ---- what a port asks
+
+pub asked : (lost : List ℕ) (old sent mid new : FibreWorld) (copy grant : ℕ) (entry : Entry) (before after : List Entry) → PortTakes old event.Frame entry sent → copy ≡ length old.copies
+    → grant ≡ length old.grants
+    → UnitsTake sent (inputs_of_copy lost copy (length sent.units) entry.answer.sent) mid → UnitsTake mid (inputs_of_grant grant (length mid.units) entry.answer.grant) new
+    → after ≡ before ++ entry ∷ [] → Asks lost old before after new
+asked lost old sent mid new copy grant entry before after port is_copy is_grant first second is =
+    let units : length sent.units ≡ length old.units = ap (λ (us : List FibreUnit). length us) port.units in
+    let copied : inputs_of_copy lost copy (length sent.units) entry.answer.sent ≡ inputs_of_copy lost (length old.copies) (length old.units) entry.answer.sent =
+    ap (λ (n : ℕ). inputs_of_copy lost n (length sent.units) entry.answer.sent) is_copy ∙ ap (λ (n : ℕ). inputs_of_copy lost (length old.copies) n entry.answer.sent) units in
+    let granted : inputs_of_grant grant (length mid.units) entry.answer.grant ≡ inputs_of_grant (length old.grants) (length old.units) entry.answer.grant =
+    ap (λ (n : ℕ). inputs_of_grant n (length mid.units) entry.answer.grant) is_grant ∙ ap (λ (n : ℕ). inputs_of_grant (length old.grants) n entry.answer.grant) (first.many ∙ units) in
+    record {
+      entry = entry;
+      sent = sent;
+      port = port;
+      reaches = takes_both sent mid new (inputs_of_copy lost (length old.copies) (length old.units) entry.answer.sent) (inputs_of_grant (length old.grants) (length old.units) entry.answer.grant)
+          (subst (λ (is : List FibreInput). UnitsTake sent is mid) copied first) (subst (λ (is : List FibreInput). UnitsTake mid is new) granted second);
+      after_is = is;
+    }
+
+few_copies : (lost : List ℕ) (copy units : ℕ) (sent : Option Down) → length (inputs_of_copy lost copy units sent) ≤ units
+few_copies lost copy units None = omega arith
+few_copies lost copy units (Some m) = by_test (is_lost lost copy)
+  where
+    by_test : (b : Bool) → length (cond b [] (deliveries copy units)) ≤ units
+    by_test true = omega arith
+    by_test false = let many = length-map-range_with_len (λ unit. Whole (steps.Deliver copy unit)) 0 units in omega arith
+
+few_grants : (grant units : ℕ) (issued : Option Grant) → length (inputs_of_grant grant units issued) ≤ units
+few_grants grant units None = omega arith
+few_grants grant units (Some g) = let many = length-map-range_with_len (λ unit. Whole (steps.Give grant unit)) 0 units in omega arith
+
+pub asks_bursts : (lost : List ℕ) (old : FibreWorld) (before after : List Entry) (new : FibreWorld) → Asks lost old before after new
+    → (length old.bursts ≤ length new.bursts) × (length new.bursts ≤ length old.bursts + 2 * length old.units)
+asks_bursts lost old before after new asks =
+    let copied = inputs_of_copy lost (length old.copies) (length old.units) asks.entry.answer.sent in
+    let granted = inputs_of_grant (length old.grants) (length old.units) asks.entry.answer.grant in
+    let same : length asks.sent.bursts ≡ length old.bursts = ap (λ (bs : List SentBurst). length bs) asks.port.bursts in
+    let few = few_copies lost (length old.copies) (length old.units) asks.entry.answer.sent in
+    let more = few_grants (length old.grants) (length old.units) asks.entry.answer.grant in
+    let both = length-append copied granted in
+    let least = asks.reaches.more in
+    let most = asks.reaches.most in
+    (omega arith, omega arith)
+
+-- ---- bursts that will come
+
+length-flights_of : (frame number : ℕ) (bs : List SentBurst) → length (flights_of frame number bs) ≡ length bs
+length-flights_of frame number [] = refl
+length-flights_of frame number (b ∷ bs) = ap suc (length-flights_of frame (number + 1) bs)
+
+pub answered_length : (frame from : ℕ) (flights after : List Flight) (bs : List SentBurst) → after ≡ flights ++ flights_of frame from (drop from bs)
+    → length after ≡ length flights + (length bs - from)
+answered_length frame from flights after bs is =
+    ap (λ (fs : List Flight). length fs) is
+    ∙ length-append flights (flights_of frame from (drop from bs))
+    ∙ ap (λ (n : ℕ). length flights + n) (length-flights_of frame from (drop from bs) ∙ length-drop from bs)
+
+abbrev pub AreBelow : ℕ → List Flight → Type 0
+AreBelow bound flights = All (λ (f : Flight). f.number < bound) flights
+
+numbers_of : (frame from bound : ℕ) (bs : List SentBurst) → from + length bs ≤ bound → AreBelow bound (flights_of frame from bs)
+numbers_of frame from bound [] low = All-nil (λ (f : Flight). f.number < bound)
+numbers_of frame from bound (b ∷ bs) low =
+    All-cons (λ (f : Flight). f.number < bound) (record { number = from; due = frame + b.at / 155520 }) (flights_of frame (from + 1) bs) (omega arith)
+    (numbers_of frame (from + 1) bound bs (omega arith))
+
+pub answered_below : (frame from : ℕ) (flights after : List Flight) (bs : List SentBurst) → from ≤ length bs → AreBelow from flights → after ≡ flights ++ flights_of frame from (drop from bs)
+    → AreBelow (length bs) after
+answered_below frame from flights after bs low below is =
+    let long = length-drop from bs in
+    All-same (λ (f : Flight). f.number < length bs) after (flights ++ flights_of frame from (drop from bs)) is
+    (All-append (λ (f : Flight). f.number < length bs) flights (flights_of frame from (drop from bs))
+    (All-weaker (λ (f : Flight). f.number < from) (λ (f : Flight). f.number < length bs) (λ f h. omega arith) flights below)
+    (numbers_of frame from (length bs) (drop from bs) (omega arith)))
+
+pub left_below : (bound frame : ℕ) (flights after : List Flight) → AreBelow bound flights → after ≡ flights_after frame flights → AreBelow bound after
+left_below bound frame flights after below is =
+    All-same (λ (f : Flight). f.number < bound) after (flights_after frame flights) is
+    (All-filter (λ f. not (is_due frame f)) (λ (f : Flight). f.number < bound) flights below)
+
+-- ---- a frame
+
+pub played : (lost_copies lost_bursts : List ℕ) (old new : WorldState) (before mid after : List Entry) (answered arrived : FibreWorld) (flights : List Flight)
+    → Asks lost_copies old.fibre before mid answered
+    → flights ≡ old.flights ++ flights_of old.frames (length old.fibre.bursts) (drop (length old.fibre.bursts) answered.bursts)
+    → PortPuts answered (arrivals lost_bursts old.frames flights) mid after arrived
+    → new.fibre ≡ world_after_frame arrived → new.licences ≡ old.licences → new.frames ≡ old.frames + 1 → new.flights ≡ flights_after old.frames flights
+    → PutsFrame lost_copies lost_bursts old before after new
+played lost_copies lost_bursts old new before mid after answered arrived flights asks in_flight puts ends licences frames left =
+    record {
+      more = asks.entry ∷ puts.more;
+      runs = record {
+        entry = asks.entry;
+        more = puts.more;
+        sent = asks.sent;
+        answered = answered;
+        arrived = arrived;
+        port = (asks.entry, refl, asks.port);
+        reaches = asks.reaches.run;
+        flights = flights;
+        in_flight = in_flight;
+        arrives = puts.run;
+        entries_are = refl;
+        ends = ends;
+        licences = licences;
+        frames = frames;
+        left = left;
+      };
+      after_is = puts.after_is ∙ ap (λ (es : List Entry). es ++ puts.more) asks.after_is ∙ append_assoc before (asks.entry ∷ []) puts.more;
+    }
+
+-- ---- many frames
+
+frames_push : (lc lb : List ℕ) (count : ℕ) (a b c : WorldState) (es more : List Entry) → FramesRun lc lb count a es b → FrameRuns lc lb b more c → FramesRun lc lb (suc count) a (es ++ more) c
+frames_push lc lb zero a b c es more run frame =
+    let none : es ≡ [] = run.1 in
+    subst (λ (xs : List Entry). FramesRun lc lb 1 a (xs ++ more) c) (sym none)
+    (c, more, [], subst (λ (w : WorldState). FrameRuns lc lb w more c) run.0 frame, (refl, refl), sym (append-nil more))
+frames_push lc lb (suc count) a b c es more run frame = (
+  run.0,
+  run.1,
+  run.2 ++ more,
+  run.3,
+  frames_push lc lb count run.0 b c run.2 more run.4 frame,
+  ap (λ (xs : List Entry). xs ++ more) run.5 ∙ append_assoc run.1 run.2 more,
+)
+
+pub frames_more : (lc lb : List ℕ) (count : ℕ) (a b c : WorldState) (before after : List Entry) → FramesRun lc lb count a before b → PutsFrame lc lb b before after c
+    → FramesRun lc lb (count + 1) a after c
+frames_more lc lb count a b c before after run puts =
+    let next : suc count ≡ count + 1 = omega arith in
+    subst (λ (n : ℕ). FramesRun lc lb n a after c) next
+    (subst (λ (xs : List Entry). FramesRun lc lb (suc count) a xs c) (sym puts.after_is) (frames_push lc lb count a b c before puts.more run puts.runs))
+
+pub stops : (lc lb : List ℕ) (frames count : ℕ) (a b c : WorldState) (entries : List Entry) (fault : WorldFault) → count < frames → FramesRun lc lb count a entries b → c ≡ b → IsRunFault b fault
+    → StopsShort lc lb frames a fault c
+stops lc lb frames count a b c entries fault fewer run same why =
+    record {
+      count = count;
+      entries = entries;
+      fewer = fewer;
+      run = subst (λ (w : WorldState). FramesRun lc lb count a entries w) (sym same) run;
+      why = subst (λ (w : WorldState). IsRunFault w fault) (sym same) why;
+    }

@@ -1,0 +1,11 @@
+pub use Rattle.gp_machine.specs.State
+pub mod World
+pub mod Step
+pub mod Run
+pub mod Told
+pub mod Laws
+pub mod UnitStore
+pub mod Fibre
+pub mod Flights
+pub mod Schedule
+pub mod Parts

@@ -1,0 +1,65 @@
+-- What the units of a world stand for (this profile's own rule): a unit is brought up to date only where something other
+-- than a frame happens to it, and in the frame that ends its state.
+use Rattle.std.specs.Prelude.{◌≡◌, ℕ, ◌+◌, ◌-◌, ◌≤◌, List, Option, None, Some, All, length, map, slice_get}
+use Rattle.std.specs.Option.{ForSome, option_map}
+use Rattle.std.specs.FinMap.{get, insert, remove}
+use Rattle.gp_ploam.specs.declared.check.Mask.{Mask}
+use Rattle.gp_ranging.specs.declared.grant.Grant.{Grant}
+use Rattle.gp_onu.specs.Frames.{frames_left, unit_after_frames}
+use Rattle.gp_timers.specs.Timers.{Timers}
+use Rattle.gp_fibre.specs.declared.sent_burst.SentBurst.{SentBurst}
+use Rattle.gp_fibre.specs.declared.stored_unit.StoredUnit.{StoredUnit}
+use Rattle.gp_fibre.specs.World.{FibreUnit}
+use Rattle.gp_fibre.specs.Step.{ChangesAt, unit_granted, burst_answered}
+
+-- what contracts see: the units, and how many frames they have had
+pub record UnitStoreState : Type 0 where
+  pub units : List FibreUnit
+  pub frames : ℕ
+
+-- of these units the one at this place takes a grant, and answers so
+pub record Answers (old : List FibreUnit) (place : ℕ) (grant : Grant) (answer : Option SentBurst) (new : List FibreUnit) : Type 0 where
+  pub units : ChangesAt old place (unit_granted grant) new
+  pub answered : answer ≡ burst_answered grant units.unit
+
+-- ---- the representation
+
+-- the unit that a stored unit stands for after so many frames: it has had those since it was brought up to date
+abbrev pub unit_at : ℕ → StoredUnit → FibreUnit
+unit_at frames stored = record { state = unit_after_frames (frames - stored.brought) stored.unit; delay = stored.delay; random = stored.random }
+
+-- the units that the stored units stand for
+abbrev pub units_at : ℕ → List StoredUnit → List FibreUnit
+units_at frames stored_units = map (unit_at frames) stored_units
+
+-- after how many frames the unit's state ends, if nothing else happens
+abbrev pub due_of : StoredUnit → Option ℕ
+due_of stored = option_map (λ left. stored.brought + left) (frames_left stored.unit)
+
+-- of the stored unit at a place, if there is one
+abbrev pub due_at : List StoredUnit → ℕ → Option ℕ
+due_at stored_units place = from (slice_get stored_units place) where
+  from : Option StoredUnit → Option ℕ
+  from None = None
+  from (Some stored) = due_of stored
+
+-- the timers with this one set or not set
+abbrev pub with_timer : Timers → ℕ → Option ℕ → Timers
+with_timer timers name None = record timers { frames = remove timers.frames name }
+with_timer timers name (Some due) = record timers { frames = insert timers.frames name due }
+
+-- what is true of a stored unit after so many frames: its unit reads under this mask, its random delay has twelve bits, it was
+-- brought up to date, and its state ends only after this many frames
+pub record IsStoredUnit (mask : Mask) (frames least : ℕ) (stored : StoredUnit) : Type 0 where
+  pub mask_is : stored.unit.mask ≡ mask
+  pub random : stored.random ≤ 4095
+  pub brought : stored.brought ≤ frames
+  pub ahead : ForSome (due_of stored) (λ due. least ≤ due)
+
+-- what is true of the stored units and their timers: each stored unit has a timer for the frame that ends its unit's state
+pub record IsUnitStore (mask : Mask) (frames least : ℕ) (stored_units : List StoredUnit) (timers : Timers) : Type 0 where
+  pub each : All (IsStoredUnit mask frames least) stored_units
+  pub names : timers.names ≡ length stored_units
+  pub set : (name : ℕ) → get timers.frames name ≡ due_at stored_units name
+  pub few : length stored_units ≤ 1024
+  pub fits : frames ≤ 9223372036854775808

@@ -1,0 +1,265 @@
+ghost use Rattle.std.specs.Prelude.{◌≡◌, ◌+◌, ◌<◌, ◌≤◌, ◌++◌, [], OnOk, length, slice_get, vec_capacity, vec_len};
+ghost use Rattle.std.specs.Option.{ForSome, option_to_list};
+ghost use Rattle.gp_ploam.specs.Down.{IsProperDown};
+ghost use Rattle.gp_machine.specs.State.{rows_of};
+ghost use Rattle.gp_onu.specs.Table.{Dark, Light};
+ghost use Rattle.gp_fibre.specs.Step.{PortTakes, UnitAnswers, UnitChanges, purse_for, unit_hearing, unit_taking, world_after_frame};
+
+use super::sent_burst::SentBurst;
+use super::unit_store::UnitStore;
+use gp_licence::{LicenceBook, Licences};
+use gp_machine::{Entry, Event};
+use gp_ploam::Down;
+use gp_port::PortCore;
+use gp_ranging::Grant;
+use std::alloc::{AllocError, Global};
+use std::marker::Model;
+use std::sync::ledger::Ledger;
+
+/// The port, the book of its licences, the units, and what was sent.
+pub struct Fibre<L: Ledger> {
+    pub(super) core: PortCore<L>,
+    pub(super) book: LicenceBook<L>,
+    pub(super) store: UnitStore,
+    pub(super) copies: Vec<Down>,
+    pub(super) grants: Vec<Grant>,
+    pub(super) bursts: Vec<SentBurst>,
+}
+
+impl<L: Ledger> Model for Fibre<L> {
+    ghost use Rattle.std.specs.Prelude.{◌≡◌, ◌+◌, ◌-◌, All, vec_capacity, vec_len};
+    ghost use Rattle.std.specs.FinMap as map;
+    ghost use Rattle.std.specs.FinSet as set;
+    ghost use Rattle.std.specs.Coded.{codes};
+    ghost use Rattle.gp_ploam.specs.Serials.{serial_cmp, coded_serial};
+    ghost use Rattle.gp_ploam.specs.Down.{IsProperDown};
+    ghost use Rattle.gp_unit.specs.contracts.row.Row as row;
+    ghost use Rattle.gp_machine.specs.State.{rows_of};
+    ghost use Rattle.gp_fibre.specs.Fibre.{FibreStand};
+
+    ghost Value = { FibreStand };
+
+    ghost coded = { Prim.hlevel (codes, map.code {R = serial_cmp} coded_serial row.the_row.coded, set.code {R = serial_cmp} coded_serial) };
+
+    ghost view = { λ f. record {
+      world = record { port = f.core; free = f.book.free; units = f.store.units; copies = f.copies.items; grants = f.grants.items; bursts = f.bursts.items };
+      total = f.book.total;
+      frames = f.store.frames;
+      copies_room = vec_capacity f.copies - vec_len f.copies;
+      grants_room = vec_capacity f.grants - vec_len f.grants;
+      bursts_room = vec_capacity f.bursts - vec_len f.bursts;
+    } };
+
+    ghost invariant = { λ f. All IsProperDown f.copies.items × (f.book.free + rows_of f.core ≡ f.book.total) };
+}
+
+impl<L: Ledger> Fibre<L> {
+    /// Begins with this port, this book of licences and these units. Nothing was sent.
+    pub fn new(alloc: Global, core: PortCore<L>, book: LicenceBook<L>, store: UnitStore) -> Fibre<L>
+        requires { book.free + rows_of core ≡ book.total }
+        ensures port { result.world.port ≡ core }
+        ensures free { result.world.free ≡ book.free }
+        ensures units { result.world.units ≡ store.units }
+        ensures nothing { (result.world.copies ≡ []) × (result.world.grants ≡ []) × (result.world.bursts ≡ []) }
+        ensures total { result.total ≡ book.total }
+        ensures frames { result.frames ≡ store.frames }
+    {
+        Fibre {
+            core,
+            book,
+            store,
+            copies: Vec::new(alloc),
+            grants: Vec::new(alloc),
+            bursts: Vec::new(alloc),
+        }
+    }
+
+    /// Makes room for what so many events of the port may send and grant, and for so many bursts. It fails only where there
+    /// is no memory.
+    pub fn reserve(&mut self, events: usize, bursts: usize) -> Result<(), AllocError>
+        ensures world { self.new.world ≡ self.old.world }
+        ensures total { self.new.total ≡ self.old.total }
+        ensures frames { self.new.frames ≡ self.old.frames }
+        ensures copies { OnOk result (events ≤ self.new.copies_room) }
+        ensures grants { OnOk result (events ≤ self.new.grants_room) }
+        ensures bursts { OnOk result (bursts ≤ self.new.bursts_room) }
+    {
+        self.copies.reserve(events)?;
+        self.grants.reserve(events)?;
+        self.bursts.reserve(bursts)
+    }
+
+    /// Gives the port an event. A burst takes a licence first, where one is free, and what is left is free again.
+    pub fn take(&mut self, event: Event) -> Entry
+        requires copies { 0 < self.old.copies_room }
+        requires grants { 0 < self.old.grants_room }
+        ensures taken { PortTakes self.old.world event result self.new.world }
+        ensures total { self.new.total ≡ self.old.total }
+        ensures frames { self.new.frames ≡ self.old.frames }
+        ensures proper { ForSome result.answer.sent IsProperDown }
+        ensures copies_room { self.old.copies_room ≤ self.new.copies_room + 1 }
+        ensures grants_room { self.old.grants_room ≤ self.new.grants_room + 1 }
+        ensures bursts { self.new.bursts_room ≡ self.old.bursts_room }
+    {
+        let purse = take_purse(&mut self.book, &event);
+        let purse_in = purse.count();
+        let (answer, rest) = self.core.step(purse, event);
+        let purse_out = rest.count();
+        self.book.give(rest);
+        keep(&mut self.copies, answer.sent);
+        keep(&mut self.grants, answer.grant);
+        Entry {
+            purse_in,
+            event,
+            answer,
+            purse_out,
+        }
+    }
+
+    /// Gives the copy with this number, if it was sent.
+    pub fn copy_at(&self, number: u64) -> Option<Down>
+        ensures value { result ≡ slice_get self.now.world.copies number }
+        ensures proper { ForSome result IsProperDown }
+    {
+        self.copies.get(number as usize).copied()
+    }
+
+    /// Gives the grant with this number, if it was issued.
+    pub fn grant_at(&self, number: u64) -> Option<Grant>
+        ensures { result ≡ slice_get self.now.world.grants number }
+    {
+        self.grants.get(number as usize).copied()
+    }
+
+    /// Gives the burst with this number, if a unit answered with it.
+    pub fn burst_at(&self, number: u64) -> Option<SentBurst>
+        ensures { result ≡ slice_get self.now.world.bursts number }
+    {
+        self.bursts.get(number as usize).copied()
+    }
+
+    /// Tells how many units there are.
+    pub fn units(&self) -> usize
+        ensures value { result ≡ length self.now.world.units }
+        ensures few { result ≤ 1024 }
+    {
+        self.store.len()
+    }
+
+    /// Tells how many copies were sent.
+    pub fn copies(&self) -> u64
+        ensures { result ≡ length self.now.world.copies }
+    {
+        self.copies.len() as u64
+    }
+
+    /// Tells how many grants were issued.
+    pub fn grants(&self) -> u64
+        ensures { result ≡ length self.now.world.grants }
+    {
+        self.grants.len() as u64
+    }
+
+    /// Tells how many bursts the units answered with.
+    pub fn bursts(&self) -> u64
+        ensures { result ≡ length self.now.world.bursts }
+    {
+        self.bursts.len() as u64
+    }
+
+    /// Tells how many frames the units have had.
+    pub fn frames(&self) -> u64
+        ensures value { result ≡ self.now.frames }
+        ensures fits { result ≤ 9223372036854775808 }
+    {
+        self.store.frames()
+    }
+
+    /// Lets a copy of a message reach a unit.
+    pub fn hear(&mut self, place: usize, message: &Down)
+        requires place { place < length self.old.world.units }
+        requires proper { IsProperDown message.now }
+        ensures unit { UnitChanges self.old.world place (unit_hearing message.now) self.new.world }
+        ensures rest { self.new ≡ record self.old { world = self.new.world } }
+    {
+        self.store.hear(place, message);
+    }
+
+    /// Lets light reach a unit.
+    pub fn light(&mut self, place: usize)
+        requires { place < length self.old.world.units }
+        ensures unit { UnitChanges self.old.world place (unit_taking Light) self.new.world }
+        ensures rest { self.new ≡ record self.old { world = self.new.world } }
+    {
+        self.store.light(place);
+    }
+
+    /// Takes the light from a unit.
+    pub fn dark(&mut self, place: usize)
+        requires { place < length self.old.world.units }
+        ensures unit { UnitChanges self.old.world place (unit_taking Dark) self.new.world }
+        ensures rest { self.new ≡ record self.old { world = self.new.world } }
+    {
+        self.store.dark(place);
+    }
+
+    /// Lets a grant reach a unit. Its burst, if it answers with one, is the next.
+    pub fn give(&mut self, place: usize, grant: Grant)
+        requires place { place < length self.old.world.units }
+        requires room { 0 < self.old.bursts_room }
+        ensures unit { UnitAnswers self.old.world place grant self.new.world }
+        ensures rest { self.new ≡ record self.old { world = self.new.world; bursts_room = self.new.bursts_room } }
+        ensures room { self.old.bursts_room ≤ self.new.bursts_room + 1 }
+    {
+        let answer = self.store.grant(place, grant);
+        keep(&mut self.bursts, answer);
+    }
+
+    /// Ends a frame of each unit.
+    pub fn end_frame(&mut self)
+        requires { self.old.frames < 9223372036854775808 }
+        ensures { self.new ≡ record self.old { world = world_after_frame self.old.world; frames = self.old.frames + 1 } }
+    {
+        self.store.frame();
+    }
+
+    /// Ends it, and says how many licences it has in all.
+    pub fn close(self) -> u32
+        ensures { result ≡ self.total }
+    {
+        let Fibre {
+            core,
+            book,
+            store: _,
+            copies: _,
+            grants: _,
+            bursts: _,
+        } = self;
+        book.close(core.close())
+    }
+}
+
+/// Takes the licences for an event: one for a burst, where one is free.
+fn take_purse<L: Ledger>(book: &mut LicenceBook<L>, event: &Event) -> Licences<L>
+    ensures purse { result ≡ purse_for event.now book.old.free }
+    ensures free { book.new.free + result ≡ book.old.free }
+    ensures total { book.new.total ≡ book.old.total }
+{
+    match event {
+        Event::Burst { .. } => book.take(),
+        Event::Frame | Event::Command(_) => Licences::none(),
+    }
+}
+
+/// Puts an item, if there is one, at the end of a list that has room for it.
+fn keep<T>(kept: &mut Vec<T>, item: Option<T>)
+    requires { vec_len kept.old < vec_capacity kept.old }
+    ensures items { kept.new.items ≡ kept.old.items ++ option_to_list item }
+    ensures capacity { vec_capacity kept.new ≡ vec_capacity kept.old }
+    ensures len { vec_len kept.new ≤ vec_len kept.old + 1 }
+{
+    match item {
+        Some(item) => kept.push_reserved(item),
+        None => {}
+    }
+}

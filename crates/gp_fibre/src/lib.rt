@@ -1,0 +1,41 @@
+//! A fibre: one port, its licences, and the simulated units that it reaches. Copies, grants and bursts reach them in any
+//! order, late, twice or never.
+//!
+//! - `world.rt`: `World`, with its steps (`world_step.rt`), its faults (`fault.rt`) and what it begins with (`unit_plan.rt`).
+//! - `running.rt`: the parts of a frame of `World::run`, which may lose copies and bursts (`loss_plan.rt`).
+//! - `fibre.rt`: the port, the book of its licences, the units, and all that was sent (`sent_burst.rt`).
+//! - `unit_store.rt`, `stored_unit.rt`: the units, each brought up to date only where it has to be.
+//! - `flights.rt`, `flight.rt`: the bursts that are to come in a run.
+//! - `laws.rt`: what holds of every run: the messages that each unit was sent, and with which one it loses its ONU-ID.
+//!
+//! Where to make which change: what a step may do stands in `specs/Step.antt`, the order of a frame of a run in
+//! `specs/Schedule.antt`, what a world begins with in `specs/World.antt`; another representation of the units, in
+//! `unit_store.rt` and `specs/UnitStore.antt`.
+#![tactic(auto)]
+
+mod fault;
+mod fibre;
+mod flight;
+mod flights;
+mod laws;
+mod loss_plan;
+mod running;
+mod sent_burst;
+mod stored_unit;
+#[cfg(test)]
+mod tests;
+mod unit_plan;
+mod unit_store;
+mod world;
+mod world_step;
+
+pub use fault::WorldFault;
+pub use laws::{
+    assigned_units_stay_or_are_told, frames_are_runs, frames_run_in_parts, keeps_licences,
+    lost_units_are_told, port_runs, runs_in_parts, units_are_told,
+};
+pub use loss_plan::LossPlan;
+pub use sent_burst::SentBurst;
+pub use unit_plan::UnitPlan;
+pub use world::{MAX_DELAY, MAX_RANDOM_DELAY, MAX_WORLD_UNITS, World};
+pub use world_step::WorldStep;

@@ -1,0 +1,6 @@
+/// The numbers of the copies and bursts that a run loses. A number may stand twice, or never come.
+#[derive(Debug, Drop)]
+pub struct LossPlan {
+    pub copies: Vec<u64>,
+    pub bursts: Vec<u64>,
+}

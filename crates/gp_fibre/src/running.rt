@@ -1,0 +1,208 @@
+//! The parts of a frame of `World::run`, in their order: the port's frame, the copy, the grant, the bursts that come, and the
+//! frame of each unit.
+ghost use Rattle.std.specs.Prelude.{◌≡◌, ◌+◌, ◌-◌, ◌*◌, ◌<◌, ◌≤◌, ◌++◌, ◌∷◌, [], All, Some, drop, length, slice_get, vec_capacity, vec_len};
+ghost use Rattle.std.specs.Option.{ForSome};
+ghost use Rattle.gp_ploam.specs.Down.{IsProperDown};
+ghost use Rattle.gp_fibre.specs.Parts.{Asks, PortPuts, UnitsTake, events_of, world_state};
+ghost use Rattle.gp_fibre.specs.Schedule.{IsProperEntry};
+ghost use Rattle.gp_fibre.specs.Schedule as spec;
+
+use super::fibre::Fibre;
+use super::flight::Flight;
+use super::flights::Flights;
+use super::loss_plan::LossPlan;
+use super::sent_burst::SentBurst;
+use gp_machine::{Entry, Event};
+use gp_ploam::Down;
+use gp_ranging::Grant;
+use std::sync::ledger::Ledger;
+
+/// How many bit times a frame has: 125 microseconds at 1.24416 Gbit/s upstream (G.984.3, clause 8).
+const FRAME_BIT_TIMES: u32 = 155_520;
+
+/// Tells whether a number is one of those that are lost.
+fn is_lost(lost: &[u64], number: u64) -> bool
+    ensures { result ≡ spec.is_lost lost.now number }
+{
+    lost.iter().any(|other| *other == number)
+}
+
+/// Lets a copy reach each unit, one after the other.
+fn deliver_all<L: Ledger>(fibre: &mut Fibre<L>, copy: u64, message: &Down)
+    requires sent { slice_get fibre.old.world.copies copy ≡ Some message.now }
+    requires proper { IsProperDown message.now }
+    ensures taken { UnitsTake fibre.old.world (spec.deliveries copy (length fibre.old.world.units)) fibre.new.world }
+    ensures rest { fibre.new ≡ record fibre.old { world = fibre.new.world } }
+{
+    for place in 0..fibre.units() {
+        fibre.hear(place, message);
+    }
+}
+
+/// Lets a grant reach each unit, one after the other.
+fn give_all<L: Ledger>(fibre: &mut Fibre<L>, grant: u64, issued: Grant)
+    requires issued { slice_get fibre.old.world.grants grant ≡ Some issued }
+    requires room { length fibre.old.world.units ≤ fibre.old.bursts_room }
+    ensures taken { UnitsTake fibre.old.world (spec.grants_given grant (length fibre.old.world.units)) fibre.new.world }
+    ensures rest { fibre.new ≡ record fibre.old { world = fibre.new.world; bursts_room = fibre.new.bursts_room } }
+{
+    for place in 0..fibre.units() {
+        fibre.give(place, issued);
+    }
+}
+
+/// Lets the copy that was sent with this number, if one was, and is not lost, reach each unit.
+pub(super) fn pass_on<L: Ledger>(fibre: &mut Fibre<L>, copy: u64, sent: Option<Down>, lost: &[u64])
+    requires sent { ForSome sent (λ message. slice_get fibre.old.world.copies copy ≡ Some message) }
+    requires proper { ForSome sent IsProperDown }
+    ensures taken { UnitsTake fibre.old.world (spec.inputs_of_copy lost.now copy (length fibre.old.world.units) sent) fibre.new.world }
+    ensures rest { fibre.new ≡ record fibre.old { world = fibre.new.world } }
+{
+    let Some(message) = sent else {
+        return;
+    };
+    if is_lost(lost, copy) {
+        return;
+    }
+    deliver_all(fibre, copy, &message);
+}
+
+/// Lets the grant that was issued with this number, if one was, reach each unit.
+pub(super) fn give_on<L: Ledger>(fibre: &mut Fibre<L>, grant: u64, issued: Option<Grant>)
+    requires issued { ForSome issued (λ asked. slice_get fibre.old.world.grants grant ≡ Some asked) }
+    requires room { length fibre.old.world.units ≤ fibre.old.bursts_room }
+    ensures taken { UnitsTake fibre.old.world (spec.inputs_of_grant grant (length fibre.old.world.units) issued) fibre.new.world }
+    ensures rest { fibre.new ≡ record fibre.old { world = fibre.new.world; bursts_room = fibre.new.bursts_room } }
+{
+    let Some(issued) = issued else {
+        return;
+    };
+    give_all(fibre, grant, issued);
+}
+
+/// Adds the bursts from this number on, which were answered in this frame, to those that are to come.
+pub(super) fn add_answers<L: Ledger>(flights: &mut Flights, fibre: &Fibre<L>, from: u64, frame: u64)
+    requires from { from ≤ length fibre.now.world.bursts }
+    requires room { length fibre.now.world.bursts - from ≤ flights.old.room }
+    requires frame { frame < 9223372036854775808 }
+    ensures { flights.new.flights ≡ flights.old.flights ++ spec.flights_of frame from (drop from fibre.now.world.bursts) }
+{
+    for number in from..fibre.bursts() {
+        let Some(burst) = fibre.burst_at(number) else {
+            unreachable!()
+        };
+        let due = frame + u64::from(burst.at / FRAME_BIT_TIMES);
+        flights.add(Flight { number, due });
+    }
+}
+
+/// Gives the port the bursts that come in this frame, but for those that are lost.
+pub(super) fn arrive_all<L: Ledger>(
+    fibre: &mut Fibre<L>,
+    flights: &Flights,
+    entries: &mut Vec<Entry>,
+    lost: &[u64],
+    frame: u64,
+)
+    requires copies { length flights.now.flights ≤ fibre.old.copies_room }
+    requires grants { length flights.now.flights ≤ fibre.old.grants_room }
+    requires entries { vec_len entries.old + length flights.now.flights ≤ vec_capacity entries.old }
+    requires numbers { All (λ f. f.number < length fibre.old.world.bursts) flights.now.flights }
+    requires proper { All IsProperEntry entries.old.items }
+    ensures puts { PortPuts fibre.old.world (spec.arrivals lost.now frame flights.now.flights) entries.old.items entries.new.items fibre.new.world }
+    ensures total { fibre.new.total ≡ fibre.old.total }
+    ensures frames { fibre.new.frames ≡ fibre.old.frames }
+    ensures proper { All IsProperEntry entries.new.items }
+{
+    for place in 0..flights.len() {
+        let Some(flight) = flights.at(place) else {
+            unreachable!()
+        };
+        arrive(fibre, flight, entries, lost, frame);
+    }
+}
+
+/// Gives the port a burst, if it comes in this frame and is not lost.
+fn arrive<L: Ledger>(
+    fibre: &mut Fibre<L>,
+    flight: Flight,
+    entries: &mut Vec<Entry>,
+    lost: &[u64],
+    frame: u64,
+)
+    requires copies { 0 < fibre.old.copies_room }
+    requires grants { 0 < fibre.old.grants_room }
+    requires entries { vec_len entries.old < vec_capacity entries.old }
+    requires number { flight.number < length fibre.old.world.bursts }
+    requires proper { All IsProperEntry entries.old.items }
+    ensures puts { PortPuts fibre.old.world (spec.arrivals lost.now frame (flight ∷ [])) entries.old.items entries.new.items fibre.new.world }
+    ensures total { fibre.new.total ≡ fibre.old.total }
+    ensures frames { fibre.new.frames ≡ fibre.old.frames }
+    ensures copies_room { fibre.old.copies_room ≤ fibre.new.copies_room + 1 }
+    ensures grants_room { fibre.old.grants_room ≤ fibre.new.grants_room + 1 }
+    ensures entries_room { vec_len entries.new ≤ vec_len entries.old + 1 }
+    ensures entries_capacity { vec_capacity entries.new ≡ vec_capacity entries.old }
+    ensures proper { All IsProperEntry entries.new.items }
+{
+    if !flight.is_due(frame) || is_lost(lost, flight.number) {
+        return;
+    }
+    let Some(burst) = fibre.burst_at(flight.number) else {
+        unreachable!()
+    };
+    let SentBurst { at, bytes } = burst;
+    entries.push_reserved(fibre.take(Event::Burst { at, bytes }));
+}
+
+/// Makes the port's part of a frame, and what follows from what it sends and grants.
+fn ask<L: Ledger>(fibre: &mut Fibre<L>, entries: &mut Vec<Entry>, lost: &[u64])
+    requires copies { 0 < fibre.old.copies_room }
+    requires grants { 0 < fibre.old.grants_room }
+    requires bursts { length fibre.old.world.units ≤ fibre.old.bursts_room }
+    requires entries { vec_len entries.old < vec_capacity entries.old }
+    requires proper { All IsProperEntry entries.old.items }
+    ensures asks { Asks lost.now fibre.old.world entries.old.items entries.new.items fibre.new.world }
+    ensures total { fibre.new.total ≡ fibre.old.total }
+    ensures frames { fibre.new.frames ≡ fibre.old.frames }
+    ensures copies_room { fibre.old.copies_room ≤ fibre.new.copies_room + 1 }
+    ensures grants_room { fibre.old.grants_room ≤ fibre.new.grants_room + 1 }
+    ensures entries_room { vec_len entries.new ≡ vec_len entries.old + 1 }
+    ensures entries_capacity { vec_capacity entries.new ≡ vec_capacity entries.old }
+    ensures proper { All IsProperEntry entries.new.items }
+{
+    let copy = fibre.copies();
+    let grant = fibre.grants();
+    let entry = fibre.take(Event::Frame);
+    let answer = entry.answer;
+    entries.push_reserved(entry);
+    pass_on(fibre, copy, answer.sent, lost);
+    give_on(fibre, grant, answer.grant);
+}
+
+/// Plays a frame of a run, for which all room was made.
+pub(super) fn play_frame<L: Ledger>(
+    fibre: &mut Fibre<L>,
+    flights: &mut Flights,
+    entries: &mut Vec<Entry>,
+    loss: &LossPlan,
+)
+    requires frames { fibre.old.frames < 9223372036854775808 }
+    requires numbers { All (λ f. f.number < length fibre.old.world.bursts) flights.old.flights }
+    requires copies { events_of fibre.old flights.old ≤ fibre.old.copies_room }
+    requires grants { events_of fibre.old flights.old ≤ fibre.old.grants_room }
+    requires bursts { length fibre.old.world.units ≤ fibre.old.bursts_room }
+    requires flights { 2 * length fibre.old.world.units ≤ flights.old.room }
+    requires entries { vec_len entries.old + events_of fibre.old flights.old ≤ vec_capacity entries.old }
+    requires proper { All IsProperEntry entries.old.items }
+    ensures puts { spec.PutsFrame loss.now.copies.items loss.now.bursts.items (world_state fibre.old flights.old) entries.old.items entries.new.items (world_state fibre.new flights.new) }
+    ensures numbers { All (λ f. f.number < length fibre.new.world.bursts) flights.new.flights }
+    ensures proper { All IsProperEntry entries.new.items }
+{
+    let frame = fibre.frames();
+    let from = fibre.bursts();
+    ask(fibre, entries, &loss.copies);
+    add_answers(flights, fibre, from, frame);
+    arrive_all(fibre, flights, entries, &loss.bursts, frame);
+    fibre.end_frame();
+    flights.remove_due(frame);
+}

@@ -1,0 +1,185 @@
+ghost use Rattle.std.specs.Prelude.{◌≡◌, ◌+◌, ◌-◌, ◌<◌, ◌≤◌, All, IfOk, None, Some, length, map};
+ghost use Rattle.std.specs.Option.{ForSome, IfSome, IsSome, option_map};
+ghost use Rattle.gp_ploam.specs.Down.{IsProperDown};
+ghost use Rattle.gp_onu.specs.Frames.{frames_left, unit_after_frames};
+ghost use Rattle.gp_onu.specs.Table.{Dark, Frame, Light};
+ghost use Rattle.gp_fibre.specs.World.{planned_unit};
+ghost use Rattle.gp_fibre.specs.Step.{ChangesAt, burst_with, unit_hearing, unit_taking};
+ghost use Rattle.gp_fibre.specs.UnitStore.{Answers, due_of, unit_at, with_timer};
+
+use super::sent_burst::SentBurst;
+use super::stored_unit::StoredUnit;
+use super::unit_plan::UnitPlan;
+use gp_ploam::{Down, Mask, down_round_trip, encode_down};
+use gp_ranging::Grant;
+use gp_timers::{TimerFault, Wheel};
+use std::alloc::{AllocError, Global};
+use std::marker::Model;
+
+/// The units of a world, by their places. Contracts see them as they are after the frames that they have had.
+///
+/// A unit is brought up to date only where something other than a frame happens to it, and in the frame that ends its state.
+/// So a frame costs nothing but for the units whose states it ends: a wheel has a timer for each unit whose state will end by
+/// itself.
+#[derive(Drop)]
+pub struct UnitStore {
+    mask: Mask,
+    frames: u64,
+    stored_units: Vec<StoredUnit>,
+    timers: Wheel,
+}
+
+impl Model for UnitStore {
+    ghost use Rattle.std.specs.Prelude.{◌+◌};
+    ghost use Rattle.gp_fibre.specs.UnitStore.{UnitStoreState, IsUnitStore, units_at};
+
+    ghost Value = { UnitStoreState };
+
+    ghost view = { λ f. record { units = units_at f.frames f.stored_units.items; frames = f.frames } };
+
+    ghost invariant = { λ f. IsUnitStore f.mask f.frames (f.frames + 1) f.stored_units.items f.timers };
+}
+
+impl UnitStore {
+    /// Begins with the units that are planned, each lit. Their codes have their check octets under `mask`.
+    pub fn begin(alloc: Global, mask: Mask, plans: &[UnitPlan]) -> Result<UnitStore, AllocError>
+        requires few { length plans.now ≤ 1024 }
+        requires random { All (λ plan. plan.random ≤ 4095) plans.now }
+        ensures { IfOk result (λ store. store ≡ record { units = map (planned_unit mask) plans.now; frames = 0 }) }
+    {
+        let mut stored_units = Vec::with_capacity(alloc, plans.len())?;
+        for plan in plans {
+            stored_units.push_reserved(StoredUnit::new(mask, plan));
+        }
+        let timers = match Wheel::begin(alloc, plans.len() as u16) {
+            Ok(timers) => timers,
+            Err(TimerFault::OutOfMemory) => return Err(AllocError),
+        };
+        Ok(UnitStore {
+            mask,
+            frames: 0,
+            stored_units,
+            timers,
+        })
+    }
+
+    /// Tells how many units there are.
+    pub fn len(&self) -> usize
+        ensures value { result ≡ length self.now.units }
+        ensures few { result ≤ 1024 }
+    {
+        self.stored_units.len()
+    }
+
+    /// Tells how many frames they have had.
+    pub fn frames(&self) -> u64
+        ensures value { result ≡ self.now.frames }
+        ensures fits { result ≤ 9223372036854775808 }
+    {
+        self.frames
+    }
+
+    /// Lets a copy of a message reach a unit. One that it surely passes over costs a comparison or two.
+    pub fn hear(&mut self, place: usize, message: &Down)
+        requires place { place < length self.old.units }
+        requires proper { IsProperDown message.now }
+        ensures unit { ChangesAt self.old.units place (unit_hearing message.now) self.new.units }
+        ensures frames { self.new.frames ≡ self.old.frames }
+    {
+        if !self.stored_units[place].unit.may_notice(message) {
+            return;
+        }
+        let code = encode_down(message, self.mask);
+        down_round_trip();
+        let stored = &mut self.stored_units[place];
+        stored.bring(self.frames);
+        stored.unit.hear(&code);
+        let due = stored.due();
+        put_timer(&mut self.timers, place, due);
+    }
+
+    /// Lets light reach a unit.
+    pub fn light(&mut self, place: usize)
+        requires { place < length self.old.units }
+        ensures unit { ChangesAt self.old.units place (unit_taking Light) self.new.units }
+        ensures frames { self.new.frames ≡ self.old.frames }
+    {
+        let stored = &mut self.stored_units[place];
+        stored.bring(self.frames);
+        stored.unit.light();
+        let due = stored.due();
+        put_timer(&mut self.timers, place, due);
+    }
+
+    /// Takes the light from a unit.
+    pub fn dark(&mut self, place: usize)
+        requires { place < length self.old.units }
+        ensures unit { ChangesAt self.old.units place (unit_taking Dark) self.new.units }
+        ensures frames { self.new.frames ≡ self.old.frames }
+    {
+        let stored = &mut self.stored_units[place];
+        stored.bring(self.frames);
+        stored.unit.dark();
+        let due = stored.due();
+        put_timer(&mut self.timers, place, due);
+    }
+
+    /// Lets a grant reach a unit, which may answer with a burst.
+    pub fn grant(&mut self, place: usize, grant: Grant) -> Option<SentBurst>
+        requires { place < length self.old.units }
+        ensures unit { Answers self.old.units place grant result self.new.units }
+        ensures frames { self.new.frames ≡ self.old.frames }
+    {
+        if !self.stored_units[place].unit.may_answer(grant) {
+            return None;
+        }
+        let stored = &mut self.stored_units[place];
+        stored.bring(self.frames);
+        let answer = stored.unit.grant(grant, stored.random);
+        let at = stored.delay;
+        let due = stored.due();
+        put_timer(&mut self.timers, place, due);
+        burst_of(at, answer)
+    }
+
+    /// Ends a frame of each unit.
+    pub fn frame(&mut self)
+        requires { self.old.frames < 9223372036854775808 }
+        ensures units { self.new.units ≡ map (unit_taking Frame) self.old.units }
+        ensures frames { self.new.frames ≡ self.old.frames + 1 }
+    {
+        self.frames += 1;
+        while let Some(name) = self.timers.due(self.frames) {
+            let place = usize::from(name);
+            let stored = &mut self.stored_units[place];
+            stored.pass(self.frames);
+            let due = stored.due();
+            put_timer(&mut self.timers, place, due);
+        }
+    }
+}
+
+/// Makes the burst of a code after this round-trip delay, where there is a code.
+fn burst_of(at: u32, bytes: Option<[u8; 13]>) -> Option<SentBurst>
+    ensures { result ≡ option_map (λ octets. burst_with at octets) bytes }
+{
+    match bytes {
+        Some(bytes) => Some(SentBurst { at, bytes }),
+        None => None,
+    }
+}
+
+/// Sets the timer of a place, or makes sure that it isn't set.
+fn put_timer(timers: &mut Wheel, place: usize, due: Option<u64>)
+    requires place { place < timers.old.names }
+    requires few { place < 1024 }
+    ensures { timers.new ≡ with_timer timers.old place due }
+{
+    let name = place as u16;
+    match due {
+        Some(due) => timers.set(name, due),
+        None => {
+            timers.cancel(name);
+        }
+    }
+}

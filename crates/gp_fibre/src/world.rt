@@ -1,0 +1,306 @@
+ghost use Rattle.std.specs.Prelude.{◌≡◌, ◌+◌, ◌<◌, ◌≤◌, ◌↔◌, Some, None, All, false, IfErr, IfOk, IsErrOf, OnErr, OnOk, length};
+ghost use Rattle.std.specs.List.{list_all};
+ghost use Rattle.std.specs.Option.{ForSome};
+ghost use Rattle.gp_fibre.specs.World as spec;
+ghost use Rattle.gp_fibre.specs.Schedule.{FramesRun, IsFaultOf, IsProperEntry, IsRunFault, PutsFrame, StepsTo, StopsShort, TakesTo, opening_state, step_fault};
+
+use super::fault::WorldFault;
+use super::fibre::Fibre;
+use super::flights::Flights;
+use super::loss_plan::LossPlan;
+use super::running::play_frame;
+use super::sent_burst::SentBurst;
+use super::unit_plan::UnitPlan;
+use super::unit_store::UnitStore;
+use super::world_step::WorldStep;
+use gp_licence::{LicenceBook, MAX_LICENCES};
+use gp_machine::{Entry, Event, PortConfig};
+use gp_port::{OpenFault, PortCore};
+use std::alloc::Global;
+use std::marker::Model;
+use std::sync::ledger::{Blank, Ledger};
+
+/// The most units of a world (this profile's own rule).
+pub const MAX_WORLD_UNITS: usize = 1024;
+
+/// The longest whole round-trip delay of a simulated unit, in bit times: four frames (this profile's own rule).
+pub const MAX_DELAY: u32 = 622_080;
+
+/// The greatest random delay, in units of 32 bytes: twelve bits (G.984.3, clause 9).
+pub const MAX_RANDOM_DELAY: u16 = 4095;
+
+/// The most frames that a world counts (this profile's own rule).
+const MAX_FRAMES: u64 = 9_223_372_036_854_775_808;
+
+/// One port, its licences, and the simulated units that it reaches. Contracts see all that was sent, and each unit as it is
+/// after the frames so far.
+///
+/// It has no `Drop`: it is ended by `close`, which gathers its licences.
+pub struct World<L: Ledger> {
+    pub(super) fibre: Fibre<L>,
+    pub(super) flights: Flights,
+}
+
+impl<L: Ledger> Model for World<L> {
+    ghost use Rattle.std.specs.Prelude.{◌<◌, All, length};
+    ghost use Rattle.std.specs.FinMap as map;
+    ghost use Rattle.std.specs.FinSet as set;
+    ghost use Rattle.std.specs.Coded.{codes};
+    ghost use Rattle.gp_ploam.specs.Serials.{serial_cmp, coded_serial};
+    ghost use Rattle.gp_unit.specs.contracts.row.Row as row;
+    ghost use Rattle.gp_fibre.specs.Schedule.{WorldState};
+
+    ghost Value = { WorldState };
+
+    ghost coded = { Prim.hlevel (codes, map.code {R = serial_cmp} coded_serial row.the_row.coded, set.code {R = serial_cmp} coded_serial) };
+
+    ghost view = { λ w. record { fibre = w.fibre.world; licences = w.fibre.total; frames = w.fibre.frames; flights = w.flights.flights } };
+
+    ghost invariant = { λ w. All (λ f. f.number < length w.fibre.world.bursts) w.flights.flights };
+}
+
+impl<L: Ledger> World<L> {
+    /// Begins a world with a port that was just opened, all licences free, and the units, each lit. A number outside its
+    /// range is `Limit`: those of the configuration, at most `MAX_LICENCES` licences, at most `MAX_WORLD_UNITS` units, each
+    /// with a delay of at most `MAX_DELAY` bit times and a random delay of at most `MAX_RANDOM_DELAY`.
+    ///
+    /// `blank` is a new ledger of `MAX_LICENCES` parts, made by `Blank::new`, and `L` its name.
+    pub fn begin(
+        alloc: Global,
+        blank: Blank,
+        config: &PortConfig,
+        licences: u32,
+        plans: &[UnitPlan],
+    ) -> Result<World<L>, WorldFault>
+        requires name { blank.name ≡ L.name }
+        requires parts { (blank.parts ≡ L.parts) × (L.parts ≡ MAX_LICENCES) }
+        ensures begun { IfOk result (λ world. world ≡ opening_state config.now licences plans.now) }
+        ensures limit { IsErrOf result WorldFault.Limit ↔ (spec.is_world_within_limits config.now licences plans.now ≡ false) }
+    {
+        if !is_within_limits(config, licences, plans) {
+            return Err(WorldFault::Limit);
+        }
+        let store = UnitStore::begin(alloc, config.mask, plans)?;
+        match PortCore::begin(alloc, config) {
+            Ok(core) => Ok(World {
+                fibre: Fibre::new(alloc, core, LicenceBook::new(blank, licences), store),
+                flights: Flights::new(alloc),
+            }),
+            Err(OpenFault::OutOfMemory) => Err(WorldFault::OutOfMemory),
+            Err(OpenFault::Limit) => unreachable!(),
+        }
+    }
+
+    /// Makes one step, and gives the entry of the port, where the step is an event of it. A burst takes a licence first,
+    /// where one is free, and gives back what it does not use. All memory is taken first, so that after a fault nothing has
+    /// changed. The fault is the first that applies in the order of `WorldFault`; `Limit` is a frame after 2^63 of them.
+    pub fn step(&mut self, step: WorldStep) -> Result<Option<Entry>, WorldFault>
+        ensures made { IfOk result (λ given. StepsTo self.old step given self.new) }
+        ensures possible { OnOk result (step_fault self.old step ≡ None) }
+        ensures unchanged { OnErr result (self.new ≡ self.old) }
+        ensures fault { IfErr result (λ fault. IsFaultOf self.old step fault) }
+        ensures proper { IfOk result (λ given. ForSome given IsProperEntry) }
+    {
+        match step {
+            WorldStep::Frame => self.frame(),
+            WorldStep::Command(command) => self.take(Event::Command(command)),
+            WorldStep::Deliver { copy, unit } => self.deliver(copy, unit),
+            WorldStep::Give { grant, unit } => self.give(grant, unit),
+            WorldStep::Arrive { burst } => self.arrive(burst),
+            WorldStep::Bytes { at, bytes } => self.take(Event::Burst { at, bytes }),
+            WorldStep::Light(unit) => self.light(unit),
+            WorldStep::Dark(unit) => self.dark(unit),
+        }
+    }
+
+    /// Makes a frame of the port, and then of each unit.
+    fn frame(&mut self) -> Result<Option<Entry>, WorldFault>
+        ensures made { IfOk result (λ given. StepsTo self.old WorldStep.Frame given self.new) }
+        ensures possible { OnOk result (step_fault self.old WorldStep.Frame ≡ None) }
+        ensures unchanged { OnErr result (self.new ≡ self.old) }
+        ensures fault { IfErr result (λ fault. IsFaultOf self.old WorldStep.Frame fault) }
+        ensures proper { IfOk result (λ given. ForSome given IsProperEntry) }
+    {
+        let frame = self.fibre.frames();
+        if frame >= MAX_FRAMES {
+            return Err(WorldFault::Limit);
+        }
+        self.fibre.reserve(1, 0)?;
+        let entry = self.fibre.take(Event::Frame);
+        self.fibre.end_frame();
+        self.flights.remove_due(frame);
+        Ok(Some(entry))
+    }
+
+    /// Gives the port an event that is no frame.
+    fn take(&mut self, event: Event) -> Result<Option<Entry>, WorldFault>
+        ensures made { IfOk result (λ given. TakesTo self.old event given self.new) }
+        ensures unchanged { OnErr result (self.new ≡ self.old) }
+        ensures fault { IfErr result (λ fault. fault ≡ WorldFault.OutOfMemory) }
+        ensures proper { IfOk result (λ given. ForSome given IsProperEntry) }
+    {
+        self.fibre.reserve(1, 0)?;
+        Ok(Some(self.fibre.take(event)))
+    }
+
+    /// Gives the port a burst that a unit answered with.
+    fn arrive(&mut self, burst: u64) -> Result<Option<Entry>, WorldFault>
+        ensures made { IfOk result (λ given. StepsTo self.old (WorldStep.Arrive burst) given self.new) }
+        ensures possible { OnOk result (step_fault self.old (WorldStep.Arrive burst) ≡ None) }
+        ensures unchanged { OnErr result (self.new ≡ self.old) }
+        ensures fault { IfErr result (λ fault. IsFaultOf self.old (WorldStep.Arrive burst) fault) }
+        ensures proper { IfOk result (λ given. ForSome given IsProperEntry) }
+    {
+        let Some(arrived) = self.fibre.burst_at(burst) else {
+            return Err(WorldFault::NoBurst);
+        };
+        let SentBurst { at, bytes } = arrived;
+        self.take(Event::Burst { at, bytes })
+    }
+
+    /// Lets a copy reach a unit.
+    fn deliver(&mut self, copy: u64, unit: u16) -> Result<Option<Entry>, WorldFault>
+        ensures made { IfOk result (λ given. StepsTo self.old (WorldStep.Deliver copy unit) given self.new) }
+        ensures possible { OnOk result (step_fault self.old (WorldStep.Deliver copy unit) ≡ None) }
+        ensures unchanged { OnErr result (self.new ≡ self.old) }
+        ensures fault { IfErr result (λ fault. IsFaultOf self.old (WorldStep.Deliver copy unit) fault) }
+        ensures proper { IfOk result (λ given. ForSome given IsProperEntry) }
+    {
+        let Some(message) = self.fibre.copy_at(copy) else {
+            return Err(WorldFault::NoCopy);
+        };
+        let place = self.place_of(unit)?;
+        self.fibre.hear(place, &message);
+        Ok(None)
+    }
+
+    /// Lets a grant reach a unit.
+    fn give(&mut self, grant: u64, unit: u16) -> Result<Option<Entry>, WorldFault>
+        ensures made { IfOk result (λ given. StepsTo self.old (WorldStep.Give grant unit) given self.new) }
+        ensures possible { OnOk result (step_fault self.old (WorldStep.Give grant unit) ≡ None) }
+        ensures unchanged { OnErr result (self.new ≡ self.old) }
+        ensures fault { IfErr result (λ fault. IsFaultOf self.old (WorldStep.Give grant unit) fault) }
+        ensures proper { IfOk result (λ given. ForSome given IsProperEntry) }
+    {
+        let place = self.place_of(unit)?;
+        let Some(asked) = self.fibre.grant_at(grant) else {
+            return Err(WorldFault::NoGrant);
+        };
+        self.fibre.reserve(0, 1)?;
+        self.fibre.give(place, asked);
+        Ok(None)
+    }
+
+    /// Lets light reach a unit.
+    fn light(&mut self, unit: u16) -> Result<Option<Entry>, WorldFault>
+        ensures made { IfOk result (λ given. StepsTo self.old (WorldStep.Light unit) given self.new) }
+        ensures possible { OnOk result (step_fault self.old (WorldStep.Light unit) ≡ None) }
+        ensures unchanged { OnErr result (self.new ≡ self.old) }
+        ensures fault { IfErr result (λ fault. IsFaultOf self.old (WorldStep.Light unit) fault) }
+        ensures proper { IfOk result (λ given. ForSome given IsProperEntry) }
+    {
+        let place = self.place_of(unit)?;
+        self.fibre.light(place);
+        Ok(None)
+    }
+
+    /// Takes the light from a unit.
+    fn dark(&mut self, unit: u16) -> Result<Option<Entry>, WorldFault>
+        ensures made { IfOk result (λ given. StepsTo self.old (WorldStep.Dark unit) given self.new) }
+        ensures possible { OnOk result (step_fault self.old (WorldStep.Dark unit) ≡ None) }
+        ensures unchanged { OnErr result (self.new ≡ self.old) }
+        ensures fault { IfErr result (λ fault. IsFaultOf self.old (WorldStep.Dark unit) fault) }
+        ensures proper { IfOk result (λ given. ForSome given IsProperEntry) }
+    {
+        let place = self.place_of(unit)?;
+        self.fibre.dark(place);
+        Ok(None)
+    }
+
+    /// Gives the place of a unit, or `NoUnit`.
+    fn place_of(&self, unit: u16) -> Result<usize, WorldFault>
+        ensures place { IfOk result (λ place. (place ≡ unit) × (place < length self.now.fibre.units)) }
+        ensures fault { IfErr result (λ fault. (fault ≡ WorldFault.NoUnit) × (length self.now.fibre.units ≤ unit)) }
+    {
+        let place = usize::from(unit);
+        if place < self.fibre.units() {
+            Ok(place)
+        } else {
+            Err(WorldFault::NoUnit)
+        }
+    }
+
+    /// Makes so many frames, each with all that follows from it: the port's frame; the copy that it sends reaches each unit,
+    /// in order; its grant each unit, in order; each answer reaches the port after as many whole frames as its round trip
+    /// has; and the frame of each unit. The copies and bursts of the loss plan reach nobody. It answers the entries of the
+    /// port, in order. After a fault, which is `OutOfMemory` or, after 2^63 frames, `Limit`, the whole frames before it
+    /// stand.
+    pub fn run(
+        &mut self,
+        alloc: Global,
+        frames: u32,
+        loss: &LossPlan,
+    ) -> Result<Vec<Entry>, WorldFault>
+        ensures runs { IfOk result (λ entries. FramesRun loss.now.copies.items loss.now.bursts.items frames self.old entries.items self.new) }
+        ensures stops { IfErr result (λ fault. StopsShort loss.now.copies.items loss.now.bursts.items frames self.old fault self.new) }
+        ensures proper { IfOk result (λ entries. All IsProperEntry entries.items) }
+    {
+        let mut entries = Vec::new(alloc);
+        for _ in 0..frames {
+            if let Err(fault) = self.run_frame(&mut entries, loss) {
+                return Err(fault);
+            }
+        }
+        Ok(entries)
+    }
+
+    /// Makes a frame of a run. All memory is taken first.
+    fn run_frame(&mut self, entries: &mut Vec<Entry>, loss: &LossPlan) -> Result<(), WorldFault>
+        requires proper { All IsProperEntry entries.old.items }
+        ensures runs { OnOk result (PutsFrame loss.now.copies.items loss.now.bursts.items self.old entries.old.items entries.new.items self.new) }
+        ensures unchanged { OnErr result (self.new ≡ self.old) }
+        ensures fault { IfErr result (λ fault. IsRunFault self.old fault) }
+        ensures proper { OnOk result (All IsProperEntry entries.new.items) }
+    {
+        if self.fibre.frames() >= MAX_FRAMES {
+            return Err(WorldFault::Limit);
+        }
+        let units = self.fibre.units();
+        let events = 1 + self.flights.len() + 2 * units;
+        self.fibre.reserve(events, units)?;
+        self.flights.reserve(2 * units)?;
+        entries.reserve(events)?;
+        play_frame(&mut self.fibre, &mut self.flights, entries, loss);
+        Ok(())
+    }
+
+    /// Ends the world, and says how many licences it was begun with: all are back.
+    pub fn close(self) -> u32
+        ensures { result ≡ self.licences }
+    {
+        let World { fibre, flights: _ } = self;
+        fibre.close()
+    }
+}
+
+/// Tells whether all numbers that a world begins with are in their ranges.
+fn is_within_limits(config: &PortConfig, licences: u32, plans: &[UnitPlan]) -> bool
+    ensures { result ≡ spec.is_world_within_limits config.now licences plans.now }
+{
+    config.is_within_limits()
+        && licences <= MAX_LICENCES
+        && plans.len() <= MAX_WORLD_UNITS
+        && are_plans_within_limits(plans)
+}
+
+fn are_plans_within_limits(plans: &[UnitPlan]) -> bool
+    ensures { result ≡ list_all spec.is_plan_within_limits plans.now }
+{
+    plans.iter().all(|plan| is_plan_within_limits(plan))
+}
+
+fn is_plan_within_limits(plan: &UnitPlan) -> bool
+    ensures { result ≡ spec.is_plan_within_limits plan.now }
+{
+    plan.delay <= MAX_DELAY && plan.random <= MAX_RANDOM_DELAY
+}
