@@ -1,5 +1,12 @@
 pub mod SinkLemmas
+pub mod RunLemmas
 pub mod TurnLemmas
 pub mod RoomLemmas
+pub mod ChassisLemmas
 pub mod LawsLemmas
 pub mod OutcomeLemmas
+pub mod WorldLemmas
+pub mod WorldRoomLemmas
+pub mod WorldRunLemmas
+pub mod WorldPlayLemmas
+pub mod ScriptPlayLemmas

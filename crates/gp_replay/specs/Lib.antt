@@ -1,7 +1,10 @@
-pub mod Terminal
+pub mod Chassis
 pub mod Play
+pub mod WorldPlay
+pub mod ScriptPlay
 pub mod Writing
 pub mod Outcome
 pub mod Fault
 pub mod Runs
 pub mod Laws
+pub mod WorldWriting

@@ -2,12 +2,12 @@
 use Rattle.std.specs.Prelude.{◌≡◌, ℕ, ◌≤◌, List, Result, Ok, length}
 use Rattle.gp_machine.specs.declared.entry.Receipt.{Receipt}
 use Rattle.gp_stream.specs.Source.{SourceState, ReadsWhole}
-use Rattle.gp_stream.specs.Sink.{SinkState, TakesPrefix}
+use Rattle.gp_stream.specs.Sink.{SinkState, Takes, TakesPrefix}
 use Rattle.gp_stream.specs.declared.reading.TheConstants.{MAX_BYTES}
 use Rattle.gp_script.specs.declared.fault.ScriptFault.{ScriptFault}
 use Rattle.gp_script.specs.Script.{ScriptView, script_of}
 use Rattle.gp_trace.specs.Text.{trace_text}
-use Rattle.gp_replay.specs.Play.{PlaysPrefix}
+use Rattle.gp_replay.specs.ScriptPlay.{PlaysPrefix}
 use Rattle.gp_replay.specs.Writing.{WritesScript}
 
 -- the input was read to its end without a failed read, it is not too long, and this is what it says: a script, or its first
@@ -32,3 +32,12 @@ pub record LeavesPrefix (before after : SourceState) (old new : SinkState) : Typ
   pub receipts : List Receipt
   pub plays : PlaysPrefix script receipts
   pub written : TakesPrefix old new (trace_text script.mask receipts)
+
+-- the input says a script, entries play it from its first event on, and the lines of all of them were handed to the sink:
+-- the writer got a prefix of what was gathered before and of them, and the sink has the rest
+pub record LeavesLines (before after : SourceState) (old new : SinkState) : Type 0 where
+  pub script : ScriptView
+  pub input : ReadsAs before after (Ok script)
+  pub receipts : List Receipt
+  pub plays : PlaysPrefix script receipts
+  pub lines : Takes old new (trace_text script.mask receipts)

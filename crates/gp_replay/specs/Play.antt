@@ -1,69 +1,67 @@
--- What it means to play a script: its terminal takes the script's events one after another, in their order (this profile's
--- own rule).
-use Rattle.std.specs.Prelude.{◌≡◌, ℕ, ◌+◌, List, [], ◌∷◌, ◌++◌, Some, min, replicate, slice_get, slice_set}
+-- What it means to play a script without simulated units: one actor serves the script's events on a chassis, one after another, in their order (this
+-- profile's own rule).
+use Rattle.std.specs.Prelude.{◌≡◌, ℕ, ◌+◌, List, [], ◌∷◌, ◌++◌, Some, map, replicate, slice_get, slice_set}
 use Rattle.std.specs.List.{flat_map}
-use Rattle.gp_machine.specs.declared.event.Event.{Event}
 use Rattle.gp_machine.specs.declared.event.Event.TheVariants.{Frame, Burst, Command}
 use Rattle.gp_machine.specs.declared.entry.Receipt.{Receipt}
-use Rattle.gp_machine.specs.State.{PortState}
-use Rattle.gp_machine.specs.Run.{IsStep}
+use Rattle.gp_chassis.specs.World.{Move, ChassisRun}
+use Rattle.gp_chassis.specs.Core.{moves_of}
 use Rattle.gp_script.specs.declared.script.ScriptEvent.{ScriptEvent}
 use Rattle.gp_script.specs.declared.script.ScriptEvent.TheVariants as events
 use Rattle.gp_script.specs.Script.{ScriptView}
 use Rattle.gp_replay.specs.declared.turn.Turn.{Turn}
-use Rattle.gp_replay.specs.Terminal.{PortStand, TerminalState, opening_terminal}
+use Rattle.gp_replay.specs.Chassis.{PlayState, opening_play}
 
 -- a frame of a port
 abbrev pub frame_turn : ℕ → Turn
 frame_turn port = record { port = port; event = Frame }
 
--- the turns that an event of a script stands for: so many frames are a turn each
+-- the turns that an event of a script stands for: so many frames are a turn each, and light, which comes with units, is none
 abbrev pub turns_of : ScriptEvent → List Turn
 turns_of (events.Frames port count) = replicate count (frame_turn port)
 turns_of (events.Burst port at bytes) = record { port = port; event = Burst at bytes } ∷ []
 turns_of (events.Command port command) = record { port = port; event = Command command } ∷ []
+turns_of (events.Light unit lit) = []
 
 -- the turns of a script's events, in their order
 abbrev pub all_turns : List ScriptEvent → List Turn
 all_turns es = flat_map turns_of es
 
--- the licences that are taken for an event: one for a burst, where one is free
-abbrev pub purse_of : Event → ℕ → ℕ
-purse_of Frame free = 0
-purse_of (Burst at bytes) free = min 1 free
-purse_of (Command command) free = 0
+-- the turn that a receipt tells of
+abbrev pub turn_of : Receipt → Turn
+turn_of receipt = record { port = receipt.port; event = receipt.entry.event }
 
--- the terminal takes the turn: the port that it names makes a step with the licences that are taken for the event,
--- and those that are left after it are free again; the receipt tells the port, the number of the entry there, and the entry
-pub record TakesTurn (old : TerminalState) (turn : Turn) (receipt : Receipt) (new : TerminalState) : Type 0 where
-  pub before : PortStand
-  pub after : PortState
-  pub there : slice_get old.ports turn.port ≡ Some before
-  pub port : receipt.port ≡ turn.port
-  pub number : receipt.number ≡ before.next
-  pub event : receipt.entry.event ≡ turn.event
-  pub purse : receipt.entry.purse_in ≡ purse_of turn.event old.free
-  pub step : IsStep before.state receipt.entry after
-  pub free : new.free + receipt.entry.purse_in ≡ old.free + receipt.entry.purse_out
-  pub ports : new.ports ≡ slice_set old.ports turn.port (record { state = after; next = before.next + 1 })
+-- what actor 0 does in the turn that a receipt tells of: for a burst it takes a licence; the port makes the step of the
+-- entry; and what is left is given back
+abbrev pub moves_told : Receipt → List Move
+moves_told receipt = moves_of receipt.entry.event receipt.port receipt.entry
 
--- the turns are taken one after the other, each with its receipt
-abbrev pub TakesTurns : TerminalState → List Turn → List Receipt → TerminalState → Type 0
-TakesTurns old [] [] new = new ≡ old
-TakesTurns old (turn ∷ turns) (receipt ∷ receipts) new =
-    (mid : TerminalState) × TakesTurn old turn receipt mid × TakesTurns mid turns receipts new
-TakesTurns old [] (receipt ∷ receipts) new = ⊥
-TakesTurns old (turn ∷ turns) [] new = ⊥
+-- what actor 0 does in all these turns
+abbrev pub all_moves : List Receipt → List Move
+all_moves receipts = flat_map moves_told receipts
 
--- the receipts are those of the turns of the script's events, taken from its opening
-pub record Plays (script : ScriptView) (receipts : List Receipt) : Type 0 where
-  pub end : TerminalState
-  pub turns : TakesTurns (opening_terminal script) (all_turns script.events) receipts end
+-- each entry has the number that was the next one of its port
+abbrev pub AreNumbered : List ℕ → List Receipt → List ℕ → Type 0
+AreNumbered old [] new = new ≡ old
+AreNumbered old (receipt ∷ receipts) new =
+    (slice_get old receipt.port ≡ Some receipt.number) × AreNumbered (slice_set old receipt.port (receipt.number + 1)) receipts new
+
+-- the turns are taken one after the other: the receipts tell of these turns, what the actor does in them is a run of the
+-- chassis, and the entries are numbered on each port
+pub record TakesTurns (old : PlayState) (turns : List Turn) (receipts : List Receipt) (new : PlayState) : Type 0 where
+  pub told : map turn_of receipts ≡ turns
+  pub run : ChassisRun (all_moves receipts) old.world new.world
+  pub numbers : AreNumbered old.next receipts new.next
+
+-- the receipts are those of the turns of the script's events, taken on the chassis that the script opens
+pub record ChassisPlays (script : ScriptView) (receipts : List Receipt) : Type 0 where
+  pub end : PlayState
+  pub turns : TakesTurns (opening_play script) (all_turns script.events) receipts end
 
 -- the receipts are those of some of these turns, from the first on
-pub record PlaysPrefix (script : ScriptView) (receipts : List Receipt) : Type 0 where
+pub record ChassisPlaysPrefix (script : ScriptView) (receipts : List Receipt) : Type 0 where
   pub taken : List Turn
   pub left : List Turn
   pub split : all_turns script.events ≡ taken ++ left
-  pub end : TerminalState
-  pub turns : TakesTurns (opening_terminal script) taken receipts end
+  pub end : PlayState
+  pub turns : TakesTurns (opening_play script) taken receipts end

@@ -3,9 +3,8 @@ use Rattle.std.specs.Prelude.{◌≡◌, ℕ, ◌+◌, ◌==◌, List, [], ◌�
 use Rattle.gp_machine.specs.declared.config.PortConfig.{PortConfig}
 use Rattle.gp_machine.specs.declared.entry.Entry.{Entry}
 use Rattle.gp_machine.specs.declared.entry.Receipt.{Receipt}
-use Rattle.gp_machine.specs.State.{opening_of}
+use Rattle.gp_machine.specs.State.{PortState, opening_of}
 use Rattle.gp_machine.specs.Run.{Run}
-use Rattle.gp_replay.specs.Terminal.{PortStand}
 
 -- the receipts of one port
 abbrev pub receipts_of_port : ℕ → List Receipt → List Receipt
@@ -22,10 +21,10 @@ IsNumberedFrom n (r ∷ rs) = (r.number ≡ n) × IsNumberedFrom (n + 1) rs
 
 -- on each of these ports the entries are a run of the activation machine, from the opening of the port's configuration to
 -- the state at its end, and they are numbered from 0
-abbrev pub PortsRun : List PortConfig → List Receipt → List PortStand → Type 0
+abbrev pub PortsRun : List PortConfig → List Receipt → List PortState → Type 0
 PortsRun ports receipts ends =
     (port : ℕ) (config : PortConfig) → slice_get ports port ≡ Some config
-    → (end : PortStand)
+    → (end : PortState)
     × (slice_get ends port ≡ Some end)
-    × Run (opening_of config) (entries_of_port port receipts) end.state
+    × Run (opening_of config) (entries_of_port port receipts) end
     × IsNumberedFrom 0 (receipts_of_port port receipts)

@@ -4,13 +4,20 @@ ghost use Rattle.gp_replay.specs.Laws.{EachPortRuns, LicencesAreKept};
 /// port's opening.
 pub fn each_port_runs()
     ensures { EachPortRuns }
-{}
+{
+    gp_chassis::ports_replay();
+    gp_fibre::frames_are_runs();
+    gp_fibre::runs_in_parts();
+    gp_fibre::port_runs();
+}
 
 /// States that of entries that play a script the licences that are free at the end and those of all units are
 /// as many as the script says.
 pub fn licences_are_kept()
     ensures { LicencesAreKept }
 {
-    gp_machine::sound_step();
-    gp_machine::step_keeps_licences();
+    gp_chassis::balance_lasts();
+    gp_fibre::frames_are_runs();
+    gp_fibre::runs_in_parts();
+    gp_fibre::keeps_licences();
 }

@@ -55,6 +55,61 @@ const ONE_UNIT_TRACE: &str = "\
 0 15 frame = ok
 ";
 
+const TWO_PORTS: &str = r#"
+licences = 0
+[[port]]
+[[port]]
+[[event]]
+port = 1
+frames = 2
+[[event]]
+port = 0
+command = "search"
+[[event]]
+port = 1
+frames = 1
+"#;
+
+const TWO_PORTS_TRACE: &str = "\
+1 0 frame = ok
+1 1 frame = ok
+0 0 search = searching
+1 2 frame = ok
+";
+
+const ONE_SIMULATED_UNIT: &str = r#"
+licences = 1
+[[port]]
+cycles = 1
+admit = ["ABCD00000001"]
+[[unit]]
+serial = "ABCD00000001"
+delay = 200000
+[[event]]
+port = 0
+command = "search"
+[[event]]
+port = 0
+frames = 11
+"#;
+
+const ONE_SIMULATED_UNIT_TRACE: &str = "\
+0 0 search = searching
+0 1 frame = ok
+0 2 frame = ok sent ff010000000000000000000058
+0 3 frame = ok sent ff010000000000000000000058
+0 4 frame = ok sent ff010000000000000000000058
+0 5 frame = ok grant search
+0 6 frame = ok
+0 7 burst 200000 ff01414243440000000100002c = found 0
+0 8 frame = ok sent ff03004142434400000001001b
+0 9 frame = ok sent ff03004142434400000001001b
+0 10 frame = ok sent ff03004142434400000001001b
+0 11 frame = ok grant range 0
+0 12 frame = ok
+0 13 burst 200000 0001414243440000000100006b = ranged 0 111040
+";
+
 /// Fails at each read.
 #[derive(Drop)]
 struct FailingReader;
@@ -86,18 +141,62 @@ fn one_unit(rt: HostRuntime) -> Result<(), Fail> {
     Ok(())
 }
 
-/// With memory enough each of many frames has its line, to the last.
+/// A unit on the fibre of a script's port answers by itself, after its round trip.
 #[test]
-fn two_thousand_frames(rt: HostRuntime) -> Result<(), Fail> {
-    let script = b"licences = 0\n[[port]]\n[[event]]\nport = 0\nframes = 2000";
+fn one_simulated_unit(rt: HostRuntime) -> Result<(), Fail> {
+    let (outcome, trace) = replay(rt.alloc(), ONE_SIMULATED_UNIT.as_bytes())?;
+    if outcome == Err(RunFault::OutOfMemory) {
+        // Only where an allocation was made to fail: then some lines may be gathered already, and none is written.
+        assert!(rt; trace.is_empty());
+        return Ok(());
+    }
+    assert_eq!(rt; outcome, Ok(()));
+    assert_eq!(rt; trace.as_slice(), ONE_SIMULATED_UNIT_TRACE.as_bytes());
+    Ok(())
+}
+
+/// With memory enough each of many frames has its line, to the last: also where the port's journal, which
+/// keeps 4,096 entries, is cut on the way.
+#[test]
+fn five_thousand_frames(rt: HostRuntime) -> Result<(), Fail> {
+    let script = b"licences = 0\n[[port]]\n[[event]]\nport = 0\nframes = 5000";
     let mut expected = String::new(rt.alloc());
-    for number in 0..2000 {
+    for number in 0..5000 {
         let line = format!(in rt.alloc(); "0 {number} frame = ok\n")?;
         expected.push_str(line.as_str())?;
     }
     let (outcome, trace) = replay(rt.alloc(), script)?;
     assert_eq!(rt; outcome, Ok(()));
     assert_eq!(rt; trace.as_slice(), expected.as_bytes());
+    Ok(())
+}
+
+/// A journal that keeps one entry is cut before each further one.
+#[test]
+fn one_entry_kept(rt: HostRuntime) -> Result<(), Fail> {
+    let script = format!(in rt.alloc(); "journal_limit = 1\n{ONE_UNIT}")?;
+    let (outcome, trace) = replay(rt.alloc(), script.as_bytes())?;
+    if outcome == Err(RunFault::OutOfMemory) {
+        // Only where an allocation was made to fail.
+        assert!(rt; trace.is_empty());
+        return Ok(());
+    }
+    assert_eq!(rt; outcome, Ok(()));
+    assert_eq!(rt; trace.as_slice(), ONE_UNIT_TRACE.as_bytes());
+    Ok(())
+}
+
+/// The entries of each port have numbers of their own.
+#[test]
+fn two_ports(rt: HostRuntime) -> Result<(), Fail> {
+    let (outcome, trace) = replay(rt.alloc(), TWO_PORTS.as_bytes())?;
+    if outcome == Err(RunFault::OutOfMemory) {
+        // Only where an allocation was made to fail.
+        assert!(rt; trace.is_empty());
+        return Ok(());
+    }
+    assert_eq!(rt; outcome, Ok(()));
+    assert_eq!(rt; trace.as_slice(), TWO_PORTS_TRACE.as_bytes());
     Ok(())
 }
 

@@ -29,7 +29,7 @@ use Rattle.gp_script.specs.declared.fault.ScriptFault.{ScriptFault}
 use Rattle.gp_script.specs.declared.fault.ScriptFault.TheVariants as faults
 use Rattle.gp_script.specs.declared.fault.ScriptError.{ScriptError}
 use Rattle.gp_script.specs.declared.fault.ScriptError.TheVariants as errors
-use Rattle.gp_script.specs.Fault.{◌>>=◌, needs, error_of_admit, Fails, Gives}
+use Rattle.gp_script.specs.Fault.{error_of_admit, Fails, Gives}
 use Rattle.gp_script.specs.Port.{is_admitted, new_serial, serial_in, serials_from}
 use Rattle.gp_script.specs.Admits.{Admits}
 

@@ -3,4 +3,5 @@ pub mod AdmissionLemmas
 pub mod EventsLemmas
 pub mod ItemsLemmas
 pub mod NamesLemmas
+pub mod PlacesLemmas
 pub mod TextLemmas

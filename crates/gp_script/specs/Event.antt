@@ -1,18 +1,18 @@
--- The tables under `event` (this profile's own rule).
-use Rattle.std.specs.Prelude.{ℕ, List, [], ◌∷◌, Result, Ok, Err, if◌then◌else◌, codes, is_some}
+-- The tables under `event` (this profile's own rule). Each function is given how many ports, or units, there are.
+use Rattle.std.specs.Prelude.{ℕ, List, [], ◌∷◌, Result, Ok, Err, if◌then◌else◌, codes, is_some, nat_lt}
 use Rattle.toml.specs.Data.{table, Items, no_items, item, Members, get_member}
 use Rattle.gp_ploam.specs.declared.check.Mask.{Mask}
 use Rattle.gp_script.specs.declared.script.ScriptEvent.{ScriptEvent}
-use Rattle.gp_script.specs.declared.script.ScriptEvent.TheVariants.{Frames, Burst}
+use Rattle.gp_script.specs.declared.script.ScriptEvent.TheVariants.{Frames, Burst, Light}
 use Rattle.gp_script.specs.declared.fault.ScriptFault.{ScriptFault}
 use Rattle.gp_script.specs.declared.fault.ScriptFault.TheVariants as fault
 use Rattle.gp_script.specs.Fault.{◌>>=◌, needs}
-use Rattle.gp_script.specs.Keys.{has_only, needed_number, needed_text}
-use Rattle.gp_script.specs.Values.{delay_in, in_range, octets_of, port_in}
+use Rattle.gp_script.specs.Keys.{has_only, needed_bool, needed_number, needed_text}
+use Rattle.gp_script.specs.Values.{delay_in, in_range, octets_of, port_in, unit_in}
 use Rattle.gp_script.specs.Say.{say_event}
 use Rattle.gp_script.specs.Command.{command_event}
 
--- so many frames at a port; each function is given how many ports there are
+-- so many frames at a port
 unfoldable pub frames_event : ℕ → Members → Result ScriptEvent ScriptFault
 frames_event ports members = do
   _ ← needs fault.Shape (has_only (codes "port" ∷ codes "frames" ∷ []) members)
@@ -34,20 +34,31 @@ burst_event ports members = do
   bytes ← octets_of 13 burst
   Ok (Burst port at bytes)
 
+-- the light of a unit comes or goes, in a script that has units
+unfoldable pub light_event : ℕ → Members → Result ScriptEvent ScriptFault
+light_event units members = do
+  _ ← needs fault.Shape (nat_lt 0 units)
+  _ ← needs fault.Shape (has_only (codes "unit" ∷ codes "light" ∷ []) members)
+  unit ← needed_number (codes "unit") members
+  lit ← needed_bool (codes "light") members
+  unit ← unit_in units unit
+  Ok (Light unit lit)
+
 -- an event table; its form is told by the key that this form alone has
-unfoldable pub event_of : ℕ → Mask → Members → Result ScriptEvent ScriptFault
-event_of ports mask members =
+unfoldable pub event_of : ℕ → ℕ → Mask → Members → Result ScriptEvent ScriptFault
+event_of ports units mask members =
     if is_some (get_member (codes "frames") members) then frames_event ports members
     else if is_some (get_member (codes "burst") members) then burst_event ports members
     else if is_some (get_member (codes "say") members) then say_event ports mask members
     else if is_some (get_member (codes "command") members) then command_event ports members
+    else if is_some (get_member (codes "light") members) then light_event units members
     else Err fault.Shape
 
 -- the events of the event tables, in their order
-unfoldable pub events_of : ℕ → Mask → Items → Result (List ScriptEvent) ScriptFault
-events_of ports mask no_items = Ok []
-events_of ports mask (item (table members) rest) = do
-  event ← event_of ports mask members
-  events ← events_of ports mask rest
+unfoldable pub events_of : ℕ → ℕ → Mask → Items → Result (List ScriptEvent) ScriptFault
+events_of ports units mask no_items = Ok []
+events_of ports units mask (item (table members) rest) = do
+  event ← event_of ports units mask members
+  events ← events_of ports units mask rest
   Ok (event ∷ events)
-events_of ports mask (item _ rest) = Err fault.Shape
+events_of ports units mask (item _ rest) = Err fault.Shape

@@ -2,7 +2,7 @@
 use Rattle.std.specs.Prelude.{ℕ, ℤ, List, Bool, true, false, ◌&&◌, ◌+◌, ◌==◌, Option, Some, None, Result, Ok, Err, ok_or, unwrap_or}
 use Rattle.std.specs.List.{list_any}
 use Rattle.std.specs.Str.{bytes_eq}
-use Rattle.toml.specs.Data.{Data, string, integer, array, table, Items, no_items, item, Members, no_members, member, get_member}
+use Rattle.toml.specs.Data.{Data, string, integer, boolean, array, table, Items, no_items, item, Members, no_members, member, get_member}
 use Rattle.gp_script.specs.declared.fault.ScriptFault.{ScriptFault}
 use Rattle.gp_script.specs.declared.fault.ScriptFault.TheVariants as fault
 use Rattle.gp_script.specs.Fault.{◌>>=◌}
@@ -27,6 +27,12 @@ abbrev pub text_or_none : Option Data → Result (Option (List ℕ)) ScriptFault
 text_or_none None = Ok None
 text_or_none (Some (string text)) = Ok (Some text)
 text_or_none (Some _) = Err fault.Shape
+
+-- a truth value, where there is a value at all
+abbrev pub bool_or_none : Option Data → Result (Option Bool) ScriptFault
+bool_or_none None = Ok None
+bool_or_none (Some (boolean truth)) = Ok (Some truth)
+bool_or_none (Some _) = Err fault.Shape
 
 -- a list, where there is a value at all
 abbrev pub list_or_none : Option Data → Result (Option Items) ScriptFault
@@ -59,6 +65,12 @@ abbrev pub needed_text : List ℕ → Members → Result (List ℕ) ScriptFault
 needed_text key members = do
   text ← text_at key members
   ok_or text fault.Shape
+
+-- the truth value at a key that has to be there
+abbrev pub needed_bool : List ℕ → Members → Result Bool ScriptFault
+needed_bool key members = do
+  truth ← bool_or_none (get_member key members)
+  ok_or truth fault.Shape
 
 -- the list at a key that has to be there
 abbrev pub needed_list : List ℕ → Members → Result Items ScriptFault

@@ -3,6 +3,8 @@ pub mod Keys
 pub mod Values
 pub mod Port
 pub mod Admits
+pub mod Unit
+pub mod Lose
 pub mod Say
 pub mod Command
 pub mod Event

@@ -1,6 +1,6 @@
 -- The tables under `port` (this profile's own rule).
 use Rattle.std.specs.Prelude.{ℕ, ℤ, List, [], ◌∷◌, ◌++◌, ◌||◌, Bool, Option, Some, None, Result, Ok, Err, not, codes, replicate}
-use Rattle.std.specs.List.{list_any}
+use Rattle.std.specs.List.{flat_map, list_any}
 use Rattle.toml.specs.Data.{Data, string, table, Items, no_items, item, Members}
 use Rattle.gp_ploam.specs.declared.check.Mask.{Mask}
 use Rattle.gp_ploam.specs.declared.message.Serial.{Serial}
@@ -50,6 +50,10 @@ port_shape members = do
   admit ← list_at (codes "admit") members
   _ ← needs fault.Shape (are_texts admit)
   Ok (record { teqd = teqd; max_units = max_units; alloc_last = alloc_last; cycles = cycles; search_period = search_period; quarantine = quarantine; overhead = overhead; admit = admit })
+
+-- the serial numbers that are admitted on these ports, port by port
+abbrev pub all_admitted : List PortConfig → List Serial
+all_admitted ports = flat_map (λ (port : PortConfig). port.admitted) ports
 
 -- the serial number is admitted on one of these ports
 abbrev pub is_admitted : Serial → List PortConfig → Bool

@@ -1,6 +1,6 @@
 -- The event tables with `say`: a unit's message arrives, encoded with the script's mask (this profile's own rule). Each
 -- function is given how many ports there are.
-use Rattle.std.specs.Prelude.{ℕ, List, [], ◌∷◌, Result, Ok, Err, if◌then◌else◌, codes, replicate}
+use Rattle.std.specs.Prelude.{ℕ, [], ◌∷◌, Result, Ok, Err, if◌then◌else◌, codes, replicate}
 use Rattle.std.specs.Str.{bytes_eq}
 use Rattle.toml.specs.Data.{Members}
 use Rattle.gp_ploam.specs.declared.check.Mask.{Mask}
@@ -15,7 +15,7 @@ use Rattle.gp_script.specs.declared.fault.ScriptFault.{ScriptFault}
 use Rattle.gp_script.specs.declared.fault.ScriptFault.TheVariants as fault
 use Rattle.gp_script.specs.Fault.{◌>>=◌, needs}
 use Rattle.gp_script.specs.Keys.{has_only, number_at, needed_number, needed_text}
-use Rattle.gp_script.specs.Values.{delay_in, in_range, in_range_or, octet_in, port_in, serial_of}
+use Rattle.gp_script.specs.Values.{delay_in, in_range_or, octet_in, port_in, serial_of}
 
 -- a unit's message arrives
 abbrev pub said : Mask → Speaker → Up → ScriptEvent

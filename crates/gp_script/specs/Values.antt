@@ -27,6 +27,16 @@ abbrev pub port_in : ℕ → ℤ → Result ℕ ScriptFault
 port_in ports (pos place) = if nat_lt place ports then Ok place else Err fault.Range
 port_in ports (negsuc _) = Err fault.Range
 
+-- the place of one of so many units
+abbrev pub unit_in : ℕ → ℤ → Result ℕ ScriptFault
+unit_in units (pos place) = if nat_lt place units then Ok place else Err fault.Range
+unit_in units (negsuc _) = Err fault.Range
+
+-- a number from 0 on
+abbrev pub number_from_0 : ℤ → Result ℕ ScriptFault
+number_from_0 (pos number) = Ok number
+number_from_0 (negsuc _) = Err fault.Range
+
 -- a round-trip delay in bit times
 abbrev pub delay_in : ℤ → Result ℕ ScriptFault
 delay_in number = in_range 0 4294967295 number

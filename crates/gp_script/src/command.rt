@@ -1,7 +1,7 @@
-ghost use Rattle.std.specs.Prelude.{◌≡◌, ◌<◌, IfOk};
+ghost use Rattle.std.specs.Prelude.{◌≡◌, IfOk};
 ghost use Rattle.toml.specs.View.{table_view};
 ghost use Rattle.gp_script.specs.Command as spec;
-ghost use Rattle.gp_script.specs.View.{event_port};
+ghost use Rattle.gp_script.specs.View.{NamesPort};
 
 use crate::fault::ScriptFault;
 use crate::keys::{has_only, needed_number, needed_text, needs};
@@ -74,7 +74,7 @@ impl UnitCommand {
 #[tactic(auto, unfolding(crate::specs::Command::port_command))]
 fn port_command(ports: u8, command: Command, table: &Table) -> Result<ScriptEvent, ScriptFault>
     ensures value { result ≡ spec.port_command ports command (table_view table.now) }
-    ensures port { IfOk result (λ e. event_port e < ports) }
+    ensures port { IfOk result (λ e. NamesPort ports e) }
 {
     needs(ScriptFault::Shape, has_only(table, &["port", "command"]))?;
     let port = needed_number(table, "port")?;
@@ -86,7 +86,7 @@ fn port_command(ports: u8, command: Command, table: &Table) -> Result<ScriptEven
 #[tactic(auto, unfolding(crate::specs::Command::unit_command))]
 fn unit_command(ports: u8, command: UnitCommand, table: &Table) -> Result<ScriptEvent, ScriptFault>
     ensures value { result ≡ spec.unit_command ports command (table_view table.now) }
-    ensures port { IfOk result (λ e. event_port e < ports) }
+    ensures port { IfOk result (λ e. NamesPort ports e) }
 {
     let names = ["port", "command", "serial"];
     needs(ScriptFault::Shape, has_only(table, &names))?;
@@ -102,7 +102,7 @@ fn unit_command(ports: u8, command: UnitCommand, table: &Table) -> Result<Script
 #[tactic(auto, unfolding(crate::specs::Command::dealloc_command))]
 fn dealloc_command(ports: u8, table: &Table) -> Result<ScriptEvent, ScriptFault>
     ensures value { result ≡ spec.dealloc_command ports (table_view table.now) }
-    ensures port { IfOk result (λ e. event_port e < ports) }
+    ensures port { IfOk result (λ e. NamesPort ports e) }
 {
     let names = ["port", "command", "serial", "alloc"];
     needs(ScriptFault::Shape, has_only(table, &names))?;
@@ -120,7 +120,7 @@ fn dealloc_command(ports: u8, table: &Table) -> Result<ScriptEvent, ScriptFault>
 #[tactic(auto, unfolding(crate::specs::Command::command_event))]
 pub(crate) fn command_event(ports: u8, table: &Table) -> Result<ScriptEvent, ScriptFault>
     ensures value { result ≡ spec.command_event ports (table_view table.now) }
-    ensures port { IfOk result (λ e. event_port e < ports) }
+    ensures port { IfOk result (λ e. NamesPort ports e) }
 {
     let text = needed_text(table, "command")?;
     let word = CommandWord::from_text(text).ok_or(ScriptFault::Shape)?;

@@ -2,23 +2,23 @@ ghost use Rattle.std.specs.Prelude.{◌≡◌, ◌<◌, IfOk, All, length, vec_l
 ghost use Rattle.toml.specs.View.{table_view, items_view};
 ghost use Rattle.gp_script.specs.Fault.{Gives};
 ghost use Rattle.gp_script.specs.Event as spec;
-ghost use Rattle.gp_script.specs.View.{event_port};
+ghost use Rattle.gp_script.specs.View.{NamesOneOf, NamesPort, NamesUnit};
 
 use crate::command::command_event;
 use crate::fault::{ScriptError, ScriptFault};
-use crate::keys::{has_only, member, needed_number, needed_text, needs};
+use crate::keys::{has_only, member, needed_bool, needed_number, needed_text, needs};
 use crate::say::say_event;
 use crate::script::ScriptEvent;
-use crate::values::{delay_in, in_range, octets_of, port_in};
+use crate::values::{delay_in, in_range, octets_of, port_in, unit_in};
 use gp_ploam::Mask;
 use std::alloc::Global;
 use toml::{Table, Value};
 
-/// Reads an event of so many frames. Each of these functions is given how many ports there are.
+/// Reads an event of so many frames. Each of these functions is given how many ports, or units, there are.
 #[tactic(auto, unfolding(crate::specs::Event::frames_event))]
 fn frames_event(ports: u8, table: &Table) -> Result<ScriptEvent, ScriptFault>
     ensures value { result ≡ spec.frames_event ports (table_view table.now) }
-    ensures port { IfOk result (λ e. event_port e < ports) }
+    ensures port { IfOk result (λ e. NamesPort ports e) }
 {
     needs(ScriptFault::Shape, has_only(table, &["port", "frames"]))?;
     let port = needed_number(table, "port")?;
@@ -32,7 +32,7 @@ fn frames_event(ports: u8, table: &Table) -> Result<ScriptEvent, ScriptFault>
 #[tactic(auto, unfolding(crate::specs::Event::burst_event))]
 fn burst_event(ports: u8, table: &Table) -> Result<ScriptEvent, ScriptFault>
     ensures value { result ≡ spec.burst_event ports (table_view table.now) }
-    ensures port { IfOk result (λ e. event_port e < ports) }
+    ensures port { IfOk result (λ e. NamesPort ports e) }
 {
     needs(
         ScriptFault::Shape,
@@ -47,11 +47,25 @@ fn burst_event(ports: u8, table: &Table) -> Result<ScriptEvent, ScriptFault>
     Ok(ScriptEvent::Burst { port, at, bytes })
 }
 
+/// Reads an event in which the light of a unit comes or goes, of a script that has units.
+#[tactic(auto, unfolding(crate::specs::Event::light_event))]
+fn light_event(units: u16, table: &Table) -> Result<ScriptEvent, ScriptFault>
+    ensures value { result ≡ spec.light_event units (table_view table.now) }
+    ensures unit { IfOk result (λ e. NamesUnit units e) }
+{
+    needs(ScriptFault::Shape, units > 0)?;
+    needs(ScriptFault::Shape, has_only(table, &["unit", "light"]))?;
+    let unit = needed_number(table, "unit")?;
+    let lit = needed_bool(table, "light")?;
+    let unit = unit_in(units, unit)?;
+    Ok(ScriptEvent::Light { unit, lit })
+}
+
 /// Reads an event table, whose form is told by the key that this form alone has.
-#[tactic(auto, unfolding(crate::specs::Event::event_of))]
-fn event_of(ports: u8, mask: Mask, table: &Table) -> Result<ScriptEvent, ScriptFault>
-    ensures value { result ≡ spec.event_of ports mask (table_view table.now) }
-    ensures port { IfOk result (λ e. event_port e < ports) }
+#[tactic(auto, unfolding(crate::specs::Event::event_of), using(crate::proofs::PlacesLemmas::named_port, crate::proofs::PlacesLemmas::named_unit))]
+fn event_of(ports: u8, units: u16, mask: Mask, table: &Table) -> Result<ScriptEvent, ScriptFault>
+    ensures value { result ≡ spec.event_of ports units mask (table_view table.now) }
+    ensures names { IfOk result (λ e. NamesOneOf ports units e) }
 {
     if member(table, "frames").is_some() {
         frames_event(ports, table)
@@ -61,6 +75,8 @@ fn event_of(ports: u8, mask: Mask, table: &Table) -> Result<ScriptEvent, ScriptF
         say_event(ports, mask, table)
     } else if member(table, "command").is_some() {
         command_event(ports, table)
+    } else if member(table, "light").is_some() {
+        light_event(units, table)
     } else {
         Err(ScriptFault::Shape)
     }
@@ -71,11 +87,12 @@ fn event_of(ports: u8, mask: Mask, table: &Table) -> Result<ScriptEvent, ScriptF
 pub(crate) fn events_of(
     alloc: Global,
     ports: u8,
+    units: u16,
     mask: Mask,
     tables: &[Value],
 ) -> Result<Vec<ScriptEvent>, ScriptError>
-    ensures value { Gives (λ v. v.items) result (spec.events_of ports mask (items_view tables.now)) }
-    ensures ports { IfOk result (λ v. All (λ e. event_port e < ports) v.items) }
+    ensures value { Gives (λ v. v.items) result (spec.events_of ports units mask (items_view tables.now)) }
+    ensures names { IfOk result (λ v. All (λ e. NamesOneOf ports units e) v.items) }
     ensures count { IfOk result (λ v. vec_len v ≡ length tables.now) }
 {
     let mut events = Vec::with_capacity(alloc, tables.len())?;
@@ -83,7 +100,7 @@ pub(crate) fn events_of(
         let Some(table) = value.as_table() else {
             return Err(ScriptError::Fault(ScriptFault::Shape));
         };
-        let event = event_of(ports, mask, table)?;
+        let event = event_of(ports, units, mask, table)?;
         events.push_reserved(event);
     }
     Ok(events)

@@ -57,6 +57,16 @@ pub(crate) fn text_at<'a>(table: &'a Table, key: &str) -> Result<Option<&'a str>
     }
 }
 
+/// Reads the truth value at a key that has to be there.
+pub(crate) fn needed_bool(table: &Table, key: &str) -> Result<bool, ScriptFault>
+    ensures { result ≡ spec.needed_bool key.now (table_view table.now) }
+{
+    match member(table, key) {
+        None => Err(ScriptFault::Shape),
+        Some(value) => value.as_bool().ok_or(ScriptFault::Shape),
+    }
+}
+
 /// Gives the items of a value that has to be a list.
 fn items_of(value: &Value) -> Result<&[Value], ScriptFault>
     ensures { Sees (λ items. Some (items_view items.now)) result (spec.list_or_none (Some (view value.now))) }

@@ -3,6 +3,7 @@
 //! - `reading.rt`: `read_script`, and the keys of the top.
 //! - `script.rt`: a script that was read. `fault.rt`: why one was not.
 //! - `ports.rt`: the port tables; an admission list tells whether a serial number was admitted before.
+//! - `units.rt`: the tables of simulated units. `lose.rt`: those of what is lost on the way.
 //! - `events.rt`: the event tables; `say.rt` those with `say`, `command.rt` those with `command`.
 //! - `keys.rt`: the keys of a table, each value of its type. `values.rt`: the values, each in its range.
 //!
@@ -15,14 +16,16 @@ mod command;
 mod events;
 mod fault;
 mod keys;
+mod lose;
 mod ports;
 mod reading;
 mod say;
 mod script;
 #[cfg(test)]
 mod tests;
+mod units;
 mod values;
 
 pub use fault::{ScriptError, ScriptFault};
 pub use reading::read_script;
-pub use script::{Script, ScriptEvent};
+pub use script::{Script, ScriptEvent, ScriptLosses, ScriptUnit};

@@ -1,4 +1,4 @@
-ghost use Rattle.std.specs.Prelude.{◌≡◌, [], ◌<◌, ◌≤◌, length, option_map, IfOk, IsTrue, All, vec_len};
+ghost use Rattle.std.specs.Prelude.{◌≡◌, [], ◌<◌, ◌≤◌, ◌++◌, length, option_map, IfOk, IsTrue, All, vec_len};
 ghost use Rattle.toml.specs.View.{table_view, items_view, view};
 ghost use Rattle.gp_machine.specs.Config.{is_distinct, is_within_limits};
 ghost use Rattle.gp_script.specs.Fault.{Gives, Sees};
@@ -92,9 +92,11 @@ fn serials_of(
     requires admits { Admits admitted.old before.now [] }
     requires few_ports { length before.now < 256 }
     requires few { length texts.now ≤ MAX_ON_A_PORT }
+    requires once { IsTrue (is_distinct (spec.all_admitted before.now)) }
     ensures value { Gives (λ v. v.items) result (spec.serials_from before.now [] (items_view texts.now)) }
     ensures count { IfOk result (λ v. vec_len v ≡ length texts.now) }
     ensures distinct { IfOk result (λ v. IsTrue (is_distinct v.items)) }
+    ensures once { IfOk result (λ v. IsTrue (is_distinct (spec.all_admitted before.now ++ v.items))) }
     ensures admits { IfOk result (λ v. Admits admitted.new before.now v.items) }
 {
     let port = before.len() as u8;
@@ -128,10 +130,12 @@ fn port_of(
 ) -> Result<PortConfig, ScriptError>
     requires admits { Admits admitted.old before.now [] }
     requires few_ports { length before.now < 256 }
+    requires once { IsTrue (is_distinct (spec.all_admitted before.now)) }
     ensures value { Gives (λ port. port) result (spec.port_of mask before.now (table_view table.now)) }
     ensures limits { IfOk result (λ port. IsTrue (is_within_limits port)) }
     ensures mask { IfOk result (λ port. port.mask ≡ mask) }
     ensures admits { IfOk result (λ port. Admits admitted.new before.now port.admitted) }
+    ensures once { IfOk result (λ port. IsTrue (is_distinct (spec.all_admitted before.now ++ port.admitted))) }
 {
     let shape = port_keys(table)?;
     let teqd = in_range_or(311_040, 0..=u32::MAX, shape.teqd)?;
@@ -171,6 +175,7 @@ pub(crate) fn ports_of(
     ensures value { Gives (λ v. v.items) result (spec.ports_from mask [] (items_view tables.now)) }
     ensures count { IfOk result (λ v. vec_len v ≡ length tables.now) }
     ensures limits { IfOk result (λ v. All (λ port. IsTrue (is_within_limits port)) v.items) }
+    ensures once { IfOk result (λ v. IsTrue (is_distinct (spec.all_admitted v.items))) }
     ensures mask { IfOk result (λ v. All (λ port. port.mask ≡ mask) v.items) }
 {
     let mut ports = Vec::with_capacity(alloc, tables.len())?;

@@ -1,9 +1,9 @@
-ghost use Rattle.std.specs.Prelude.{◌≡◌, Err, IfOk, IsTrue};
+ghost use Rattle.std.specs.Prelude.{◌≡◌, ◌<◌, ◌≤◌, Err, IfOk, IsTrue, length};
 ghost use Rattle.std.specs.Str.{is_utf8};
 ghost use Rattle.toml.specs.Parse.{parse_document};
-ghost use Rattle.toml.specs.View.{table_view};
+ghost use Rattle.toml.specs.View.{table_view, items_view};
 ghost use Rattle.gp_script.specs.Fault.{Gives, Sees};
-ghost use Rattle.gp_script.specs.Script.{top_shape, script_of_table, script_of, text_of, table_or_fault};
+ghost use Rattle.gp_script.specs.Script.{fit_together as tables_fit, top_shape, script_of_table, script_of, text_of, table_or_fault};
 ghost use Rattle.gp_script.specs.Playable.{IsPlayable};
 ghost use Rattle.gp_script.specs.View.{top_keys_view, script_view};
 
@@ -12,51 +12,89 @@ use crate::fault::{ScriptError, ScriptFault};
 use crate::keys::{
     are_tables, has_only, is_empty, list_at, needed_list, needed_number, needs, number_at,
 };
+use crate::lose::losses_of;
 use crate::ports::ports_of;
 use crate::script::Script;
-use crate::values::{count_in, in_range, mask_of};
+use crate::units::units_of;
+use crate::values::{count_in, in_range, in_range_or, mask_of};
 use gp_licence::MAX_LICENCES;
 use std::alloc::Global;
 use toml::{Table, Value};
 
-/// How many ports a script may have at most: one for now.
-const MAX_PORTS: u32 = 1;
+/// How many ports a script may have at most.
+const MAX_PORTS: u32 = 16;
+
+/// How many entries a port's journal may be told to keep at most, which is also what it keeps by default.
+const MAX_JOURNAL_LIMIT: u32 = 1_000_000;
+
+/// How many simulated units a script may have at most.
+const MAX_SIMULATED_UNITS: u32 = 1024;
 
 /// How many events a script may have at most.
 const MAX_EVENTS: u32 = 1_048_576;
 
 /// The keys of the top.
-const TOP_NAMES: [&str; 6] = ["licences", "mask", "port", "unit", "lose", "event"];
+const TOP_NAMES: [&str; 7] = [
+    "licences",
+    "mask",
+    "journal_limit",
+    "port",
+    "unit",
+    "lose",
+    "event",
+];
 
 /// What stands at the keys of the top, each of its type.
 #[derive(Clone, Copy)]
 struct TopKeys<'a> {
     licences: i64,
     mask: Option<i64>,
+    journal_limit: Option<i64>,
     ports: &'a [Value],
+    units: &'a [Value],
+    losses: &'a [Value],
     events: &'a [Value],
+}
+
+/// Tells whether units stand beside one port at most, and what is lost beside units alone.
+#[tactic(auto, using(crate::proofs::ItemsLemmas::item_count_view))]
+fn fit_together(ports: &[Value], units: &[Value], losses: &[Value]) -> bool
+    ensures value { result ≡ tables_fit (items_view ports.now) (items_view units.now) (items_view losses.now) }
+    ensures one_port { IsTrue result → 0 < length units.now → length ports.now ≤ 1 }
+{
+    if is_empty(units) {
+        is_empty(losses)
+    } else {
+        ports.len() <= 1
+    }
 }
 
 /// Reads the keys of the top, each value of its type.
 #[tactic(auto, unfolding(crate::specs::Script::top_shape))]
 fn top_keys(table: &Table) -> Result<TopKeys<'_>, ScriptFault>
-    ensures { Sees top_keys_view result (top_shape (table_view table.now)) }
+    ensures value { Sees top_keys_view result (top_shape (table_view table.now)) }
+    ensures one_port { IfOk result (λ keys. 0 < length keys.units.now → length keys.ports.now ≤ 1) }
 {
     needs(ScriptFault::Shape, has_only(table, &TOP_NAMES))?;
     let licences = needed_number(table, "licences")?;
     let mask = number_at(table, "mask")?;
+    let journal_limit = number_at(table, "journal_limit")?;
     let ports = needed_list(table, "port")?;
     let units = list_at(table, "unit")?;
     let losses = list_at(table, "lose")?;
     let events = list_at(table, "event")?;
     needs(ScriptFault::Shape, are_tables(ports))?;
-    needs(ScriptFault::Shape, is_empty(units))?;
-    needs(ScriptFault::Shape, is_empty(losses))?;
+    needs(ScriptFault::Shape, are_tables(units))?;
+    needs(ScriptFault::Shape, are_tables(losses))?;
     needs(ScriptFault::Shape, are_tables(events))?;
+    needs(ScriptFault::Shape, fit_together(ports, units, losses))?;
     Ok(TopKeys {
         licences,
         mask,
+        journal_limit,
         ports,
+        units,
+        losses,
         events,
     })
 }
@@ -70,14 +108,25 @@ fn read_table(alloc: Global, table: &Table) -> Result<Script, ScriptError>
     let shape = top_keys(table)?;
     let licences = in_range(0..=MAX_LICENCES, shape.licences)?;
     let mask = mask_of(shape.mask)?;
+    let journal_limit = in_range_or(
+        MAX_JOURNAL_LIMIT,
+        1..=MAX_JOURNAL_LIMIT,
+        shape.journal_limit,
+    )?;
     let count = count_in(1..=MAX_PORTS, shape.ports)? as u8;
+    let unit_count = count_in(0..=MAX_SIMULATED_UNITS, shape.units)? as u16;
     count_in(0..=MAX_EVENTS, shape.events)?;
     let ports = ports_of(alloc, mask, shape.ports)?;
-    let events = events_of(alloc, count, mask, shape.events)?;
+    let units = units_of(alloc, shape.units)?;
+    let losses = losses_of(alloc, shape.losses)?;
+    let events = events_of(alloc, count, unit_count, mask, shape.events)?;
     Ok(Script {
         licences,
         mask,
+        journal_limit,
         ports,
+        units,
+        losses,
         events,
     })
 }
@@ -106,7 +155,7 @@ fn parse_table(alloc: Global, text: &str) -> Result<Table, ScriptError>
 /// Reads what the bytes say as a script, or the first fault, before any event runs.
 ///
 /// Of a script that is read, each number is within its range, each serial number is admitted once,
-/// and each event names a port that is there.
+/// units stand beside one port alone, and each event names a port or a unit that is there.
 #[tactic(auto, unfolding(crate::specs::Script::script_of))]
 pub fn read_script(alloc: Global, bytes: &[u8]) -> Result<Script, ScriptError>
     ensures value { Gives script_view result (script_of bytes.now) }

@@ -1,8 +1,8 @@
-ghost use Rattle.std.specs.Prelude.{◌≡◌, ◌<◌, IfOk};
+ghost use Rattle.std.specs.Prelude.{◌≡◌, ℕ, ◌<◌, IfOk};
 ghost use Rattle.toml.specs.View.{table_view};
 ghost use Rattle.gp_ploam.specs.Up.{IsProperUp};
 ghost use Rattle.gp_script.specs.Say as spec;
-ghost use Rattle.gp_script.specs.View.{event_port};
+ghost use Rattle.gp_script.specs.View.{NamesPort};
 
 use crate::fault::ScriptFault;
 use crate::keys::{has_only, needed_number, needed_text, needs, number_at};
@@ -26,7 +26,7 @@ struct Speaker {
 fn said(mask: Mask, speaker: Speaker, message: &Up) -> ScriptEvent
     requires { IsProperUp message.now }
     ensures value { result ≡ spec.said mask speaker message.now }
-    ensures port { event_port result ≡ speaker.port }
+    ensures port { (ports : ℕ) → speaker.port < ports → NamesPort ports result }
 {
     ScriptEvent::Burst {
         port: speaker.port,
@@ -39,7 +39,7 @@ fn said(mask: Mask, speaker: Speaker, message: &Up) -> ScriptEvent
 #[tactic(auto, unfolding(crate::specs::Say::say_serial))]
 fn say_serial(ports: u8, mask: Mask, table: &Table) -> Result<ScriptEvent, ScriptFault>
     ensures value { result ≡ spec.say_serial ports mask (table_view table.now) }
-    ensures port { IfOk result (λ e. event_port e < ports) }
+    ensures port { IfOk result (λ e. NamesPort ports e) }
 {
     let names = ["port", "at", "say", "serial", "onu"];
     needs(ScriptFault::Shape, has_only(table, &names))?;
@@ -81,7 +81,7 @@ fn speaker_of(ports: u8, table: &Table) -> Result<Speaker, ScriptFault>
 #[tactic(auto, unfolding(crate::specs::Say::say_gasp))]
 fn say_gasp(ports: u8, mask: Mask, table: &Table) -> Result<ScriptEvent, ScriptFault>
     ensures value { result ≡ spec.say_gasp ports mask (table_view table.now) }
-    ensures port { IfOk result (λ e. event_port e < ports) }
+    ensures port { IfOk result (λ e. NamesPort ports e) }
 {
     let speaker = speaker_of(ports, table)?;
     Ok(said(mask, speaker, &Up::DyingGasp { onu: speaker.onu }))
@@ -91,7 +91,7 @@ fn say_gasp(ports: u8, mask: Mask, table: &Table) -> Result<ScriptEvent, ScriptF
 #[tactic(auto, unfolding(crate::specs::Say::say_none))]
 fn say_none(ports: u8, mask: Mask, table: &Table) -> Result<ScriptEvent, ScriptFault>
     ensures value { result ≡ spec.say_none ports mask (table_view table.now) }
-    ensures port { IfOk result (λ e. event_port e < ports) }
+    ensures port { IfOk result (λ e. NamesPort ports e) }
 {
     let speaker = speaker_of(ports, table)?;
     Ok(said(mask, speaker, &Up::NoMessage { onu: speaker.onu }))
@@ -101,7 +101,7 @@ fn say_none(ports: u8, mask: Mask, table: &Table) -> Result<ScriptEvent, ScriptF
 #[tactic(auto, unfolding(crate::specs::Say::say_ack))]
 fn say_ack(ports: u8, mask: Mask, table: &Table) -> Result<ScriptEvent, ScriptFault>
     ensures value { result ≡ spec.say_ack ports mask (table_view table.now) }
-    ensures port { IfOk result (λ e. event_port e < ports) }
+    ensures port { IfOk result (λ e. NamesPort ports e) }
 {
     let names = ["port", "at", "say", "onu", "id"];
     needs(ScriptFault::Shape, has_only(table, &names))?;
@@ -125,7 +125,7 @@ fn say_ack(ports: u8, mask: Mask, table: &Table) -> Result<ScriptEvent, ScriptFa
 #[tactic(auto, unfolding(crate::specs::Say::say_event))]
 pub(crate) fn say_event(ports: u8, mask: Mask, table: &Table) -> Result<ScriptEvent, ScriptFault>
     ensures value { result ≡ spec.say_event ports mask (table_view table.now) }
-    ensures port { IfOk result (λ e. event_port e < ports) }
+    ensures port { IfOk result (λ e. NamesPort ports e) }
 {
     match needed_text(table, "say")? {
         "serial" => say_serial(ports, mask, table),

@@ -1,4 +1,4 @@
-use crate::{ScriptError, ScriptEvent, ScriptFault, read_script};
+use crate::{ScriptError, ScriptEvent, ScriptFault, ScriptUnit, read_script};
 use gp_machine::Command;
 use gp_ploam::{Mask, Serial};
 use std::alloc::{AllocError, Global};
@@ -39,24 +39,45 @@ struct Range {
 }
 
 /// Scripts with a fault of the top.
-const TOP_FAULTS: [(&'static str, ScriptFault); 13] = [
+const TOP_FAULTS: [(&'static str, ScriptFault); 19] = [
     ("", ScriptFault::Shape),
     ("licences = ", ScriptFault::Syntax),
     ("licences = 1", ScriptFault::Shape),
     ("port = [{}]", ScriptFault::Shape),
     ("licences = 1\nport = 3", ScriptFault::Shape),
     ("licences = 1\nport = []", ScriptFault::Range),
-    ("licences = 1\nport = [{}, {}]", ScriptFault::Range),
     ("licences = 1\nport = [{}, 3]", ScriptFault::Shape),
     ("licences = 1\nport = [{}]\nmasks = 0", ScriptFault::Shape),
+    (
+        "licences = 1\nport = [{}]\njournal_limit = \"1\"",
+        ScriptFault::Shape,
+    ),
     ("licences = 1\nport = [{}]\n[[unit]]", ScriptFault::Shape),
     ("licences = 1\nport = [{}]\n[[lose]]", ScriptFault::Shape),
     ("licences = 1\nport = [{}]\n[unit]", ScriptFault::Shape),
+    ("licences = 1\nport = [{}]\nunit = [1]", ScriptFault::Shape),
+    ("licences = 1\nport = [{}]\nlose = 0", ScriptFault::Shape),
+    (
+        "licences = 1\nport = [{}]\nunit = []\nlose = [{copy = 0}]",
+        ScriptFault::Shape,
+    ),
+    (
+        "licences = 1\nport = [{}, {}]\nunit = [{serial = \"ABCD00000001\", delay = 0}]",
+        ScriptFault::Shape,
+    ),
+    (
+        "licences = 1\nport = []\nunit = [{serial = \"ABCD00000001\", delay = 0}]",
+        ScriptFault::Range,
+    ),
+    (
+        "licences = 1\nport = [{}]\nunit = []\nevent = [{unit = 0, light = true}]",
+        ScriptFault::Shape,
+    ),
     ("licences = 1\nport = [{}]\nevent = [1]", ScriptFault::Shape),
 ];
 
 /// Scripts with a fault of a port table.
-const PORT_FAULTS: [(&'static str, ScriptFault); 7] = [
+const PORT_FAULTS: [(&'static str, ScriptFault); 9] = [
     ("licences = 1\nport = [{cycle = 1}]", ScriptFault::Shape),
     ("licences = 1\nport = [{cycles = 1.0}]", ScriptFault::Shape),
     (
@@ -75,6 +96,14 @@ const PORT_FAULTS: [(&'static str, ScriptFault); 7] = [
     (
         "licences = 1\nport = [{admit = [\"ABCD0000000a\", \"414243440000000A\"]}]",
         ScriptFault::Duplicate,
+    ),
+    (
+        "licences = 1\nport = [{admit = [\"ABCD00000001\"]}, {}, {admit = [\"ABCD00000001\"]}]",
+        ScriptFault::Duplicate,
+    ),
+    (
+        "licences = 1\nport = [{}, {cycles = 0}]",
+        ScriptFault::Range,
     ),
 ];
 
@@ -157,8 +186,75 @@ const EVENT_FAULTS: [(&'static str, ScriptFault); 30] = [
     ("unit = 0, light = true", ScriptFault::Shape),
 ];
 
+/// What stands before the items under `unit`.
+const BEFORE_UNITS: &str = "licences = 1\nport = [{}]\nunit = [";
+
+/// What stands before the items under `lose`.
+const BEFORE_LOSSES: &str =
+    "licences = 1\nport = [{}]\nunit = [{serial = \"ABCD00000001\", delay = 0}]\nlose = [";
+
+/// What stands before the keys of an event of a script with one unit.
+const BEFORE_LIGHT: &str =
+    "licences = 1\nport = [{}]\nunit = [{serial = \"ABCD00000001\", delay = 0}]\nevent = [{";
+
+/// Items under `unit` with a fault, the first where there are two.
+const UNIT_FAULTS: [(&'static str, ScriptFault); 11] = [
+    ("{}", ScriptFault::Shape),
+    ("{serial = \"ABCD00000001\"}", ScriptFault::Shape),
+    ("{delay = 0}", ScriptFault::Shape),
+    ("{serial = 1, delay = 0}", ScriptFault::Shape),
+    ("{serial = \"A\", delay = \"0\"}", ScriptFault::Shape),
+    (
+        "{serial = \"ABCD00000001\", delay = 0, random = true}",
+        ScriptFault::Shape,
+    ),
+    (
+        "{serial = \"ABCD00000001\", delay = 0, port = 0}",
+        ScriptFault::Shape,
+    ),
+    ("{serial = \"A\", delay = -1}", ScriptFault::Serial),
+    ("{serial = \"A\", delay = 0}, {}", ScriptFault::Serial),
+    (
+        "{serial = \"ABCD00000001\", delay = 622081}, {serial = \"A\", delay = 0}",
+        ScriptFault::Range,
+    ),
+    (
+        "{serial = \"ABCD00000001\", delay = 0}, 1",
+        ScriptFault::Shape,
+    ),
+];
+
+/// Items under `lose` with a fault, the first where there are two.
+const LOSE_FAULTS: [(&'static str, ScriptFault); 9] = [
+    ("{}", ScriptFault::Shape),
+    ("{copy = 0, burst = 0}", ScriptFault::Shape),
+    ("{copy = -1, burst = 0}", ScriptFault::Shape),
+    ("{copy = \"0\"}", ScriptFault::Shape),
+    ("{burst = true}", ScriptFault::Shape),
+    ("{copy = 0, unit = 0}", ScriptFault::Shape),
+    ("{copy = -1}", ScriptFault::Range),
+    ("{burst = -1}, {}", ScriptFault::Range),
+    ("{copy = 0}, 0", ScriptFault::Shape),
+];
+
+/// Events with a fault in a script with one unit.
+const LIGHT_FAULTS: [(&'static str, ScriptFault); 9] = [
+    ("light = true", ScriptFault::Shape),
+    ("unit = 0", ScriptFault::Shape),
+    ("unit = 0, light = 1", ScriptFault::Shape),
+    ("unit = \"0\", light = true", ScriptFault::Shape),
+    ("unit = 1, light = \"on\"", ScriptFault::Shape),
+    ("unit = 0, light = true, port = 0", ScriptFault::Shape),
+    (
+        "unit = 0, light = true, port = 0, frames = 1",
+        ScriptFault::Shape,
+    ),
+    ("unit = 1, light = true", ScriptFault::Range),
+    ("port = 1, frames = 1", ScriptFault::Range),
+];
+
 /// Scripts with two faults, and the first of them.
-const TWO_FAULTS: [(&'static str, ScriptFault); 14] = [
+const TWO_FAULTS: [(&'static str, ScriptFault); 17] = [
     ("licences = \"1\"\n[[port", ScriptFault::Syntax),
     ("licences = 4065\nport = [{cycle = 1}]", ScriptFault::Range),
     (
@@ -190,6 +286,18 @@ const TWO_FAULTS: [(&'static str, ScriptFault); 14] = [
         ScriptFault::Serial,
     ),
     (
+        "licences = 1\nport = [{overhead = \"0\"}]\nunit = [{serial = \"A\", delay = 0}]",
+        ScriptFault::Hex,
+    ),
+    (
+        "licences = 1\nport = [{}]\nlose = [{copy = -1}]\nunit = [{serial = \"A\", delay = 0}]",
+        ScriptFault::Serial,
+    ),
+    (
+        "licences = 1\nport = [{}]\nevent = [{}]\nlose = [{copy = -1}]\nunit = [{serial = \"ABCD00000001\", delay = 0}]",
+        ScriptFault::Range,
+    ),
+    (
         "licences = 1\nport = [{admit = [\"ABCD00000001\", \"A\", \"ABCD00000001\"]}]",
         ScriptFault::Serial,
     ),
@@ -212,7 +320,7 @@ const TWO_FAULTS: [(&'static str, ScriptFault); 14] = [
 ];
 
 /// The ranges of the top.
-const TOP_RANGES: [Range; 2] = [
+const TOP_RANGES: [Range; 3] = [
     Range {
         before: "licences = ",
         behind: "\nport = [{}]",
@@ -224,6 +332,12 @@ const TOP_RANGES: [Range; 2] = [
         behind: "",
         outside: ["84", "86"],
         ends: &["0", "85"],
+    },
+    Range {
+        before: "licences = 1\nport = [{}]\njournal_limit = ",
+        behind: "",
+        outside: ["0", "1000001"],
+        ends: &["1", "1000000"],
     },
 ];
 
@@ -325,6 +439,40 @@ const EVENT_RANGES: [Range; 9] = [
     },
 ];
 
+/// The ranges of the tables that speak of units.
+const UNIT_RANGES: [Range; 5] = [
+    Range {
+        before: "licences = 1\nport = [{}]\nunit = [{serial = \"ABCD00000001\", delay = ",
+        behind: "}]",
+        outside: ["-1", "622081"],
+        ends: &["0", "622080"],
+    },
+    Range {
+        before: "licences = 1\nport = [{}]\nunit = [{serial = \"ABCD00000001\", delay = 0, random = ",
+        behind: "}]",
+        outside: ["-1", "4096"],
+        ends: &["0", "4095"],
+    },
+    Range {
+        before: "licences = 1\nport = [{}]\nunit = [{serial = \"ABCD00000001\", delay = 0}]\nlose = [{copy = ",
+        behind: "}]",
+        outside: ["-1", "-9223372036854775808"],
+        ends: &["0", "9223372036854775807"],
+    },
+    Range {
+        before: "licences = 1\nport = [{}]\nunit = [{serial = \"ABCD00000001\", delay = 0}]\nlose = [{burst = ",
+        behind: "}]",
+        outside: ["-1", "-9223372036854775808"],
+        ends: &["0", "9223372036854775807"],
+    },
+    Range {
+        before: "licences = 1\nport = [{}]\nunit = [{serial = \"ABCD00000001\", delay = 0}]\nevent = [{light = false, unit = ",
+        behind: "}]",
+        outside: ["-1", "1"],
+        ends: &["0"],
+    },
+];
+
 /// The fault of a script, if it has one. Want of memory ends the test.
 fn fault_of(alloc: Global, bytes: &[u8]) -> Result<Option<ScriptFault>, ScriptError> {
     match read_script(alloc, bytes) {
@@ -342,6 +490,22 @@ fn first_other(
     for (text, fault) in scripts {
         if fault_of(alloc, text.as_bytes())? != Some(*fault) {
             return Ok(Some(*text));
+        }
+    }
+    Ok(None)
+}
+
+/// The first of these items that gives a script another fault or none, between these texts.
+fn first_other_item(
+    alloc: Global,
+    before: &'static str,
+    behind: &'static str,
+    items: &[(&'static str, ScriptFault)],
+) -> Result<Option<&'static str>, ScriptError> {
+    for (item, fault) in items {
+        let text = format!(in alloc; "{before}{item}{behind}")?;
+        if fault_of(alloc, text.as_bytes())? != Some(*fault) {
+            return Ok(Some(*item));
         }
     }
     Ok(None)
@@ -400,6 +564,7 @@ fn one_unit(rt: HostRuntime) -> Result<(), ScriptError> {
     ];
     assert_eq!(rt; script.licences, 1);
     assert_eq!(rt; script.mask, Mask::Plain);
+    assert_eq!(rt; script.journal_limit, 1_000_000);
     assert_eq!(rt; script.events.as_slice(), events.as_slice());
     assert_eq!(rt; script.ports.len(), 1);
     for port in &script.ports {
@@ -425,6 +590,7 @@ fn other_forms(rt: HostRuntime) -> Result<(), ScriptError> {
         lose = []
         licences = 0
         mask = 85
+        journal_limit = 16
         port = [{overhead = \"0102030405060708090A\"}]";
     let script = read_script(rt.alloc(), text.as_bytes())?;
     let events = [
@@ -442,6 +608,7 @@ fn other_forms(rt: HostRuntime) -> Result<(), ScriptError> {
     ];
     assert_eq!(rt; script.licences, 0);
     assert_eq!(rt; script.mask, Mask::Coset);
+    assert_eq!(rt; script.journal_limit, 16);
     assert_eq!(rt; script.events.as_slice(), events.as_slice());
     assert_eq!(rt; script.ports.len(), 1);
     for port in &script.ports {
@@ -449,6 +616,60 @@ fn other_forms(rt: HostRuntime) -> Result<(), ScriptError> {
         assert_eq!(rt; port.cycles, 3);
         assert_eq!(rt; port.overhead, [1, 2, 3, 4, 5, 6, 7, 8, 9, 10]);
     }
+    Ok(())
+}
+
+#[test]
+fn units_on_the_fibre(rt: HostRuntime) -> Result<(), ScriptError> {
+    let text = "licences = 1
+        port = [{cycles = 1, admit = [\"ABCD00000001\"]}]
+        unit = [{serial = \"ABCD00000001\", delay = 200000},
+        {random = 4095, delay = 0, serial = \"ABCD00000001\"}]
+        lose = [{copy = 4}, {burst = 0}, {copy = 3}, {copy = 4}, {burst = 7}]
+        event = [{port = 0, command = \"search\"}, {unit = 1, light = false},
+        {port = 0, frames = 11}, {unit = 1, light = true}]";
+    let script = read_script(rt.alloc(), text.as_bytes())?;
+    let serial = Serial(*b"ABCD\x00\x00\x00\x01");
+    let units = [
+        ScriptUnit {
+            serial,
+            delay: 200_000,
+            random: 0,
+        },
+        ScriptUnit {
+            serial,
+            delay: 0,
+            random: 4095,
+        },
+    ];
+    let events = [
+        ScriptEvent::Command {
+            port: 0,
+            command: Command::Search,
+        },
+        ScriptEvent::Light {
+            unit: 1,
+            lit: false,
+        },
+        ScriptEvent::Frames { port: 0, count: 11 },
+        ScriptEvent::Light { unit: 1, lit: true },
+    ];
+    assert_eq!(rt; script.units.as_slice(), units.as_slice());
+    assert_eq!(rt; script.losses.copies.as_slice(), [4u64, 3, 4].as_slice());
+    assert_eq!(rt; script.losses.bursts.as_slice(), [0u64, 7].as_slice());
+    assert_eq!(rt; script.events.as_slice(), events.as_slice());
+    Ok(())
+}
+
+#[test]
+fn no_units(rt: HostRuntime) -> Result<(), ScriptError> {
+    let text = "licences = 1\nport = [{}, {}]\nunit = []\nlose = []\nevent = []";
+    let script = read_script(rt.alloc(), text.as_bytes())?;
+    assert_eq!(rt; script.ports.len(), 2);
+    assert!(rt; script.units.is_empty());
+    assert!(rt; script.losses.copies.is_empty());
+    assert!(rt; script.losses.bursts.is_empty());
+    assert!(rt; script.events.is_empty());
     Ok(())
 }
 
@@ -532,6 +753,17 @@ fn faults_of_a_port(rt: HostRuntime) -> Result<(), ScriptError> {
 }
 
 #[test]
+fn faults_of_units(rt: HostRuntime) -> Result<(), ScriptError> {
+    let found = first_other_item(rt.alloc(), BEFORE_UNITS, "]", &UNIT_FAULTS)?;
+    assert_eq!(rt; found, None);
+    let found = first_other_item(rt.alloc(), BEFORE_LOSSES, "]", &LOSE_FAULTS)?;
+    assert_eq!(rt; found, None);
+    let found = first_other_item(rt.alloc(), BEFORE_LIGHT, "}]", &LIGHT_FAULTS)?;
+    assert_eq!(rt; found, None);
+    Ok(())
+}
+
+#[test]
 fn faults_of_events(rt: HostRuntime) -> Result<(), ScriptError> {
     for (event, fault) in EVENT_FAULTS {
         let text = format!(in rt.alloc(); "licences = 1\nport = [{{}}]\nevent = [{{{event}}}]")?;
@@ -551,6 +783,7 @@ fn two_faults_at_once(rt: HostRuntime) -> Result<(), ScriptError> {
 fn ends_of_ranges(rt: HostRuntime) -> Result<(), ScriptError> {
     assert_eq!(rt; first_wrong(rt.alloc(), &TOP_RANGES)?, None);
     assert_eq!(rt; first_wrong(rt.alloc(), &PORT_RANGES)?, None);
+    assert_eq!(rt; first_wrong(rt.alloc(), &UNIT_RANGES)?, None);
     assert_eq!(rt; first_wrong(rt.alloc(), &EVENT_RANGES)?, None);
     Ok(())
 }
@@ -592,15 +825,67 @@ fn too_many_serial_numbers_before_a_wrong_one(rt: HostRuntime) -> Result<(), Scr
     Ok(())
 }
 
+/// Sixteen ports, each of which admits as many serial numbers as it may, with an event at this port.
+fn full_chassis(alloc: Global, port: u8) -> Result<String, AllocError> {
+    let mut text = String::new(alloc);
+    text.push_str("licences = 1\n")?;
+    for number in 0..16 {
+        text.push_str("[[port]]\nadmit = [")?;
+        for unit in 0..512 {
+            let serial = format!(in alloc; "\"PT{number:02}{unit:08}\",")?;
+            text.push_str(serial.as_str())?;
+        }
+        text.push_str("]\n")?;
+    }
+    let event = format!(in alloc; "[[event]]\nport = {port}\nframes = 1")?;
+    text.push_str(event.as_str())?;
+    Ok(text)
+}
+
+#[test]
+fn sixteen_ports(rt: HostRuntime) -> Result<(), ScriptError> {
+    let text = full_chassis(rt.alloc(), 15)?;
+    let script = read_script(rt.alloc(), text.as_bytes())?;
+    assert_eq!(rt; script.ports.len(), 16);
+    for port in &script.ports {
+        assert_eq!(rt; port.admitted.as_slice().len(), 512);
+    }
+    let text = full_chassis(rt.alloc(), 16)?;
+    let found = fault_of(rt.alloc(), text.as_bytes())?;
+    assert_eq!(rt; found, Some(ScriptFault::Range));
+    Ok(())
+}
+
 #[test]
 fn seventeen_ports(rt: HostRuntime) -> Result<(), ScriptError> {
-    for (licences, fault) in [("\"1\"", ScriptFault::Shape), ("1", ScriptFault::Range)] {
+    let unit = "1\nunit = [{serial = \"ABCD00000001\", delay = 0}]";
+    let texts = [
+        ("\"1\"", ScriptFault::Shape),
+        ("1", ScriptFault::Range),
+        (unit, ScriptFault::Shape),
+    ];
+    for (licences, fault) in texts {
         let text = format!(in rt.alloc();
             "licences = {licences}\nport = [{}{{}}]",
             "{}, ".repeat(rt.alloc(), 16)?
         )?;
         let found = fault_of(rt.alloc(), text.as_bytes())?;
         assert_eq!(rt; found, Some(fault), "licences = {licences}");
+    }
+    Ok(())
+}
+
+#[test]
+fn most_units(rt: HostRuntime) -> Result<(), ScriptError> {
+    for (count, want) in [(1024, None), (1025, Some(ScriptFault::Range))] {
+        let mut text = String::new(rt.alloc());
+        text.push_str(BEFORE_UNITS)?;
+        for _ in 0..count {
+            text.push_str("{serial = \"ABCD00000001\", delay = 0},")?;
+        }
+        text.push_str("]")?;
+        let found = fault_of(rt.alloc(), text.as_bytes())?;
+        assert_eq!(rt; found, want, "{count} units");
     }
     Ok(())
 }

@@ -50,6 +50,24 @@ pub(crate) fn port_in(ports: u8, number: i64) -> Result<u8, ScriptFault>
     }
 }
 
+/// Reads the place of one of so many units.
+pub(crate) fn unit_in(units: u16, number: i64) -> Result<u16, ScriptFault>
+    ensures value { result ≡ spec.unit_in units number }
+    ensures within { IfOk result (λ unit. unit < units) }
+{
+    match u16::try_from(number) {
+        Ok(unit) if unit < units => Ok(unit),
+        _ => Err(ScriptFault::Range),
+    }
+}
+
+/// Reads a number from 0 on.
+pub(crate) fn number_from_0(number: i64) -> Result<u64, ScriptFault>
+    ensures { result ≡ spec.number_from_0 number }
+{
+    u64::try_from(number).map_err(|_| ScriptFault::Range)
+}
+
 /// Reads a round-trip delay in bit times.
 pub(crate) fn delay_in(number: i64) -> Result<u32, ScriptFault>
     ensures { result ≡ spec.delay_in number }

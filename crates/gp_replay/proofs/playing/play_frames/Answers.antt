@@ -1,7 +1,7 @@
 use Rattle.std.proofs.Common.{rules, arith, ◌≤◌, ◌+◌, length, replicate}
 use Rattle.std.proofs.lemmas.List.{length-replicate}
 use Rattle.gp_replay.specs.Play.{frame_turn}
-use Rattle.gp_replay.proofs.TurnLemmas.{on_err, writes_on, prefix_on, frames_more, frames_rest}
+use Rattle.gp_replay.proofs.TurnLemmas.{if_told, writes_on, left_on, frames_more, frames_rest}
 use Rattle.gp_replay.proofs.RoomLemmas.{room_left}
 use Rattle.gp_replay.proofs.playing.play_frames.Goals as goal
 
@@ -12,7 +12,7 @@ play_turn-requires-clause-room g c =
 
 pub returns-in_err-play_turn-clause-err : goal.returns-in_err-play_turn-clause-err
 returns-in_err-play_turn-clause-err g c =
-    on_err _ (prefix_on _ _ _ _ _ _ _ _ _ _ (frames_rest c.loop.counter c.args.count (frame_turn c.args.port) c.loop-test.true) c.loop.invariant.played c.in_err-play_turn.ensures.err)
+    if_told _ _ _ c.from_residual.ensures.1 (left_on _ _ _ _ _ _ _ _ _ _ (frames_rest c.loop.counter c.args.count (frame_turn c.args.port) c.loop-test.true) c.loop.invariant.played _ c.in_err-play_turn.ensures.err)
 
 pub loop-preserved : goal.loop-preserved
 loop-preserved g c = record {

@@ -6,9 +6,9 @@ use Rattle.gp_replay.proofs.playing.play_frames.Given as goal
 
 abbrev pub invariant-loop : goal.invariant-loop
 invariant-loop g l = record {
-  played : WritesTurns l.mask l.initial.terminal (replicate l.counter (frame_turn l.port)) l.terminal (sink_state g.W.Write.contents l.initial.sink) (sink_state g.W.Write.contents l.sink);
+  played : WritesTurns l.mask l.initial.player (replicate l.counter (frame_turn l.port)) l.player (sink_state g.W.Write.contents l.initial.sink) (sink_state g.W.Write.contents l.sink);
   stopped : has_stopped l.sink ≡ has_stopped l.initial.sink;
   flushed : has_flushed l.initial.sink ≡ true → has_flushed l.sink ≡ true;
   refused : has_stopped l.initial.sink ≡ true → writer_of l.sink ≡ writer_of l.initial.sink;
-  ports : length l.terminal.ports ≡ length l.initial.terminal.ports;
+  ports : length l.player.next ≡ length l.initial.player.next;
 }

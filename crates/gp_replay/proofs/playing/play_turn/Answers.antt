@@ -1,9 +1,6 @@
-use Rattle.std.proofs.lemmas.Result.{on_ok_weaker, on_err_weaker}
-use Rattle.gp_replay.proofs.TurnLemmas.{writes_one, prefix_one}
+use Rattle.std.proofs.Common.{[], ◌∷◌}
+use Rattle.gp_replay.proofs.TurnLemmas.{if_told, some_nothing}
 use Rattle.gp_replay.proofs.playing.play_turn.Goals as goal
 
-pub returns-clause-ok : goal.returns-clause-ok
-returns-clause-ok g c = on_ok_weaker _ (λ lines. writes_one _ _ _ _ _ _ _ c.take_turn-receipt.ensures.taken lines) (rw (c.as_bytes.ensures, c.build.ensures) at c.put.ensures.ok)
-
-pub returns-clause-err : goal.returns-clause-err
-returns-clause-err g c = on_err_weaker _ (λ lines. prefix_one _ _ _ _ _ _ _ c.take_turn-receipt.ensures.taken lines) (rw (c.as_bytes.ensures, c.build.ensures) at c.put.ensures.err)
+pub returns-in_err-receipt-clause-err : goal.returns-in_err-receipt-clause-err
+returns-in_err-receipt-clause-err g c = if_told _ _ _ c.from_residual.ensures.1 (some_nothing c.args.mask c.args.player.now (c.args.turn ∷ []) _)

@@ -3,6 +3,7 @@ use Rattle.std.proofs.lemmas.Grind.{common_steps}
 use Rattle.std.proofs.lemmas.List.Elements.{All-push}
 use Rattle.gp_machine.specs.Config.{is_within_limits}
 use Rattle.gp_script.specs.Port.{ports_from}
+use Rattle.gp_script.proofs.AdmitLemmas.{all_admitted-push}
 use Rattle.gp_script.proofs.AdmissionLemmas.{admits_none, admits_port}
 use Rattle.gp_script.proofs.ports.ports_of.Goals as goal
 
@@ -14,6 +15,7 @@ tables-preserved c = record {
   room = search rules;
   limits = rw c.push_reserved.ensures.items (All-push (λ port. IsTrue (is_within_limits port)) c.tables.ports.items c.in_ok-port.port c.tables.invariant.limits c.in_ok-port.ensures.limits);
   mask = rw c.push_reserved.ensures.items (All-push (λ port. port.mask ≡ c.args.mask) c.tables.ports.items c.in_ok-port.port c.tables.invariant.mask c.in_ok-port.ensures.mask);
+  once = rw (c.push_reserved.ensures.items, all_admitted-push c.tables.ports.items c.in_ok-port.port) (rw c.as_slice.ensures.value at c.in_ok-port.ensures.once);
   admits = rw c.push_reserved.ensures.items (admits_port _ c.tables.ports.items c.in_ok-port.port (rw c.as_slice.ensures.value at c.in_ok-port.ensures.admits));
 }
 
@@ -24,6 +26,7 @@ tables-init c = record {
   room = search rules;
   limits = search rules;
   mask = search rules;
+  once = search rules;
   admits = rw (c.new-admitted.ensures, c.in_ok-ports.ensures.items) admits_none;
 }
 

@@ -1,9 +1,9 @@
-use Rattle.std.proofs.Common.{arith, rules, ◌∙◌, sym, ap, length, ◌<◌, Result, Err}
+use Rattle.std.proofs.Common.{arith, rules, ◌∙◌, sym, ap, length, ◌<◌, Err}
 use Rattle.std.proofs.lemmas.Grind.{common_steps}
-use Rattle.toml.specs.View.{view, items_view}
+use Rattle.toml.specs.View.{view}
 use Rattle.gp_serial.specs.Admitted.{max_on_a_port}
 use Rattle.gp_script.specs.Port.{serials_from}
-use Rattle.gp_script.proofs.AdmitLemmas.{is_distinct-push}
+use Rattle.gp_script.proofs.AdmitLemmas.{is_distinct-push, once_more}
 use Rattle.gp_script.proofs.AdmissionLemmas.{admits_more, is_new, read_new, refused, refused_at, ended}
 use Rattle.gp_script.proofs.ports.serials_of.Goals as goal
 
@@ -26,5 +26,6 @@ texts-preserved c =
       count = search rules;
       room = search rules;
       distinct = rw c.push_reserved.ensures.items (is_distinct-push c.texts.serials.items c.in_ok-serial.serial new.1 ∙ c.texts.invariant.distinct);
+      once = rw c.push_reserved.ensures.items (once_more c.args.before.now c.texts.serials.items c.in_ok-serial.serial new.1 new.2 c.texts.invariant.once);
       admits = rw (c.push_reserved.ensures.items, c.in_ok-admit.ensures.ok) (admits_more c.texts.admitted c.args.before.now c.texts.serials.items c.in_ok-serial.serial c.texts.invariant.admits new.0);
     }

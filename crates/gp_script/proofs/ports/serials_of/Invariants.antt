@@ -1,7 +1,7 @@
-use Rattle.std.proofs.Common.{◌≡◌, ◌≤◌, [], drop, length, vec_len, vec_capacity, IsTrue}
+use Rattle.std.proofs.Common.{◌≡◌, ◌≤◌, [], ◌++◌, drop, length, vec_len, vec_capacity, IsTrue}
 use Rattle.toml.specs.View.{items_view}
 use Rattle.gp_machine.specs.Config.{is_distinct}
-use Rattle.gp_script.specs.Port.{serials_from}
+use Rattle.gp_script.specs.Port.{all_admitted, serials_from}
 use Rattle.gp_script.specs.Admits.{Admits}
 use Rattle.gp_script.proofs.ports.serials_of.Given as goal
 
@@ -11,5 +11,6 @@ invariant-texts l = record {
   count : vec_len l.serials ≡ l.text-index;
   room : length l.texts ≤ vec_capacity l.serials;
   distinct : IsTrue (is_distinct l.serials.items);
+  once : IsTrue (is_distinct (all_admitted l.before ++ l.serials.items));
   admits : Admits l.admitted l.before l.serials.items;
 }

@@ -1,0 +1,258 @@
+-- What happens to a fibre in parts, one after the other, with what is handed to a sink of it.
+use Rattle.std.proofs.Common.{◌≡◌, ℕ, ◌+◌, ◌<◌, ◌≤◌, List, [], ◌∷◌, ◌++◌, length, take, drop, get_or, Option, None, Some, Result, Ok, Err, IfErr, IsErrAnd, OnErr, subst, refl, sym, ap, ◌∙◌, inl, inr, append_assoc, arith}
+use Rattle.std.specs.Option.{option_to_list}
+use Rattle.std.proofs.lemmas.Grind.{flat_map-append}
+use Rattle.std.proofs.lemmas.List.{append-nil, length-append, length-take-le, take_more, take-append-drop}
+use Rattle.gp_ploam.specs.declared.check.Mask.{Mask}
+use Rattle.gp_machine.specs.declared.entry.Entry.{Entry}
+use Rattle.gp_machine.specs.declared.entry.Receipt.{Receipt}
+use Rattle.gp_fibre.specs.declared.world_step.WorldStep.{WorldStep}
+use Rattle.gp_fibre.specs.Schedule.{WorldState, FramesRun, StepsTo}
+use Rattle.gp_fibre.proofs.Frames.{frames_in_parts}
+use Rattle.gp_script.specs.declared.script.ScriptEvent.{ScriptEvent}
+use Rattle.gp_script.specs.declared.script.ScriptEvent.TheVariants as events
+use Rattle.gp_script.specs.Lose.{LossesView}
+use Rattle.gp_stream.specs.Sink.{SinkState, Takes, TakesPrefix}
+use Rattle.gp_trace.specs.Text.{line_of, trace_text}
+use Rattle.gp_replay.specs.declared.fault.PlayFault.{PlayFault}
+use Rattle.gp_replay.specs.declared.fault.PlayFault.TheVariants as faults
+use Rattle.gp_replay.specs.WorldPlay.{TakesStep, WorldTakes, WorldTakesAll, receipt_with, receipts_from}
+use Rattle.gp_replay.specs.WorldWriting.{FibrePlay, Happening, LeavesBy, MayTakeStep, TakesNothing, TakesSomeFrames, WorldTakesPart, WorldTakesPrefix, Writes, WritesPrefixOf}
+use Rattle.gp_replay.proofs.SinkLemmas.{takes_nothing, takes_more, takes_prefix_after}
+
+-- what is left by the error that a result is told to be
+pub if_told : {T E : Type 0} (P : E → Type 0) (r : Result T E) (e : E) → IsErrAnd r (λ x. x ≡ e) → P e → IfErr r P
+if_told P (Ok x) e told p = absurd told
+if_told P (Err x) e told p = subst P (sym told) p
+
+pub on_err : {T E P : Type 0} (r : Result T E) → P → OnErr r P
+on_err (Ok x) p = tt
+on_err (Err e) p = p
+
+-- ---- texts
+
+receipts_append : (n : ℕ) (xs ys : List Entry) → receipts_from n (xs ++ ys) ≡ receipts_from n xs ++ receipts_from (n + length xs) ys
+receipts_append n [] ys = ap (λ (k : ℕ). receipts_from k ys) (let e : n ≡ n + 0 = omega arith in e)
+receipts_append n (x ∷ xs) ys =
+    let e : (n + 1) + length xs ≡ n + length (x ∷ xs) = omega arith in
+    ap (λ (rs : List Receipt). receipt_with n x ∷ rs) (receipts_append (n + 1) xs ys ∙ ap (λ (k : ℕ). receipts_from (n + 1) xs ++ receipts_from k ys) e)
+
+text_append : (mask : Mask) (n m : ℕ) (xs ys : List Entry) → m ≡ n + length xs
+    → trace_text mask (receipts_from n xs) ++ trace_text mask (receipts_from m ys) ≡ trace_text mask (receipts_from n (xs ++ ys))
+text_append mask n m xs ys e =
+    ap (λ (k : ℕ). trace_text mask (receipts_from n xs) ++ trace_text mask (receipts_from k ys)) e
+    ∙ sym (flat_map-append (line_of mask) (receipts_from n xs) (receipts_from (n + length xs) ys))
+    ∙ ap (λ (rs : List Receipt). trace_text mask rs) (sym (receipts_append n xs ys))
+
+text_one : (mask : Mask) (n : ℕ) (x : Entry) → trace_text mask (receipts_from n (x ∷ [])) ≡ line_of mask (receipt_with n x)
+text_one mask n x = append-nil (line_of mask (receipt_with n x))
+
+-- a prefix of some bytes is one of those and more
+prefix_of_more : (x y : SinkState) (few more : List ℕ) → TakesPrefix x y few → TakesPrefix x y (few ++ more)
+prefix_of_more x y few more p = record {
+  written = p.written;
+  unwritten = p.unwritten ++ more;
+  appended = p.appended;
+  rest = sym (append_assoc x.gathered few more) ∙ ap (λ (l : List ℕ). l ++ more) p.rest ∙ append_assoc p.written p.unwritten more;
+}
+
+-- ---- entries that are written
+
+pub entries_more : (mask : Mask) (n m i : ℕ) (es : List Entry) (d : Entry) (x y z : SinkState) → i < length es → m ≡ n + i → d ≡ get_or es i d
+    → Takes x y (trace_text mask (receipts_from n (take i es))) → Takes y z (line_of mask (receipt_with m d))
+    → Takes x z (trace_text mask (receipts_from n (take (i + 1) es)))
+entries_more mask n m i es d x y z h e is p told =
+    let q = subst (λ (o : Entry). Takes y z (line_of mask (receipt_with m o))) is told in
+    let one = get_or es i d ∷ [] in
+    let at : m ≡ n + length (take i es) = omega (arith, e, length-take-le i es (omega arith)) in
+    let text = text_append mask n m (take i es) one at ∙ ap (λ (l : List Entry). trace_text mask (receipts_from n l)) (sym (take_more es i d h)) in
+    let last : Takes y z (trace_text mask (receipts_from m one)) = subst (λ (l : List ℕ). Takes y z l) (sym (text_one mask m (get_or es i d))) q in
+    subst (λ (l : List ℕ). Takes x z l) text (takes_more x y z _ _ p last)
+
+pub entries_stop : (mask : Mask) (n m i : ℕ) (es : List Entry) (d : Entry) (x y z : SinkState) → i < length es → m ≡ n + i → d ≡ get_or es i d
+    → Takes x y (trace_text mask (receipts_from n (take i es))) → TakesPrefix y z (line_of mask (receipt_with m d))
+    → TakesPrefix x z (trace_text mask (receipts_from n es))
+entries_stop mask n m i es d x y z h e is p told =
+    let q = subst (λ (o : Entry). TakesPrefix y z (line_of mask (receipt_with m o))) is told in
+    let one = get_or es i d ∷ [] in
+    let at : m ≡ n + length (take i es) = omega (arith, e, length-take-le i es (omega arith)) in
+    let some = take (i + 1) es in
+    let text = text_append mask n m (take i es) one at ∙ ap (λ (l : List Entry). trace_text mask (receipts_from n l)) (sym (take_more es i d h)) in
+    let last : TakesPrefix y z (trace_text mask (receipts_from m one)) = subst (λ (l : List ℕ). TakesPrefix y z l) (sym (text_one mask m (get_or es i d))) q in
+    let few : TakesPrefix x z (trace_text mask (receipts_from n some)) = subst (λ (l : List ℕ). TakesPrefix x z l) text (takes_prefix_after x y z _ _ p last) in
+    let all = text_append mask n (n + length some) some (drop (i + 1) es) refl ∙ ap (λ (l : List Entry). trace_text mask (receipts_from n l)) (take-append-drop (i + 1) es) in
+    subst (λ (l : List ℕ). TakesPrefix x z l) all (prefix_of_more x z _ _ few)
+
+-- ---- what happens in parts
+
+-- one after the other is the whole
+abbrev pub Joins : Happening → Happening → Happening → Type 0
+Joins T U V = (a b c : WorldState) (es fs : List Entry) → T a es b → U b fs c → V a (es ++ fs) c
+
+pub writes_none : (mask : Mask) (T : Happening) (old : FibrePlay) (x : SinkState) → T old.world [] old.world → Writes mask T old old x x
+writes_none mask T old x h = record { entries = []; happened = h; next = omega arith; lines = takes_nothing x }
+
+pub writes_on : (mask : Mask) (T U V : Happening) → Joins T U V → (old mid new : FibrePlay) (x y z : SinkState)
+    → Writes mask T old mid x y → Writes mask U mid new y z → Writes mask V old new x z
+writes_on mask T U V joins old mid new x y z p q = record {
+  entries = p.entries ++ q.entries;
+  happened = joins old.world mid.world new.world p.entries q.entries p.happened q.happened;
+  next = omega (arith, p.next, q.next, length-append p.entries q.entries);
+  lines = subst (λ (l : List ℕ). Takes x z l) (text_append mask old.next mid.next p.entries q.entries p.next) (takes_more x y z _ _ p.lines q.lines);
+}
+
+prefix_on : (mask : Mask) (T U V : Happening) → Joins T U V → (old mid : FibrePlay) (x y z : SinkState)
+    → Writes mask T old mid x y → WritesPrefixOf mask U mid y z → WritesPrefixOf mask V old x z
+prefix_on mask T U V joins old mid x y z p q = record {
+  entries = p.entries ++ q.entries;
+  end = q.end;
+  happened = joins old.world mid.world q.end p.entries q.entries p.happened q.happened;
+  lines = subst (λ (l : List ℕ). TakesPrefix x z l) (text_append mask old.next mid.next p.entries q.entries p.next) (takes_prefix_after x y z _ _ p.lines q.lines);
+}
+
+pub leaves_on : (mask : Mask) (T U V : Happening) → Joins T U V → (old mid : FibrePlay) (x y z : SinkState)
+    → Writes mask T old mid x y → (fault : PlayFault) → LeavesBy fault mask U mid y z → LeavesBy fault mask V old x z
+leaves_on mask T U V joins old mid x y z p faults.OutOfMemory q = (q.0, writes_on mask T U V joins old mid q.0 x y z p q.1)
+leaves_on mask T U V joins old mid x y z p faults.Write q = prefix_on mask T U V joins old mid x y z p q
+
+-- ---- a step
+
+pub step_writes : (mask : Mask) (step : WorldStep) (given : Option Entry) (entry : Entry) (old mid new : FibrePlay) (x y : SinkState) → StepsTo old.world step given mid.world → given ≡ Some entry
+    → mid.next ≡ old.next → new.world ≡ mid.world → new.next ≡ mid.next + 1 → Takes x y (line_of mask (receipt_with mid.next entry)) → Writes mask (TakesStep step) old new x y
+step_writes mask step given entry old mid new x y steps is next world more lines = record {
+  entries = entry ∷ [];
+  happened = subst (λ (w : WorldState). TakesStep step old.world (entry ∷ []) w) (sym world) (given, steps, ap (λ (g : Option Entry). option_to_list g) (sym is));
+  next = more ∙ ap (λ (n : ℕ). n + 1) next;
+  lines = subst (λ (l : List ℕ). Takes x y l) (sym (text_one mask old.next entry)) (subst (λ (n : ℕ). Takes x y (line_of mask (receipt_with n entry))) next lines);
+}
+
+pub step_silent : (mask : Mask) (step : WorldStep) (given : Option Entry) (old new : FibrePlay) (x : SinkState) → StepsTo old.world step given new.world → given ≡ None → new.next ≡ old.next
+    → Writes mask (TakesStep step) old new x x
+step_silent mask step given old new x steps is next = record {
+  entries = [];
+  happened = (given, steps, ap (λ (g : Option Entry). option_to_list g) (sym is));
+  next = omega (arith, next);
+  lines = takes_nothing x;
+}
+
+pub step_prefix : (mask : Mask) (step : WorldStep) (given : Option Entry) (entry : Entry) (old mid : FibrePlay) (x y : SinkState) → StepsTo old.world step given mid.world → given ≡ Some entry
+    → mid.next ≡ old.next → TakesPrefix x y (line_of mask (receipt_with mid.next entry)) → WritesPrefixOf mask (MayTakeStep step) old x y
+step_prefix mask step given entry old mid x y steps is next lines = record {
+  entries = entry ∷ [];
+  end = mid.world;
+  happened = inr (given, steps, ap (λ (g : Option Entry). option_to_list g) (sym is));
+  lines = subst (λ (l : List ℕ). TakesPrefix x y l) (sym (text_one mask old.next entry)) (subst (λ (n : ℕ). TakesPrefix x y (line_of mask (receipt_with n entry))) next lines);
+}
+
+pub no_step : (mask : Mask) (step : WorldStep) (old : FibrePlay) (x : SinkState) → LeavesBy faults.OutOfMemory mask (MayTakeStep step) old x x
+no_step mask step old x = (old, writes_none mask (MayTakeStep step) old x (inl (refl, refl)))
+
+-- ---- frames
+
+pub frames_join : (losses : LossesView) (count more total : ℕ) → count + more ≡ total
+    → Joins (FramesRun losses.copies losses.bursts count) (FramesRun losses.copies losses.bursts more) (FramesRun losses.copies losses.bursts total)
+frames_join losses count more total e a b c es fs p q =
+    subst (λ (n : ℕ). FramesRun losses.copies losses.bursts n a (es ++ fs) c) e
+    ((frames_in_parts losses.copies losses.bursts count more a c (es ++ fs)).1 (b, es, fs, p, q, refl))
+
+pub some_frames_join : (losses : LossesView) (count more total : ℕ) → count + more ≤ total
+    → Joins (FramesRun losses.copies losses.bursts count) (TakesSomeFrames losses more) (TakesSomeFrames losses total)
+some_frames_join losses count more total e a b c es fs p q =
+    (count + q.0, let few = q.1 in omega arith, frames_join losses count q.0 (count + q.0) refl a b c es fs p q.2)
+
+pub no_frames : (mask : Mask) (losses : LossesView) (count : ℕ) (old : FibrePlay) (x : SinkState) → LeavesBy faults.OutOfMemory mask (TakesSomeFrames losses count) old x x
+no_frames mask losses count old x = (old, writes_none mask (TakesSomeFrames losses count) old x (0, omega arith, (refl, refl)))
+
+pub writes_no_frames : (mask : Mask) (losses : LossesView) (count : ℕ) (old : FibrePlay) (x : SinkState) → count ≡ 0 → Writes mask (FramesRun losses.copies losses.bursts count) old old x x
+writes_no_frames mask losses count old x none =
+    writes_none mask (FramesRun losses.copies losses.bursts count) old x (subst (λ (n : ℕ). FramesRun losses.copies losses.bursts n old.world [] old.world) (sym none) (refl, refl))
+
+pub frames_write : (mask : Mask) (losses : LossesView) (count : ℕ) (entries : List Entry) (old mid new : FibrePlay) (x y : SinkState) → FramesRun losses.copies losses.bursts count old.world entries mid.world
+    → mid.next ≡ old.next → new.world ≡ mid.world → new.next ≡ mid.next + length entries → Takes x y (trace_text mask (receipts_from mid.next entries))
+    → Writes mask (FramesRun losses.copies losses.bursts count) old new x y
+frames_write mask losses count entries old mid new x y run next world more lines = record {
+  entries = entries;
+  happened = subst (λ (w : WorldState). FramesRun losses.copies losses.bursts count old.world entries w) (sym world) run;
+  next = more ∙ ap (λ (n : ℕ). n + length entries) next;
+  lines = subst (λ (n : ℕ). Takes x y (trace_text mask (receipts_from n entries))) next lines;
+}
+
+pub frames_prefix : (mask : Mask) (losses : LossesView) (count : ℕ) (entries : List Entry) (old mid : FibrePlay) (x y : SinkState) → FramesRun losses.copies losses.bursts count old.world entries mid.world
+    → mid.next ≡ old.next → TakesPrefix x y (trace_text mask (receipts_from mid.next entries)) → WritesPrefixOf mask (TakesSomeFrames losses count) old x y
+frames_prefix mask losses count entries old mid x y run next lines = record {
+  entries = entries;
+  end = mid.world;
+  happened = (count, omega arith, run);
+  lines = subst (λ (n : ℕ). TakesPrefix x y (trace_text mask (receipts_from n entries))) next lines;
+}
+
+-- ---- events
+
+takes_append : (losses : LossesView) (us vs : List ScriptEvent) → Joins (WorldTakesAll losses us) (WorldTakesAll losses vs) (WorldTakesAll losses (us ++ vs))
+takes_append losses [] vs a b c es fs p q =
+    subst (λ (l : List Entry). WorldTakesAll losses vs a (l ++ fs) c) (sym p.1) (subst (λ (w : WorldState). WorldTakesAll losses vs w fs c) p.0 q)
+takes_append losses (u ∷ us) vs a b c es fs p q = (
+  p.0,
+  p.1,
+  p.2 ++ fs,
+  p.3,
+  takes_append losses us vs p.0 b c p.2 fs p.4 q,
+  ap (λ (l : List Entry). l ++ fs) p.5 ∙ append_assoc p.1 p.2 fs,
+)
+
+takes_one : (losses : LossesView) (e : ScriptEvent) (a b : WorldState) (es : List Entry) → WorldTakes losses e a es b → WorldTakesAll losses (e ∷ []) a es b
+takes_one losses e a b es p = (b, es, [], p, (refl, refl), sym (append-nil es))
+
+-- one more event
+pub event_joins : (losses : LossesView) (all : List ScriptEvent) (i : ℕ) (d : ScriptEvent) → i < length all
+    → Joins (WorldTakesAll losses (take i all)) (WorldTakes losses (get_or all i d)) (WorldTakesAll losses (take (i + 1) all))
+event_joins losses all i d h a b c es fs p q =
+    subst (λ (l : List ScriptEvent). WorldTakesAll losses l a (es ++ fs) c) (sym (take_more all i d h))
+    (takes_append losses (take i all) (get_or all i d ∷ []) a b c es fs p (takes_one losses (get_or all i d) b c fs q))
+
+-- events, and those that are left after one
+events_split : (all : List ScriptEvent) (i : ℕ) (d : ScriptEvent) → i < length all → all ≡ take i all ++ get_or all i d ∷ drop (i + 1) all
+events_split all i d h =
+    sym (take-append-drop (i + 1) all) ∙ ap (λ (l : List ScriptEvent). l ++ drop (i + 1) all) (take_more all i d h) ∙ append_assoc (take i all) (get_or all i d ∷ []) (drop (i + 1) all)
+
+-- events, and then a part of the next
+part_joins : (losses : LossesView) (all whole more : List ScriptEvent) (e : ScriptEvent) → all ≡ whole ++ e ∷ more
+    → Joins (WorldTakesAll losses whole) (WorldTakesPart losses e) (WorldTakesPrefix losses all)
+part_joins losses all whole more e split a b c es fs p q = of_event e split q
+  where
+    nothing : TakesNothing b fs c → WorldTakesPrefix losses all a (es ++ fs) c
+    nothing n = (
+      whole,
+      record { whole = whole; left = e ∷ more; split = split; stops = inl refl },
+      subst (λ (w : WorldState). WorldTakesAll losses whole a (es ++ fs) w) (sym n.0)
+          (subst (λ (l : List Entry). WorldTakesAll losses whole a l b) (sym (append-nil es) ∙ ap (λ (l : List Entry). es ++ l) (sym n.1)) p),
+    )
+
+    all_of : (f : ScriptEvent) → all ≡ whole ++ f ∷ more → WorldTakes losses f b fs c → WorldTakesPrefix losses all a (es ++ fs) c
+    all_of f s t = (
+      whole ++ f ∷ [],
+      record { whole = whole ++ f ∷ []; left = more; split = s ∙ sym (append_assoc whole (f ∷ []) more); stops = inl refl },
+      takes_append losses whole (f ∷ []) a b c es fs p (takes_one losses f b c fs t),
+    )
+
+    of_event : (f : ScriptEvent) → all ≡ whole ++ f ∷ more → WorldTakesPart losses f b fs c → WorldTakesPrefix losses all a (es ++ fs) c
+    of_event (events.Frames port count) s t =
+        let made = events.Frames port t.0 in (
+          whole ++ made ∷ [],
+          record { whole = whole; left = events.Frames port count ∷ more; split = s; stops = inr (record { port = port; count = count; made = t.0; more = more; next = refl; some = t.1; done_is = refl }) },
+          takes_append losses whole (made ∷ []) a b c es fs p (takes_one losses made b c fs t.2),
+        )
+    of_event (events.Burst port at bytes) s (inl n) = nothing n
+    of_event (events.Burst port at bytes) s (inr t) = all_of (events.Burst port at bytes) s t
+    of_event (events.Command port command) s (inl n) = nothing n
+    of_event (events.Command port command) s (inr t) = all_of (events.Command port command) s t
+    of_event (events.Light unit lit) s (inl n) = nothing n
+    of_event (events.Light unit lit) s (inr t) = all_of (events.Light unit lit) s t
+
+pub event_part_joins : (losses : LossesView) (all : List ScriptEvent) (i : ℕ) (d : ScriptEvent) → i < length all
+    → Joins (WorldTakesAll losses (take i all)) (WorldTakesPart losses (get_or all i d)) (WorldTakesPrefix losses all)
+event_part_joins losses all i d h = part_joins losses all (take i all) (drop (i + 1) all) (get_or all i d) (events_split all i d h)
+
+-- all events are a prefix of them
+pub all_are_prefix : (losses : LossesView) (all : List ScriptEvent) (a b : WorldState) (es : List Entry) → WorldTakesAll losses all a es b → WorldTakesPrefix losses all a es b
+all_are_prefix losses all a b es p = (all, record { whole = all; left = []; split = sym (append-nil all); stops = inl refl }, p)

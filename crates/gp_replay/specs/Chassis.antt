@@ -1,0 +1,42 @@
+-- The chassis that a script is played on (this profile's own rule).
+use Rattle.std.specs.Prelude.{ℕ, ◌+◌, ◌<◌, ◌≤◌, ◌^◌, List, All, length, map}
+use Rattle.gp_machine.specs.declared.config.PortConfig.{PortConfig}
+use Rattle.gp_chassis.specs.World.{ChassisWorld, world_opened, units_of}
+use Rattle.gp_chassis.specs.Desk.{DeskState}
+use Rattle.gp_chassis.specs.Core.{CoreState, world_of}
+use Rattle.gp_script.specs.Script.{ScriptView}
+use Rattle.gp_replay.specs.declared.player.TheConstants.{MAX_KEPT}
+
+-- where a play stands: the world of its chassis, and the number of each port's next entry
+pub record PlayState : Type 0 where
+  pub world : ChassisWorld
+  pub next : List ℕ
+
+-- a chassis that was just opened, on which no port has an entry yet
+abbrev pub opened_play : List PortConfig → ℕ → PlayState
+opened_play ports licences = record { world = world_opened ports licences; next = map (λ port. 0) ports }
+
+-- the play of a script before its first event
+abbrev pub opening_play : ScriptView → PlayState
+opening_play script = opened_play script.ports script.licences
+
+-- each port can number so many more entries in 64 bits
+abbrev pub HasRoom : ℕ → PlayState → Type 0
+HasRoom count play = All (λ next. next + count < 2 ^ 64) play.next
+
+-- how many licences there are: those that are free, and one for each active unit
+abbrev pub total_licences : PlayState → ℕ
+total_licences play = play.world.free + units_of play.world
+
+-- the number of a port's next entry: entries that were cut from its journal count too
+abbrev pub next_of : DeskState → ℕ
+next_of desk = desk.first + length desk.entries
+
+-- a play as its chassis shows it
+abbrev pub play_of : CoreState → PlayState
+play_of chassis = record { world = world_of chassis; next = map next_of chassis.desks }
+
+-- a journal that keeps an entry at least, and so many at most that memory stays flat
+pub record KeepsFew (desk : DeskState) : Type 0 where
+  pub some : 0 < desk.limit
+  pub few : desk.limit ≤ MAX_KEPT

@@ -1,0 +1,144 @@
+ghost use Rattle.std.specs.Prelude.{◌≡◌, ◌+◌, ◌<◌, ◌^◌, None, All, IfOk, OnOk, map, true};
+ghost use Rattle.std.specs.Option.{ForSome};
+ghost use Rattle.gp_fibre.specs.World.{is_world_within_limits};
+ghost use Rattle.gp_fibre.specs.Schedule.{FramesRun, IsProperEntry, StepsTo, opening_state, step_fault};
+ghost use Rattle.gp_replay.specs.WorldPlay.{plan_of, receipt_with};
+ghost use Rattle.gp_replay.specs.WorldWriting.{HasFibreRoom};
+
+use gp_fibre::{LossPlan, UnitPlan, World, WorldFault, WorldStep};
+use gp_licence::MAX_LICENCES;
+use gp_machine::{Entry, PortConfig, Receipt};
+use gp_script::ScriptUnit;
+use std::alloc::{AllocError, Global};
+use std::marker::Model;
+use std::sync::ledger::{Blank, Ledger};
+
+/// The fibre that a script with simulated units is played on. Contracts see it with the number of the port's next
+/// entry.
+///
+/// It has no `Drop`: its licences are gathered by `close`.
+pub(crate) struct WorldPlayer<L: Ledger> {
+    alloc: Global,
+    world: World<L>,
+    next: u64,
+}
+
+impl<L: Ledger> Model for WorldPlayer<L> {
+    ghost use Rattle.std.specs.FinMap as map;
+    ghost use Rattle.std.specs.FinSet as set;
+    ghost use Rattle.std.specs.Coded.{codes};
+    ghost use Rattle.gp_ploam.specs.Serials.{serial_cmp, coded_serial};
+    ghost use Rattle.gp_unit.specs.contracts.row.Row as row;
+    ghost use Rattle.gp_replay.specs.WorldWriting.{FibrePlay};
+
+    ghost Value = { FibrePlay };
+
+    ghost coded = { Prim.hlevel (codes, map.code {R = serial_cmp} coded_serial row.the_row.coded, set.code {R = serial_cmp} coded_serial) };
+
+    ghost view = { λ p. record { world = p.world; next = p.next } };
+}
+
+impl<L: Ledger> WorldPlayer<L> {
+    /// Begins the fibre, before its first event.
+    pub(crate) fn begin(
+        alloc: Global,
+        blank: Blank,
+        config: &PortConfig,
+        licences: u32,
+        units: &[ScriptUnit],
+    ) -> Result<WorldPlayer<L>, AllocError>
+        requires name { blank.name ≡ L.name }
+        requires parts { (blank.parts ≡ L.parts) × (L.parts ≡ MAX_LICENCES) }
+        requires limits { is_world_within_limits config.now licences (map plan_of units.now) ≡ true }
+        ensures world { IfOk result (λ player. player.world ≡ opening_state config.now licences (map plan_of units.now)) }
+        ensures next { IfOk result (λ player. player.next ≡ 0) }
+    {
+        let plans = plans_of(alloc, units)?;
+        match World::begin(alloc, blank, config, licences, plans.as_slice()) {
+            Ok(world) => Ok(WorldPlayer {
+                alloc,
+                world,
+                next: 0,
+            }),
+            Err(WorldFault::Limit) => unreachable!(),
+            Err(_) => Err(AllocError),
+        }
+    }
+
+    /// Makes so many frames of a run, and gives the entries of the port, in order. An error is answered where memory was
+    /// refused; some of the frames are then made.
+    pub(crate) fn run_frames(
+        &mut self,
+        frames: u32,
+        loss: &LossPlan,
+    ) -> Result<Vec<Entry>, AllocError>
+        requires room { HasFibreRoom frames self.old }
+        ensures ran { IfOk result (λ entries. FramesRun loss.now.copies.items loss.now.bursts.items frames self.old.world entries.items self.new.world) }
+        ensures proper { IfOk result (λ entries. All IsProperEntry entries.items) }
+        ensures next { self.new.next ≡ self.old.next }
+    {
+        match self.world.run(self.alloc, frames, loss) {
+            Ok(entries) => Ok(entries),
+            Err(WorldFault::Limit) => unreachable!(),
+            Err(_) => Err(AllocError),
+        }
+    }
+
+    /// Takes a step that is possible, and gives the entry of the port, where the step is an event of it. An error is
+    /// answered where memory was refused.
+    pub(crate) fn take_step(&mut self, step: WorldStep) -> Result<Option<Entry>, AllocError>
+        requires possible { step_fault self.old.world step ≡ None }
+        ensures taken { IfOk result (λ given. StepsTo self.old.world step given self.new.world) }
+        ensures proper { IfOk result (λ given. ForSome given IsProperEntry) }
+        ensures next { self.new.next ≡ self.old.next }
+    {
+        match self.world.step(step) {
+            Ok(given) => Ok(given),
+            Err(WorldFault::OutOfMemory) => Err(AllocError),
+            Err(_) => unreachable!(),
+        }
+    }
+
+    /// Gives the receipt of the port's next entry.
+    pub(crate) fn number_entry(&mut self, entry: Entry) -> Receipt
+        requires { self.old.next + 1 < 2 ^ 64 }
+        ensures receipt { result ≡ receipt_with self.old.next entry }
+        ensures world { self.new.world ≡ self.old.world }
+        ensures next { self.new.next ≡ self.old.next + 1 }
+    {
+        let number = self.next;
+        self.next += 1;
+        Receipt {
+            port: 0,
+            number,
+            entry,
+        }
+    }
+
+    /// Ends the fibre, and answers how many licences there are.
+    pub(crate) fn close(self) -> u32
+        ensures { result ≡ self.world.licences }
+    {
+        let WorldPlayer {
+            alloc: _,
+            world,
+            next: _,
+        } = self;
+        world.close()
+    }
+}
+
+/// Plans the units of a script.
+fn plans_of(alloc: Global, units: &[ScriptUnit]) -> Result<Vec<UnitPlan>, AllocError>
+    ensures { IfOk result (λ plans. plans.items ≡ map plan_of units.now) }
+{
+    let mut plans = Vec::with_capacity(alloc, units.len())?;
+    for unit in units {
+        plans.push_reserved(UnitPlan {
+            serial: unit.serial,
+            delay: unit.delay,
+            random: unit.random,
+        });
+    }
+    Ok(plans)
+}

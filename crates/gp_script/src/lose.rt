@@ -1,0 +1,68 @@
+ghost use Rattle.std.specs.Prelude.{◌≡◌, OnOk};
+ghost use Rattle.toml.specs.View.{table_view, items_view};
+ghost use Rattle.gp_script.specs.Fault.{Gives};
+ghost use Rattle.gp_script.specs.Lose as spec;
+ghost use Rattle.gp_script.specs.View.{losses_view};
+
+use crate::fault::{ScriptError, ScriptFault};
+use crate::keys::{has_only, needs, number_at};
+use crate::script::ScriptLosses;
+use crate::values::number_from_0;
+use std::alloc::{AllocError, Global};
+use toml::{Table, Value};
+
+/// What is lost on the way, by its number.
+#[derive(Clone, Copy)]
+enum Loss {
+    /// A copy of a message, which reaches no unit.
+    Copy(u64),
+    /// A burst of a unit, which does not arrive.
+    Burst(u64),
+}
+
+impl ScriptLosses {
+    /// Loses this too.
+    fn add(&mut self, loss: Loss) -> Result<(), AllocError>
+        ensures { OnOk result (losses_view self.new ≡ spec.with_loss (losses_view self.old) loss) }
+    {
+        match loss {
+            Loss::Copy(number) => self.copies.push(number)?,
+            Loss::Burst(number) => self.bursts.push(number)?,
+        }
+        Ok(())
+    }
+}
+
+/// Reads a table under `lose`, which names either a copy or a burst.
+#[tactic(auto, unfolding(crate::specs::Lose::loss_of))]
+fn loss_of(table: &Table) -> Result<Loss, ScriptFault>
+    ensures { result ≡ spec.loss_of (table_view table.now) }
+{
+    needs(ScriptFault::Shape, has_only(table, &["copy", "burst"]))?;
+    let copy = number_at(table, "copy")?;
+    let burst = number_at(table, "burst")?;
+    match (copy, burst) {
+        (Some(number), None) => Ok(Loss::Copy(number_from_0(number)?)),
+        (None, Some(number)) => Ok(Loss::Burst(number_from_0(number)?)),
+        (Some(_), Some(_)) | (None, None) => Err(ScriptFault::Shape),
+    }
+}
+
+/// Reads the tables under `lose`.
+#[tactic(auto, unfolding(crate::specs::Lose::losses_from))]
+pub(crate) fn losses_of(alloc: Global, tables: &[Value]) -> Result<ScriptLosses, ScriptError>
+    ensures { Gives losses_view result (spec.losses_from spec.no_losses (items_view tables.now)) }
+{
+    let mut losses = ScriptLosses {
+        copies: Vec::new(alloc),
+        bursts: Vec::new(alloc),
+    };
+    'tables: for value in tables {
+        let Some(table) = value.as_table() else {
+            return Err(ScriptError::Fault(ScriptFault::Shape));
+        };
+        let loss = loss_of(table)?;
+        losses.add(loss)?;
+    }
+    Ok(losses)
+}
