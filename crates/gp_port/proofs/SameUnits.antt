@@ -5,6 +5,7 @@ use Rattle.std.specs.FinMap as map
 use Rattle.std.specs.FinSet as set
 use Rattle.std.proofs.lemmas.Bool.{cases_lt, false≢true}
 use Rattle.std.proofs.lemmas.List.{ext_get_or, get_or_default}
+use Rattle.gp_ploam.specs.OnuIds.{onu_ids}
 use Rattle.gp_ploam.specs.declared.message.Serial.{Serial}
 use Rattle.gp_ploam.specs.Serials.{serial_cmp}
 use Rattle.gp_ploam.proofs.Serials.{serials_exact, serials_total}
@@ -81,7 +82,7 @@ one_more_cools xs ys n same this j below = elim (cases_lt j n) [
   | inr after ↦ let here : j ≡ n = omega arith in ap (λ (k : ℕ). get_or xs k 0) here ∙ this ∙ ap (λ (k : ℕ). get_or ys k 0) (sym here)
 ]
 
-pub all_cool : (xs ys : List ℕ) (n : ℕ) → length xs ≡ 254 → length ys ≡ 254 → 254 ≤ n → ((j : ℕ) → j < n → get_or xs j 0 ≡ get_or ys j 0) → xs ≡ ys
+pub all_cool : (xs ys : List ℕ) (n : ℕ) → length xs ≡ onu_ids → length ys ≡ onu_ids → onu_ids ≤ n → ((j : ℕ) → j < n → get_or xs j 0 ≡ get_or ys j 0) → xs ≡ ys
 all_cool xs ys n long other all same = ext_get_or 0 xs ys (long ∙ sym other) (λ j below. same j (omega arith))
 
 -- ---- states

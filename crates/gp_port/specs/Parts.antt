@@ -1,6 +1,7 @@
 -- What the parts of a port stand for (this profile's own rule).
 use Rattle.std.specs.Prelude.{◌≡◌, ℕ, Bool, true, List, length, Option, Some, All, Contains}
 use Rattle.std.specs.FinMap.{get}
+use Rattle.gp_ploam.specs.OnuIds.{onu_ids}
 use Rattle.gp_ploam.specs.declared.message.Down.{Down}
 use Rattle.std.specs.FinSet.{contains, from_list}
 use Rattle.gp_ploam.specs.declared.message.Serial.{Serial}
@@ -53,7 +54,7 @@ pub record IsKept (port : PortState) (held : ℕ) : Type 0 where
 pub record AreListed (admitted : List Serial) (units : ActiveState) : Type 0 where
   pub active : (serial : Serial) (row : Row) → get units.rows serial ≡ Some row → Contains admitted serial
   pub disabled : (serial : Serial) → contains units.disabled serial ≡ true → Contains admitted serial
-  pub counted : length units.cooling ≡ 254
+  pub counted : length units.cooling ≡ onu_ids
 
 -- both have the same units, disabled serial numbers and cooling ONU-IDs
 pub record KnowSameUnits (units other : ActiveState) : Type 0 where

@@ -1,4 +1,6 @@
 ghost use Rattle.std.specs.Prelude.{◌≡◌, ◌+◌, ◌≤◌, None, Some, length};
+ghost use Rattle.gp_ploam.specs.OnuIds.{onu_ids};
+ghost use Rattle.gp_licence.specs.declared.ledger_parts.TheConstants.{MAX_LICENCES};
 ghost use Rattle.gp_volley.specs.Copies.{copies_each, max_copies};
 ghost use Rattle.gp_ranging.specs.declared.grant.Grant.TheVariants as grant;
 ghost use Rattle.gp_machine.specs.declared.event.Event.TheVariants as event;
@@ -25,8 +27,8 @@ impl PortMachine {
         wished: Option<u16>,
     ) -> (Answer, u32)
         requires sound { IsSound self.old }
-        requires units { self.old.config.max_units ≤ 254 }
-        requires purse { purse ≤ 4064 }
+        requires units { self.old.config.max_units ≤ onu_ids }
+        requires purse { purse ≤ MAX_LICENCES }
         ensures step { Step purse self.old (event.Burst at bytes.now) (step_result_of result self.new) }
         ensures wished { GrantsWish purse self.old (event.Burst at bytes.now) wished (step_result_of result self.new) }
     {
@@ -44,8 +46,8 @@ impl PortMachine {
         wished: Option<u16>,
     ) -> (Answer, u32)
         requires sound { IsSound self.old }
-        requires units { self.old.config.max_units ≤ 254 }
-        requires purse { purse ≤ 4064 }
+        requires units { self.old.config.max_units ≤ onu_ids }
+        requires purse { purse ≤ MAX_LICENCES }
         ensures free { MayPick self.old (burst_response purse self.old at heard) (number_in result.0.reply) }
         ensures wished { PicksWished self.old (burst_response purse self.old at heard) wished (number_in result.0.reply) }
         ensures outcome { step_result_of result self.new ≡ step_result_with purse self.old None (burst_response purse self.old at heard) (number_in result.0.reply) }
@@ -84,7 +86,7 @@ impl PortMachine {
     /// Hears a message in the window of an operating unit: octet 1 has to be its ONU-ID.
     fn in_poll(&mut self, purse: u32, at: u32, onu: u8, message: Up) -> (Answer, u32)
         requires sound { IsSound self.old }
-        requires purse { purse ≤ 4064 }
+        requires purse { purse ≤ MAX_LICENCES }
         requires room { length self.old.owed + copies_each ≤ max_copies }
         requires asked { Operates self.old.rows onu }
         ensures free { MayPick self.old (message_response purse self.old at (grant.Poll onu) message) (number_in result.0.reply) }

@@ -1,4 +1,6 @@
 ghost use Rattle.std.specs.Prelude.{◌≡◌, ◌≤◌, None};
+ghost use Rattle.gp_ploam.specs.OnuIds.{onu_ids};
+ghost use Rattle.gp_licence.specs.declared.ledger_parts.TheConstants.{MAX_LICENCES};
 ghost use Rattle.gp_machine.specs.declared.event.Command.TheVariants as command;
 ghost use Rattle.gp_machine.specs.declared.reply.Reply.TheVariants as reply;
 ghost use Rattle.gp_machine.specs.Sound.{IsSound};
@@ -21,9 +23,9 @@ impl PortMachine {
         wished: Option<u16>,
     ) -> (Answer, u32)
         requires sound { IsSound self.old }
-        requires units { self.old.config.max_units ≤ 254 }
+        requires units { self.old.config.max_units ≤ onu_ids }
         requires last { self.old.config.alloc_last ≤ 4095 }
-        requires purse { purse ≤ 4064 }
+        requires purse { purse ≤ MAX_LICENCES }
         ensures free { MayPick self.old (command_response self.old command) (number_in result.0.reply) }
         ensures wished { PicksWished self.old (command_response self.old command) wished (number_in result.0.reply) }
         ensures outcome { step_result_of result self.new ≡ step_result_with purse self.old None (command_response self.old command) (number_in result.0.reply) }
@@ -71,7 +73,7 @@ impl PortMachine {
     /// Carries out the command popup to all units.
     fn command_popup_all(&mut self, purse: u32) -> (Answer, u32)
         requires sound { IsSound self.old }
-        requires units { self.old.config.max_units ≤ 254 }
+        requires units { self.old.config.max_units ≤ onu_ids }
         ensures free { MayPick self.old (command_response self.old command.PopupAll) (number_in result.0.reply) }
         ensures outcome { step_result_of result self.new ≡ step_result_with purse self.old None (command_response self.old command.PopupAll) (number_in result.0.reply) }
     {

@@ -1,11 +1,12 @@
 ghost use Rattle.std.specs.Prelude.{◌≡◌, ℕ, ◌↔◌, IsTrue, length};
 ghost use Rattle.std.specs.FinMap as map;
 ghost use Rattle.std.specs.FinSet as set;
+ghost use Rattle.gp_ploam.specs.OnuIds.{onu_ids};
 ghost use Rattle.gp_port.specs.Parts.{AreListed, KnowSameUnits};
 
 use gp_common::Common;
 use gp_machine::{Answer, PortConfig, Reply, Row, compares_configs, compares_replies};
-use gp_ploam::Serial;
+use gp_ploam::{ONU_IDS, Serial};
 use gp_ranging::{Window, WindowImage};
 use gp_table::ActiveUnits;
 
@@ -124,11 +125,11 @@ fn same_unit(units: &ActiveUnits, other: &ActiveUnits, serial: &Serial) -> bool
 
 /// Tells whether every ONU-ID cools for as long.
 fn same_cooling(units: &ActiveUnits, other: &ActiveUnits) -> bool
-    requires one { length units.now.cooling ≡ 254 }
-    requires other { length other.now.cooling ≡ 254 }
+    requires one { length units.now.cooling ≡ onu_ids }
+    requires other { length other.now.cooling ≡ onu_ids }
     ensures { IsTrue result ↔ (units.now.cooling ≡ other.now.cooling) }
 {
-    for onu in 0..254u8 {
+    for onu in 0..ONU_IDS {
         if units.frames_left(onu) != other.frames_left(onu) {
             return false;
         }

@@ -1,4 +1,5 @@
 ghost use Rattle.std.specs.Prelude.{◌≡◌, ℕ, ◌+◌, ◌-◌, ◌≤◌, None, Some, length, map};
+ghost use Rattle.gp_licence.specs.declared.ledger_parts.TheConstants.{MAX_LICENCES};
 ghost use Rattle.gp_volley.specs.Copies.{copies_each, first_of, max_copies};
 ghost use Rattle.gp_machine.specs.declared.event.Event.TheVariants as event;
 ghost use Rattle.gp_machine.specs.Sound.{IsSound};
@@ -27,7 +28,7 @@ impl PortMachine {
     /// Makes a frame: cooling, timer and sending, then the open window, or a decision.
     pub(super) fn frame(&mut self, purse: u32) -> (Answer, u32)
         requires sound { IsSound self.old }
-        requires purse { purse ≤ 4064 }
+        requires purse { purse ≤ MAX_LICENCES }
         requires period { self.old.config.search_period ≤ 1000000 }
         ensures { Step purse self.old event.Frame (step_result_of result self.new) }
     {
@@ -39,7 +40,7 @@ impl PortMachine {
     /// Makes a frame, where these are the least ranging unit and the one that is polled next.
     fn frame_by(&mut self, purse: u32, ranging: Option<u8>, next: Option<u8>) -> (Answer, u32)
         requires sound { IsSound self.old }
-        requires purse { purse ≤ 4064 }
+        requires purse { purse ≤ MAX_LICENCES }
         requires period { self.old.config.search_period ≤ 1000000 }
         ensures free { MayPick (state_begun self.old) (frame_response self.old ranging next) 0 }
         ensures outcome { step_result_of result self.new ≡ step_result_with purse (state_begun self.old) (first_of self.old.owed) (frame_response self.old ranging next) 0 }
@@ -102,7 +103,7 @@ impl PortMachine {
         left: u8,
     ) -> (Answer, u32)
         requires sound { IsSound self.old }
-        requires purse { purse ≤ 4064 }
+        requires purse { purse ≤ MAX_LICENCES }
         requires window { self.old.window ≡ Some (record { grant = grant; left = left; seen = seen }) }
         ensures free { MayPick self.old (window_response self.old (record { grant = grant; left = left; seen = seen })) 0 }
         ensures outcome { step_result_of result self.new ≡ step_result_with purse self.old sent (window_response self.old (record { grant = grant; left = left; seen = seen })) 0 }
@@ -177,7 +178,7 @@ impl PortMachine {
         heard: bool,
     ) -> (Answer, u32)
         requires fits { IsSoundRow self.old.config.alloc_last row }
-        requires purse { purse ≤ 4064 }
+        requires purse { purse ≤ MAX_LICENCES }
         requires has { HasRow self.old.rows serial row }
         requires room { length self.old.owed + copies_each ≤ max_copies }
         ensures free { MayPick self.old (unranged_response serial row heard (row_unranged row heard row.phase)) 0 }
@@ -209,7 +210,7 @@ impl PortMachine {
         heard: bool,
     ) -> (Answer, u32)
         requires fits { IsSoundRow self.old.config.alloc_last row }
-        requires purse { purse ≤ 4064 }
+        requires purse { purse ≤ MAX_LICENCES }
         requires has { HasRow self.old.rows serial row }
         requires room { length self.old.owed + copies_each ≤ max_copies }
         ensures free { MayPick self.old (unpolled_response serial row (poll_ended heard) (alarm_polled row (poll_ended heard))) 0 }

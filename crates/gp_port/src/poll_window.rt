@@ -1,4 +1,5 @@
 ghost use Rattle.std.specs.Prelude.{◌≡◌, ◌+◌, ◌≤◌, None, Some, false, length};
+ghost use Rattle.gp_licence.specs.declared.ledger_parts.TheConstants.{MAX_LICENCES};
 ghost use Rattle.gp_volley.specs.Copies.{copies_each, max_copies};
 ghost use Rattle.gp_alarms.specs.declared.poll.Outcome.TheVariants as poll;
 ghost use Rattle.gp_unit.specs.Rows.{alarm_polled, is_ranging};
@@ -25,7 +26,7 @@ impl PortMachine {
         message: Up,
     ) -> (Answer, u32)
         requires sound { IsSound self.old }
-        requires purse { purse ≤ 4064 }
+        requires purse { purse ≤ MAX_LICENCES }
         requires has { HasRow self.old.rows serial row }
         requires room { length self.old.owed + copies_each ≤ max_copies }
         requires operating { is_ranging row.phase ≡ false }
@@ -50,7 +51,7 @@ impl PortMachine {
     /// Hears an Acknowledge of an Assign_Alloc-ID; with nothing pending it is a message like any other.
     fn acknowledged(&mut self, purse: u32, serial: Serial, row: Row) -> (Answer, u32)
         requires sound { IsSound self.old }
-        requires purse { purse ≤ 4064 }
+        requires purse { purse ≤ MAX_LICENCES }
         requires has { HasRow self.old.rows serial row }
         requires room { length self.old.owed + copies_each ≤ max_copies }
         requires operating { is_ranging row.phase ≡ false }
@@ -68,7 +69,7 @@ impl PortMachine {
     /// Hears any other message of the operating unit that is asked; with an alarm the unit is removed.
     fn alive(&mut self, purse: u32, serial: Serial, row: Row) -> (Answer, u32)
         requires sound { IsSound self.old }
-        requires purse { purse ≤ 4064 }
+        requires purse { purse ≤ MAX_LICENCES }
         requires has { HasRow self.old.rows serial row }
         requires room { length self.old.owed + copies_each ≤ max_copies }
         ensures free { MayPick self.old (alive_response serial row (alarm_polled row poll.Good)) (number_in result.0.reply) }

@@ -3,6 +3,8 @@ ghost use Rattle.std.specs.FinMap as map;
 ghost use Rattle.std.specs.FinSet as set;
 ghost use Rattle.std.specs.List.{list_any};
 ghost use Rattle.std.specs.Option.{ForSome};
+ghost use Rattle.gp_ploam.specs.OnuIds.{onu_ids};
+ghost use Rattle.gp_licence.specs.declared.ledger_parts.TheConstants.{MAX_LICENCES};
 ghost use Rattle.gp_volley.specs.Copies.{max_copies};
 ghost use Rattle.gp_ploam.specs.Down.{IsProperDown};
 ghost use Rattle.gp_ploam.specs.Serials.{is_among};
@@ -21,7 +23,7 @@ use gp_common::Common;
 use gp_machine::{
     Answer, Event, PortConfig, Row, finds_unit_with, one_outcome, tells_free_numbers,
 };
-use gp_ploam::{Down, Serial};
+use gp_ploam::{Down, ONU_IDS, Serial};
 use gp_ranging::Window;
 use gp_table::{ActiveUnits, Entry, NumberLimits};
 use gp_volley::{COPIES, MAX_COPIES_WITH_ROOM, VolleyQueue};
@@ -156,7 +158,7 @@ impl PortMachine {
     pub fn step(&mut self, purse: u32, event: Event, wished: Option<u16>) -> (Answer, u32)
         requires limits { is_within_limits self.old.config ≡ true }
         requires sound { IsSound self.old }
-        requires purse { purse ≤ 4064 }
+        requires purse { purse ≤ MAX_LICENCES }
         ensures step { Step purse self.old event (step_result_of result self.new) }
         ensures wished { GrantsWish purse self.old event wished (step_result_of result self.new) }
         ensures proper { ForSome result.0.sent IsProperDown }
@@ -245,10 +247,10 @@ impl PortMachine {
 
 /// The wished number, where it is an octet.
 fn octet_of(wished: Option<u16>) -> Option<u8>
-    ensures { (number : ℕ) → wished ≡ Some number → number < 254 → result ≡ Some number }
+    ensures { (number : ℕ) → wished ≡ Some number → number < onu_ids → result ≡ Some number }
 {
     match wished {
-        Some(number) if number < 254 => Some(number as u8),
+        Some(number) if number < u16::from(ONU_IDS) => Some(number as u8),
         _ => None,
     }
 }

@@ -1,6 +1,8 @@
 ghost use Rattle.std.specs.Prelude.{◌≡◌, ◌≤◌, None, true};
 ghost use Rattle.std.specs.FinMap as map;
 ghost use Rattle.std.specs.FinSet as set;
+ghost use Rattle.gp_ploam.specs.OnuIds.{onu_ids};
+ghost use Rattle.gp_licence.specs.declared.ledger_parts.TheConstants.{MAX_LICENCES};
 ghost use Rattle.gp_ploam.specs.Serials.{is_among};
 ghost use Rattle.gp_unit.specs.declared.row.Row.{Row};
 ghost use Rattle.gp_machine.specs.State.{HasRow};
@@ -30,8 +32,8 @@ impl PortMachine {
     /// Hears a message in a search window. A new unit gets the wished ONU-ID, where that is free.
     pub(super) fn search(&mut self, purse: u32, message: Up, wished: Option<u16>) -> (Answer, u32)
         requires sound { IsSound self.old }
-        requires units { self.old.config.max_units ≤ 254 }
-        requires purse { purse ≤ 4064 }
+        requires units { self.old.config.max_units ≤ onu_ids }
+        requires purse { purse ≤ MAX_LICENCES }
         ensures free { MayPick self.old (search_response purse self.old message) (number_in result.0.reply) }
         ensures wished { PicksWished self.old (search_response purse self.old message) wished (number_in result.0.reply) }
         ensures outcome { step_result_of result self.new ≡ step_result_with purse self.old None (search_response purse self.old message) (number_in result.0.reply) }
@@ -57,8 +59,8 @@ impl PortMachine {
         wished: Option<u16>,
     ) -> (Answer, u32)
         requires sound { IsSound self.old }
-        requires units { self.old.config.max_units ≤ 254 }
-        requires purse { purse ≤ 4064 }
+        requires units { self.old.config.max_units ≤ onu_ids }
+        requires purse { purse ≤ MAX_LICENCES }
         requires admitted { is_among serial self.old.config.admitted ≡ true }
         requires disabled { known.disabled ≡ set.contains self.old.disabled serial }
         requires row { known.row ≡ map.get self.old.rows serial }
@@ -78,7 +80,7 @@ impl PortMachine {
     /// Hears an admitted unit that is not active.
     fn newcomer(&mut self, purse: u32, serial: Serial, wished: Option<u16>) -> (Answer, u32)
         requires sound { IsSound self.old }
-        requires units { self.old.config.max_units ≤ 254 }
+        requires units { self.old.config.max_units ≤ onu_ids }
         requires admitted { is_among serial self.old.config.admitted ≡ true }
         requires unknown { map.get self.old.rows serial ≡ None }
         ensures free { MayPick self.old (newcomer_response purse self.old serial) (number_in result.0.reply) }
@@ -102,7 +104,7 @@ impl PortMachine {
     /// Hears a unit that is active already: an operating one is removed.
     fn active(&mut self, purse: u32, serial: Serial, row: Row) -> (Answer, u32)
         requires sound { IsSound self.old }
-        requires purse { purse ≤ 4064 }
+        requires purse { purse ≤ MAX_LICENCES }
         requires has { HasRow self.old.rows serial row }
         ensures free { MayPick self.old (active_response self.old serial row.onu row.phase) (number_in result.0.reply) }
         ensures outcome { step_result_of result self.new ≡ step_result_with purse self.old None (active_response self.old serial row.onu row.phase) (number_in result.0.reply) }

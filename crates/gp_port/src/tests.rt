@@ -1,10 +1,15 @@
-//! What no clause says: a port used by hand, its fault texts, memory that is refused, and octets of each length. Worked runs
-//! stand as scripts with their traces in `olt_examples`.
-ghost use Rattle.std.specs.Prelude.{◌≡◌, ◌≤◌};
+//! What no clause says: a port used by hand, its fault texts, memory that is refused, and octets of each length. `lines.rt` plays
+//! a port by lines; `worked.rt` and `images.rt` play runs so. More worked runs stand as scripts with their traces in
+//! `olt_examples`.
+ghost use Rattle.std.specs.Prelude.{◌≡◌};
 
-use super::{ImageFault, OpenFault, PortCore, PortFollower, PortImage, burst_of};
+mod images;
+mod lines;
+mod worked;
+
+use super::{OpenFault, PortCore, burst_of};
 use gp_licence::{LicenceBook, Licences, MAX_LICENCES};
-use gp_machine::{Admitted, Command, Entry, Event, PortConfig, Reply};
+use gp_machine::{Admitted, Command, Event, PortConfig, Reply};
 use gp_ploam::{Mask, PloamFault, Serial};
 use std::alloc::{AllocError, Global};
 use std::marker::Brand;
@@ -131,79 +136,5 @@ fn fault_texts(rt: HostRuntime) -> Result<(), Fail> {
     );
     let memory = format!(in rt.alloc(); "{}", OpenFault::OutOfMemory)?;
     assert_eq!(rt; memory.as_str(), "out of memory");
-    Ok(())
-}
-
-/// Whether a port that begins where the image stands makes the step of this entry.
-fn follows(alloc: Global, image: &PortImage, entry: &Entry) -> Result<bool, ImageFault>
-    requires { entry.now.purse_in ≤ MAX_LICENCES }
-{
-    let mut follower = PortFollower::resume(alloc, image)?;
-    let made = follower.follow(entry);
-    follower.close();
-    Ok(made)
-}
-
-/// What the image tells of a frame that the port makes after it, with a search window open: whether the image still stands for
-/// the port, and whether a port that begins at the image makes that frame, and a frame that keeps a licence.
-fn frame_after<L: Ledger>(
-    alloc: Global,
-    port: &mut PortCore<L>,
-    book: &mut LicenceBook<L>,
-    image: &PortImage,
-) -> Result<[bool; 3], ImageFault> {
-    let (answer, rest) = port.step(Licences::none(), Event::Frame);
-    book.give(rest);
-    let entry = Entry {
-        purse_in: 0,
-        event: Event::Frame,
-        answer,
-        purse_out: 0,
-    };
-    let other = Entry {
-        purse_out: 1,
-        ..entry
-    };
-    Ok([
-        port.stands_for(image),
-        follows(alloc, image, &entry)?,
-        follows(alloc, image, &other)?,
-    ])
-}
-
-/// Makes an image of a port that has found a unit, and a frame after it.
-fn image_and_frame<L: Ledger>(
-    alloc: Global,
-    blank: Blank,
-    config: &PortConfig,
-) -> Result<Result<[bool; 3], ImageFault>, OpenFault>
-    requires name { blank.name ≡ L.name }
-    requires parts { (blank.parts ≡ L.parts) × (L.parts ≡ MAX_LICENCES) }
-{
-    let mut port = PortCore::<L>::begin(alloc, config)?;
-    let mut book = LicenceBook::<L>::new(blank, 1);
-    let (_, rest) = port.step(Licences::none(), Event::Command(Command::Search));
-    book.give(rest);
-    for _ in 0..5 {
-        let (_, rest) = port.step(Licences::none(), Event::Frame);
-        book.give(rest);
-    }
-    let bytes = A_SEARCHED;
-    let (_, rest) = port.step(book.take(), Event::Burst { at: 100_000, bytes });
-    book.give(rest);
-    let told = match port.image(alloc) {
-        Ok(image) => frame_after(alloc, &mut port, &mut book, &image),
-        Err(fault) => Err(fault),
-    };
-    book.close(port.close());
-    Ok(told)
-}
-
-#[test]
-fn followed_from_an_image(rt: HostRuntime) -> Result<(), Fail> {
-    let config = config_of_a(rt.alloc())?;
-    let blank = Blank::new(u64::from(MAX_LICENCES));
-    let told = image_and_frame::<Brand>(rt.alloc(), blank, &config)?;
-    assert!(rt; told == Ok([false, true, false]) || told == Err(ImageFault::OutOfMemory));
     Ok(())
 }

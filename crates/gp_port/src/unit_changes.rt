@@ -1,6 +1,7 @@
 ghost use Rattle.std.specs.Prelude.{◌≡◌, ◌<◌, ◌≤◌, None, Some, true, false};
 ghost use Rattle.std.specs.FinMap as map;
 ghost use Rattle.std.specs.FinSet as set;
+ghost use Rattle.gp_ploam.specs.OnuIds.{onu_ids};
 ghost use Rattle.gp_ploam.specs.Serials.{is_among};
 ghost use Rattle.gp_unit.specs.declared.row.Row.{Row};
 ghost use Rattle.gp_unit.specs.Rows.{holds_alloc, is_operating, is_ranging, new_row, row_acknowledged, row_polled, row_releasing, row_with_alloc};
@@ -87,7 +88,7 @@ impl PortMachine {
 
     /// Lets every operating unit range anew, and closes an open poll window. Tells how many units there were.
     pub(super) fn pop_up_all(&mut self) -> u8
-        requires { map.len self.old.rows ≤ 254 }
+        requires { map.len self.old.rows ≤ onu_ids }
         ensures state { self.new ≡ spec.state_popped_up self.old }
         ensures count { result ≡ count_rows (λ row. is_operating row.phase) self.old.rows }
     {

@@ -1,5 +1,6 @@
 ghost use Rattle.std.specs.Prelude.{◌≡◌, ◌≤◌, None};
 ghost use Rattle.std.specs.FinMap as map;
+ghost use Rattle.gp_licence.specs.declared.ledger_parts.TheConstants.{MAX_LICENCES};
 ghost use Rattle.gp_machine.specs.declared.event.Command.TheVariants as command;
 ghost use Rattle.gp_machine.specs.State.{HasRow};
 ghost use Rattle.gp_machine.specs.Sound.{IsSound};
@@ -17,7 +18,7 @@ impl PortMachine {
     /// Carries out the command deactivate.
     pub(super) fn command_deactivate(&mut self, purse: u32, serial: Serial) -> (Answer, u32)
         requires sound { IsSound self.old }
-        requires purse { purse ≤ 4064 }
+        requires purse { purse ≤ MAX_LICENCES }
         ensures free { MayPick self.old (command_response self.old (command.Deactivate serial)) (number_in result.0.reply) }
         ensures outcome { step_result_of result self.new ≡ step_result_with purse self.old None (command_response self.old (command.Deactivate serial)) (number_in result.0.reply) }
     {
@@ -33,7 +34,7 @@ impl PortMachine {
     /// Removes the unit.
     fn deactivate(&mut self, purse: u32, serial: Serial, row: Row) -> (Answer, u32)
         requires sound { IsSound self.old }
-        requires purse { purse ≤ 4064 }
+        requires purse { purse ≤ MAX_LICENCES }
         requires has { HasRow self.old.rows serial row }
         ensures free { MayPick self.old (deactivate_response self.old serial row) (number_in result.0.reply) }
         ensures outcome { step_result_of result self.new ≡ step_result_with purse self.old None (deactivate_response self.old serial row) (number_in result.0.reply) }
@@ -50,7 +51,7 @@ impl PortMachine {
     /// Carries out the command disable.
     pub(super) fn command_disable(&mut self, purse: u32, serial: Serial) -> (Answer, u32)
         requires sound { IsSound self.old }
-        requires purse { purse ≤ 4064 }
+        requires purse { purse ≤ MAX_LICENCES }
         ensures free { MayPick self.old (command_response self.old (command.Disable serial)) (number_in result.0.reply) }
         ensures outcome { step_result_of result self.new ≡ step_result_with purse self.old None (command_response self.old (command.Disable serial)) (number_in result.0.reply) }
     {

@@ -1,5 +1,6 @@
 use Rattle.std.proofs.Common.{◌≤◌, ◌∙◌, arith}
 use Rattle.std.specs.FinMap.{len}
+use Rattle.gp_ploam.specs.OnuIds.{onu_ids}
 use Rattle.gp_table.specs.Rows.{popped_rows}
 use Rattle.gp_port.specs.Parts.{state_with}
 use Rattle.gp_port.proofs.PopUp.{count_is, popped_rows_are}
@@ -9,7 +10,7 @@ use Rattle.gp_port.proofs.port_machine.PortMachine.pop_up_all.Goals as goal
 pub overflow_cast-result : goal.overflow_cast-result
 overflow_cast-result c =
     let few = few_operating c.self.inside.units.rows in
-    let most : len c.self.inside.units.rows ≤ 254 = rw (← c.self.view_is) at c.requires in
+    let most : len c.self.inside.units.rows ≤ onu_ids = rw (← c.self.view_is) at c.requires in
     omega (arith, c.pop_up_all-count.ensures.count)
 
 pub returns-clause-state : goal.returns-clause-state
