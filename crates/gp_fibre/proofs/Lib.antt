@@ -3,5 +3,6 @@ pub mod Frames
 pub mod Telling
 pub mod Losing
 pub mod StoredUnits
+pub mod OnWheel
 pub mod Parts
 pub mod Playing

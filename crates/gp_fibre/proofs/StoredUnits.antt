@@ -170,11 +170,14 @@ module _ (mask : Mask) (frames : ℕ) (stored_units : List StoredUnit) (timers :
         → IsUnitStore mask frames (frames + 1) (slice_set stored_units place (stored_with b v)) end
     store_after end due same value later set =
         let now : b.brought ≡ frames = ap (λ (s : StoredUnit). s.brought) bring in
+        let delay : b.delay ≡ x.delay = ap (λ (s : StoredUnit). s.delay) bring in
+        let near = stored_at.delay in
         let random : b.random ≡ x.random = ap (λ (s : StoredUnit). s.random) bring in
         let few = stored_at.random in
         kept_after mask frames (frames + 1) stored_units timers end place (stored_with b v) due kept low
         (record {
           mask_is = same ∙ ap (λ (s : StoredUnit). s.unit.mask) bring ∙ brought_mask;
+          delay = omega arith;
           random = omega arith;
           brought = omega arith;
           ahead = subst (λ (d : Option ℕ). ForSome d (λ f. frames + 1 ≤ f)) value (subst (λ (n : ℕ). ForSome due (λ d. n + 1 ≤ d)) now later);
@@ -221,11 +224,12 @@ pub record ArePlanned (mask : Mask) (plans : List UnitPlan) (stored_units : Vec 
   pub len : vec_len stored_units ≡ count
   pub capacity : length plans ≤ vec_capacity stored_units
 
-pub planned_is_stored : (mask : Mask) (plan : UnitPlan) (stored : StoredUnit) → plan.random ≤ 4095 → stored.unit.mask ≡ mask → stored.random ≡ plan.random → stored.brought ≡ 0 → due_of stored ≡ None
+pub planned_is_stored : (mask : Mask) (plan : UnitPlan) (stored : StoredUnit) → plan.delay ≤ 622080 → plan.random ≤ 4095 → stored.unit.mask ≡ mask → stored.delay ≡ plan.delay → stored.random ≡ plan.random → stored.brought ≡ 0 → due_of stored ≡ None
     → IsStoredUnit mask 0 1 stored
-planned_is_stored mask plan stored low mask_is random brought due =
+planned_is_stored mask plan stored near low mask_is delay random brought due =
     record {
       mask_is = mask_is;
+      delay = omega arith;
       random = omega arith;
       brought = omega arith;
       ahead = λ d e. absurd (none_is_not d (sym e ∙ due));
@@ -272,7 +276,7 @@ pub store_in_frame : (mask : Mask) (frames : ℕ) (stored_units : List StoredUni
 store_in_frame mask frames stored_units timers low kept =
     record {
       each = All-weaker (IsStoredUnit mask frames (frames + 1)) (IsStoredUnit mask (frames + 1) (frames + 1))
-          (λ x is. record { mask_is = is.mask_is; random = is.random; brought = let b = is.brought in omega arith; ahead = is.ahead }) stored_units kept.each;
+          (λ x is. record { mask_is = is.mask_is; delay = is.delay; random = is.random; brought = let b = is.brought in omega arith; ahead = is.ahead }) stored_units kept.each;
       names = kept.names;
       set = kept.set;
       few = kept.few;
@@ -330,6 +334,7 @@ store_after_frame mask frames stored_units timers kept none =
           let is = kept.each place d low in
           record {
             mask_is = is.mask_is;
+            delay = is.delay;
             random = is.random;
             brought = is.brought;
             ahead = λ due e.
@@ -411,10 +416,13 @@ module _ (old : UnitStoreState) (mask : Mask) (frames : ℕ) (stored_units : Lis
   later_stored : (due : Option ℕ) → due ≡ due_of y → ForSome due (λ d. y.brought + 1 ≤ d) → IsStoredUnit mask frames frames y
   later_stored due value later =
       let now : y.brought ≡ frames = ap (λ (s : StoredUnit). s.brought) passed in
+      let delay : y.delay ≡ x.delay = ap (λ (s : StoredUnit). s.delay) passed in
+      let near = ending_stored.delay in
       let random : y.random ≡ x.random = ap (λ (s : StoredUnit). s.random) passed in
       let few = ending_stored.random in
       record {
         mask_is = ap (λ (s : StoredUnit). s.unit.mask) passed ∙ frames_mask (frames - x.brought) x.unit ∙ ending_stored.mask_is;
+        delay = omega arith;
         random = omega arith;
         brought = omega arith;
         ahead = λ d e. let l : y.brought + 1 ≤ d = later d (value ∙ e) in omega arith;

@@ -48,10 +48,11 @@ abbrev pub with_timer : Timers → ℕ → Option ℕ → Timers
 with_timer timers name None = record timers { frames = remove timers.frames name }
 with_timer timers name (Some due) = record timers { frames = insert timers.frames name due }
 
--- what is true of a stored unit after so many frames: its unit reads under this mask, its random delay has twelve bits, it was
--- brought up to date, and its state ends only after this many frames
+-- what is true of a stored unit after so many frames: its unit reads under this mask, its round trip has at most four frames,
+-- its random delay has twelve bits, it was brought up to date, and its state ends only after this many frames
 pub record IsStoredUnit (mask : Mask) (frames least : ℕ) (stored : StoredUnit) : Type 0 where
   pub mask_is : stored.unit.mask ≡ mask
+  pub delay : stored.delay ≤ 622080
   pub random : stored.random ≤ 4095
   pub brought : stored.brought ≤ frames
   pub ahead : ForSome (due_of stored) (λ due. least ≤ due)

@@ -203,16 +203,19 @@ impl<L: Ledger> Fibre<L> {
         self.store.dark(place);
     }
 
-    /// Lets a grant reach a unit. Its burst, if it answers with one, is the next.
-    pub fn give(&mut self, place: usize, grant: Grant)
+    /// Lets a grant reach a unit, and gives its burst, if it answers with one: that is the next burst.
+    pub fn give(&mut self, place: usize, grant: Grant) -> Option<SentBurst>
         requires place { place < length self.old.world.units }
         requires room { 0 < self.old.bursts_room }
         ensures unit { UnitAnswers self.old.world place grant self.new.world }
+        ensures answer { self.new.world.bursts ≡ self.old.world.bursts ++ option_to_list result }
+        ensures near { ForSome result (λ burst. burst.at ≤ 622080) }
         ensures rest { self.new ≡ record self.old { world = self.new.world; bursts_room = self.new.bursts_room } }
         ensures room { self.old.bursts_room ≤ self.new.bursts_room + 1 }
     {
         let answer = self.store.grant(place, grant);
         keep(&mut self.bursts, answer);
+        answer
     }
 
     /// Ends a frame of each unit.

@@ -3,13 +3,15 @@
 ghost use Rattle.std.specs.Prelude.{◌≡◌, ◌+◌, ◌-◌, ◌*◌, ◌<◌, ◌≤◌, ◌++◌, ◌∷◌, [], All, Some, drop, length, slice_get, vec_capacity, vec_len};
 ghost use Rattle.std.specs.Option.{ForSome};
 ghost use Rattle.gp_ploam.specs.Down.{IsProperDown};
-ghost use Rattle.gp_fibre.specs.Parts.{Asks, PortPuts, UnitsTake, events_of, world_state};
+ghost use Rattle.gp_fibre.specs.Flights.{AreInReach};
+ghost use Rattle.gp_fibre.specs.Parts.{Asks, Comes, PortPuts, UnitsTake, events_of, world_state};
+ghost use Rattle.gp_fibre.specs.Step.{UnitAnswers};
 ghost use Rattle.gp_fibre.specs.Schedule.{IsProperEntry};
 ghost use Rattle.gp_fibre.specs.Schedule as spec;
 
 use super::fibre::Fibre;
 use super::flight::Flight;
-use super::flights::Flights;
+use super::flights::{Flights, take_timers};
 use super::loss_plan::LossPlan;
 use super::sent_burst::SentBurst;
 use gp_machine::{Entry, Event};
@@ -32,6 +34,7 @@ fn deliver_all<L: Ledger>(fibre: &mut Fibre<L>, copy: u64, message: &Down)
     requires sent { slice_get fibre.old.world.copies copy ≡ Some message.now }
     requires proper { IsProperDown message.now }
     ensures taken { UnitsTake fibre.old.world (spec.deliveries copy (length fibre.old.world.units)) fibre.new.world }
+    ensures bursts { fibre.new.world.bursts ≡ fibre.old.world.bursts }
     ensures rest { fibre.new ≡ record fibre.old { world = fibre.new.world } }
 {
     for place in 0..fibre.units() {
@@ -39,15 +42,55 @@ fn deliver_all<L: Ledger>(fibre: &mut Fibre<L>, copy: u64, message: &Down)
     }
 }
 
+/// Lets a grant reach a unit. Its burst, if it answers with one, comes after its round trip.
+fn give<L: Ledger>(
+    fibre: &mut Fibre<L>,
+    flights: &mut Flights,
+    place: usize,
+    issued: Grant,
+    frame: u64,
+)
+    requires place { place < length fibre.old.world.units }
+    requires few { place < 1024 }
+    requires room { 0 < fibre.old.bursts_room }
+    requires flights { 0 < flights.old.room }
+    requires frame { frame < 9223372036854775808 }
+    requires reach { AreInReach frame flights.old.flights }
+    ensures unit { UnitAnswers fibre.old.world place issued fibre.new.world }
+    ensures rest { fibre.new ≡ record fibre.old { world = fibre.new.world; bursts_room = fibre.new.bursts_room } }
+    ensures room { fibre.old.bursts_room ≤ fibre.new.bursts_room + 1 }
+    ensures comes { Comes frame fibre.old.world flights.old.flights fibre.new.world flights.new.flights }
+    ensures reach { AreInReach frame flights.new.flights }
+    ensures flights_room { flights.old.room ≤ flights.new.room + 1 }
+{
+    let number = fibre.bursts();
+    let Some(burst) = fibre.give(place, issued) else {
+        return;
+    };
+    let due = frame + u64::from(burst.at / FRAME_BIT_TIMES);
+    flights.add(place as u16, Flight { number, due });
+}
+
 /// Lets a grant reach each unit, one after the other.
-fn give_all<L: Ledger>(fibre: &mut Fibre<L>, grant: u64, issued: Grant)
+fn give_all<L: Ledger>(
+    fibre: &mut Fibre<L>,
+    flights: &mut Flights,
+    grant: u64,
+    issued: Grant,
+    frame: u64,
+)
     requires issued { slice_get fibre.old.world.grants grant ≡ Some issued }
     requires room { length fibre.old.world.units ≤ fibre.old.bursts_room }
+    requires flights { length fibre.old.world.units ≤ flights.old.room }
+    requires frame { frame < 9223372036854775808 }
+    requires reach { AreInReach frame flights.old.flights }
     ensures taken { UnitsTake fibre.old.world (spec.grants_given grant (length fibre.old.world.units)) fibre.new.world }
     ensures rest { fibre.new ≡ record fibre.old { world = fibre.new.world; bursts_room = fibre.new.bursts_room } }
+    ensures comes { Comes frame fibre.old.world flights.old.flights fibre.new.world flights.new.flights }
+    ensures reach { AreInReach frame flights.new.flights }
 {
     for place in 0..fibre.units() {
-        fibre.give(place, issued);
+        give(fibre, flights, place, issued, frame);
     }
 }
 
@@ -56,6 +99,7 @@ pub(super) fn pass_on<L: Ledger>(fibre: &mut Fibre<L>, copy: u64, sent: Option<D
     requires sent { ForSome sent (λ message. slice_get fibre.old.world.copies copy ≡ Some message) }
     requires proper { ForSome sent IsProperDown }
     ensures taken { UnitsTake fibre.old.world (spec.inputs_of_copy lost.now copy (length fibre.old.world.units) sent) fibre.new.world }
+    ensures bursts { fibre.new.world.bursts ≡ fibre.old.world.bursts }
     ensures rest { fibre.new ≡ record fibre.old { world = fibre.new.world } }
 {
     let Some(message) = sent else {
@@ -68,57 +112,49 @@ pub(super) fn pass_on<L: Ledger>(fibre: &mut Fibre<L>, copy: u64, sent: Option<D
 }
 
 /// Lets the grant that was issued with this number, if one was, reach each unit.
-pub(super) fn give_on<L: Ledger>(fibre: &mut Fibre<L>, grant: u64, issued: Option<Grant>)
+pub(super) fn give_on<L: Ledger>(
+    fibre: &mut Fibre<L>,
+    flights: &mut Flights,
+    grant: u64,
+    issued: Option<Grant>,
+    frame: u64,
+)
     requires issued { ForSome issued (λ asked. slice_get fibre.old.world.grants grant ≡ Some asked) }
     requires room { length fibre.old.world.units ≤ fibre.old.bursts_room }
+    requires flights { length fibre.old.world.units ≤ flights.old.room }
+    requires frame { frame < 9223372036854775808 }
+    requires reach { AreInReach frame flights.old.flights }
     ensures taken { UnitsTake fibre.old.world (spec.inputs_of_grant grant (length fibre.old.world.units) issued) fibre.new.world }
     ensures rest { fibre.new ≡ record fibre.old { world = fibre.new.world; bursts_room = fibre.new.bursts_room } }
+    ensures comes { Comes frame fibre.old.world flights.old.flights fibre.new.world flights.new.flights }
+    ensures reach { AreInReach frame flights.new.flights }
 {
     let Some(issued) = issued else {
         return;
     };
-    give_all(fibre, grant, issued);
-}
-
-/// Adds the bursts from this number on, which were answered in this frame, to those that are to come.
-pub(super) fn add_answers<L: Ledger>(flights: &mut Flights, fibre: &Fibre<L>, from: u64, frame: u64)
-    requires from { from ≤ length fibre.now.world.bursts }
-    requires room { length fibre.now.world.bursts - from ≤ flights.old.room }
-    requires frame { frame < 9223372036854775808 }
-    ensures { flights.new.flights ≡ flights.old.flights ++ spec.flights_of frame from (drop from fibre.now.world.bursts) }
-{
-    for number in from..fibre.bursts() {
-        let Some(burst) = fibre.burst_at(number) else {
-            unreachable!()
-        };
-        let due = frame + u64::from(burst.at / FRAME_BIT_TIMES);
-        flights.add(Flight { number, due });
-    }
+    give_all(fibre, flights, grant, issued, frame);
 }
 
 /// Gives the port the bursts that come in this frame, but for those that are lost.
-pub(super) fn arrive_all<L: Ledger>(
+fn arrive_all<L: Ledger>(
     fibre: &mut Fibre<L>,
-    flights: &Flights,
+    flights: &[Flight],
     entries: &mut Vec<Entry>,
     lost: &[u64],
     frame: u64,
 )
-    requires copies { length flights.now.flights ≤ fibre.old.copies_room }
-    requires grants { length flights.now.flights ≤ fibre.old.grants_room }
-    requires entries { vec_len entries.old + length flights.now.flights ≤ vec_capacity entries.old }
-    requires numbers { All (λ f. f.number < length fibre.old.world.bursts) flights.now.flights }
+    requires copies { length flights.now ≤ fibre.old.copies_room }
+    requires grants { length flights.now ≤ fibre.old.grants_room }
+    requires entries { vec_len entries.old + length flights.now ≤ vec_capacity entries.old }
+    requires numbers { All (λ f. f.number < length fibre.old.world.bursts) flights.now }
     requires proper { All IsProperEntry entries.old.items }
-    ensures puts { PortPuts fibre.old.world (spec.arrivals lost.now frame flights.now.flights) entries.old.items entries.new.items fibre.new.world }
+    ensures puts { PortPuts fibre.old.world (spec.arrivals lost.now frame flights.now) entries.old.items entries.new.items fibre.new.world }
     ensures total { fibre.new.total ≡ fibre.old.total }
     ensures frames { fibre.new.frames ≡ fibre.old.frames }
     ensures proper { All IsProperEntry entries.new.items }
 {
     for place in 0..flights.len() {
-        let Some(flight) = flights.at(place) else {
-            unreachable!()
-        };
-        arrive(fibre, flight, entries, lost, frame);
+        arrive(fibre, flights[place], entries, lost, frame);
     }
 }
 
@@ -154,14 +190,53 @@ fn arrive<L: Ledger>(
     entries.push_reserved(fibre.take(Event::Burst { at, bytes }));
 }
 
+/// Gives the port the bursts that come in this frame, but for those that are lost, and takes them away from those that are to
+/// come. Where none comes, it walks over none.
+fn land<L: Ledger>(
+    fibre: &mut Fibre<L>,
+    flights: &mut Flights,
+    entries: &mut Vec<Entry>,
+    lost: &[u64],
+    frame: u64,
+)
+    requires copies { length flights.old.flights ≤ fibre.old.copies_room }
+    requires grants { length flights.old.flights ≤ fibre.old.grants_room }
+    requires entries { vec_len entries.old + length flights.old.flights ≤ vec_capacity entries.old }
+    requires numbers { All (λ f. f.number < length fibre.old.world.bursts) flights.old.flights }
+    requires reach { AreInReach frame flights.old.flights }
+    requires proper { All IsProperEntry entries.old.items }
+    ensures puts { PortPuts fibre.old.world (spec.arrivals lost.now frame flights.old.flights) entries.old.items entries.new.items fibre.new.world }
+    ensures left { flights.new.flights ≡ spec.flights_after frame flights.old.flights }
+    ensures total { fibre.new.total ≡ fibre.old.total }
+    ensures frames { fibre.new.frames ≡ fibre.old.frames }
+    ensures proper { All IsProperEntry entries.new.items }
+{
+    if !take_timers(&mut flights.timers, frame) {
+        return;
+    }
+    arrive_all(fibre, &flights.list, entries, lost, frame);
+    flights.list.retain(|flight| !flight.is_due(frame));
+}
+
 /// Makes the port's part of a frame, and what follows from what it sends and grants.
-fn ask<L: Ledger>(fibre: &mut Fibre<L>, entries: &mut Vec<Entry>, lost: &[u64])
+fn ask<L: Ledger>(
+    fibre: &mut Fibre<L>,
+    flights: &mut Flights,
+    entries: &mut Vec<Entry>,
+    lost: &[u64],
+    frame: u64,
+)
     requires copies { 0 < fibre.old.copies_room }
     requires grants { 0 < fibre.old.grants_room }
     requires bursts { length fibre.old.world.units ≤ fibre.old.bursts_room }
+    requires flights { length fibre.old.world.units ≤ flights.old.room }
     requires entries { vec_len entries.old < vec_capacity entries.old }
+    requires frame { frame < 9223372036854775808 }
+    requires reach { AreInReach frame flights.old.flights }
     requires proper { All IsProperEntry entries.old.items }
     ensures asks { Asks lost.now fibre.old.world entries.old.items entries.new.items fibre.new.world }
+    ensures comes { Comes frame fibre.old.world flights.old.flights fibre.new.world flights.new.flights }
+    ensures reach { AreInReach frame flights.new.flights }
     ensures total { fibre.new.total ≡ fibre.old.total }
     ensures frames { fibre.new.frames ≡ fibre.old.frames }
     ensures copies_room { fibre.old.copies_room ≤ fibre.new.copies_room + 1 }
@@ -176,7 +251,7 @@ fn ask<L: Ledger>(fibre: &mut Fibre<L>, entries: &mut Vec<Entry>, lost: &[u64])
     let answer = entry.answer;
     entries.push_reserved(entry);
     pass_on(fibre, copy, answer.sent, lost);
-    give_on(fibre, grant, answer.grant);
+    give_on(fibre, flights, grant, answer.grant, frame);
 }
 
 /// Plays a frame of a run, for which all room was made.
@@ -188,21 +263,20 @@ pub(super) fn play_frame<L: Ledger>(
 )
     requires frames { fibre.old.frames < 9223372036854775808 }
     requires numbers { All (λ f. f.number < length fibre.old.world.bursts) flights.old.flights }
+    requires reach { AreInReach fibre.old.frames flights.old.flights }
     requires copies { events_of fibre.old flights.old ≤ fibre.old.copies_room }
     requires grants { events_of fibre.old flights.old ≤ fibre.old.grants_room }
     requires bursts { length fibre.old.world.units ≤ fibre.old.bursts_room }
-    requires flights { 2 * length fibre.old.world.units ≤ flights.old.room }
+    requires flights { length fibre.old.world.units ≤ flights.old.room }
     requires entries { vec_len entries.old + events_of fibre.old flights.old ≤ vec_capacity entries.old }
     requires proper { All IsProperEntry entries.old.items }
     ensures puts { spec.PutsFrame loss.now.copies.items loss.now.bursts.items (world_state fibre.old flights.old) entries.old.items entries.new.items (world_state fibre.new flights.new) }
     ensures numbers { All (λ f. f.number < length fibre.new.world.bursts) flights.new.flights }
+    ensures reach { AreInReach fibre.new.frames flights.new.flights }
     ensures proper { All IsProperEntry entries.new.items }
 {
     let frame = fibre.frames();
-    let from = fibre.bursts();
-    ask(fibre, entries, &loss.copies);
-    add_answers(flights, fibre, from, frame);
-    arrive_all(fibre, flights, entries, &loss.bursts, frame);
+    ask(fibre, flights, entries, &loss.copies, frame);
+    land(fibre, flights, entries, &loss.bursts, frame);
     fibre.end_frame();
-    flights.remove_due(frame);
 }

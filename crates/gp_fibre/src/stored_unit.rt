@@ -26,6 +26,7 @@ impl StoredUnit {
     pub(super) fn new(mask: Mask, plan: &UnitPlan) -> StoredUnit
         ensures unit { unit_at 0 result ≡ planned_unit mask plan.now }
         ensures mask { result.unit.mask ≡ mask }
+        ensures delay { result.delay ≡ plan.now.delay }
         ensures random { result.random ≡ plan.now.random }
         ensures brought { result.brought ≡ 0 }
         ensures due { due_of result ≡ None }

@@ -487,3 +487,36 @@ fn memory_short_or_ample(rt: HostRuntime) -> Result<(), Fail> {
     }
     Ok(())
 }
+
+/// The burst of a unit four frames away comes when the search window is closed.
+#[test]
+fn unit_beyond_the_window(rt: HostRuntime) -> Result<(), Fail> {
+    let alloc = rt.alloc();
+    let loss = loses(alloc, &[], &[])?;
+    let acts = [SEARCH, Act::Run(9)];
+    let (entries, _) = play(alloc, 1, &[unit(A, 622_080)], &acts, &loss)?;
+    assert_eq!(rt; grant_at(&entries, 5), Some(Grant::Search));
+    assert_eq!(rt;
+        reply_at(&entries, 10),
+        Some(Reply::Refused(Refusal::Stray))
+    );
+    assert_eq!(rt; entries.len(), 11);
+    Ok(())
+}
+
+/// Two bursts that come in one frame, the first of them answered four frames earlier by the later unit, arrive in the order
+/// of their numbers.
+#[test]
+fn bursts_of_one_frame(rt: HostRuntime) -> Result<(), Fail> {
+    let alloc = rt.alloc();
+    let loss = loses(alloc, &[], &[0])?;
+    let plans = [unit(B, 100_000), unit(A, 622_080)];
+    let (entries, _) = play(alloc, 2, &plans, &[SEARCH, Act::Run(9)], &loss)?;
+    let refused = Reply::Refused(Refusal::NotAdmitted);
+    assert_eq!(rt; grant_at(&entries, 5), Some(Grant::Search));
+    assert_eq!(rt; grant_at(&entries, 9), Some(Grant::Search));
+    assert_eq!(rt; reply_at(&entries, 10), Some(Reply::Found(0)));
+    assert_eq!(rt; reply_at(&entries, 11), Some(refused));
+    assert_eq!(rt; entries.len(), 12);
+    Ok(())
+}

@@ -44,6 +44,7 @@ impl UnitStore {
     /// Begins with the units that are planned, each lit. Their codes have their check octets under `mask`.
     pub fn begin(alloc: Global, mask: Mask, plans: &[UnitPlan]) -> Result<UnitStore, AllocError>
         requires few { length plans.now ≤ 1024 }
+        requires delay { All (λ plan. plan.delay ≤ 622080) plans.now }
         requires random { All (λ plan. plan.random ≤ 4095) plans.now }
         ensures { IfOk result (λ store. store ≡ record { units = map (planned_unit mask) plans.now; frames = 0 }) }
     {
@@ -128,6 +129,7 @@ impl UnitStore {
     pub fn grant(&mut self, place: usize, grant: Grant) -> Option<SentBurst>
         requires { place < length self.old.units }
         ensures unit { Answers self.old.units place grant result self.new.units }
+        ensures near { ForSome result (λ burst. burst.at ≤ 622080) }
         ensures frames { self.new.frames ≡ self.old.frames }
     {
         if !self.stored_units[place].unit.may_answer(grant) {

@@ -48,6 +48,7 @@ impl<L: Ledger> Model for World<L> {
     ghost use Rattle.std.specs.Coded.{codes};
     ghost use Rattle.gp_ploam.specs.Serials.{serial_cmp, coded_serial};
     ghost use Rattle.gp_unit.specs.contracts.row.Row as row;
+    ghost use Rattle.gp_fibre.specs.Flights.{AreInReach};
     ghost use Rattle.gp_fibre.specs.Schedule.{WorldState};
 
     ghost Value = { WorldState };
@@ -56,7 +57,7 @@ impl<L: Ledger> Model for World<L> {
 
     ghost view = { λ w. record { fibre = w.fibre.world; licences = w.fibre.total; frames = w.fibre.frames; flights = w.flights.flights } };
 
-    ghost invariant = { λ w. All (λ f. f.number < length w.fibre.world.bursts) w.flights.flights };
+    ghost invariant = { λ w. All (λ f. f.number < length w.fibre.world.bursts) w.flights.flights × AreInReach w.fibre.frames w.flights.flights };
 }
 
 impl<L: Ledger> World<L> {
@@ -81,10 +82,11 @@ impl<L: Ledger> World<L> {
             return Err(WorldFault::Limit);
         }
         let store = UnitStore::begin(alloc, config.mask, plans)?;
+        let flights = Flights::begin(alloc)?;
         match PortCore::begin(alloc, config) {
             Ok(core) => Ok(World {
                 fibre: Fibre::new(alloc, core, LicenceBook::new(blank, licences), store),
-                flights: Flights::new(alloc),
+                flights,
             }),
             Err(OpenFault::OutOfMemory) => Err(WorldFault::OutOfMemory),
             Err(OpenFault::Limit) => unreachable!(),
@@ -268,7 +270,7 @@ impl<L: Ledger> World<L> {
         let units = self.fibre.units();
         let events = 1 + self.flights.len() + 2 * units;
         self.fibre.reserve(events, units)?;
-        self.flights.reserve(2 * units)?;
+        self.flights.reserve(units)?;
         entries.reserve(events)?;
         play_frame(&mut self.fibre, &mut self.flights, entries, loss);
         Ok(())

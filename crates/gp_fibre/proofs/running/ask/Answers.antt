@@ -1,4 +1,6 @@
+use Rattle.std.proofs.Common.{◌∙◌}
 use Rattle.gp_fibre.proofs.Playing.{asked}
+use Rattle.gp_fibre.proofs.OnWheel.{comes_since}
 use Rattle.gp_fibre.proofs.Parts.{proper_push}
 use Rattle.gp_fibre.proofs.running.ask.Goals as goal
 
@@ -7,6 +9,11 @@ returns-clause-asks g c =
     asked c.args.lost.now c.args.fibre.now.world c.take-entry.new.self.world c.pass_on.new.fibre.world c.give_on.new.fibre.world c.copies-copy.result c.grants-grant.result
     c.take-entry.result c.args.entries.now.items c.push_reserved.new.self.items c.take-entry.ensures.taken c.copies-copy.ensures c.grants-grant.ensures
     c.pass_on.ensures.taken c.give_on.ensures.taken c.push_reserved.ensures.items
+
+pub returns-clause-comes : goal.returns-clause-comes
+returns-clause-comes g c =
+    comes_since c.args.frame c.args.fibre.now.world c.pass_on.new.fibre.world c.give_on.new.fibre.world c.args.flights.now.flights c.give_on.new.flights.flights
+    (c.pass_on.ensures.bursts ∙ c.take-entry.ensures.taken.bursts) c.give_on.ensures.comes
 
 pub returns-clause-proper : goal.returns-clause-proper
 returns-clause-proper g c =

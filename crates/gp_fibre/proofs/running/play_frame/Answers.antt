@@ -1,89 +1,86 @@
-use Rattle.std.proofs.Common.{◌≡◌, ◌+◌, ◌++◌, ℕ, List, drop, length, ap, sym, subst, ◌∙◌, arith}
+use Rattle.std.proofs.Common.{◌≡◌, ◌+◌, ℕ, List, length, ap, sym, subst, ◌∙◌, arith}
 use Rattle.gp_fibre.specs.declared.sent_burst.SentBurst.{SentBurst}
 use Rattle.gp_fibre.specs.Fibre.{FibreStand}
-use Rattle.gp_fibre.specs.Parts.{Asks, PortPuts, world_state}
-use Rattle.gp_fibre.specs.Schedule.{arrivals, flights_of, flights_after}
+use Rattle.gp_fibre.specs.Flights.{AreInReach}
+use Rattle.gp_fibre.specs.Parts.{Asks, Comes, PortPuts, world_state}
+use Rattle.gp_fibre.specs.Schedule.{arrivals, flights_after}
+use Rattle.gp_fibre.proofs.OnWheel.{left_in_reach}
 use Rattle.gp_fibre.proofs.Playing.{asks_bursts, answered_length, answered_below, left_below, played, AreBelow}
 use Rattle.gp_fibre.proofs.running.play_frame.Goals as goal
 
-pub add_answers-requires-clause-room : goal.add_answers-requires-clause-room
-add_answers-requires-clause-room g c =
+pub land-requires-clause-copies : goal.land-requires-clause-copies
+land-requires-clause-copies g c =
     let bounds = asks_bursts c.deref.result.now c.args.fibre.now.world c.args.entries.now.items c.ask.new.entries.items c.ask.new.fibre.world c.ask.ensures.asks in
     let most = bounds.1 in
-    let room = c.requires.flights in
-    omega (arith, c.bursts-from.ensures)
-
-pub arrive_all-requires-clause-copies : goal.arrive_all-requires-clause-copies
-arrive_all-requires-clause-copies g c =
-    let bounds = asks_bursts c.deref.result.now c.args.fibre.now.world c.args.entries.now.items c.ask.new.entries.items c.ask.new.fibre.world c.ask.ensures.asks in
-    let most = bounds.1 in
-    let many = answered_length c.frames-frame.result c.bursts-from.result c.args.flights.now.flights c.add_answers.new.flights.flights c.ask.new.fibre.world.bursts c.add_answers.ensures in
+    let many = answered_length c.frames-frame.result (length c.args.fibre.now.world.bursts) c.args.flights.now.flights c.ask.new.flights.flights c.ask.new.fibre.world.bursts c.ask.ensures.comes in
     let room = c.requires.copies in
     let left = c.ask.ensures.copies_room in
-    omega (arith, c.bursts-from.ensures)
+    omega arith
 
-pub arrive_all-requires-clause-grants : goal.arrive_all-requires-clause-grants
-arrive_all-requires-clause-grants g c =
+pub land-requires-clause-grants : goal.land-requires-clause-grants
+land-requires-clause-grants g c =
     let bounds = asks_bursts c.deref.result.now c.args.fibre.now.world c.args.entries.now.items c.ask.new.entries.items c.ask.new.fibre.world c.ask.ensures.asks in
     let most = bounds.1 in
-    let many = answered_length c.frames-frame.result c.bursts-from.result c.args.flights.now.flights c.add_answers.new.flights.flights c.ask.new.fibre.world.bursts c.add_answers.ensures in
+    let many = answered_length c.frames-frame.result (length c.args.fibre.now.world.bursts) c.args.flights.now.flights c.ask.new.flights.flights c.ask.new.fibre.world.bursts c.ask.ensures.comes in
     let room = c.requires.grants in
     let left = c.ask.ensures.grants_room in
-    omega (arith, c.bursts-from.ensures)
+    omega arith
 
-pub arrive_all-requires-clause-entries : goal.arrive_all-requires-clause-entries
-arrive_all-requires-clause-entries g c =
+pub land-requires-clause-entries : goal.land-requires-clause-entries
+land-requires-clause-entries g c =
     let bounds = asks_bursts c.deref.result.now c.args.fibre.now.world c.args.entries.now.items c.ask.new.entries.items c.ask.new.fibre.world c.ask.ensures.asks in
     let most = bounds.1 in
-    let many = answered_length c.frames-frame.result c.bursts-from.result c.args.flights.now.flights c.add_answers.new.flights.flights c.ask.new.fibre.world.bursts c.add_answers.ensures in
+    let many = answered_length c.frames-frame.result (length c.args.fibre.now.world.bursts) c.args.flights.now.flights c.ask.new.flights.flights c.ask.new.fibre.world.bursts c.ask.ensures.comes in
     let room = c.requires.entries in
     let len = c.ask.ensures.entries_room in
     let capacity = c.ask.ensures.entries_capacity in
-    omega (arith, c.bursts-from.ensures)
+    omega arith
 
-pub arrive_all-requires-clause-numbers : goal.arrive_all-requires-clause-numbers
-arrive_all-requires-clause-numbers g c =
+pub land-requires-clause-numbers : goal.land-requires-clause-numbers
+land-requires-clause-numbers g c =
     let bounds = asks_bursts c.deref.result.now c.args.fibre.now.world c.args.entries.now.items c.ask.new.entries.items c.ask.new.fibre.world c.ask.ensures.asks in
-    let least = bounds.0 in
-    let from = c.bursts-from.result in
-    answered_below c.frames-frame.result from c.args.flights.now.flights c.add_answers.new.flights.flights c.ask.new.fibre.world.bursts (omega (arith, c.bursts-from.ensures))
-    (subst (λ (n : ℕ). AreBelow n c.args.flights.now.flights) (sym c.bursts-from.ensures) c.requires.numbers) c.add_answers.ensures
+    answered_below c.frames-frame.result (length c.args.fibre.now.world.bursts) c.args.flights.now.flights c.ask.new.flights.flights c.ask.new.fibre.world.bursts bounds.0
+    c.requires.numbers c.ask.ensures.comes
+
+pub ask-requires-clause-reach : goal.ask-requires-clause-reach
+ask-requires-clause-reach g c = subst (λ (n : ℕ). AreInReach n c.args.flights.now.flights) (sym c.frames-frame.ensures.value) c.requires.reach
 
 pub returns-clause-puts : goal.returns-clause-puts
 returns-clause-puts g c =
     let old = world_state c.args.fibre.now c.args.flights.now in
-    let new = world_state c.end_frame.new.self c.remove_due.new.self in
+    let new = world_state c.end_frame.new.self c.land.new.flights in
     let lc = c.args.loss.now.copies.items in
     let lb = c.args.loss.now.bursts.items in
     let mid = c.ask.new.entries.items in
-    let flights = c.add_answers.new.flights.flights in
+    let flights = c.ask.new.flights.flights in
     let frame = c.frames-frame.ensures.value in
     let asks : Asks lc old.fibre c.args.entries.now.items mid c.ask.new.fibre.world =
     subst (λ (lost : List ℕ). Asks lost old.fibre c.args.entries.now.items mid c.ask.new.fibre.world) c.deref.ensures.value c.ask.ensures.asks in
-    let bursts = c.ask.new.fibre.world.bursts in
-    let in_flight =
-    c.add_answers.ensures
-    ∙ ap (λ (n : ℕ). old.flights ++ flights_of n c.bursts-from.result (drop c.bursts-from.result bursts)) frame
-    ∙ ap (λ (n : ℕ). old.flights ++ flights_of old.frames n (drop n bursts)) c.bursts-from.ensures in
-    let puts : PortPuts c.ask.new.fibre.world (arrivals lb old.frames flights) mid c.arrive_all.new.entries.items c.arrive_all.new.fibre.world =
-    subst (λ (n : ℕ). PortPuts c.ask.new.fibre.world (arrivals lb n flights) mid c.arrive_all.new.entries.items c.arrive_all.new.fibre.world) frame
-    (subst (λ (lost : List ℕ). PortPuts c.ask.new.fibre.world (arrivals lost c.frames-frame.result flights) mid c.arrive_all.new.entries.items c.arrive_all.new.fibre.world)
-    c.deref-2.ensures.value c.arrive_all.ensures.puts) in
-    played lc lb old new c.args.entries.now.items mid c.arrive_all.new.entries.items c.ask.new.fibre.world c.arrive_all.new.fibre.world flights asks in_flight puts
+    let comes : Comes old.frames old.fibre old.flights c.ask.new.fibre.world flights = subst (λ (n : ℕ). Comes n old.fibre old.flights c.ask.new.fibre.world flights) frame c.ask.ensures.comes in
+    let puts : PortPuts c.ask.new.fibre.world (arrivals lb old.frames flights) mid c.land.new.entries.items c.land.new.fibre.world =
+    subst (λ (n : ℕ). PortPuts c.ask.new.fibre.world (arrivals lb n flights) mid c.land.new.entries.items c.land.new.fibre.world) frame
+    (subst (λ (lost : List ℕ). PortPuts c.ask.new.fibre.world (arrivals lost c.frames-frame.result flights) mid c.land.new.entries.items c.land.new.fibre.world)
+    c.deref-2.ensures.value c.land.ensures.puts) in
+    played lc lb old new c.args.entries.now.items mid c.land.new.entries.items c.ask.new.fibre.world c.land.new.fibre.world flights asks comes puts
     (ap (λ (s : FibreStand). s.world) c.end_frame.ensures)
-    (ap (λ (s : FibreStand). s.total) c.end_frame.ensures ∙ c.arrive_all.ensures.total ∙ c.ask.ensures.total)
-    (ap (λ (s : FibreStand). s.frames) c.end_frame.ensures ∙ ap (λ (n : ℕ). n + 1) (c.arrive_all.ensures.frames ∙ c.ask.ensures.frames))
-    (c.remove_due.ensures ∙ ap (λ (n : ℕ). flights_after n flights) frame)
+    (ap (λ (s : FibreStand). s.total) c.end_frame.ensures ∙ c.land.ensures.total ∙ c.ask.ensures.total)
+    (ap (λ (s : FibreStand). s.frames) c.end_frame.ensures ∙ ap (λ (n : ℕ). n + 1) (c.land.ensures.frames ∙ c.ask.ensures.frames))
+    (c.land.ensures.left ∙ ap (λ (n : ℕ). flights_after n flights) frame)
 
 pub returns-clause-numbers : goal.returns-clause-numbers
 returns-clause-numbers g c =
     let bounds = asks_bursts c.deref.result.now c.args.fibre.now.world c.args.entries.now.items c.ask.new.entries.items c.ask.new.fibre.world c.ask.ensures.asks in
-    let least = bounds.0 in
-    let from = c.bursts-from.result in
-    let flights = c.add_answers.new.flights.flights in
+    let flights = c.ask.new.flights.flights in
     let bursts = c.ask.new.fibre.world.bursts in
-    let launched = answered_below c.frames-frame.result from c.args.flights.now.flights flights bursts (omega (arith, c.bursts-from.ensures))
-    (subst (λ (n : ℕ). AreBelow n c.args.flights.now.flights) (sym c.bursts-from.ensures) c.requires.numbers) c.add_answers.ensures in
-    let left = left_below (length bursts) c.frames-frame.result flights c.remove_due.new.self.flights launched c.remove_due.ensures in
-    let same : c.end_frame.new.self.world.bursts ≡ bursts = ap (λ (s : FibreStand). s.world.bursts) c.end_frame.ensures ∙ c.arrive_all.ensures.puts.bursts in
-    subst (λ (bs : List SentBurst). AreBelow (length bs) c.remove_due.new.self.flights) (sym same) left
+    let answered = answered_below c.frames-frame.result (length c.args.fibre.now.world.bursts) c.args.flights.now.flights flights bursts bounds.0 c.requires.numbers c.ask.ensures.comes in
+    let left = left_below (length bursts) c.frames-frame.result flights c.land.new.flights.flights answered c.land.ensures.left in
+    let same : c.end_frame.new.self.world.bursts ≡ bursts = ap (λ (s : FibreStand). s.world.bursts) c.end_frame.ensures ∙ c.land.ensures.puts.bursts in
+    subst (λ (bs : List SentBurst). AreBelow (length bs) c.land.new.flights.flights) (sym same) left
+
+pub returns-clause-reach : goal.returns-clause-reach
+returns-clause-reach g c =
+    let flights = c.ask.new.flights.flights in
+    let left : AreInReach (c.frames-frame.result + 1) c.land.new.flights.flights = left_in_reach c.frames-frame.result flights c.land.new.flights.flights c.ask.ensures.reach c.land.ensures.left in
+    let frames : c.end_frame.new.self.frames ≡ c.frames-frame.result + 1 =
+    ap (λ (s : FibreStand). s.frames) c.end_frame.ensures ∙ ap (λ (n : ℕ). n + 1) (c.land.ensures.frames ∙ c.ask.ensures.frames ∙ sym c.frames-frame.ensures.value) in
+    subst (λ (n : ℕ). AreInReach n c.land.new.flights.flights) (sym frames) left

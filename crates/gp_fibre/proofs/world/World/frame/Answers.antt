@@ -5,21 +5,33 @@ use Rattle.gp_machine.specs.declared.event.Event.TheVariants as event
 use Rattle.gp_fibre.specs.declared.flight.Flight.{Flight}
 use Rattle.gp_fibre.specs.declared.sent_burst.SentBurst.{SentBurst}
 use Rattle.gp_fibre.specs.Fibre.{FibreStand}
+use Rattle.gp_fibre.specs.Flights.{AreInReach}
 use Rattle.gp_fibre.specs.World.{FibreWorld}
 use Rattle.gp_fibre.specs.Step.{PortTakes}
 use Rattle.gp_fibre.specs.Schedule.{flights_after, is_due}
+use Rattle.gp_fibre.proofs.OnWheel.{left_in_reach}
 use Rattle.gp_fibre.proofs.world.World.frame.Goals as goal
+
+pub remove_due-requires : goal.remove_due-requires
+remove_due-requires g c =
+    let i = c.self.inside in subst (λ (n : ℕ). AreInReach n i.flights.flights) (sym c.frames-frame.ensures.value) c.self.invariant.1
 
 pub invariant_of-self-2 : goal.invariant_of-self-2
 invariant_of-self-2 g c =
     let i = c.self.inside in
+    let frame = c.frames-frame.result in
     let taken = c.take-entry.ensures.taken in
     let same : c.end_frame.new.self.world.bursts ≡ i.fibre.world.bursts =
     ap (λ (s : FibreStand). s.world.bursts) c.end_frame.ensures ∙ taken.bursts ∙ ap (λ (w : FibreWorld). w.bursts) c.in_ok-reserve.ensures.world in
-    let old : All (λ (f : Flight). f.number < length i.fibre.world.bursts) (flights_after c.frames-frame.result i.flights.flights) =
-    All-filter (λ f. not (is_due c.frames-frame.result f)) (λ (f : Flight). f.number < length i.fibre.world.bursts) i.flights.flights c.self.invariant in
-    subst (λ (bs : List SentBurst). All (λ (f : Flight). f.number < length bs) c.remove_due.new.self.flights) (sym same)
-    (subst (λ (fs : List Flight). All (λ (f : Flight). f.number < length i.fibre.world.bursts) fs) (sym c.remove_due.ensures) old)
+    let old : All (λ (f : Flight). f.number < length i.fibre.world.bursts) (flights_after frame i.flights.flights) =
+    All-filter (λ f. not (is_due frame f)) (λ (f : Flight). f.number < length i.fibre.world.bursts) i.flights.flights c.self.invariant.0 in
+    let reach : AreInReach frame i.flights.flights = subst (λ (n : ℕ). AreInReach n i.flights.flights) (sym c.frames-frame.ensures.value) c.self.invariant.1 in
+    let frames : c.end_frame.new.self.frames ≡ frame + 1 =
+    ap (λ (s : FibreStand). s.frames) c.end_frame.ensures ∙ ap (λ (n : ℕ). n + 1) (c.take-entry.ensures.frames ∙ c.in_ok-reserve.ensures.frames ∙ sym c.frames-frame.ensures.value) in (
+      subst (λ (bs : List SentBurst). All (λ (f : Flight). f.number < length bs) c.remove_due.new.self.flights) (sym same)
+          (subst (λ (fs : List Flight). All (λ (f : Flight). f.number < length i.fibre.world.bursts) fs) (sym c.remove_due.ensures) old),
+      subst (λ (n : ℕ). AreInReach n c.remove_due.new.self.flights) (sym frames) (left_in_reach frame i.flights.flights c.remove_due.new.self.flights reach c.remove_due.ensures),
+    )
 
 pub returns-clause-made : goal.returns-clause-made
 returns-clause-made g c =
