@@ -88,6 +88,38 @@ fn an_entry_told_to_nobody(rt: HostRuntime) -> Result<(), Fail> {
     Ok(())
 }
 
+/// Reconciles, at the second time where memory is refused the first time.
+fn reconcile_short(
+    alloc: Global,
+    journals: &[Journal; 1],
+    told: &[Vec<Receipt>; 1],
+) -> Result<(), CloseFault> {
+    match reconcile(alloc, journals, told) {
+        Err(CloseFault::OutOfMemory) => reconcile(alloc, journals, told),
+        answer => answer,
+    }
+}
+
+// Run with each allocation refused in turn (`rt try --test --fail-alloc N`).
+#[test]
+fn memory_short_or_ample(rt: HostRuntime) -> Result<(), Fail> {
+    let Ok(journal) = journal(rt.alloc()) else {
+        return Ok(());
+    };
+    let told = [receipt(0, search(Reply::Searching)), receipt(1, frame())];
+    let altered = [receipt(0, search(Reply::Ticked)), receipt(1, frame())];
+    let (Ok(told), Ok(altered)) = (told.to_vec(rt.alloc()), altered.to_vec(rt.alloc())) else {
+        return Ok(());
+    };
+    let journals = [journal];
+    assert_eq!(rt; reconcile_short(rt.alloc(), &journals, &[told]), Ok(()));
+    assert_eq!(rt;
+        reconcile_short(rt.alloc(), &journals, &[altered]),
+        Err(CloseFault::Mismatch)
+    );
+    Ok(())
+}
+
 #[test]
 fn fault_texts(rt: HostRuntime) -> Result<(), Fail> {
     let missing = format!(in rt.alloc(); "{}", CloseFault::WorkerMissing)?;

@@ -27,6 +27,8 @@ mod loops;
 mod opening;
 mod ports;
 mod reader;
+#[cfg(test)]
+mod tests;
 mod totals;
 mod unlocked;
 mod worker;
