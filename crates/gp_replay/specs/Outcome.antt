@@ -12,11 +12,15 @@ use Rattle.gp_replay.specs.Writing.{WritesScript}
 
 -- the input was read to its end without a failed read, it is not too long, and this is what it says: a script, or its first
 -- fault; which bytes came is said of a reader that tells its bytes
-pub record ReadsAs (before after : SourceState) (answer : Result ScriptView ScriptFault) : Type 0 where
+pub record ReadsBy (says_of : List ℕ → Result ScriptView ScriptFault) (before after : SourceState) (answer : Result ScriptView ScriptFault) : Type 0 where
   pub bytes : List ℕ
   pub read : ReadsWhole before after bytes
   pub short : length bytes ≤ MAX_BYTES
-  pub says : script_of bytes ≡ answer
+  pub says : says_of bytes ≡ answer
+
+-- the same of a script that is replayed
+abbrev pub ReadsAs : SourceState → SourceState → Result ScriptView ScriptFault → Type 0
+ReadsAs before after answer = ReadsBy script_of before after answer
 
 -- the input says a script, which was played, and a writer that tells its bytes got the whole trace
 pub record WritesTrace (before after : SourceState) (old new : SinkState) : Type 0 where

@@ -49,9 +49,12 @@ pub enum RunFault {
     /// A write failed or took nothing, or a flush failed.
     #[error("write")]
     Write,
-    /// What several threads were told does not agree. A replay never answers it.
+    /// What several threads were told does not agree, or a thread was not started. A replay never answers it.
     #[error("mismatch")]
     Mismatch,
+    /// The journal of a port keeps as many entries as it may. A replay, which cuts it then, never answers it.
+    #[error("journal full")]
+    JournalFull,
 }
 
 impl From<AllocError> for RunFault {
@@ -59,6 +62,14 @@ impl From<AllocError> for RunFault {
 
     fn from(_error: AllocError) -> RunFault {
         RunFault::OutOfMemory
+    }
+}
+
+impl From<WriteStopped> for RunFault {
+    ghost from_gives = { λ _ fault. fault ≡ runs.Write };
+
+    fn from(_error: WriteStopped) -> RunFault {
+        RunFault::Write
     }
 }
 

@@ -127,6 +127,7 @@ pub fn run_replay<R: Read, W: Write>(
     ensures refused { has_failed source.old ≡ true → (result ≡ Err RunFault.Read) × (source.new ≡ source.old) }
     ensures stopped { has_stopped sink.old ≡ true → IsErr result × (writer_of sink.new ≡ writer_of sink.old) }
     ensures mismatch { result ≢ Err RunFault.Mismatch }
+    ensures journal_full { result ≢ Err RunFault.JournalFull }
 
     // A failed read is always answered, and of a known input, memory aside, its length and its first
     // fault are.

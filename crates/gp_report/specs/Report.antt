@@ -6,7 +6,7 @@ use Rattle.gp_replay.specs.declared.fault.RunFault.{RunFault}
 use Rattle.gp_replay.specs.declared.fault.RunFault.TheVariants as runs
 use Rattle.gp_decode.specs.declared.fault.LineFault.{LineFault}
 use Rattle.gp_decode.specs.declared.fault.LineFault.TheVariants as lines
-use Rattle.gp_report.specs.declared.status.TheConstants.{BAD_INPUT, DISAGREEMENT, NOT_WRITTEN, OUT_OF_MEMORY}
+use Rattle.gp_report.specs.declared.status.TheConstants.{BAD_INPUT, DISAGREEMENT, JOURNAL_FULL, NOT_WRITTEN, OUT_OF_MEMORY}
 
 -- out of memory
 abbrev pub memory_line : List ℕ
@@ -29,7 +29,7 @@ script_line scripts.Serial = codes "oltctl: script 4 serial"
 script_line scripts.Hex = codes "oltctl: script 5 hex"
 script_line scripts.Duplicate = codes "oltctl: script 6 duplicate"
 
--- a fault of a replay
+-- a fault of a replay or of a storm
 abbrev pub run_line : RunFault → List ℕ
 run_line runs.Read = codes "oltctl: read"
 run_line runs.TooLong = codes "oltctl: too long"
@@ -37,12 +37,14 @@ run_line (runs.Script fault) = script_line fault
 run_line runs.OutOfMemory = memory_line
 run_line runs.Write = write_line
 run_line runs.Mismatch = codes "oltctl: mismatch"
+run_line runs.JournalFull = codes "oltctl: journal full"
 
 -- its exit status
 abbrev pub run_status : RunFault → ℕ
 run_status runs.OutOfMemory = OUT_OF_MEMORY
 run_status runs.Write = NOT_WRITTEN
 run_status runs.Mismatch = DISAGREEMENT
+run_status runs.JournalFull = JOURNAL_FULL
 run_status _ = BAD_INPUT
 
 -- a fault of a code that was to be said in words

@@ -2,7 +2,9 @@
 ghost use Rattle.std.specs.Prelude.{◌≡◌};
 ghost use Rattle.gp_report.specs.Report.{arguments_line, code_line, code_status, memory_line, run_line, run_status, script_line, write_line};
 
-use crate::status::{BAD_ARGUMENTS, BAD_INPUT, DISAGREEMENT, NOT_WRITTEN, OUT_OF_MEMORY};
+use crate::status::{
+    BAD_ARGUMENTS, BAD_INPUT, DISAGREEMENT, JOURNAL_FULL, NOT_WRITTEN, OUT_OF_MEMORY,
+};
 use gp_decode::LineFault;
 use gp_replay::RunFault;
 use gp_script::ScriptFault;
@@ -31,7 +33,7 @@ pub fn arguments_report() -> (&'static str, u8)
     ("oltctl: arguments", BAD_ARGUMENTS)
 }
 
-/// Answers the line and the status of a replay that ended with this fault.
+/// Answers the line and the status of a replay or of a storm that ended with this fault.
 pub fn run_report(fault: &RunFault) -> (&'static str, u8)
     ensures line { result.0.now ≡ run_line fault.now }
     ensures status { result.1 ≡ run_status fault.now }
@@ -43,6 +45,7 @@ pub fn run_report(fault: &RunFault) -> (&'static str, u8)
         RunFault::OutOfMemory => memory_report(),
         RunFault::Write => write_report(),
         RunFault::Mismatch => ("oltctl: mismatch", DISAGREEMENT),
+        RunFault::JournalFull => ("oltctl: journal full", JOURNAL_FULL),
     }
 }
 

@@ -15,5 +15,8 @@ pub const OUT_OF_MEMORY: u8 = 3;
 /// A write failed or took nothing, or a flush failed.
 pub const NOT_WRITTEN: u8 = 4;
 
-/// What several threads were told does not agree.
+/// What several threads were told does not agree, or a thread was not started.
 pub const DISAGREEMENT: u8 = 5;
+
+/// The journal of a port keeps as many entries as it may.
+pub const JOURNAL_FULL: u8 = 6;

@@ -4,8 +4,8 @@ use gp_replay::RunFault;
 use gp_script::ScriptFault;
 use std::alloc::AllocError;
 
-/// Each fault of a replay, its line on standard error and the exit status.
-const REPORTS: [(RunFault, &'static str, u8); 11] = [
+/// Each fault of a replay or of a storm, its line on standard error and the exit status.
+const REPORTS: [(RunFault, &'static str, u8); 12] = [
     (RunFault::Read, "oltctl: read", 1),
     (RunFault::TooLong, "oltctl: too long", 1),
     (
@@ -41,6 +41,7 @@ const REPORTS: [(RunFault, &'static str, u8); 11] = [
     (RunFault::OutOfMemory, "oltctl: memory", 3),
     (RunFault::Write, "oltctl: write", 4),
     (RunFault::Mismatch, "oltctl: mismatch", 5),
+    (RunFault::JournalFull, "oltctl: journal full", 6),
 ];
 
 /// The same of the faults of a code.

@@ -5,3 +5,4 @@ pub mod ItemsLemmas
 pub mod NamesLemmas
 pub mod PlacesLemmas
 pub mod TextLemmas
+pub mod LoseLemmas

@@ -2,6 +2,7 @@
 use Rattle.std.specs.Prelude.{ℕ, ℤ, List, [], ◌∷◌, ◌++◌, ◌||◌, Bool, Option, Some, None, Result, Ok, Err, not, codes, replicate}
 use Rattle.std.specs.List.{flat_map, list_any}
 use Rattle.toml.specs.Data.{Data, string, table, Items, no_items, item, Members}
+use Rattle.gp_ploam.specs.OnuIds.{onu_ids}
 use Rattle.gp_ploam.specs.declared.check.Mask.{Mask}
 use Rattle.gp_ploam.specs.declared.message.Serial.{Serial}
 use Rattle.gp_ploam.specs.Serials.{is_among}
@@ -88,7 +89,7 @@ unfoldable pub port_of : Mask → List PortConfig → Members → Result PortCon
 port_of mask before members = do
   shape ← port_shape members
   teqd ← in_range_or 311040 0 4294967295 shape.teqd
-  max_units ← in_range_or 254 1 254 shape.max_units
+  max_units ← in_range_or onu_ids 1 onu_ids shape.max_units
   alloc_last ← in_range_or 4095 256 4095 shape.alloc_last
   cycles ← in_range_or 3 1 10 shape.cycles
   search_period ← in_range_or 0 0 1000000 shape.search_period

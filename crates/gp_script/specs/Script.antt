@@ -1,5 +1,5 @@
 -- What a text says as a script, or its first fault (this profile's own rule).
-use Rattle.std.specs.Prelude.{ℕ, ℤ, List, [], ◌∷◌, Option, Some, None, Result, Ok, Err, Bool, if◌then◌else◌, codes, nat_le}
+use Rattle.std.specs.Prelude.{ℕ, ℤ, List, [], ◌∷◌, Option, Some, None, Result, Ok, Err, Bool, true, false, ◌&&◌, if◌then◌else◌, codes, nat_le}
 use Rattle.std.specs.Str.{is_utf8}
 use Rattle.toml.specs.Data.{Items, Members}
 use Rattle.toml.specs.Parse.{parse_document}
@@ -55,14 +55,14 @@ pub record TopShape : Type 0 where
 abbrev pub top_names : List (List ℕ)
 top_names = codes "licences" ∷ codes "mask" ∷ codes "journal_limit" ∷ codes "port" ∷ codes "unit" ∷ codes "lose" ∷ codes "event" ∷ []
 
--- units stand on the fibre of one port, and only beside units is there anything that could be lost
-abbrev pub fit_together : Items → Items → Items → Bool
-fit_together ports units losses = if is_empty units then is_empty losses else nat_le (item_count ports) 1
+-- units stand on the fibre of one port, where units may stand at all, and only beside units is there anything that could be lost
+abbrev pub fit_together : Bool → Items → Items → Items → Bool
+fit_together may_have_units ports units losses = if is_empty units then is_empty losses else may_have_units && nat_le (item_count ports) 1
 
 -- the top by its shape: the keys that it may have, each value of its type, nothing but tables in `port`, `unit`, `lose` and
--- `event`, and no tables that don't fit together
-unfoldable pub top_shape : Members → Result TopShape ScriptFault
-top_shape members = do
+-- `event`, and no tables that don't fit together, with units or without any
+unfoldable pub top_shape : Bool → Members → Result TopShape ScriptFault
+top_shape may_have_units members = do
   _ ← needs fault.Shape (has_only top_names members)
   licences ← needed_number (codes "licences") members
   mask ← number_at (codes "mask") members
@@ -75,7 +75,7 @@ top_shape members = do
   _ ← needs fault.Shape (are_tables units)
   _ ← needs fault.Shape (are_tables losses)
   _ ← needs fault.Shape (are_tables events)
-  _ ← needs fault.Shape (fit_together ports units losses)
+  _ ← needs fault.Shape (fit_together may_have_units ports units losses)
   Ok (record { licences = licences; mask = mask; journal_limit = journal_limit; ports = ports; units = units; losses = losses; events = events })
 
 -- what a script says
@@ -96,9 +96,9 @@ pub record ScriptView : Type 0 where
   pub events : List ScriptEvent
 
 -- the tables in their order: the top, the ports, the units, what is lost, the events
-unfoldable pub script_of_table : Members → Result ScriptView ScriptFault
-script_of_table members = do
-  shape ← top_shape members
+unfoldable pub script_of_table : Bool → Members → Result ScriptView ScriptFault
+script_of_table may_have_units members = do
+  shape ← top_shape may_have_units members
   licences ← in_range 0 MAX_LICENCES shape.licences
   mask ← mask_of shape.mask
   journal_limit ← in_range_or max_journal_limit 1 max_journal_limit shape.journal_limit
@@ -120,9 +120,17 @@ abbrev pub table_or_fault : Option Members → Result Members ScriptFault
 table_or_fault None = Err fault.Syntax
 table_or_fault (Some members) = Ok members
 
--- what the bytes say as a script, or the first fault
-unfoldable pub script_of : List ℕ → Result ScriptView ScriptFault
-script_of bytes = do
+-- what the bytes say as a script that may have simulated units or may have none, or the first fault
+unfoldable pub script_of_bytes : Bool → List ℕ → Result ScriptView ScriptFault
+script_of_bytes may_have_units bytes = do
   text ← text_of bytes
   members ← table_or_fault (parse_document text)
-  script_of_table members
+  script_of_table may_have_units members
+
+-- what the bytes say as a script that is replayed, or the first fault
+abbrev pub script_of : List ℕ → Result ScriptView ScriptFault
+script_of bytes = script_of_bytes true bytes
+
+-- what the bytes say as a script for a storm, which has no simulated units, or the first fault
+abbrev pub storm_script_of : List ℕ → Result ScriptView ScriptFault
+storm_script_of bytes = script_of_bytes false bytes

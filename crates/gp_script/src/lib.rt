@@ -1,6 +1,6 @@
 //! A script: what its text says, or its first fault.
 //!
-//! - `reading.rt`: `read_script`, and the keys of the top.
+//! - `reading.rt`: `read_script`, `read_storm_script`, and the keys of the top.
 //! - `script.rt`: a script that was read. `fault.rt`: why one was not.
 //! - `ports.rt`: the port tables; an admission list tells whether a serial number was admitted before.
 //! - `units.rt`: the tables of simulated units. `lose.rt`: those of what is lost on the way.
@@ -27,5 +27,5 @@ mod units;
 mod values;
 
 pub use fault::{ScriptError, ScriptFault};
-pub use reading::read_script;
+pub use reading::{read_script, read_storm_script};
 pub use script::{Script, ScriptEvent, ScriptLosses, ScriptUnit};

@@ -139,7 +139,11 @@ fn port_of(
 {
     let shape = port_keys(table)?;
     let teqd = in_range_or(311_040, 0..=u32::MAX, shape.teqd)?;
-    let max_units = in_range_or(254, 1..=u32::from(MAX_UNITS), shape.max_units)?;
+    let max_units = in_range_or(
+        u32::from(MAX_UNITS),
+        1..=u32::from(MAX_UNITS),
+        shape.max_units,
+    )?;
     let alloc_last = in_range_or(
         4095,
         u32::from(FIRST_ALLOC_ID)..=u32::from(LAST_ALLOC_ID),

@@ -1,11 +1,12 @@
-ghost use Rattle.std.specs.Prelude.{◌≡◌, ◌<◌, ◌≤◌, Err, IfOk, IsTrue, length};
+ghost use Rattle.std.specs.Prelude.{◌≡◌, ◌<◌, ◌≤◌, [], Err, IfOk, IsTrue, false, length};
 ghost use Rattle.std.specs.Str.{is_utf8};
 ghost use Rattle.toml.specs.Parse.{parse_document};
 ghost use Rattle.toml.specs.View.{table_view, items_view};
 ghost use Rattle.gp_script.specs.Fault.{Gives, Sees};
-ghost use Rattle.gp_script.specs.Script.{fit_together as tables_fit, top_shape, script_of_table, script_of, text_of, table_or_fault};
+ghost use Rattle.gp_script.specs.Script.{fit_together as tables_fit, top_shape, script_of_table, script_of_bytes, script_of, storm_script_of, text_of, table_or_fault};
 ghost use Rattle.gp_script.specs.Playable.{IsPlayable};
-ghost use Rattle.gp_script.specs.View.{top_keys_view, script_view};
+ghost use Rattle.gp_script.specs.Lose.{no_losses};
+ghost use Rattle.gp_script.specs.View.{losses_view, top_keys_view, script_view};
 
 use crate::events::events_of;
 use crate::fault::{ScriptError, ScriptFault};
@@ -56,24 +57,26 @@ struct TopKeys<'a> {
     events: &'a [Value],
 }
 
-/// Tells whether units stand beside one port at most, and what is lost beside units alone.
+/// Tells whether units stand beside one port at most, where they may stand at all, and what is lost beside units alone.
 #[tactic(auto, using(crate::proofs::ItemsLemmas::item_count_view))]
-fn fit_together(ports: &[Value], units: &[Value], losses: &[Value]) -> bool
-    ensures value { result ≡ tables_fit (items_view ports.now) (items_view units.now) (items_view losses.now) }
+fn fit_together(may_have_units: bool, ports: &[Value], units: &[Value], losses: &[Value]) -> bool
+    ensures value { result ≡ tables_fit may_have_units (items_view ports.now) (items_view units.now) (items_view losses.now) }
     ensures one_port { IsTrue result → 0 < length units.now → length ports.now ≤ 1 }
+    ensures no_units { may_have_units ≡ false → IsTrue result → (units.now ≡ []) × (losses.now ≡ []) }
 {
     if is_empty(units) {
         is_empty(losses)
     } else {
-        ports.len() <= 1
+        may_have_units && ports.len() <= 1
     }
 }
 
 /// Reads the keys of the top, each value of its type.
 #[tactic(auto, unfolding(crate::specs::Script::top_shape))]
-fn top_keys(table: &Table) -> Result<TopKeys<'_>, ScriptFault>
-    ensures value { Sees top_keys_view result (top_shape (table_view table.now)) }
+fn top_keys(may_have_units: bool, table: &Table) -> Result<TopKeys<'_>, ScriptFault>
+    ensures value { Sees top_keys_view result (top_shape may_have_units (table_view table.now)) }
     ensures one_port { IfOk result (λ keys. 0 < length keys.units.now → length keys.ports.now ≤ 1) }
+    ensures no_units { may_have_units ≡ false → IfOk result (λ keys. (keys.units.now ≡ []) × (keys.losses.now ≡ [])) }
 {
     needs(ScriptFault::Shape, has_only(table, &TOP_NAMES))?;
     let licences = needed_number(table, "licences")?;
@@ -87,7 +90,10 @@ fn top_keys(table: &Table) -> Result<TopKeys<'_>, ScriptFault>
     needs(ScriptFault::Shape, are_tables(units))?;
     needs(ScriptFault::Shape, are_tables(losses))?;
     needs(ScriptFault::Shape, are_tables(events))?;
-    needs(ScriptFault::Shape, fit_together(ports, units, losses))?;
+    needs(
+        ScriptFault::Shape,
+        fit_together(may_have_units, ports, units, losses),
+    )?;
     Ok(TopKeys {
         licences,
         mask,
@@ -101,11 +107,12 @@ fn top_keys(table: &Table) -> Result<TopKeys<'_>, ScriptFault>
 
 /// Reads what the tables say.
 #[tactic(auto, unfolding(crate::specs::Script::script_of_table))]
-fn read_table(alloc: Global, table: &Table) -> Result<Script, ScriptError>
-    ensures value { Gives script_view result (script_of_table (table_view table.now)) }
+fn read_table(alloc: Global, may_have_units: bool, table: &Table) -> Result<Script, ScriptError>
+    ensures value { Gives script_view result (script_of_table may_have_units (table_view table.now)) }
     ensures playable { IfOk result (λ s. IsPlayable (script_view s)) }
+    ensures no_units { may_have_units ≡ false → IfOk result (λ s. (s.units.items ≡ []) × (losses_view s.losses ≡ no_losses)) }
 {
-    let shape = top_keys(table)?;
+    let shape = top_keys(may_have_units, table)?;
     let licences = in_range(0..=MAX_LICENCES, shape.licences)?;
     let mask = mask_of(shape.mask)?;
     let journal_limit = in_range_or(
@@ -152,17 +159,41 @@ fn parse_table(alloc: Global, text: &str) -> Result<Table, ScriptError>
     })
 }
 
+/// Reads what the bytes say as a script, with simulated units where it may have them.
+#[tactic(auto, unfolding(crate::specs::Script::script_of_bytes))]
+fn read_bytes(alloc: Global, may_have_units: bool, bytes: &[u8]) -> Result<Script, ScriptError>
+    ensures value { Gives script_view result (script_of_bytes may_have_units bytes.now) }
+    ensures memory_only_of_utf8 { result ≡ Err ScriptError.OutOfMemory → IsTrue (is_utf8 bytes.now) }
+    ensures playable { IfOk result (λ s. IsPlayable (script_view s)) }
+    ensures no_units { may_have_units ≡ false → IfOk result (λ s. (s.units.items ≡ []) × (losses_view s.losses ≡ no_losses)) }
+{
+    let text = read_text(bytes)?;
+    let table = parse_table(alloc, text)?;
+    read_table(alloc, may_have_units, &table)
+}
+
 /// Reads what the bytes say as a script, or the first fault, before any event runs.
 ///
 /// Of a script that is read, each number is within its range, each serial number is admitted once,
 /// units stand beside one port alone, and each event names a port or a unit that is there.
-#[tactic(auto, unfolding(crate::specs::Script::script_of))]
 pub fn read_script(alloc: Global, bytes: &[u8]) -> Result<Script, ScriptError>
     ensures value { Gives script_view result (script_of bytes.now) }
     ensures memory_only_of_utf8 { result ≡ Err ScriptError.OutOfMemory → IsTrue (is_utf8 bytes.now) }
     ensures playable { IfOk result (λ s. IsPlayable (script_view s)) }
 {
-    let text = read_text(bytes)?;
-    let table = parse_table(alloc, text)?;
-    read_table(alloc, &table)
+    read_bytes(alloc, true, bytes)
+}
+
+/// Reads what the bytes say as a script for a storm, or the first fault, before any event runs.
+///
+/// A storm has no simulated units: a unit table is a fault of the top's shape, and so is a table of what is
+/// lost, as in any script without units. All else is as in `read_script`.
+pub fn read_storm_script(alloc: Global, bytes: &[u8]) -> Result<Script, ScriptError>
+    ensures value { Gives script_view result (storm_script_of bytes.now) }
+    ensures memory_only_of_utf8 { result ≡ Err ScriptError.OutOfMemory → IsTrue (is_utf8 bytes.now) }
+    ensures playable { IfOk result (λ s. IsPlayable (script_view s)) }
+    ensures no_units { IfOk result (λ s. s.units.items ≡ []) }
+    ensures nothing_lost { IfOk result (λ s. losses_view s.losses ≡ no_losses) }
+{
+    read_bytes(alloc, false, bytes)
 }

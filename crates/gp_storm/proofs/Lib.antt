@@ -1,0 +1,3 @@
+pub mod PlanLemmas
+pub mod TotalsLemmas
+pub mod SinkLemmas

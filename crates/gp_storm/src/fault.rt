@@ -1,4 +1,5 @@
 use gp_chassis::ApplyFault;
+use gp_replay::RunFault;
 use thiserror::Error;
 
 /// Why a storm has no totals. Of several threads' faults the operator's is told, else that of the first reader by port, else the
@@ -28,5 +29,20 @@ pub(crate) fn storm_fault(fault: ApplyFault) -> StormFault {
         ApplyFault::NoPort => StormFault::NoPort,
         ApplyFault::OutOfMemory => StormFault::OutOfMemory,
         ApplyFault::JournalFull => StormFault::JournalFull,
+    }
+}
+
+impl From<StormFault> for RunFault {
+    ghost use Rattle.std.specs.Prelude.{◌≡◌};
+    ghost use Rattle.gp_storm.specs.Faults.{fault_of_storm};
+
+    ghost from_gives = { λ storm fault. fault ≡ fault_of_storm storm };
+
+    fn from(fault: StormFault) -> RunFault {
+        match fault {
+            StormFault::JournalFull => RunFault::JournalFull,
+            StormFault::OutOfMemory => RunFault::OutOfMemory,
+            StormFault::Limit | StormFault::NoPort | StormFault::Mismatch => RunFault::Mismatch,
+        }
     }
 }

@@ -1,4 +1,5 @@
--- The command line: `oltctl replay [FILE]` and `oltctl decode [--up] [--mask 0|85] HEX` (this profile's own rule).
+-- The command line: `oltctl replay [FILE]`, `oltctl storm [FILE]` and `oltctl decode [--up] [--mask 0|85] HEX` (this profile's own
+-- rule).
 use Rattle.std.specs.Prelude.{◌≡◌, List, [], ◌∷◌, Option, None, Some, map, true, codes, if◌then◌else◌}
 use Rattle.std.specs.Borrow.{Bor}
 use Rattle.std.specs.Str.{bytes_eq}
@@ -39,14 +40,21 @@ code_rule = record (new_rule (codes "code")) { value_names = 1; required = true 
 abbrev pub replay_command : App
 replay_command = with_rule (new_app (codes "replay")) file_rule
 
+abbrev pub storm_command : App
+storm_command = with_rule (new_app (codes "storm")) file_rule
+
 abbrev pub decode_command : MaskNames → App
 decode_command names = with_rule (with_rule (with_rule (new_app (codes "decode")) up_rule) (mask_rule names)) code_rule
 
--- one of the two has to be named; with no words at all the help is shown
+-- the program as far as it is about scripts: one of its commands has to be named; with no words at all the help is shown
+abbrev pub script_commands : App
+script_commands =
+    with_subcommand (with_subcommand (on_top (λ s. record s { subcommand_required = true; arg_required_else_help = true })
+    (new_app (codes "oltctl"))) replay_command.top) storm_command.top
+
+-- the whole program
 abbrev pub oltctl_command : MaskNames → App
-oltctl_command names =
-    with_subcommand (with_subcommand (on_top (λ s. record s { subcommand_required = true; arg_required_else_help = true }) (new_app (codes "oltctl")))
-    replay_command.top) (decode_command names).top
+oltctl_command names = with_subcommand script_commands (decode_command names).top
 
 -- the words have no fault, and what was parsed is the subcommand that they name, with the values that they give it
 pub record IsParseOf (words : List Text) (m : ArgMatches) : Type 0 where

@@ -3,7 +3,7 @@ use Rattle.std.specs.Prelude.{◌≡◌, ◌≢◌, List, Bool, true, false, Opt
 use Rattle.clap.specs.Words.{Row, Text, first_of, one_of}
 use Rattle.oltctl.specs.CommandLine.{mask_named}
 use Rattle.oltctl.specs.declared.request.Request.{Request}
-use Rattle.oltctl.specs.declared.request.Request.TheVariants.{Replay, Decode}
+use Rattle.oltctl.specs.declared.request.Request.TheVariants.{Replay, Storm, Decode}
 
 -- a flag is given or not, as its text says, and is not where it has none
 pub record IsFlag (rows : List Row) (id : Text) (is_given : Bool) : Type 0 where
@@ -14,11 +14,19 @@ pub record IsFlag (rows : List Row) (id : Text) (is_given : Bool) : Type 0 where
 -- the rows of `replay` ask to play FILE, or standard input where it is left out
 abbrev pub AsksToReplay : List Row → Request → Type 0
 AsksToReplay rows (Replay file) = option_map (λ name. name.now) file ≡ first_of (codes "file") rows
+AsksToReplay rows (Storm file) = ⊥
 AsksToReplay rows (Decode code upstream mask) = ⊥
+
+-- the rows of `storm` ask for the storm of FILE, or of standard input where it is left out
+abbrev pub AsksToStorm : List Row → Request → Type 0
+AsksToStorm rows (Replay file) = ⊥
+AsksToStorm rows (Storm file) = option_map (λ name. name.now) file ≡ first_of (codes "file") rows
+AsksToStorm rows (Decode code upstream mask) = ⊥
 
 -- the rows of `decode` ask for the words of HEX, as an upstream message with `--up`, under the mask of `--mask`
 abbrev pub AsksToDecode : List Row → Request → Type 0
 AsksToDecode rows (Replay file) = ⊥
+AsksToDecode rows (Storm file) = ⊥
 AsksToDecode rows (Decode code upstream mask) =
     (first_of (codes "code") rows ≡ Some code.now) × IsFlag rows (codes "up") upstream × (mask ≡ mask_named (first_of (codes "mask") rows))
 
@@ -26,9 +34,10 @@ AsksToDecode rows (Decode code upstream mask) =
 abbrev pub Asks : Option (Text × List Row) → Request → Type 0
 Asks None request = ⊥
 Asks (Some (name, rows)) (Replay file) = (name ≡ codes "replay") × AsksToReplay rows (Replay file)
+Asks (Some (name, rows)) (Storm file) = (name ≡ codes "storm") × AsksToStorm rows (Storm file)
 Asks (Some (name, rows)) (Decode code upstream mask) = (name ≡ codes "decode") × AsksToDecode rows (Decode code upstream mask)
 
 -- it asks for nothing that is known: there is none, or another one, or one that has no code to decode
 abbrev pub AsksNothing : Option (Text × List Row) → Type 0
 AsksNothing None = Unit {0}
-AsksNothing (Some (name, rows)) = (name ≢ codes "replay") × (name ≡ codes "decode" → first_of (codes "code") rows ≡ None)
+AsksNothing (Some (name, rows)) = (name ≢ codes "replay") × (name ≢ codes "storm") × (name ≡ codes "decode" → first_of (codes "code") rows ≡ None)

@@ -9,18 +9,18 @@ use Rattle.gp_decode.specs.declared.fault.LineFault.{LineFault}
 use Rattle.gp_decode.specs.Line.{HasLineFault, IsOfText, Says}
 use Rattle.gp_replay.specs.declared.fault.RunFault.{RunFault}
 use Rattle.gp_replay.specs.declared.fault.RunFault.TheVariants as run
-use Rattle.gp_report.specs.declared.status.TheConstants.{BAD_ARGUMENTS, NOT_WRITTEN, OUT_OF_MEMORY, SUCCESS}
+use Rattle.gp_report.specs.declared.status.TheConstants.{BAD_ARGUMENTS, JOURNAL_FULL, NOT_WRITTEN, OUT_OF_MEMORY, SUCCESS}
 use Rattle.gp_report.specs.Report.{arguments_line, code_status, memory_line, run_status}
 use Rattle.clap.specs.Words.{Text, subcommand_rows_of}
 use Rattle.clap.specs.declared.parser.matches.ArgMatches.{ArgMatches}
 use Rattle.oltctl.specs.CommandLine.{IsFaultOf, IsParseOf}
 use Rattle.oltctl.specs.Requests.{Asks, AsksNothing}
 use Rattle.oltctl.specs.declared.request.Request.{Request}
-use Rattle.oltctl.specs.declared.request.Request.TheVariants.{Replay, Decode}
+use Rattle.oltctl.specs.declared.request.Request.TheVariants.{Replay, Storm, Decode}
 
--- no status is greater: that of a terminal whose licences disagree with its units, 5, never comes
+-- no status is greater
 abbrev pub greatest_status : ℕ
-greatest_status = NOT_WRITTEN
+greatest_status = JOURNAL_FULL
 
 -- the line on standard error and the status where the words of the command line could not be had
 abbrev pub IsArgumentsReport : IoErrorKind → List ℕ → ℕ → Type 0
@@ -35,15 +35,19 @@ IsStatusOf error.DisplayHelp status = (status ≡ SUCCESS) ⊎ (status ≡ NOT_W
 IsStatusOf error.DisplayVersion status = (status ≡ SUCCESS) ⊎ (status ≡ NOT_WRITTEN)
 IsStatusOf _ status = status ≡ BAD_ARGUMENTS
 
--- the status after a replay, by how it ended
-abbrev pub replay_status : Result (Unit {0}) RunFault → ℕ
-replay_status (Ok done) = SUCCESS
-replay_status (Err fault) = run_status fault
+-- the status after a replay or a storm, by how it ended
+abbrev pub end_status : Result (Unit {0}) RunFault → ℕ
+end_status (Ok done) = SUCCESS
+end_status (Err fault) = run_status fault
 
 -- the status after a replay of a file or of standard input: what they hold no contract can tell, so it is that of some
--- replay, but not of one with disagreement
+-- replay, but not of one with disagreement or with a full journal
 abbrev pub IsPlayed : ℕ → Type 0
-IsPlayed status = (outcome : Result (Unit {0}) RunFault) × (outcome ≢ Err run.Mismatch) × (status ≡ replay_status outcome)
+IsPlayed status = (outcome : Result (Unit {0}) RunFault) × (outcome ≢ Err run.Mismatch) × (outcome ≢ Err run.JournalFull) × (status ≡ end_status outcome)
+
+-- the status after a storm of a file or of standard input, likewise that of some storm
+abbrev pub IsStormed : ℕ → Type 0
+IsStormed status = (outcome : Result (Unit {0}) RunFault) × (status ≡ end_status outcome)
 
 -- all went well, and the code has a line
 abbrev pub IsSaid : List ℕ → Bool → Mask → ℕ → Type 0
@@ -62,6 +66,7 @@ pub record IsDecoded (code : List ℕ) (upstream : Bool) (mask : Mask) (status :
 -- the status after what was asked for
 abbrev pub IsServed : Request → ℕ → Type 0
 IsServed (Replay file) status = IsPlayed status
+IsServed (Storm file) status = IsStormed status
 IsServed (Decode code upstream mask) status = IsDecoded code.now upstream mask status
 
 -- how a run over the words of a command line may end, with this status

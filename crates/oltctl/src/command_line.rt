@@ -2,7 +2,7 @@
 ghost use Rattle.std.specs.Prelude.{◌≡◌, ◌≢◌, IfErr, IfOk, false, map};
 ghost use Rattle.clap.specs.Words.{app_of, kind_of, rule_of};
 ghost use Rattle.clap.specs.declared.builder.command.Command.TheViews.{out-Command as fields_of};
-ghost use Rattle.oltctl.specs.CommandLine.{AreMasks, IsFaultOf, IsParseOf, MaskNames, code_rule, decode_command, file_rule, mask_rule, oltctl_command, replay_command, up_rule};
+ghost use Rattle.oltctl.specs.CommandLine.{AreMasks, IsFaultOf, IsParseOf, MaskNames, code_rule, decode_command, file_rule, mask_rule, oltctl_command, replay_command, script_commands, storm_command, up_rule};
 ghost use Rattle.std.specs.String.{string_bytes};
 
 use clap::error::ErrorKind;
@@ -27,6 +27,17 @@ fn replay<'a>(alloc: Global) -> Result<Command<'a>, AllocError>
 {
     Command::new(alloc, "replay")
         .about("Plays a script and writes its trace, one line for each entry")
+        .arg(file(alloc))
+}
+
+fn storm<'a>(alloc: Global) -> Result<Command<'a>, AllocError>
+    ensures app { IfOk result (λ c. app_of c ≡ storm_command) }
+    ensures local { IfOk result (λ c. (fields_of c).has_globals ≡ false) }
+{
+    Command::new(alloc, "storm")
+        .about(
+            "Runs a script's bursts, frames and commands at once, by threads, and writes the totals",
+        )
         .arg(file(alloc))
 }
 
@@ -73,15 +84,22 @@ fn decode<'a>(alloc: Global) -> Result<Command<'a>, AllocError>
         .arg(code(alloc))
 }
 
-fn command<'a>(alloc: Global) -> Result<Command<'a>, AllocError>
-    ensures { IfOk result (λ c. (names : MaskNames) × AreMasks names × (app_of c ≡ oltctl_command names)) }
+/// Makes the program's command line as far as it is about scripts.
+fn of_scripts<'a>(alloc: Global) -> Result<Command<'a>, AllocError>
+    ensures { IfOk result (λ c. app_of c ≡ script_commands) }
 {
     Command::new(alloc, "oltctl")
         .about("The activation side of a GPON line terminal (ITU-T G.984.3)")
         .subcommand_required(true)
         .arg_required_else_help(true)
         .subcommand(replay(alloc)?)?
-        .subcommand(decode(alloc)?)
+        .subcommand(storm(alloc)?)
+}
+
+fn command<'a>(alloc: Global) -> Result<Command<'a>, AllocError>
+    ensures { IfOk result (λ c. (names : MaskNames) × AreMasks names × (app_of c ≡ oltctl_command names)) }
+{
+    of_scripts(alloc)?.subcommand(decode(alloc)?)
 }
 
 /// Reads what the words of a command line ask for.

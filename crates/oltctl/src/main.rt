@@ -1,4 +1,5 @@
-//! `oltctl`: plays a script and writes its trace, and says in words which message a code is.
+//! `oltctl`: plays a script and writes its trace, runs its events at once by threads and writes the totals, and says in words which
+//! message a code is.
 #![tactic(auto)]
 
 ghost use Rattle.std.specs.Prelude.{◌≡◌, ◌≢◌, ◌≤◌, ◌↔◌, ℕ, List, Ok, Err, OnOk, map};
@@ -8,9 +9,9 @@ ghost use Rattle.std.specs.IoError.{error_kind};
 ghost use Rattle.gp_decode.specs.declared.fault.LineFault.{LineFault as AnyFault};
 ghost use Rattle.gp_decode.specs.Line.{HasLineFault, IsOfText, Says};
 ghost use Rattle.gp_script.specs.declared.fault.ScriptFault.{ScriptFault};
-ghost use Rattle.gp_script.specs.Script.{ScriptView};
-ghost use Rattle.oltctl.specs.Replays.{IsReadAs, IsTooLong};
-ghost use Rattle.oltctl.specs.Statuses.{IsArgumentsReport, IsRun, IsServed, IsStatusOf, greatest_status, replay_status};
+ghost use Rattle.gp_script.specs.Script.{ScriptView, script_of, storm_script_of};
+ghost use Rattle.oltctl.specs.Replays.{IsReadBy, IsTooLong};
+ghost use Rattle.oltctl.specs.Statuses.{IsArgumentsReport, IsRun, IsServed, IsStatusOf, end_status, greatest_status};
 
 mod command_line;
 mod request;
@@ -23,12 +24,15 @@ use gp_replay::{RunFault, run_replay};
 use gp_report::{
     BAD_ARGUMENTS, SUCCESS, arguments_report, line_report, memory_report, run_report, write_report,
 };
+use gp_storm::run_storm;
 use gp_stream::{Sink, Source};
 use request::{Request, request_of};
 use std::io;
 use std::io::Read;
 use std::process::ExitCode;
 use std::rt::{Env, Files};
+use std::sync::Wait;
+use std::thread::Threads;
 
 /// Says on standard error what went wrong, and answers the exit status, which says it too where
 /// standard error takes nothing.
@@ -42,10 +46,11 @@ fn report<R: Eprint>(rt: &R, told: (&'static str, u8)) -> u8
 
 /// Plays the script that a reader gives, to standard output.
 fn replay_from<R: AllocGlobal + Print, S: Read + Drop>(rt: &R, reader: S) -> Result<(), RunFault>
-    ensures ok { OnOk result ((script : ScriptView) × IsReadAs (S.remaining reader) (Ok script)) }
-    ensures script { (fault : ScriptFault) → result ≡ Err (RunFault.Script fault) → IsReadAs (S.remaining reader) (Err fault) }
+    ensures ok { OnOk result ((script : ScriptView) × IsReadBy script_of (S.remaining reader) (Ok script)) }
+    ensures script { (fault : ScriptFault) → result ≡ Err (RunFault.Script fault) → IsReadBy script_of (S.remaining reader) (Err fault) }
     ensures too_long { result ≡ Err RunFault.TooLong → IsTooLong (S.remaining reader) }
     ensures mismatch { result ≢ Err RunFault.Mismatch }
+    ensures journal_full { result ≢ Err RunFault.JournalFull }
 {
     let mut source = Source::new(reader);
     let mut sink = Sink::new(rt.alloc(), io::writer(rt))?;
@@ -57,7 +62,8 @@ fn replay<R: AllocGlobal + Files + Print + Input>(
     rt: &R,
     file: Option<&str>,
 ) -> Result<(), RunFault>
-    ensures { result ≢ Err RunFault.Mismatch }
+    ensures mismatch { result ≢ Err RunFault.Mismatch }
+    ensures journal_full { result ≢ Err RunFault.JournalFull }
 {
     match file {
         None => replay_from(rt, rt.reader()),
@@ -68,9 +74,37 @@ fn replay<R: AllocGlobal + Files + Print + Input>(
     }
 }
 
-/// Says on standard error what went wrong with a replay, if anything did, and answers the exit status.
-fn end_replay<R: Eprint>(rt: &R, outcome: &Result<(), RunFault>) -> u8
-    ensures { result ≡ replay_status outcome.now }
+/// Runs the storm of the script that a reader gives, and writes its totals to standard output.
+fn storm_from<R: AllocGlobal + Print + Threads + Wait + Sync, S: Read + Drop>(
+    rt: &R,
+    reader: S,
+) -> Result<(), RunFault>
+    ensures ok { OnOk result ((script : ScriptView) × IsReadBy storm_script_of (S.remaining reader) (Ok script)) }
+    ensures script { (fault : ScriptFault) → result ≡ Err (RunFault.Script fault) → IsReadBy storm_script_of (S.remaining reader) (Err fault) }
+    ensures too_long { result ≡ Err RunFault.TooLong → IsTooLong (S.remaining reader) }
+{
+    let mut source = Source::new(reader);
+    let mut sink = Sink::new(rt.alloc(), io::writer(rt))?;
+    run_storm(rt, rt.alloc(), &mut source, &mut sink)
+}
+
+/// Runs the storm of a file's script, or of standard input's.
+fn storm<R: AllocGlobal + Files + Print + Input + Threads + Wait + Sync>(
+    rt: &R,
+    file: Option<&str>,
+) -> Result<(), RunFault> {
+    match file {
+        None => storm_from(rt, rt.reader()),
+        Some(path) => match std::fs::open(rt, path) {
+            Ok(file) => storm_from(rt, file),
+            Err(_) => Err(RunFault::Read),
+        },
+    }
+}
+
+/// Says on standard error what went wrong with a replay or a storm, if anything did, and answers the exit status.
+fn end_run<R: Eprint>(rt: &R, outcome: &Result<(), RunFault>) -> u8
+    ensures { result ≡ end_status outcome.now }
 {
     match outcome {
         Ok(()) => SUCCESS,
@@ -93,11 +127,15 @@ fn decode<R: AllocGlobal + Print>(
 }
 
 /// Does what is asked for, and answers the exit status.
-fn serve<R: AllocGlobal + Files + Print + Eprint + Input>(rt: &R, request: Request<'_>) -> u8
+fn serve<R: AllocGlobal + Files + Print + Eprint + Input + Threads + Wait + Sync>(
+    rt: &R,
+    request: Request<'_>,
+) -> u8
     ensures { IsServed request.entry result }
 {
     match request {
-        Request::Replay { file } => end_replay(rt, &replay(rt, file)),
+        Request::Replay { file } => end_run(rt, &replay(rt, file)),
+        Request::Storm { file } => end_run(rt, &storm(rt, file)),
         Request::Decode {
             code,
             upstream,
@@ -141,7 +179,10 @@ fn words_report(error: &io::Error) -> (&'static str, u8)
 }
 
 /// Does what the words of a command line ask for, and answers the exit status. The first word is the program's name.
-fn run_words<R: AllocGlobal + Files + Print + Eprint + Input>(rt: &R, words: &[String]) -> u8
+fn run_words<R: AllocGlobal + Files + Print + Eprint + Input + Threads + Wait + Sync>(
+    rt: &R,
+    words: &[String],
+) -> u8
     ensures ended { IsRun (map string_bytes words.now) result }
     ensures bound { result ≤ greatest_status }
 {
@@ -155,7 +196,7 @@ fn run_words<R: AllocGlobal + Files + Print + Eprint + Input>(rt: &R, words: &[S
 }
 
 /// Runs the command line, and answers the exit status.
-fn run<R: AllocGlobal + Env + Files + Print + Eprint + Input>(rt: &R) -> u8
+fn run<R: AllocGlobal + Env + Files + Print + Eprint + Input + Threads + Wait + Sync>(rt: &R) -> u8
     ensures { result ≤ greatest_status }
 {
     match arguments_of(rt) {

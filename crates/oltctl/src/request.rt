@@ -2,7 +2,7 @@
 ghost use Rattle.std.specs.Prelude.{◌≡◌, IfSome, IfNone, None, codes, option_map};
 ghost use Rattle.clap.specs.Words.{first_of, found_of, rows_of, subcommand_rows_of};
 ghost use Rattle.oltctl.specs.CommandLine.{mask_named};
-ghost use Rattle.oltctl.specs.Requests.{Asks, AsksNothing, AsksToDecode, AsksToReplay};
+ghost use Rattle.oltctl.specs.Requests.{Asks, AsksNothing, AsksToDecode, AsksToReplay, AsksToStorm};
 
 use clap::ArgMatches;
 use gp_ploam::Mask;
@@ -12,6 +12,10 @@ use gp_ploam::Mask;
 pub enum Request<'a> {
     /// Play the script of this file, or of standard input.
     Replay {
+        file: Option<&'a str>,
+    },
+    /// Run the storm of this file's script, or of standard input's.
+    Storm {
         file: Option<&'a str>,
     },
     /// Say which message this code is, in hexadecimal digits: one of a unit where `upstream`, else one of the
@@ -30,6 +34,7 @@ pub fn request_of<'a>(matches: &ArgMatches<'a>) -> Option<Request<'a>>
 {
     match matches.subcommand()? {
         ("replay", found) => Some(replay_of(found)),
+        ("storm", found) => Some(storm_of(found)),
         ("decode", found) => decode_of(found),
         _ => None,
     }
@@ -40,6 +45,15 @@ fn replay_of<'a>(found: &ArgMatches<'a>) -> Request<'a>
     ensures { AsksToReplay (rows_of (found_of found.now)) result }
 {
     Request::Replay {
+        file: found.get_str("file"),
+    }
+}
+
+#[tactic(auto, using(crate::proofs::Rows::value_by_rows))]
+fn storm_of<'a>(found: &ArgMatches<'a>) -> Request<'a>
+    ensures { AsksToStorm (rows_of (found_of found.now)) result }
+{
+    Request::Storm {
         file: found.get_str("file"),
     }
 }

@@ -1,0 +1,9 @@
+use Rattle.std.specs.String.{string_bytes}
+use Rattle.gp_script.specs.View.{script_view}
+use Rattle.gp_storm.proofs.TotalsLemmas.{totals_told}
+use Rattle.gp_storm.proofs.storming.storm_of.Goals as goal
+
+pub returns-clause-totals : goal.returns-clause-totals
+returns-clause-totals g c =
+    totals_told (script_view c.args.script) c.in_ok-closed.closed.journals.items c.in_ok-closed.closed.totals c.in_ok-closed.closed.licences (string_bytes c.in_ok-text_of.field-0)
+    c.in_ok-closed.ensures.ending c.in_ok-closed.ensures.licences c.in_ok-text_of.ensures

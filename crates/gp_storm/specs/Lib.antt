@@ -1,0 +1,4 @@
+pub mod Plan
+pub mod Totals
+pub mod Faults
+pub mod Outcome

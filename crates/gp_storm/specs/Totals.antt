@@ -1,0 +1,24 @@
+-- What a storm writes of the chassis that it closed (this profile's own rule).
+use Rattle.std.specs.Prelude.{◌≡◌, ℕ, List, ◌++◌, map, length, sum_by, codes, decimal}
+use Rattle.gp_journal.specs.Kept.{Kept}
+use Rattle.gp_workers.specs.declared.totals.Totals.{Totals}
+use Rattle.gp_workers.specs.Closing.{Ending}
+use Rattle.gp_script.specs.Script.{ScriptView}
+
+-- how many entries the journals keep, all together
+abbrev pub entries_in : List Kept → ℕ
+entries_in journals = sum_by length (map (λ (journal : Kept). journal.entries) journals)
+
+-- the five lines: what the journals tell of, how many entries they keep, and how many licences came back
+abbrev pub totals_text : Totals → ℕ → ℕ → List ℕ
+totals_text totals entries licences =
+    codes "frames " ++ (decimal totals.frames ++ (codes "\nbursts " ++ (decimal totals.bursts ++ (codes "\ncommands " ++ (decimal totals.commands ++ (codes "\nentries "
+    ++ (decimal entries ++ (codes "\nlicences " ++ (decimal licences ++ codes "\n")))))))))
+
+-- a chassis with the ports and the licences of the script was closed: its journals are runs of the ports' configurations, and the
+-- text is that of what they add up to, with all the licences
+pub record IsTotalsOf (script : ScriptView) (text : List ℕ) : Type 0 where
+  pub journals : List Kept
+  pub totals : Totals
+  pub ending : Ending script.ports journals totals
+  pub says : text ≡ totals_text totals (entries_in journals) script.licences

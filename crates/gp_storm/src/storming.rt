@@ -1,0 +1,140 @@
+ghost use Rattle.std.specs.Prelude.{◌≡◌, ◌≢◌, ◌+◌, ◌<◌, ◌≤◌, ◌⊎◌, ◌↔◌, ℕ, List, [], IfOk, IfErr, IsErr, OnErr, OnOk, Err, true, false, length};
+ghost use Rattle.std.specs.String.{string_bytes};
+ghost use Rattle.gp_script.specs.declared.fault.ScriptFault.{ScriptFault as AnyScriptFault};
+ghost use Rattle.gp_script.specs.Playable.{IsPlayable};
+ghost use Rattle.gp_script.specs.Script.{storm_script_of};
+ghost use Rattle.gp_script.specs.View.{script_view};
+ghost use Rattle.gp_stream.specs.Source.{has_failed, reads_left, source_state, ReadsTooMuch, WasReadable};
+ghost use Rattle.gp_stream.specs.Sink.{gathered_of, sink_state, has_flushed, has_stopped, writer_of, Takes, TakesPrefix};
+ghost use Rattle.gp_replay.specs.Outcome.{ReadsBy};
+ghost use Rattle.gp_storm.specs.Faults.{IsOfStorm};
+ghost use Rattle.gp_storm.specs.Outcome.{LeavesTotalsPrefix, ReadsStorm, WritesTotals};
+ghost use Rattle.gp_storm.specs.Totals.{IsTotalsOf, totals_text};
+
+use super::engine::storm;
+use super::plan::plan_of;
+use gp_chassis::ChassisConfig;
+use gp_licence::MAX_LICENCES;
+use gp_replay::RunFault;
+use gp_script::Script;
+use gp_stream::{MAX_BYTES, Sink, Source, WriteStopped};
+use gp_workers::{Closed, Totals};
+use std::alloc::{AllocError, Global};
+use std::io::{Read, Write};
+use std::marker::Brand;
+use std::sync::Wait;
+use std::sync::ledger::{Blank, Ledger};
+use std::thread::Threads;
+
+/// Makes the five lines of what a chassis left.
+fn text_of(alloc: Global, closed: &Closed) -> Result<String, AllocError>
+    ensures { IfOk result (λ text. let totals = closed.now.totals in
+        string_bytes text ≡ totals_text totals (totals.frames + totals.bursts + totals.commands) closed.now.licences) }
+{
+    let Totals {
+        frames,
+        bursts,
+        commands,
+        ..
+    } = closed.totals;
+    // Each is a count of its own, and three of 64 bits need not fit into 64.
+    let entries = u128::from(frames) + u128::from(bursts) + u128::from(commands);
+    let licences = closed.licences;
+    format!(in alloc;
+        "frames {frames}\nbursts {bursts}\ncommands {commands}\nentries {entries}\nlicences {licences}\n"
+    )
+}
+
+/// Runs the storm of a script on a chassis of its own, whose ledger is the blank, and gives the text of its totals.
+#[tactic(auto, using(crate::proofs::TotalsLemmas::totals_told))]
+fn storm_of<L: Ledger + Send + Sync, R: Threads + Wait + Sync>(
+    rt: &R,
+    alloc: Global,
+    blank: Blank,
+    script: Script,
+) -> Result<String, RunFault>
+    requires name { blank.name ≡ L.name }
+    requires parts { (blank.parts ≡ L.parts) × (L.parts ≡ MAX_LICENCES) }
+    requires playable { IsPlayable (script_view script) }
+    ensures totals { IfOk result (λ text. IsTotalsOf (script_view script) (string_bytes text)) }
+    ensures fault { IfErr result IsOfStorm }
+{
+    let plan = plan_of(alloc, &script)?;
+    let config = ChassisConfig {
+        licences: script.licences,
+        journal_limit: script.journal_limit,
+        ports: script.ports,
+    };
+    let closed = storm::<L, R>(rt, alloc, blank, &config, &plan)?;
+    Ok(text_of(alloc, &closed)?)
+}
+
+/// Hands in the text, and writes out all that the sink gathers.
+fn write_text<W: Write>(sink: &mut Sink<W>, text: &[u8]) -> Result<(), WriteStopped>
+    ensures ok { OnOk result (Takes (sink_state W.contents sink.old) (sink_state W.contents sink.new) text.now) }
+    ensures written { OnOk result (gathered_of sink.new ≡ []) }
+    ensures flushed { has_flushed sink.old ≡ true → OnOk result (has_flushed sink.new ≡ true) }
+    ensures prefix { OnErr result (TakesPrefix (sink_state W.contents sink.old) (sink_state W.contents sink.new) text.now) }
+    ensures finished { OnOk result (has_stopped sink.new ≡ false) }
+    ensures stopped { OnErr result (has_stopped sink.new ≡ true) }
+    ensures refused { has_stopped sink.old ≡ true → IsErr result × (writer_of sink.new ≡ writer_of sink.old) }
+{
+    sink.put(text)?;
+    sink.finish()
+}
+
+/// Reads a script to the end of the source, runs its bursts, frames and commands at once, by a feeder and a reader for each
+/// port, a clock and an operator, each in a thread, and writes the totals of the chassis that was closed then: five lines,
+/// `frames`, `bursts`, `commands`, `entries` and `licences`, each with its number.
+///
+/// Nothing is written before all threads are joined and the chassis is closed. `JournalFull` is answered where a port has more
+/// entries than its journal may keep, which is not cut. Of several threads' faults the operator's is told, else that of the
+/// first reader by port, else the clock's. `Mismatch` is answered where a thread was not started, for whatever cause, or where the
+/// chassis does not close; of a script that was read its limits and its ports never are the cause, and no clause says so.
+///
+/// What the sink gathered before goes out first. Of a source with a failed read nothing is read, and `Read` is answered. To a
+/// sink that has stopped nothing is written; any other fault still comes first, and else `Write` is answered.
+pub fn run_storm<R: Threads + Wait + Sync, S: Read, W: Write>(
+    rt: &R,
+    alloc: Global,
+    source: &mut Source<S>,
+    sink: &mut Sink<W>,
+) -> Result<(), RunFault>
+    ensures ok { OnOk result (WritesTotals (source_state S.remaining source.old) (source_state S.remaining source.new) (sink_state W.contents sink.old) (sink_state W.contents sink.new)) }
+    ensures written { OnOk result (gathered_of sink.new ≡ []) }
+    ensures finished { OnOk result (has_stopped sink.new ≡ false) }
+    ensures flushed { has_flushed sink.old ≡ true → OnOk result (has_flushed sink.new ≡ true) }
+
+    // When each fault comes.
+    ensures read { result ≡ Err RunFault.Read → let now = source_state S.remaining source.new in (now.has_failed ≡ true) ⊎ (now.reads_left ≡ 0) }
+    ensures too_long { result ≡ Err RunFault.TooLong → ReadsTooMuch MAX_BYTES (source_state S.remaining source.old) (source_state S.remaining source.new) }
+    ensures script { (fault : AnyScriptFault) → result ≡ Err (RunFault.Script fault) → ReadsBy storm_script_of (source_state S.remaining source.old) (source_state S.remaining source.new) (Err fault) }
+    ensures journal_full { result ≡ Err RunFault.JournalFull → ReadsStorm (source_state S.remaining source.old) (source_state S.remaining source.new) }
+    ensures mismatch { result ≡ Err RunFault.Mismatch → ReadsStorm (source_state S.remaining source.old) (source_state S.remaining source.new) }
+    ensures write { result ≡ Err RunFault.Write → has_stopped sink.new ≡ true }
+
+    // Each read but the last gives a byte, so the bound of reads is met only by a source of which
+    // `MAX_BYTES` reads or fewer are left.
+    ensures reads { reads_left source.old ≤ reads_left source.new + MAX_BYTES + 1 }
+    ensures refused { has_failed source.old ≡ true → (result ≡ Err RunFault.Read) × (source.new ≡ source.old) }
+    ensures stopped { has_stopped sink.old ≡ true → IsErr result × (writer_of sink.new ≡ writer_of sink.old) }
+
+    // A failed read is always answered, and of a known input, memory aside, its length and its first
+    // fault are.
+    ensures failed { let now = source_state S.remaining source.new in now.has_failed ≡ true → result ≡ Err RunFault.Read }
+    ensures long { (input : List ℕ) → WasReadable (source_state S.remaining source.old) (source_state S.remaining source.new) input
+        → result ≢ Err RunFault.OutOfMemory → (MAX_BYTES < length input) ↔ (result ≡ Err RunFault.TooLong) }
+    ensures faulty { (input : List ℕ) (fault : AnyScriptFault) → WasReadable (source_state S.remaining source.old) (source_state S.remaining source.new) input
+        → result ≢ Err RunFault.OutOfMemory → length input ≤ MAX_BYTES → (storm_script_of input ≡ Err fault) ↔ (result ≡ Err (RunFault.Script fault)) }
+
+    // What a fault leaves written: nothing, but where the writer took no more.
+    ensures untouched { IfErr result (λ fault. fault ≢ RunFault.Write → sink.new ≡ sink.old) }
+    ensures prefix { result ≡ Err RunFault.Write → LeavesTotalsPrefix (source_state S.remaining source.old) (source_state S.remaining source.new) (sink_state W.contents sink.old) (sink_state W.contents sink.new) }
+{
+    let bytes = gp_stream::read_all(alloc, source)?;
+    let script = gp_script::read_storm_script(alloc, bytes.as_slice())?;
+    let blank = Blank::new(u64::from(MAX_LICENCES));
+    let text = storm_of::<Brand, R>(rt, alloc, blank, script)?;
+    write_text(sink, text.as_bytes())?;
+    Ok(())
+}
