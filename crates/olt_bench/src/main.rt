@@ -1,9 +1,11 @@
 //! `olt_bench ROUNDS`: makes the steps of a port many times over. What they answered goes to standard output, the same on
 //! every run; how long they took goes to standard error. What is made ready beforehand is not in that time.
 //!
-//! `port.rt` has a port with licences and what is measured of it, `units.rt` what its units send.
+//! `port.rt` has a port with licences and what is measured of it, `units.rt` what its units send. `chassis.rt` has a port in a
+//! chassis, with its journal.
 #![tactic(auto)]
 
+mod chassis;
 mod measured;
 mod port;
 mod units;
@@ -30,6 +32,8 @@ fn run<R: Env + AllocGlobal + Print + Eprint + Clock>(rt: &R) -> io::Result<Exit
     };
     let blank = Blank::new(u64::from(MAX_LICENCES));
     port::measure::<Brand, R>(rt, blank, rounds)?;
+    let blank = Blank::new(u64::from(MAX_LICENCES));
+    chassis::measure_chassis::<Brand, R>(rt, blank, rounds)?;
     Ok(ExitCode::SUCCESS)
 }
 

@@ -8,7 +8,7 @@ use gp_machine::{Admitted, Command, Event, PortConfig, Reply};
 use gp_ploam::Mask;
 use gp_port::{OpenFault, PortCore};
 use gp_ranging::Grant;
-use std::alloc::Global;
+use std::alloc::{AllocError, Global};
 use std::rt::Clock;
 use std::sync::ledger::{Blank, Ledger};
 use std::time::Instant;
@@ -127,13 +127,13 @@ impl<L: Ledger> LicensedPort<L> {
     }
 }
 
-/// Opens a port that admits these units, and searches in five windows.
-fn open<L: Ledger>(alloc: Global, units: &[Unit]) -> io::Result<PortCore<L>> {
+/// What a port is opened with that admits these units, and searches in five windows.
+pub(crate) fn config_of(alloc: Global, units: &[Unit]) -> Result<PortConfig, AllocError> {
     let mut serials = Vec::new(alloc);
     for unit in units {
         serials.push(unit.serial)?;
     }
-    let config = PortConfig {
+    Ok(PortConfig {
         mask: Mask::Plain,
         teqd: 311_040,
         overhead: [0; 10],
@@ -143,7 +143,12 @@ fn open<L: Ledger>(alloc: Global, units: &[Unit]) -> io::Result<PortCore<L>> {
         search_period: 0,
         quarantine: 800,
         admitted: Admitted::from(serials),
-    };
+    })
+}
+
+/// Opens a port that admits these units.
+fn open<L: Ledger>(alloc: Global, units: &[Unit]) -> io::Result<PortCore<L>> {
+    let config = config_of(alloc, units)?;
     PortCore::begin(alloc, &config).map_err(|fault| match fault {
         OpenFault::Limit => io::ErrorKind::InvalidInput.into(),
         OpenFault::OutOfMemory => io::ErrorKind::OutOfMemory.into(),

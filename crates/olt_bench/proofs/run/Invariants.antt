@@ -1,4 +1,8 @@
+use Rattle.gp_licence.specs.declared.ledger_parts.TheConstants.{MAX_LICENCES}
 use Rattle.olt_bench.proofs.run.Given as goal
 
 abbrev pub ghosts-measure : goal.ghosts-measure
-ghosts-measure g a = record { name = a.blank.name; parts = 4064 }
+ghosts-measure g a = record { name = a.blank.name; parts = MAX_LICENCES }
+
+abbrev pub ghosts-measure_chassis : goal.ghosts-measure_chassis
+ghosts-measure_chassis g a = record { name = a.blank.name; parts = MAX_LICENCES }
