@@ -1,6 +1,7 @@
 -- The messages of whole runs: what is sent, and what is still owed, is what the steps owe (G.984.3, clauses 9 and 10; that the
 -- three copies go out in a row, behind all that is owed, is this profile's own rule).
 use Rattle.std.specs.Prelude.{◌≡◌, ◌^◌, ◌<◌, ◌≤◌, List, ◌++◌, length, All}
+use Rattle.gp_pools.specs.Limits.{last_alloc_id}
 use Rattle.gp_ploam.specs.declared.message.Down.{Down}
 use Rattle.gp_ploam.specs.Down.{IsProperDown}
 use Rattle.gp_machine.specs.declared.config.PortConfig.{PortConfig}
@@ -33,7 +34,7 @@ SendsWhatWasOwedFirst =
 pub record IsTypedConfig (config : PortConfig) : Type 0 where
   pub overhead : length config.overhead ≡ 10
   pub delay : config.teqd < 2 ^ 32
-  pub allocs : config.alloc_last ≤ 4095
+  pub allocs : config.alloc_last ≤ last_alloc_id
   pub serials : All (λ serial. length serial.0 ≡ 8) config.admitted
 
 -- in every run from an opening each message that is sent or owed is proper, so it has a code

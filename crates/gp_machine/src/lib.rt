@@ -23,13 +23,11 @@ mod reply;
 
 pub use admitted::{Admitted, is_among};
 pub use answer::Answer;
-pub use config::{
-    FIRST_ALLOC_ID, LAST_ALLOC_ID, MAX_CYCLES, MAX_QUARANTINE, MAX_SEARCH_PERIOD, MAX_UNITS,
-    PortConfig, compares_configs,
-};
+pub use config::{MAX_CYCLES, MAX_SEARCH_PERIOD, MAX_UNITS, PortConfig, compares_configs};
 pub use entry::{Entry, Receipt};
 pub use equal_replies::compares_replies;
 pub use event::{Command, Event};
+pub use gp_pools::{FIRST_ALLOC_ID, LAST_ALLOC_ID, MAX_QUARANTINE};
 pub use gp_unit::{Allocs, Phase, Row};
 pub use one_step::{
     finds_unit_with, one_outcome, refusals_change_nothing, sound_step, step_keeps_licences,

@@ -2,6 +2,7 @@
 use Rattle.std.specs.Prelude.{◌≡◌, ℕ, ◌<◌, ◌≤◌, Bool, false, List, length, slice_index_or, IsSome}
 use Rattle.std.specs.Ordering.{nat_cmp}
 use Rattle.std.specs.FinMap.{FinMap, from_entries, get}
+use Rattle.gp_pools.specs.Limits.{first_alloc_id, last_alloc_id}
 use Rattle.gp_pools.specs.Pool.{Pool, IsLeased, IsSettled}
 
 -- from each further Alloc-ID to whether it is Leaving; else it is Held
@@ -40,4 +41,4 @@ AreSettled pool allocs = (number : ℕ) → IsSome (get allocs number) → IsSet
 
 -- each of them is one of the further Alloc-IDs
 abbrev pub AreFurther : AllocMap → Type 0
-AreFurther allocs = (number : ℕ) → IsSome (get allocs number) → (256 ≤ number) × (number ≤ 4095)
+AreFurther allocs = (number : ℕ) → IsSome (get allocs number) → (first_alloc_id ≤ number) × (number ≤ last_alloc_id)

@@ -5,6 +5,7 @@ use Rattle.std.specs.Ordering.{nat_cmp}
 use Rattle.std.specs.FinMap as map
 use Rattle.std.specs.FinSet as set
 use Rattle.gp_ploam.specs.OnuIds.{last_onu}
+use Rattle.gp_pools.specs.Limits.{max_quarantine}
 
 -- from each cooling number to the frames that it has left
 abbrev pub FramesLeft : Type 0
@@ -59,7 +60,7 @@ cooling_in (suc n) members leaves now =
 
 -- what each quarantine keeps: members are ONU-IDs with 1 to `frames` frames left, and none leaves before `wait` more frames
 pub record IsCool (frames : ℕ) (members : set.FinSet nat_cmp) (leaves : List ℕ) (now wait : ℕ) : Type 0 where
-  pub short : frames ≤ 8000
+  pub short : frames ≤ max_quarantine
   pub low : (number : ℕ) → IsTrue (set.contains members number) → number ≤ last_onu
   pub some : (number : ℕ) → IsTrue (set.contains members number) → 1 ≤ left_at leaves now number
   pub most : (number : ℕ) → IsTrue (set.contains members number) → left_at leaves now number ≤ frames

@@ -1,3 +1,4 @@
+pub mod Limits
 pub mod Allocs
 pub mod Cooling
 pub mod Onu

@@ -1,6 +1,7 @@
 ghost use Rattle.std.specs.Prelude.{◌≡◌, ℕ, ◌+◌, ◌-◌, ◌≤◌, ◌↔◌, IsTrue, IsNone, IfNone, IfSome};
 ghost use Rattle.std.specs.FinMap as map;
 ghost use Rattle.gp_pools.specs.Allocs.{AreFurther, AreLeased, AreSettled};
+ghost use Rattle.gp_pools.specs.Limits.{first_alloc_id, last_alloc_id};
 ghost use Rattle.gp_pools.specs.Pool.{give_back_each, lease_each, settle_each, AreAllOut, IsFree, IsLeased, IsSettled, IsSound, fresh_pool, pool_with_lease, pool_with_lease_again, pool_with_settled, pool_without_lease};
 
 use super::alloc_leases::AllocLeases;
@@ -10,7 +11,10 @@ use gp_linear::NeverDropped;
 use std::marker::Model;
 
 /// The first Alloc-ID that is no unit's default one, which is its ONU-ID (G.984.3, clause 8).
-const FIRST: u16 = 256;
+pub const FIRST_ALLOC_ID: u16 = 256;
+
+/// The last Alloc-ID, of twelve bits (G.984.3, clause 9).
+pub const LAST_ALLOC_ID: u16 = 4095;
 
 /// A leased Alloc-ID. It is no `Drop`: it goes back to its pool, or is settled there.
 pub struct AllocLease {
@@ -24,15 +28,15 @@ impl Model for AllocLease {
 
     ghost view = { λ lease. lease.number };
 
-    ghost invariant = { λ lease. (256 ≤ lease.number) × (lease.number ≤ 4095) };
+    ghost invariant = { λ lease. (first_alloc_id ≤ lease.number) × (lease.number ≤ last_alloc_id) };
 }
 
 impl AllocLease {
     /// Tells the Alloc-ID, 256 to 4095.
     pub fn number(&self) -> u16
         ensures number { result ≡ self.now }
-        ensures from { 256 ≤ result }
-        ensures to { result ≤ 4095 }
+        ensures from { first_alloc_id ≤ result }
+        ensures to { result ≤ last_alloc_id }
     {
         self.number
     }
@@ -42,11 +46,12 @@ impl AllocLease {
 /// settled; both are out.
 #[derive(Drop)]
 pub struct AllocIds {
-    pub(super) pool: NumberPool<256, 60>,
+    pub(super) pool: NumberPool<FIRST_ALLOC_ID, 60>,
 }
 
 impl Model for AllocIds {
     ghost use Rattle.std.specs.Prelude.{◌≡◌, ◌+◌, ◌-◌, ◌≤◌};
+    ghost use Rattle.gp_pools.specs.Limits.{first_alloc_id, last_alloc_id};
     ghost use Rattle.gp_pools.specs.Pool.{Pool, pool_code};
 
     ghost Value = { Pool };
@@ -55,16 +60,16 @@ impl Model for AllocIds {
 
     ghost view = { λ ids. ids.pool };
 
-    ghost invariant = { λ ids. (ids.pool.first ≡ 256) × (ids.pool.last ≤ 4095) × (ids.pool.limit ≡ ids.pool.last + 1 - 256) };
+    ghost invariant = { λ ids. (ids.pool.first ≡ first_alloc_id) × (ids.pool.last ≤ last_alloc_id) × (ids.pool.limit ≡ ids.pool.last + 1 - first_alloc_id) };
 }
 
 impl AllocIds {
     /// Makes the pool of the Alloc-IDs from 256 to `alloc_last`, none where that is less.
     pub fn new(alloc_last: u16) -> AllocIds
-        requires { alloc_last ≤ 4095 }
-        ensures { result ≡ fresh_pool 256 alloc_last (alloc_last + 1 - 256) }
+        requires { alloc_last ≤ last_alloc_id }
+        ensures { result ≡ fresh_pool first_alloc_id alloc_last (alloc_last + 1 - first_alloc_id) }
     {
-        let count = (alloc_last + 1).saturating_sub(FIRST);
+        let count = (alloc_last + 1).saturating_sub(FIRST_ALLOC_ID);
         AllocIds {
             pool: NumberPool::new(alloc_last, count),
         }

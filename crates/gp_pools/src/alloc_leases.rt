@@ -1,5 +1,6 @@
 ghost use Rattle.std.specs.Prelude.{◌≡◌, ℕ, ◌<◌, ◌≤◌, Bool, true, false, IsSome, None};
 ghost use Rattle.std.specs.FinMap as map;
+ghost use Rattle.gp_pools.specs.Slots.{max_allocs};
 
 use super::alloc_ids::AllocLease;
 use super::allocs::Allocs;
@@ -56,7 +57,7 @@ impl AllocLeases {
 
     /// Holds one more Alloc-ID.
     pub fn hold(&mut self, lease: AllocLease)
-        requires room { map.len self.old < 8 }
+        requires room { map.len self.old < max_allocs }
         requires new { map.get self.old lease ≡ None }
         ensures { self.new ≡ map.insert self.old lease false }
     {

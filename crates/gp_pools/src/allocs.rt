@@ -1,7 +1,7 @@
 ghost use Rattle.std.specs.Prelude.{◌≡◌, ◌<◌, ◌≤◌, IfOk, IfErr, None};
 ghost use Rattle.std.specs.FinMap as map;
 ghost use Rattle.gp_pools.specs.Allocs.{IsGapFor, IsPlaceOf, IsRising};
-ghost use Rattle.gp_pools.specs.Slots.{AreSlots, filled, slots_of};
+ghost use Rattle.gp_pools.specs.Slots.{AreSlots, filled, max_allocs, slots_of};
 
 use std::marker::Model;
 
@@ -67,7 +67,7 @@ impl Allocs {
     /// Counts the Alloc-IDs, 0 to 8.
     pub fn len(&self) -> usize
         ensures len { result ≡ map.len self.now }
-        ensures few { result ≤ 8 }
+        ensures few { result ≤ max_allocs }
     {
         for place in 0..MAX_ALLOCS {
             if self.slots[place].is_none() {
@@ -90,7 +90,7 @@ impl Allocs {
 
     /// Puts in an Alloc-ID, leaving or not; one that is here already becomes so.
     pub fn insert(&mut self, alloc: u16, leaving: bool)
-        requires room { map.get self.old alloc ≡ None → map.len self.old < 8 }
+        requires room { map.get self.old alloc ≡ None → map.len self.old < max_allocs }
         ensures { self.new ≡ map.insert self.old alloc leaving }
     {
         self.remove(alloc);
@@ -99,7 +99,7 @@ impl Allocs {
 
     /// Puts in an Alloc-ID that is not here yet.
     fn add(&mut self, alloc: u16, leaving: bool)
-        requires room { map.len self.old < 8 }
+        requires room { map.len self.old < max_allocs }
         requires new { map.get self.old alloc ≡ None }
         ensures { self.new ≡ map.insert self.old alloc leaving }
     {
@@ -115,7 +115,7 @@ impl Allocs {
     /// Takes out an Alloc-ID, where it is here.
     pub fn remove(&mut self, alloc: u16)
         ensures rest { self.new ≡ map.remove self.old alloc }
-        ensures few { map.len self.old ≤ 8 }
+        ensures few { map.len self.old ≤ max_allocs }
     {
         if let Ok(place) = search(&self.slots, alloc) {
             self.slots[place..].rotate_left(1);

@@ -3,10 +3,14 @@ ghost use Rattle.std.specs.FinMap as map;
 ghost use Rattle.std.specs.FinSet as set;
 ghost use Rattle.gp_ploam.specs.OnuIds.{last_onu};
 ghost use Rattle.gp_pools.specs.Cooling.{fresh_quarantine, left_at, quarantine_after_frame, quarantine_with};
+ghost use Rattle.gp_pools.specs.Limits.{max_quarantine};
 
 use gp_numbers::NumberSet;
 use gp_ploam::ONU_IDS;
 use std::marker::Model;
+
+/// The most frames for which a freed ONU-ID is not given to another unit: one second (this profile's own rule).
+pub const MAX_QUARANTINE: u16 = 8000;
 
 /// How many values an octet has.
 const OCTETS: usize = 256;
@@ -40,7 +44,7 @@ impl Model for Cooling {
 impl Cooling {
     /// Makes a quarantine with nothing in it. A number will cool for this many frames.
     pub fn new(frames: u16) -> Cooling
-        requires { frames ≤ 8000 }
+        requires { frames ≤ max_quarantine }
         ensures { result ≡ fresh_quarantine frames }
     {
         Cooling {

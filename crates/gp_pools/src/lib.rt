@@ -23,9 +23,10 @@ mod named_leases;
 mod number_pool;
 mod onu_ids;
 
-pub use alloc_ids::{AllocIds, AllocLease};
+pub use alloc_ids::{AllocIds, AllocLease, FIRST_ALLOC_ID, LAST_ALLOC_ID};
 pub use alloc_leases::AllocLeases;
 pub use allocs::{Allocs, MAX_ALLOCS};
+pub use cooling::MAX_QUARANTINE;
 pub use onu_ids::{OnuIds, OnuLease};
 
 #[cfg(test)]

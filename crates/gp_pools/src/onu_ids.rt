@@ -2,6 +2,7 @@ ghost use Rattle.std.specs.Prelude.{◌≡◌, ℕ, ◌≤◌, ◌↔◌, IsTrue
 ghost use Rattle.std.specs.FinMap as map;
 ghost use Rattle.gp_ploam.specs.OnuIds.{last_onu, onu_ids};
 ghost use Rattle.gp_pools.specs.Pool.{IsLeased, IsSettled, IsSound};
+ghost use Rattle.gp_pools.specs.Limits.{max_quarantine};
 ghost use Rattle.gp_pools.specs.Onu.{IsApart, IsFreeOnu, NoneIsFree, SomeIsFree, fresh_onu_pool, onus_after_frame, onus_with_lease, onus_with_lease_again, onus_with_settled, onus_without_lease};
 
 use super::cooling::Cooling;
@@ -65,7 +66,7 @@ impl OnuIds {
     /// `quarantine` frames, 0 to 8000.
     pub fn new(max_units: u8, quarantine: u16) -> OnuIds
         requires units { max_units ≤ onu_ids }
-        requires frames { quarantine ≤ 8000 }
+        requires frames { quarantine ≤ max_quarantine }
         ensures { result ≡ fresh_onu_pool max_units quarantine }
     {
         OnuIds {

@@ -1,4 +1,5 @@
 ghost use Rattle.std.specs.Prelude.{◌≡◌, ◌≤◌, None};
+ghost use Rattle.gp_pools.specs.Limits.{last_alloc_id};
 ghost use Rattle.gp_machine.specs.declared.event.Command.TheVariants as command;
 ghost use Rattle.gp_machine.specs.State.{HasRow};
 ghost use Rattle.gp_machine.specs.Sound.{IsSound};
@@ -22,7 +23,7 @@ impl PortMachine {
         wished: Option<u16>,
     ) -> (Answer, u32)
         requires sound { IsSound self.old }
-        requires last { self.old.config.alloc_last ≤ 4095 }
+        requires last { self.old.config.alloc_last ≤ last_alloc_id }
         ensures free { MayPick self.old (command_response self.old (command.Alloc serial)) (number_in result.0.reply) }
         ensures wished { PicksWished self.old (command_response self.old (command.Alloc serial)) wished (number_in result.0.reply) }
         ensures outcome { step_result_of result self.new ≡ step_result_with purse self.old None (command_response self.old (command.Alloc serial)) (number_in result.0.reply) }
@@ -39,7 +40,7 @@ impl PortMachine {
     /// Gives an active unit a further Alloc-ID.
     fn alloc(&mut self, purse: u32, serial: Serial, row: Row, wished: Option<u16>) -> (Answer, u32)
         requires sound { IsSound self.old }
-        requires last { self.old.config.alloc_last ≤ 4095 }
+        requires last { self.old.config.alloc_last ≤ last_alloc_id }
         requires has { HasRow self.old.rows serial row }
         ensures free { MayPick self.old (alloc_response self.old serial row) (number_in result.0.reply) }
         ensures wished { PicksWished self.old (alloc_response self.old serial row) wished (number_in result.0.reply) }
@@ -78,7 +79,7 @@ impl PortMachine {
         alloc: u16,
     ) -> (Answer, u32)
         requires sound { IsSound self.old }
-        requires last { self.old.config.alloc_last ≤ 4095 }
+        requires last { self.old.config.alloc_last ≤ last_alloc_id }
         ensures free { MayPick self.old (command_response self.old (command.Dealloc serial alloc)) (number_in result.0.reply) }
         ensures outcome { step_result_of result self.new ≡ step_result_with purse self.old None (command_response self.old (command.Dealloc serial alloc)) (number_in result.0.reply) }
     {
@@ -94,7 +95,7 @@ impl PortMachine {
     /// Takes a further Alloc-ID back from an active unit.
     fn dealloc(&mut self, purse: u32, serial: Serial, alloc: u16, row: Row) -> (Answer, u32)
         requires sound { IsSound self.old }
-        requires last { self.old.config.alloc_last ≤ 4095 }
+        requires last { self.old.config.alloc_last ≤ last_alloc_id }
         requires has { HasRow self.old.rows serial row }
         ensures free { MayPick self.old (dealloc_response self.old serial alloc row) (number_in result.0.reply) }
         ensures outcome { step_result_of result self.new ≡ step_result_with purse self.old None (dealloc_response self.old serial alloc row) (number_in result.0.reply) }

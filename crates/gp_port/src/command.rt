@@ -1,6 +1,7 @@
 ghost use Rattle.std.specs.Prelude.{◌≡◌, ◌≤◌, None};
 ghost use Rattle.gp_ploam.specs.OnuIds.{onu_ids};
 ghost use Rattle.gp_licence.specs.declared.ledger_parts.TheConstants.{MAX_LICENCES};
+ghost use Rattle.gp_pools.specs.Limits.{last_alloc_id};
 ghost use Rattle.gp_machine.specs.declared.event.Command.TheVariants as command;
 ghost use Rattle.gp_machine.specs.declared.reply.Reply.TheVariants as reply;
 ghost use Rattle.gp_machine.specs.Sound.{IsSound};
@@ -24,7 +25,7 @@ impl PortMachine {
     ) -> (Answer, u32)
         requires sound { IsSound self.old }
         requires units { self.old.config.max_units ≤ onu_ids }
-        requires last { self.old.config.alloc_last ≤ 4095 }
+        requires last { self.old.config.alloc_last ≤ last_alloc_id }
         requires purse { purse ≤ MAX_LICENCES }
         ensures free { MayPick self.old (command_response self.old command) (number_in result.0.reply) }
         ensures wished { PicksWished self.old (command_response self.old command) wished (number_in result.0.reply) }

@@ -1,6 +1,7 @@
 ghost use Rattle.std.specs.Prelude.{◌≡◌, ℕ, ◌+◌, ◌-◌, ◌≤◌, None, Some, length, map};
 ghost use Rattle.gp_licence.specs.declared.ledger_parts.TheConstants.{MAX_LICENCES};
 ghost use Rattle.gp_volley.specs.Copies.{copies_each, first_of, max_copies};
+ghost use Rattle.gp_machine.specs.Config.{max_search_period};
 ghost use Rattle.gp_machine.specs.declared.event.Event.TheVariants as event;
 ghost use Rattle.gp_machine.specs.Sound.{IsSound};
 ghost use Rattle.gp_machine.specs.Step.{Step};
@@ -29,7 +30,7 @@ impl PortMachine {
     pub(super) fn frame(&mut self, purse: u32) -> (Answer, u32)
         requires sound { IsSound self.old }
         requires purse { purse ≤ MAX_LICENCES }
-        requires period { self.old.config.search_period ≤ 1000000 }
+        requires period { self.old.config.search_period ≤ max_search_period }
         ensures { Step purse self.old event.Frame (step_result_of result self.new) }
     {
         let ranging = self.least_ranging();
@@ -41,7 +42,7 @@ impl PortMachine {
     fn frame_by(&mut self, purse: u32, ranging: Option<u8>, next: Option<u8>) -> (Answer, u32)
         requires sound { IsSound self.old }
         requires purse { purse ≤ MAX_LICENCES }
-        requires period { self.old.config.search_period ≤ 1000000 }
+        requires period { self.old.config.search_period ≤ max_search_period }
         ensures free { MayPick (state_begun self.old) (frame_response self.old ranging next) 0 }
         ensures outcome { step_result_of result self.new ≡ step_result_with purse (state_begun self.old) (first_of self.old.owed) (frame_response self.old ranging next) 0 }
     {
@@ -70,7 +71,7 @@ impl PortMachine {
 
     /// Begins a frame: cooling ONU-IDs have a frame less, the timer runs, and the first copy is sent.
     fn begin_frame(&mut self) -> Option<Down>
-        requires timer { self.old.timer ≤ 1000000 }
+        requires timer { self.old.timer ≤ max_search_period }
         ensures first { result ≡ first_of self.old.owed }
         ensures state { self.new ≡ state_begun self.old }
     {
@@ -81,7 +82,7 @@ impl PortMachine {
 
     /// Runs the timer of the search, which rises in standby.
     fn run_timer(&mut self)
-        requires timer { self.old.timer ≤ 1000000 }
+        requires timer { self.old.timer ≤ max_search_period }
         ensures { self.new ≡ spec.state_after_timer self.old }
     {
         if matches!(self.common, Common::Standby) && self.config.search_period > 0 {

@@ -3,6 +3,7 @@ ghost use Rattle.std.specs.FinMap as map;
 ghost use Rattle.std.specs.FinSet as set;
 ghost use Rattle.gp_ploam.specs.OnuIds.{onu_ids};
 ghost use Rattle.gp_ploam.specs.Serials.{is_among};
+ghost use Rattle.gp_pools.specs.Slots.{max_allocs};
 ghost use Rattle.gp_unit.specs.declared.row.Row.{Row};
 ghost use Rattle.gp_unit.specs.Rows.{holds_alloc, is_operating, is_ranging, new_row, row_acknowledged, row_polled, row_releasing, row_with_alloc};
 ghost use Rattle.gp_alarms.specs.declared.poll.Outcome.TheVariants.{Acked};
@@ -50,7 +51,7 @@ impl PortMachine {
         requires fits { IsSoundRow self.old.config.alloc_last row }
         requires operating { is_ranging row.phase ≡ false }
         requires idle { row.pending ≡ None }
-        requires few { map.len row.allocs < 8 }
+        requires few { map.len row.allocs < max_allocs }
         requires free { IsFreeAlloc self.old alloc }
         ensures { self.new ≡ spec.state_with_row self.old serial (row_with_alloc row alloc) }
     {

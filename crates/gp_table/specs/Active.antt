@@ -8,6 +8,7 @@ use Rattle.gp_ploam.specs.declared.message.Serial.{Serial}
 use Rattle.gp_ploam.specs.OnuIds.{onu_ids, last_onu as greatest_onu}
 use Rattle.gp_ploam.specs.Serials.{serial_cmp}
 use Rattle.gp_pools.specs.Cooling.{FramesLeft}
+use Rattle.gp_pools.specs.Limits.{first_alloc_id, last_alloc_id}
 use Rattle.gp_pools.specs.Onu.{OnuPool}
 use Rattle.gp_pools.specs.Pool.{Pool, pool_without_lease}
 use Rattle.gp_unit.specs.declared.row.Row.{Row}
@@ -59,7 +60,7 @@ pub record IsFreeOnuId (units : ActiveState) (onu : ℕ) : Type 0 where
 
 -- a unit may get this further Alloc-ID: it is in its range, and no unit has it, held or leaving
 pub record IsFreeAllocId (units : ActiveState) (alloc : ℕ) : Type 0 where
-  pub above : 256 ≤ alloc
+  pub above : first_alloc_id ≤ alloc
   pub below : alloc ≤ units.alloc_last
   pub unused : (serial : Serial) (row : Row) → HasRow units.rows serial row → has_alloc alloc row ≡ false
 
@@ -139,7 +140,7 @@ pub record AreTogether (rows : Rows) (onus : OnuPool) (allocs : Pool) : Type 0 w
   pub first_onu : onus.pool.first ≡ 0
   pub last_onu : onus.pool.last ≡ greatest_onu
   pub few : onus.pool.limit ≤ onu_ids
-  pub first_alloc : allocs.first ≡ 256
-  pub last_alloc : allocs.last ≤ 4095
+  pub first_alloc : allocs.first ≡ first_alloc_id
+  pub last_alloc : allocs.last ≤ last_alloc_id
   pub warm : (onu : ℕ) → finset.contains onus.pool.settled onu ≡ true → finmap.get onus.quarantine.cooling onu ≡ None
   pub frames_left : (onu left : ℕ) → finmap.get onus.quarantine.cooling onu ≡ Some left → 1 ≤ left

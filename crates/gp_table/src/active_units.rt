@@ -4,8 +4,10 @@ ghost use Rattle.std.specs.FinMap as map;
 ghost use Rattle.std.specs.FinSet as set;
 ghost use Rattle.gp_alarms.specs.declared.poll.Outcome.TheVariants.{Acked};
 ghost use Rattle.gp_ploam.specs.declared.message.Serial.{Serial};
-ghost use Rattle.gp_ploam.specs.OnuIds.{onu_ids};
+ghost use Rattle.gp_ploam.specs.OnuIds.{last_onu, onu_ids};
+ghost use Rattle.gp_pools.specs.Limits.{last_alloc_id, max_quarantine};
 ghost use Rattle.gp_pools.specs.Pool.{IsLeased};
+ghost use Rattle.gp_pools.specs.Slots.{max_allocs};
 ghost use Rattle.gp_unit.specs.declared.row.Row.{Row};
 ghost use Rattle.gp_unit.specs.Records.{row_of};
 ghost use Rattle.gp_unit.specs.Rows.{has_alloc, holds_alloc, is_ranging, new_row, row_acknowledged, row_polled, row_releasing, row_with_alloc};
@@ -67,8 +69,8 @@ impl ActiveUnits {
         limits: NumberLimits,
     ) -> Result<ActiveUnits, AllocError>
         requires units { limits.max_units ≤ onu_ids }
-        requires allocs { limits.alloc_last ≤ 4095 }
-        requires frames { limits.quarantine ≤ 8000 }
+        requires allocs { limits.alloc_last ≤ last_alloc_id }
+        requires frames { limits.quarantine ≤ max_quarantine }
         ensures { IfOk result (λ units. units ≡ no_active_units admitted.now limits.max_units limits.alloc_last limits.quarantine) }
     {
         let table = UnitTable::begin(alloc, admitted)?;
@@ -165,7 +167,7 @@ impl ActiveUnits {
 
     /// Tells for how many frames more an ONU-ID, 0 to 253, cools; 0 where it doesn't.
     pub fn frames_left(&self, onu: u8) -> u16
-        requires { onu ≤ 253 }
+        requires { onu ≤ last_onu }
         ensures { result ≡ get_or self.now.cooling onu 0 }
     {
         match self.onus.frames_left(onu) {
@@ -215,7 +217,7 @@ impl ActiveUnits {
         requires sound { IsSoundRow self.old.alloc_last unit.row }
         requires operating { is_ranging unit.row.phase ≡ false }
         requires idle { unit.row.pending ≡ None }
-        requires room { map.len unit.row.allocs < 8 }
+        requires room { map.len unit.row.allocs < max_allocs }
         requires free { IsFreeAllocId self.old alloc }
         ensures { self.new ≡ with_row self.old unit.serial (row_with_alloc unit.row alloc) }
     {

@@ -3,6 +3,7 @@ ghost use Rattle.std.specs.Option.{ForSome};
 ghost use Rattle.std.specs.FinMap as map;
 ghost use Rattle.gp_pools.specs.Allocs.{AreLeased, AreSettled};
 ghost use Rattle.gp_pools.specs.Onu.{onus_with_settled};
+ghost use Rattle.gp_pools.specs.Slots.{max_allocs};
 ghost use Rattle.gp_pools.specs.Pool.{IsLeased, IsSettled, settle_each};
 ghost use Rattle.gp_alarms.specs.declared.poll.Outcome.TheVariants.{Acked};
 ghost use Rattle.gp_unit.specs.Records.{record_of};
@@ -65,7 +66,7 @@ impl Operating {
 
     /// Gives the unit one more Alloc-ID, which it has to acknowledge.
     pub fn alloc(self, lease: AllocLease) -> Operating
-        requires room { map.len self.row.allocs < 8 }
+        requires room { map.len self.row.allocs < max_allocs }
         requires new { map.get self.row.allocs lease ≡ None }
         requires idle { self.row.pending ≡ None }
         ensures { result ≡ record_of self.serial (row_with_alloc self.row lease) }

@@ -1,6 +1,7 @@
 ghost use Rattle.std.specs.Prelude.{◌≡◌, ◌<◌, IfNone, IsTrue};
 ghost use Rattle.std.specs.FinMap as map;
 ghost use Rattle.gp_alarms.specs.Poll.{IsBelowEachLimit};
+ghost use Rattle.gp_pools.specs.Slots.{max_allocs};
 ghost use Rattle.gp_unit.specs.Rows.{alarm_polled, counts_in, counts_polled, has_alloc, holds_alloc, is_ranging, new_row, ranging_anew, row_acknowledged, row_counted, row_measured, row_polled, row_popped_up, row_releasing, row_unranged, row_with_alloc, was_seen};
 ghost use Rattle.gp_unit.specs.Sound.{IsCounted};
 
@@ -168,7 +169,7 @@ impl Row {
 
     /// Gives the unit a further Alloc-ID, which it has still to acknowledge.
     pub fn with_alloc(self, alloc: u16) -> Row
-        requires { map.len self.allocs < 8 }
+        requires { map.len self.allocs < max_allocs }
         ensures { result ≡ row_with_alloc self alloc }
     {
         let mut allocs = self.allocs;

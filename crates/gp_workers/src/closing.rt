@@ -3,6 +3,7 @@ ghost use Rattle.gp_journal.specs.Kept.{history_of};
 ghost use Rattle.gp_journal.specs.Piece.{history_of_piece};
 ghost use Rattle.gp_accounts.specs.Accounted.{Accounted};
 ghost use Rattle.gp_chassis.specs.Desk.{history_of_desk};
+ghost use Rattle.gp_chassis.specs.Limits.{max_ports};
 ghost use Rattle.gp_workers.specs.Closing.{Ending, CutEnding, desk_rows};
 
 use super::chassis::{Chassis, Stock};
@@ -63,7 +64,7 @@ struct Opened<G: Gate<L>, L: Ledger> {
     licences: u32,
     workers: Vec<Worker<L>>,
     ghost count: { vec_len desks ≡ vec_len configs },
-    ghost most: { vec_len configs ≤ 16 },
+    ghost most: { vec_len configs ≤ max_ports },
     ghost empty: { vec_len ports ≡ 0 },
     ghost room: { vec_len desks ≤ vec_capacity ports },
 }

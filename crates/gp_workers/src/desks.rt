@@ -1,5 +1,6 @@
 //! What a chassis asks of its desks, and does with them, when it is closed or cut.
 ghost use Rattle.std.specs.Prelude.{◌≡◌, ◌<◌, ◌≤◌, ◌+◌, ◌∷◌, [], length, map, sum_by, vec_len, vec_capacity, IfOk, IfErr, IsTrue};
+ghost use Rattle.gp_ploam.specs.OnuIds.{onu_ids};
 ghost use Rattle.gp_licence.specs.declared.ledger_parts.TheConstants.{MAX_LICENCES};
 ghost use Rattle.gp_chassis.specs.Limits.{max_ports};
 ghost use Rattle.gp_workers.specs.Closing.{AreJournalsOf, ArePiecesOf, desk_rows};
@@ -30,7 +31,7 @@ fn take_first<T>(items: &mut Vec<T>) -> T
 /// Tells how many units are active on the desk's port.
 pub(crate) fn rows<L: Ledger>(desk: &Unlocked<L>) -> u32
     ensures rows { result ≡ desk_rows desk.now }
-    ensures most { result ≤ 254 }
+    ensures most { result ≤ onu_ids }
 {
     every_state_is_sound();
     let _journal = desk.desk.journal();
