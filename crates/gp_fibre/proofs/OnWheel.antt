@@ -9,6 +9,7 @@ use Rattle.std.proofs.Math.Seq.{drop-append_seam}
 use Rattle.std.proofs.lemmas.Bool.{cases_Bool, eq-eqb, eqb-false, ne_eqb}
 use Rattle.std.proofs.lemmas.List.{append-nil, drop-append-le, length-drop}
 use Rattle.std.proofs.lemmas.List.Elements.{All-nil, All-cons, All-head, All-tail, All-same, All-push}
+use Rattle.gp_onu.specs.declared.limits.TheConstants.{FRAME_BIT_TIMES, MAX_SIMULATED_UNITS}
 use Rattle.gp_timers.specs.Timers.{DueFrames, Timers, IsFirstDue, NoneIsDue}
 use Rattle.gp_fibre.specs.declared.flight.Flight.{Flight}
 use Rattle.gp_fibre.specs.declared.sent_burst.SentBurst.{SentBurst}
@@ -16,7 +17,7 @@ use Rattle.gp_fibre.specs.declared.world_step.WorldStep.TheVariants as steps
 use Rattle.gp_fibre.specs.World.{FibreWorld}
 use Rattle.gp_fibre.specs.Step.{Whole}
 use Rattle.gp_fibre.specs.Parts.{Comes}
-use Rattle.gp_fibre.specs.Flights.{AreInReach, AreNear, HasTimer, IsOnWheel, KeepsLater}
+use Rattle.gp_fibre.specs.Flights.{AreInReach, AreNear, HasTimer, IsOnWheel, KeepsLater, frames_in_reach}
 use Rattle.gp_fibre.specs.Schedule.{arrivals, flights_after, flights_of, is_due, is_lost}
 
 -- ---- timers
@@ -63,7 +64,7 @@ fewer_timers old new frame name first is =
 
 -- ---- a burst more
 
-pub begun_on_wheel : (timers : Timers) → timers.names ≡ 5120 → IsOnWheel [] timers
+pub begun_on_wheel : (timers : Timers) → timers.names ≡ MAX_SIMULATED_UNITS * frames_in_reach → IsOnWheel [] timers
 begun_on_wheel timers names = record { names = names; each = All-nil (HasTimer timers.frames) }
 
 module _ (flights : List Flight) (timers after : Timers) (kept : IsOnWheel flights timers) (flight : Flight) (name : ℕ) (named : name % 5 ≡ flight.due % 5)
@@ -176,7 +177,7 @@ no_answer frame flights old new is =
     sym (append-nil flights)
     ∙ ap (λ (bs : List SentBurst). flights ++ flights_of frame (length old) bs) (sym (ap (drop (length old)) is ∙ drop-append_seam old []))
 
-pub one_answer : (frame number due : ℕ) (flights after : List Flight) (old new : List SentBurst) (b : SentBurst) → number ≡ length old → due ≡ frame + b.at / 155520 → new ≡ old ++ b ∷ []
+pub one_answer : (frame number due : ℕ) (flights after : List Flight) (old new : List SentBurst) (b : SentBurst) → number ≡ length old → due ≡ frame + b.at / FRAME_BIT_TIMES → new ≡ old ++ b ∷ []
     → after ≡ flights ++ record { number = number; due = due } ∷ [] → after ≡ flights ++ flights_of frame (length old) (drop (length old) new)
 one_answer frame number due flights after old new b is_number is_due is added =
     added
@@ -187,7 +188,7 @@ one_answer frame number due flights after old new b is_number is_due is added =
 flights_join : (frame number last : ℕ) (xs ys : List SentBurst) → number + length xs ≡ last → flights_of frame number (xs ++ ys) ≡ flights_of frame number xs ++ flights_of frame last ys
 flights_join frame number last [] ys e = let same : number ≡ last = omega arith in ap (λ (n : ℕ). flights_of frame n ys) same
 flights_join frame number last (x ∷ xs) ys e =
-    ap (λ (fs : List Flight). let f : Flight = record { number = number; due = frame + x.at / 155520 } in f ∷ fs) (flights_join frame (number + 1) last xs ys (omega arith))
+    ap (λ (fs : List Flight). let f : Flight = record { number = number; due = frame + x.at / FRAME_BIT_TIMES } in f ∷ fs) (flights_join frame (number + 1) last xs ys (omega arith))
 
 pub answers_more : (frame : ℕ) (flights mid after : List Flight) (a b c more : List SentBurst) → length a ≤ length b → c ≡ b ++ more
     → mid ≡ flights ++ flights_of frame (length a) (drop (length a) b) → after ≡ mid ++ flights_of frame (length b) (drop (length b) c)

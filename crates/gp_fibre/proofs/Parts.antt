@@ -11,6 +11,7 @@ use Rattle.gp_ploam.specs.declared.message.Down.{Down}
 use Rattle.gp_ranging.specs.declared.grant.Grant.{Grant}
 use Rattle.gp_machine.specs.declared.entry.Entry.{Entry}
 use Rattle.gp_machine.specs.declared.event.Event.TheVariants as event
+use Rattle.gp_onu.specs.declared.limits.TheConstants.{FRAME_BIT_TIMES}
 use Rattle.gp_fibre.specs.declared.flight.Flight.{Flight}
 use Rattle.gp_fibre.specs.declared.sent_burst.SentBurst.{SentBurst}
 use Rattle.gp_fibre.specs.declared.world_step.WorldStep.TheVariants as steps
@@ -114,16 +115,16 @@ granted_more a b c grant place issued there so_far answers =
 -- ---- bursts that will come
 
 flights_push : (frame number last : ℕ) (bs : List SentBurst) (b : SentBurst) → number + length bs ≡ last
-    → flights_of frame number (bs ++ b ∷ []) ≡ flights_of frame number bs ++ record { number = last; due = frame + b.at / 155520 } ∷ []
+    → flights_of frame number (bs ++ b ∷ []) ≡ flights_of frame number bs ++ record { number = last; due = frame + b.at / FRAME_BIT_TIMES } ∷ []
 flights_push frame number last [] b e =
     let same : number ≡ last = omega arith in
-    ap (λ (n : ℕ). let f : Flight = record { number = n; due = frame + b.at / 155520 } in f ∷ []) same
+    ap (λ (n : ℕ). let f : Flight = record { number = n; due = frame + b.at / FRAME_BIT_TIMES } in f ∷ []) same
 flights_push frame number last (x ∷ xs) b e =
-    ap (λ (fs : List Flight). let f : Flight = record { number = number; due = frame + x.at / 155520 } in f ∷ fs) (flights_push frame (number + 1) last xs b (omega arith))
+    ap (λ (fs : List Flight). let f : Flight = record { number = number; due = frame + x.at / FRAME_BIT_TIMES } in f ∷ fs) (flights_push frame (number + 1) last xs b (omega arith))
 
 pub flights_more : (frame from number : ℕ) (bs : List SentBurst) (b : SentBurst) → from ≤ number → slice_get bs number ≡ Some b
     → flights_of frame from (take ((number + 1) - from) (drop from bs))
-    ≡ flights_of frame from (take (number - from) (drop from bs)) ++ record { number = number; due = frame + b.at / 155520 } ∷ []
+    ≡ flights_of frame from (take (number - from) (drop from bs)) ++ record { number = number; due = frame + b.at / FRAME_BIT_TIMES } ∷ []
 flights_more frame from number bs b low there =
     let k = number - from in
     let xs = drop from bs in

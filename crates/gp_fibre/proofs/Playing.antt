@@ -8,6 +8,7 @@ use Rattle.gp_ploam.specs.declared.message.Down.{Down}
 use Rattle.gp_ranging.specs.declared.grant.Grant.{Grant}
 use Rattle.gp_machine.specs.declared.entry.Entry.{Entry}
 use Rattle.gp_machine.specs.declared.event.Event.TheVariants as event
+use Rattle.gp_onu.specs.declared.limits.TheConstants.{FRAME_BIT_TIMES}
 use Rattle.gp_fibre.specs.declared.fault.WorldFault.{WorldFault}
 use Rattle.gp_fibre.specs.declared.flight.Flight.{Flight}
 use Rattle.gp_fibre.specs.declared.sent_burst.SentBurst.{SentBurst}
@@ -83,7 +84,7 @@ AreBelow bound flights = All (λ (f : Flight). f.number < bound) flights
 numbers_of : (frame from bound : ℕ) (bs : List SentBurst) → from + length bs ≤ bound → AreBelow bound (flights_of frame from bs)
 numbers_of frame from bound [] low = All-nil (λ (f : Flight). f.number < bound)
 numbers_of frame from bound (b ∷ bs) low =
-    All-cons (λ (f : Flight). f.number < bound) (record { number = from; due = frame + b.at / 155520 }) (flights_of frame (from + 1) bs) (omega arith)
+    All-cons (λ (f : Flight). f.number < bound) (record { number = from; due = frame + b.at / FRAME_BIT_TIMES }) (flights_of frame (from + 1) bs) (omega arith)
     (numbers_of frame (from + 1) bound bs (omega arith))
 
 pub answered_below : (frame from : ℕ) (flights after : List Flight) (bs : List SentBurst) → from ≤ length bs → AreBelow from flights → after ≡ flights ++ flights_of frame from (drop from bs)

@@ -23,11 +23,13 @@ use Rattle.gp_ploam.specs.Up.{code_of_up}
 use Rattle.gp_ranging.specs.declared.grant.Grant.{Grant}
 use Rattle.gp_onu.specs.Noticing.{LeavesUnanswered, PassesOver, unit_later}
 use Rattle.gp_onu.proofs.Skipping.{unit, skips}
+use Rattle.gp_onu.specs.declared.limits.TheConstants.{MAX_DELAY, MAX_RANDOM_DELAY}
 use Rattle.gp_onu.specs.Frames.{IsFirstChange, frames_left, unit_after_frames}
 use Rattle.gp_onu.specs.Table.{UnitState, Input, Frame, Granted, Hears, answer_to, unit_after}
 use Rattle.gp_timers.specs.Timers.{DueFrames, Timers, IsFirstDue, NoneIsDue}
 use Rattle.gp_fibre.specs.declared.stored_unit.StoredUnit.{StoredUnit}
 use Rattle.gp_fibre.specs.declared.unit_plan.UnitPlan.{UnitPlan}
+use Rattle.gp_fibre.specs.declared.world.TheConstants.{MAX_FRAMES}
 use Rattle.gp_fibre.specs.World.{FibreUnit, planned_unit}
 use Rattle.gp_fibre.specs.Step.{ChangesAt, burst_with, unit_granted, unit_hearing, unit_taking}
 use Rattle.gp_fibre.specs.UnitStore.{Answers, UnitStoreState, unit_at, units_at, due_of, due_at, with_timer, IsStoredUnit, IsUnitStore}
@@ -224,7 +226,7 @@ pub record ArePlanned (mask : Mask) (plans : List UnitPlan) (stored_units : Vec 
   pub len : vec_len stored_units ≡ count
   pub capacity : length plans ≤ vec_capacity stored_units
 
-pub planned_is_stored : (mask : Mask) (plan : UnitPlan) (stored : StoredUnit) → plan.delay ≤ 622080 → plan.random ≤ 4095 → stored.unit.mask ≡ mask → stored.delay ≡ plan.delay → stored.random ≡ plan.random → stored.brought ≡ 0 → due_of stored ≡ None
+pub planned_is_stored : (mask : Mask) (plan : UnitPlan) (stored : StoredUnit) → plan.delay ≤ MAX_DELAY → plan.random ≤ MAX_RANDOM_DELAY → stored.unit.mask ≡ mask → stored.delay ≡ plan.delay → stored.random ≡ plan.random → stored.brought ≡ 0 → due_of stored ≡ None
     → IsStoredUnit mask 0 1 stored
 planned_is_stored mask plan stored near low mask_is delay random brought due =
     record {
@@ -271,7 +273,7 @@ next_units mask frames least (x ∷ xs) all =
     ∙ ap (λ (us : List FibreUnit). unit_taking Frame (unit_at frames x) ∷ us) (next_units mask frames least xs (All-tail (IsStoredUnit mask frames least) x xs all))
 
 -- in the frame that has just come, before the states that it ends are ended
-pub store_in_frame : (mask : Mask) (frames : ℕ) (stored_units : List StoredUnit) (timers : Timers) → frames < 9223372036854775808 → IsUnitStore mask frames (frames + 1) stored_units timers
+pub store_in_frame : (mask : Mask) (frames : ℕ) (stored_units : List StoredUnit) (timers : Timers) → frames < MAX_FRAMES → IsUnitStore mask frames (frames + 1) stored_units timers
     → IsUnitStore mask (frames + 1) (frames + 1) stored_units timers
 store_in_frame mask frames stored_units timers low kept =
     record {

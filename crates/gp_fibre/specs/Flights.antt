@@ -1,6 +1,7 @@
 -- The bursts that are to come, and the timers that stand for them (this profile's own rule).
-use Rattle.std.specs.Prelude.{ℕ, ◌+◌, ◌%◌, ◌<◌, ◌≤◌, ◌≡◌, List, Some, All}
+use Rattle.std.specs.Prelude.{ℕ, ◌+◌, ◌*◌, ◌%◌, ◌<◌, ◌≤◌, ◌≡◌, List, Some, All}
 use Rattle.std.specs.FinMap.{get}
+use Rattle.gp_onu.specs.declared.limits.TheConstants.{MAX_SIMULATED_UNITS}
 use Rattle.gp_timers.specs.Timers.{DueFrames, Timers}
 use Rattle.gp_fibre.specs.declared.flight.Flight.{Flight}
 
@@ -27,9 +28,9 @@ AreNear due flights = All (λ f. (f.due < due + frames_in_reach) × (due < f.due
 abbrev pub HasTimer : DueFrames → Flight → Type 0
 HasTimer frames flight = (name : ℕ) × (get frames name ≡ Some flight.due) × (name % frames_in_reach ≡ flight.due % frames_in_reach)
 
--- there are five names for each of 1,024 units, and a timer for each burst
+-- there are five names for each unit that there may be, and a timer for each burst
 pub record IsOnWheel (flights : List Flight) (timers : Timers) : Type 0 where
-  pub names : timers.names ≡ 5120
+  pub names : timers.names ≡ MAX_SIMULATED_UNITS * frames_in_reach
   pub each : All (HasTimer timers.frames) flights
 
 -- the timers that are due after this frame are still set

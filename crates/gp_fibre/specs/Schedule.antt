@@ -9,11 +9,13 @@ use Rattle.gp_ranging.specs.declared.grant.Grant.{Grant}
 use Rattle.gp_machine.specs.declared.config.PortConfig.{PortConfig}
 use Rattle.gp_machine.specs.declared.entry.Entry.{Entry}
 use Rattle.gp_machine.specs.declared.event.Event.{Event}
+use Rattle.gp_onu.specs.declared.limits.TheConstants.{FRAME_BIT_TIMES}
 use Rattle.gp_fibre.specs.declared.fault.WorldFault.{WorldFault}
 use Rattle.gp_fibre.specs.declared.fault.WorldFault.TheVariants.{Limit, NoCopy, NoUnit, NoGrant, NoBurst, OutOfMemory}
 use Rattle.gp_fibre.specs.declared.flight.Flight.{Flight}
 use Rattle.gp_fibre.specs.declared.sent_burst.SentBurst.{SentBurst}
 use Rattle.gp_fibre.specs.declared.unit_plan.UnitPlan.{UnitPlan}
+use Rattle.gp_fibre.specs.declared.world.TheConstants.{MAX_FRAMES}
 use Rattle.gp_fibre.specs.declared.world_step.WorldStep.{WorldStep}
 use Rattle.gp_fibre.specs.declared.world_step.WorldStep.TheVariants as steps
 use Rattle.gp_fibre.specs.World.{FibreWorld, opening_world}
@@ -34,10 +36,6 @@ opening_state config licences plans = record { fibre = opening_world config lice
 
 -- ---- a step
 
--- how many frames a world counts
-abbrev pub max_frames : ℕ
-max_frames = 9223372036854775808
-
 -- the burst comes in this frame
 abbrev pub is_due : ℕ → Flight → Bool
 is_due frame flight = flight.due == frame
@@ -48,7 +46,7 @@ flights_after frame flights = filter (λ f. not (is_due frame f)) flights
 
 -- what stands in the way of a step but for memory, the first in order
 abbrev pub step_fault : WorldState → WorldStep → Option WorldFault
-step_fault world steps.Frame = if nat_lt world.frames max_frames then None else Some Limit
+step_fault world steps.Frame = if nat_lt world.frames MAX_FRAMES then None else Some Limit
 step_fault world (steps.Command command) = None
 step_fault world (steps.Deliver copy unit) =
     if nat_lt copy (length world.fibre.copies) then (if nat_lt unit (length world.fibre.units) then None else Some NoUnit) else Some NoCopy
@@ -118,10 +116,10 @@ inputs_of_grant grant units None = []
 inputs_of_grant grant units (Some issued) = grants_given grant units
 
 -- bursts that were answered in this frame, numbered from this number on: each comes after its whole round trip, which is
--- so many frames of 155,520 bit times
+-- so many whole frames
 abbrev pub flights_of : ℕ → ℕ → List SentBurst → List Flight
 flights_of frame number [] = []
-flights_of frame number (burst ∷ bursts) = record { number = number; due = frame + burst.at / 155520 } ∷ flights_of frame (number + 1) bursts
+flights_of frame number (burst ∷ bursts) = record { number = number; due = frame + burst.at / FRAME_BIT_TIMES } ∷ flights_of frame (number + 1) bursts
 
 -- the bursts that come in this frame, but for those that are lost
 abbrev pub arrivals : List ℕ → ℕ → List Flight → List FibreInput
@@ -157,7 +155,7 @@ FramesRun lost_copies lost_bursts (suc count) old entries new =
 
 -- memory was refused, or the world counts no further frame
 abbrev pub IsRunFault : WorldState → WorldFault → Type 0
-IsRunFault world fault = (fault ≡ OutOfMemory) ⊎ ((fault ≡ Limit) × (world.frames ≡ max_frames))
+IsRunFault world fault = (fault ≡ OutOfMemory) ⊎ ((fault ≡ Limit) × (world.frames ≡ MAX_FRAMES))
 
 -- a run that was to have so many frames ended after fewer, which stand
 pub record StopsShort (lost_copies lost_bursts : List ℕ) (frames : ℕ) (old : WorldState) (fault : WorldFault) (new : WorldState) : Type 0 where

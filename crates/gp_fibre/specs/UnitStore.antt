@@ -5,9 +5,11 @@ use Rattle.std.specs.Option.{ForSome, option_map}
 use Rattle.std.specs.FinMap.{get, insert, remove}
 use Rattle.gp_ploam.specs.declared.check.Mask.{Mask}
 use Rattle.gp_ranging.specs.declared.grant.Grant.{Grant}
+use Rattle.gp_onu.specs.declared.limits.TheConstants.{MAX_DELAY, MAX_RANDOM_DELAY, MAX_SIMULATED_UNITS}
 use Rattle.gp_onu.specs.Frames.{frames_left, unit_after_frames}
 use Rattle.gp_timers.specs.Timers.{Timers}
 use Rattle.gp_fibre.specs.declared.sent_burst.SentBurst.{SentBurst}
+use Rattle.gp_fibre.specs.declared.world.TheConstants.{MAX_FRAMES}
 use Rattle.gp_fibre.specs.declared.stored_unit.StoredUnit.{StoredUnit}
 use Rattle.gp_fibre.specs.World.{FibreUnit}
 use Rattle.gp_fibre.specs.Step.{ChangesAt, unit_granted, burst_answered}
@@ -52,8 +54,8 @@ with_timer timers name (Some due) = record timers { frames = insert timers.frame
 -- its random delay has twelve bits, it was brought up to date, and its state ends only after this many frames
 pub record IsStoredUnit (mask : Mask) (frames least : ℕ) (stored : StoredUnit) : Type 0 where
   pub mask_is : stored.unit.mask ≡ mask
-  pub delay : stored.delay ≤ 622080
-  pub random : stored.random ≤ 4095
+  pub delay : stored.delay ≤ MAX_DELAY
+  pub random : stored.random ≤ MAX_RANDOM_DELAY
   pub brought : stored.brought ≤ frames
   pub ahead : ForSome (due_of stored) (λ due. least ≤ due)
 
@@ -62,5 +64,5 @@ pub record IsUnitStore (mask : Mask) (frames least : ℕ) (stored_units : List S
   pub each : All (IsStoredUnit mask frames least) stored_units
   pub names : timers.names ≡ length stored_units
   pub set : (name : ℕ) → get timers.frames name ≡ due_at stored_units name
-  pub few : length stored_units ≤ 1024
-  pub fits : frames ≤ 9223372036854775808
+  pub few : length stored_units ≤ MAX_SIMULATED_UNITS
+  pub fits : frames ≤ MAX_FRAMES

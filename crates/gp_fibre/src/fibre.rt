@@ -2,7 +2,9 @@ ghost use Rattle.std.specs.Prelude.{◌≡◌, ◌+◌, ◌<◌, ◌≤◌, ◌+
 ghost use Rattle.std.specs.Option.{ForSome, option_to_list};
 ghost use Rattle.gp_ploam.specs.Down.{IsProperDown};
 ghost use Rattle.gp_machine.specs.State.{rows_of};
+ghost use Rattle.gp_onu.specs.declared.limits.TheConstants.{MAX_DELAY, MAX_SIMULATED_UNITS};
 ghost use Rattle.gp_onu.specs.Table.{Dark, Light};
+ghost use Rattle.gp_fibre.specs.declared.world.TheConstants.{MAX_FRAMES};
 ghost use Rattle.gp_fibre.specs.Step.{PortTakes, UnitAnswers, UnitChanges, purse_for, unit_hearing, unit_taking, world_after_frame};
 
 use super::sent_burst::SentBurst;
@@ -141,7 +143,7 @@ impl<L: Ledger> Fibre<L> {
     /// Tells how many units there are.
     pub fn units(&self) -> usize
         ensures value { result ≡ length self.now.world.units }
-        ensures few { result ≤ 1024 }
+        ensures few { result ≤ MAX_SIMULATED_UNITS }
     {
         self.store.len()
     }
@@ -170,7 +172,7 @@ impl<L: Ledger> Fibre<L> {
     /// Tells how many frames the units have had.
     pub fn frames(&self) -> u64
         ensures value { result ≡ self.now.frames }
-        ensures fits { result ≤ 9223372036854775808 }
+        ensures fits { result ≤ MAX_FRAMES }
     {
         self.store.frames()
     }
@@ -209,7 +211,7 @@ impl<L: Ledger> Fibre<L> {
         requires room { 0 < self.old.bursts_room }
         ensures unit { UnitAnswers self.old.world place grant self.new.world }
         ensures answer { self.new.world.bursts ≡ self.old.world.bursts ++ option_to_list result }
-        ensures near { ForSome result (λ burst. burst.at ≤ 622080) }
+        ensures near { ForSome result (λ burst. burst.at ≤ MAX_DELAY) }
         ensures rest { self.new ≡ record self.old { world = self.new.world; bursts_room = self.new.bursts_room } }
         ensures room { self.old.bursts_room ≤ self.new.bursts_room + 1 }
     {
@@ -220,7 +222,7 @@ impl<L: Ledger> Fibre<L> {
 
     /// Ends a frame of each unit.
     pub fn end_frame(&mut self)
-        requires { self.old.frames < 9223372036854775808 }
+        requires { self.old.frames < MAX_FRAMES }
         ensures { self.new ≡ record self.old { world = world_after_frame self.old.world; frames = self.old.frames + 1 } }
     {
         self.store.frame();

@@ -4,6 +4,7 @@ ghost use Rattle.gp_fibre.specs.Flights.{AreInReach, AreNear, KeepsLater};
 ghost use Rattle.gp_fibre.specs.Schedule.{flights_after};
 
 use super::flight::Flight;
+use gp_onu::MAX_SIMULATED_UNITS;
 use gp_timers::{TimerFault, Wheel};
 use std::alloc::{AllocError, Global};
 use std::marker::Model;
@@ -11,9 +12,9 @@ use std::marker::Model;
 /// In how many frames a burst may come: in the one in which it is answered, or one of the four after that.
 const FRAMES_IN_REACH: u16 = 5;
 
-/// How many names the wheel has: five for each of 1,024 units. A unit answers at most one grant in a frame, and of two of its
-/// bursts that are to come and have one name both come in one frame.
-const NAMES: u16 = 1024 * FRAMES_IN_REACH;
+/// How many names the wheel has: five for each unit that there may be. A unit answers at most one grant in a frame, and of
+/// two of its bursts that are to come and have one name both come in one frame.
+const NAMES: u16 = MAX_SIMULATED_UNITS * FRAMES_IN_REACH;
 
 /// The bursts that were answered in runs and are still to come, by their numbers. A wheel has a timer for each, so that a
 /// frame in which none comes costs one comparison.
@@ -67,7 +68,7 @@ impl Flights {
     /// Adds a further one of this unit, with the next number.
     pub fn add(&mut self, unit: u16, flight: Flight)
         requires room { 0 < self.old.room }
-        requires unit { unit < 1024 }
+        requires unit { unit < MAX_SIMULATED_UNITS }
         requires near { AreNear flight.due self.old.flights }
         ensures flights { self.new.flights ≡ self.old.flights ++ flight ∷ [] }
         ensures room { self.new.room + 1 ≡ self.old.room }

@@ -30,6 +30,7 @@ mod world;
 mod world_step;
 
 pub use fault::WorldFault;
+pub use gp_onu::{MAX_DELAY, MAX_RANDOM_DELAY, MAX_SIMULATED_UNITS};
 pub use laws::{
     assigned_units_stay_or_are_told, frames_are_runs, frames_run_in_parts, keeps_licences,
     lost_units_are_told, port_runs, runs_in_parts, units_are_told,
@@ -37,5 +38,5 @@ pub use laws::{
 pub use loss_plan::LossPlan;
 pub use sent_burst::SentBurst;
 pub use unit_plan::UnitPlan;
-pub use world::{MAX_DELAY, MAX_RANDOM_DELAY, MAX_WORLD_UNITS, World};
+pub use world::{MAX_FRAMES, World};
 pub use world_step::WorldStep;

@@ -3,6 +3,8 @@
 ghost use Rattle.std.specs.Prelude.{◌≡◌, ◌+◌, ◌-◌, ◌*◌, ◌<◌, ◌≤◌, ◌++◌, ◌∷◌, [], All, Some, drop, length, slice_get, vec_capacity, vec_len};
 ghost use Rattle.std.specs.Option.{ForSome};
 ghost use Rattle.gp_ploam.specs.Down.{IsProperDown};
+ghost use Rattle.gp_onu.specs.declared.limits.TheConstants.{MAX_SIMULATED_UNITS};
+ghost use Rattle.gp_fibre.specs.declared.world.TheConstants.{MAX_FRAMES};
 ghost use Rattle.gp_fibre.specs.Flights.{AreInReach};
 ghost use Rattle.gp_fibre.specs.Parts.{Asks, Comes, PortPuts, UnitsTake, events_of, world_state};
 ghost use Rattle.gp_fibre.specs.Step.{UnitAnswers};
@@ -15,12 +17,10 @@ use super::flights::{Flights, take_timers};
 use super::loss_plan::LossPlan;
 use super::sent_burst::SentBurst;
 use gp_machine::{Entry, Event};
+use gp_onu::FRAME_BIT_TIMES;
 use gp_ploam::Down;
 use gp_ranging::Grant;
 use std::sync::ledger::Ledger;
-
-/// How many bit times a frame has: 125 microseconds at 1.24416 Gbit/s upstream (G.984.3, clause 8).
-const FRAME_BIT_TIMES: u32 = 155_520;
 
 /// Tells whether a number is one of those that are lost.
 fn is_lost(lost: &[u64], number: u64) -> bool
@@ -51,10 +51,10 @@ fn give<L: Ledger>(
     frame: u64,
 )
     requires place { place < length fibre.old.world.units }
-    requires few { place < 1024 }
+    requires few { place < MAX_SIMULATED_UNITS }
     requires room { 0 < fibre.old.bursts_room }
     requires flights { 0 < flights.old.room }
-    requires frame { frame < 9223372036854775808 }
+    requires frame { frame < MAX_FRAMES }
     requires reach { AreInReach frame flights.old.flights }
     ensures unit { UnitAnswers fibre.old.world place issued fibre.new.world }
     ensures rest { fibre.new ≡ record fibre.old { world = fibre.new.world; bursts_room = fibre.new.bursts_room } }
@@ -82,7 +82,7 @@ fn give_all<L: Ledger>(
     requires issued { slice_get fibre.old.world.grants grant ≡ Some issued }
     requires room { length fibre.old.world.units ≤ fibre.old.bursts_room }
     requires flights { length fibre.old.world.units ≤ flights.old.room }
-    requires frame { frame < 9223372036854775808 }
+    requires frame { frame < MAX_FRAMES }
     requires reach { AreInReach frame flights.old.flights }
     ensures taken { UnitsTake fibre.old.world (spec.grants_given grant (length fibre.old.world.units)) fibre.new.world }
     ensures rest { fibre.new ≡ record fibre.old { world = fibre.new.world; bursts_room = fibre.new.bursts_room } }
@@ -122,7 +122,7 @@ pub(super) fn give_on<L: Ledger>(
     requires issued { ForSome issued (λ asked. slice_get fibre.old.world.grants grant ≡ Some asked) }
     requires room { length fibre.old.world.units ≤ fibre.old.bursts_room }
     requires flights { length fibre.old.world.units ≤ flights.old.room }
-    requires frame { frame < 9223372036854775808 }
+    requires frame { frame < MAX_FRAMES }
     requires reach { AreInReach frame flights.old.flights }
     ensures taken { UnitsTake fibre.old.world (spec.inputs_of_grant grant (length fibre.old.world.units) issued) fibre.new.world }
     ensures rest { fibre.new ≡ record fibre.old { world = fibre.new.world; bursts_room = fibre.new.bursts_room } }
@@ -231,7 +231,7 @@ fn ask<L: Ledger>(
     requires bursts { length fibre.old.world.units ≤ fibre.old.bursts_room }
     requires flights { length fibre.old.world.units ≤ flights.old.room }
     requires entries { vec_len entries.old < vec_capacity entries.old }
-    requires frame { frame < 9223372036854775808 }
+    requires frame { frame < MAX_FRAMES }
     requires reach { AreInReach frame flights.old.flights }
     requires proper { All IsProperEntry entries.old.items }
     ensures asks { Asks lost.now fibre.old.world entries.old.items entries.new.items fibre.new.world }
@@ -261,7 +261,7 @@ pub(super) fn play_frame<L: Ledger>(
     entries: &mut Vec<Entry>,
     loss: &LossPlan,
 )
-    requires frames { fibre.old.frames < 9223372036854775808 }
+    requires frames { fibre.old.frames < MAX_FRAMES }
     requires numbers { All (λ f. f.number < length fibre.old.world.bursts) flights.old.flights }
     requires reach { AreInReach fibre.old.frames flights.old.flights }
     requires copies { events_of fibre.old flights.old ≤ fibre.old.copies_room }

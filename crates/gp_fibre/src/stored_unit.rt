@@ -1,6 +1,7 @@
 ghost use Rattle.std.specs.Prelude.{◌≡◌, ◌+◌, ◌-◌, ◌<◌, ◌≤◌, None};
 ghost use Rattle.std.specs.Option.{ForSome, IfSome, IsSome};
 ghost use Rattle.gp_onu.specs.Frames.{frames_left, unit_after_frames};
+ghost use Rattle.gp_fibre.specs.declared.world.TheConstants.{MAX_FRAMES};
 ghost use Rattle.gp_fibre.specs.World.{planned_unit};
 ghost use Rattle.gp_fibre.specs.UnitStore.{due_of, unit_at};
 
@@ -63,7 +64,7 @@ impl StoredUnit {
 
     /// Tells after how many frames of the world the unit's state ends, if nothing else happens.
     pub(super) fn due(&self) -> Option<u64>
-        requires { self.now.brought ≤ 9223372036854775808 }
+        requires { self.now.brought ≤ MAX_FRAMES }
         ensures value { result ≡ due_of self.now }
         ensures later { ForSome result (λ due. self.now.brought + 1 ≤ due) }
     {

@@ -2,7 +2,9 @@ ghost use Rattle.std.specs.Prelude.{◌≡◌, ◌+◌, ◌-◌, ◌<◌, ◌≤
 ghost use Rattle.std.specs.Option.{ForSome, IfSome, IsSome, option_map};
 ghost use Rattle.gp_ploam.specs.Down.{IsProperDown};
 ghost use Rattle.gp_onu.specs.Frames.{frames_left, unit_after_frames};
+ghost use Rattle.gp_onu.specs.declared.limits.TheConstants.{MAX_DELAY, MAX_RANDOM_DELAY, MAX_SIMULATED_UNITS};
 ghost use Rattle.gp_onu.specs.Table.{Dark, Frame, Light};
+ghost use Rattle.gp_fibre.specs.declared.world.TheConstants.{MAX_FRAMES};
 ghost use Rattle.gp_fibre.specs.World.{planned_unit};
 ghost use Rattle.gp_fibre.specs.Step.{ChangesAt, burst_with, unit_hearing, unit_taking};
 ghost use Rattle.gp_fibre.specs.UnitStore.{Answers, due_of, unit_at, with_timer};
@@ -43,9 +45,9 @@ impl Model for UnitStore {
 impl UnitStore {
     /// Begins with the units that are planned, each lit. Their codes have their check octets under `mask`.
     pub fn begin(alloc: Global, mask: Mask, plans: &[UnitPlan]) -> Result<UnitStore, AllocError>
-        requires few { length plans.now ≤ 1024 }
-        requires delay { All (λ plan. plan.delay ≤ 622080) plans.now }
-        requires random { All (λ plan. plan.random ≤ 4095) plans.now }
+        requires few { length plans.now ≤ MAX_SIMULATED_UNITS }
+        requires delay { All (λ plan. plan.delay ≤ MAX_DELAY) plans.now }
+        requires random { All (λ plan. plan.random ≤ MAX_RANDOM_DELAY) plans.now }
         ensures { IfOk result (λ store. store ≡ record { units = map (planned_unit mask) plans.now; frames = 0 }) }
     {
         let mut stored_units = Vec::with_capacity(alloc, plans.len())?;
@@ -67,7 +69,7 @@ impl UnitStore {
     /// Tells how many units there are.
     pub fn len(&self) -> usize
         ensures value { result ≡ length self.now.units }
-        ensures few { result ≤ 1024 }
+        ensures few { result ≤ MAX_SIMULATED_UNITS }
     {
         self.stored_units.len()
     }
@@ -75,7 +77,7 @@ impl UnitStore {
     /// Tells how many frames they have had.
     pub fn frames(&self) -> u64
         ensures value { result ≡ self.now.frames }
-        ensures fits { result ≤ 9223372036854775808 }
+        ensures fits { result ≤ MAX_FRAMES }
     {
         self.frames
     }
@@ -129,7 +131,7 @@ impl UnitStore {
     pub fn grant(&mut self, place: usize, grant: Grant) -> Option<SentBurst>
         requires { place < length self.old.units }
         ensures unit { Answers self.old.units place grant result self.new.units }
-        ensures near { ForSome result (λ burst. burst.at ≤ 622080) }
+        ensures near { ForSome result (λ burst. burst.at ≤ MAX_DELAY) }
         ensures frames { self.new.frames ≡ self.old.frames }
     {
         if !self.stored_units[place].unit.may_answer(grant) {
@@ -146,7 +148,7 @@ impl UnitStore {
 
     /// Ends a frame of each unit.
     pub fn frame(&mut self)
-        requires { self.old.frames < 9223372036854775808 }
+        requires { self.old.frames < MAX_FRAMES }
         ensures units { self.new.units ≡ map (unit_taking Frame) self.old.units }
         ensures frames { self.new.frames ≡ self.old.frames + 1 }
     {
@@ -174,7 +176,7 @@ fn burst_of(at: u32, bytes: Option<[u8; 13]>) -> Option<SentBurst>
 /// Sets the timer of a place, or makes sure that it isn't set.
 fn put_timer(timers: &mut Wheel, place: usize, due: Option<u64>)
     requires place { place < timers.old.names }
-    requires few { place < 1024 }
+    requires few { place < MAX_SIMULATED_UNITS }
     ensures { timers.new ≡ with_timer timers.old place due }
 {
     let name = place as u16;

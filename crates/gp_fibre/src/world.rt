@@ -15,22 +15,14 @@ use super::unit_store::UnitStore;
 use super::world_step::WorldStep;
 use gp_licence::{LicenceBook, MAX_LICENCES};
 use gp_machine::{Entry, Event, PortConfig};
+use gp_onu::{MAX_DELAY, MAX_RANDOM_DELAY, MAX_SIMULATED_UNITS};
 use gp_port::{OpenFault, PortCore};
 use std::alloc::Global;
 use std::marker::Model;
 use std::sync::ledger::{Blank, Ledger};
 
-/// The most units of a world (this profile's own rule).
-pub const MAX_WORLD_UNITS: usize = 1024;
-
-/// The longest whole round-trip delay of a simulated unit, in bit times: four frames (this profile's own rule).
-pub const MAX_DELAY: u32 = 622_080;
-
-/// The greatest random delay, in units of 32 bytes: twelve bits (G.984.3, clause 9).
-pub const MAX_RANDOM_DELAY: u16 = 4095;
-
-/// The most frames that a world counts (this profile's own rule).
-const MAX_FRAMES: u64 = 9_223_372_036_854_775_808;
+/// The most frames that a world counts, 2^63 (this profile's own rule).
+pub const MAX_FRAMES: u64 = 9_223_372_036_854_775_808;
 
 /// One port, its licences, and the simulated units that it reaches. Contracts see all that was sent, and each unit as it is
 /// after the frames so far.
@@ -62,8 +54,8 @@ impl<L: Ledger> Model for World<L> {
 
 impl<L: Ledger> World<L> {
     /// Begins a world with a port that was just opened, all licences free, and the units, each lit. A number outside its
-    /// range is `Limit`: those of the configuration, at most `MAX_LICENCES` licences, at most `MAX_WORLD_UNITS` units, each
-    /// with a delay of at most `MAX_DELAY` bit times and a random delay of at most `MAX_RANDOM_DELAY`.
+    /// range is `Limit`: those of the configuration, at most `MAX_LICENCES` licences, at most `MAX_SIMULATED_UNITS` units,
+    /// each with a delay of at most `MAX_DELAY` bit times and a random delay of at most `MAX_RANDOM_DELAY`.
     ///
     /// `blank` is a new ledger of `MAX_LICENCES` parts, made by `Blank::new`, and `L` its name.
     pub fn begin(
@@ -291,7 +283,7 @@ fn is_within_limits(config: &PortConfig, licences: u32, plans: &[UnitPlan]) -> b
 {
     config.is_within_limits()
         && licences <= MAX_LICENCES
-        && plans.len() <= MAX_WORLD_UNITS
+        && plans.len() <= usize::from(MAX_SIMULATED_UNITS)
         && are_plans_within_limits(plans)
 }
 

@@ -7,6 +7,7 @@ use Rattle.gp_licence.specs.declared.ledger_parts.TheConstants.{MAX_LICENCES}
 use Rattle.gp_ploam.specs.declared.check.Mask.{Mask}
 use Rattle.gp_machine.specs.declared.config.PortConfig.{PortConfig}
 use Rattle.gp_machine.specs.Config.{is_within_limits}
+use Rattle.gp_onu.specs.declared.limits.TheConstants.{MAX_SIMULATED_UNITS}
 use Rattle.gp_fibre.specs.declared.world_step.WorldStep.{WorldStep}
 use Rattle.gp_fibre.specs.World.{is_plan_within_limits, is_world_within_limits, planned_unit}
 use Rattle.gp_fibre.specs.Schedule.{WorldState}
@@ -62,8 +63,8 @@ pub world_within : (script : ScriptView) (config : PortConfig) → IsPlayable sc
 world_within script config playable within =
     let plans = map plan_of script.units in
     let many : length plans ≡ length script.units = length-map script.units plan_of in
-    let few : length plans ≤ 1024 = let h = playable.few_units in omega arith in
-    both _ _ (both _ _ (both _ _ within (le-leb script.licences MAX_LICENCES playable.licences)) (le-leb (length plans) 1024 few)) (plans_within script.units playable.units)
+    let few : length plans ≤ MAX_SIMULATED_UNITS = let h = playable.few_units in omega arith in
+    both _ _ (both _ _ (both _ _ within (le-leb script.licences MAX_LICENCES playable.licences)) (le-leb (length plans) MAX_SIMULATED_UNITS few)) (plans_within script.units playable.units)
 
 -- the units with which a fibre opens are as many as the script's
 pub opening_units : (script : ScriptView) (config : PortConfig) → length (opening_fibre script config).fibre.units ≡ length script.units

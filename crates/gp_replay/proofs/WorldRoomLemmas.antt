@@ -26,7 +26,7 @@ use Rattle.gp_script.specs.declared.script.ScriptEvent.TheVariants as events
 use Rattle.gp_script.specs.Lose.{LossesView}
 use Rattle.gp_stream.specs.Sink.{SinkState}
 use Rattle.gp_replay.specs.WorldPlay.{TakesStep, WorldTakes}
-use Rattle.gp_replay.specs.WorldWriting.{FibrePlay, HasFibreRoom, Writes, count_of}
+use Rattle.gp_replay.specs.WorldWriting.{FibrePlay, HasFibreRoom, Writes, count_of, max_entries_each}
 
 length-flights_of : (frame number : ℕ) (bs : List SentBurst) → length (flights_of frame number bs) ≡ length bs
 length-flights_of frame number [] = refl
@@ -217,7 +217,7 @@ entries_fit lc lb count next old new entries same room run =
     let a = room.numbers in
     let c = room.few in
     let units = length old.world.fibre.units in
-    let each : count * (1 + 2 * units) ≤ 2049 * count = at_most count (1 + 2 * units) 2049 (omega arith) in
+    let each : count * (1 + 2 * units) ≤ max_entries_each * count = at_most count (1 + 2 * units) max_entries_each (omega arith) in
     omega arith
 
 -- there is room for fewer, too
@@ -235,7 +235,7 @@ room_after count many rest old new entries come next le room =
     let b = room.numbers in
     let c = room.few in
     let units = length old.world.fibre.units in
-    let each : count * (1 + 2 * units) ≤ 2049 * count = at_most count (1 + 2 * units) 2049 (omega arith) in
+    let each : count * (1 + 2 * units) ≤ max_entries_each * count = at_most count (1 + 2 * units) max_entries_each (omega arith) in
     let d = come.entries_few in
     let e = come.frames in
     record { frames = omega arith; numbers = omega arith; few = let same = come.units_same in omega arith }

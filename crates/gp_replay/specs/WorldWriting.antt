@@ -4,10 +4,12 @@ use Rattle.std.specs.Io.KnownBytes.{Appends}
 use Rattle.gp_ploam.specs.declared.check.Mask.{Mask}
 use Rattle.gp_machine.specs.declared.entry.Entry.{Entry}
 use Rattle.gp_machine.specs.declared.entry.Receipt.{Receipt}
+use Rattle.gp_onu.specs.declared.limits.TheConstants.{MAX_SIMULATED_UNITS}
 use Rattle.gp_fibre.specs.declared.loss_plan.LossPlan.{LossPlan}
 use Rattle.gp_fibre.specs.declared.world_step.WorldStep.{WorldStep}
 use Rattle.gp_fibre.specs.declared.world_step.WorldStep.TheVariants as steps
-use Rattle.gp_fibre.specs.Schedule.{WorldState, FramesRun, max_frames}
+use Rattle.gp_fibre.specs.Schedule.{WorldState, FramesRun}
+use Rattle.gp_fibre.specs.declared.world.TheConstants.{MAX_FRAMES}
 use Rattle.gp_script.specs.declared.script.ScriptEvent.{ScriptEvent}
 use Rattle.gp_script.specs.declared.script.ScriptEvent.TheVariants as events
 use Rattle.gp_script.specs.Lose.{LossesView}
@@ -74,12 +76,16 @@ WorldTakesPart losses (events.Light unit lit) old entries new = MayTakeStep (lig
 abbrev pub WorldTakesPrefix : LossesView → List ScriptEvent → Happening
 WorldTakesPrefix losses all old entries new = (done : List ScriptEvent) × IsPrefix done all × WorldTakesAll losses done old entries new
 
--- there is room for so many more frames and other events: the fibre can count them, and the port can number their entries.
--- A frame has one entry and one for each burst that comes; each of at most 1,024 units sends two in a frame at most
+-- how many entries each frame adds at most: one for the frame, and one for each burst that comes of it; each unit sends two
+-- in a frame at most
+abbrev pub max_entries_each : ℕ
+max_entries_each = 1 + 2 * MAX_SIMULATED_UNITS
+
+-- there is room for so many more frames and other events: the fibre can count them, and the port can number their entries
 pub record HasFibreRoom (count : ℕ) (play : FibrePlay) : Type 0 where
-  pub frames : play.world.frames + count ≤ max_frames
-  pub numbers : play.next + length play.world.flights + 2049 * count < 2 ^ 64
-  pub few : length play.world.fibre.units ≤ 1024
+  pub frames : play.world.frames + count ≤ MAX_FRAMES
+  pub numbers : play.next + length play.world.flights + max_entries_each * count < 2 ^ 64
+  pub few : length play.world.fibre.units ≤ MAX_SIMULATED_UNITS
 
 -- how many frames an event is, or that it is one other thing that happens
 abbrev pub count_of : ScriptEvent → ℕ

@@ -3,6 +3,7 @@ use Rattle.std.specs.Prelude.{ℕ, List, [], ◌∷◌, Option, None, Some, Resu
 use Rattle.std.specs.Str.{bytes_eq}
 use Rattle.toml.specs.Data.{Members}
 use Rattle.gp_ploam.specs.declared.message.Serial.{Serial}
+use Rattle.gp_pools.specs.Limits.{last_alloc_id}
 use Rattle.gp_machine.specs.declared.event.Command.{Command}
 use Rattle.gp_machine.specs.declared.event.Command.TheVariants as commands
 use Rattle.gp_script.specs.declared.script.ScriptEvent.{ScriptEvent}
@@ -68,7 +69,7 @@ dealloc_command ports members = do
   alloc ← needed_number (codes "alloc") members
   port ← port_in ports port
   serial ← serial_of serial
-  alloc ← in_range 0 4095 alloc
+  alloc ← in_range 0 last_alloc_id alloc
   Ok (events.Command port (commands.Dealloc serial alloc))
 
 -- the command that the word asks for

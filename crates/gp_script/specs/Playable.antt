@@ -1,9 +1,10 @@
 -- What a script has to be for a line terminal to play it (this profile's own rule).
 use Rattle.std.specs.Prelude.{◌≡◌, ◌<◌, ◌≤◌, All, IsTrue, length}
 use Rattle.gp_licence.specs.declared.ledger_parts.TheConstants.{MAX_LICENCES}
+use Rattle.gp_onu.specs.declared.limits.TheConstants.{MAX_SIMULATED_UNITS}
 use Rattle.gp_machine.specs.Config.{is_distinct, is_within_limits}
 use Rattle.gp_script.specs.Port.{all_admitted}
-use Rattle.gp_script.specs.Script.{ScriptView, max_ports, max_journal_limit, max_simulated_units, max_events}
+use Rattle.gp_script.specs.Script.{ScriptView, max_ports, max_journal_limit, max_events}
 use Rattle.gp_script.specs.Unit.{is_unit_within_limits}
 use Rattle.gp_script.specs.View.{NamesOneOf}
 
@@ -26,7 +27,7 @@ pub record IsPlayable (script : ScriptView) : Type 0 where
   -- each port has the script's mask
   pub one_mask : All (λ port. port.mask ≡ script.mask) script.ports
   -- no more simulated units than there may be
-  pub few_units : length script.units ≤ max_simulated_units
+  pub few_units : length script.units ≤ MAX_SIMULATED_UNITS
   -- each unit's delays are within their limits
   pub units : All (λ unit. IsTrue (is_unit_within_limits unit)) script.units
   -- units stand on the fibre of one port

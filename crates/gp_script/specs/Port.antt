@@ -7,6 +7,8 @@ use Rattle.gp_ploam.specs.declared.check.Mask.{Mask}
 use Rattle.gp_ploam.specs.declared.message.Serial.{Serial}
 use Rattle.gp_ploam.specs.Serials.{is_among}
 use Rattle.gp_serial.specs.Admitted.{max_on_a_port}
+use Rattle.gp_pools.specs.Limits.{first_alloc_id, last_alloc_id, max_quarantine}
+use Rattle.gp_machine.specs.Config.{max_cycles, max_search_period}
 use Rattle.gp_machine.specs.declared.config.PortConfig.{PortConfig}
 use Rattle.gp_script.specs.declared.fault.ScriptFault.{ScriptFault}
 use Rattle.gp_script.specs.declared.fault.ScriptFault.TheVariants as fault
@@ -90,10 +92,10 @@ port_of mask before members = do
   shape ← port_shape members
   teqd ← in_range_or 311040 0 4294967295 shape.teqd
   max_units ← in_range_or onu_ids 1 onu_ids shape.max_units
-  alloc_last ← in_range_or 4095 256 4095 shape.alloc_last
-  cycles ← in_range_or 3 1 10 shape.cycles
-  search_period ← in_range_or 0 0 1000000 shape.search_period
-  quarantine ← in_range_or 800 0 8000 shape.quarantine
+  alloc_last ← in_range_or last_alloc_id first_alloc_id last_alloc_id shape.alloc_last
+  cycles ← in_range_or 3 1 max_cycles shape.cycles
+  search_period ← in_range_or 0 0 max_search_period shape.search_period
+  quarantine ← in_range_or 800 0 max_quarantine shape.quarantine
   overhead ← overhead_of shape.overhead
   _ ← count_in 0 max_on_a_port shape.admit
   admitted ← serials_from before [] shape.admit

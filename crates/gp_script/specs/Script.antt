@@ -6,6 +6,7 @@ use Rattle.toml.specs.Parse.{parse_document}
 use Rattle.gp_ploam.specs.declared.check.Mask.{Mask}
 use Rattle.gp_licence.specs.declared.ledger_parts.TheConstants.{MAX_LICENCES}
 use Rattle.gp_machine.specs.declared.config.PortConfig.{PortConfig}
+use Rattle.gp_onu.specs.declared.limits.TheConstants.{MAX_SIMULATED_UNITS}
 use Rattle.gp_script.specs.declared.script.ScriptEvent.{ScriptEvent}
 use Rattle.gp_script.specs.declared.script.ScriptUnit.{ScriptUnit}
 use Rattle.gp_script.specs.declared.fault.ScriptFault.{ScriptFault}
@@ -25,10 +26,6 @@ max_ports = 16
 -- how many entries a port's journal may be told to keep at most
 abbrev pub max_journal_limit : ℕ
 max_journal_limit = 1000000
-
--- how many simulated units a script may have at most
-abbrev pub max_simulated_units : ℕ
-max_simulated_units = 1024
 
 -- how many events a script may have at most
 abbrev pub max_events : ℕ
@@ -103,7 +100,7 @@ script_of_table may_have_units members = do
   mask ← mask_of shape.mask
   journal_limit ← in_range_or max_journal_limit 1 max_journal_limit shape.journal_limit
   count ← count_in 1 max_ports shape.ports
-  unit_count ← count_in 0 max_simulated_units shape.units
+  unit_count ← count_in 0 MAX_SIMULATED_UNITS shape.units
   _ ← count_in 0 max_events shape.events
   ports ← ports_from mask [] shape.ports
   units ← units_from [] shape.units

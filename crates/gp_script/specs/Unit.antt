@@ -1,6 +1,7 @@
 -- The tables under `unit`, each a simulated unit on the fibre of the script's port (this profile's own rule).
 use Rattle.std.specs.Prelude.{ℕ, List, [], ◌∷◌, ◌++◌, ◌&&◌, Bool, Result, Ok, Err, codes, nat_le}
 use Rattle.toml.specs.Data.{table, Items, no_items, item, Members}
+use Rattle.gp_onu.specs.declared.limits.TheConstants.{MAX_DELAY, MAX_RANDOM_DELAY}
 use Rattle.gp_script.specs.declared.script.ScriptUnit.{ScriptUnit}
 use Rattle.gp_script.specs.declared.fault.ScriptFault.{ScriptFault}
 use Rattle.gp_script.specs.declared.fault.ScriptFault.TheVariants as fault
@@ -8,17 +9,9 @@ use Rattle.gp_script.specs.Fault.{◌>>=◌, needs}
 use Rattle.gp_script.specs.Keys.{has_only, number_at, needed_number, needed_text}
 use Rattle.gp_script.specs.Values.{in_range, in_range_or, serial_of}
 
--- the greatest round-trip delay of a unit, in bit times: four frames
-abbrev pub max_delay : ℕ
-max_delay = 622080
-
--- the greatest random delay of a unit, in units of 32 bytes
-abbrev pub max_random : ℕ
-max_random = 4095
-
 -- the delays of a unit are no longer than they may be
 abbrev pub is_unit_within_limits : ScriptUnit → Bool
-is_unit_within_limits unit = nat_le unit.delay max_delay && nat_le unit.random max_random
+is_unit_within_limits unit = nat_le unit.delay MAX_DELAY && nat_le unit.random MAX_RANDOM_DELAY
 
 -- a unit table
 unfoldable pub unit_of : Members → Result ScriptUnit ScriptFault
@@ -28,8 +21,8 @@ unit_of members = do
   delay ← needed_number (codes "delay") members
   random ← number_at (codes "random") members
   serial ← serial_of serial
-  delay ← in_range 0 max_delay delay
-  random ← in_range_or 0 0 max_random random
+  delay ← in_range 0 MAX_DELAY delay
+  random ← in_range_or 0 0 MAX_RANDOM_DELAY random
   Ok (record { serial = serial; delay = delay; random = random })
 
 -- the units of the unit tables, behind those before them

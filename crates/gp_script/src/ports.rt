@@ -145,7 +145,7 @@ fn port_of(
         shape.max_units,
     )?;
     let alloc_last = in_range_or(
-        4095,
+        u32::from(LAST_ALLOC_ID),
         u32::from(FIRST_ALLOC_ID)..=u32::from(LAST_ALLOC_ID),
         shape.alloc_last,
     )?;

@@ -18,9 +18,10 @@ pub enum ScriptEvent {
 #[derive(Clone, Copy, Debug, PartialEq, Eq)]
 pub struct ScriptUnit {
     pub serial: Serial,
-    /// The unit's whole round-trip delay in bit times, 0 to 622,080.
+    /// The unit's whole round-trip delay in bit times, at most `gp_onu::MAX_DELAY`.
     pub delay: u32,
-    /// Its random delay in answer to a serial number request, in units of 32 bytes, 0 to 4095.
+    /// Its random delay in answer to a serial number request, in units of 32 bytes, at most
+    /// `gp_onu::MAX_RANDOM_DELAY`.
     pub random: u16,
 }
 
@@ -45,7 +46,8 @@ pub struct Script {
     pub journal_limit: u32,
     /// The ports' configurations.
     pub ports: Vec<PortConfig>,
-    /// The simulated units on the fibre of the one port, at most 1024; with none the script's bursts are all there are.
+    /// The simulated units on the fibre of the one port, at most `gp_onu::MAX_SIMULATED_UNITS`; with none the script's
+    /// bursts are all there are.
     pub units: Vec<ScriptUnit>,
     /// What is lost on the way; nothing without units.
     pub losses: ScriptLosses,

@@ -7,14 +7,9 @@ use crate::fault::{ScriptError, ScriptFault};
 use crate::keys::{has_only, needed_number, needed_text, needs, number_at};
 use crate::script::ScriptUnit;
 use crate::values::{in_range, in_range_or, serial_of};
+use gp_onu::{MAX_DELAY, MAX_RANDOM_DELAY};
 use std::alloc::Global;
 use toml::{Table, Value};
-
-/// The greatest round-trip delay of a unit, in bit times: four frames.
-const MAX_DELAY: u32 = 622_080;
-
-/// The greatest random delay of a unit, in units of 32 bytes.
-const MAX_RANDOM: u32 = 4095;
 
 /// Reads a unit table.
 #[tactic(auto, unfolding(crate::specs::Unit::unit_of))]
@@ -29,7 +24,7 @@ fn unit_of(table: &Table) -> Result<ScriptUnit, ScriptFault>
     let random = number_at(table, "random")?;
     let serial = serial_of(serial)?;
     let delay = in_range(0..=MAX_DELAY, delay)?;
-    let random = in_range_or(0, 0..=MAX_RANDOM, random)? as u16;
+    let random = in_range_or(0, 0..=u32::from(MAX_RANDOM_DELAY), random)? as u16;
     Ok(ScriptUnit {
         serial,
         delay,

@@ -4,6 +4,7 @@ use Rattle.std.specs.Prelude.{map}
 use Rattle.std.proofs.lemmas.Grind.{common_steps}
 use Rattle.gp_onu.specs.Table.{Frame}
 use Rattle.gp_timers.specs.Timers.{Timers, IsFirstDue, NoneIsDue}
+use Rattle.gp_fibre.specs.declared.world.TheConstants.{MAX_FRAMES}
 use Rattle.gp_fibre.specs.Step.{unit_taking}
 use Rattle.gp_fibre.specs.UnitStore.{UnitStoreState}
 use Rattle.gp_fibre.proofs.StoredUnits.{next_units, store_in_frame, store_after_frame, is_ending, brought_stored, ending_due, ending_stored, in_frame_again, fewer}
@@ -12,7 +13,7 @@ use Rattle.gp_fibre.proofs.unit_store.UnitStore.frame.Goals as goal
 pub loop-name-init : goal.loop-name-init
 loop-name-init c =
     let i = c.self.inside in
-    let low : i.frames < 9223372036854775808 = rw (← c.self.view_is) at c.requires in
+    let low : i.frames < MAX_FRAMES = rw (← c.self.view_is) at c.requires in
     record {
       now = ap (λ (s : UnitStoreState). s.frames + 1) c.self.view_is;
       units = next_units i.mask i.frames (i.frames + 1) i.stored_units.items c.self.invariant.each ∙ ap (λ (s : UnitStoreState). map (unit_taking Frame) s.units) c.self.view_is;
