@@ -71,6 +71,9 @@ impl Read for FailingReader {
     }
 }
 
+/// Room for all that a storm writes, so that no write takes memory.
+const ROOM: usize = 1024;
+
 /// How a storm of these bytes ends, and what it writes.
 fn storm_of<R: Threads + Wait + Sync>(
     rt: &R,
@@ -78,7 +81,7 @@ fn storm_of<R: Threads + Wait + Sync>(
     script: &[u8],
 ) -> Result<(Result<(), RunFault>, Vec<u8>), AllocError> {
     let mut source = Source::new(script);
-    let mut sink = Sink::new(alloc, Vec::new(alloc))?;
+    let mut sink = Sink::new(alloc, Vec::with_capacity(alloc, ROOM)?)?;
     let outcome = run_storm(rt, alloc, &mut source, &mut sink);
     Ok((outcome, sink.into_inner()))
 }
@@ -102,10 +105,13 @@ fn totals_of_scripts(rt: HostRuntime) -> Result<(), Fail> {
     Ok(())
 }
 
-/// Where an allocation was made to fail it is told, or that a thread was not started, and nothing is written.
+/// Where an allocation was made to fail it is told, or that a thread was not started, and nothing is written. What the test takes
+/// for itself may be refused too, and then there was no storm.
 #[test]
 fn memory_short_or_ample(rt: HostRuntime) -> Result<(), Fail> {
-    let (outcome, written) = storm_of(&rt, rt.alloc(), TWO_PORTS.as_bytes())?;
+    let Ok((outcome, written)) = storm_of(&rt, rt.alloc(), TWO_PORTS.as_bytes()) else {
+        return Ok(());
+    };
     if outcome == Err(RunFault::OutOfMemory) || outcome == Err(RunFault::Mismatch) {
         assert!(rt; written.is_empty());
         return Ok(());
