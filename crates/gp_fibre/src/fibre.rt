@@ -1,4 +1,4 @@
-ghost use Rattle.std.specs.Prelude.{◌≡◌, ◌+◌, ◌<◌, ◌≤◌, ◌++◌, [], OnOk, length, slice_get, vec_capacity, vec_len};
+ghost use Rattle.std.specs.Prelude.{◌≡◌, ◌+◌, ◌<◌, ◌≤◌, ◌++◌, [], OnOk, length, slice_get, vec_capacity, vec_len, false};
 ghost use Rattle.std.specs.Option.{ForSome, option_to_list};
 ghost use Rattle.gp_ploam.specs.Down.{IsProperDown};
 ghost use Rattle.gp_machine.specs.State.{rows_of};
@@ -203,6 +203,14 @@ impl<L: Ledger> Fibre<L> {
         ensures rest { self.new ≡ record self.old { world = self.new.world } }
     {
         self.store.dark(place);
+    }
+
+    /// Tells whether a unit may answer a grant. Where it can't, the grant changes nothing.
+    pub fn may_answer(&self, place: usize, grant: Grant) -> bool
+        requires { place < length self.now.world.units }
+        ensures { result ≡ false → UnitAnswers self.now.world place grant self.now.world }
+    {
+        self.store.may_answer(place, grant)
     }
 
     /// Lets a grant reach a unit, and gives its burst, if it answers with one: that is the next burst.

@@ -63,6 +63,9 @@ fn give<L: Ledger>(
     ensures reach { AreInReach frame flights.new.flights }
     ensures flights_room { flights.old.room ≤ flights.new.room + 1 }
 {
+    if !fibre.may_answer(place, issued) {
+        return;
+    }
     let number = fibre.bursts();
     let Some(burst) = fibre.give(place, issued) else {
         return;

@@ -1,4 +1,4 @@
-ghost use Rattle.std.specs.Prelude.{◌≡◌, ◌+◌, ◌-◌, ◌<◌, ◌≤◌, All, IfOk, None, Some, length, map};
+ghost use Rattle.std.specs.Prelude.{◌≡◌, ◌+◌, ◌-◌, ◌<◌, ◌≤◌, All, IfOk, None, Some, length, map, false};
 ghost use Rattle.std.specs.Option.{ForSome, IfSome, IsSome, option_map};
 ghost use Rattle.gp_ploam.specs.Down.{IsProperDown};
 ghost use Rattle.gp_onu.specs.Frames.{frames_left, unit_after_frames};
@@ -127,6 +127,14 @@ impl UnitStore {
         put_timer(&mut self.timers, place, due);
     }
 
+    /// Tells whether a unit may answer a grant. Where it can't, the grant changes nothing.
+    pub fn may_answer(&self, place: usize, grant: Grant) -> bool
+        requires { place < length self.now.units }
+        ensures { result ≡ false → Answers self.now.units place grant None self.now.units }
+    {
+        self.stored_units[place].unit.may_answer(grant)
+    }
+
     /// Lets a grant reach a unit, which may answer with a burst.
     pub fn grant(&mut self, place: usize, grant: Grant) -> Option<SentBurst>
         requires { place < length self.old.units }
@@ -134,7 +142,7 @@ impl UnitStore {
         ensures near { ForSome result (λ burst. burst.at ≤ MAX_DELAY) }
         ensures frames { self.new.frames ≡ self.old.frames }
     {
-        if !self.stored_units[place].unit.may_answer(grant) {
+        if !self.may_answer(place, grant) {
             return None;
         }
         let stored = &mut self.stored_units[place];

@@ -1,4 +1,4 @@
-use Rattle.std.proofs.Common.{◌≡◌, ◌<◌, false, rules, List, ℕ, Option, ap, length, ◌∙◌}
+use Rattle.std.proofs.Common.{◌≡◌, ◌<◌, List, ℕ, Option, ap, length, ◌∙◌}
 use Rattle.std.specs.Option.{option_map}
 use Rattle.std.proofs.lemmas.List.{length-map}
 use Rattle.gp_ploam.specs.Mask.{mask_value}
@@ -8,7 +8,7 @@ use Rattle.gp_fibre.specs.declared.stored_unit.StoredUnit.{StoredUnit}
 use Rattle.gp_fibre.specs.World.{FibreUnit}
 use Rattle.gp_fibre.specs.UnitStore.{unit_at}
 use Rattle.gp_fibre.specs.Step.{burst_with, unit_granted}
-use Rattle.gp_fibre.proofs.StoredUnits.{changes, unanswered, store_after}
+use Rattle.gp_fibre.proofs.StoredUnits.{changes, store_after}
 use Rattle.gp_fibre.proofs.unit_store.UnitStore.grant.Goals as goal
 
 pub invariant_of-self : goal.invariant_of-self
@@ -35,11 +35,3 @@ returns-clause-unit c =
           ∙ ap (λ (o : Option (List ℕ)). option_map (λ octets. burst_with c.bring.new.self.delay octets) o) c.grant-answer.ensures.answer
           ∙ ap (λ (s : StoredUnit). option_map (λ octets. burst_with s.delay octets) (option_map (λ m. code_of_up m (mask_value s.unit.mask)) (answer_to s.unit (Granted c.args.grant s.random)))) c.bring.ensures;
     })
-
-pub returns-then-not-may_answer-clause-unit : goal.returns-then-not-may_answer-clause-unit
-returns-then-not-may_answer-clause-unit c =
-    let i = c.self.inside in
-    let low : c.args.place < length i.stored_units.items = rw length-map at (rw (← c.self.view_is) at c.requires) in
-    let no : c.may_answer.result ≡ false = search rules in
-    rw (← c.self.view_is)
-    (unanswered i.mask i.frames i.stored_units.items i.timers c.self.invariant c.args.place low c.index.result.now c.index.ensures c.args.grant (c.may_answer.ensures no))
