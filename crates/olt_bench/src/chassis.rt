@@ -1,11 +1,10 @@
 ghost use Rattle.std.specs.Prelude.{◌≡◌};
 ghost use Rattle.gp_licence.specs.declared.ledger_parts.TheConstants.{MAX_LICENCES};
 
+use super::config::{config_of, error_of, memory};
 use super::measured::Measured;
-use super::port::config_of;
 use gp_chassis::{ChassisConfig, ChassisCore};
 use gp_machine::Event;
-use gp_port::OpenFault;
 use std::alloc::Global;
 use std::io;
 use std::rt::Clock;
@@ -21,16 +20,13 @@ fn open<L: Ledger>(alloc: Global, blank: Blank) -> io::Result<ChassisCore<L>>
     requires parts { (blank.parts ≡ L.parts) × (L.parts ≡ MAX_LICENCES) }
 {
     let mut ports = Vec::new(alloc);
-    ports.push(config_of(alloc, &[])?)?;
+    ports.push(config_of(Vec::new(alloc)))?;
     let config = ChassisConfig {
         licences: 0,
         journal_limit: ENTRIES,
         ports,
     };
-    ChassisCore::begin(alloc, blank, &config).map_err(|fault| match fault {
-        OpenFault::Limit => io::ErrorKind::InvalidInput.into(),
-        OpenFault::OutOfMemory => memory(),
-    })
+    ChassisCore::begin(alloc, blank, &config).map_err(error_of)
 }
 
 /// Measures frames of a port in a chassis, each recorded in the port's journal.
@@ -73,8 +69,4 @@ fn play<L: Ledger>(core: &mut ChassisCore<L>, measured: &mut Measured) -> io::Re
         }
     }
     Ok(())
-}
-
-fn memory() -> io::Error {
-    io::ErrorKind::OutOfMemory.into()
 }

@@ -1,21 +1,28 @@
-//! `olt_bench ROUNDS`: makes the steps of a port many times over. What they answered goes to standard output, the same on
-//! every run; how long they took goes to standard error. What is made ready beforehand is not in that time.
+//! `olt_bench ROUNDS`: makes the steps of a port, of a chassis and of a world many times over. What they answered goes to
+//! standard output, the same on every run; how long they took goes to standard error. What is made ready beforehand is not in
+//! that time.
 //!
 //! `port.rt` has a port with licences and what is measured of it, `units.rt` what its units send. `chassis.rt` has a port in a
-//! chassis, with its journal.
+//! chassis, with its journal, `threads.rt` the ports of a chassis that threads share, and `world.rt` a port with its simulated
+//! units on a fibre. `config.rt` is what they are opened with, `measured.rt` what is told of each part.
 #![tactic(auto)]
 
 mod chassis;
+mod config;
 mod measured;
 mod port;
+mod threads;
 mod units;
+mod world;
 
 use gp_licence::MAX_LICENCES;
 use std::io;
 use std::marker::Brand;
 use std::process::ExitCode;
 use std::rt::{Clock, Env};
+use std::sync::Wait;
 use std::sync::ledger::Blank;
+use std::thread::Threads;
 
 /// Reads the rounds that the first word of the command line names. None where there is none, or it is no number.
 fn rounds_of<R: Env + AllocGlobal>(rt: &R) -> io::Result<Option<u32>> {
@@ -25,7 +32,9 @@ fn rounds_of<R: Env + AllocGlobal>(rt: &R) -> io::Result<Option<u32>> {
 }
 
 /// Measures so many rounds of each part.
-fn run<R: Env + AllocGlobal + Print + Eprint + Clock>(rt: &R) -> io::Result<ExitCode> {
+fn run<R: Env + AllocGlobal + Print + Eprint + Clock + Threads + Wait + Sync>(
+    rt: &R,
+) -> io::Result<ExitCode> {
     let Some(rounds) = rounds_of(rt)? else {
         eprintln!(rt; "usage: olt_bench ROUNDS, a number up to 4294967295")?;
         return Ok(ExitCode::FAILURE);
@@ -34,6 +43,8 @@ fn run<R: Env + AllocGlobal + Print + Eprint + Clock>(rt: &R) -> io::Result<Exit
     port::measure::<Brand, R>(rt, blank, rounds)?;
     let blank = Blank::new(u64::from(MAX_LICENCES));
     chassis::measure_chassis::<Brand, R>(rt, blank, rounds)?;
+    threads::measure_threads(rt, rounds)?;
+    world::measure_worlds(rt, rounds)?;
     Ok(ExitCode::SUCCESS)
 }
 

@@ -1,3 +1,5 @@
+use gp_machine::{Answer, Reply};
+use gp_ranging::Grant;
 use std::io;
 use std::rt::Clock;
 use std::time::{Duration, Instant};
@@ -15,6 +17,12 @@ impl Measured {
     pub(crate) fn count(&mut self, answer: u64) {
         self.calls = self.calls.wrapping_add(1);
         self.sum = self.sum.wrapping_add(answer);
+    }
+
+    /// Counts so many calls, and adds a sum over their answers.
+    pub(crate) fn count_all(&mut self, calls: u64, answers: u64) {
+        self.calls = self.calls.wrapping_add(calls);
+        self.sum = self.sum.wrapping_add(answers);
     }
 
     /// Adds the time since the clock was read.
@@ -35,4 +43,14 @@ impl Measured {
         println!(rt; "{part}, {left} left: {calls} calls, {sum}")?;
         eprintln!(rt; "{part}, {left} left: {calls} calls in {micros} microseconds")
     }
+}
+
+/// Makes a number of an answer: n + 1 for an ONU-ID n in it, 0 for none.
+pub(crate) fn number_of(answer: &Answer) -> u64 {
+    let onu = match (answer.reply, answer.grant) {
+        (Reply::Found(onu) | Reply::Ranged { onu, .. } | Reply::Alive(onu), _) => Some(onu),
+        (_, Some(Grant::Range(onu) | Grant::Poll(onu))) => Some(onu),
+        _ => None,
+    };
+    onu.map_or(0, |onu| u64::from(onu) + 1)
 }

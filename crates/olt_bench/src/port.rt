@@ -1,14 +1,14 @@
 ghost use Rattle.std.specs.Prelude.{◌≡◌};
 ghost use Rattle.gp_licence.specs.declared.ledger_parts.TheConstants.{MAX_LICENCES};
 
-use super::measured::Measured;
+use super::config::{config_of, error_of};
+use super::measured::{Measured, number_of};
 use super::units::{Unit, units_of};
 use gp_licence::{LicenceBook, Licences};
-use gp_machine::{Admitted, Command, Event, PortConfig, Reply};
-use gp_ploam::Mask;
-use gp_port::{OpenFault, PortCore};
+use gp_machine::{Command, Event};
+use gp_port::PortCore;
 use gp_ranging::Grant;
-use std::alloc::{AllocError, Global};
+use std::alloc::Global;
 use std::rt::Clock;
 use std::sync::ledger::{Blank, Ledger};
 use std::time::Instant;
@@ -18,7 +18,7 @@ use std::{io, mem};
 const HEARD_IN_A_WINDOW: usize = 63;
 
 /// More frames than the search and the ranging of 254 units take.
-const FRAMES: u32 = 2000;
+pub(crate) const FRAMES: u32 = 2000;
 
 /// The frames of three polls of a unit that answers none, four for each. With a fourth such poll it would be removed.
 const DARK_FRAMES: u32 = 12;
@@ -46,17 +46,12 @@ struct LicensedPort<L: Ledger> {
 }
 
 impl<L: Ledger> LicensedPort<L> {
-    /// Makes a step. An ONU-ID n in the answer counts as n + 1, no ONU-ID as 0.
+    /// Makes a step.
     fn step(&mut self, purse: Licences<L>, event: Event) {
         let (answer, rest) = self.port.step(purse, event);
         self.book.give(rest);
         self.granted = answer.grant;
-        let onu = match (answer.reply, answer.grant) {
-            (Reply::Found(onu) | Reply::Ranged { onu, .. } | Reply::Alive(onu), _) => Some(onu),
-            (_, Some(Grant::Range(onu) | Grant::Poll(onu))) => Some(onu),
-            _ => None,
-        };
-        self.measured.count(onu.map_or(0, |onu| u64::from(onu) + 1));
+        self.measured.count(number_of(&answer));
     }
 
     fn frames(&mut self, count: u32) {
@@ -127,32 +122,13 @@ impl<L: Ledger> LicensedPort<L> {
     }
 }
 
-/// What a port is opened with that admits these units, and searches in five windows.
-pub(crate) fn config_of(alloc: Global, units: &[Unit]) -> Result<PortConfig, AllocError> {
+/// Opens a port that admits these units.
+fn open<L: Ledger>(alloc: Global, units: &[Unit]) -> io::Result<PortCore<L>> {
     let mut serials = Vec::new(alloc);
     for unit in units {
         serials.push(unit.serial)?;
     }
-    Ok(PortConfig {
-        mask: Mask::Plain,
-        teqd: 311_040,
-        overhead: [0; 10],
-        max_units: 254,
-        alloc_last: 4095,
-        cycles: 5,
-        search_period: 0,
-        quarantine: 800,
-        admitted: Admitted::from(serials),
-    })
-}
-
-/// Opens a port that admits these units.
-fn open<L: Ledger>(alloc: Global, units: &[Unit]) -> io::Result<PortCore<L>> {
-    let config = config_of(alloc, units)?;
-    PortCore::begin(alloc, &config).map_err(|fault| match fault {
-        OpenFault::Limit => io::ErrorKind::InvalidInput.into(),
-        OpenFault::OutOfMemory => io::ErrorKind::OutOfMemory.into(),
-    })
+    PortCore::begin(alloc, &config_of(serials)).map_err(error_of)
 }
 
 /// Measures a port without units, and one with 64 and with 254.

@@ -1,3 +1,4 @@
+use super::config::serial_of;
 use gp_ploam::{BROADCAST_ONU, Mask, Serial, Up, encode_up};
 use std::alloc::{AllocError, Global};
 
@@ -16,7 +17,7 @@ pub(crate) struct Unit {
 
 /// Makes the unit that is to have this ONU-ID.
 fn unit_with(onu: u8) -> Unit {
-    let serial = Serial([0x41, 0x42, 0x43, 0x44, 0, 0, 0, onu]);
+    let serial = serial_of(u16::from(onu));
     Unit {
         serial,
         searched: serial_number(BROADCAST_ONU, serial),

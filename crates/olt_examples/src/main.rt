@@ -2,7 +2,7 @@
 //! replay writes with that trace.
 //!
 //! It reads the folder where it runs, so that a new example takes three things: NAME.toml, NAME.trace, and its line in
-//! the crate's file `stdout`. `examples` at the top of the repository is a link to `data/`.
+//! the crate's file `stdout`.
 #![tactic(auto)]
 
 use gp_replay::{RunFault, run_replay};
