@@ -1,0 +1,70 @@
+//! `olt_hostile`: uses the library badly, and prints for each table of cases how many came out as they should, and the first
+//! that did not. What the bursts of `bursts.rt` were answered with is printed too.
+//!
+//! - `octets.rt`: octets of each length, into whatever reads octets.
+//! - `bursts.rt`: every identifier with every octet 1, in each window of a port; the same through a script in
+//!   `script_bursts.rt`.
+//! - `impersonation.rt`: units that speak for others, and units that have no business on the port.
+//! - `streams.rt`: readers and writers that fail. `scripts.rt`: bytes and texts that are no script. `keys.rt`: each key of a script
+//!   with each fault, and with each fault of another key; `forms.rt` lists them.
+//! - `port.rt`: the port that is attacked. `tally.rt`: how many cases came out right.
+//!
+//! A new case is a line of its table. What a burst or a command has to be answered with is said in docs/MACHINE.md, which fault
+//! a script has in docs/FORMATS.md.
+#![tactic(auto)]
+
+ghost use Rattle.std.specs.Prelude.{◌≡◌};
+ghost use Rattle.gp_licence.specs.declared.ledger_parts.TheConstants.{MAX_LICENCES};
+
+mod bursts;
+mod forms;
+mod impersonation;
+mod keys;
+mod octets;
+mod port;
+mod script_bursts;
+mod scripts;
+mod streams;
+mod tally;
+
+use gp_licence::MAX_LICENCES;
+use port::AttackedPort;
+use std::io;
+use std::marker::Brand;
+use std::process::ExitCode;
+use std::sync::ledger::{Blank, Ledger};
+
+/// Attacks ports whose licences are parts of this ledger.
+fn attack_ports<L: Ledger, R: AllocGlobal + Print>(rt: &R, blank: Blank) -> io::Result<()>
+    requires name { blank.name ≡ L.name }
+    requires parts { (blank.parts ≡ L.parts) × (L.parts ≡ MAX_LICENCES) }
+{
+    let mut port = AttackedPort::<L>::begin(rt.alloc(), blank)?;
+    let result = attack(rt, &mut port);
+    port.close();
+    result
+}
+
+fn attack<L: Ledger, R: AllocGlobal + Print>(rt: &R, port: &mut AttackedPort<L>) -> io::Result<()> {
+    bursts::check(rt, port)?;
+    impersonation::check(rt, port)
+}
+
+fn run<R: AllocGlobal + Print>(rt: &R) -> io::Result<()> {
+    octets::check(rt)?;
+    attack_ports::<Brand, R>(rt, Blank::new(u64::from(MAX_LICENCES)))?;
+    script_bursts::check(rt)?;
+    streams::check(rt)?;
+    scripts::check(rt)?;
+    keys::check(rt)
+}
+
+fn main(rt: HostRuntime) -> ExitCode {
+    match run(&rt) {
+        Ok(()) => ExitCode::SUCCESS,
+        Err(error) => {
+            let _ = eprintln!(&rt; "olt_hostile: {error}");
+            ExitCode::FAILURE
+        }
+    }
+}

@@ -1,0 +1,92 @@
+use crate::tally::Tally;
+use gp_decode::{LineFault, decode_line};
+use gp_machine::Event;
+use gp_ploam::{Down, Mask, PloamFault, Up, decode_down, decode_up};
+use gp_port::burst_of;
+use gp_stream::Sink;
+use std::alloc::Global;
+use std::io;
+
+/// Octets 3 to 12 of a code of zeros. It is a message of no named row, whose check octet is right under the first mask and wrong
+/// under the other.
+const BODY: [u8; 10] = [0; 10];
+
+/// Tells whether both decoders and a port's burst read octets as their length says.
+fn are_read(octets: &[u8]) -> bool {
+    let plain = (
+        decode_down(octets, Mask::Plain),
+        decode_up(octets, Mask::Plain),
+    );
+    let coset = (
+        decode_down(octets, Mask::Coset),
+        decode_up(octets, Mask::Coset),
+    );
+    let burst = burst_of(7, octets);
+    if octets.len() != 13 {
+        let fault = PloamFault::Length;
+        return plain == (Err(fault), Err(fault))
+            && coset == (Err(fault), Err(fault))
+            && burst == Err(fault);
+    }
+    let down = Down::Other {
+        id: 0,
+        octet1: 0,
+        body: BODY,
+    };
+    let up = Up::Other {
+        id: 0,
+        octet1: 0,
+        body: BODY,
+    };
+    let crc = PloamFault::Crc;
+    let bytes = [0; 13];
+    plain == (Ok(down), Ok(up))
+        && coset == (Err(crc), Err(crc))
+        && burst == Ok(Event::Burst { at: 7, bytes })
+}
+
+/// Tells whether a text of so many zeros, which may end with another letter, is told as its length says, and nothing is written of
+/// one with a fault.
+fn is_told(alloc: Global, length: usize, last: &str, upstream: bool) -> io::Result<bool> {
+    let text = format!(in alloc; "{}{last}", "0".repeat(alloc, length)?)?;
+    let wanted = match (text.len(), last.is_empty()) {
+        (26, true) => Ok(()),
+        (length, _) if length % 2 == 1 => Err(LineFault::Length),
+        (_, false) => Err(LineFault::Digit),
+        _ => Err(LineFault::Length),
+    };
+    let mut sink = Sink::new(alloc, Vec::new(alloc))?;
+    let outcome = decode_line(alloc, text.as_str(), upstream, Mask::Plain, &mut sink);
+    let line = sink.into_inner();
+    let right = if wanted.is_ok() {
+        line.as_slice() == b"Other 0 0 00000000000000000000\n".as_slice()
+    } else {
+        line.is_empty()
+    };
+    Ok(right && outcome == wanted)
+}
+
+/// Reads octets of each length up to 64, and texts of each.
+pub(crate) fn check<R: AllocGlobal + Print>(rt: &R) -> io::Result<()> {
+    let mut read = Tally::default();
+    let mut told = Tally::default();
+    let octets = [0; 64];
+    for length in 0..65usize {
+        read.count("octets", length, are_read(&octets[..length]));
+        for upstream in [false, true] {
+            told.count("digits", length, is_told(rt.alloc(), length, "", upstream)?);
+            told.count(
+                "digits and g",
+                length,
+                is_told(rt.alloc(), length, "g", upstream)?,
+            );
+            told.count(
+                "digits and é",
+                length,
+                is_told(rt.alloc(), length, "é", upstream)?,
+            );
+        }
+    }
+    read.tell(rt, "octets of each length")?;
+    told.tell(rt, "digits of each length")
+}
