@@ -9,7 +9,7 @@ ghost use Rattle.gp_ploam.specs.Up.{IsProperUp, code_of_up};
 ghost use Rattle.gp_ranging.specs.declared.grant.Grant.TheVariants.{Poll, Range, Search};
 ghost use Rattle.gp_onu.specs.declared.limits.TheConstants.{MAX_RANDOM_DELAY};
 ghost use Rattle.gp_onu.specs.Frames.{IsFirstChange, NeverChanges, frames_left, unit_after_frames};
-ghost use Rattle.gp_onu.specs.Noticing.{LeavesUnanswered, PassesOver};
+ghost use Rattle.gp_onu.specs.Noticing.{LeavesUnanswered, PassesOver, is_asked, is_meant};
 ghost use Rattle.gp_onu.specs.Stage.{eqd_of, onu_id_of, state_of};
 ghost use Rattle.gp_onu.specs.Table.{Dark, Frame, Granted, Hears, Light, answer_to, unit_after};
 
@@ -149,10 +149,11 @@ impl Unit {
         self.stage = self.stage.with_more_frames(frames);
     }
 
-    /// Tells whether a message may change the unit. Where it can't, it can't either after frames that don't end the unit's
-    /// state.
+    /// Tells whether a message is meant for the unit as it stands. One that isn't changes nothing, after frames that don't end
+    /// the unit's state either.
     pub fn may_notice(&self, message: &Down) -> bool
-        ensures { result ≡ false → PassesOver self.now message.now }
+        ensures value { result ≡ is_meant message.now self.now }
+        ensures passed { result ≡ false → PassesOver self.now message.now }
     {
         match *message {
             Down::UpstreamOverhead { .. } => self.stage.state() == State::Standby,
@@ -321,9 +322,11 @@ impl Unit {
         }
     }
 
-    /// Tells whether the unit may answer a grant. Where it can't, it can't either after frames that don't end its state.
+    /// Tells whether a grant asks the unit as it stands. One that doesn't has no answer, after frames that don't end the unit's
+    /// state either.
     pub fn may_answer(&self, grant: Grant) -> bool
-        ensures { result ≡ false → LeavesUnanswered self.now grant }
+        ensures value { result ≡ is_asked grant self.now }
+        ensures unanswered { result ≡ false → LeavesUnanswered self.now grant }
     {
         match grant {
             Grant::Search => self.stage.state() == State::SerialNumber,
