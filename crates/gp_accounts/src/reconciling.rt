@@ -1,4 +1,5 @@
 ghost use Rattle.std.specs.Prelude.{◌≡◌, ◌≤◌, ◌↔◌, IfOk, IsTrue, OnOk, length, map};
+ghost use Rattle.gp_machine.specs.Config.{max_ports};
 ghost use Rattle.gp_accounts.specs.Accounted.{Accounted};
 
 use super::fault::CloseFault;
@@ -17,7 +18,7 @@ pub fn reconcile<J: Recorded, W: Told>(
     journals: &[J],
     workers: &[W],
 ) -> Result<(), CloseFault>
-    requires { length journals.now ≤ 16 }
+    requires { length journals.now ≤ max_ports }
     ensures accounted { OnOk result (Accounted (map J.history journals.now) (map W.told workers.now)) }
     ensures mismatch { result ≡ Err CloseFault.Mismatch → Accounted (map J.history journals.now) (map W.told workers.now) → ⊥ }
     ensures ended { result ≡ Err CloseFault.WorkerMissing → ⊥ }
@@ -34,7 +35,7 @@ fn are_accounted<J: Recorded, W: Told>(
     journals: &[J],
     workers: &[W],
 ) -> Result<bool, AllocError>
-    requires { length journals.now ≤ 16 }
+    requires { length journals.now ≤ max_ports }
     ensures { IfOk result (λ accounted. IsTrue accounted ↔ Accounted (map J.history journals.now) (map W.told workers.now)) }
 {
     let ports = journals.len() as u8;

@@ -7,16 +7,8 @@ use Rattle.gp_ploam.specs.Serials.{is_among}
 use Rattle.gp_serial.specs.Admitted.{Admissions}
 use Rattle.gp_licence.specs.declared.ledger_parts.TheConstants.{MAX_LICENCES}
 use Rattle.gp_machine.specs.declared.config.PortConfig.{PortConfig}
-use Rattle.gp_machine.specs.Config.{is_within_limits, is_distinct}
+use Rattle.gp_machine.specs.Config.{is_within_limits, is_distinct, max_ports, max_journal_limit}
 use Rattle.gp_chassis.specs.declared.config.ChassisConfig.{ChassisConfig}
-
--- how many ports a chassis may have
-abbrev pub max_ports : ℕ
-max_ports = 16
-
--- how many entries the journal of a port may keep
-abbrev pub max_journal_limit : ℕ
-max_journal_limit = 1000000
 
 -- how many entries the journals keep is within its limits
 pub record IsJournalLimit (limit : ℕ) : Type 0 where

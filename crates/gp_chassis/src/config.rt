@@ -2,13 +2,9 @@ ghost use Rattle.std.specs.Prelude.{◌≡◌, ◌↔◌, IsTrue};
 ghost use Rattle.gp_chassis.specs.Limits.{IsWithin};
 
 use crate::admitted_once::admits_each_once;
-use crate::desk::MAX_JOURNAL_LIMIT;
 use gp_licence::MAX_LICENCES;
-use gp_machine::PortConfig;
+use gp_machine::{MAX_JOURNAL_LIMIT, MAX_PORTS, PortConfig};
 use std::alloc::Global;
-
-/// The most ports that a chassis may have (this profile's own rule).
-pub const MAX_PORTS: usize = 16;
 
 /// What a chassis is opened with.
 #[derive(Drop)]
@@ -31,7 +27,7 @@ impl ChassisConfig {
             && self.journal_limit > 0
             && self.journal_limit <= MAX_JOURNAL_LIMIT
             && !self.ports.is_empty()
-            && self.ports.len() <= MAX_PORTS
+            && self.ports.len() <= usize::from(MAX_PORTS)
             && self.ports.iter().all(|port| port.is_within_limits())
             && admits_each_once(alloc, self.ports.as_slice())
     }

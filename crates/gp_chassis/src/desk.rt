@@ -1,20 +1,17 @@
 ghost use Rattle.std.specs.Prelude.{◌≡◌, ◌+◌, ◌<◌, ◌≤◌, ◌↔◌, ◌^◌, ◌++◌, ◌∷◌, [], length, IfOk, IfErr, OnErr, IsErrOf, IsTrue};
 ghost use Rattle.gp_machine.specs.State.{rows_of};
 ghost use Rattle.gp_chassis.specs.Desk.{DeskStands, HasRoom, MayOpen, Serves, Cuts, opened};
-ghost use Rattle.gp_chassis.specs.Limits.{max_journal_limit};
+ghost use Rattle.gp_machine.specs.Config.{max_journal_limit};
 
 use crate::fault::ApplyFault;
 use gp_journal::{Journal, Piece};
 use gp_licence::Licences;
 use gp_linear::NeverDropped;
-use gp_machine::{Entry, Event, PortConfig, Receipt};
+use gp_machine::{Entry, Event, MAX_JOURNAL_LIMIT, PortConfig, Receipt};
 use gp_port::{ImageFault, OpenFault, PortCore, PortImage};
 use std::alloc::Global;
 use std::marker::Model;
 use std::sync::ledger::Ledger;
-
-/// The most entries that the journal of a port may be told to keep (this profile's own rule).
-pub const MAX_JOURNAL_LIMIT: u32 = 1_000_000;
 
 /// A port with its journal. Contracts see how many entries the journal may keep, what it keeps, and where the port stands.
 ///
@@ -36,7 +33,7 @@ impl<L: Ledger> Model for PortDesk<L> {
     ghost use Rattle.gp_ploam.specs.Serials.{serial_cmp, coded_serial};
     ghost use Rattle.gp_unit.specs.contracts.row.Row as row;
     ghost use Rattle.gp_machine.specs.contracts.entry.Entry as entry;
-    ghost use Rattle.gp_chassis.specs.Limits.{max_journal_limit};
+    ghost use Rattle.gp_machine.specs.Config.{max_journal_limit};
     ghost use Rattle.gp_chassis.specs.Desk.{DeskState, DeskStands};
 
     ghost Value = { DeskState };

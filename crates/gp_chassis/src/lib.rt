@@ -23,9 +23,10 @@ mod hands;
 mod world;
 
 pub use chassis_core::ChassisCore;
-pub use config::{ChassisConfig, MAX_PORTS};
-pub use desk::{MAX_JOURNAL_LIMIT, PortDesk};
+pub use config::ChassisConfig;
+pub use desk::PortDesk;
 pub use fault::{ApplyFault, CoreFault};
+pub use gp_machine::{MAX_JOURNAL_LIMIT, MAX_PORTS};
 pub use hands::ACTORS;
 pub use world::{balance_lasts, every_run_holds, ports_replay, soundness_lasts};
 

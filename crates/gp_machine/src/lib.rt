@@ -3,7 +3,7 @@
 //! laws, and those of whole runs, stand in `gp_laws`.
 //!
 //! Where to make which change, in `specs/`:
-//! - limits of a configuration: `Config`; a refusal's number and name: `Refusals`, and `src/refusal.rt`.
+//! - limits of a configuration, of how many ports there may be and of what their journals keep: `Config`; a refusal's number and name: `Refusals`, and `src/refusal.rt`.
 //! - what a port knows, and which numbers are free: `State`; what holds in every state: `Sound`.
 //! - what may change in one go, and what each change does: `Changes`; what a line of a table says: `Responses`.
 //! - the tables: `Frame`, with `Closes` for the end of a window; `Burst`, with `SearchWindow`, `RangeWindow` and
@@ -23,7 +23,10 @@ mod reply;
 
 pub use admitted::{Admitted, is_among};
 pub use answer::Answer;
-pub use config::{MAX_CYCLES, MAX_SEARCH_PERIOD, MAX_UNITS, PortConfig, compares_configs};
+pub use config::{
+    MAX_CYCLES, MAX_JOURNAL_LIMIT, MAX_PORTS, MAX_SEARCH_PERIOD, MAX_UNITS, PortConfig,
+    compares_configs,
+};
 pub use entry::{Entry, Receipt};
 pub use equal_replies::compares_replies;
 pub use event::{Command, Event};

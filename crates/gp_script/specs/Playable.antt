@@ -2,9 +2,9 @@
 use Rattle.std.specs.Prelude.{◌≡◌, ◌<◌, ◌≤◌, All, IsTrue, length}
 use Rattle.gp_licence.specs.declared.ledger_parts.TheConstants.{MAX_LICENCES}
 use Rattle.gp_onu.specs.declared.limits.TheConstants.{MAX_SIMULATED_UNITS}
-use Rattle.gp_machine.specs.Config.{is_distinct, is_within_limits}
+use Rattle.gp_machine.specs.Config.{is_distinct, is_within_limits, max_ports, max_journal_limit}
 use Rattle.gp_script.specs.Port.{all_admitted}
-use Rattle.gp_script.specs.Script.{ScriptView, max_ports, max_journal_limit, max_events}
+use Rattle.gp_script.specs.Script.{ScriptView, max_events}
 use Rattle.gp_script.specs.Unit.{is_unit_within_limits}
 use Rattle.gp_script.specs.View.{NamesOneOf}
 

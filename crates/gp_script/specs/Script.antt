@@ -5,6 +5,7 @@ use Rattle.toml.specs.Data.{Items, Members}
 use Rattle.toml.specs.Parse.{parse_document}
 use Rattle.gp_ploam.specs.declared.check.Mask.{Mask}
 use Rattle.gp_licence.specs.declared.ledger_parts.TheConstants.{MAX_LICENCES}
+use Rattle.gp_machine.specs.Config.{max_ports, max_journal_limit}
 use Rattle.gp_machine.specs.declared.config.PortConfig.{PortConfig}
 use Rattle.gp_onu.specs.declared.limits.TheConstants.{MAX_SIMULATED_UNITS}
 use Rattle.gp_script.specs.declared.script.ScriptEvent.{ScriptEvent}
@@ -18,14 +19,6 @@ use Rattle.gp_script.specs.Port.{ports_from}
 use Rattle.gp_script.specs.Unit.{units_from}
 use Rattle.gp_script.specs.Lose.{LossesView, losses_from, no_losses}
 use Rattle.gp_script.specs.Event.{events_of}
-
--- how many ports a script may have at most
-abbrev pub max_ports : ℕ
-max_ports = 16
-
--- how many entries a port's journal may be told to keep at most
-abbrev pub max_journal_limit : ℕ
-max_journal_limit = 1000000
 
 -- how many events a script may have at most
 abbrev pub max_events : ℕ

@@ -19,15 +19,10 @@ use crate::script::Script;
 use crate::units::units_of;
 use crate::values::{count_in, in_range, in_range_or, mask_of};
 use gp_licence::MAX_LICENCES;
+use gp_machine::{MAX_JOURNAL_LIMIT, MAX_PORTS};
 use gp_onu::MAX_SIMULATED_UNITS;
 use std::alloc::Global;
 use toml::{Table, Value};
-
-/// How many ports a script may have at most.
-const MAX_PORTS: u32 = 16;
-
-/// How many entries a port's journal may be told to keep at most, which is also what it keeps by default.
-const MAX_JOURNAL_LIMIT: u32 = 1_000_000;
 
 /// How many events a script may have at most.
 const MAX_EVENTS: u32 = 1_048_576;
@@ -118,7 +113,7 @@ fn read_table(alloc: Global, may_have_units: bool, table: &Table) -> Result<Scri
         1..=MAX_JOURNAL_LIMIT,
         shape.journal_limit,
     )?;
-    let count = count_in(1..=MAX_PORTS, shape.ports)? as u8;
+    let count = count_in(1..=u32::from(MAX_PORTS), shape.ports)? as u8;
     let unit_count = count_in(0..=u32::from(MAX_SIMULATED_UNITS), shape.units)? as u16;
     count_in(0..=MAX_EVENTS, shape.events)?;
     let ports = ports_of(alloc, mask, shape.ports)?;

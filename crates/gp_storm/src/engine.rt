@@ -1,6 +1,7 @@
 ghost use Rattle.std.specs.Prelude.{◌≡◌, ◌≤◌, Err, IfOk};
 ghost use Rattle.gp_licence.specs.declared.ledger_parts.TheConstants.{MAX_LICENCES};
-ghost use Rattle.gp_chassis.specs.Limits.{IsWithin, max_ports};
+ghost use Rattle.gp_machine.specs.Config.{max_ports};
+ghost use Rattle.gp_chassis.specs.Limits.{IsWithin};
 ghost use Rattle.gp_workers.specs.Closing.{Ending};
 
 use super::fault::StormFault;

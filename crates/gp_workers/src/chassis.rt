@@ -47,7 +47,7 @@ impl<G: Gate<L>, L: Ledger> NeverDropped for Chassis<G, L> {}
 
 impl<G: Gate<L>, L: Ledger> Model for Chassis<G, L> {
     ghost use Rattle.std.specs.Prelude.{◌≡◌, ◌≤◌, vec_len};
-    ghost use Rattle.gp_chassis.specs.Limits.{max_ports};
+    ghost use Rattle.gp_machine.specs.Config.{max_ports};
     ghost use Rattle.gp_workers.specs.Chassis.{ChassisState};
 
     ghost Value = { ChassisState };

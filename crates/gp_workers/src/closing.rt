@@ -3,7 +3,7 @@ ghost use Rattle.gp_journal.specs.Kept.{history_of};
 ghost use Rattle.gp_journal.specs.Piece.{history_of_piece};
 ghost use Rattle.gp_accounts.specs.Accounted.{Accounted};
 ghost use Rattle.gp_chassis.specs.Desk.{history_of_desk};
-ghost use Rattle.gp_chassis.specs.Limits.{max_ports};
+ghost use Rattle.gp_machine.specs.Config.{max_ports};
 ghost use Rattle.gp_workers.specs.Closing.{Ending, CutEnding, desk_rows};
 
 use super::chassis::{Chassis, Stock};

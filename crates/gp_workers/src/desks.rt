@@ -2,7 +2,7 @@
 ghost use Rattle.std.specs.Prelude.{◌≡◌, ◌<◌, ◌≤◌, ◌+◌, ◌∷◌, [], length, map, sum_by, vec_len, vec_capacity, IfOk, IfErr, IsTrue};
 ghost use Rattle.gp_ploam.specs.OnuIds.{onu_ids};
 ghost use Rattle.gp_licence.specs.declared.ledger_parts.TheConstants.{MAX_LICENCES};
-ghost use Rattle.gp_chassis.specs.Limits.{max_ports};
+ghost use Rattle.gp_machine.specs.Config.{max_ports};
 ghost use Rattle.gp_workers.specs.Closing.{AreJournalsOf, ArePiecesOf, desk_rows};
 
 use super::unlocked::Unlocked;

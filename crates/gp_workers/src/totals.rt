@@ -1,6 +1,6 @@
 ghost use Rattle.std.specs.Prelude.{◌≡◌, ◌≤◌, ◌∷◌, [], length, map, sum_by, if◌then◌else◌};
 ghost use Rattle.gp_chassis.specs.Desk.{DeskState};
-ghost use Rattle.gp_chassis.specs.Limits.{max_journal_limit, max_ports};
+ghost use Rattle.gp_machine.specs.Config.{max_journal_limit, max_ports};
 ghost use Rattle.gp_workers.specs.Totals.{AreTotals, CountsOf, AtMost, is_kind, raises, frame_event, burst_event, command_event};
 ghost use Rattle.gp_workers.specs.Closing.{desk_rows};
 

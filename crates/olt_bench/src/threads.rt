@@ -144,7 +144,7 @@ fn serve<L: Ledger + Send + Sync, R: Clock + Threads + Wait + Sync>(
     thread::for_each_mut(
         rt,
         workers,
-        MAX_PORTS,
+        usize::from(MAX_PORTS),
         &|port, worker| {
             if let Ok(port) = u8::try_from(port) {
                 serve_frames(rt, chassis, port, worker);
