@@ -58,4 +58,4 @@ returns-then-not-may_notice-clause-unit c =
     let low : c.args.place < length i.stored_units.items = rw length-map at (rw (← c.self.view_is) at c.requires.place) in
     let no : c.may_notice.result ≡ false = search rules in
     rw (← c.self.view_is)
-    (passes i.mask i.frames i.stored_units.items i.timers c.self.invariant c.args.place low c.index.result.now c.index.ensures c.args.message.now (c.may_notice.ensures no))
+    (passes i.mask i.frames i.stored_units.items i.timers c.self.invariant c.args.place low c.index.result.now c.index.ensures c.args.message.now (c.may_notice.ensures.passed no))
