@@ -24,6 +24,3 @@ pub use fault::CloseFault;
 pub use reconciling::reconcile;
 pub use recorded::Recorded;
 pub use told::Told;
-
-#[cfg(test)]
-mod tests;

@@ -11,6 +11,3 @@ mod poll;
 
 pub use alarm::{Alarm, AlarmKind};
 pub use poll::{Outcome, PollCounts, close_poll};
-
-#[cfg(test)]
-mod tests;

@@ -29,6 +29,3 @@ pub use fault::{ApplyFault, CoreFault};
 pub use gp_machine::{MAX_JOURNAL_LIMIT, MAX_PORTS};
 pub use hands::ACTORS;
 pub use world::{balance_lasts, every_run_holds, ports_replay, soundness_lasts};
-
-#[cfg(test)]
-mod tests;

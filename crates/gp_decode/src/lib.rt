@@ -17,6 +17,3 @@ mod message;
 
 pub use fault::LineFault;
 pub use line::decode_line;
-
-#[cfg(test)]
-mod tests;

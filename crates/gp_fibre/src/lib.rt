@@ -22,8 +22,6 @@ mod loss_plan;
 mod running;
 mod sent_burst;
 mod stored_unit;
-#[cfg(test)]
-mod tests;
 mod unit_plan;
 mod unit_store;
 mod world;

@@ -25,6 +25,3 @@ pub use gp_machine::{Entry, Receipt};
 pub use journal::Journal;
 pub use piece::{Piece, pieces_are_one_run};
 pub use replaying::replays;
-
-#[cfg(test)]
-mod tests;

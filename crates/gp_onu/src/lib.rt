@@ -21,6 +21,3 @@ pub use laws::{heard_twice, knows_what_it_hears};
 pub use limits::{FRAME_BIT_TIMES, MAX_DELAY, MAX_RANDOM_DELAY, MAX_SIMULATED_UNITS};
 pub use state::State;
 pub use unit::Unit;
-
-#[cfg(test)]
-mod tests;

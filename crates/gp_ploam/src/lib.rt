@@ -20,8 +20,6 @@ mod down;
 mod identifier;
 mod message;
 mod octets;
-#[cfg(test)]
-mod tests;
 mod up;
 
 pub use check::{Mask, crc};

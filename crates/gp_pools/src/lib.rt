@@ -28,6 +28,3 @@ pub use alloc_leases::AllocLeases;
 pub use allocs::{Allocs, MAX_ALLOCS};
 pub use cooling::MAX_QUARANTINE;
 pub use onu_ids::{OnuIds, OnuLease};
-
-#[cfg(test)]
-mod tests;

@@ -41,6 +41,3 @@ pub use image::{ImageFault, PortImage};
 pub use octets::burst_of;
 pub use open::OpenFault;
 pub use port_core::PortCore;
-
-#[cfg(test)]
-mod tests;

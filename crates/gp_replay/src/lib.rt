@@ -28,6 +28,3 @@ pub use fault::RunFault;
 pub use laws::{each_port_runs, licences_are_kept};
 pub use replaying::run_replay;
 pub use turn::Turn;
-
-#[cfg(test)]
-mod tests;

@@ -9,8 +9,6 @@
 
 mod report;
 mod status;
-#[cfg(test)]
-mod tests;
 
 pub use report::{arguments_report, line_report, memory_report, run_report, write_report};
 pub use status::{

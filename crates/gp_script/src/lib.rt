@@ -21,8 +21,6 @@ mod ports;
 mod reading;
 mod say;
 mod script;
-#[cfg(test)]
-mod tests;
 mod units;
 mod values;
 

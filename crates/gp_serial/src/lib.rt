@@ -12,8 +12,6 @@ mod admission;
 mod fault;
 mod index;
 mod reading;
-#[cfg(test)]
-mod tests;
 mod text;
 
 pub use admission::{AdmissionList, MAX_ON_A_PORT};

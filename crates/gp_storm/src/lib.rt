@@ -18,8 +18,6 @@ mod feeder;
 mod plan;
 mod slot;
 mod storming;
-#[cfg(test)]
-mod tests;
 mod threads;
 
 pub use engine::storm;

@@ -13,8 +13,6 @@
 mod reading;
 mod sink;
 mod source;
-#[cfg(test)]
-mod tests;
 mod watched;
 
 pub use reading::{MAX_BYTES, SourceFault, read_all};

@@ -12,6 +12,3 @@ mod tournament;
 mod wheel;
 
 pub use wheel::{TimerFault, Wheel};
-
-#[cfg(test)]
-mod tests;

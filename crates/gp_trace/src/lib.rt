@@ -16,7 +16,5 @@ mod event;
 mod line;
 mod pieces;
 mod reply;
-#[cfg(test)]
-mod tests;
 
 pub use line::{MAX_LINE, push_line};

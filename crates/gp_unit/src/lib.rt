@@ -26,6 +26,3 @@ pub use record::{Awake, Record};
 pub use retired::Retired;
 pub use row::{Phase, Row};
 pub use row_view::RowView;
-
-#[cfg(test)]
-mod tests;

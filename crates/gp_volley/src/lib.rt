@@ -19,6 +19,3 @@ mod volley;
 pub use owed_image::OwedImage;
 pub use queue::{MAX_COPIES, MAX_COPIES_WITH_ROOM, MAX_MESSAGES, QueueFault, VolleyQueue};
 pub use volley::{COPIES, Volley};
-
-#[cfg(test)]
-mod tests;

@@ -27,8 +27,6 @@ mod loops;
 mod opening;
 mod ports;
 mod reader;
-#[cfg(test)]
-mod tests;
 mod totals;
 mod unlocked;
 mod worker;

@@ -1,4 +1,0 @@
-use Rattle.gp_fibre.proofs.tests.play.Given as goal
-
-abbrev pub ghosts-played : goal.ghosts-played
-ghosts-played a = record { name = a.blank.name; parts = 4064 }

@@ -1,0 +1,141 @@
+//! A unit used by hand: measured, found silent, given an Alloc-ID, and called back.
+ghost use Rattle.std.specs.Prelude.{◌≡◌, None};
+ghost use Rattle.std.specs.FinMap as map;
+ghost use Rattle.gp_pools.specs.Pool.{IsLeased};
+
+use gp_alarms::Outcome;
+use gp_ploam::Serial;
+use gp_pools::{AllocIds, AllocLease, OnuIds};
+use gp_unit::{Operating, PollClosed, Ranging, RangingClosed, Row};
+
+const SERIAL: Serial = Serial([65, 76, 67, 76, 0, 0, 0, 1]);
+
+/// The row of a unit after its delay was measured, and the row of one that is too far away.
+fn row_after_measuring(teqd: u32, rtd: u32) -> Option<Row> {
+    let mut onus = OnuIds::new(1, 0);
+    let mut alloc_ids = AllocIds::new(255);
+    let unit = Ranging::begin(SERIAL, onus.take()?);
+    let kept = match unit.measured(teqd, rtd) {
+        Ok(unit) => unit.settle(&mut onus, &mut alloc_ids),
+        Err(unit) => unit.settle(&mut onus, &mut alloc_ids),
+    };
+    Some(kept.row)
+}
+
+#[test]
+fn a_delay_up_to_the_limit(rt: HostRuntime) {
+    for (teqd, rtd, eqd) in [(100, 40, Some(60)), (100, 100, Some(0)), (100, 101, None)] {
+        let want = match eqd {
+            Some(eqd) => Row::ranging(0).measured(eqd),
+            None => Row::ranging(0),
+        };
+        assert_eq!(rt; row_after_measuring(teqd, rtd), Some(want), "{rtd}");
+    }
+}
+
+/// Whether anything was heard of a unit that failed in two ranging windows, and whether its ONU-ID is free then.
+fn failed_unit(first: bool, second: bool) -> Option<(bool, bool)> {
+    let mut onus = OnuIds::new(1, 0);
+    let mut alloc_ids = AllocIds::new(255);
+    let unit = match Ranging::begin(SERIAL, onus.take()?).window_closed(first) {
+        RangingClosed::Still(unit) => unit,
+        RangingClosed::Failed(rest, _) => {
+            rest.give_up(&mut onus, &mut alloc_ids);
+            return None;
+        }
+    };
+    match unit.window_closed(second) {
+        RangingClosed::Still(unit) => {
+            unit.retire().give_up(&mut onus, &mut alloc_ids);
+            None
+        }
+        RangingClosed::Failed(rest, seen) => {
+            rest.give_up(&mut onus, &mut alloc_ids);
+            Some((seen, onus.is_free(0)))
+        }
+    }
+}
+
+#[test]
+fn two_ranging_windows(rt: HostRuntime) {
+    for (first, second) in [(false, false), (true, false), (false, true), (true, true)] {
+        assert_eq!(rt;
+            failed_unit(first, second),
+            Some((first || second, true)),
+            "{first} {second}"
+        );
+    }
+}
+
+/// Gives the unit an Alloc-ID, which it acknowledges: whether that freed one, and the row in the end.
+fn acknowledges(
+    unit: Operating,
+    lease: AllocLease,
+    onus: &mut OnuIds,
+    alloc_ids: &mut AllocIds,
+) -> (bool, Row)
+    requires none { unit.row.allocs ≡ map.empty }
+    requires idle { unit.row.pending ≡ None }
+    requires onu { IsLeased onus.old.pool unit.row.onu }
+    requires alloc { IsLeased alloc_ids.old lease }
+{
+    let (unit, freed) = unit.alloc(lease).acked();
+    let row = unit.settle(onus, alloc_ids).row;
+    match freed {
+        Some(lease) => {
+            alloc_ids.give_back(lease);
+            (true, row)
+        }
+        None => (false, row),
+    }
+}
+
+#[test]
+fn a_unit_acknowledges_an_alloc_id(rt: HostRuntime) {
+    let mut onus = OnuIds::new(1, 0);
+    let mut alloc_ids = AllocIds::new(256);
+    let onu = onus.take().expect(&rt, "all are free");
+    let lease = alloc_ids.take().expect(&rt, "all are free");
+    match Ranging::begin(SERIAL, onu).measured(100, 40) {
+        Ok(unit) => {
+            let (freed, row) = acknowledges(unit, lease, &mut onus, &mut alloc_ids);
+            assert!(rt; !freed && row.pending.is_none() && row.holds_alloc(256));
+        }
+        Err(unit) => {
+            alloc_ids.give_back(lease);
+            unit.retire().give_up(&mut onus, &mut alloc_ids);
+        }
+    }
+    assert!(rt; !alloc_ids.any_free() && !onus.any_free());
+}
+
+/// The row of a unit that was polled, kept, and called back by POPUP.
+fn popped_up(outcome: Outcome) -> Option<Row> {
+    let mut onus = OnuIds::new(1, 0);
+    let mut alloc_ids = AllocIds::new(255);
+    match Ranging::begin(SERIAL, onus.take()?).measured(0, 0) {
+        Ok(unit) => match unit.poll_closed(outcome) {
+            PollClosed::Still(unit) => Some(unit.popup_all().settle(&mut onus, &mut alloc_ids).row),
+            PollClosed::Lost(rest, _) => {
+                rest.give_up(&mut onus, &mut alloc_ids);
+                None
+            }
+        },
+        Err(unit) => {
+            unit.retire().give_up(&mut onus, &mut alloc_ids);
+            None
+        }
+    }
+}
+
+#[test]
+fn a_polled_unit_pops_up(rt: HostRuntime) {
+    for outcome in [
+        Outcome::Good,
+        Outcome::Garbled,
+        Outcome::Dark,
+        Outcome::Gasped,
+    ] {
+        assert_eq!(rt; popped_up(outcome), Some(Row::ranging(0)), "{outcome:?}");
+    }
+}

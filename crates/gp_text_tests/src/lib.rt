@@ -1,0 +1,16 @@
+//! The tests of `gp_stream`, `gp_script`, `gp_decode` and `gp_trace`: what no clause says of them. They stand here, since a crate
+//! with tests is proved twice.
+//!
+//! - `stream.rt`: readers and writers that fail, or take an octet a call.
+//! - `script.rt`: scripts that are read; `script/ranges.rt` has the ends of each range, `script/faults.rt` what is refused.
+//! - `decode.rt`, `trace.rt`: lines as they are printed.
+#![tactic(auto)]
+
+#[cfg(test)]
+mod decode;
+#[cfg(test)]
+mod script;
+#[cfg(test)]
+mod stream;
+#[cfg(test)]
+mod trace;

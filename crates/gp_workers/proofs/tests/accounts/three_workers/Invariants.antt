@@ -1,4 +1,0 @@
-use Rattle.gp_workers.proofs.tests.accounts.three_workers.Given as goal
-
-abbrev pub ghosts-three_on : goal.ghosts-three_on
-ghosts-three_on g a = record { name = a.blank.name; parts = 4064 }

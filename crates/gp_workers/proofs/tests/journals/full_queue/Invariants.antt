@@ -1,4 +1,0 @@
-use Rattle.gp_workers.proofs.tests.journals.full_queue.Given as goal
-
-abbrev pub ghosts-fill_the_queue : goal.ghosts-fill_the_queue
-ghosts-fill_the_queue g a = record { name = a.blank.name; parts = 4064 }

@@ -1,4 +1,0 @@
-use Rattle.gp_workers.proofs.tests.parallel.notes_of.Given as goal
-
-abbrev pub ghosts-meet : goal.ghosts-meet
-ghosts-meet g a = record { name = a.blank.name; parts = 4064 }
