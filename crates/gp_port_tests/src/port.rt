@@ -11,10 +11,10 @@ use gp_licence::{LicenceBook, Licences, MAX_LICENCES};
 use gp_machine::{Admitted, Command, Event, PortConfig, Reply};
 use gp_ploam::{Mask, PloamFault};
 use gp_port::{OpenFault, PortCore, burst_of};
+use lines::A;
 use std::alloc::{AllocError, Global};
 use std::marker::Brand;
 use std::sync::ledger::{Blank, Ledger};
-use lines::A;
 use std::test::Fail;
 
 /// A's serial number, without an ONU-ID.
