@@ -5,8 +5,8 @@
 //! - `bursts.rt`: every identifier with every octet 1, in each window of a port; the same through a script in
 //!   `script_bursts.rt`.
 //! - `impersonation.rt`: units that speak for others, and units that have no business on the port.
-//! - `streams.rt`: readers and writers that fail. `scripts.rt`: bytes and texts that are no script. `keys.rt`: each key of a script
-//!   with each fault, and with each fault of another key; `forms.rt` lists them.
+//! - `streams.rt`: readers and writers that fail. `scripts.rt`: bytes and texts that are no script, and keys with a
+//!   fault, or two.
 //! - `port.rt`: the port that is attacked. `tally.rt`: how many cases came out right.
 //!
 //! A new case is a line of its table. What a burst or a command has to be answered with is said in docs/MACHINE.md, which fault
@@ -17,9 +17,7 @@ ghost use Rattle.std.specs.Prelude.{◌≡◌};
 ghost use Rattle.gp_licence.specs.declared.ledger_parts.TheConstants.{MAX_LICENCES};
 
 mod bursts;
-mod forms;
 mod impersonation;
-mod keys;
 mod octets;
 mod port;
 mod script_bursts;
@@ -55,8 +53,7 @@ fn run<R: AllocGlobal + Print>(rt: &R) -> io::Result<()> {
     attack_ports::<Brand, R>(rt, Blank::new(u64::from(MAX_LICENCES)))?;
     script_bursts::check(rt)?;
     streams::check(rt)?;
-    scripts::check(rt)?;
-    keys::check(rt)
+    scripts::check(rt)
 }
 
 fn main(rt: HostRuntime) -> ExitCode {

@@ -1,12 +1,13 @@
-use crate::keys::fault_of;
 use crate::tally::Tally;
-use gp_script::ScriptFault;
+use gp_script::{ScriptError, ScriptFault, read_script};
 use std::alloc::Global;
 use std::io;
 
 const SYNTAX: Option<ScriptFault> = Some(ScriptFault::Syntax);
 
 const SHAPE: Option<ScriptFault> = Some(ScriptFault::Shape);
+
+const RANGE: Option<ScriptFault> = Some(ScriptFault::Range);
 
 const SERIAL: Option<ScriptFault> = Some(ScriptFault::Serial);
 
@@ -121,6 +122,201 @@ const EVENTS: [(&'static str, Option<ScriptFault>); 9] = [
     ),
 ];
 
+/// Scripts with faults at the keys of the top, of units and of what is lost.
+const TOP_KEYS: [(&'static str, Option<ScriptFault>); 22] = [
+    // The keys in another order.
+    (
+        "event = [{light = false, unit = 0}]\nlose = [{copy = 0}]\nunit = [{random = 4095, delay = 0, serial = \"ABCD00000001\"}]\nport = [{}]\njournal_limit = 7\nmask = 85\nlicences = 1",
+        None,
+    ),
+    // A key twice, and a number of more than 64 bits.
+    ("licences = 1\nport = [{}]\nlicences = 1", SYNTAX),
+    ("licences = 9223372036854775808\nport = [{}]", SYNTAX),
+    // The greatest and the least numbers.
+    ("licences = 9223372036854775807\nport = [{}]", RANGE),
+    (
+        "licences = 1\nport = [{}]\nmask = -9223372036854775808",
+        RANGE,
+    ),
+    (
+        "licences = 1\nport = [{}]\njournal_limit = 9223372036854775807",
+        RANGE,
+    ),
+    (
+        "licences = 1\nport = [{}]\nunit = [{serial = \"ABCD00000001\", delay = 9223372036854775807}]",
+        RANGE,
+    ),
+    (
+        "licences = 1\nport = [{}]\nunit = [{serial = \"ABCD00000001\", delay = 0, random = -9223372036854775808}]",
+        RANGE,
+    ),
+    // Values of other types.
+    ("licences = 1.0\nport = [{}]", SHAPE),
+    ("licences = 1\nport = [{}]\nmask = 1979-05-27", SHAPE),
+    ("licences = 1\nport = {}", SHAPE),
+    ("licences = 1\nport = [[{}]]", SHAPE),
+    (
+        "licences = 1\nport = [{}]\nunit = [{serial = \"ABCD00000001\", delay = 0, random = 07:32:00}]",
+        SHAPE,
+    ),
+    (
+        "licences = 1\nport = [{}]\nunit = [{serial = \"ABCD00000001\", delay = 0}]\nlose = [{copy = inf}]",
+        SHAPE,
+    ),
+    // Two faults: the top's shape first, then its keys, ports, units, losses and events.
+    ("licences = 4065\nport = [{}]\nmask = true", SHAPE),
+    ("licences = 1\nport = []\nevent = 0", SHAPE),
+    ("port = [{admit = [\"A\"]}]\nmask = 1\nlicences = 1", RANGE),
+    (
+        "event = [{}]\nport = [{}]\njournal_limit = 0\nlicences = 1",
+        RANGE,
+    ),
+    ("unit = [{}]\nport = [{cycles = 0}]\nlicences = 1", RANGE),
+    (
+        "event = [{}]\nport = [{overhead = \"0\"}]\nlicences = 1",
+        HEX,
+    ),
+    (
+        "lose = [{}]\nunit = [{delay = -1, serial = \"A\"}]\nport = [{}]\nlicences = 1",
+        SERIAL,
+    ),
+    (
+        "event = [{port = 0, at = 0, burst = \"0\"}]\nlose = [{}]\nunit = [{serial = \"ABCD00000001\", delay = 0}]\nport = [{}]\nlicences = 1",
+        SHAPE,
+    ),
+];
+
+/// Keys of a port: in another order, twice, too long, the greatest and the least numbers, of other types, and two faults.
+const PORT_KEYS: [(&'static str, Option<ScriptFault>); 25] = [
+    (
+        "admit = [], overhead = \"00000000000000000000\", quarantine = 0, search_period = 0, cycles = 1, alloc_last = 256, max_units = 1, teqd = 0",
+        None,
+    ),
+    ("cycles = 1, cycles = 1", SYNTAX),
+    ("teqd = 9223372036854775808", SYNTAX),
+    ("teqd = 9223372036854775807", RANGE),
+    ("max_units = -9223372036854775808", RANGE),
+    ("alloc_last = 9223372036854775807", RANGE),
+    ("cycles = -9223372036854775808", RANGE),
+    ("search_period = 9223372036854775807", RANGE),
+    ("quarantine = 9223372036854775807", RANGE),
+    ("teqd = inf", SHAPE),
+    ("max_units = nan", SHAPE),
+    ("alloc_last = true", SHAPE),
+    ("cycles = {a = 1}", SHAPE),
+    ("search_period = 1979-05-27T07:32:00Z", SHAPE),
+    ("quarantine = [1]", SHAPE),
+    ("overhead = 0", SHAPE),
+    ("admit = {}", SHAPE),
+    ("admit = [\"ABCD00000001\", 1979-05-27]", SHAPE),
+    ("admit = [[\"ABCD00000001\"]]", SHAPE),
+    ("overhead = \"0102030405060708090g\"", HEX),
+    ("overhead = \"é02030405060708090a\"", HEX),
+    ("overhead = 0, cycles = 0", SHAPE),
+    ("admit = 0, teqd = -1", SHAPE),
+    ("admit = [\"A\"], overhead = \"0\"", HEX),
+    ("admit = [\"A\"], quarantine = -1", RANGE),
+];
+
+/// Keys of an event, likewise, and left out.
+const EVENT_KEYS: [(&'static str, Option<ScriptFault>); 38] = [
+    ("frames = 1, port = 0", None),
+    (
+        "burst = \"0004000000000000000000007C\", at = 0, port = 0",
+        None,
+    ),
+    ("id = 10, onu = 0, say = \"ack\", at = 0, port = 0", None),
+    (
+        "alloc = 0, serial = \"ABCD00000001\", command = \"dealloc\", port = 0",
+        None,
+    ),
+    ("port = 0, port = 0, frames = 1", SYNTAX),
+    ("port = 0, frames = 9223372036854775808", SYNTAX),
+    ("port = 9223372036854775807, frames = 1", RANGE),
+    ("port = 0, frames = -9223372036854775808", RANGE),
+    (
+        "port = 0, at = 9223372036854775807, say = \"none\", onu = 0",
+        RANGE,
+    ),
+    (
+        "port = 0, at = 0, say = \"serial\", serial = \"ABCD00000001\", onu = 9223372036854775807",
+        RANGE,
+    ),
+    (
+        "port = 0, at = 0, say = \"ack\", onu = 0, id = -9223372036854775808",
+        RANGE,
+    ),
+    (
+        "port = 0, command = \"dealloc\", serial = \"ABCD00000001\", alloc = 9223372036854775807",
+        RANGE,
+    ),
+    ("at = 0, burst = \"0004000000000000000000007C\"", SHAPE),
+    ("command = \"search\"", SHAPE),
+    ("port = 0, command = \"dealloc\", alloc = 0", SHAPE),
+    ("port = \"0\", frames = 1", SHAPE),
+    ("port = 0, frames = 1e3", SHAPE),
+    (
+        "port = 0, at = 0.5, burst = \"0004000000000000000000007C\"",
+        SHAPE,
+    ),
+    ("port = 0, at = 0, burst = 0", SHAPE),
+    ("port = 0, at = 0, say = \"gasp\", onu = false", SHAPE),
+    (
+        "port = 0, at = 0, say = \"ack\", onu = 0, id = \"10\"",
+        SHAPE,
+    ),
+    ("port = 0, at = 0, say = \"serial\", serial = 0", SHAPE),
+    (
+        "port = 0, at = 0, say = \"serial\", serial = \"ABCD00000001\", onu = 07:32:00",
+        SHAPE,
+    ),
+    ("port = 0, command = 0", SHAPE),
+    (
+        "port = 0, command = \"show\", serial = [\"ABCD00000001\"]",
+        SHAPE,
+    ),
+    (
+        "port = 0, command = \"dealloc\", serial = \"ABCD00000001\", alloc = {}",
+        SHAPE,
+    ),
+    ("port = 1, frames = \"1\"", SHAPE),
+    ("port = 0, at = -1, burst = 0", SHAPE),
+    (
+        "port = 0, at = 0, say = \"ack\", onu = 256, id = true",
+        SHAPE,
+    ),
+    ("port = 1, command = \"show\", serial = 0", SHAPE),
+    (
+        "port = 0, command = \"dealloc\", serial = \"A\", alloc = \"0\"",
+        SHAPE,
+    ),
+    ("burst = \"0\", at = 0, port = 1", RANGE),
+    ("burst = \"0\", at = -1, port = 0", RANGE),
+    ("port = 1, at = 0, say = \"serial\", serial = \"A\"", RANGE),
+    ("serial = \"A\", say = \"serial\", at = -1, port = 0", RANGE),
+    (
+        "onu = 256, serial = \"A\", say = \"serial\", at = 0, port = 0",
+        SERIAL,
+    ),
+    (
+        "alloc = 0, serial = \"A\", command = \"dealloc\", port = 1",
+        RANGE,
+    ),
+    (
+        "alloc = 4096, serial = \"A\", command = \"dealloc\", port = 0",
+        SERIAL,
+    ),
+];
+
+/// Reads a script, and tells its fault, if it has one.
+fn fault_of(alloc: Global, script: &[u8]) -> io::Result<Option<ScriptFault>> {
+    match read_script(alloc, script) {
+        Ok(_) => Ok(None),
+        Err(ScriptError::Fault(fault)) => Ok(Some(fault)),
+        Err(ScriptError::OutOfMemory) => Err(io::ErrorKind::OutOfMemory.into()),
+    }
+}
+
 /// Tells whether a script between these two texts has the fault.
 fn has_fault(
     alloc: Global,
@@ -213,10 +409,38 @@ fn check_nesting<R: AllocGlobal + Print>(rt: &R) -> io::Result<()> {
     tally.tell(rt, "values within values")
 }
 
+/// Counts each text of a table, between what stands before and behind it.
+fn count_keys(
+    alloc: Global,
+    tally: &mut Tally,
+    name: &'static str,
+    ends: (&str, &str),
+    table: &[(&'static str, Option<ScriptFault>)],
+) -> io::Result<()> {
+    for (place, (keys, wanted)) in table.iter().enumerate() {
+        let right = has_fault(alloc, ends.0, keys, ends.1, *wanted)?;
+        tally.count(name, place, right);
+    }
+    Ok(())
+}
+
+/// Reads tables with a fault, or two, at their keys.
+fn check_keys<R: AllocGlobal + Print>(rt: &R) -> io::Result<()> {
+    let alloc = rt.alloc();
+    let mut tally = Tally::default();
+    count_keys(alloc, &mut tally, "top", ("", ""), &TOP_KEYS)?;
+    let port = ("licences = 1\nport = [{", "}]");
+    count_keys(alloc, &mut tally, "port", port, &PORT_KEYS)?;
+    let event = ("licences = 1\nport = [{}]\nevent = [{", "}]");
+    count_keys(alloc, &mut tally, "event", event, &EVENT_KEYS)?;
+    tally.tell(rt, "keys of tables")
+}
+
 /// Reads what is no script, or nearly none.
 pub(crate) fn check<R: AllocGlobal + Print>(rt: &R) -> io::Result<()> {
     check_tables(rt)?;
     check_serials(rt)?;
     check_digits(rt)?;
-    check_nesting(rt)
+    check_nesting(rt)?;
+    check_keys(rt)
 }
