@@ -6,7 +6,6 @@ use gp_machine::{Answer, Reply};
 use gp_ploam::{Down, Serial};
 
 /// Makes an answer that raises an alarm of a unit, and sends and grants nothing.
-#[inline(always)]
 pub(super) fn raises(reply: Reply, kind: AlarmKind, serial: Serial) -> Answer
     ensures { result ≡ record { reply = reply; sent = None; grant = None; alarm = Some (record { kind = kind; serial = serial }) } }
 {
@@ -19,7 +18,6 @@ pub(super) fn raises(reply: Reply, kind: AlarmKind, serial: Serial) -> Answer
 }
 
 /// Makes the answer to a frame that grants nothing.
-#[inline(always)]
 pub(super) fn ticked(sent: Option<Down>, alarm: Option<Alarm>) -> Answer
     ensures { result ≡ record { reply = reply.Ticked; sent = sent; grant = None; alarm = alarm } }
 {

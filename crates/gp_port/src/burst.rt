@@ -19,7 +19,6 @@ use gp_ranging::Grant;
 
 impl PortMachine {
     /// Hears a burst after this round-trip delay in bit times; its octets are read under the port's mask.
-    #[inline(always)]
     pub(super) fn burst(
         &mut self,
         purse: u32,
@@ -39,7 +38,6 @@ impl PortMachine {
     }
 
     /// Hears a burst that is read as this message, or whose check octet is wrong.
-    #[inline(always)]
     fn receive(
         &mut self,
         purse: u32,
@@ -69,7 +67,6 @@ impl PortMachine {
     }
 
     /// Hears a message in the window of a ranging unit: octet 1 has to be its ONU-ID.
-    #[inline(always)]
     fn in_range(&mut self, purse: u32, at: u32, onu: u8, message: Up) -> (Answer, u32)
         requires sound { IsSound self.old }
         ensures free { MayPick self.old (message_response purse self.old at (grant.Range onu) message) (number_in result.0.reply) }
@@ -87,7 +84,6 @@ impl PortMachine {
     }
 
     /// Hears a message in the window of an operating unit: octet 1 has to be its ONU-ID.
-    #[inline(always)]
     fn in_poll(&mut self, purse: u32, at: u32, onu: u8, message: Up) -> (Answer, u32)
         requires sound { IsSound self.old }
         requires purse { purse ≤ MAX_LICENCES }

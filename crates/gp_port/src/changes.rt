@@ -17,7 +17,6 @@ use std::mem;
 
 impl PortMachine {
     /// Owes a message: its three copies come after all that is owed.
-    #[inline(always)]
     pub(super) fn owe(&mut self, message: Down)
         requires room { length self.old.owed + copies_each ≤ max_copies }
         requires proper { IsProperDown message }
@@ -27,7 +26,6 @@ impl PortMachine {
     }
 
     /// Marks the open window: it has seen something.
-    #[inline(always)]
     pub(super) fn mark_seen(&mut self)
         ensures { self.new ≡ spec.state_seen self.old }
     {
@@ -37,7 +35,6 @@ impl PortMachine {
     }
 
     /// Takes a frame off the open window, of which this is not the last.
-    #[inline(always)]
     pub(super) fn count_down(&mut self)
         requires { IfSome self.old.window (λ window. 2 ≤ window.left) }
         ensures { self.new ≡ spec.state_counted_down self.old }
@@ -51,7 +48,6 @@ impl PortMachine {
     }
 
     /// Opens this window.
-    #[inline(always)]
     fn put_window(&mut self, window: Window)
         requires { self.old.window ≡ None }
         ensures { self.new ≡ record self.old { window = Some window } }
@@ -62,7 +58,6 @@ impl PortMachine {
     }
 
     /// Closes the open window.
-    #[inline(always)]
     pub(super) fn close_window(&mut self)
         ensures { self.new ≡ spec.state_closed self.old }
     {
@@ -72,7 +67,6 @@ impl PortMachine {
     }
 
     /// Opens the window of this grant; a unit that is asked by a poll is now the last polled one.
-    #[inline(always)]
     pub(super) fn open_window(&mut self, grant: Grant)
         ensures { self.new ≡ spec.state_open self.old grant }
     {
@@ -86,7 +80,6 @@ impl PortMachine {
     }
 
     /// Enters this common state.
-    #[inline(always)]
     pub(super) fn enter(&mut self, common: Common)
         ensures { self.new ≡ record self.old { common = common } }
     {
@@ -94,7 +87,6 @@ impl PortMachine {
     }
 
     /// Notes whether a search is wanted.
-    #[inline(always)]
     pub(super) fn want(&mut self, wanted: bool)
         ensures { self.new ≡ record self.old { wanted = wanted } }
     {
@@ -102,7 +94,6 @@ impl PortMachine {
     }
 
     /// Closes a window that asks the unit with this ONU-ID.
-    #[inline(always)]
     pub(super) fn close_if_asked(&mut self, onu: u8)
         ensures { self.new ≡ record self.old { window = spec.window_without self.old.window onu } }
     {
@@ -116,7 +107,6 @@ impl PortMachine {
     }
 
     /// Closes an open poll window.
-    #[inline(always)]
     pub(super) fn close_if_polling(&mut self)
         ensures { self.new ≡ record self.old { window = spec.window_unpolled self.old.window } }
     {
@@ -131,7 +121,6 @@ impl PortMachine {
 }
 
 /// Tells whether a grant asks the unit with this ONU-ID.
-#[inline(always)]
 fn asks(grant: Grant, onu: u8) -> bool
     ensures { result ≡ spec.asks_unit grant onu }
 {

@@ -27,7 +27,6 @@ use gp_ranging::Grant;
 
 impl PortMachine {
     /// Makes a frame: cooling, timer and sending, then the open window, or a decision.
-    #[inline(always)]
     pub(super) fn frame(&mut self, purse: u32) -> (Answer, u32)
         requires sound { IsSound self.old }
         requires purse { purse ≤ MAX_LICENCES }
@@ -40,7 +39,6 @@ impl PortMachine {
     }
 
     /// Makes a frame, where these are the least ranging unit and the one that is polled next.
-    #[inline(always)]
     fn frame_by(&mut self, purse: u32, ranging: Option<u8>, next: Option<u8>) -> (Answer, u32)
         requires sound { IsSound self.old }
         requires purse { purse ≤ MAX_LICENCES }
@@ -72,7 +70,6 @@ impl PortMachine {
     }
 
     /// Begins a frame: cooling ONU-IDs have a frame less, the timer runs, and the first copy is sent.
-    #[inline(always)]
     fn begin_frame(&mut self) -> Option<Down>
         requires timer { self.old.timer ≤ max_search_period }
         ensures first { result ≡ first_of self.old.owed }
@@ -84,7 +81,6 @@ impl PortMachine {
     }
 
     /// Runs the timer of the search, which rises in standby.
-    #[inline(always)]
     fn run_timer(&mut self)
         requires timer { self.old.timer ≤ max_search_period }
         ensures { self.new ≡ spec.state_after_timer self.old }
@@ -99,7 +95,6 @@ impl PortMachine {
     }
 
     /// Takes a frame off the open window, which closes with its last.
-    #[inline(always)]
     fn window_frame(
         &mut self,
         purse: u32,
@@ -141,7 +136,6 @@ impl PortMachine {
     }
 
     /// Does what follows from a decision.
-    #[inline(always)]
     pub(super) fn decided(
         &mut self,
         purse: u32,
@@ -176,7 +170,6 @@ impl PortMachine {
     }
 
     /// Closes a ranging window without a result.
-    #[inline(always)]
     pub(super) fn unranged(
         &mut self,
         purse: u32,
@@ -209,7 +202,6 @@ impl PortMachine {
     }
 
     /// Closes a poll window with its last frame.
-    #[inline(always)]
     pub(super) fn unpolled(
         &mut self,
         purse: u32,
@@ -243,7 +235,6 @@ impl PortMachine {
 }
 
 /// Tells how a poll window ends that closes with its last frame.
-#[inline(always)]
 fn ended(heard: bool) -> Outcome
     ensures { result ≡ poll_ended heard }
 {
@@ -255,7 +246,6 @@ fn ended(heard: bool) -> Outcome
 }
 
 /// Makes SUF of a unit of which something was heard while it was ranging.
-#[inline(always)]
 fn suf(heard: bool, serial: Serial) -> Option<Alarm>
     ensures { result ≡ suf_alarm heard serial }
 {
@@ -268,7 +258,6 @@ fn suf(heard: bool, serial: Serial) -> Option<Alarm>
 }
 
 /// Makes Upstream_Overhead with these ten octets.
-#[inline(always)]
 fn overhead_with(burst: [u8; 10]) -> Down
     ensures message { result ≡ down.UpstreamOverhead burst }
     ensures proper { IsProperDown result }
@@ -277,7 +266,6 @@ fn overhead_with(burst: [u8; 10]) -> Down
 }
 
 /// Tells whether anything was heard of a unit while it was ranging.
-#[inline(always)]
 fn was_seen(phase: Phase) -> bool
     ensures { result ≡ was_seen phase }
 {

@@ -18,7 +18,6 @@ use gp_ploam::{ASSIGN_ALLOC_ID, Down, Serial, Up};
 
 impl PortMachine {
     /// Hears a message from the operating unit that is asked.
-    #[inline(always)]
     pub(super) fn operating(
         &mut self,
         purse: u32,
@@ -50,7 +49,6 @@ impl PortMachine {
     }
 
     /// Hears an Acknowledge of an Assign_Alloc-ID; with nothing pending it is a message like any other.
-    #[inline(always)]
     fn acknowledged(&mut self, purse: u32, serial: Serial, row: Row) -> (Answer, u32)
         requires sound { IsSound self.old }
         requires purse { purse ≤ MAX_LICENCES }
@@ -69,7 +67,6 @@ impl PortMachine {
     }
 
     /// Hears any other message of the operating unit that is asked; with an alarm the unit is removed.
-    #[inline(always)]
     fn alive(&mut self, purse: u32, serial: Serial, row: Row) -> (Answer, u32)
         requires sound { IsSound self.old }
         requires purse { purse ≤ MAX_LICENCES }

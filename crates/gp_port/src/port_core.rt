@@ -172,7 +172,6 @@ impl<L: Ledger> PortCore<L> {
 }
 
 /// Moves licences between the two, so that `left` of them are given back and the port holds the others.
-#[inline(always)]
 fn share_out<L: Ledger>(purse: Licences<L>, held: &mut Licences<L>, left: u32) -> Licences<L>
     requires { left ≤ purse + held.old }
     ensures left { result ≡ left }

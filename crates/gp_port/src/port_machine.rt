@@ -155,7 +155,6 @@ impl PortMachine {
 
     /// Makes one step of the machine with so many licences at hand; a number that it hands out is the wished one, where that
     /// is free. It takes no memory.
-    #[inline(always)]
     pub fn step(&mut self, purse: u32, event: Event, wished: Option<u16>) -> (Answer, u32)
         requires limits { is_within_limits self.old.config ≡ true }
         requires sound { IsSound self.old }
@@ -174,7 +173,6 @@ impl PortMachine {
     }
 
     /// Tells what is known of an admitted unit; None where it is not admitted.
-    #[inline(always)]
     pub(super) fn look_up(&self, serial: &Serial) -> Option<Entry>
         ensures admitted { is_some result ≡ is_among serial.now self.now.config.admitted }
         ensures disabled { IfSome result (λ known. known.disabled ≡ set.contains self.now.disabled serial.now) }
@@ -184,7 +182,6 @@ impl PortMachine {
     }
 
     /// Finds the unit with this ONU-ID.
-    #[inline(always)]
     pub(super) fn unit_with(&self, onu: u8) -> Option<(Serial, Row)>
         requires { IsSound self.now }
         ensures unit { result ≡ unit_with self.now.rows onu }
@@ -199,7 +196,6 @@ impl PortMachine {
     }
 
     /// Finds the least ONU-ID of a ranging unit.
-    #[inline(always)]
     pub(super) fn least_ranging(&self) -> Option<u8>
         ensures { IsLeastRanging self.now.rows result }
     {
@@ -207,7 +203,6 @@ impl PortMachine {
     }
 
     /// Finds the ONU-ID of the operating unit that is polled next.
-    #[inline(always)]
     pub(super) fn next_poll(&self) -> Option<u8>
         requires { IsSound self.now }
         ensures { IsNextPoll self.now.rows self.now.polled result }
@@ -216,7 +211,6 @@ impl PortMachine {
     }
 
     /// Tells whether a burst or a command may owe a message.
-    #[inline(always)]
     pub(super) fn has_room(&self) -> bool
         ensures { result ≡ spec.has_room self.now }
     {
@@ -224,7 +218,6 @@ impl PortMachine {
     }
 
     /// Tells whether the unit is still to be told its ONU-ID.
-    #[inline(always)]
     pub(super) fn owes_assign(&self, onu: u8, serial: Serial) -> bool
         ensures { result ≡ list_any (is_assign onu serial) self.now.owed }
     {
@@ -232,7 +225,6 @@ impl PortMachine {
     }
 
     /// Finds an ONU-ID for a new unit: the wished one where it is free, else any free one. None where none is free.
-    #[inline(always)]
     pub(super) fn free_onu(&self, wished: Option<u16>) -> Option<u8>
         ensures told { is_some result ≡ has_free_onu self.now }
         ensures free { IfSome result (IsFree self.now) }
@@ -254,7 +246,6 @@ impl PortMachine {
 }
 
 /// The wished number, where it is an octet.
-#[inline(always)]
 fn octet_of(wished: Option<u16>) -> Option<u8>
     ensures { (number : ℕ) → wished ≡ Some number → number < onu_ids → result ≡ Some number }
 {

@@ -16,7 +16,6 @@ use gp_ranging::equalize;
 
 impl PortMachine {
     /// Hears a message from the ranging unit that is asked, after a round-trip delay in bit times.
-    #[inline(always)]
     pub(super) fn ranging(
         &mut self,
         purse: u32,
@@ -50,7 +49,6 @@ impl PortMachine {
     }
 
     /// Hears the serial number of the unit that is asked.
-    #[inline(always)]
     fn measured(&mut self, purse: u32, at: u32, serial: Serial, row: Row) -> (Answer, u32)
         requires sound { IsSound self.old }
         requires has { HasRow self.old.rows serial row }

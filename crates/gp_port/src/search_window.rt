@@ -21,7 +21,6 @@ use gp_table::Entry;
 
 impl PortMachine {
     /// Refuses a burst: the window has seen it, and nothing else changes.
-    #[inline(always)]
     pub(super) fn refuse(&mut self, purse: u32, refusal: Refusal) -> (Answer, u32)
         ensures free { MayPick self.old (refuses_burst refusal) (number_in result.0.reply) }
         ensures outcome { step_result_of result self.new ≡ step_result_with purse self.old None (refuses_burst refusal) (number_in result.0.reply) }
@@ -31,7 +30,6 @@ impl PortMachine {
     }
 
     /// Hears a message in a search window. A new unit gets the wished ONU-ID, where that is free.
-    #[inline(always)]
     pub(super) fn search(&mut self, purse: u32, message: Up, wished: Option<u16>) -> (Answer, u32)
         requires sound { IsSound self.old }
         requires units { self.old.config.max_units ≤ onu_ids }
@@ -53,7 +51,6 @@ impl PortMachine {
     }
 
     /// Hears an admitted unit.
-    #[inline(always)]
     fn admitted(
         &mut self,
         purse: u32,
@@ -81,7 +78,6 @@ impl PortMachine {
     }
 
     /// Hears an admitted unit that is not active.
-    #[inline(always)]
     fn newcomer(&mut self, purse: u32, serial: Serial, wished: Option<u16>) -> (Answer, u32)
         requires sound { IsSound self.old }
         requires units { self.old.config.max_units ≤ onu_ids }
@@ -106,7 +102,6 @@ impl PortMachine {
     }
 
     /// Hears a unit that is active already: an operating one is removed.
-    #[inline(always)]
     fn active(&mut self, purse: u32, serial: Serial, row: Row) -> (Answer, u32)
         requires sound { IsSound self.old }
         requires purse { purse ≤ MAX_LICENCES }
@@ -129,7 +124,6 @@ impl PortMachine {
     }
 
     /// Begins anew with a ranging unit and its own ONU-ID, which it is told again, but where it is still to be told it.
-    #[inline(always)]
     fn again(&mut self, purse: u32, serial: Serial, row: Row) -> (Answer, u32)
         requires sound { IsSound self.old }
         requires has { HasRow self.old.rows serial row }

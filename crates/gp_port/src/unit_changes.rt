@@ -19,7 +19,6 @@ use gp_unit::Record;
 
 impl PortMachine {
     /// Adds a unit with this free ONU-ID, which begins to range.
-    #[inline(always)]
     pub(super) fn add_unit(&mut self, serial: Serial, onu: u8)
         requires admitted { is_among serial self.old.config.admitted ≡ true }
         requires unknown { map.get self.old.rows serial ≡ None }
@@ -30,7 +29,6 @@ impl PortMachine {
     }
 
     /// Sets the row of an active unit, which keeps its numbers.
-    #[inline(always)]
     pub(super) fn set_row(&mut self, serial: Serial, row: Row)
         requires { (old : Row) × HasRow self.old.rows serial old × (old.onu ≡ row.onu) × (old.allocs ≡ row.allocs) }
         ensures { self.new ≡ spec.state_with_row self.old serial row }
@@ -39,7 +37,6 @@ impl PortMachine {
     }
 
     /// Begins anew with a unit: it keeps its ONU-ID, and its Alloc-IDs are free.
-    #[inline(always)]
     pub(super) fn restart_unit(&mut self, serial: Serial, row: Row)
         requires has { HasRow self.old.rows serial row }
         requires fits { IsSoundRow self.old.config.alloc_last row }
@@ -71,7 +68,6 @@ impl PortMachine {
     }
 
     /// Counts a poll window in which an operating unit acknowledged its pending Alloc-ID: one that is leaving is free.
-    #[inline(always)]
     pub(super) fn acknowledge(&mut self, serial: Serial, row: Row, alloc: u16)
         requires has { HasRow self.old.rows serial row }
         requires fits { IsSoundRow self.old.config.alloc_last row }
@@ -83,7 +79,6 @@ impl PortMachine {
     }
 
     /// Removes the unit with this ONU-ID: a window that asks it closes, its Alloc-IDs are free, and its ONU-ID cools.
-    #[inline(always)]
     pub(super) fn remove_unit(&mut self, serial: &Serial, onu: u8)
         requires { (row : Row) × HasRow self.old.rows serial.now row × (row.onu ≡ onu) × IsSoundRow self.old.config.alloc_last row }
         ensures { self.new ≡ spec.state_without self.old serial.now onu }
@@ -126,7 +121,6 @@ impl PortMachine {
     }
 
     /// Takes a frame off each cooling ONU-ID.
-    #[inline(always)]
     pub(super) fn cool(&mut self)
         ensures { self.new ≡ state_after_cooling self.old }
     {
