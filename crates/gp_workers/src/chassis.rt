@@ -133,12 +133,12 @@ impl<G: Gate<L>, L: Ledger> Chassis<G, L> {
         self.gate.answered(port);
         match served {
             Ok((receipt, rest)) => {
-                self.stock.lock(rt).book.give(rest);
+                self.give_back(rt, rest);
                 worker.record(&receipt);
                 Ok(receipt)
             }
             Err((fault, purse)) => {
-                self.stock.lock(rt).book.give(purse);
+                self.give_back(rt, purse);
                 Err(fault)
             }
         }
@@ -151,6 +151,15 @@ impl<G: Gate<L>, L: Ledger> Chassis<G, L> {
         match event {
             Event::Burst { .. } => self.stock.lock(rt).book.take(),
             _ => Licences::none(),
+        }
+    }
+
+    /// Gives back licences. Where there are none, as after most events, the lock of the stock is not taken.
+    fn give_back<R: Wait>(&self, rt: &R, licences: Licences<L>) {
+        if licences.count() == 0 {
+            licences.drop_empty();
+        } else {
+            self.stock.lock(rt).book.give(licences);
         }
     }
 
