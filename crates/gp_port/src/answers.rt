@@ -1,28 +1,107 @@
 ghost use Rattle.std.specs.Prelude.{◌≡◌, None, Some};
-ghost use Rattle.gp_machine.specs.declared.reply.Reply.TheVariants as reply;
+ghost use Rattle.gp_port.specs.Answers.{answer_to_burst, answer_to_frame};
 
 use gp_alarms::{Alarm, AlarmKind};
-use gp_machine::{Answer, Reply};
+use gp_machine::{Answer, Refusal, Reply};
 use gp_ploam::{Down, Serial};
+use gp_ranging::Grant;
 
-/// Makes an answer that raises an alarm of a unit, and sends and grants nothing.
-pub(super) fn raises(reply: Reply, kind: AlarmKind, serial: Serial) -> Answer
-    ensures { result ≡ record { reply = reply; sent = None; grant = None; alarm = Some (record { kind = kind; serial = serial }) } }
+/// What a frame gives. An `Answer` has room for a whole row, which no frame gives, so it is made of this once, at the end.
+#[derive(Clone, Copy, Debug)]
+pub(super) struct FrameAnswer {
+    pub(super) sent: Option<Down>,
+    pub(super) grant: Option<Grant>,
+    pub(super) alarm: Option<Alarm>,
+}
+
+impl FrameAnswer {
+    /// Makes the answer to a frame that gives this.
+    pub(super) fn whole(self) -> Answer
+        ensures { result ≡ answer_to_frame self }
+    {
+        Answer {
+            reply: Reply::Ticked,
+            sent: self.sent,
+            grant: self.grant,
+            alarm: self.alarm,
+        }
+    }
+}
+
+/// What a burst gives, which sends and grants nothing; an `Answer` is made of this once, at the end.
+#[derive(Clone, Copy, Debug)]
+pub(super) struct BurstAnswer {
+    pub(super) reply: BurstReply,
+    pub(super) alarm: Option<Alarm>,
+}
+
+/// What a port replies to a burst: those of `Reply` that are for bursts.
+#[derive(Clone, Copy, Debug)]
+pub(super) enum BurstReply {
+    Refused(Refusal),
+    Found(u8),
+    Again(u8),
+    Repeat(u8),
+    Restarted(u8),
+    DisabledSeen,
+    Ranged { onu: u8, eqd: u32 },
+    TooFar(u8),
+    StillRanging(u8),
+    Alive(u8),
+    Acked(u16),
+    Gasp(u8),
+}
+
+impl BurstAnswer {
+    /// Makes the answer to a burst that gives this.
+    pub(super) fn whole(self) -> Answer
+        ensures { result ≡ answer_to_burst self }
+    {
+        let reply = match self.reply {
+            BurstReply::Refused(refusal) => Reply::Refused(refusal),
+            BurstReply::Found(onu) => Reply::Found(onu),
+            BurstReply::Again(onu) => Reply::Again(onu),
+            BurstReply::Repeat(onu) => Reply::Repeat(onu),
+            BurstReply::Restarted(onu) => Reply::Restarted(onu),
+            BurstReply::DisabledSeen => Reply::DisabledSeen,
+            BurstReply::Ranged { onu, eqd } => Reply::Ranged { onu, eqd },
+            BurstReply::TooFar(onu) => Reply::TooFar(onu),
+            BurstReply::StillRanging(onu) => Reply::StillRanging(onu),
+            BurstReply::Alive(onu) => Reply::Alive(onu),
+            BurstReply::Acked(alloc) => Reply::Acked(alloc),
+            BurstReply::Gasp(onu) => Reply::Gasp(onu),
+        };
+        Answer {
+            reply,
+            sent: None,
+            grant: None,
+            alarm: self.alarm,
+        }
+    }
+}
+
+/// Makes what a burst gives that is replied to and raises no alarm.
+pub(super) fn replies(reply: BurstReply) -> BurstAnswer
+    ensures { result ≡ record { reply = reply; alarm = None } }
 {
-    Answer {
+    BurstAnswer { reply, alarm: None }
+}
+
+/// Makes what a burst gives that raises an alarm of a unit.
+pub(super) fn raises(reply: BurstReply, kind: AlarmKind, serial: Serial) -> BurstAnswer
+    ensures { result ≡ record { reply = reply; alarm = Some (record { kind = kind; serial = serial }) } }
+{
+    BurstAnswer {
         reply,
-        sent: None,
-        grant: None,
         alarm: Some(Alarm { kind, serial }),
     }
 }
 
-/// Makes the answer to a frame that grants nothing.
-pub(super) fn ticked(sent: Option<Down>, alarm: Option<Alarm>) -> Answer
-    ensures { result ≡ record { reply = reply.Ticked; sent = sent; grant = None; alarm = alarm } }
+/// Makes what a frame gives that grants nothing.
+pub(super) fn ticked(sent: Option<Down>, alarm: Option<Alarm>) -> FrameAnswer
+    ensures { result ≡ record { sent = sent; grant = None; alarm = alarm } }
 {
-    Answer {
-        reply: Reply::Ticked,
+    FrameAnswer {
         sent,
         grant: None,
         alarm,

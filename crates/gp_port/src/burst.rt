@@ -10,8 +10,10 @@ ghost use Rattle.gp_machine.specs.Changes.{step_result_of};
 ghost use Rattle.gp_machine.specs.Responses.{MayPick, step_result_with};
 ghost use Rattle.gp_machine.specs.Burst.{burst_response, message_response};
 ghost use Rattle.gp_machine.specs.Step.{Step};
-ghost use Rattle.gp_port.specs.Numbers.{GrantsWish, PicksWished, number_in};
+ghost use Rattle.gp_port.specs.Answers.{burst_result_of, number_given};
+ghost use Rattle.gp_port.specs.Numbers.{GrantsWish, PicksWished};
 
+use super::answers::BurstAnswer;
 use super::port_machine::PortMachine;
 use gp_machine::{Answer, Refusal, one_outcome};
 use gp_ploam::{Up, decode_up};
@@ -34,7 +36,8 @@ impl PortMachine {
     {
         one_outcome();
         let heard = decode_up(bytes, self.config.mask).ok();
-        self.receive(purse, at, heard, wished)
+        let (gives, purse) = self.receive(purse, at, heard, wished);
+        (gives.whole(), purse)
     }
 
     /// Hears a burst that is read as this message, or whose check octet is wrong.
@@ -44,13 +47,13 @@ impl PortMachine {
         at: u32,
         heard: Option<Up>,
         wished: Option<u16>,
-    ) -> (Answer, u32)
+    ) -> (BurstAnswer, u32)
         requires sound { IsSound self.old }
         requires units { self.old.config.max_units ≤ onu_ids }
         requires purse { purse ≤ MAX_LICENCES }
-        ensures free { MayPick self.old (burst_response purse self.old at heard) (number_in result.0.reply) }
-        ensures wished { PicksWished self.old (burst_response purse self.old at heard) wished (number_in result.0.reply) }
-        ensures outcome { step_result_of result self.new ≡ step_result_with purse self.old None (burst_response purse self.old at heard) (number_in result.0.reply) }
+        ensures free { MayPick self.old (burst_response purse self.old at heard) (number_given result.0) }
+        ensures wished { PicksWished self.old (burst_response purse self.old at heard) wished (number_given result.0) }
+        ensures outcome { burst_result_of result self.new ≡ step_result_with purse self.old None (burst_response purse self.old at heard) (number_given result.0) }
     {
         let Some(window) = &self.window else {
             return self.refuse(purse, Refusal::Stray);
@@ -67,10 +70,10 @@ impl PortMachine {
     }
 
     /// Hears a message in the window of a ranging unit: octet 1 has to be its ONU-ID.
-    fn in_range(&mut self, purse: u32, at: u32, onu: u8, message: Up) -> (Answer, u32)
+    fn in_range(&mut self, purse: u32, at: u32, onu: u8, message: Up) -> (BurstAnswer, u32)
         requires sound { IsSound self.old }
-        ensures free { MayPick self.old (message_response purse self.old at (grant.Range onu) message) (number_in result.0.reply) }
-        ensures outcome { step_result_of result self.new ≡ step_result_with purse self.old None (message_response purse self.old at (grant.Range onu) message) (number_in result.0.reply) }
+        ensures free { MayPick self.old (message_response purse self.old at (grant.Range onu) message) (number_given result.0) }
+        ensures outcome { burst_result_of result self.new ≡ step_result_with purse self.old None (message_response purse self.old at (grant.Range onu) message) (number_given result.0) }
     {
         match self.unit_with(onu) {
             Some((serial, row)) => {
@@ -84,13 +87,13 @@ impl PortMachine {
     }
 
     /// Hears a message in the window of an operating unit: octet 1 has to be its ONU-ID.
-    fn in_poll(&mut self, purse: u32, at: u32, onu: u8, message: Up) -> (Answer, u32)
+    fn in_poll(&mut self, purse: u32, at: u32, onu: u8, message: Up) -> (BurstAnswer, u32)
         requires sound { IsSound self.old }
         requires purse { purse ≤ MAX_LICENCES }
         requires room { length self.old.owed + copies_each ≤ max_copies }
         requires asked { Operates self.old.rows onu }
-        ensures free { MayPick self.old (message_response purse self.old at (grant.Poll onu) message) (number_in result.0.reply) }
-        ensures outcome { step_result_of result self.new ≡ step_result_with purse self.old None (message_response purse self.old at (grant.Poll onu) message) (number_in result.0.reply) }
+        ensures free { MayPick self.old (message_response purse self.old at (grant.Poll onu) message) (number_given result.0) }
+        ensures outcome { burst_result_of result self.new ≡ step_result_with purse self.old None (message_response purse self.old at (grant.Poll onu) message) (number_given result.0) }
     {
         match self.unit_with(onu) {
             Some((serial, row)) => {

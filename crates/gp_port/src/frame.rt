@@ -9,19 +9,19 @@ ghost use Rattle.gp_ploam.specs.declared.message.Down.TheVariants as down;
 ghost use Rattle.gp_ploam.specs.Down.{IsProperDown};
 ghost use Rattle.gp_unit.specs.Rows.{alarm_polled, row_unranged, was_seen};
 ghost use Rattle.gp_unit.specs.Sound.{IsSoundRow};
-ghost use Rattle.gp_machine.specs.declared.reply.Reply.TheVariants as reply;
 ghost use Rattle.gp_machine.specs.State.{HasRow};
 ghost use Rattle.gp_machine.specs.Responses.{MayPick, step_result_with};
 ghost use Rattle.gp_machine.specs.Changes.{step_result_of};
 ghost use Rattle.gp_machine.specs.Frame as spec;
 ghost use Rattle.gp_machine.specs.Frame.{decided_response, frame_response, state_begun, window_response};
+ghost use Rattle.gp_port.specs.Answers.{frame_result_of};
 ghost use Rattle.gp_machine.specs.Closes.{poll_ended, suf_alarm, unpolled_response, unranged_response};
 
-use super::answers::ticked;
+use super::answers::{FrameAnswer, ticked};
 use super::port_machine::PortMachine;
 use gp_alarms::{Alarm, AlarmKind, Outcome};
 use gp_common::{Common, Decision, decide};
-use gp_machine::{Answer, Phase, Reply, Row};
+use gp_machine::{Answer, Phase, Row};
 use gp_ploam::{Down, Serial};
 use gp_ranging::Grant;
 
@@ -35,16 +35,17 @@ impl PortMachine {
     {
         let ranging = self.least_ranging();
         let next = self.next_poll();
-        self.frame_by(purse, ranging, next)
+        let (gives, purse) = self.frame_by(purse, ranging, next);
+        (gives.whole(), purse)
     }
 
     /// Makes a frame, where these are the least ranging unit and the one that is polled next.
-    fn frame_by(&mut self, purse: u32, ranging: Option<u8>, next: Option<u8>) -> (Answer, u32)
+    fn frame_by(&mut self, purse: u32, ranging: Option<u8>, next: Option<u8>) -> (FrameAnswer, u32)
         requires sound { IsSound self.old }
         requires purse { purse ≤ MAX_LICENCES }
         requires period { self.old.config.search_period ≤ max_search_period }
         ensures free { MayPick (state_begun self.old) (frame_response self.old ranging next) 0 }
-        ensures outcome { step_result_of result self.new ≡ step_result_with purse (state_begun self.old) (first_of self.old.owed) (frame_response self.old ranging next) 0 }
+        ensures outcome { frame_result_of result self.new ≡ step_result_with purse (state_begun self.old) (first_of self.old.owed) (frame_response self.old ranging next) 0 }
     {
         let quiet = self.owed.len_copies() == 0;
         let sent = self.begin_frame();
@@ -102,12 +103,12 @@ impl PortMachine {
         grant: Grant,
         seen: bool,
         left: u8,
-    ) -> (Answer, u32)
+    ) -> (FrameAnswer, u32)
         requires sound { IsSound self.old }
         requires purse { purse ≤ MAX_LICENCES }
         requires window { self.old.window ≡ Some (record { grant = grant; left = left; seen = seen }) }
         ensures free { MayPick self.old (window_response self.old (record { grant = grant; left = left; seen = seen })) 0 }
-        ensures outcome { step_result_of result self.new ≡ step_result_with purse self.old sent (window_response self.old (record { grant = grant; left = left; seen = seen })) 0 }
+        ensures outcome { frame_result_of result self.new ≡ step_result_with purse self.old sent (window_response self.old (record { grant = grant; left = left; seen = seen })) 0 }
     {
         if left > 1 {
             self.count_down();
@@ -142,10 +143,10 @@ impl PortMachine {
         sent: Option<Down>,
         common: Common,
         decision: Decision,
-    ) -> (Answer, u32)
+    ) -> (FrameAnswer, u32)
         requires idle { length self.old.owed + copies_each ≤ max_copies }
         ensures free { MayPick self.old (decided_response self.old (common, decision)) 0 }
-        ensures outcome { step_result_of result self.new ≡ step_result_with purse self.old sent (decided_response self.old (common, decision)) 0 }
+        ensures outcome { frame_result_of result self.new ≡ step_result_with purse self.old sent (decided_response self.old (common, decision)) 0 }
     {
         self.enter(common);
         match decision {
@@ -158,13 +159,12 @@ impl PortMachine {
             }
             Decision::Ask(grant) => {
                 self.open_window(grant);
-                let answer = Answer {
-                    reply: Reply::Ticked,
+                let gives = FrameAnswer {
                     sent,
                     grant: Some(grant),
                     alarm: None,
                 };
-                (answer, purse)
+                (gives, purse)
             }
         }
     }
@@ -177,13 +177,13 @@ impl PortMachine {
         serial: Serial,
         row: Row,
         heard: bool,
-    ) -> (Answer, u32)
+    ) -> (FrameAnswer, u32)
         requires fits { IsSoundRow self.old.config.alloc_last row }
         requires purse { purse ≤ MAX_LICENCES }
         requires has { HasRow self.old.rows serial row }
         requires room { length self.old.owed + copies_each ≤ max_copies }
         ensures free { MayPick self.old (unranged_response serial row heard (row_unranged row heard row.phase)) 0 }
-        ensures outcome { step_result_of result self.new ≡ step_result_with purse self.old sent (unranged_response serial row heard (row_unranged row heard row.phase)) 0 }
+        ensures outcome { frame_result_of result self.new ≡ step_result_with purse self.old sent (unranged_response serial row heard (row_unranged row heard row.phase)) 0 }
     {
         let onu = row.onu;
         self.close_window();
@@ -209,13 +209,13 @@ impl PortMachine {
         serial: Serial,
         row: Row,
         heard: bool,
-    ) -> (Answer, u32)
+    ) -> (FrameAnswer, u32)
         requires fits { IsSoundRow self.old.config.alloc_last row }
         requires purse { purse ≤ MAX_LICENCES }
         requires has { HasRow self.old.rows serial row }
         requires room { length self.old.owed + copies_each ≤ max_copies }
         ensures free { MayPick self.old (unpolled_response serial row (poll_ended heard) (alarm_polled row (poll_ended heard))) 0 }
-        ensures outcome { step_result_of result self.new ≡ step_result_with purse self.old sent (unpolled_response serial row (poll_ended heard) (alarm_polled row (poll_ended heard))) 0 }
+        ensures outcome { frame_result_of result self.new ≡ step_result_with purse self.old sent (unpolled_response serial row (poll_ended heard) (alarm_polled row (poll_ended heard))) 0 }
     {
         let onu = row.onu;
         let (still, alarm) = row.polled(ended(heard));

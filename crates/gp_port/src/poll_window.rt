@@ -5,15 +5,14 @@ ghost use Rattle.gp_alarms.specs.declared.poll.Outcome.TheVariants as poll;
 ghost use Rattle.gp_unit.specs.Rows.{alarm_polled, is_ranging};
 ghost use Rattle.gp_machine.specs.State.{HasRow};
 ghost use Rattle.gp_machine.specs.Sound.{IsSound};
-ghost use Rattle.gp_machine.specs.Changes.{step_result_of};
 ghost use Rattle.gp_machine.specs.Responses.{MayPick, step_result_with};
 ghost use Rattle.gp_machine.specs.PollWindow.{acknowledged_response, alive_response, operating_response};
-ghost use Rattle.gp_port.specs.Numbers.{number_in};
+ghost use Rattle.gp_port.specs.Answers.{burst_result_of, number_given};
 
-use super::answers::raises;
+use super::answers::{BurstAnswer, BurstReply, raises, replies};
 use super::port_machine::PortMachine;
 use gp_alarms::{AlarmKind, Outcome};
-use gp_machine::{Answer, Reply, Row};
+use gp_machine::Row;
 use gp_ploam::{ASSIGN_ALLOC_ID, Down, Serial, Up};
 
 impl PortMachine {
@@ -24,14 +23,14 @@ impl PortMachine {
         serial: Serial,
         row: Row,
         message: Up,
-    ) -> (Answer, u32)
+    ) -> (BurstAnswer, u32)
         requires sound { IsSound self.old }
         requires purse { purse ≤ MAX_LICENCES }
         requires has { HasRow self.old.rows serial row }
         requires room { length self.old.owed + copies_each ≤ max_copies }
         requires operating { is_ranging row.phase ≡ false }
-        ensures free { MayPick self.old (operating_response serial row message) (number_in result.0.reply) }
-        ensures outcome { step_result_of result self.new ≡ step_result_with purse self.old None (operating_response serial row message) (number_in result.0.reply) }
+        ensures free { MayPick self.old (operating_response serial row message) (number_given result.0) }
+        ensures outcome { burst_result_of result self.new ≡ step_result_with purse self.old None (operating_response serial row message) (number_given result.0) }
     {
         match message {
             Up::Acknowledge { id, .. } if id == ASSIGN_ALLOC_ID => {
@@ -42,38 +41,38 @@ impl PortMachine {
                 let (still, _) = row.polled(Outcome::Gasped);
                 self.close_window();
                 self.set_row(serial, still);
-                (raises(Reply::Gasp(onu), AlarmKind::Dg, serial), purse)
+                (raises(BurstReply::Gasp(onu), AlarmKind::Dg, serial), purse)
             }
             _ => self.alive(purse, serial, row),
         }
     }
 
     /// Hears an Acknowledge of an Assign_Alloc-ID; with nothing pending it is a message like any other.
-    fn acknowledged(&mut self, purse: u32, serial: Serial, row: Row) -> (Answer, u32)
+    fn acknowledged(&mut self, purse: u32, serial: Serial, row: Row) -> (BurstAnswer, u32)
         requires sound { IsSound self.old }
         requires purse { purse ≤ MAX_LICENCES }
         requires has { HasRow self.old.rows serial row }
         requires room { length self.old.owed + copies_each ≤ max_copies }
         requires operating { is_ranging row.phase ≡ false }
-        ensures free { MayPick self.old (acknowledged_response serial row row.pending) (number_in result.0.reply) }
-        ensures outcome { step_result_of result self.new ≡ step_result_with purse self.old None (acknowledged_response serial row row.pending) (number_in result.0.reply) }
+        ensures free { MayPick self.old (acknowledged_response serial row row.pending) (number_given result.0) }
+        ensures outcome { burst_result_of result self.new ≡ step_result_with purse self.old None (acknowledged_response serial row row.pending) (number_given result.0) }
     {
         let Some(alloc) = row.pending else {
             return self.alive(purse, serial, row);
         };
         self.close_window();
         self.acknowledge(serial, row, alloc);
-        (Answer::from(Reply::Acked(alloc)), purse)
+        (replies(BurstReply::Acked(alloc)), purse)
     }
 
     /// Hears any other message of the operating unit that is asked; with an alarm the unit is removed.
-    fn alive(&mut self, purse: u32, serial: Serial, row: Row) -> (Answer, u32)
+    fn alive(&mut self, purse: u32, serial: Serial, row: Row) -> (BurstAnswer, u32)
         requires sound { IsSound self.old }
         requires purse { purse ≤ MAX_LICENCES }
         requires has { HasRow self.old.rows serial row }
         requires room { length self.old.owed + copies_each ≤ max_copies }
-        ensures free { MayPick self.old (alive_response serial row (alarm_polled row poll.Good)) (number_in result.0.reply) }
-        ensures outcome { step_result_of result self.new ≡ step_result_with purse self.old None (alive_response serial row (alarm_polled row poll.Good)) (number_in result.0.reply) }
+        ensures free { MayPick self.old (alive_response serial row (alarm_polled row poll.Good)) (number_given result.0) }
+        ensures outcome { burst_result_of result self.new ≡ step_result_with purse self.old None (alive_response serial row (alarm_polled row poll.Good)) (number_given result.0) }
     {
         let onu = row.onu;
         let (still, alarm) = row.polled(Outcome::Good);
@@ -81,12 +80,12 @@ impl PortMachine {
         match alarm {
             None => {
                 self.set_row(serial, still);
-                (Answer::from(Reply::Alive(onu)), purse)
+                (replies(BurstReply::Alive(onu)), purse)
             }
             Some(kind) => {
                 self.remove_unit(&serial, onu);
                 self.owe(Down::Deactivate { onu });
-                (raises(Reply::Alive(onu), kind, serial), purse + 1)
+                (raises(BurstReply::Alive(onu), kind, serial), purse + 1)
             }
         }
     }

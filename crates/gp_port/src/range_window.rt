@@ -1,16 +1,15 @@
 ghost use Rattle.std.specs.Prelude.{◌≡◌, None};
 ghost use Rattle.gp_machine.specs.State.{HasRow};
 ghost use Rattle.gp_machine.specs.Sound.{IsSound};
-ghost use Rattle.gp_machine.specs.Changes.{step_result_of};
 ghost use Rattle.gp_machine.specs.Responses.{MayPick, step_result_with};
 ghost use Rattle.gp_machine.specs.RangeWindow.{measured_response, ranging_response};
 ghost use Rattle.gp_ranging.specs.Delay.{equalization_delay};
-ghost use Rattle.gp_port.specs.Numbers.{number_in};
+ghost use Rattle.gp_port.specs.Answers.{burst_result_of, number_given};
 
-use super::answers::raises;
+use super::answers::{BurstAnswer, BurstReply, raises, replies};
 use super::port_machine::PortMachine;
 use gp_alarms::AlarmKind;
-use gp_machine::{Answer, Refusal, Reply, Row};
+use gp_machine::{Refusal, Row};
 use gp_ploam::{Down, Serial, Up};
 use gp_ranging::equalize;
 
@@ -23,11 +22,11 @@ impl PortMachine {
         serial: Serial,
         row: Row,
         message: Up,
-    ) -> (Answer, u32)
+    ) -> (BurstAnswer, u32)
         requires sound { IsSound self.old }
         requires has { HasRow self.old.rows serial row }
-        ensures free { MayPick self.old (ranging_response self.old at serial row message) (number_in result.0.reply) }
-        ensures outcome { step_result_of result self.new ≡ step_result_with purse self.old None (ranging_response self.old at serial row message) (number_in result.0.reply) }
+        ensures free { MayPick self.old (ranging_response self.old at serial row message) (number_given result.0) }
+        ensures outcome { burst_result_of result self.new ≡ step_result_with purse self.old None (ranging_response self.old at serial row message) (number_given result.0) }
     {
         let onu = row.onu;
         match message {
@@ -39,26 +38,26 @@ impl PortMachine {
             }
             Up::DyingGasp { .. } => {
                 self.mark_seen();
-                (raises(Reply::Gasp(onu), AlarmKind::Dg, serial), purse)
+                (raises(BurstReply::Gasp(onu), AlarmKind::Dg, serial), purse)
             }
             _ => {
                 self.mark_seen();
-                (Answer::from(Reply::StillRanging(onu)), purse)
+                (replies(BurstReply::StillRanging(onu)), purse)
             }
         }
     }
 
     /// Hears the serial number of the unit that is asked.
-    fn measured(&mut self, purse: u32, at: u32, serial: Serial, row: Row) -> (Answer, u32)
+    fn measured(&mut self, purse: u32, at: u32, serial: Serial, row: Row) -> (BurstAnswer, u32)
         requires sound { IsSound self.old }
         requires has { HasRow self.old.rows serial row }
-        ensures free { MayPick self.old (measured_response self.old serial row (equalization_delay self.old.config.teqd at)) (number_in result.0.reply) }
-        ensures outcome { step_result_of result self.new ≡ step_result_with purse self.old None (measured_response self.old serial row (equalization_delay self.old.config.teqd at)) (number_in result.0.reply) }
+        ensures free { MayPick self.old (measured_response self.old serial row (equalization_delay self.old.config.teqd at)) (number_given result.0) }
+        ensures outcome { burst_result_of result self.new ≡ step_result_with purse self.old None (measured_response self.old serial row (equalization_delay self.old.config.teqd at)) (number_given result.0) }
     {
         let onu = row.onu;
         let Some(eqd) = equalize(self.config.teqd, at) else {
             self.mark_seen();
-            return (Answer::from(Reply::TooFar(onu)), purse);
+            return (replies(BurstReply::TooFar(onu)), purse);
         };
         if !self.has_room() {
             return self.refuse(purse, Refusal::Busy);
@@ -66,6 +65,6 @@ impl PortMachine {
         self.close_window();
         self.set_row(serial, row.measured(eqd));
         self.owe(Down::RangingTime { onu, eqd });
-        (Answer::from(Reply::Ranged { onu, eqd }), purse)
+        (replies(BurstReply::Ranged { onu, eqd }), purse)
     }
 }

@@ -7,36 +7,41 @@ ghost use Rattle.gp_ploam.specs.Serials.{is_among};
 ghost use Rattle.gp_unit.specs.declared.row.Row.{Row};
 ghost use Rattle.gp_machine.specs.State.{HasRow};
 ghost use Rattle.gp_machine.specs.Sound.{IsSound};
-ghost use Rattle.gp_machine.specs.Changes.{step_result_of};
 ghost use Rattle.gp_machine.specs.Responses.{MayPick, step_result_with};
 ghost use Rattle.gp_machine.specs.SearchWindow.{active_response, admitted_response, again_response, enabled_response, newcomer_response, refuses_burst, search_response};
-ghost use Rattle.gp_port.specs.Numbers.{PicksWished, number_in};
+ghost use Rattle.gp_port.specs.Numbers.{PicksWished};
+ghost use Rattle.gp_port.specs.Answers.{burst_result_of, number_given};
 
-use super::answers::raises;
+use super::answers::{BurstAnswer, BurstReply, raises, replies};
 use super::port_machine::PortMachine;
 use gp_alarms::AlarmKind;
-use gp_machine::{Answer, Phase, Refusal, Reply, Row};
+use gp_machine::{Phase, Refusal, Row};
 use gp_ploam::{BROADCAST_ONU, Down, Serial, Up};
 use gp_table::Entry;
 
 impl PortMachine {
     /// Refuses a burst: the window has seen it, and nothing else changes.
-    pub(super) fn refuse(&mut self, purse: u32, refusal: Refusal) -> (Answer, u32)
-        ensures free { MayPick self.old (refuses_burst refusal) (number_in result.0.reply) }
-        ensures outcome { step_result_of result self.new ≡ step_result_with purse self.old None (refuses_burst refusal) (number_in result.0.reply) }
+    pub(super) fn refuse(&mut self, purse: u32, refusal: Refusal) -> (BurstAnswer, u32)
+        ensures free { MayPick self.old (refuses_burst refusal) (number_given result.0) }
+        ensures outcome { burst_result_of result self.new ≡ step_result_with purse self.old None (refuses_burst refusal) (number_given result.0) }
     {
         self.mark_seen();
-        (Answer::from(Reply::Refused(refusal)), purse)
+        (replies(BurstReply::Refused(refusal)), purse)
     }
 
     /// Hears a message in a search window. A new unit gets the wished ONU-ID, where that is free.
-    pub(super) fn search(&mut self, purse: u32, message: Up, wished: Option<u16>) -> (Answer, u32)
+    pub(super) fn search(
+        &mut self,
+        purse: u32,
+        message: Up,
+        wished: Option<u16>,
+    ) -> (BurstAnswer, u32)
         requires sound { IsSound self.old }
         requires units { self.old.config.max_units ≤ onu_ids }
         requires purse { purse ≤ MAX_LICENCES }
-        ensures free { MayPick self.old (search_response purse self.old message) (number_in result.0.reply) }
-        ensures wished { PicksWished self.old (search_response purse self.old message) wished (number_in result.0.reply) }
-        ensures outcome { step_result_of result self.new ≡ step_result_with purse self.old None (search_response purse self.old message) (number_in result.0.reply) }
+        ensures free { MayPick self.old (search_response purse self.old message) (number_given result.0) }
+        ensures wished { PicksWished self.old (search_response purse self.old message) wished (number_given result.0) }
+        ensures outcome { burst_result_of result self.new ≡ step_result_with purse self.old None (search_response purse self.old message) (number_given result.0) }
     {
         let Up::SerialNumber { onu, serial, .. } = message else {
             return self.refuse(purse, Refusal::WrongWindow);
@@ -57,19 +62,22 @@ impl PortMachine {
         serial: Serial,
         known: Entry,
         wished: Option<u16>,
-    ) -> (Answer, u32)
+    ) -> (BurstAnswer, u32)
         requires sound { IsSound self.old }
         requires units { self.old.config.max_units ≤ onu_ids }
         requires purse { purse ≤ MAX_LICENCES }
         requires admitted { is_among serial self.old.config.admitted ≡ true }
         requires disabled { known.disabled ≡ set.contains self.old.disabled serial }
         requires row { known.row ≡ map.get self.old.rows serial }
-        ensures free { MayPick self.old (admitted_response purse self.old serial) (number_in result.0.reply) }
-        ensures wished { PicksWished self.old (admitted_response purse self.old serial) wished (number_in result.0.reply) }
-        ensures outcome { step_result_of result self.new ≡ step_result_with purse self.old None (admitted_response purse self.old serial) (number_in result.0.reply) }
+        ensures free { MayPick self.old (admitted_response purse self.old serial) (number_given result.0) }
+        ensures wished { PicksWished self.old (admitted_response purse self.old serial) wished (number_given result.0) }
+        ensures outcome { burst_result_of result self.new ≡ step_result_with purse self.old None (admitted_response purse self.old serial) (number_given result.0) }
     {
         if known.disabled {
-            return (raises(Reply::DisabledSeen, AlarmKind::Df, serial), purse);
+            return (
+                raises(BurstReply::DisabledSeen, AlarmKind::Df, serial),
+                purse,
+            );
         }
         match known.row {
             Some(row) => self.active(purse, serial, row),
@@ -78,14 +86,14 @@ impl PortMachine {
     }
 
     /// Hears an admitted unit that is not active.
-    fn newcomer(&mut self, purse: u32, serial: Serial, wished: Option<u16>) -> (Answer, u32)
+    fn newcomer(&mut self, purse: u32, serial: Serial, wished: Option<u16>) -> (BurstAnswer, u32)
         requires sound { IsSound self.old }
         requires units { self.old.config.max_units ≤ onu_ids }
         requires admitted { is_among serial self.old.config.admitted ≡ true }
         requires unknown { map.get self.old.rows serial ≡ None }
-        ensures free { MayPick self.old (newcomer_response purse self.old serial) (number_in result.0.reply) }
-        ensures wished { PicksWished self.old (newcomer_response purse self.old serial) wished (number_in result.0.reply) }
-        ensures outcome { step_result_of result self.new ≡ step_result_with purse self.old None (newcomer_response purse self.old serial) (number_in result.0.reply) }
+        ensures free { MayPick self.old (newcomer_response purse self.old serial) (number_given result.0) }
+        ensures wished { PicksWished self.old (newcomer_response purse self.old serial) wished (number_given result.0) }
+        ensures outcome { burst_result_of result self.new ≡ step_result_with purse self.old None (newcomer_response purse self.old serial) (number_given result.0) }
     {
         let Some(onu) = self.free_onu(wished) else {
             return self.refuse(purse, Refusal::NoId);
@@ -98,16 +106,16 @@ impl PortMachine {
         }
         self.add_unit(serial, onu);
         self.owe(Down::AssignOnu { onu, serial });
-        (Answer::from(Reply::Found(onu)), purse - 1)
+        (replies(BurstReply::Found(onu)), purse - 1)
     }
 
     /// Hears a unit that is active already: an operating one is removed.
-    fn active(&mut self, purse: u32, serial: Serial, row: Row) -> (Answer, u32)
+    fn active(&mut self, purse: u32, serial: Serial, row: Row) -> (BurstAnswer, u32)
         requires sound { IsSound self.old }
         requires purse { purse ≤ MAX_LICENCES }
         requires has { HasRow self.old.rows serial row }
-        ensures free { MayPick self.old (active_response self.old serial row.onu row.phase) (number_in result.0.reply) }
-        ensures outcome { step_result_of result self.new ≡ step_result_with purse self.old None (active_response self.old serial row.onu row.phase) (number_in result.0.reply) }
+        ensures free { MayPick self.old (active_response self.old serial row.onu row.phase) (number_given result.0) }
+        ensures outcome { burst_result_of result self.new ≡ step_result_with purse self.old None (active_response self.old serial row.onu row.phase) (number_given result.0) }
     {
         let onu = row.onu;
         match row.phase {
@@ -118,27 +126,27 @@ impl PortMachine {
                 }
                 self.remove_unit(&serial, onu);
                 self.owe(Down::Deactivate { onu });
-                (Answer::from(Reply::Restarted(onu)), purse + 1)
+                (replies(BurstReply::Restarted(onu)), purse + 1)
             }
         }
     }
 
     /// Begins anew with a ranging unit and its own ONU-ID, which it is told again, but where it is still to be told it.
-    fn again(&mut self, purse: u32, serial: Serial, row: Row) -> (Answer, u32)
+    fn again(&mut self, purse: u32, serial: Serial, row: Row) -> (BurstAnswer, u32)
         requires sound { IsSound self.old }
         requires has { HasRow self.old.rows serial row }
-        ensures free { MayPick self.old (again_response self.old serial row.onu) (number_in result.0.reply) }
-        ensures outcome { step_result_of result self.new ≡ step_result_with purse self.old None (again_response self.old serial row.onu) (number_in result.0.reply) }
+        ensures free { MayPick self.old (again_response self.old serial row.onu) (number_given result.0) }
+        ensures outcome { burst_result_of result self.new ≡ step_result_with purse self.old None (again_response self.old serial row.onu) (number_given result.0) }
     {
         let onu = row.onu;
         if self.owes_assign(onu, serial) {
-            return (Answer::from(Reply::Repeat(onu)), purse);
+            return (replies(BurstReply::Repeat(onu)), purse);
         }
         if !self.has_room() {
             return self.refuse(purse, Refusal::Busy);
         }
         self.restart_unit(serial, row);
         self.owe(Down::AssignOnu { onu, serial });
-        (Answer::from(Reply::Again(onu)), purse)
+        (replies(BurstReply::Again(onu)), purse)
     }
 }

@@ -1,6 +1,6 @@
 use Rattle.std.proofs.Common.{sym}
 use Rattle.gp_ranging.specs.declared.grant.Grant.TheVariants.{Range, Poll}
-use Rattle.gp_port.specs.Numbers.{number_in}
+use Rattle.gp_port.specs.Answers.{number_given}
 use Rattle.gp_port.proofs.Wishes.{heard_wish, poll_gives, range_gives}
 use Rattle.gp_port.proofs.port_machine.PortMachine.receive.Goals as goal
 
@@ -8,12 +8,12 @@ pub returns-in-Range-clause-wished : goal.returns-in-Range-clause-wished
 returns-in-Range-clause-wished c =
     let m = c.in-Some-heard.message in
     let n = c.in-Range.onu in
-    heard_wish c.args.purse c.args.self.now c.args.at c.args.heard c.in-Some.window (Range n) m c.args.wished (number_in c.in_range.result.0.reply) (rw (← c.self.view_is) c.in-Some.is) c.in-Some-heard.is (sym c.in-Range.ensures)
+    heard_wish c.args.purse c.args.self.now c.args.at c.args.heard c.in-Some.window (Range n) m c.args.wished (number_given c.in_range.result.0) (rw (← c.self.view_is) c.in-Some.is) c.in-Some-heard.is (sym c.in-Range.ensures)
     (range_gives c.args.purse c.args.self.now c.args.at n m)
 
 pub returns-in-Poll-clause-wished : goal.returns-in-Poll-clause-wished
 returns-in-Poll-clause-wished c =
     let m = c.in-Some-heard.message in
     let n = c.in-Poll.onu in
-    heard_wish c.args.purse c.args.self.now c.args.at c.args.heard c.in-Some.window (Poll n) m c.args.wished (number_in c.in_poll.result.0.reply) (rw (← c.self.view_is) c.in-Some.is) c.in-Some-heard.is (sym c.in-Poll.ensures)
+    heard_wish c.args.purse c.args.self.now c.args.at c.args.heard c.in-Some.window (Poll n) m c.args.wished (number_given c.in_poll.result.0) (rw (← c.self.view_is) c.in-Some.is) c.in-Some-heard.is (sym c.in-Poll.ensures)
     (poll_gives c.args.purse c.args.self.now c.args.at n m)
