@@ -2,6 +2,7 @@ pub mod Steps
 pub mod Frames
 pub mod Telling
 pub mod Losing
+pub mod Asking
 pub mod StoredUnits
 pub mod OnWheel
 pub mod Parts

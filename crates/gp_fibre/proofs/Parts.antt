@@ -1,14 +1,19 @@
 -- The parts of a frame of a run, one input after the other.
-use Rattle.std.proofs.Common.{◌≡◌, ℕ, ◌+◌, ◌-◌, ◌/◌, ◌<◌, ◌≤◌, get_or, Bool, true, false, cond, List, [], ◌∷◌, ◌++◌, length, take, drop, Option, None, Some, refl, sym, ap, subst, ◌∙◌, arith, append_assoc, Vec, Global, vec_len, vec_capacity}
-use Rattle.std.specs.Prelude.{◌&&◌, All, not, map, slice_get}
+use Rattle.std.proofs.Common.{◌≡◌, ℕ, zero, suc, ◌+◌, ◌-◌, ◌/◌, ◌<◌, ◌≤◌, get_or, Bool, true, false, cond, List, [], ◌∷◌, ◌++◌, length, take, drop, Option, None, Some, refl, sym, ap, subst, ◌∙◌, arith, append_assoc, Vec, Global, vec_len, vec_capacity}
+use Rattle.std.specs.Prelude.{◌&&◌, All, not, map, slice_get, slice_set}
 use Rattle.std.proofs.lemmas.Option.{slice_get_within, get_or_from_slice_get}
 use Rattle.std.proofs.lemmas.List.Elements.{All-nil, All-cons, All-append, All-same, filter-append}
 use Rattle.std.specs.List.{filter}
-use Rattle.std.specs.Option.{option_to_list}
-use Rattle.std.proofs.lemmas.List.{append-nil, length-set, length-append, take_at, take_all, take-take, take_more, length-drop, length-take-le, get_or-drop, map-append}
+use Rattle.std.specs.Option.{option_map, option_to_list}
+use Rattle.std.proofs.lemmas.List.{append-nil, length-set, set-get_or, length-append, take_at, take_all, take-take, take_more, length-drop, length-take-le, get_or-drop, map-append}
 use Rattle.std.proofs.lemmas.List.FromFn.{map-range_with_len_more}
 use Rattle.gp_ploam.specs.declared.message.Down.{Down}
+use Rattle.gp_ploam.specs.declared.message.Up.{Up}
+use Rattle.gp_ploam.specs.Mask.{mask_value}
+use Rattle.gp_ploam.specs.Up.{code_of_up}
 use Rattle.gp_ranging.specs.declared.grant.Grant.{Grant}
+use Rattle.gp_onu.specs.Noticing.{is_asked}
+use Rattle.gp_onu.specs.Table.{UnitState}
 use Rattle.gp_machine.specs.declared.entry.Entry.{Entry}
 use Rattle.gp_machine.specs.declared.event.Event.TheVariants as event
 use Rattle.gp_onu.specs.declared.limits.TheConstants.{FRAME_BIT_TIMES}
@@ -16,11 +21,14 @@ use Rattle.gp_fibre.specs.declared.flight.Flight.{Flight}
 use Rattle.gp_fibre.specs.declared.sent_burst.SentBurst.{SentBurst}
 use Rattle.gp_fibre.specs.declared.world_step.WorldStep.TheVariants as steps
 use Rattle.gp_fibre.specs.World.{FibreUnit, FibreWorld}
-use Rattle.gp_fibre.specs.Step.{FibreInput, Whole, FibreStep, PortTakes, UnitChanges, UnitAnswers, unit_hearing, burst_answered}
+use Rattle.gp_fibre.specs.Step.{FibreInput, Whole, FibreStep, PortTakes, UnitChanges, UnitAnswers, burst_answered, burst_with, unit_granted, unit_hearing}
 use Rattle.gp_fibre.specs.Run.{FibreRun}
 use Rattle.gp_fibre.specs.Fibre.{FibreStand}
-use Rattle.gp_fibre.specs.Parts.{PortPuts, UnitsTake}
+use Rattle.gp_fibre.specs.Flights.{AreInReach, FlightsState}
+use Rattle.gp_fibre.specs.Parts.{Comes, PortPuts, UnitsTake}
+use Rattle.gp_fibre.specs.UnitStore.{is_asked_at}
 use Rattle.gp_fibre.specs.Schedule.{IsProperEntry, arrivals, deliveries, flights_of, grants_given, is_due, is_lost}
+use Rattle.gp_fibre.proofs.Asking.{IsLeft, unasked}
 use Rattle.gp_fibre.proofs.Steps.{one_step, runs_in_parts}
 
 pub run_more : (a b c : FibreWorld) (is : List FibreInput) (es : List Entry) (i : FibreInput) (g : Option Entry) → FibreRun a is es b → FibreStep b i g c
@@ -111,6 +119,58 @@ granted_more a b c grant place issued there so_far answers =
     subst (λ (is : List FibreInput). UnitsTake a is c) (sym (map-range_with_len_more (λ unit. Whole (steps.Give grant unit)) 0 place place (omega arith)))
     (takes_both a b c (grants_given grant place) (Whole (steps.Give grant place) ∷ []) so_far
     (granted_one b c grant place issued (ap (λ (gs : List Grant). slice_get gs grant) so_far.grants ∙ there) answers))
+
+-- ---- units that a grant does not ask
+
+found_unit : (units : List FibreUnit) (asked : Grant) (place : ℕ) → place < length units
+    → (u : FibreUnit) × (slice_get units place ≡ Some u) × (is_asked_at units asked place ≡ is_asked asked u.state)
+found_unit [] asked place low = absurd (omega arith)
+found_unit (x ∷ xs) asked zero low = (x, refl, refl)
+found_unit (x ∷ xs) asked (suc place) low = found_unit xs asked place (omega arith)
+
+-- it is the same after the grant
+left_alone : (w : FibreWorld) (place : ℕ) (asked : Grant) → place < length w.units → is_asked_at w.units asked place ≡ false → UnitAnswers w place asked w
+left_alone w place asked low isnt =
+    let found = found_unit w.units asked place low in
+    let u : FibreUnit = found.0 in
+    let left : IsLeft u.state asked u.random = unasked u.state.serial u.state.mask u.state.lit u.state.stage asked u.random (sym found.2 ∙ isnt) in
+    let same : unit_granted asked u ≡ u = ap (λ (s : UnitState). let v : FibreUnit = record u { state = s } in v) left.0 in
+    let silent : burst_answered asked u ≡ None =
+    ap (λ (o : Option Up). option_map (λ octets. burst_with u.delay octets) (option_map (λ m. code_of_up m (mask_value u.state.mask)) o)) left.1 in
+    let again : slice_set w.units place u ≡ w.units =
+    ap (λ (v : FibreUnit). slice_set w.units place v) (sym (get_or_from_slice_get w.units place u u found.1)) ∙ set-get_or w.units place u in
+    record {
+      units = record { unit = u; there = found.1; after = sym (ap (λ (v : FibreUnit). slice_set w.units place v) same ∙ again) };
+      answer = sym (append-nil w.bursts) ∙ ap (λ (o : Option SentBurst). w.bursts ++ option_to_list o) (sym silent);
+      rest = refl;
+    }
+
+module _ (a b : FibreWorld) (grant first : ℕ) (issued : Grant) (there : slice_get a.grants grant ≡ Some issued) (so_far : UnitsTake a (grants_given grant first) b) where
+  passed : (count : ℕ) → first + count ≤ length b.units → ((place : ℕ) → first ≤ place → place < first + count → is_asked_at b.units issued place ≡ false)
+      → UnitsTake a (grants_given grant (first + count)) b
+  passed zero few none = let same : first ≡ first + 0 = omega arith in subst (λ (n : ℕ). UnitsTake a (grants_given grant n) b) same so_far
+  passed (suc count) few none =
+      let next : (first + count) + 1 ≡ first + suc count = omega arith in
+      let isnt : is_asked_at b.units issued (first + count) ≡ false = none (first + count) (omega arith) (omega arith) in
+      let before = passed count (omega arith) (λ place from low. none place from (omega arith)) in
+      subst (λ (n : ℕ). UnitsTake a (grants_given grant n) b) next (granted_more a b b grant (first + count) issued there before (left_alone b (first + count) issued (omega arith) isnt))
+
+  -- the units up to this one are passed over
+  pub passed_over : (last : ℕ) → first ≤ last → last ≤ length b.units → ((place : ℕ) → first ≤ place → place < last → is_asked_at b.units issued place ≡ false)
+      → UnitsTake a (grants_given grant last) b
+  passed_over last from few none =
+      let same : first + (last - first) ≡ last = omega arith in
+      subst (λ (n : ℕ). UnitsTake a (grants_given grant n) b) same (passed (last - first) (omega arith) (λ place low high. none place low (omega arith)))
+
+-- what the loop over the units that a grant asks keeps
+pub record AskedSoFar (frame grant : ℕ) (old new : FibreStand) (before after : FlightsState) (first : ℕ) : Type 0 where
+  pub takes : UnitsTake old.world (grants_given grant first) new.world
+  pub rest : new ≡ record old { world = new.world; bursts_room = new.bursts_room }
+  pub room : old.bursts_room ≤ new.bursts_room + first
+  pub comes : Comes frame old.world before.flights new.world after.flights
+  pub reach : AreInReach frame after.flights
+  pub flights_room : before.room ≤ after.room + first
+  pub within : first ≤ length old.world.units
 
 -- ---- bursts that will come
 

@@ -1,6 +1,6 @@
 -- The units that stored units stand for, and their timers.
 use Rattle.std.proofs.Common.{◌≡◌, ℕ, zero, suc, ◌+◌, ◌-◌, ◌<◌, ◌≤◌, Bool, true, false, cond, List, [], ◌∷◌, ◌++◌, length, Option, None, Some, refl, sym, ap, subst, ◌∙◌, arith, eqb, eqb-true, leb, inl, inr, get_or, take, vec_len, vec_capacity, Vec, Global}
-use Rattle.std.specs.Prelude.{All, map, slice_get, slice_set, slice_index_or}
+use Rattle.std.specs.Prelude.{All, IfSome, map, slice_get, slice_set, slice_index_or}
 use Rattle.std.specs.List.{sum_by}
 use Rattle.std.specs.Option.{ForSome, option_map}
 use Rattle.std.specs.Cmp.{nat_cmp_total, unsigned_tied}
@@ -32,7 +32,13 @@ use Rattle.gp_fibre.specs.declared.unit_plan.UnitPlan.{UnitPlan}
 use Rattle.gp_fibre.specs.declared.world.TheConstants.{MAX_FRAMES}
 use Rattle.gp_fibre.specs.World.{FibreUnit, planned_unit}
 use Rattle.gp_fibre.specs.Step.{ChangesAt, burst_with, unit_granted, unit_hearing, unit_taking}
-use Rattle.gp_fibre.specs.UnitStore.{Answers, UnitStoreState, unit_at, units_at, due_of, due_at, with_timer, IsStoredUnit, IsUnitStore}
+use Rattle.gp_fibre.specs.declared.asked_by.AskedBy.{AskedBy}
+use Rattle.gp_fibre.specs.declared.asked_by.AskedBy.TheVariants.{Nothing}
+use Rattle.gp_fibre.specs.AskedUnits.{AskedPlaces, AsksNobody, asked_by_of, asks, is_in_set, places_asked}
+use Rattle.gp_fibre.specs.UnitStore.{Answers, UnitStoreState, unit_at, units_at, due_of, due_at, asked_by_at, is_asked_at, with_timer, AreIndexed, IsNextAsked, IsStoredUnit, IsUnitStore}
+use Rattle.gp_numbers.specs.Least.{IsLeastFrom}
+use Rattle.gp_onu.specs.Noticing.{is_asked}
+use Rattle.gp_fibre.proofs.Asking.{asked_later}
 
 -- ---- timers
 
@@ -64,20 +70,91 @@ due_set (x ∷ xs) zero (suc n) y low = ap (λ b. cond b (due_of y) (due_at xs n
 due_set (x ∷ xs) (suc p) zero y low = ap (λ b. cond b (due_of y) (due_of x)) (sym (ne_eqb zero (suc p) (λ e. omega arith)))
 due_set (x ∷ xs) (suc p) (suc n) y low = due_set xs p n y (omega arith) ∙ ap (λ b. cond b (due_of y) (due_at xs n)) (sym (eqb_suc n p))
 
+-- the timers after one of them was written
+abbrev pub IsWritten : Timers → ℕ → Option ℕ → Timers → Type 0
+IsWritten timers place due after = (name : ℕ) → get after.frames name ≡ cond (eqb name place) due (get timers.frames name)
+
+pub written : (timers after : Timers) (place : ℕ) (due : Option ℕ) → after ≡ with_timer timers place due → IsWritten timers place due after
+written timers after place due is name = ap (λ (t : Timers). get t.frames name) is ∙ get_with timers place due name
+
+pub names_written : (timers after : Timers) (place : ℕ) (due : Option ℕ) → after ≡ with_timer timers place due → after.names ≡ timers.names
+names_written timers after place due is = ap (λ (t : Timers). t.names) is ∙ names_with timers place due
+
+-- a timer that stays as it is
+pub unwritten : (timers : Timers) (place : ℕ) (due : Option ℕ) → get timers.frames place ≡ due → IsWritten timers place due timers
+unwritten timers place due is name =
+    elim (cases_Bool (eqb name place)) [
+      | inl same ↦
+          ap (λ (n : ℕ). get timers.frames n) (eqb-true name place same)
+          ∙ is
+          ∙ ap (λ (b : Bool). cond b due (get timers.frames name)) (sym same)
+      | inr isnt ↦ ap (λ (b : Bool). cond b due (get timers.frames name)) (sym isnt)
+    ]
+
+-- a timer that was taken out is not set
+pub taken_out : (timers after : Timers) (place : ℕ) → after ≡ record timers { frames = remove timers.frames place } → get after.frames place ≡ None
+taken_out timers after place is =
+    ap (λ (t : Timers). get t.frames place) is
+    ∙ get_removed timers.frames place place
+    ∙ ap (λ (b : Bool). cond b None (get timers.frames place)) (eq-eqb place place refl)
+
 pub kept_after : (mask : Mask) (frames least : ℕ) (stored_units : List StoredUnit) (timers after : Timers) (place : ℕ) (y : StoredUnit) (due : Option ℕ) → IsUnitStore mask frames least stored_units timers
-    → place < length stored_units → IsStoredUnit mask frames least y → due ≡ due_of y → after ≡ with_timer timers place due → IsUnitStore mask frames least (slice_set stored_units place y) after
-kept_after mask frames least stored_units timers after place y due kept low stored is set =
-    subst (λ (t : Timers). IsUnitStore mask frames least (slice_set stored_units place y) t) (sym (set ∙ ap (with_timer timers place) is))
-    (record {
+    → place < length stored_units → IsStoredUnit mask frames least y → due ≡ due_of y → after.names ≡ timers.names → IsWritten timers place due after
+    → IsUnitStore mask frames least (slice_set stored_units place y) after
+kept_after mask frames least stored_units timers after place y due kept low stored is names set =
+    record {
       each = All-set (IsStoredUnit mask frames least) stored_units place y stored kept.each;
-      names = names_with timers place (due_of y) ∙ kept.names ∙ sym (length-set stored_units place y);
+      names = names ∙ kept.names ∙ sym (length-set stored_units place y);
       set = λ name.
-          get_with timers place (due_of y) name
-          ∙ ap (λ (d : Option ℕ). cond (eqb name place) (due_of y) d) (kept.set name)
+          set name
+          ∙ ap (λ (d : Option ℕ). cond (eqb name place) due d) (kept.set name)
+          ∙ ap (λ (d : Option ℕ). cond (eqb name place) d (due_at stored_units name)) is
           ∙ sym (due_set stored_units place name y low);
       few = let same = length-set stored_units place y in omega arith;
       fits = kept.fits;
-    })
+    }
+
+-- ---- the index
+
+asked_set : (stored_units : List StoredUnit) (place name : ℕ) (y : StoredUnit) → place < length stored_units
+    → asked_by_at (slice_set stored_units place y) name ≡ cond (eqb name place) (asked_by_of y.unit.stage) (asked_by_at stored_units name)
+asked_set [] place name y low = absurd (omega arith)
+asked_set (x ∷ xs) zero zero y low = refl
+asked_set (x ∷ xs) zero (suc n) y low = ap (λ b. cond b (asked_by_of y.unit.stage) (asked_by_at xs n)) (sym (ne_eqb (suc n) zero (λ e. omega arith)))
+asked_set (x ∷ xs) (suc p) zero y low = ap (λ b. cond b (asked_by_of y.unit.stage) (asked_by_of x.unit.stage)) (sym (ne_eqb zero (suc p) (λ e. omega arith)))
+asked_set (x ∷ xs) (suc p) (suc n) y low = asked_set xs p n y (omega arith) ∙ ap (λ b. cond b (asked_by_of y.unit.stage) (asked_by_at xs n)) (sym (eqb_suc n p))
+
+asks_either : (b : Bool) (x y : AskedBy) (asked : Grant) → asks (cond b x y) asked ≡ cond b (asks x asked) (asks y asked)
+asks_either true x y asked = refl
+asks_either false x y asked = refl
+
+-- the index after one unit changed
+pub indexed_after : (stored_units : List StoredUnit) (places after : AskedPlaces) (place : ℕ) (y : StoredUnit) (kind : AskedBy) → AreIndexed stored_units places → place < length stored_units
+    → kind ≡ asked_by_of y.unit.stage → ((asked : Grant) (other : ℕ) → is_in_set after asked other ≡ cond (eqb other place) (asks kind asked) (is_in_set places asked other))
+    → AreIndexed (slice_set stored_units place y) after
+indexed_after stored_units places after place y kind indexed low is change asked other =
+    change asked other
+    ∙ ap (λ (b : Bool). cond (eqb other place) (asks kind asked) b) (indexed asked other)
+    ∙ ap (λ (k : AskedBy). cond (eqb other place) (asks k asked) (asks (asked_by_at stored_units other) asked)) is
+    ∙ sym (asks_either (eqb other place) (asked_by_of y.unit.stage) (asked_by_at stored_units other) asked)
+    ∙ ap (λ (k : AskedBy). asks k asked) (sym (asked_set stored_units place other y low))
+
+due_there : (xs : List StoredUnit) (place : ℕ) (d : StoredUnit) → place < length xs → due_at xs place ≡ due_of (get_or xs place d)
+due_there [] place d low = absurd (omega arith)
+due_there (x ∷ xs) zero d low = refl
+due_there (x ∷ xs) (suc place) d low = due_there xs place d (omega arith)
+
+asked_there : (xs : List StoredUnit) (place : ℕ) (d : StoredUnit) → place < length xs → asked_by_at xs place ≡ asked_by_of (get_or xs place d).unit.stage
+asked_there [] place d low = absurd (omega arith)
+asked_there (x ∷ xs) zero d low = refl
+asked_there (x ∷ xs) (suc place) d low = asked_there xs place d (omega arith)
+
+-- what the index says of a stored unit
+pub indexed_there : (stored_units : List StoredUnit) (places : AskedPlaces) → AreIndexed stored_units places → (place : ℕ) → place < length stored_units → (x : StoredUnit)
+    → x ≡ slice_index_or stored_units place x → (kind : AskedBy) → kind ≡ asked_by_of x.unit.stage → (asked : Grant) → is_in_set places asked place ≡ asks kind asked
+indexed_there stored_units places indexed place low x is kind kind_is asked =
+    indexed asked place
+    ∙ ap (λ (k : AskedBy). asks k asked) (asked_there stored_units place x low ∙ ap (λ (s : StoredUnit). asked_by_of s.unit.stage) (sym is) ∙ sym kind_is)
 
 -- ---- a unit that is brought up to date
 
@@ -97,6 +174,15 @@ stands_for frames x v =
     let none : frames - frames ≡ 0 = omega arith in
     ap (λ (k : ℕ). let u : FibreUnit = record { state = unit_after_frames k v; delay = x.delay; random = x.random } in u) none
 
+-- a unit whose state has not ended has but a greater count of frames
+pub later_unit : (mask : Mask) (frames : ℕ) (x : StoredUnit) → IsStoredUnit mask frames (frames + 1) x → unit_after_frames (frames - x.brought) x.unit ≡ unit_later x.unit (frames - x.brought)
+later_unit mask frames x stored =
+    let few_left : ForSome (frames_left x.unit) (λ left. frames - x.brought < left) = λ left e.
+    let due : frames + 1 ≤ x.brought + left = stored.ahead (x.brought + left) (ap (option_map (λ (n : ℕ). x.brought + n)) e) in
+    let b = stored.brought in
+    omega arith in
+    skips x.unit.serial x.unit.mask x.unit.lit x.unit.stage (frames - x.brought) few_left
+
 module _ (mask : Mask) (frames : ℕ) (stored_units : List StoredUnit) (timers : Timers) (kept : IsUnitStore mask frames (frames + 1) stored_units timers) (place : ℕ)
     (low : place < length stored_units) (x : StoredUnit) (is : x ≡ slice_index_or stored_units place x) where
   pub stored_at : IsStoredUnit mask frames (frames + 1) x
@@ -112,14 +198,15 @@ module _ (mask : Mask) (frames : ℕ) (stored_units : List StoredUnit) (timers :
   after y u e = map-set (unit_at frames) stored_units place y ∙ ap (λ (v : FibreUnit). slice_set (units_at frames stored_units) place v) e
 
   -- a unit that passes a message over is the same after it
-  few_left : ForSome (frames_left x.unit) (λ left. frames - x.brought < left)
-  few_left = λ left e.
-      let due : frames + 1 ≤ x.brought + left = stored_at.ahead (x.brought + left) (ap (option_map (λ (n : ℕ). x.brought + n)) e) in
-      let b = stored_at.brought in
-      omega arith
-
   is_later : unit_after_frames (frames - x.brought) x.unit ≡ unit_later x.unit (frames - x.brought)
-  is_later = skips x.unit.serial x.unit.mask x.unit.lit x.unit.stage (frames - x.brought) few_left
+  is_later = later_unit mask frames x stored_at
+
+  -- its timer, and for how many frames it has been stored
+  pub timer_there : (due : Option ℕ) → due ≡ due_of x → get timers.frames place ≡ due
+  timer_there due e = kept.set place ∙ due_there stored_units place x low ∙ ap due_of (sym is) ∙ sym e
+
+  pub brought_fits : x.brought ≤ MAX_FRAMES
+  brought_fits = let b = stored_at.brought in let f = kept.fits in omega arith
 
   pub all_same : units_at frames stored_units ≡ slice_set (units_at frames stored_units) place (unit_at frames x)
   all_same =
@@ -168,9 +255,9 @@ module _ (mask : Mask) (frames : ℕ) (stored_units : List StoredUnit) (timers :
         (ap (λ (s : UnitState). let u : FibreUnit = record (unit_at frames x) { state = s } in u) (e ∙ ap (λ (s : StoredUnit). unit_after s.unit input) bring))
 
     pub store_after : (end : Timers) (due : Option ℕ) → v.mask ≡ b.unit.mask → due ≡ due_of (stored_with b v) → ForSome due (λ d. b.brought + 1 ≤ d)
-        → end ≡ with_timer timers place due
+        → end.names ≡ timers.names → IsWritten timers place due end
         → IsUnitStore mask frames (frames + 1) (slice_set stored_units place (stored_with b v)) end
-    store_after end due same value later set =
+    store_after end due same value later names set =
         let now : b.brought ≡ frames = ap (λ (s : StoredUnit). s.brought) bring in
         let delay : b.delay ≡ x.delay = ap (λ (s : StoredUnit). s.delay) bring in
         let near = stored_at.delay in
@@ -184,7 +271,49 @@ module _ (mask : Mask) (frames : ℕ) (stored_units : List StoredUnit) (timers :
           brought = omega arith;
           ahead = subst (λ (d : Option ℕ). ForSome d (λ f. frames + 1 ≤ f)) value (subst (λ (n : ℕ). ForSome due (λ d. n + 1 ≤ d)) now later);
         })
-        value set
+        value names set
+
+-- ---- the units that a grant asks
+
+asked_now : (mask : Mask) (frames : ℕ) (stored_units : List StoredUnit) → All (IsStoredUnit mask frames (frames + 1)) stored_units → (asked : Grant) (place : ℕ)
+    → is_asked_at (units_at frames stored_units) asked place ≡ asks (asked_by_at stored_units place) asked
+asked_now mask frames [] all asked place = refl
+asked_now mask frames (x ∷ xs) all asked zero =
+    let k = frames - x.brought in
+    ap (is_asked asked) (later_unit mask frames x (All-head (IsStoredUnit mask frames (frames + 1)) x xs all)) ∙ asked_later x.unit.serial x.unit.mask x.unit.lit x.unit.stage k asked
+asked_now mask frames (x ∷ xs) all asked (suc place) = asked_now mask frames xs (All-tail (IsStoredUnit mask frames (frames + 1)) x xs all) asked place
+
+-- the index says which units are asked now
+pub asked_indexed : (mask : Mask) (frames : ℕ) (stored_units : List StoredUnit) (timers : Timers) (places : AskedPlaces) → IsUnitStore mask frames (frames + 1) stored_units timers
+    → AreIndexed stored_units places → (asked : Grant) (place : ℕ) → is_asked_at (units_at frames stored_units) asked place ≡ is_in_set places asked place
+asked_indexed mask frames stored_units timers places kept indexed asked place = asked_now mask frames stored_units kept.each asked place ∙ sym (indexed asked place)
+
+pub asked_within : (units : List FibreUnit) (asked : Grant) (place : ℕ) → is_asked_at units asked place ≡ true → place < length units
+asked_within [] asked place e = let no : false ≡ true = e in absurd (cc)
+asked_within (u ∷ us) asked zero e = omega arith
+asked_within (u ∷ us) asked (suc place) e = let low = asked_within us asked place e in omega arith
+
+pub next_indexed : (units : List FibreUnit) (places : AskedPlaces) (asked : Grant) (first : ℕ) (next : Option ℕ)
+    → ((place : ℕ) → is_asked_at units asked place ≡ is_in_set places asked place)
+    → IsLeastFrom (places_asked places asked) first next → IsNextAsked units asked first next
+next_indexed units places asked first None same least = λ place from.
+    elim (cases_Bool (is_asked_at units asked place)) [
+      | inl asks_it ↦ absurd (least place from (sym (same place) ∙ asks_it))
+      | inr isnt ↦ isnt
+    ]
+next_indexed units places asked first (Some next) same least = (
+  least.0,
+  same next ∙ least.1,
+  λ place from before.
+      elim (cases_Bool (is_asked_at units asked place)) [
+        | inl asks_it ↦ let most : next ≤ place = least.2 place from (sym (same place) ∙ asks_it) in absurd (omega arith)
+        | inr isnt ↦ isnt
+      ],
+)
+
+pub next_within : (units : List FibreUnit) (asked : Grant) (first most : ℕ) (next : Option ℕ) → IsNextAsked units asked first next → length units ≤ most → IfSome next (λ place. place < most)
+next_within units asked first most None is few = tt
+next_within units asked first most (Some place) is few = let low = asked_within units asked place is.1 in omega arith
 
 -- ---- a unit that stands still
 
@@ -223,6 +352,7 @@ pub record ArePlanned (mask : Mask) (plans : List UnitPlan) (stored_units : Vec 
   pub units : units_at 0 stored_units.items ≡ map (planned_unit mask) (take count plans)
   pub each : All (IsStoredUnit mask 0 1) stored_units.items
   pub due : All (λ stored. due_of stored ≡ None) stored_units.items
+  pub asked : All (λ stored. asked_by_of stored.unit.stage ≡ Nothing) stored_units.items
   pub len : vec_len stored_units ≡ count
   pub capacity : length plans ≤ vec_capacity stored_units
 
@@ -242,12 +372,20 @@ none_due [] place all = refl
 none_due (x ∷ xs) zero all = All-head (λ stored. due_of stored ≡ None) x xs all
 none_due (x ∷ xs) (suc place) all = none_due xs place (All-tail (λ stored. due_of stored ≡ None) x xs all)
 
+pub none_asked : (stored_units : List StoredUnit) (place : ℕ) → All (λ stored. asked_by_of stored.unit.stage ≡ Nothing) stored_units → asked_by_at stored_units place ≡ Nothing
+none_asked [] place all = refl
+none_asked (x ∷ xs) zero all = All-head (λ stored. asked_by_of stored.unit.stage ≡ Nothing) x xs all
+none_asked (x ∷ xs) (suc place) all = none_asked xs place (All-tail (λ stored. asked_by_of stored.unit.stage ≡ Nothing) x xs all)
+
+pub none_indexed : (stored_units : List StoredUnit) (places : AskedPlaces) → All (λ stored. asked_by_of stored.unit.stage ≡ Nothing) stored_units → AsksNobody places → AreIndexed stored_units places
+none_indexed stored_units places all nobody asked place = nobody asked place ∙ ap (λ (k : AskedBy). asks k asked) (sym (none_asked stored_units place all))
+
 pub planned_more : (mask : Mask) (plans : List UnitPlan) (old new : Vec StoredUnit Global) (count : ℕ) (plan : UnitPlan) (stored : StoredUnit) → ArePlanned mask plans old count → count < length plans
-    → plan ≡ slice_index_or plans count plan → unit_at 0 stored ≡ planned_unit mask plan → IsStoredUnit mask 0 1 stored → due_of stored ≡ None → new.items ≡ old.items ++ stored ∷ []
+    → plan ≡ slice_index_or plans count plan → unit_at 0 stored ≡ planned_unit mask plan → IsStoredUnit mask 0 1 stored → due_of stored ≡ None → asked_by_of stored.unit.stage ≡ Nothing → new.items ≡ old.items ++ stored ∷ []
     → vec_len new ≡ vec_len old + 1
     → vec_capacity new ≡ vec_capacity old
     → ArePlanned mask plans new (count + 1)
-planned_more mask plans old new count plan stored so_far low at unit_is is due items len cap =
+planned_more mask plans old new count plan stored so_far low at unit_is is due asked items len cap =
     record {
       units = ap (units_at 0) items ∙ map_push (unit_at 0) old.items stored
           ∙ ap (λ (us : List FibreUnit). us ++ unit_at 0 stored ∷ []) so_far.units
@@ -255,6 +393,7 @@ planned_more mask plans old new count plan stored so_far low at unit_is is due i
           ∙ sym (map_more (planned_unit mask) plans count plan low);
       each = All-same (IsStoredUnit mask 0 1) new.items (old.items ++ stored ∷ []) items (All-push (IsStoredUnit mask 0 1) old.items stored so_far.each is);
       due = All-same (λ s. due_of s ≡ None) new.items (old.items ++ stored ∷ []) items (All-push (λ s. due_of s ≡ None) old.items stored so_far.due due);
+      asked = All-same (λ s. asked_by_of s.unit.stage ≡ Nothing) new.items (old.items ++ stored ∷ []) items (All-push (λ s. asked_by_of s.unit.stage ≡ Nothing) old.items stored so_far.asked asked);
       len = let l = so_far.len in omega arith;
       capacity = let l = so_far.capacity in omega arith;
     }
@@ -340,7 +479,7 @@ store_after_frame mask frames stored_units timers kept none =
             random = is.random;
             brought = is.brought;
             ahead = λ due e.
-                let later = none place due (kept.set place ∙ at_due stored_units place d low ∙ e) in
+                let later = none place due (kept.set place ∙ due_there stored_units place d low ∙ e) in
                 omega arith;
           };
       names = kept.names;
@@ -348,11 +487,6 @@ store_after_frame mask frames stored_units timers kept none =
       few = kept.few;
       fits = kept.fits;
     }
-  where
-    at_due : (xs : List StoredUnit) (place : ℕ) (d : StoredUnit) → place < length xs → due_at xs place ≡ due_of (get_or xs place d)
-    at_due [] place d low = absurd (omega arith)
-    at_due (x ∷ xs) zero d low = refl
-    at_due (x ∷ xs) (suc place) d low = at_due xs place d (omega arith)
 
 -- what the loop over the timers that are due keeps, from the units before the frame on
 pub record InFrame (old : UnitStoreState) (mask : Mask) (frames : ℕ) (stored_units : List StoredUnit) (timers : Timers) : Type 0 where
@@ -369,23 +503,15 @@ again false d e = refl
 pub kept_again : (mask : Mask) (frames least : ℕ) (stored_units : List StoredUnit) (timers before after : Timers) (place : ℕ) (y : StoredUnit) (due : Option ℕ)
     → IsUnitStore mask frames least stored_units timers
     → before ≡ record timers { frames = remove timers.frames place }
-    → place < length stored_units → IsStoredUnit mask frames least y → due ≡ due_of y → after ≡ with_timer before place due → IsUnitStore mask frames least (slice_set stored_units place y) after
-kept_again mask frames least stored_units timers before after place y due kept removed low stored is set =
-    let taken : Timers = record timers { frames = remove timers.frames place } in
-    subst (λ (t : Timers). IsUnitStore mask frames least (slice_set stored_units place y) t)
-    (sym (set ∙ ap (with_timer before place) is ∙ ap (λ (t : Timers). with_timer t place (due_of y)) removed))
-    (record {
-      each = All-set (IsStoredUnit mask frames least) stored_units place y stored kept.each;
-      names = names_with taken place (due_of y) ∙ kept.names ∙ sym (length-set stored_units place y);
-      set = λ name.
-          get_with taken place (due_of y) name
-          ∙ ap (λ (d : Option ℕ). cond (eqb name place) (due_of y) d) (get_removed timers.frames place name)
-          ∙ again (eqb name place) (due_of y) (get timers.frames name)
-          ∙ ap (λ (d : Option ℕ). cond (eqb name place) (due_of y) d) (kept.set name)
-          ∙ sym (due_set stored_units place name y low);
-      few = let same = length-set stored_units place y in omega arith;
-      fits = kept.fits;
-    })
+    → place < length stored_units → IsStoredUnit mask frames least y → due ≡ due_of y → after.names ≡ before.names → IsWritten before place due after
+    → IsUnitStore mask frames least (slice_set stored_units place y) after
+kept_again mask frames least stored_units timers before after place y due kept removed low stored is names set =
+    kept_after mask frames least stored_units timers after place y due kept low stored is (names ∙ ap (λ (t : Timers). t.names) removed)
+    (λ name.
+    set name
+    ∙ ap (λ (t : Timers). cond (eqb name place) due (get t.frames name)) removed
+    ∙ ap (λ (d : Option ℕ). cond (eqb name place) due d) (get_removed timers.frames place name)
+    ∙ again (eqb name place) due (get timers.frames name))
 
 ends : (frames : ℕ) (x : StoredUnit) → due_of x ≡ Some frames → one_if (ends_by frames x) ≡ 1
 ends frames x due = ap (λ (d : Option ℕ). one_if (by_due frames d)) due ∙ ap one_if (le-leb frames frames (omega arith))
@@ -437,15 +563,15 @@ module _ (old : UnitStoreState) (mask : Mask) (frames : ℕ) (stored_units : Lis
       ∙ ap (λ (k : ℕ). let u : FibreUnit = record { state = unit_after_frames k (unit_after_frames (frames - x.brought) x.unit); delay = x.delay; random = x.random } in u) none
 
   pub in_frame_again : (before after : Timers) (due : Option ℕ) → before ≡ record timers { frames = remove timers.frames place } → due ≡ due_of y
-      → ForSome due (λ d. y.brought + 1 ≤ d) → after ≡ with_timer before place due → InFrame old mask frames (slice_set stored_units place y) after
-  in_frame_again before after due removed value later set =
+      → ForSome due (λ d. y.brought + 1 ≤ d) → after.names ≡ before.names → IsWritten before place due after → InFrame old mask frames (slice_set stored_units place y) after
+  in_frame_again before after due removed value later names set =
       record {
         now = inside.now;
         units = map-set (unit_at frames) stored_units place y
             ∙ ap (λ (u : FibreUnit). slice_set (units_at frames stored_units) place u) (unit_stays ∙ sym (get_or_from_slice_get (units_at frames stored_units) place (unit_at frames x) (unit_at frames x) mapped))
             ∙ set-get_or (units_at frames stored_units) place (unit_at frames x)
             ∙ inside.units;
-        kept = kept_again mask frames frames stored_units timers before after place y due inside.kept removed the.low (later_stored due value later) value set;
+        kept = kept_again mask frames frames stored_units timers before after place y due inside.kept removed the.low (later_stored due value later) value names set;
       }
     where
       mapped : slice_get (units_at frames stored_units) place ≡ Some (unit_at frames x)

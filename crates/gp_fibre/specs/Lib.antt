@@ -4,6 +4,7 @@ pub mod Step
 pub mod Run
 pub mod Told
 pub mod Laws
+pub mod AskedUnits
 pub mod UnitStore
 pub mod Fibre
 pub mod Flights

@@ -1,13 +1,17 @@
 -- What the units of a world stand for (this profile's own rule): a unit is brought up to date only where something other
 -- than a frame happens to it, and in the frame that ends its state.
-use Rattle.std.specs.Prelude.{◌≡◌, ℕ, ◌+◌, ◌-◌, ◌≤◌, List, Option, None, Some, All, length, map, slice_get}
+use Rattle.std.specs.Prelude.{◌≡◌, ℕ, ◌+◌, ◌-◌, ◌≤◌, ◌<◌, Bool, true, false, List, Option, None, Some, All, length, map, slice_get}
 use Rattle.std.specs.Option.{ForSome, option_map}
 use Rattle.std.specs.FinMap.{get, insert, remove}
 use Rattle.gp_ploam.specs.declared.check.Mask.{Mask}
 use Rattle.gp_ranging.specs.declared.grant.Grant.{Grant}
 use Rattle.gp_onu.specs.declared.limits.TheConstants.{MAX_DELAY, MAX_RANDOM_DELAY, MAX_SIMULATED_UNITS}
 use Rattle.gp_onu.specs.Frames.{frames_left, unit_after_frames}
+use Rattle.gp_onu.specs.Noticing.{is_asked}
 use Rattle.gp_timers.specs.Timers.{Timers}
+use Rattle.gp_fibre.specs.declared.asked_by.AskedBy.{AskedBy}
+use Rattle.gp_fibre.specs.declared.asked_by.AskedBy.TheVariants.{Nothing}
+use Rattle.gp_fibre.specs.AskedUnits.{AskedPlaces, asked_by_of, asks, is_in_set}
 use Rattle.gp_fibre.specs.declared.sent_burst.SentBurst.{SentBurst}
 use Rattle.gp_fibre.specs.declared.world.TheConstants.{MAX_FRAMES}
 use Rattle.gp_fibre.specs.declared.stored_unit.StoredUnit.{StoredUnit}
@@ -23,6 +27,19 @@ pub record UnitStoreState : Type 0 where
 pub record Answers (old : List FibreUnit) (place : ℕ) (grant : Grant) (answer : Option SentBurst) (new : List FibreUnit) : Type 0 where
   pub units : ChangesAt old place (unit_granted grant) new
   pub answered : answer ≡ burst_answered grant units.unit
+
+-- the grant asks the unit at this place, if there is one
+abbrev pub is_asked_at : List FibreUnit → Grant → ℕ → Bool
+is_asked_at units grant place = from (slice_get units place) where
+  from : Option FibreUnit → Bool
+  from None = false
+  from (Some unit) = is_asked grant unit.state
+
+-- the first place from this one on whose unit the grant asks, or none where it asks none of them
+abbrev pub IsNextAsked : List FibreUnit → Grant → ℕ → Option ℕ → Type 0
+IsNextAsked units grant first None = (place : ℕ) → first ≤ place → is_asked_at units grant place ≡ false
+IsNextAsked units grant first (Some next) =
+    (first ≤ next) × (is_asked_at units grant next ≡ true) × ((place : ℕ) → first ≤ place → place < next → is_asked_at units grant place ≡ false)
 
 -- ---- the representation
 
@@ -45,6 +62,13 @@ due_at stored_units place = from (slice_get stored_units place) where
   from None = None
   from (Some stored) = due_of stored
 
+-- which grants ask the unit of the stored unit at a place, if there is one
+abbrev pub asked_by_at : List StoredUnit → ℕ → AskedBy
+asked_by_at stored_units place = from (slice_get stored_units place) where
+  from : Option StoredUnit → AskedBy
+  from None = Nothing
+  from (Some stored) = asked_by_of stored.unit.stage
+
 -- the timers with this one set or not set
 abbrev pub with_timer : Timers → ℕ → Option ℕ → Timers
 with_timer timers name None = record timers { frames = remove timers.frames name }
@@ -66,3 +90,7 @@ pub record IsUnitStore (mask : Mask) (frames least : ℕ) (stored_units : List S
   pub set : (name : ℕ) → get timers.frames name ≡ due_at stored_units name
   pub few : length stored_units ≤ MAX_SIMULATED_UNITS
   pub fits : frames ≤ MAX_FRAMES
+
+-- each grant asks exactly the places of the units that it asks as they were stored
+abbrev pub AreIndexed : List StoredUnit → AskedPlaces → Type 0
+AreIndexed stored_units asked = (grant : Grant) (place : ℕ) → is_in_set asked grant place ≡ asks (asked_by_at stored_units place) grant

@@ -1,10 +1,11 @@
-ghost use Rattle.std.specs.Prelude.{◌≡◌, ◌+◌, ◌<◌, ◌≤◌, ◌++◌, [], OnOk, length, slice_get, vec_capacity, vec_len, false};
+ghost use Rattle.std.specs.Prelude.{◌≡◌, ◌+◌, ◌<◌, ◌≤◌, ◌++◌, [], IfSome, OnOk, length, slice_get, vec_capacity, vec_len};
 ghost use Rattle.std.specs.Option.{ForSome, option_to_list};
 ghost use Rattle.gp_ploam.specs.Down.{IsProperDown};
 ghost use Rattle.gp_machine.specs.State.{rows_of};
 ghost use Rattle.gp_onu.specs.declared.limits.TheConstants.{MAX_DELAY, MAX_SIMULATED_UNITS};
 ghost use Rattle.gp_onu.specs.Table.{Dark, Light};
 ghost use Rattle.gp_fibre.specs.declared.world.TheConstants.{MAX_FRAMES};
+ghost use Rattle.gp_fibre.specs.UnitStore.{IsNextAsked};
 ghost use Rattle.gp_fibre.specs.Step.{PortTakes, UnitAnswers, UnitChanges, purse_for, unit_hearing, unit_taking, world_after_frame};
 
 use super::sent_burst::SentBurst;
@@ -205,12 +206,12 @@ impl<L: Ledger> Fibre<L> {
         self.store.dark(place);
     }
 
-    /// Tells whether a unit may answer a grant. Where it can't, the grant changes nothing.
-    pub fn may_answer(&self, place: usize, grant: Grant) -> bool
-        requires { place < length self.now.world.units }
-        ensures { result ≡ false → UnitAnswers self.now.world place grant self.now.world }
+    /// Finds the first place from `from` on whose unit a grant asks.
+    pub fn next_asked(&self, grant: Grant, from: u16) -> Option<u16>
+        ensures next { IsNextAsked self.now.world.units grant from result }
+        ensures few { IfSome result (λ place. place < MAX_SIMULATED_UNITS) }
     {
-        self.store.may_answer(place, grant)
+        self.store.next_asked(grant, from)
     }
 
     /// Lets a grant reach a unit, and gives its burst, if it answers with one: that is the next burst.

@@ -5,14 +5,17 @@
 //! - `running.rt`: the parts of a frame of `World::run`, which may lose copies and bursts (`loss_plan.rt`).
 //! - `fibre.rt`: the port, the book of its licences, the units, and all that was sent (`sent_burst.rt`).
 //! - `unit_store.rt`, `stored_unit.rt`: the units, each brought up to date only where it has to be.
+//! - `asked_units.rt`, `asked_by.rt`: the index of the units that each grant asks.
 //! - `flights.rt`, `flight.rt`: the bursts that are to come in a run.
 //! - `laws.rt`: what holds of every run: the messages that each unit was sent, and with which one it loses its ONU-ID.
 //!
 //! Where to make which change: what a step may do stands in `specs/Step.antt`, the order of a frame of a run in
 //! `specs/Schedule.antt`, what a world begins with in `specs/World.antt`; another representation of the units, in
-//! `unit_store.rt` and `specs/UnitStore.antt`.
+//! `unit_store.rt` and `specs/UnitStore.antt`; another index, in `asked_units.rt` and `specs/AskedUnits.antt`.
 #![tactic(auto)]
 
+mod asked_by;
+mod asked_units;
 mod fault;
 mod fibre;
 mod flight;

@@ -46,7 +46,7 @@ fn deliver_all<L: Ledger>(fibre: &mut Fibre<L>, copy: u64, message: &Down)
 fn give<L: Ledger>(
     fibre: &mut Fibre<L>,
     flights: &mut Flights,
-    place: usize,
+    place: u16,
     issued: Grant,
     frame: u64,
 )
@@ -63,18 +63,15 @@ fn give<L: Ledger>(
     ensures reach { AreInReach frame flights.new.flights }
     ensures flights_room { flights.old.room ≤ flights.new.room + 1 }
 {
-    if !fibre.may_answer(place, issued) {
-        return;
-    }
     let number = fibre.bursts();
-    let Some(burst) = fibre.give(place, issued) else {
+    let Some(burst) = fibre.give(usize::from(place), issued) else {
         return;
     };
     let due = frame + u64::from(burst.at / FRAME_BIT_TIMES);
-    flights.add(place as u16, Flight { number, due });
+    flights.add(place, Flight { number, due });
 }
 
-/// Lets a grant reach each unit, one after the other.
+/// Lets a grant reach each unit, one after the other. Those that it doesn't ask are the same after it, so they are passed over.
 fn give_all<L: Ledger>(
     fibre: &mut Fibre<L>,
     flights: &mut Flights,
@@ -92,8 +89,10 @@ fn give_all<L: Ledger>(
     ensures comes { Comes frame fibre.old.world flights.old.flights fibre.new.world flights.new.flights }
     ensures reach { AreInReach frame flights.new.flights }
 {
-    for place in 0..fibre.units() {
+    let mut from = 0;
+    while let Some(place) = fibre.next_asked(issued, from) {
         give(fibre, flights, place, issued, frame);
+        from = place + 1;
     }
 }
 

@@ -3,8 +3,11 @@ ghost use Rattle.std.specs.Option.{ForSome, IfSome, IsSome};
 ghost use Rattle.gp_onu.specs.Frames.{frames_left, unit_after_frames};
 ghost use Rattle.gp_fibre.specs.declared.world.TheConstants.{MAX_FRAMES};
 ghost use Rattle.gp_fibre.specs.World.{planned_unit};
+ghost use Rattle.gp_fibre.specs.declared.asked_by.AskedBy.TheVariants.{Nothing};
+ghost use Rattle.gp_fibre.specs.AskedUnits.{asked_by_of};
 ghost use Rattle.gp_fibre.specs.UnitStore.{due_of, unit_at};
 
+use super::asked_by::AskedBy;
 use super::unit_plan::UnitPlan;
 use gp_onu::Unit;
 use gp_ploam::Mask;
@@ -31,6 +34,7 @@ impl StoredUnit {
         ensures random { result.random ≡ plan.now.random }
         ensures brought { result.brought ≡ 0 }
         ensures due { due_of result ≡ None }
+        ensures asked { asked_by_of result.unit.stage ≡ Nothing }
     {
         let mut unit = Unit::new(plan.serial, mask);
         unit.light();
@@ -72,6 +76,13 @@ impl StoredUnit {
             Some(left) => Some(self.brought + u64::from(left)),
             None => None,
         }
+    }
+
+    /// Tells which grants ask the unit. For that it need not be up to date.
+    pub(super) fn asked_by(&self) -> AskedBy
+        ensures { result ≡ asked_by_of self.now.unit.stage }
+    {
+        AskedBy::of(&self.unit)
     }
 }
 

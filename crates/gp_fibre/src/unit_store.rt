@@ -1,14 +1,16 @@
-ghost use Rattle.std.specs.Prelude.{◌≡◌, ◌+◌, ◌-◌, ◌<◌, ◌≤◌, All, IfOk, None, Some, length, map, false};
+ghost use Rattle.std.specs.Prelude.{◌≡◌, ◌+◌, ◌-◌, ◌<◌, ◌≤◌, ◌==◌, ℕ, All, IfOk, None, Some, if◌then◌else◌, length, map, false};
 ghost use Rattle.std.specs.Option.{ForSome, IfSome, IsSome, option_map};
 ghost use Rattle.gp_ploam.specs.Down.{IsProperDown};
 ghost use Rattle.gp_onu.specs.Frames.{frames_left, unit_after_frames};
 ghost use Rattle.gp_onu.specs.declared.limits.TheConstants.{MAX_DELAY, MAX_RANDOM_DELAY, MAX_SIMULATED_UNITS};
 ghost use Rattle.gp_onu.specs.Table.{Dark, Frame, Light};
+ghost use Rattle.std.specs.FinMap.{get};
 ghost use Rattle.gp_fibre.specs.declared.world.TheConstants.{MAX_FRAMES};
 ghost use Rattle.gp_fibre.specs.World.{planned_unit};
 ghost use Rattle.gp_fibre.specs.Step.{ChangesAt, burst_with, unit_hearing, unit_taking};
-ghost use Rattle.gp_fibre.specs.UnitStore.{Answers, due_of, unit_at, with_timer};
+ghost use Rattle.gp_fibre.specs.UnitStore.{Answers, IsNextAsked, due_of, unit_at, with_timer};
 
+use super::asked_units::AskedUnits;
 use super::sent_burst::SentBurst;
 use super::stored_unit::StoredUnit;
 use super::unit_plan::UnitPlan;
@@ -22,24 +24,25 @@ use std::marker::Model;
 ///
 /// A unit is brought up to date only where something other than a frame happens to it, and in the frame that ends its state.
 /// So a frame costs nothing but for the units whose states it ends: a wheel has a timer for each unit whose state will end by
-/// itself.
+/// itself. An index tells which units a grant asks.
 #[derive(Drop)]
 pub struct UnitStore {
     mask: Mask,
     frames: u64,
     stored_units: Vec<StoredUnit>,
     timers: Wheel,
+    asked: AskedUnits,
 }
 
 impl Model for UnitStore {
     ghost use Rattle.std.specs.Prelude.{◌+◌};
-    ghost use Rattle.gp_fibre.specs.UnitStore.{UnitStoreState, IsUnitStore, units_at};
+    ghost use Rattle.gp_fibre.specs.UnitStore.{UnitStoreState, IsUnitStore, AreIndexed, units_at};
 
     ghost Value = { UnitStoreState };
 
     ghost view = { λ f. record { units = units_at f.frames f.stored_units.items; frames = f.frames } };
 
-    ghost invariant = { λ f. IsUnitStore f.mask f.frames (f.frames + 1) f.stored_units.items f.timers };
+    ghost invariant = { λ f. IsUnitStore f.mask f.frames (f.frames + 1) f.stored_units.items f.timers × AreIndexed f.stored_units.items f.asked };
 }
 
 impl UnitStore {
@@ -58,11 +61,13 @@ impl UnitStore {
             Ok(timers) => timers,
             Err(TimerFault::OutOfMemory) => return Err(AllocError),
         };
+        let asked = AskedUnits::begin(alloc)?;
         Ok(UnitStore {
             mask,
             frames: 0,
             stored_units,
             timers,
+            asked,
         })
     }
 
@@ -95,10 +100,14 @@ impl UnitStore {
         let code = encode_down(message, self.mask);
         down_round_trip();
         let stored = &mut self.stored_units[place];
+        let due_before = stored.due();
+        let asked_before = stored.asked_by();
         stored.bring(self.frames);
         stored.unit.hear(&code);
         let due = stored.due();
-        put_timer(&mut self.timers, place, due);
+        let asked_by = stored.asked_by();
+        renew_timer(&mut self.timers, place, due_before, due);
+        self.asked.change(place, asked_before, asked_by);
     }
 
     /// Lets light reach a unit.
@@ -108,10 +117,14 @@ impl UnitStore {
         ensures frames { self.new.frames ≡ self.old.frames }
     {
         let stored = &mut self.stored_units[place];
+        let due_before = stored.due();
+        let asked_before = stored.asked_by();
         stored.bring(self.frames);
         stored.unit.light();
         let due = stored.due();
-        put_timer(&mut self.timers, place, due);
+        let asked_by = stored.asked_by();
+        renew_timer(&mut self.timers, place, due_before, due);
+        self.asked.change(place, asked_before, asked_by);
     }
 
     /// Takes the light from a unit.
@@ -121,18 +134,22 @@ impl UnitStore {
         ensures frames { self.new.frames ≡ self.old.frames }
     {
         let stored = &mut self.stored_units[place];
+        let due_before = stored.due();
+        let asked_before = stored.asked_by();
         stored.bring(self.frames);
         stored.unit.dark();
         let due = stored.due();
-        put_timer(&mut self.timers, place, due);
+        let asked_by = stored.asked_by();
+        renew_timer(&mut self.timers, place, due_before, due);
+        self.asked.change(place, asked_before, asked_by);
     }
 
-    /// Tells whether a unit may answer a grant. Where it can't, the grant changes nothing.
-    pub fn may_answer(&self, place: usize, grant: Grant) -> bool
-        requires { place < length self.now.units }
-        ensures { result ≡ false → Answers self.now.units place grant None self.now.units }
+    /// Finds the first place from `from` on whose unit a grant asks, without going through the units.
+    pub fn next_asked(&self, grant: Grant, from: u16) -> Option<u16>
+        ensures next { IsNextAsked self.now.units grant from result }
+        ensures few { IfSome result (λ place. place < MAX_SIMULATED_UNITS) }
     {
-        self.stored_units[place].unit.may_answer(grant)
+        self.asked.next(grant, from)
     }
 
     /// Lets a grant reach a unit, which may answer with a burst.
@@ -142,15 +159,19 @@ impl UnitStore {
         ensures near { ForSome result (λ burst. burst.at ≤ MAX_DELAY) }
         ensures frames { self.new.frames ≡ self.old.frames }
     {
-        if !self.may_answer(place, grant) {
+        if !self.stored_units[place].unit.may_answer(grant) {
             return None;
         }
         let stored = &mut self.stored_units[place];
+        let due_before = stored.due();
+        let asked_before = stored.asked_by();
         stored.bring(self.frames);
         let answer = stored.unit.grant(grant, stored.random);
         let at = stored.delay;
         let due = stored.due();
-        put_timer(&mut self.timers, place, due);
+        let asked_by = stored.asked_by();
+        renew_timer(&mut self.timers, place, due_before, due);
+        self.asked.change(place, asked_before, asked_by);
         burst_of(at, answer)
     }
 
@@ -164,9 +185,12 @@ impl UnitStore {
         while let Some(name) = self.timers.due(self.frames) {
             let place = usize::from(name);
             let stored = &mut self.stored_units[place];
+            let asked_before = stored.asked_by();
             stored.pass(self.frames);
             let due = stored.due();
-            put_timer(&mut self.timers, place, due);
+            let asked_by = stored.asked_by();
+            renew_timer(&mut self.timers, place, None, due);
+            self.asked.change(place, asked_before, asked_by);
         }
     }
 }
@@ -179,6 +203,20 @@ fn burst_of(at: u32, bytes: Option<[u8; 13]>) -> Option<SentBurst>
         Some(bytes) => Some(SentBurst { at, bytes }),
         None => None,
     }
+}
+
+/// Writes the timer of a place, which is due at `before`, anew, where that changes.
+fn renew_timer(timers: &mut Wheel, place: usize, before: Option<u64>, after: Option<u64>)
+    requires place { place < timers.old.names }
+    requires few { place < MAX_SIMULATED_UNITS }
+    requires before { get timers.old.frames place ≡ before }
+    ensures names { timers.new.names ≡ timers.old.names }
+    ensures frames { (name : ℕ) → get timers.new.frames name ≡ (if name == place then after else get timers.old.frames name) }
+{
+    if before == after {
+        return;
+    }
+    put_timer(timers, place, after);
 }
 
 /// Sets the timer of a place, or makes sure that it isn't set.

@@ -8,7 +8,7 @@ use Rattle.gp_fibre.specs.declared.stored_unit.StoredUnit.{StoredUnit}
 use Rattle.gp_fibre.specs.World.{FibreUnit}
 use Rattle.gp_fibre.specs.UnitStore.{unit_at}
 use Rattle.gp_fibre.specs.Step.{unit_hearing}
-use Rattle.gp_fibre.proofs.StoredUnits.{changes, passes, store_after, brought_mask}
+use Rattle.gp_fibre.proofs.StoredUnits.{changes, passes, store_after, brought_mask, brought_fits, timer_there, indexed_there, indexed_after, stored_with}
 use Rattle.gp_fibre.proofs.unit_store.UnitStore.hear.Goals as goal
 
 -- the unit hears the code, which is read as the message
@@ -20,6 +20,26 @@ heard mask code old new m is same reads law =
     law m (subst (λ (k : Mask). ReadsDown code (mask_value k) m) (sym same) (subst (λ (c : List ℕ). ReadsDown c (mask_value mask) m) (sym is) reads))
     ∙ ap (λ (c : List ℕ). unit_after old (Hears c m)) is
 
+pub due-due_before-requires : goal.due-due_before-requires
+due-due_before-requires c =
+    let i = c.self.inside in
+    let low : c.args.place < length i.stored_units.items = rw length-map at (rw (← c.self.view_is) at c.requires.place) in
+    brought_fits i.mask i.frames i.stored_units.items i.timers c.self.invariant.0 c.args.place low c.index_mut-stored.result.now c.index_mut-stored.ensures.value
+
+pub renew_timer-requires-clause-before : goal.renew_timer-requires-clause-before
+renew_timer-requires-clause-before c =
+    let i = c.self.inside in
+    let low : c.args.place < length i.stored_units.items = rw length-map at (rw (← c.self.view_is) at c.requires.place) in
+    timer_there i.mask i.frames i.stored_units.items i.timers c.self.invariant.0 c.args.place low c.index_mut-stored.result.now c.index_mut-stored.ensures.value
+    c.due-due_before.result c.due-due_before.ensures.value
+
+pub change-requires-clause-before : goal.change-requires-clause-before
+change-requires-clause-before c =
+    let i = c.self.inside in
+    let low : c.args.place < length i.stored_units.items = rw length-map at (rw (← c.self.view_is) at c.requires.place) in
+    indexed_there i.stored_units.items i.asked c.self.invariant.1 c.args.place low c.index_mut-stored.result.now c.index_mut-stored.ensures.value
+    c.asked_by-asked_before.result c.asked_by-asked_before.ensures
+
 pub invariant_of-self : goal.invariant_of-self
 invariant_of-self c =
     let i = c.self.inside in
@@ -28,11 +48,14 @@ invariant_of-self c =
     let m = c.args.message.now in
     let b = c.bring.new.self in
     let masked : b.unit.mask ≡ i.mask =
-    ap (λ (s : StoredUnit). s.unit.mask) c.bring.ensures ∙ brought_mask i.mask i.frames i.stored_units.items i.timers c.self.invariant c.args.place low x c.index_mut-stored.ensures.value in
-    let is = heard i.mask c.encode_down-code.result b.unit c.hear.new.self m c.encode_down-code.ensures masked (c.down_round_trip.ensures m (mask_value i.mask) c.requires.proper) c.hear.ensures.read in
-    store_after i.mask i.frames i.stored_units.items i.timers c.self.invariant c.args.place low x c.index_mut-stored.ensures.value
-    b c.bring.ensures c.hear.new.self c.put_timer.new.timers c.due-due.result
-    (ap (λ (u : UnitState). u.mask) is) c.due-due.ensures.value c.due-due.ensures.later c.put_timer.ensures
+    ap (λ (s : StoredUnit). s.unit.mask) c.bring.ensures ∙ brought_mask i.mask i.frames i.stored_units.items i.timers c.self.invariant.0 c.args.place low x c.index_mut-stored.ensures.value in
+    let is = heard i.mask c.encode_down-code.result b.unit c.hear.new.self m c.encode_down-code.ensures masked (c.down_round_trip.ensures m (mask_value i.mask) c.requires.proper) c.hear.ensures.read in (
+      store_after i.mask i.frames i.stored_units.items i.timers c.self.invariant.0 c.args.place low x c.index_mut-stored.ensures.value
+          b c.bring.ensures c.hear.new.self c.renew_timer.new.timers c.due-due.result
+          (ap (λ (u : UnitState). u.mask) is) c.due-due.ensures.value c.due-due.ensures.later c.renew_timer.ensures.names c.renew_timer.ensures.frames,
+      indexed_after i.stored_units.items i.asked c.change.new.self c.args.place (stored_with c.bring.new.self c.hear.new.self) c.asked_by-asked_by.result c.self.invariant.1 low
+          c.asked_by-asked_by.ensures c.change.ensures,
+    )
 
 pub returns-clause-unit : goal.returns-clause-unit
 returns-clause-unit c =
@@ -41,7 +64,7 @@ returns-clause-unit c =
     let x = c.index_mut-stored.result.now in
     let m = c.args.message.now in
     let b = c.bring.new.self in
-    let brought = brought_mask i.mask i.frames i.stored_units.items i.timers c.self.invariant c.args.place low x c.index_mut-stored.ensures.value in
+    let brought = brought_mask i.mask i.frames i.stored_units.items i.timers c.self.invariant.0 c.args.place low x c.index_mut-stored.ensures.value in
     let masked : b.unit.mask ≡ i.mask = ap (λ (s : StoredUnit). s.unit.mask) c.bring.ensures ∙ brought in
     let is = heard i.mask c.encode_down-code.result b.unit c.hear.new.self m c.encode_down-code.ensures masked (c.down_round_trip.ensures m (mask_value i.mask) c.requires.proper) c.hear.ensures.read in
     let u = unit_at i.frames x in
@@ -49,7 +72,7 @@ returns-clause-unit c =
     is ∙ ap (λ (s : StoredUnit). unit_after s.unit (Hears (code_of_down m (mask_value i.mask)) m)) c.bring.ensures
     ∙ ap (λ (k : Mask). unit_after u.state (Hears (code_of_down m (mask_value k)) m)) (sym brought) in
     rw (← c.self.view_is)
-    (changes i.mask i.frames i.stored_units.items i.timers c.self.invariant c.args.place low x c.index_mut-stored.ensures.value
+    (changes i.mask i.frames i.stored_units.items i.timers c.self.invariant.0 c.args.place low x c.index_mut-stored.ensures.value
     b c.bring.ensures c.hear.new.self (unit_hearing m) (ap (λ (s : UnitState). let v : FibreUnit = record u { state = s } in v) same))
 
 pub returns-then-not-may_notice-clause-unit : goal.returns-then-not-may_notice-clause-unit
@@ -58,4 +81,4 @@ returns-then-not-may_notice-clause-unit c =
     let low : c.args.place < length i.stored_units.items = rw length-map at (rw (← c.self.view_is) at c.requires.place) in
     let no : c.may_notice.result ≡ false = search rules in
     rw (← c.self.view_is)
-    (passes i.mask i.frames i.stored_units.items i.timers c.self.invariant c.args.place low c.index.result.now c.index.ensures c.args.message.now (c.may_notice.ensures.passed no))
+    (passes i.mask i.frames i.stored_units.items i.timers c.self.invariant.0 c.args.place low c.index.result.now c.index.ensures c.args.message.now (c.may_notice.ensures.passed no))
