@@ -9,16 +9,19 @@ use Rattle.std.proofs.lemmas.List.{get_or-set_same, get_or-set_other}
 use Rattle.std.proofs.lemmas.List.Elements.{All-head, All-tail, All-same, All-push}
 use Rattle.gp_ploam.specs.declared.check.Mask.{Mask}
 use Rattle.gp_ploam.specs.declared.message.Serial.{Serial}
+use Rattle.gp_ploam.specs.declared.message.Down.{Down}
+use Rattle.gp_ploam.specs.declared.message.Down.TheVariants as down
 use Rattle.gp_ranging.specs.declared.grant.Grant.{Grant}
 use Rattle.gp_ranging.specs.declared.grant.Grant.TheVariants as grant
 use Rattle.gp_onu.specs.declared.stage.Stage.{Stage}
 use Rattle.gp_onu.specs.declared.stage.Stage.TheVariants.{Initial, Standby, SerialNumber, Ranging, Operation, Popup, EmergencyStop}
 use Rattle.gp_onu.specs.Noticing.{is_asked}
 use Rattle.gp_onu.specs.Stage.{onu_id_of, with_more_frames}
-use Rattle.gp_onu.specs.Table.{UnitState, Granted, answer_to, unit_after}
+use Rattle.gp_onu.specs.Table.{UnitState, Granted, Hears, answer_to, is_own, unit_after}
 use Rattle.gp_onu.proofs.Skipping.{unit}
 use Rattle.gp_fibre.specs.declared.asked_by.AskedBy.{AskedBy}
 use Rattle.gp_fibre.specs.declared.asked_by.AskedBy.TheVariants.{Nothing, Search, OnuId}
+use Rattle.gp_fibre.specs.UnitStore.{onu_id_meant}
 use Rattle.gp_fibre.specs.AskedUnits.{AskedPlaces, AsksNobody, HasSet, asked_by_of, asks, is_in_set, places_asked, updated, with_place, without_place}
 
 -- ---- the sets
@@ -188,3 +191,79 @@ unasked s m true (Popup n d o f) (grant.Poll onu) random isnt = (search rules, s
 unasked s m true EmergencyStop grant.Search random isnt = (refl, refl)
 unasked s m true EmergencyStop (grant.Range onu) random isnt = (refl, refl)
 unasked s m true EmergencyStop (grant.Poll onu) random isnt = (refl, refl)
+
+-- ---- a message that is meant for another ONU-ID
+
+abbrev IsDeaf : UnitState → List ℕ → Down → Type 0
+IsDeaf u code message = unit_after u (Hears code message) ≡ u
+
+ranging_time_to_others : (s : Serial) (m : Mask) (stage : Stage) (code : List ℕ) (onu eqd : ℕ) → is_own (unit s m true stage) onu ≡ false → IsDeaf (unit s m true stage) code (down.RangingTime onu eqd)
+ranging_time_to_others s m Initial code onu eqd isnt = refl
+ranging_time_to_others s m Standby code onu eqd isnt = refl
+ranging_time_to_others s m (SerialNumber f) code onu eqd isnt = refl
+ranging_time_to_others s m (Ranging n f) code onu eqd isnt = search rules
+ranging_time_to_others s m (Operation n d o) code onu eqd isnt = search rules
+ranging_time_to_others s m (Popup n d o f) code onu eqd isnt = search rules
+ranging_time_to_others s m EmergencyStop code onu eqd isnt = refl
+
+alloc_to_others : (s : Serial) (m : Mask) (stage : Stage) (code : List ℕ) (onu alloc : ℕ) (keep : Bool) → is_own (unit s m true stage) onu ≡ false
+    → IsDeaf (unit s m true stage) code (down.AssignAlloc onu alloc keep)
+alloc_to_others s m Initial code onu alloc keep isnt = refl
+alloc_to_others s m Standby code onu alloc keep isnt = refl
+alloc_to_others s m (SerialNumber f) code onu alloc keep isnt = refl
+alloc_to_others s m (Ranging n f) code onu alloc keep isnt = search rules
+alloc_to_others s m (Operation n d o) code onu alloc keep isnt = search rules
+alloc_to_others s m (Popup n d o f) code onu alloc keep isnt = search rules
+alloc_to_others s m EmergencyStop code onu alloc keep isnt = refl
+
+deactivation_of_others : (s : Serial) (m : Mask) (stage : Stage) (code : List ℕ) (onu : ℕ) → is_own (unit s m true stage) onu ≡ false → eqb onu 255 ≡ false
+    → IsDeaf (unit s m true stage) code (down.Deactivate onu)
+deactivation_of_others s m Initial code onu isnt one = search rules
+deactivation_of_others s m Standby code onu isnt one = search rules
+deactivation_of_others s m (SerialNumber f) code onu isnt one = search rules
+deactivation_of_others s m (Ranging n f) code onu isnt one = search rules
+deactivation_of_others s m (Operation n d o) code onu isnt one = search rules
+deactivation_of_others s m (Popup n d o f) code onu isnt one = search rules
+deactivation_of_others s m EmergencyStop code onu isnt one = search rules
+
+popup_of_others : (s : Serial) (m : Mask) (stage : Stage) (code : List ℕ) (onu : ℕ) → is_own (unit s m true stage) onu ≡ false → eqb onu 255 ≡ false
+    → IsDeaf (unit s m true stage) code (down.Popup onu)
+popup_of_others s m Initial code onu isnt one = search rules
+popup_of_others s m Standby code onu isnt one = search rules
+popup_of_others s m (SerialNumber f) code onu isnt one = search rules
+popup_of_others s m (Ranging n f) code onu isnt one = search rules
+popup_of_others s m (Operation n d o) code onu isnt one = search rules
+popup_of_others s m (Popup n d o f) code onu isnt one = search rules
+popup_of_others s m EmergencyStop code onu isnt one = search rules
+
+some_same : (a b : ℕ) → Some a ≡ Some b → b ≡ a
+some_same a b e = cc
+
+-- a message that is meant for an ONU-ID unless that is 255
+one_meant : (own onu : ℕ) → cond (eqb own 255) None (Some own) ≡ Some onu → (eqb own 255 ≡ false) × (onu ≡ own)
+one_meant own onu e =
+    elim (cases_Bool (eqb own 255)) [
+      | inl is ↦ absurd (none_is_not onu (sym (ap (λ (b : Bool). cond b None (Some own)) is) ∙ e))
+      | inr isnt ↦ (isnt, some_same own onu (sym (ap (λ (b : Bool). cond b None (Some own)) isnt) ∙ e))
+    ]
+
+pub deaf_to_others : (s : Serial) (m : Mask) (l : Bool) (stage : Stage) (code : List ℕ) (message : Down) (onu : ℕ) → onu_id_meant message ≡ Some onu
+    → is_own (unit s m l stage) onu ≡ false → IsDeaf (unit s m l stage) code message
+deaf_to_others s m false stage code message onu e isnt = refl
+deaf_to_others s m true stage code (down.RangingTime own eqd) onu e isnt =
+    ranging_time_to_others s m stage code own eqd (subst (λ (n : ℕ). is_own (unit s m true stage) n ≡ false) (some_same own onu e) isnt)
+deaf_to_others s m true stage code (down.AssignAlloc own alloc keep) onu e isnt =
+    alloc_to_others s m stage code own alloc keep (subst (λ (n : ℕ). is_own (unit s m true stage) n ≡ false) (some_same own onu e) isnt)
+deaf_to_others s m true stage code (down.Deactivate own) onu e isnt =
+    let one = one_meant own onu e in
+    deactivation_of_others s m stage code own (subst (λ (n : ℕ). is_own (unit s m true stage) n ≡ false) one.1 isnt) one.0
+deaf_to_others s m true stage code (down.Popup own) onu e isnt =
+    let one = one_meant own onu e in
+    popup_of_others s m stage code own (subst (λ (n : ℕ). is_own (unit s m true stage) n ≡ false) one.1 isnt) one.0
+deaf_to_others s m true stage code (down.UpstreamOverhead burst) onu e isnt = absurd (none_is_not onu e)
+deaf_to_others s m true stage code (down.AssignOnu own serial) onu e isnt = absurd (none_is_not onu e)
+deaf_to_others s m true stage code (down.DisableSerial serial) onu e isnt = absurd (none_is_not onu e)
+deaf_to_others s m true stage code (down.EnableSerial serial) onu e isnt = absurd (none_is_not onu e)
+deaf_to_others s m true stage code down.EnableAll onu e isnt = absurd (none_is_not onu e)
+deaf_to_others s m true stage code down.NoMessage onu e isnt = absurd (none_is_not onu e)
+deaf_to_others s m true stage code (down.Other id octet body) onu e isnt = absurd (none_is_not onu e)

@@ -10,10 +10,12 @@ use Rattle.std.proofs.lemmas.List.FromFn.{map-range_with_len_more}
 use Rattle.gp_ploam.specs.declared.message.Down.{Down}
 use Rattle.gp_ploam.specs.declared.message.Up.{Up}
 use Rattle.gp_ploam.specs.Mask.{mask_value}
+use Rattle.gp_ploam.specs.Down.{code_of_down}
 use Rattle.gp_ploam.specs.Up.{code_of_up}
 use Rattle.gp_ranging.specs.declared.grant.Grant.{Grant}
+use Rattle.gp_ranging.specs.declared.grant.Grant.TheVariants.{Poll}
 use Rattle.gp_onu.specs.Noticing.{is_asked}
-use Rattle.gp_onu.specs.Table.{UnitState}
+use Rattle.gp_onu.specs.Table.{Hears, UnitState, unit_after}
 use Rattle.gp_machine.specs.declared.entry.Entry.{Entry}
 use Rattle.gp_machine.specs.declared.event.Event.TheVariants as event
 use Rattle.gp_onu.specs.declared.limits.TheConstants.{FRAME_BIT_TIMES}
@@ -26,10 +28,11 @@ use Rattle.gp_fibre.specs.Run.{FibreRun}
 use Rattle.gp_fibre.specs.Fibre.{FibreStand}
 use Rattle.gp_fibre.specs.Flights.{AreInReach, FlightsState}
 use Rattle.gp_fibre.specs.Parts.{Comes, PortPuts, UnitsTake}
-use Rattle.gp_fibre.specs.UnitStore.{is_asked_at}
+use Rattle.gp_fibre.specs.UnitStore.{IsNextOf, is_asked_at, onu_id_meant}
 use Rattle.gp_fibre.specs.Schedule.{IsProperEntry, arrivals, deliveries, flights_of, grants_given, is_due, is_lost}
-use Rattle.gp_fibre.proofs.Asking.{IsLeft, unasked}
+use Rattle.gp_fibre.proofs.Asking.{IsLeft, deaf_to_others, unasked}
 use Rattle.gp_fibre.proofs.Steps.{one_step, runs_in_parts}
+use Rattle.gp_fibre.proofs.StoredUnits.{asked_within}
 
 pub run_more : (a b c : FibreWorld) (is : List FibreInput) (es : List Entry) (i : FibreInput) (g : Option Entry) → FibreRun a is es b → FibreStep b i g c
     → FibreRun a (is ++ i ∷ []) (es ++ option_to_list g) c
@@ -161,6 +164,67 @@ module _ (a b : FibreWorld) (grant first : ℕ) (issued : Grant) (there : slice_
   passed_over last from few none =
       let same : first + (last - first) ≡ last = omega arith in
       subst (λ (n : ℕ). UnitsTake a (grants_given grant n) b) same (passed (last - first) (omega arith) (λ place low high. none place low (omega arith)))
+
+-- ---- units that a copy is not meant for
+
+-- the message is meant for an ONU-ID that the unit at this place does not have
+abbrev IsMeantForOthers : List FibreUnit → Down → ℕ → Type 0
+IsMeantForOthers units message place = (onu : ℕ) × (onu_id_meant message ≡ Some onu) × (is_asked_at units (Poll onu) place ≡ false)
+
+-- so are all units from a place on up to the next one, or up to the end
+abbrev pub SkipsOthers : List FibreUnit → Down → ℕ → Option ℕ → Type 0
+SkipsOthers units message first None = (place : ℕ) → first ≤ place → place < length units → IsMeantForOthers units message place
+SkipsOthers units message first (Some next) =
+    (first ≤ next) × (next < length units) × ((place : ℕ) → first ≤ place → place < next → IsMeantForOthers units message place)
+
+module _ (units : List FibreUnit) (message : Down) (first : ℕ) where
+  next_of : (onu_id next : Option ℕ) → onu_id_meant message ≡ onu_id → IsNextOf units onu_id first next → SkipsOthers units message first next
+  next_of (Some onu) None meant is = λ place from low. (onu, meant, is place from)
+  next_of (Some onu) (Some next) meant is = (is.0, asked_within units (Poll onu) next is.1, λ place from before. (onu, meant, is.2 place from before))
+  next_of None None meant is = λ place from low. absurd (omega arith)
+  next_of None (Some next) meant is = let same = is.0 in (omega arith, is.1, λ place from before. absurd (omega arith))
+
+  pub skips_others : (next : Option ℕ) → IsNextOf units (onu_id_meant message) first next → SkipsOthers units message first next
+  skips_others next is = next_of (onu_id_meant message) next refl is
+
+left_deaf : (w : FibreWorld) (place : ℕ) (message : Down) → place < length w.units → IsMeantForOthers w.units message place → UnitChanges w place (unit_hearing message) w
+left_deaf w place message low others =
+    let found = found_unit w.units (Poll others.0) place low in
+    let u : FibreUnit = found.0 in
+    let code = code_of_down message (mask_value u.state.mask) in
+    let deaf : unit_after u.state (Hears code message) ≡ u.state =
+    deaf_to_others u.state.serial u.state.mask u.state.lit u.state.stage code message others.0 others.1 (sym found.2 ∙ others.2) in
+    let same : unit_hearing message u ≡ u = ap (λ (s : UnitState). let v : FibreUnit = record u { state = s } in v) deaf in
+    let again : slice_set w.units place u ≡ w.units =
+    ap (λ (v : FibreUnit). slice_set w.units place v) (sym (get_or_from_slice_get w.units place u u found.1)) ∙ set-get_or w.units place u in
+    record {
+      units = record { unit = u; there = found.1; after = sym (ap (λ (v : FibreUnit). slice_set w.units place v) same ∙ again) };
+      rest = refl;
+    }
+
+module _ (a b : FibreWorld) (copy first : ℕ) (message : Down) (there : slice_get a.copies copy ≡ Some message) (so_far : UnitsTake a (deliveries copy first) b) where
+  unheard : (count : ℕ) → first + count ≤ length b.units → ((place : ℕ) → first ≤ place → place < first + count → IsMeantForOthers b.units message place)
+      → UnitsTake a (deliveries copy (first + count)) b
+  unheard zero few others = let same : first ≡ first + 0 = omega arith in subst (λ (n : ℕ). UnitsTake a (deliveries copy n) b) same so_far
+  unheard (suc count) few others =
+      let next : (first + count) + 1 ≡ first + suc count = omega arith in
+      let other : IsMeantForOthers b.units message (first + count) = others (first + count) (omega arith) (omega arith) in
+      let before = unheard count (omega arith) (λ place from low. others place from (omega arith)) in
+      subst (λ (n : ℕ). UnitsTake a (deliveries copy n) b) next (heard_more a b b copy (first + count) message there before (left_deaf b (first + count) message (omega arith) other))
+
+  -- the units up to this one are passed over
+  pub copy_passes : (last : ℕ) → first ≤ last → last ≤ length b.units → ((place : ℕ) → first ≤ place → place < last → IsMeantForOthers b.units message place)
+      → UnitsTake a (deliveries copy last) b
+  copy_passes last from few others =
+      let same : first + (last - first) ≡ last = omega arith in
+      subst (λ (n : ℕ). UnitsTake a (deliveries copy n) b) same (unheard (last - first) (omega arith) (λ place low high. others place low (omega arith)))
+
+-- what the loop over the units that a copy is meant for keeps
+pub record HeardSoFar (copy : ℕ) (old new : FibreStand) (first : ℕ) : Type 0 where
+  pub takes : UnitsTake old.world (deliveries copy first) new.world
+  pub rest : new ≡ record old { world = new.world }
+  pub bursts : new.world.bursts ≡ old.world.bursts
+  pub within : first ≤ length old.world.units
 
 -- what the loop over the units that a grant asks keeps
 pub record AskedSoFar (frame grant : ℕ) (old new : FibreStand) (before after : FlightsState) (first : ℕ) : Type 0 where

@@ -1,10 +1,14 @@
 -- What the units of a world stand for (this profile's own rule): a unit is brought up to date only where something other
 -- than a frame happens to it, and in the frame that ends its state.
-use Rattle.std.specs.Prelude.{◌≡◌, ℕ, ◌+◌, ◌-◌, ◌≤◌, ◌<◌, Bool, true, false, List, Option, None, Some, All, length, map, slice_get}
+use Rattle.std.specs.Prelude.{◌≡◌, ℕ, ◌+◌, ◌-◌, ◌≤◌, ◌<◌, ◌==◌, if◌then◌else◌, Bool, true, false, List, Option, None, Some, All, length, map, slice_get}
 use Rattle.std.specs.Option.{ForSome, option_map}
 use Rattle.std.specs.FinMap.{get, insert, remove}
 use Rattle.gp_ploam.specs.declared.check.Mask.{Mask}
+use Rattle.gp_ploam.specs.declared.message.Down.{Down}
+use Rattle.gp_ploam.specs.declared.message.Down.TheVariants as down
+use Rattle.gp_ploam.specs.OnuIds.{broadcast_onu}
 use Rattle.gp_ranging.specs.declared.grant.Grant.{Grant}
+use Rattle.gp_ranging.specs.declared.grant.Grant.TheVariants.{Poll}
 use Rattle.gp_onu.specs.declared.limits.TheConstants.{MAX_DELAY, MAX_RANDOM_DELAY, MAX_SIMULATED_UNITS}
 use Rattle.gp_onu.specs.Frames.{frames_left, unit_after_frames}
 use Rattle.gp_onu.specs.Noticing.{is_asked}
@@ -40,6 +44,20 @@ abbrev pub IsNextAsked : List FibreUnit → Grant → ℕ → Option ℕ → Typ
 IsNextAsked units grant first None = (place : ℕ) → first ≤ place → is_asked_at units grant place ≡ false
 IsNextAsked units grant first (Some next) =
     (first ≤ next) × (is_asked_at units grant next ≡ true) × ((place : ℕ) → first ≤ place → place < next → is_asked_at units grant place ≡ false)
+
+-- the ONU-ID that a message is meant for, if it is meant for the units that have one
+abbrev pub onu_id_meant : Down → Option ℕ
+onu_id_meant (down.RangingTime onu eqd) = Some onu
+onu_id_meant (down.AssignAlloc onu alloc keep) = Some onu
+onu_id_meant (down.Deactivate onu) = if onu == broadcast_onu then None else Some onu
+onu_id_meant (down.Popup onu) = if onu == broadcast_onu then None else Some onu
+onu_id_meant _ = None
+
+-- the first place from this one on whose unit has this ONU-ID, as a poll of it asks it; where there is no ONU-ID, the very first
+abbrev pub IsNextOf : List FibreUnit → Option ℕ → ℕ → Option ℕ → Type 0
+IsNextOf units (Some onu) first next = IsNextAsked units (Poll onu) first next
+IsNextOf units None first None = length units ≤ first
+IsNextOf units None first (Some next) = (next ≡ first) × (next < length units)
 
 -- ---- the representation
 

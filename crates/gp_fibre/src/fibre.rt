@@ -5,7 +5,7 @@ ghost use Rattle.gp_machine.specs.State.{rows_of};
 ghost use Rattle.gp_onu.specs.declared.limits.TheConstants.{MAX_DELAY, MAX_SIMULATED_UNITS};
 ghost use Rattle.gp_onu.specs.Table.{Dark, Light};
 ghost use Rattle.gp_fibre.specs.declared.world.TheConstants.{MAX_FRAMES};
-ghost use Rattle.gp_fibre.specs.UnitStore.{IsNextAsked};
+ghost use Rattle.gp_fibre.specs.UnitStore.{IsNextAsked, IsNextOf, onu_id_meant};
 ghost use Rattle.gp_fibre.specs.Step.{PortTakes, UnitAnswers, UnitChanges, purse_for, unit_hearing, unit_taking, world_after_frame};
 
 use super::sent_burst::SentBurst;
@@ -176,6 +176,14 @@ impl<L: Ledger> Fibre<L> {
         ensures fits { result ≤ MAX_FRAMES }
     {
         self.store.frames()
+    }
+
+    /// Finds the first place from `from` on whose unit a message may be meant for.
+    pub fn next_meant(&self, message: &Down, from: u16) -> Option<u16>
+        ensures next { IsNextOf self.now.world.units (onu_id_meant message.now) from result }
+        ensures few { IfSome result (λ place. place < MAX_SIMULATED_UNITS) }
+    {
+        self.store.next_meant(message, from)
     }
 
     /// Lets a copy of a message reach a unit.

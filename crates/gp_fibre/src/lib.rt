@@ -5,7 +5,7 @@
 //! - `running.rt`: the parts of a frame of `World::run`, which may lose copies and bursts (`loss_plan.rt`).
 //! - `fibre.rt`: the port, the book of its licences, the units, and all that was sent (`sent_burst.rt`).
 //! - `unit_store.rt`, `stored_unit.rt`: the units, each brought up to date only where it has to be.
-//! - `asked_units.rt`, `asked_by.rt`: the index of the units that each grant asks.
+//! - `asked_units.rt`, `asked_by.rt`: the index of the units that each grant asks, and so of those with each ONU-ID.
 //! - `flights.rt`, `flight.rt`: the bursts that are to come in a run.
 //! - `laws.rt`: what holds of every run: the messages that each unit was sent, and with which one it loses its ONU-ID.
 //!

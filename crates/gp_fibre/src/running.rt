@@ -29,7 +29,8 @@ fn is_lost(lost: &[u64], number: u64) -> bool
     lost.iter().any(|other| *other == number)
 }
 
-/// Lets a copy reach each unit, one after the other.
+/// Lets a copy reach each unit, one after the other. Those without the ONU-ID that it is meant for are the same after it, so they
+/// are passed over.
 fn deliver_all<L: Ledger>(fibre: &mut Fibre<L>, copy: u64, message: &Down)
     requires sent { slice_get fibre.old.world.copies copy ≡ Some message.now }
     requires proper { IsProperDown message.now }
@@ -37,8 +38,10 @@ fn deliver_all<L: Ledger>(fibre: &mut Fibre<L>, copy: u64, message: &Down)
     ensures bursts { fibre.new.world.bursts ≡ fibre.old.world.bursts }
     ensures rest { fibre.new ≡ record fibre.old { world = fibre.new.world } }
 {
-    for place in 0..fibre.units() {
-        fibre.hear(place, message);
+    let mut from = 0;
+    while let Some(place) = fibre.next_meant(message, from) {
+        fibre.hear(usize::from(place), message);
+        from = place + 1;
     }
 }
 

@@ -8,13 +8,14 @@ ghost use Rattle.std.specs.FinMap.{get};
 ghost use Rattle.gp_fibre.specs.declared.world.TheConstants.{MAX_FRAMES};
 ghost use Rattle.gp_fibre.specs.World.{planned_unit};
 ghost use Rattle.gp_fibre.specs.Step.{ChangesAt, burst_with, unit_hearing, unit_taking};
-ghost use Rattle.gp_fibre.specs.UnitStore.{Answers, IsNextAsked, due_of, unit_at, with_timer};
+ghost use Rattle.gp_fibre.specs.UnitStore.{Answers, IsNextAsked, IsNextOf, due_of, unit_at, with_timer};
+ghost use Rattle.gp_fibre.specs.UnitStore as spec;
 
 use super::asked_units::AskedUnits;
 use super::sent_burst::SentBurst;
 use super::stored_unit::StoredUnit;
 use super::unit_plan::UnitPlan;
-use gp_ploam::{Down, Mask, down_round_trip, encode_down};
+use gp_ploam::{BROADCAST_ONU, Down, Mask, down_round_trip, encode_down};
 use gp_ranging::Grant;
 use gp_timers::{TimerFault, Wheel};
 use std::alloc::{AllocError, Global};
@@ -152,6 +153,29 @@ impl UnitStore {
         self.asked.next(grant, from)
     }
 
+    /// Finds the first place from `from` on whose unit a message may be meant for. Of a message for one ONU-ID that is the first
+    /// unit that has it, found without going through the units; of any other, the very first.
+    pub fn next_meant(&self, message: &Down, from: u16) -> Option<u16>
+        ensures next { IsNextOf self.now.units (spec.onu_id_meant message.now) from result }
+        ensures few { IfSome result (λ place. place < MAX_SIMULATED_UNITS) }
+    {
+        match onu_id_meant(message) {
+            Some(onu) => self.asked.next(Grant::Poll(onu), from),
+            None => self.place_from(from),
+        }
+    }
+
+    fn place_from(&self, from: u16) -> Option<u16>
+        ensures next { IsNextOf self.now.units None from result }
+        ensures few { IfSome result (λ place. place < MAX_SIMULATED_UNITS) }
+    {
+        if usize::from(from) < self.stored_units.len() {
+            Some(from)
+        } else {
+            None
+        }
+    }
+
     /// Lets a grant reach a unit, which may answer with a burst.
     pub fn grant(&mut self, place: usize, grant: Grant) -> Option<SentBurst>
         requires { place < length self.old.units }
@@ -192,6 +216,23 @@ impl UnitStore {
             renew_timer(&mut self.timers, place, None, due);
             self.asked.change(place, asked_before, asked_by);
         }
+    }
+}
+
+/// Gives the ONU-ID that a message is meant for, if it is meant for the units that have one.
+fn onu_id_meant(message: &Down) -> Option<u8>
+    ensures { result ≡ spec.onu_id_meant message.now }
+{
+    match *message {
+        Down::RangingTime { onu, .. } | Down::AssignAlloc { onu, .. } => Some(onu),
+        Down::Deactivate { onu } | Down::Popup { onu } => {
+            if onu == BROADCAST_ONU {
+                None
+            } else {
+                Some(onu)
+            }
+        }
+        _ => None,
     }
 }
 
