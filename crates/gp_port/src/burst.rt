@@ -21,6 +21,8 @@ use gp_ranging::Grant;
 
 impl PortMachine {
     /// Hears a burst after this round-trip delay in bit times; its octets are read under the port's mask.
+    // Kept out of line, so that `step` is small and does not carry the locals of this call.
+    #[inline(never)]
     pub(super) fn burst(
         &mut self,
         purse: u32,

@@ -27,6 +27,8 @@ use gp_ranging::Grant;
 
 impl PortMachine {
     /// Makes a frame: cooling, timer and sending, then the open window, or a decision.
+    // Kept out of line, so that `step` is small and does not carry the locals of this call.
+    #[inline(never)]
     pub(super) fn frame(&mut self, purse: u32) -> (Answer, u32)
         requires sound { IsSound self.old }
         requires purse { purse ≤ MAX_LICENCES }
