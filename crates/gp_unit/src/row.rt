@@ -137,22 +137,25 @@ impl Row {
     }
 
     /// Puts these counts in the place of the unit's.
-    fn counted(self, counts: PollCounts) -> Row
-        ensures { result ≡ row_counted self counts }
+    pub fn set_counts(&mut self, counts: PollCounts)
+        ensures { self.new ≡ row_counted self.old counts }
     {
-        let phase = match self.phase {
-            Phase::Ranging { .. } => self.phase,
-            Phase::Operating { eqd, .. } => Phase::Operating {
-                eqd,
-                dark: counts.dark,
-                garbled: counts.garbled,
-            },
-        };
-        Row {
-            phase,
-            waiting: counts.waiting,
-            ..self
+        self.waiting = counts.waiting;
+        if let Phase::Operating { dark, garbled, .. } = &mut self.phase {
+            *dark = counts.dark;
+            *garbled = counts.garbled;
         }
+    }
+
+    /// Tells the unit's counts after a poll window that ended so, and the alarm that it gives: LOS, LOAM, LOA or none.
+    /// With an alarm the unit is lost, and one of the counts is at its limit.
+    pub fn count_poll(&self, outcome: Outcome) -> (PollCounts, Option<AlarmKind>)
+        requires { IsBelowEachLimit (counts_in self.now.phase self.now.waiting) }
+        ensures counts { result.0 ≡ counts_polled self.now outcome }
+        ensures alarm { result.1 ≡ alarm_polled self.now outcome }
+        ensures goes_on { IfNone result.1 (IsBelowEachLimit (counts_polled self.now outcome)) }
+    {
+        close_poll(self.counts(), outcome, self.pending.is_some())
     }
 
     /// Counts a poll window that ended so, and tells the alarm that it gives: LOS, LOAM, LOA or none. With an alarm the
@@ -163,8 +166,10 @@ impl Row {
         ensures alarm { result.1 ≡ alarm_polled self outcome }
         ensures goes_on { IfNone result.1 (IsBelowEachLimit (counts_polled self outcome)) }
     {
-        let (counts, alarm) = close_poll(self.counts(), outcome, self.pending.is_some());
-        (self.counted(counts), alarm)
+        let (counts, alarm) = self.count_poll(outcome);
+        let mut row = self;
+        row.set_counts(counts);
+        (row, alarm)
     }
 
     /// Gives the unit a further Alloc-ID, which it has still to acknowledge.
