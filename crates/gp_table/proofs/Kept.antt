@@ -19,7 +19,7 @@ use Rattle.gp_table.specs.Rows.{Rows, HasRow, HasOnuId, IsInPhase}
 use Rattle.gp_table.specs.Table.{Slots, slot_at, row_in, rows_of, key_of_onu, IsKept, IsSetOf}
 use Rattle.gp_table.proofs.Gets.{len-insert_new, len-remove_known, same_value, no_value}
 use Rattle.gp_table.proofs.Values.{len-map_values}
-use Rattle.gp_table.proofs.Marks.{IsAlone, marks_ranging-put, marks_operating-put, marks-remove}
+use Rattle.gp_table.proofs.Marks.{IsAlone, marks_ranging-put, marks_operating-put, marks-remove, marks-stay}
 use Rattle.gp_table.proofs.Tables.{Serials, Onus, IsIndexed, IsWritten, known, unknown, alone_new, alone_known, row_there, no_row_there, rows-insert, indexed-insert, rows-replace, indexed-replace, rows-remove, indexed-remove}
 
 abbrev pub indexed : (slots : Slots) (capacity : ℕ) (serials : Serials) (onus : Onus) (ranging operating : num.FinSet nat_cmp) → IsKept slots capacity serials onus ranging operating → IsIndexed slots serials onus
@@ -73,6 +73,29 @@ kept-replace old new capacity serials onus ranging operating key unit h at same_
       holder = after.holder;
       marks_ranging = rw rows (marks_ranging-put (rows_of old serials) unit.serial (row_of unit) alone ranging h.marks_ranging);
       marks_operating = rw rows (marks_operating-put (rows_of old serials) unit.serial (row_of unit) alone operating h.marks_operating);
+    }
+
+-- the sets of ONU-IDs stay as they are where the unit stays in its phase
+pub kept-recount : (old new : Slots) (capacity : ℕ) (serials : Serials) (onus : Onus) (ranging operating : num.FinSet nat_cmp) (key : ℕ) (unit : Record)
+    → (h : IsKept old capacity serials onus ranging operating) (at : map.get serials unit.serial ≡ Some key) → (h.there unit.serial key at).unit.row.onu ≡ unit.row.onu
+    → is_ranging (h.there unit.serial key at).unit.row.phase ≡ is_ranging unit.row.phase
+    → IsWritten old new key (Some unit) → count_by is_some new ≡ count_by is_some old → IsKept new capacity serials onus ranging operating
+kept-recount old new capacity serials onus ranging operating key unit h at same_onu kind written same =
+    let both = indexed old capacity serials onus ranging operating h in
+    let after = indexed-replace old new serials onus key unit both at written same_onu in
+    let rows = rows-replace old new serials onus key unit both at written in
+    let there = h.there unit.serial key at in
+    let has = row_there old serials unit.serial key there.unit at there.slot in
+    let alone = subst (IsAlone (rows_of old serials) unit.serial) same_onu (alone_known old serials onus unit.serial (row_of there.unit) both has) in
+    let counted = h.counted in
+    record {
+      room = h.room;
+      counted = omega arith;
+      places = after.places;
+      there = after.there;
+      holder = after.holder;
+      marks_ranging = rw rows (marks-stay (rows_of old serials) unit.serial (row_of unit) alone (row_of there.unit) has kind ranging true h.marks_ranging);
+      marks_operating = rw rows (marks-stay (rows_of old serials) unit.serial (row_of unit) alone (row_of there.unit) has kind operating false h.marks_operating);
     }
 
 pub kept-remove : (old new : Slots) (capacity : ℕ) (serials : Serials) (onus : Onus) (ranging operating : num.FinSet nat_cmp) (key : ℕ) (s : Serial) (unit : Record)

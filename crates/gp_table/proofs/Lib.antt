@@ -8,6 +8,7 @@ pub mod Tables
 pub mod Kept
 pub mod PopUp
 pub mod PopOne
+pub mod Recounted
 pub mod Over
 pub mod Numbers
 pub mod PoolMembers

@@ -73,6 +73,24 @@ module _ (rows : Rows) (s : Serial) (new : Row) (alone : IsAlone rows s new.onu)
         still ranging onu kept.0 (h.of_set onu kept.1);
   }
 
+  -- the set stays as it is where the row was in the same phase
+  pub marks-stay : (old : Row) → HasRow rows s old → is_ranging old.phase ≡ is_ranging new.phase → (onus : set.FinSet nat_cmp) (ranging : Bool) → IsSetOf onus rows ranging → IsSetOf onus (map.insert rows s new) ranging
+  marks-stay old has kind onus ranging h = record {
+    in_set = λ onu p. elim (was ranging onu p) [
+      | inl w ↦ h.in_set onu (record { serial = s; row = old; has = has; phase = kind ∙ w.1; is_onu = alone.itself old has ∙ sym w.0 })
+      | inr w ↦ h.in_set onu w.1
+    ];
+    of_set = λ onu in_it.
+        let p = h.of_set onu in_it in
+        elim (cases_eq onu new.onu) [
+          | inl same ↦
+              let is_unit : p.serial ≡ s = alone.others p.serial p.row p.has (p.is_onu ∙ same) in
+              let is : p.row ≡ old = same_value p.row old (sym p.has ∙ subst (λ (x : Serial). HasRow rows x old) (sym is_unit) has) in
+              rw same (anew ranging (sym kind ∙ ap (λ (r : Row). is_ranging r.phase) (sym is) ∙ p.phase))
+          | inr other ↦ still ranging onu other p
+        ];
+  }
+
   true_is_not_false : true ≡ false → ⊥
   true_is_not_false e = false≢true (sym e)
 

@@ -10,7 +10,7 @@ ghost use Rattle.gp_pools.specs.Pool.{IsLeased};
 ghost use Rattle.gp_pools.specs.Slots.{max_allocs};
 ghost use Rattle.gp_unit.specs.declared.row.Row.{Row};
 ghost use Rattle.gp_unit.specs.Records.{row_of};
-ghost use Rattle.gp_unit.specs.Rows.{has_alloc, holds_alloc, is_ranging, new_row, row_acknowledged, row_polled, row_releasing, row_with_alloc};
+ghost use Rattle.gp_unit.specs.Rows.{has_alloc, holds_alloc, is_ranging, new_row, row_acknowledged, row_counted, row_polled, row_releasing, row_with_alloc};
 ghost use Rattle.gp_unit.specs.Sound.{IsSoundRow};
 ghost use Rattle.gp_unit.specs.Units.{retired as retired_unit};
 ghost use Rattle.gp_table.specs.Awake.{HasNumbersOf, IsOperatingAwake, record_awake};
@@ -18,6 +18,7 @@ ghost use Rattle.gp_table.specs.Active.{IsFreeAllocId, IsFreeOnuId, KeepsNumbers
 ghost use Rattle.gp_table.specs.Rows.{HasOnuId, HasRow, IsLeastRanging, IsNextPoll, count_operating, popped_rows};
 
 use super::unit_table::{Entry, UnitTable};
+use gp_alarms::PollCounts;
 use gp_ploam::Serial;
 use gp_pools::{AllocIds, AllocLease, OnuIds};
 use gp_unit::{Awake, Operating, Ranging, Record, Retired, Row};
@@ -209,6 +210,14 @@ impl ActiveUnits {
         ensures { self.new ≡ with_row self.old serial row }
     {
         self.table.replace(Record { serial, row });
+    }
+
+    /// Puts these counts in the place of a unit's. All else of the unit stays as it is.
+    pub fn set_counts(&mut self, unit: Record, counts: PollCounts)
+        requires { HasRow self.old.rows unit.serial unit.row }
+        ensures { self.new ≡ with_row self.old unit.serial (row_counted unit.row counts) }
+    {
+        self.table.set_counts(unit, counts);
     }
 
     /// Gives an operating unit, which has nothing pending, one more Alloc-ID, which it has to acknowledge.

@@ -6,11 +6,13 @@ ghost use Rattle.gp_ploam.specs.declared.message.Serial.{Serial};
 ghost use Rattle.gp_ploam.specs.OnuIds.{last_onu, onu_ids};
 ghost use Rattle.gp_unit.specs.declared.row.Row.{Row};
 ghost use Rattle.gp_unit.specs.Records.{row_of, record_of};
+ghost use Rattle.gp_unit.specs.Rows.{row_counted};
 ghost use Rattle.gp_table.specs.Rows.{HasOnuId, HasRow, IsLeastRanging, IsNextPoll, Operates, PopsUpOne, count_operating, popped_rows};
 ghost use Rattle.gp_table.specs.Table.{row_in, slot_at};
 ghost use Rattle.gp_table.specs.Units.{entry_for, no_units};
 
 use super::admission_index::AdmissionIndex;
+use gp_alarms::PollCounts;
 use gp_numbers::NumberSet;
 use gp_ploam::{ONU_IDS, Serial};
 use gp_unit::{Phase, Record, Row};
@@ -220,6 +222,17 @@ impl UnitTable {
         );
         match self.onus[usize::from(unit.row.onu)] {
             Some(key) => self.records[key] = unit,
+            None => unreachable!(),
+        }
+    }
+
+    /// Puts these counts in the place of a unit's. All else of the unit stays as it is, and no set of ONU-IDs is touched.
+    pub fn set_counts(&mut self, unit: Record, counts: PollCounts)
+        requires { HasRow self.old.rows unit.serial (row_of unit) }
+        ensures { self.new ≡ record self.old { rows = map.insert self.old.rows unit.serial (row_counted unit.row counts) } }
+    {
+        match self.onus[usize::from(unit.row.onu)] {
+            Some(key) => self.records[key].row.set_counts(counts),
             None => unreachable!(),
         }
     }
