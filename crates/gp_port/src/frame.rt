@@ -220,11 +220,11 @@ impl PortMachine {
         ensures outcome { frame_result_of result self.new ≡ step_result_with purse self.old sent (unpolled_response serial row (poll_ended heard) (alarm_polled row (poll_ended heard))) 0 }
     {
         let onu = row.onu;
-        let (still, alarm) = row.polled(ended(heard));
+        let (counts, alarm) = row.count_poll(ended(heard));
         self.close_window();
         match alarm {
             None => {
-                self.set_row(serial, still);
+                self.set_counts(serial, row, counts);
                 (ticked(sent, None), purse)
             }
             Some(kind) => {

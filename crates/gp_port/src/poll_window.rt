@@ -38,9 +38,9 @@ impl PortMachine {
             }
             Up::DyingGasp { .. } => {
                 let onu = row.onu;
-                let (still, _) = row.polled(Outcome::Gasped);
+                let (counts, _) = row.count_poll(Outcome::Gasped);
                 self.close_window();
-                self.set_row(serial, still);
+                self.set_counts(serial, row, counts);
                 (raises(BurstReply::Gasp(onu), AlarmKind::Dg, serial), purse)
             }
             _ => self.alive(purse, serial, row),
@@ -75,11 +75,11 @@ impl PortMachine {
         ensures outcome { burst_result_of result self.new ≡ step_result_with purse self.old None (alive_response serial row (alarm_polled row poll.Good)) (number_given result.0) }
     {
         let onu = row.onu;
-        let (still, alarm) = row.polled(Outcome::Good);
+        let (counts, alarm) = row.count_poll(Outcome::Good);
         self.close_window();
         match alarm {
             None => {
-                self.set_row(serial, still);
+                self.set_counts(serial, row, counts);
                 (replies(BurstReply::Alive(onu)), purse)
             }
             Some(kind) => {

@@ -5,7 +5,7 @@ ghost use Rattle.gp_ploam.specs.OnuIds.{onu_ids};
 ghost use Rattle.gp_ploam.specs.Serials.{is_among};
 ghost use Rattle.gp_pools.specs.Slots.{max_allocs};
 ghost use Rattle.gp_unit.specs.declared.row.Row.{Row};
-ghost use Rattle.gp_unit.specs.Rows.{holds_alloc, is_operating, is_ranging, new_row, row_acknowledged, row_polled, row_releasing, row_with_alloc};
+ghost use Rattle.gp_unit.specs.Rows.{holds_alloc, is_operating, is_ranging, new_row, row_acknowledged, row_counted, row_polled, row_releasing, row_with_alloc};
 ghost use Rattle.gp_alarms.specs.declared.poll.Outcome.TheVariants.{Acked};
 ghost use Rattle.gp_unit.specs.Sound.{IsSoundRow};
 ghost use Rattle.gp_machine.specs.State.{HasRow, IsFree, IsFreeAlloc, count_rows};
@@ -13,6 +13,7 @@ ghost use Rattle.gp_machine.specs.Changes as spec;
 ghost use Rattle.gp_machine.specs.Frame.{state_after_cooling};
 
 use super::port_machine::PortMachine;
+use gp_alarms::PollCounts;
 use gp_machine::Row;
 use gp_ploam::Serial;
 use gp_unit::Record;
@@ -34,6 +35,14 @@ impl PortMachine {
         ensures { self.new ≡ spec.state_with_row self.old serial row }
     {
         self.units.set_row(serial, row);
+    }
+
+    /// Puts these counts in the place of an active unit's.
+    pub(super) fn set_counts(&mut self, serial: Serial, row: Row, counts: PollCounts)
+        requires { HasRow self.old.rows serial row }
+        ensures { self.new ≡ spec.state_with_row self.old serial (row_counted row counts) }
+    {
+        self.units.set_counts(Record { serial, row }, counts);
     }
 
     /// Begins anew with a unit: it keeps its ONU-ID, and its Alloc-IDs are free.
