@@ -1,165 +1,38 @@
-//! What `crates/olt_bench` measures of messages and of a port, in plain Rust, to compare times with. It makes the same steps
-//! and prints the same calls and sums; of the rules of a port it has those that these steps meet.
-//!
-//!     rustc --edition 2021 -C opt-level=3 -C codegen-units=1 port.rs && ./port ROUNDS
+//! A port, with those of its rules that the measured steps meet.
 
+use super::ploam::{decode_up, Down, Serial, Up};
 use std::collections::VecDeque;
-use std::time::{Duration, Instant};
-
-type Serial = [u8; 8];
 
 #[derive(Clone, Copy, Debug, PartialEq, Eq)]
-enum Down {
-    UpstreamOverhead { burst: [u8; 10] },
-    AssignOnu { onu: u8, serial: Serial },
-    RangingTime { onu: u8, eqd: u32 },
-    Deactivate { onu: u8 },
-}
-
-#[derive(Clone, Copy, Debug, PartialEq, Eq)]
-enum Up {
-    SerialNumber { onu: u8, serial: Serial, random: u16, flags: u8 },
-    DyingGasp { onu: u8 },
-    NoMessage { onu: u8 },
-    Acknowledge { onu: u8, id: u8, copy: [u8; 9] },
-    Other { id: u8, octet1: u8, body: [u8; 10] },
-}
-
-impl Up {
-    fn octet1(&self) -> u8 {
-        match *self {
-            Up::SerialNumber { onu, .. }
-            | Up::DyingGasp { onu }
-            | Up::NoMessage { onu }
-            | Up::Acknowledge { onu, .. } => onu,
-            Up::Other { octet1, .. } => octet1,
-        }
-    }
-}
-
-/// The remainders of division by x^8 + x^2 + x + 1.
-const fn table() -> [u8; 256] {
-    let mut table = [0; 256];
-    let mut i = 0;
-    while i < 256 {
-        let mut rest = i as u8;
-        let mut bit = 0;
-        while bit < 8 {
-            rest = if rest & 0x80 != 0 { rest << 1 ^ 0x07 } else { rest << 1 };
-            bit += 1;
-        }
-        table[i] = rest;
-        i += 1;
-    }
-    table
-}
-static TABLE: [u8; 256] = table();
-
-fn crc(octets: &[u8]) -> u8 {
-    octets.iter().fold(0, |rest, octet| TABLE[usize::from(rest ^ octet)])
-}
-
-fn sealed(mut code: [u8; 13], mask: u8) -> [u8; 13] {
-    code[12] = crc(&code[..12]) ^ mask;
-    code
-}
-
-fn encode_down(message: &Down, mask: u8) -> [u8; 13] {
-    let mut code = [0; 13];
-    match *message {
-        Down::UpstreamOverhead { burst } => {
-            code[0] = 255;
-            code[1] = 1;
-            code[2..12].copy_from_slice(&burst);
-        }
-        Down::AssignOnu { onu, serial } => {
-            code[0] = 255;
-            code[1] = 3;
-            code[2] = onu;
-            code[3..11].copy_from_slice(&serial);
-        }
-        Down::RangingTime { onu, eqd } => {
-            code[0] = onu;
-            code[1] = 4;
-            code[3..7].copy_from_slice(&eqd.to_be_bytes());
-        }
-        Down::Deactivate { onu } => {
-            code[0] = onu;
-            code[1] = 5;
-        }
-    }
-    sealed(code, mask)
-}
-
-fn encode_up(message: &Up, mask: u8) -> [u8; 13] {
-    let mut code = [0; 13];
-    match *message {
-        Up::SerialNumber { onu, serial, random, flags } => {
-            code[0] = onu;
-            code[1] = 1;
-            code[2..10].copy_from_slice(&serial);
-            code[10] = (random >> 4) as u8;
-            code[11] = (random as u8) << 4 | flags;
-        }
-        Up::NoMessage { onu } => {
-            code[0] = onu;
-            code[1] = 4;
-        }
-        _ => unimplemented!(),
-    }
-    sealed(code, mask)
-}
-
-fn decode_up(code: &[u8], mask: u8) -> Option<Up> {
-    let code: &[u8; 13] = code.try_into().ok()?;
-    if crc(&code[..12]) ^ mask != code[12] {
-        return None;
-    }
-    let onu = code[0];
-    Some(match code[1] {
-        1 => Up::SerialNumber {
-            onu,
-            serial: code[2..10].try_into().unwrap(),
-            random: u16::from(code[10]) << 4 | u16::from(code[11] >> 4),
-            flags: code[11] & 15,
-        },
-        3 => Up::DyingGasp { onu },
-        4 => Up::NoMessage { onu },
-        9 => Up::Acknowledge { onu, id: code[2], copy: code[3..12].try_into().unwrap() },
-        id => Up::Other { id, octet1: onu, body: code[2..12].try_into().unwrap() },
-    })
-}
-
-#[derive(Clone, Copy, Debug, PartialEq, Eq)]
-enum Phase {
+pub enum Phase {
     Ranging { attempts: u8, seen: bool },
     Operating { eqd: u32, dark: u8, garbled: u8 },
 }
 
 #[derive(Clone, Copy, Debug, PartialEq, Eq)]
-struct Row {
-    onu: u8,
-    allocs: [Option<(u16, bool)>; 8],
-    pending: Option<u16>,
-    waiting: u8,
-    phase: Phase,
+pub struct Row {
+    pub onu: u8,
+    pub allocs: [Option<(u16, bool)>; 8],
+    pub pending: Option<u16>,
+    pub waiting: u8,
+    pub phase: Phase,
 }
 
 #[derive(Clone, Copy, Debug)]
-struct Record {
-    serial: Serial,
-    row: Row,
+pub struct Record {
+    pub serial: Serial,
+    pub row: Row,
 }
 
 #[derive(Clone, Copy, Debug, PartialEq, Eq)]
-enum Grant {
+pub enum Grant {
     Search,
     Range(u8),
     Poll(u8),
 }
 
 #[derive(Clone, Copy, Debug, PartialEq, Eq)]
-enum AlarmKind {
+pub enum AlarmKind {
     Los,
     Loam,
     Loa,
@@ -169,13 +42,13 @@ enum AlarmKind {
 }
 
 #[derive(Clone, Copy, Debug, PartialEq, Eq)]
-struct Alarm {
-    kind: AlarmKind,
-    serial: Serial,
+pub struct Alarm {
+    pub kind: AlarmKind,
+    pub serial: Serial,
 }
 
 #[derive(Clone, Copy, Debug, PartialEq, Eq)]
-enum Refusal {
+pub enum Refusal {
     Stray,
     Garbled,
     WrongWindow,
@@ -187,7 +60,7 @@ enum Refusal {
 }
 
 #[derive(Clone, Copy, Debug, PartialEq, Eq)]
-enum Reply {
+pub enum Reply {
     Ticked,
     Refused(Refusal),
     Searching,
@@ -206,15 +79,15 @@ enum Reply {
 }
 
 #[derive(Clone, Copy, Debug, PartialEq, Eq)]
-struct Answer {
-    reply: Reply,
-    sent: Option<Down>,
-    grant: Option<Grant>,
-    alarm: Option<Alarm>,
+pub struct Answer {
+    pub reply: Reply,
+    pub sent: Option<Down>,
+    pub grant: Option<Grant>,
+    pub alarm: Option<Alarm>,
 }
 
 #[derive(Clone, Copy, Debug)]
-enum Command {
+pub enum Command {
     Search,
     /// Never asked here; an answer has room for a row because of it.
     #[allow(dead_code)]
@@ -222,43 +95,43 @@ enum Command {
 }
 
 #[derive(Clone, Copy, Debug)]
-enum Event {
+pub enum Event {
     Frame,
     Burst { at: u32, bytes: [u8; 13] },
     Command(Command),
 }
 
 #[derive(Clone, Copy, PartialEq, Eq)]
-enum Common {
+pub enum Common {
     Standby,
     Acquisition(u8),
     Measuring,
 }
 
 #[derive(Clone, Copy)]
-struct Window {
-    grant: Grant,
-    left: u8,
-    seen: bool,
+pub struct Window {
+    pub grant: Grant,
+    pub left: u8,
+    pub seen: bool,
 }
 
-struct Admission {
-    serial: Serial,
-    onu: Option<u8>,
-    disabled: bool,
+pub struct Admission {
+    pub serial: Serial,
+    pub onu: Option<u8>,
+    pub disabled: bool,
 }
 
 #[derive(Default, Clone, Copy)]
-struct Bits([u64; 4]);
+pub struct Bits([u64; 4]);
 
 impl Bits {
-    fn insert(&mut self, onu: u8) {
+    pub fn insert(&mut self, onu: u8) {
         self.0[usize::from(onu) / 64] |= 1 << (onu % 64);
     }
-    fn remove(&mut self, onu: u8) {
+    pub fn remove(&mut self, onu: u8) {
         self.0[usize::from(onu) / 64] &= !(1 << (onu % 64));
     }
-    fn least_from(&self, from: usize) -> Option<u8> {
+    pub fn least_from(&self, from: usize) -> Option<u8> {
         let mut word = from / 64;
         let mut mask = u64::MAX << (from % 64);
         while word < 4 {
@@ -273,36 +146,36 @@ impl Bits {
     }
 }
 
-struct Config {
-    mask: u8,
-    teqd: u32,
-    overhead: [u8; 10],
-    max_units: u8,
-    cycles: u8,
-    search_period: u32,
-    quarantine: u16,
-    admitted: Vec<Serial>,
+pub struct Config {
+    pub mask: u8,
+    pub teqd: u32,
+    pub overhead: [u8; 10],
+    pub max_units: u8,
+    pub cycles: u8,
+    pub search_period: u32,
+    pub quarantine: u16,
+    pub admitted: Vec<Serial>,
 }
 
-struct Port {
-    config: Config,
-    units: Vec<Option<Record>>,
-    admissions: Vec<Admission>,
-    ranging: Bits,
-    operating: Bits,
-    rows: usize,
-    clock: u64,
-    free_from: [u64; 254],
-    common: Common,
-    wanted: bool,
-    timer: u32,
-    window: Option<Window>,
-    owed: VecDeque<(Down, u8)>,
-    polled: Option<u8>,
+pub struct Port {
+    pub config: Config,
+    pub units: Vec<Option<Record>>,
+    pub admissions: Vec<Admission>,
+    pub ranging: Bits,
+    pub operating: Bits,
+    pub rows: usize,
+    pub clock: u64,
+    pub free_from: [u64; 254],
+    pub common: Common,
+    pub wanted: bool,
+    pub timer: u32,
+    pub window: Option<Window>,
+    pub owed: VecDeque<(Down, u8)>,
+    pub polled: Option<u8>,
 }
 
 impl Port {
-    fn begin(config: Config) -> Port {
+    pub fn begin(config: Config) -> Port {
         let mut admissions: Vec<Admission> =
             config.admitted.iter().map(|&serial| Admission { serial, onu: None, disabled: false }).collect();
         admissions.sort_by_key(|admission| admission.serial);
@@ -324,18 +197,18 @@ impl Port {
         }
     }
 
-    fn len_copies(&self) -> usize {
+    pub fn len_copies(&self) -> usize {
         match self.owed.front() {
             Some(&(_, left)) => usize::from(left) + 3 * (self.owed.len() - 1),
             None => 0,
         }
     }
 
-    fn has_room(&self) -> bool {
-        self.len_copies() + 3 <= 192
+    pub fn has_room(&self) -> bool {
+        self.len_copies() + 3 <= 189
     }
 
-    fn step(&mut self, purse: u32, event: Event) -> (Answer, u32) {
+    pub fn step(&mut self, purse: u32, event: Event) -> (Answer, u32) {
         match event {
             Event::Frame => self.frame(purse),
             Event::Burst { at, bytes } => self.burst(purse, at, &bytes),
@@ -343,7 +216,7 @@ impl Port {
         }
     }
 
-    fn command(&mut self, command: Command) -> Reply {
+    pub fn command(&mut self, command: Command) -> Reply {
         match command {
             Command::Search => {
                 if self.wanted || matches!(self.common, Common::Acquisition(_)) {
@@ -362,7 +235,7 @@ impl Port {
         }
     }
 
-    fn frame(&mut self, purse: u32) -> (Answer, u32) {
+    pub fn frame(&mut self, purse: u32) -> (Answer, u32) {
         let quiet = self.owed.is_empty();
         self.clock += 1;
         if self.common == Common::Standby && self.config.search_period > 0 {
@@ -389,7 +262,7 @@ impl Port {
         (given, left)
     }
 
-    fn send_one(&mut self) -> Option<Down> {
+    pub fn send_one(&mut self) -> Option<Down> {
         let (message, left) = self.owed.front_mut()?;
         let message = *message;
         *left -= 1;
@@ -399,7 +272,7 @@ impl Port {
         Some(message)
     }
 
-    fn close_window(&mut self, window: Window, purse: &mut u32) -> Option<Alarm> {
+    pub fn close_window(&mut self, window: Window, purse: &mut u32) -> Option<Alarm> {
         match window.grant {
             Grant::Search => None,
             Grant::Range(onu) => {
@@ -452,7 +325,7 @@ impl Port {
         }
     }
 
-    fn remove(&mut self, onu: u8) {
+    pub fn remove(&mut self, onu: u8) {
         if let Some(unit) = self.units[usize::from(onu)].take() {
             let place = self.admissions.binary_search_by_key(&unit.serial, |a| a.serial).unwrap();
             self.admissions[place].onu = None;
@@ -463,16 +336,16 @@ impl Port {
         }
     }
 
-    fn owe(&mut self, message: Down) {
+    pub fn owe(&mut self, message: Down) {
         self.owed.push_back((message, 3));
     }
 
-    fn open(&mut self, grant: Grant) -> Option<Grant> {
+    pub fn open(&mut self, grant: Grant) -> Option<Grant> {
         self.window = Some(Window { grant, left: 3, seen: false });
         Some(grant)
     }
 
-    fn decide(&mut self) -> Option<Grant> {
+    pub fn decide(&mut self) -> Option<Grant> {
         match self.common {
             Common::Standby if self.wanted => {
                 self.wanted = false;
@@ -498,21 +371,21 @@ impl Port {
         }
     }
 
-    fn poll(&mut self) -> Option<Grant> {
+    pub fn poll(&mut self) -> Option<Grant> {
         let above = self.polled.and_then(|onu| self.operating.least_from(usize::from(onu) + 1));
         let onu = above.or_else(|| self.operating.least_from(0))?;
         self.polled = Some(onu);
         self.open(Grant::Poll(onu))
     }
 
-    fn refuse(&mut self, refusal: Refusal) -> Answer {
+    pub fn refuse(&mut self, refusal: Refusal) -> Answer {
         if let Some(window) = &mut self.window {
             window.seen = true;
         }
         answer(Reply::Refused(refusal))
     }
 
-    fn burst(&mut self, purse: u32, at: u32, bytes: &[u8; 13]) -> (Answer, u32) {
+    pub fn burst(&mut self, purse: u32, at: u32, bytes: &[u8; 13]) -> (Answer, u32) {
         let Some(window) = self.window else {
             return (answer(Reply::Refused(Refusal::Stray)), purse);
         };
@@ -526,7 +399,7 @@ impl Port {
         }
     }
 
-    fn search(&mut self, purse: u32, message: Up) -> (Answer, u32) {
+    pub fn search(&mut self, purse: u32, message: Up) -> (Answer, u32) {
         let Up::SerialNumber { onu: 255, serial, .. } = message else {
             return (self.refuse(Refusal::WrongWindow), purse);
         };
@@ -564,7 +437,7 @@ impl Port {
         (answer(Reply::Found(onu)), purse - 1)
     }
 
-    fn heard_again(&mut self, purse: u32, onu: u8, serial: Serial) -> (Answer, u32) {
+    pub fn heard_again(&mut self, purse: u32, onu: u8, serial: Serial) -> (Answer, u32) {
         let unit = self.units[usize::from(onu)].as_mut().unwrap();
         if matches!(unit.row.phase, Phase::Operating { .. }) {
             if !self.has_room() {
@@ -590,7 +463,7 @@ impl Port {
         (answer(Reply::Again(onu)), purse)
     }
 
-    fn free_onu(&self) -> Option<u8> {
+    pub fn free_onu(&self) -> Option<u8> {
         if self.rows >= usize::from(self.config.max_units) {
             return None;
         }
@@ -610,7 +483,7 @@ impl Port {
         None
     }
 
-    fn range(&mut self, at: u32, onu: u8, message: Up) -> Answer {
+    pub fn range(&mut self, at: u32, onu: u8, message: Up) -> Answer {
         if message.octet1() != onu {
             return self.refuse(Refusal::WrongWindow);
         }
@@ -649,7 +522,7 @@ impl Port {
         }
     }
 
-    fn answered(&mut self, purse: u32, onu: u8, message: Up) -> (Answer, u32) {
+    pub fn answered(&mut self, purse: u32, onu: u8, message: Up) -> (Answer, u32) {
         if message.octet1() != onu {
             return (self.refuse(Refusal::WrongWindow), purse);
         }
@@ -689,202 +562,6 @@ impl Port {
     }
 }
 
-fn answer(reply: Reply) -> Answer {
+pub fn answer(reply: Reply) -> Answer {
     Answer { reply, sent: None, grant: None, alarm: None }
-}
-
-#[derive(Clone, Copy)]
-struct Unit {
-    serial: Serial,
-    searched: [u8; 13],
-    ranged: [u8; 13],
-    polled: [u8; 13],
-}
-
-fn unit_with(onu: u8) -> Unit {
-    let serial = [0x41, 0x42, 0x43, 0x44, 0, 0, 0, onu];
-    let number = |onu| encode_up(&Up::SerialNumber { onu, serial, random: 0, flags: 0 }, 0);
-    Unit { serial, searched: number(255), ranged: number(onu), polled: encode_up(&Up::NoMessage { onu }, 0) }
-}
-
-#[derive(Clone, Copy, Default)]
-struct Measured {
-    calls: u64,
-    sum: u64,
-    took: Duration,
-}
-
-impl Measured {
-    fn count(&mut self, answer: u64) {
-        self.calls += 1;
-        self.sum = self.sum.wrapping_add(answer);
-    }
-
-    fn tell(&self, part: &str, left: usize) {
-        println!("{part}, {left} left: {} calls, {}", self.calls, self.sum);
-        let each = self.took.as_nanos() as f64 / self.calls as f64;
-        eprintln!(
-            "{part}, {left} left: {} calls in {} microseconds, {each:.1} ns each",
-            self.calls,
-            self.took.as_micros()
-        );
-    }
-}
-
-fn number_of(answer: &Answer) -> u64 {
-    let onu = match (answer.reply, answer.grant) {
-        (Reply::Found(onu) | Reply::Ranged { onu, .. } | Reply::Alive(onu), _) => Some(onu),
-        (_, Some(Grant::Range(onu) | Grant::Poll(onu))) => Some(onu),
-        _ => None,
-    };
-    onu.map_or(0, |onu| u64::from(onu) + 1)
-}
-
-#[derive(Clone, Copy, PartialEq, Eq)]
-enum Part {
-    IdleFrames,
-    Acquisition,
-    DarkFrames,
-    Polls,
-}
-
-struct Licensed {
-    port: Port,
-    free: u32,
-    granted: Option<Grant>,
-    measured: Measured,
-}
-
-impl Licensed {
-    fn step(&mut self, purse: u32, event: Event) {
-        let (answer, rest) = self.port.step(purse, event);
-        self.free += rest;
-        self.granted = answer.grant;
-        self.measured.count(number_of(&answer));
-    }
-
-    fn frames(&mut self, count: u32) {
-        for _ in 0..count {
-            self.step(0, Event::Frame);
-        }
-    }
-
-    fn play(&mut self, part: Part, units: &[Unit]) {
-        match part {
-            Part::IdleFrames => self.frames(1000),
-            Part::Acquisition => self.acquire(units),
-            Part::DarkFrames => units.iter().for_each(|_| self.frames(12)),
-            Part::Polls => self.answer_polls(1000, units),
-        }
-    }
-
-    fn acquire(&mut self, units: &[Unit]) {
-        self.step(0, Event::Command(Command::Search));
-        let mut silent = units;
-        for _ in 0..2000 {
-            self.frames(1);
-            match self.granted {
-                Some(Grant::Search) => {
-                    let (heard, rest) = silent.split_at(silent.len().min(63));
-                    for unit in heard {
-                        let purse = self.free.min(1);
-                        self.free -= purse;
-                        self.step(purse, Event::Burst { at: 100_000, bytes: unit.searched });
-                    }
-                    silent = rest;
-                }
-                Some(Grant::Range(_)) => self.answer(units),
-                Some(Grant::Poll(_)) => return,
-                None => {}
-            }
-        }
-    }
-
-    fn answer(&mut self, units: &[Unit]) {
-        let (onu, polled) = match self.granted {
-            Some(Grant::Range(onu)) => (onu, false),
-            Some(Grant::Poll(onu)) => (onu, true),
-            _ => return,
-        };
-        if let Some(unit) = units.get(usize::from(onu)) {
-            let bytes = if polled { unit.polled } else { unit.ranged };
-            self.step(0, Event::Burst { at: 100_000, bytes });
-        }
-    }
-
-    fn answer_polls(&mut self, count: usize, units: &[Unit]) {
-        for _ in 0..count {
-            self.answer(units);
-            self.frames(1);
-        }
-    }
-
-    fn measure(&mut self, name: &str, part: Part, units: &[Unit], rounds: u32) {
-        self.measured = Measured::default();
-        for _ in 0..rounds {
-            if part == Part::Acquisition {
-                self.free += self.port.rows as u32;
-                self.port = open(units);
-            }
-            let begin = Instant::now();
-            self.play(part, units);
-            self.measured.took += begin.elapsed();
-            if part == Part::DarkFrames {
-                let measured = self.measured;
-                self.answer_polls(units.len(), units);
-                self.measured = measured;
-            }
-        }
-        self.measured.tell(name, self.port.rows);
-    }
-}
-
-fn open(units: &[Unit]) -> Port {
-    Port::begin(Config {
-        mask: 0,
-        teqd: 311_040,
-        overhead: [0; 10],
-        max_units: 254,
-        cycles: 5,
-        search_period: 0,
-        quarantine: 800,
-        admitted: units.iter().map(|unit| unit.serial).collect(),
-    })
-}
-
-fn measure_codec(rounds: u32) {
-    let units: Vec<Unit> = (0..250).map(unit_with).collect();
-    let (mut encoded, mut decoded) = (Measured::default(), Measured::default());
-    for _ in 0..rounds {
-        let begin = Instant::now();
-        for eqd in 0..1000 {
-            let code = encode_down(&Down::RangingTime { onu: (eqd % 250) as u8, eqd }, 0);
-            encoded.count(u64::from(code[12]));
-        }
-        encoded.took += begin.elapsed();
-        let begin = Instant::now();
-        for _ in 0..2 {
-            for unit in &units {
-                for code in [&unit.ranged, &unit.polled] {
-                    decoded.count(decode_up(code, 0).map_or(0, |message| u64::from(message.octet1()) + 1));
-                }
-            }
-        }
-        decoded.took += begin.elapsed();
-    }
-    encoded.tell("encoded messages", 0);
-    decoded.tell("decoded messages", 0);
-}
-
-fn main() {
-    let rounds: u32 = std::env::args().nth(1).and_then(|word| word.parse().ok()).expect("ROUNDS");
-    measure_codec(rounds);
-    let mut licensed = Licensed { port: open(&[]), free: 254, granted: None, measured: Measured::default() };
-    licensed.measure("idle frames", Part::IdleFrames, &[], rounds);
-    for count in [64, 254] {
-        let units: Vec<Unit> = (0..count).map(unit_with).collect();
-        licensed.measure("acquisition", Part::Acquisition, &units, rounds);
-        licensed.measure("dark frames", Part::DarkFrames, &units, rounds);
-        licensed.measure("answered polls", Part::Polls, &units, rounds);
-    }
 }
