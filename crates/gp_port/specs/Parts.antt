@@ -1,5 +1,5 @@
 -- What the parts of a port stand for (this profile's own rule).
-use Rattle.std.specs.Prelude.{◌≡◌, ℕ, Bool, true, List, length, Option, Some, All, Contains}
+use Rattle.std.specs.Prelude.{◌≡◌, ℕ, ◌&&◌, Bool, true, List, length, Option, Some, is_none, All, Contains}
 use Rattle.std.specs.FinMap.{get}
 use Rattle.gp_ploam.specs.OnuIds.{onu_ids}
 use Rattle.gp_ploam.specs.declared.message.Down.{Down}
@@ -7,12 +7,13 @@ use Rattle.std.specs.FinSet.{contains, from_list}
 use Rattle.gp_ploam.specs.declared.message.Serial.{Serial}
 use Rattle.gp_unit.specs.declared.row.Row.{Row}
 use Rattle.gp_ploam.specs.Down.{IsProperDown}
+use Rattle.gp_volley.specs.Copies.{first_of}
 use Rattle.gp_ranging.specs.Window.{WindowState}
 use Rattle.gp_common.specs.declared.common.Common.{Common}
 use Rattle.gp_table.specs.Active.{ActiveState}
 use Rattle.gp_machine.specs.declared.config.PortConfig.{PortConfig}
 use Rattle.gp_machine.specs.Config.{is_within_limits}
-use Rattle.gp_machine.specs.State.{PortState, rows_of}
+use Rattle.gp_machine.specs.State.{PortState, IsLeastRanging, IsNextPoll, rows_of}
 use Rattle.gp_machine.specs.Sound.{IsSound}
 
 -- the state of a port, part by part
@@ -66,3 +67,11 @@ pub record KnowSameUnits (units other : ActiveState) : Type 0 where
 pub record IsSteady (port : PortState) : Type 0 where
   pub limits : is_within_limits port.config ≡ true
   pub sound : IsSound port
+
+-- a frame of this port decides: no window is open, and nothing is owed
+abbrev pub decides : PortState → Bool
+decides port = is_none port.window && is_none (first_of port.owed)
+
+-- where a frame of this port decides, these are the least ranging unit and the one that is polled next
+abbrev pub AreCandidates : PortState → Option ℕ × Option ℕ → Type 0
+AreCandidates port found = decides port ≡ true → IsLeastRanging port.rows found.0 × IsNextPoll port.rows port.polled found.1

@@ -15,6 +15,7 @@ ghost use Rattle.gp_machine.specs.Changes.{step_result_of};
 ghost use Rattle.gp_machine.specs.Frame as spec;
 ghost use Rattle.gp_machine.specs.Frame.{decided_response, frame_response, state_begun, window_response};
 ghost use Rattle.gp_port.specs.Answers.{frame_result_of};
+ghost use Rattle.gp_port.specs.Parts.{AreCandidates};
 ghost use Rattle.gp_machine.specs.Closes.{poll_ended, suf_alarm, unpolled_response, unranged_response};
 
 use super::answers::{FrameAnswer, ticked};
@@ -35,10 +36,21 @@ impl PortMachine {
         requires period { self.old.config.search_period ≤ max_search_period }
         ensures { Step purse self.old event.Frame (step_result_of result self.new) }
     {
-        let ranging = self.least_ranging();
-        let next = self.next_poll();
+        let (ranging, next) = self.candidates();
         let (gives, purse) = self.frame_by(purse, ranging, next);
         (gives.whole(), purse)
+    }
+
+    /// Finds the least ranging unit and the one that is polled next, which only a frame that decides asks for.
+    fn candidates(&self) -> (Option<u8>, Option<u8>)
+        requires { IsSound self.now }
+        ensures { AreCandidates self.now result }
+    {
+        if self.window.is_none() && self.owed.len_copies() == 0 {
+            (self.least_ranging(), self.next_poll())
+        } else {
+            (None, None)
+        }
     }
 
     /// Makes a frame, where these are the least ranging unit and the one that is polled next.

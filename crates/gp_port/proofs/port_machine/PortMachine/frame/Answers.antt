@@ -1,5 +1,7 @@
-use Rattle.gp_port.proofs.Stepping.{frame_step}
+use Rattle.gp_port.proofs.Stepping.{frame_step_with}
 use Rattle.gp_port.proofs.port_machine.PortMachine.frame.Goals as goal
 
 pub returns : goal.returns
-returns c = rw c.whole.ensures (frame_step c.args.purse c.args.self.now c.least_ranging-ranging.result c.next_poll-next.result _ c.least_ranging-ranging.ensures c.next_poll-next.ensures c.frame_by-purse.ensures.free c.frame_by-purse.ensures.outcome)
+returns c =
+    rw c.whole.ensures
+    (frame_step_with c.args.purse c.args.self.now c.candidates-ranging.result.0 c.candidates-ranging.result.1 _ c.requires.sound c.candidates-ranging.ensures c.frame_by-purse.ensures.free c.frame_by-purse.ensures.outcome)
