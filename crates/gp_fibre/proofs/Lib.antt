@@ -4,6 +4,6 @@ pub mod Telling
 pub mod Losing
 pub mod Asking
 pub mod StoredUnits
-pub mod OnWheel
+pub mod Coming
 pub mod Parts
 pub mod Playing

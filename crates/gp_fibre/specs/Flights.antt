@@ -1,8 +1,5 @@
--- The bursts that are to come, and the timers that stand for them (this profile's own rule).
-use Rattle.std.specs.Prelude.{ℕ, ◌+◌, ◌*◌, ◌%◌, ◌<◌, ◌≤◌, ◌≡◌, List, Some, All}
-use Rattle.std.specs.FinMap.{get}
-use Rattle.gp_onu.specs.declared.limits.TheConstants.{MAX_SIMULATED_UNITS}
-use Rattle.gp_timers.specs.Timers.{DueFrames, Timers}
+-- The bursts that are to come, and the flags that tell in which frames they may (this profile's own rule).
+use Rattle.std.specs.Prelude.{ℕ, ◌+◌, ◌%◌, ◌<◌, ◌≤◌, ◌≡◌, Bool, false, true, List, All, length, slice_index_or}
 use Rattle.gp_fibre.specs.declared.flight.Flight.{Flight}
 
 -- what contracts see: the bursts, and for how many further ones there is room
@@ -24,15 +21,11 @@ AreNear due flights = All (λ f. (f.due < due + frames_in_reach) × (due < f.due
 
 -- ---- the representation
 
--- a timer is set for the burst's frame, under one of the names that are for this frame
-abbrev pub HasTimer : DueFrames → Flight → Type 0
-HasTimer frames flight = (name : ℕ) × (get frames name ≡ Some flight.due) × (name % frames_in_reach ≡ flight.due % frames_in_reach)
+-- the flag of the burst's frame is set
+abbrev pub HasFlag : List Bool → Flight → Type 0
+HasFlag coming flight = slice_index_or coming (flight.due % frames_in_reach) false ≡ true
 
--- there are five names for each unit that there may be, and a timer for each burst
-pub record IsOnWheel (flights : List Flight) (timers : Timers) : Type 0 where
-  pub names : timers.names ≡ MAX_SIMULATED_UNITS * frames_in_reach
-  pub each : All (HasTimer timers.frames) flights
-
--- the timers that are due after this frame are still set
-abbrev pub KeepsLater : DueFrames → ℕ → DueFrames → Type 0
-KeepsLater old frame new = (name due : ℕ) → get old name ≡ Some due → frame < due → get new name ≡ Some due
+-- there is a flag for each remainder by five, and that of each burst's frame is set
+pub record AreFlagged (flights : List Flight) (coming : List Bool) : Type 0 where
+  pub count : length coming ≡ frames_in_reach
+  pub each : All (HasFlag coming) flights

@@ -1,51 +1,42 @@
-ghost use Rattle.std.specs.Prelude.{◌≡◌, ◌+◌, ◌<◌, ◌≤◌, ◌^◌, ◌++◌, ◌∷◌, [], false, IfOk, IfSome, OnOk, length, slice_get};
-ghost use Rattle.gp_timers.specs.Timers.{NoneIsDue};
-ghost use Rattle.gp_fibre.specs.Flights.{AreInReach, AreNear, KeepsLater};
-ghost use Rattle.gp_fibre.specs.Schedule.{flights_after};
+ghost use Rattle.std.specs.Prelude.{◌≡◌, ◌+◌, ◌%◌, ◌<◌, ◌≤◌, ◌^◌, ◌++◌, ◌∷◌, [], All, false, OnOk, length};
+ghost use Rattle.gp_fibre.specs.Flights.{AreInReach, AreNear, frames_in_reach};
+ghost use Rattle.gp_fibre.specs.Schedule.{flights_after, is_due};
 
 use super::flight::Flight;
-use gp_onu::MAX_SIMULATED_UNITS;
-use gp_timers::{TimerFault, Wheel};
 use std::alloc::{AllocError, Global};
 use std::marker::Model;
 
 /// In how many frames a burst may come: in the one in which it is answered, or one of the four after that.
-const FRAMES_IN_REACH: u16 = 5;
+const FRAMES_IN_REACH: usize = 5;
 
-/// How many names the wheel has: five for each unit that there may be. A unit answers at most one grant in a frame, and of
-/// two of its bursts that are to come and have one name both come in one frame.
-const NAMES: u16 = MAX_SIMULATED_UNITS * FRAMES_IN_REACH;
-
-/// The bursts that were answered in runs and are still to come, by their numbers. A wheel has a timer for each, so that a
-/// frame in which none comes costs one comparison.
+/// The bursts that were answered in runs and are still to come, by their numbers. For each frame in reach a flag tells whether
+/// one may come in it, so that a frame in which none comes costs one look.
 #[derive(Drop)]
 pub struct Flights {
     pub(super) list: Vec<Flight>,
-    pub(super) timers: Wheel,
+    /// By the frame's remainder by five.
+    coming: [bool; FRAMES_IN_REACH],
 }
 
 impl Model for Flights {
     ghost use Rattle.std.specs.Prelude.{◌-◌, vec_capacity, vec_len};
-    ghost use Rattle.gp_fibre.specs.Flights.{FlightsState, IsOnWheel};
+    ghost use Rattle.gp_fibre.specs.Flights.{AreFlagged, FlightsState};
 
     ghost Value = { FlightsState };
 
     ghost view = { λ f. record { flights = f.list.items; room = vec_capacity f.list - vec_len f.list } };
 
-    ghost invariant = { λ f. IsOnWheel f.list.items f.timers };
+    ghost invariant = { λ f. AreFlagged f.list.items f.coming };
 }
 
 impl Flights {
-    /// Begins with none.
-    pub fn begin(alloc: Global) -> Result<Flights, AllocError>
-        ensures { IfOk result (λ begun. begun.flights ≡ []) }
+    /// Makes a list of none.
+    pub fn new(alloc: Global) -> Flights
+        ensures { result.flights ≡ [] }
     {
-        match Wheel::begin(alloc, NAMES) {
-            Ok(timers) => Ok(Flights {
-                list: Vec::new(alloc),
-                timers,
-            }),
-            Err(TimerFault::OutOfMemory) => Err(AllocError),
+        Flights {
+            list: Vec::new(alloc),
+            coming: [false; FRAMES_IN_REACH],
         }
     }
 
@@ -65,17 +56,22 @@ impl Flights {
         self.list.len()
     }
 
-    /// Adds a further one of this unit, with the next number.
-    pub fn add(&mut self, unit: u16, flight: Flight)
+    /// Adds a further one, with the next number.
+    pub fn add(&mut self, flight: Flight)
         requires room { 0 < self.old.room }
-        requires unit { unit < MAX_SIMULATED_UNITS }
         requires near { AreNear flight.due self.old.flights }
         ensures flights { self.new.flights ≡ self.old.flights ++ flight ∷ [] }
         ensures room { self.new.room + 1 ≡ self.old.room }
     {
-        let name = FRAMES_IN_REACH * unit + (flight.due % u64::from(FRAMES_IN_REACH)) as u16;
-        self.timers.set(name, flight.due);
+        self.coming[flag_of(flight.due)] = true;
         self.list.push_reserved(flight);
+    }
+
+    /// Tells whether one may come in this frame. Where it says no, none does.
+    pub fn comes_in(&self, frame: u64) -> bool
+        ensures { result ≡ false → All (λ f. is_due frame f ≡ false) self.now.flights }
+    {
+        self.coming[flag_of(frame)]
     }
 
     /// Takes those of this frame away.
@@ -83,22 +79,16 @@ impl Flights {
         requires { AreInReach frame self.old.flights }
         ensures { self.new.flights ≡ flights_after frame self.old.flights }
     {
-        if take_timers(&mut self.timers, frame) {
+        if self.comes_in(frame) {
             self.list.retain(|flight| !flight.is_due(frame));
+            self.coming[flag_of(frame)] = false;
         }
     }
 }
 
-/// Takes out the timers that are due by a frame, and tells whether there were any.
-pub(super) fn take_timers(timers: &mut Wheel, frame: u64) -> bool
-    ensures none { result ≡ false → NoneIsDue timers.old.frames frame }
-    ensures later { KeepsLater timers.old.frames frame timers.new.frames }
-    ensures left { NoneIsDue timers.new.frames frame }
-    ensures names { timers.new.names ≡ timers.old.names }
+/// Gives the place of a frame's flag.
+fn flag_of(frame: u64) -> usize
+    ensures { result ≡ frame % frames_in_reach }
 {
-    let Some(_) = timers.due(frame) else {
-        return false;
-    };
-    while let Some(_) = timers.due(frame) {}
-    true
+    (frame % FRAMES_IN_REACH as u64) as usize
 }

@@ -3,7 +3,6 @@
 ghost use Rattle.std.specs.Prelude.{◌≡◌, ◌+◌, ◌-◌, ◌*◌, ◌<◌, ◌≤◌, ◌++◌, ◌∷◌, [], All, Some, drop, length, slice_get, vec_capacity, vec_len};
 ghost use Rattle.std.specs.Option.{ForSome};
 ghost use Rattle.gp_ploam.specs.Down.{IsProperDown};
-ghost use Rattle.gp_onu.specs.declared.limits.TheConstants.{MAX_SIMULATED_UNITS};
 ghost use Rattle.gp_fibre.specs.declared.world.TheConstants.{MAX_FRAMES};
 ghost use Rattle.gp_fibre.specs.Flights.{AreInReach};
 ghost use Rattle.gp_fibre.specs.Parts.{Asks, Comes, PortPuts, UnitsTake, events_of, world_state};
@@ -13,7 +12,7 @@ ghost use Rattle.gp_fibre.specs.Schedule as spec;
 
 use super::fibre::Fibre;
 use super::flight::Flight;
-use super::flights::{Flights, take_timers};
+use super::flights::Flights;
 use super::loss_plan::LossPlan;
 use super::sent_burst::SentBurst;
 use gp_machine::{Entry, Event};
@@ -54,7 +53,6 @@ fn give<L: Ledger>(
     frame: u64,
 )
     requires place { place < length fibre.old.world.units }
-    requires few { place < MAX_SIMULATED_UNITS }
     requires room { 0 < fibre.old.bursts_room }
     requires flights { 0 < flights.old.room }
     requires frame { frame < MAX_FRAMES }
@@ -71,7 +69,7 @@ fn give<L: Ledger>(
         return;
     };
     let due = frame + u64::from(burst.at / FRAME_BIT_TIMES);
-    flights.add(place, Flight { number, due });
+    flights.add(Flight { number, due });
 }
 
 /// Lets a grant reach each unit, one after the other. Those that it doesn't ask are the same after it, so they are passed over.
@@ -216,11 +214,11 @@ fn land<L: Ledger>(
     ensures frames { fibre.new.frames ≡ fibre.old.frames }
     ensures proper { All IsProperEntry entries.new.items }
 {
-    if !take_timers(&mut flights.timers, frame) {
+    if !flights.comes_in(frame) {
         return;
     }
     arrive_all(fibre, &flights.list, entries, lost, frame);
-    flights.list.retain(|flight| !flight.is_due(frame));
+    flights.remove_due(frame);
 }
 
 /// Makes the port's part of a frame, and what follows from what it sends and grants.

@@ -74,11 +74,10 @@ impl<L: Ledger> World<L> {
             return Err(WorldFault::Limit);
         }
         let store = UnitStore::begin(alloc, config.mask, plans)?;
-        let flights = Flights::begin(alloc)?;
         match PortCore::begin(alloc, config) {
             Ok(core) => Ok(World {
                 fibre: Fibre::new(alloc, core, LicenceBook::new(blank, licences), store),
-                flights,
+                flights: Flights::new(alloc),
             }),
             Err(OpenFault::OutOfMemory) => Err(WorldFault::OutOfMemory),
             Err(OpenFault::Limit) => unreachable!(),

@@ -1,6 +1,6 @@
 use Rattle.std.proofs.Common.{◌∙◌}
 use Rattle.gp_fibre.proofs.Playing.{asked}
-use Rattle.gp_fibre.proofs.OnWheel.{comes_since}
+use Rattle.gp_fibre.proofs.Coming.{comes_since}
 use Rattle.gp_fibre.proofs.Parts.{proper_push}
 use Rattle.gp_fibre.proofs.running.ask.Goals as goal
 

@@ -4,7 +4,7 @@ use Rattle.gp_fibre.specs.Fibre.{FibreStand}
 use Rattle.gp_fibre.specs.Flights.{AreInReach}
 use Rattle.gp_fibre.specs.Parts.{Asks, Comes, PortPuts, world_state}
 use Rattle.gp_fibre.specs.Schedule.{arrivals, flights_after}
-use Rattle.gp_fibre.proofs.OnWheel.{left_in_reach}
+use Rattle.gp_fibre.proofs.Coming.{left_in_reach}
 use Rattle.gp_fibre.proofs.Playing.{asks_bursts, answered_length, answered_below, left_below, played, AreBelow}
 use Rattle.gp_fibre.proofs.running.play_frame.Goals as goal
 

@@ -9,7 +9,7 @@ use Rattle.gp_fibre.specs.Flights.{AreInReach}
 use Rattle.gp_fibre.specs.World.{FibreWorld}
 use Rattle.gp_fibre.specs.Step.{PortTakes}
 use Rattle.gp_fibre.specs.Schedule.{flights_after, is_due}
-use Rattle.gp_fibre.proofs.OnWheel.{left_in_reach}
+use Rattle.gp_fibre.proofs.Coming.{left_in_reach}
 use Rattle.gp_fibre.proofs.world.World.frame.Goals as goal
 
 pub remove_due-requires : goal.remove_due-requires
