@@ -47,7 +47,7 @@ takes_nothing a =
       copies = refl;
       grants = refl;
       many = refl;
-      front = take_all (length a.bursts) a.bursts (omega arith);
+      prefix = take_all (length a.bursts) a.bursts (omega arith);
       more = omega arith;
       most = omega arith;
     }
@@ -62,15 +62,15 @@ takes_both a b c is more x y =
       copies = y.copies ∙ x.copies;
       grants = y.grants ∙ x.grants;
       many = y.many ∙ x.many;
-      front = front_of;
+      prefix = prefix_of;
       more = let p = x.more in let q = y.more in omega arith;
       most = let p = x.most in let q = y.most in omega (arith, length-append is more);
     }
   where
-    front_of : take (length a.bursts) c.bursts ≡ a.bursts
-    front_of =
+    prefix_of : take (length a.bursts) c.bursts ≡ a.bursts
+    prefix_of =
         let low = x.more in
-        sym (take-take (length a.bursts) (length b.bursts) c.bursts low) ∙ ap (λ (bs : List SentBurst). take (length a.bursts) bs) y.front ∙ x.front
+        sym (take-take (length a.bursts) (length b.bursts) c.bursts low) ∙ ap (λ (bs : List SentBurst). take (length a.bursts) bs) y.prefix ∙ x.prefix
 
 -- one unit hears a copy
 heard_one : (a b : FibreWorld) (copy place : ℕ) (m : Down) → slice_get a.copies copy ≡ Some m → UnitChanges a place (unit_hearing m) b → UnitsTake a (Whole (steps.Deliver copy place) ∷ []) b
@@ -82,7 +82,7 @@ heard_one a b copy place m sent changes =
       copies = ap (λ (w : FibreWorld). w.copies) changes.rest;
       grants = ap (λ (w : FibreWorld). w.grants) changes.rest;
       many = ap (λ (us : List FibreUnit). length us) changes.units.after ∙ length-set a.units place (unit_hearing m changes.units.unit);
-      front = ap (λ (w : FibreWorld). take (length a.bursts) w.bursts) changes.rest ∙ take_all (length a.bursts) a.bursts (omega arith);
+      prefix = ap (λ (w : FibreWorld). take (length a.bursts) w.bursts) changes.rest ∙ take_all (length a.bursts) a.bursts (omega arith);
       more = let same = ap (λ (w : FibreWorld). length w.bursts) changes.rest in omega arith;
       most = let same = ap (λ (w : FibreWorld). length w.bursts) changes.rest in omega arith;
     }
@@ -104,7 +104,7 @@ granted_one a b grant place issued there answers =
       copies = ap (λ (w : FibreWorld). w.copies) answers.rest;
       grants = ap (λ (w : FibreWorld). w.grants) answers.rest;
       many = ap (λ (us : List FibreUnit). length us) answers.units.after ∙ length-set a.units place _;
-      front = ap (λ (bs : List SentBurst). take (length a.bursts) bs) answers.answer ∙ take_at a.bursts (option_to_list o) (length a.bursts) refl;
+      prefix = ap (λ (bs : List SentBurst). take (length a.bursts) bs) answers.answer ∙ take_at a.bursts (option_to_list o) (length a.bursts) refl;
       more = omega arith;
       most = omega arith;
     }

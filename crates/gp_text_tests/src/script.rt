@@ -38,7 +38,7 @@ onu = 0
 /// What stands before the items under `unit`.
 const BEFORE_UNITS: &str = "licences = 1\nport = [{}]\nunit = [";
 
-/// The fault of a script, if it has one. Want of memory ends the test.
+/// The fault of a script, if it has one. The test ends when memory runs out.
 fn fault_of(alloc: Global, bytes: &[u8]) -> Result<Option<ScriptFault>, ScriptError> {
     match read_script(alloc, bytes) {
         Ok(_) => Ok(None),

@@ -47,14 +47,14 @@ extends_by_pair old now new pairs i d p n l is h part =
     let a : List (ℕ × Event) = flat_map f (take i pairs) in
     let s = split_at f pairs i d l in
     let whole : frames_of pairs ≡ a ++ (frames_on p n ++ s.0) = s.1 ∙ ap (λ q. a ++ (f q ++ s.0)) (sym is) in
-    let front : take (length a + min part.count (length (frames_on p n))) (frames_of pairs) ≡ a ++ take part.count (frames_on p n) =
+    let prefix : take (length a + min part.count (length (frames_on p n))) (frames_of pairs) ≡ a ++ take part.count (frames_on p n) =
     ap (take (length a + min part.count (length (frames_on p n)))) whole ∙ take_within a (frames_on p n) s.0 part.count in
     record {
       count = length a + min part.count (length (frames_on p n));
-      front = record {
-        more = h.more ++ part.front.more;
-        grown = part.front.grown ∙ ap (λ w. w ++ part.front.more) h.grown ∙ append_assoc old h.more part.front.more;
-        asked = map-append asked_of h.more part.front.more ∙ ap (λ w. w ++ map asked_of part.front.more) h.asked ∙ ap (λ w. a ++ w) part.front.asked ∙ sym front;
+      prefix = record {
+        more = h.more ++ part.prefix.more;
+        grown = part.prefix.grown ∙ ap (λ w. w ++ part.prefix.more) h.grown ∙ append_assoc old h.more part.prefix.more;
+        asked = map-append asked_of h.more part.prefix.more ∙ ap (λ w. w ++ map asked_of part.prefix.more) h.asked ∙ ap (λ w. a ++ w) part.prefix.asked ∙ sym prefix;
       };
     }
 
@@ -62,7 +62,7 @@ extends_by_pair old now new pairs i d p n l is h part =
 pub extends_by_frames : (old now new : List Receipt) (p k n : ℕ) → k ≤ n → Extends old now (frames_on p k) → new ≡ now → ExtendsBy old new (frames_on p n)
 extends_by_frames old now new p k n l h same = record {
   count = k;
-  front = record { more = h.more; grown = same ∙ h.grown; asked = h.asked ∙ sym (take-replicate k n (p, Frame) l) };
+  prefix = record { more = h.more; grown = same ∙ h.grown; asked = h.asked ∙ sym (take-replicate k n (p, Frame) l) };
 }
 
 -- ---- commands
@@ -77,5 +77,5 @@ extends_command old now new cs i d r l h push is =
 pub extends_by_commands : (old now new : List Receipt) (cs : List (ℕ × CommandOf)) (i : ℕ) → Extends old now (commands_of (take i cs)) → new ≡ now → ExtendsBy old new (commands_of cs)
 extends_by_commands old now new cs i h same = record {
   count = i;
-  front = record { more = h.more; grown = same ∙ h.grown; asked = h.asked ∙ sym (take-map command_on i cs) };
+  prefix = record { more = h.more; grown = same ∙ h.grown; asked = h.asked ∙ sym (take-map command_on i cs) };
 }

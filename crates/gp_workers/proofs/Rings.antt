@@ -29,7 +29,7 @@ bursts_append port [] ys = refl
 bursts_append port (x ∷ xs) ys = ap (λ w. (port, Came x.0 x.1) ∷ w) (bursts_append port xs ys)
 
 pub midway_start : (old : List Receipt) (port : ℕ) (bursts : List (ℕ × List ℕ)) (rest known : List RingItem) → known ≡ up_to_end bursts rest → Midway old old port bursts rest known
-midway_start old port bursts rest known is = record { served = []; left = bursts; split = refl; front = ([], append-nil (up_to_end bursts rest) ∙ sym is); sofar = extends_none old }
+midway_start old port bursts rest known is = record { served = []; left = bursts; split = refl; prefix = ([], append-nil (up_to_end bursts rest) ∙ sym is); sofar = extends_none old }
 
 head_burst : (left : List (ℕ × List ℕ)) (rest tail : List RingItem) (at : ℕ) (bytes : List ℕ) → IsPrefix (up_to_end left rest) (Burst at bytes ∷ tail) → (more : List (ℕ × List ℕ)) × (left ≡ (at, bytes) ∷ more) × IsPrefix (up_to_end more rest) tail
 head_burst [] rest tail at bytes p = let e = p.1 in cc
@@ -48,24 +48,24 @@ head_end (b ∷ more) rest tail p = let e = p.1 in cc
 pub midway_burst : (old now new : List Receipt) (port : ℕ) (bursts : List (ℕ × List ℕ)) (rest ahead tail : List RingItem) (at : ℕ) (bytes : List ℕ) (r : Receipt) → Midway old now port bursts rest ahead → IsPrefix ahead (Burst at bytes ∷ tail)
     → new ≡ now ++ r ∷ [] → asked_of r ≡ (port, Came at bytes) → Midway old new port bursts rest tail
 midway_burst old now new port bursts rest ahead tail at bytes r h next push is =
-    let b = head_burst h.left rest tail at bytes (prefix_trans _ _ _ h.front next) in
+    let b = head_burst h.left rest tail at bytes (prefix_trans _ _ _ h.prefix next) in
     record {
       served = h.served ++ (at, bytes) ∷ [];
       left = b.0;
       split = h.split ∙ ap (λ w. h.served ++ w) b.1 ∙ sym (append_assoc h.served ((at, bytes) ∷ []) b.0);
-      front = b.2;
+      prefix = b.2;
       sofar = subst (λ w. Extends old new w) (sym (bursts_push port h.served (at, bytes))) (extends_push old now new (bursts_on port h.served) r (port, Came at bytes) h.sofar push is);
     }
 
 pub midway_end : (old now : List Receipt) (port : ℕ) (bursts : List (ℕ × List ℕ)) (rest ahead tail : List RingItem) → Midway old now port bursts rest ahead → IsPrefix ahead (End ∷ tail) → Extends old now (bursts_on port bursts)
 midway_end old now port bursts rest ahead tail h next =
-    let none : h.left ≡ [] = head_end h.left rest tail (prefix_trans _ _ _ h.front next) in
+    let none : h.left ≡ [] = head_end h.left rest tail (prefix_trans _ _ _ h.prefix next) in
     let all : h.served ≡ bursts = sym (h.split ∙ ap (λ w. h.served ++ w) none ∙ append-nil h.served) in
     subst (λ w. Extends old now (bursts_on port w)) all h.sofar
 
 pub midway_fault : (old now new : List Receipt) (port : ℕ) (bursts : List (ℕ × List ℕ)) (rest ahead : List RingItem) → Midway old now port bursts rest ahead → new ≡ now → ExtendsBy old new (bursts_on port bursts)
 midway_fault old now new port bursts rest ahead h same =
-    let front : take (length (bursts_on port h.served)) (bursts_on port bursts) ≡ bursts_on port h.served =
+    let prefix : take (length (bursts_on port h.served)) (bursts_on port bursts) ≡ bursts_on port h.served =
     ap (λ w. take (length (bursts_on port h.served)) (bursts_on port w)) h.split ∙ ap (take (length (bursts_on port h.served))) (bursts_append port h.served h.left)
     ∙ take_at (bursts_on port h.served) (bursts_on port h.left) (length (bursts_on port h.served)) refl in
-    record { count = length (bursts_on port h.served); front = record { more = h.sofar.more; grown = same ∙ h.sofar.grown; asked = h.sofar.asked ∙ sym front } }
+    record { count = length (bursts_on port h.served); prefix = record { more = h.sofar.more; grown = same ∙ h.sofar.grown; asked = h.sofar.asked ∙ sym prefix } }

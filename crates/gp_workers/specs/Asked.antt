@@ -19,7 +19,7 @@ pub record Extends (old new : List Receipt) (asks : List (ℕ × Event)) : Type 
 -- the receipts grew by those of a beginning of what was asked
 pub record ExtendsBy (old new : List Receipt) (asks : List (ℕ × Event)) : Type 0 where
   pub count : ℕ
-  pub front : Extends old new (take count asks)
+  pub prefix : Extends old new (take count asks)
 
 -- so many frames on a port
 abbrev pub frames_on : ℕ → ℕ → List (ℕ × Event)

@@ -19,5 +19,5 @@ pub record Midway (old now : List Receipt) (port : ℕ) (bursts : List (ℕ × L
   pub served : List (ℕ × List ℕ)
   pub left : List (ℕ × List ℕ)
   pub split : bursts ≡ served ++ left
-  pub front : IsPrefix (up_to_end left rest) ahead
+  pub prefix : IsPrefix (up_to_end left rest) ahead
   pub sofar : Extends old now (bursts_on port served)

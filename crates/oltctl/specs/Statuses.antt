@@ -71,7 +71,7 @@ IsServed (Decode code upstream mask) status = IsDecoded code.now upstream mask s
 
 -- how a run over the words of a command line may end, with this status
 pub data IsRun (words : List Text) (status : ℕ) : Type 0 where
-  -- they are not parsed: for want of memory, or for a fault that they have, as which asking for help is told
+  -- they are not parsed: memory ran out, or they have a fault, as which asking for help is told
   refused : (kind : ErrorKind) → (kind ≢ error.OutOfMemory → IsFaultOf words kind) → IsStatusOf kind status → IsRun words status
   -- they are parsed, and what they ask for is done
   served : (parsed : ArgMatches) (request : Request) → IsParseOf words parsed → Asks (subcommand_rows_of parsed) request → IsServed request status → IsRun words status

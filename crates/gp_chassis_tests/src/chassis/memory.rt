@@ -154,7 +154,7 @@ fn calls_at_last<L: Ledger>(alloc: Global, core: &mut ChassisCore<L>) -> bool {
         && core.free() == 0
 }
 
-/// A burst that is refused for want of memory has left the one licence to the next.
+/// A burst that is refused since memory ran out has left the one licence to the next.
 fn next_is_found<L: Ledger>(alloc: Global, core: &mut ChassisCore<L>) -> bool {
     if first_wrong(alloc, core, &UP_TO_A_WINDOW).is_some() {
         return false;
