@@ -4,12 +4,51 @@ mod ranges;
 use gp_machine::Command;
 use gp_ploam::{Mask, Serial};
 use gp_script::{
-    ScriptError, ScriptEvent, ScriptFault, ScriptUnit, read_script, read_storm_script,
+    Script, ScriptError, ScriptEvent, ScriptFault, ScriptUnit, read_script, read_storm_script,
 };
 use std::alloc::{AllocError, Global};
 
+const SYNTAX: Option<ScriptFault> = Some(ScriptFault::Syntax);
+
+const SHAPE: Option<ScriptFault> = Some(ScriptFault::Shape);
+
+const RANGE: Option<ScriptFault> = Some(ScriptFault::Range);
+
+const SERIAL: Option<ScriptFault> = Some(ScriptFault::Serial);
+
+const HEX: Option<ScriptFault> = Some(ScriptFault::Hex);
+
+/// Scripts that differ in what stands between two texts, and the fault of each, if it has one.
+#[derive(Clone, Copy)]
+struct Table {
+    before: &'static str,
+    behind: &'static str,
+    is_storm: bool,
+    rows: &'static [(&'static str, Option<ScriptFault>)],
+}
+
+const A: Serial = Serial(*b"ABCD\x00\x00\x00\x01");
+
+/// What a script says, but for what its ports are.
+#[derive(Clone, Copy)]
+struct Said {
+    before: &'static str,
+    text: &'static str,
+    is_storm: bool,
+    licences: u32,
+    mask: Mask,
+    journal_limit: u32,
+    ports: usize,
+    units: &'static [ScriptUnit],
+    copies: &'static [u64],
+    bursts: &'static [u64],
+    events: &'static [ScriptEvent],
+}
+
 /// One unit found and ranged.
-const ONE_UNIT: &str = "licences = 1
+const ONE_UNIT: Said = Said {
+    before: "",
+    text: "licences = 1
 [[port]]
 cycles = 1
 admit = [\"ABCD00000001\"]
@@ -33,26 +72,16 @@ at = 100000
 say = \"serial\"
 serial = \"ABCD00000001\"
 onu = 0
-";
-
-/// What stands before the items under `unit`.
-const BEFORE_UNITS: &str = "licences = 1\nport = [{}]\nunit = [";
-
-/// The fault of a script, if it has one. The test ends when memory runs out.
-fn fault_of(alloc: Global, bytes: &[u8]) -> Result<Option<ScriptFault>, ScriptError> {
-    match read_script(alloc, bytes) {
-        Ok(_) => Ok(None),
-        Err(ScriptError::Fault(fault)) => Ok(Some(fault)),
-        Err(ScriptError::OutOfMemory) => Err(ScriptError::OutOfMemory),
-    }
-}
-
-#[test]
-fn one_unit(rt: HostRuntime) -> Result<(), ScriptError> {
-    let script = read_script(rt.alloc(), ONE_UNIT.as_bytes())?;
-    let anybody = *b"\xff\x01ABCD\x00\x00\x00\x01\x00\x00\x2c";
-    let number_0 = *b"\x00\x01ABCD\x00\x00\x00\x01\x00\x00\x6b";
-    let events = [
+",
+    is_storm: false,
+    licences: 1,
+    mask: Mask::Plain,
+    journal_limit: 1_000_000,
+    ports: 1,
+    units: &[],
+    copies: &[],
+    bursts: &[],
+    events: &[
         ScriptEvent::Command {
             port: 0,
             command: Command::Search,
@@ -61,47 +90,38 @@ fn one_unit(rt: HostRuntime) -> Result<(), ScriptError> {
         ScriptEvent::Burst {
             port: 0,
             at: 100_000,
-            bytes: anybody,
+            bytes: *b"\xff\x01ABCD\x00\x00\x00\x01\x00\x00\x2c",
         },
         ScriptEvent::Frames { port: 0, count: 4 },
         ScriptEvent::Burst {
             port: 0,
             at: 100_000,
-            bytes: number_0,
+            bytes: *b"\x00\x01ABCD\x00\x00\x00\x01\x00\x00\x6b",
         },
-    ];
-    assert_eq!(rt; script.licences, 1);
-    assert_eq!(rt; script.mask, Mask::Plain);
-    assert_eq!(rt; script.journal_limit, 1_000_000);
-    assert_eq!(rt; script.events.as_slice(), events.as_slice());
-    assert_eq!(rt; script.ports.len(), 1);
-    for port in &script.ports {
-        let serials = [Serial(*b"ABCD\x00\x00\x00\x01")];
-        assert_eq!(rt; port.mask, Mask::Plain);
-        assert_eq!(rt; port.teqd, 311_040);
-        assert_eq!(rt; port.overhead, [0; 10]);
-        assert_eq!(rt; port.max_units, 254);
-        assert_eq!(rt; port.alloc_last, 4095);
-        assert_eq!(rt; port.cycles, 1);
-        assert_eq!(rt; port.search_period, 0);
-        assert_eq!(rt; port.quarantine, 800);
-        assert_eq!(rt; port.admitted.as_slice(), serials.as_slice());
-    }
-    Ok(())
-}
+    ],
+};
 
-#[test]
-fn other_forms(rt: HostRuntime) -> Result<(), ScriptError> {
-    let text = "event = [{port = 0, at = 7, burst = \"0004000000000000000000007C\"},
+const NO_UNITS: Said = Said {
+    text: "licences = 1\nport = [{}, {}]\nunit = []\nlose = []\nevent = []",
+    ports: 2,
+    events: &[],
+    ..ONE_UNIT
+};
+
+/// Other forms of keys and bursts.
+const OTHER_FORMS: Said = Said {
+    text: "event = [{port = 0, at = 7, burst = \"0004000000000000000000007C\"},
         {port = 0, at = 8, say = \"none\", onu = 0}]
         unit = []
         lose = []
         licences = 0
         mask = 85
         journal_limit = 16
-        port = [{overhead = \"0102030405060708090A\"}]";
-    let script = read_script(rt.alloc(), text.as_bytes())?;
-    let events = [
+        port = [{overhead = \"0102030405060708090A\"}]",
+    licences: 0,
+    mask: Mask::Coset,
+    journal_limit: 16,
+    events: &[
         ScriptEvent::Burst {
             port: 0,
             at: 7,
@@ -113,44 +133,33 @@ fn other_forms(rt: HostRuntime) -> Result<(), ScriptError> {
             at: 8,
             bytes: *b"\x00\x04\x00\x00\x00\x00\x00\x00\x00\x00\x00\x00\x29",
         },
-    ];
-    assert_eq!(rt; script.licences, 0);
-    assert_eq!(rt; script.mask, Mask::Coset);
-    assert_eq!(rt; script.journal_limit, 16);
-    assert_eq!(rt; script.events.as_slice(), events.as_slice());
-    assert_eq!(rt; script.ports.len(), 1);
-    for port in &script.ports {
-        assert_eq!(rt; port.mask, Mask::Coset);
-        assert_eq!(rt; port.cycles, 3);
-        assert_eq!(rt; port.overhead, [1, 2, 3, 4, 5, 6, 7, 8, 9, 10]);
-    }
-    Ok(())
-}
+    ],
+    ..ONE_UNIT
+};
 
-#[test]
-fn units_on_the_fibre(rt: HostRuntime) -> Result<(), ScriptError> {
-    let text = "licences = 1
+const UNITS_ON_THE_FIBRE: Said = Said {
+    text: "licences = 1
         port = [{cycles = 1, admit = [\"ABCD00000001\"]}]
         unit = [{serial = \"ABCD00000001\", delay = 200000},
         {random = 4095, delay = 0, serial = \"ABCD00000001\"}]
         lose = [{copy = 4}, {burst = 0}, {copy = 3}, {copy = 4}, {burst = 7}]
         event = [{port = 0, command = \"search\"}, {unit = 1, light = false},
-        {port = 0, frames = 11}, {unit = 1, light = true}]";
-    let script = read_script(rt.alloc(), text.as_bytes())?;
-    let serial = Serial(*b"ABCD\x00\x00\x00\x01");
-    let units = [
+        {port = 0, frames = 11}, {unit = 1, light = true}]",
+    units: &[
         ScriptUnit {
-            serial,
+            serial: A,
             delay: 200_000,
             random: 0,
         },
         ScriptUnit {
-            serial,
+            serial: A,
             delay: 0,
             random: 4095,
         },
-    ];
-    let events = [
+    ],
+    copies: &[4, 3, 4],
+    bursts: &[0, 7],
+    events: &[
         ScriptEvent::Command {
             port: 0,
             command: Command::Search,
@@ -161,121 +170,254 @@ fn units_on_the_fibre(rt: HostRuntime) -> Result<(), ScriptError> {
         },
         ScriptEvent::Frames { port: 0, count: 11 },
         ScriptEvent::Light { unit: 1, lit: true },
-    ];
-    assert_eq!(rt; script.units.as_slice(), units.as_slice());
-    assert_eq!(rt; script.losses.copies.as_slice(), [4u64, 3, 4].as_slice());
-    assert_eq!(rt; script.losses.bursts.as_slice(), [0u64, 7].as_slice());
-    assert_eq!(rt; script.events.as_slice(), events.as_slice());
-    Ok(())
-}
+    ],
+    ..ONE_UNIT
+};
 
-#[test]
-fn no_units(rt: HostRuntime) -> Result<(), ScriptError> {
-    let text = "licences = 1\nport = [{}, {}]\nunit = []\nlose = []\nevent = []";
-    let script = read_script(rt.alloc(), text.as_bytes())?;
-    assert_eq!(rt; script.ports.len(), 2);
-    assert!(rt; script.units.is_empty());
-    assert!(rt; script.losses.copies.is_empty());
-    assert!(rt; script.losses.bursts.is_empty());
-    assert!(rt; script.events.is_empty());
-    Ok(())
-}
-
-#[test]
-fn sayings(rt: HostRuntime) -> Result<(), ScriptError> {
-    let text = "licences = 1
+/// The last octets of the bursts are the remainders of the twelve before them.
+const SAYINGS: Said = Said {
+    text: "licences = 1
         port = [{}]
         event = [{port = 0, at = 1, say = \"gasp\", onu = 5},
         {port = 0, at = 2, say = \"ack\", onu = 0, id = 10},
-        {port = 0, at = 3, say = \"ack\", onu = 255, id = 255}]";
-    let script = read_script(rt.alloc(), text.as_bytes())?;
-    // The last octets are the remainders of the twelve before them.
-    let bursts = [
-        (1, *b"\x05\x03\0\0\0\0\0\0\0\0\0\0\x0f"),
-        (2, *b"\x00\x09\x0a\0\0\0\0\0\0\0\0\0\x7e"),
-        (3, *b"\xff\x09\xff\0\0\0\0\0\0\0\0\0\x8d"),
-    ];
-    let events = bursts.map(|(at, bytes)| ScriptEvent::Burst { port: 0, at, bytes });
-    assert_eq!(rt; script.events.as_slice(), events.as_slice());
-    Ok(())
+        {port = 0, at = 3, say = \"ack\", onu = 255, id = 255}]",
+    events: &[
+        ScriptEvent::Burst {
+            port: 0,
+            at: 1,
+            bytes: *b"\x05\x03\0\0\0\0\0\0\0\0\0\0\x0f",
+        },
+        ScriptEvent::Burst {
+            port: 0,
+            at: 2,
+            bytes: *b"\x00\x09\x0a\0\0\0\0\0\0\0\0\0\x7e",
+        },
+        ScriptEvent::Burst {
+            port: 0,
+            at: 3,
+            bytes: *b"\xff\x09\xff\0\0\0\0\0\0\0\0\0\x8d",
+        },
+    ],
+    ..ONE_UNIT
+};
+
+const COMMANDS: Said = Said {
+    text: "licences = 1
+        port = [{}]
+        event = [{port = 0, command = \"search\"},
+        {port = 0, command = \"enable-all\"},
+        {port = 0, command = \"popup-all\"},
+        {port = 0, command = \"alloc\", serial = \"ABCD00000001\"},
+        {port = 0, command = \"deactivate\", serial = \"ABCD00000001\"},
+        {port = 0, command = \"disable\", serial = \"ABCD00000001\"},
+        {port = 0, command = \"enable\", serial = \"ABCD00000001\"},
+        {port = 0, command = \"popup\", serial = \"ABCD00000001\"},
+        {port = 0, command = \"show\", serial = \"4142434400000001\"},
+        {port = 0, command = \"dealloc\", serial = \"ABCD00000001\", alloc = 256}]",
+    events: &[
+        ScriptEvent::Command {
+            port: 0,
+            command: Command::Search,
+        },
+        ScriptEvent::Command {
+            port: 0,
+            command: Command::EnableAll,
+        },
+        ScriptEvent::Command {
+            port: 0,
+            command: Command::PopupAll,
+        },
+        ScriptEvent::Command {
+            port: 0,
+            command: Command::Alloc(A),
+        },
+        ScriptEvent::Command {
+            port: 0,
+            command: Command::Deactivate(A),
+        },
+        ScriptEvent::Command {
+            port: 0,
+            command: Command::Disable(A),
+        },
+        ScriptEvent::Command {
+            port: 0,
+            command: Command::Enable(A),
+        },
+        ScriptEvent::Command {
+            port: 0,
+            command: Command::Popup(A),
+        },
+        ScriptEvent::Command {
+            port: 0,
+            command: Command::Show(A),
+        },
+        ScriptEvent::Command {
+            port: 0,
+            command: Command::Dealloc {
+                serial: A,
+                alloc: 256,
+            },
+        },
+    ],
+    ..ONE_UNIT
+};
+
+/// A storm's script has its ports and events, and no units.
+const ONE_UNIT_IN_A_STORM: Said = Said {
+    before: "journal_limit = 15\nunit = []\nlose = []\n",
+    is_storm: true,
+    journal_limit: 15,
+    ..ONE_UNIT
+};
+
+const SCRIPTS: [Said; 7] = [
+    ONE_UNIT,
+    NO_UNITS,
+    OTHER_FORMS,
+    UNITS_ON_THE_FIBRE,
+    SAYINGS,
+    COMMANDS,
+    ONE_UNIT_IN_A_STORM,
+];
+
+/// Reads a script, or a storm's.
+fn read(alloc: Global, is_storm: bool, bytes: &[u8]) -> Result<Script, ScriptError> {
+    if is_storm {
+        read_storm_script(alloc, bytes)
+    } else {
+        read_script(alloc, bytes)
+    }
 }
 
 #[test]
-fn commands(rt: HostRuntime) -> Result<(), ScriptError> {
-    let serial = Serial(*b"ABCD\x00\x00\x00\x01");
-    let commands = [
-        ("\"search\"", Command::Search),
-        ("\"enable-all\"", Command::EnableAll),
-        ("\"popup-all\"", Command::PopupAll),
-        (
-            "\"alloc\", serial = \"ABCD00000001\"",
-            Command::Alloc(serial),
-        ),
-        (
-            "\"deactivate\", serial = \"ABCD00000001\"",
-            Command::Deactivate(serial),
-        ),
-        (
-            "\"disable\", serial = \"ABCD00000001\"",
-            Command::Disable(serial),
-        ),
-        (
-            "\"enable\", serial = \"ABCD00000001\"",
-            Command::Enable(serial),
-        ),
-        (
-            "\"popup\", serial = \"ABCD00000001\"",
-            Command::Popup(serial),
-        ),
-        (
-            "\"show\", serial = \"4142434400000001\"",
-            Command::Show(serial),
-        ),
-        (
-            "\"dealloc\", serial = \"ABCD00000001\", alloc = 256",
-            Command::Dealloc { serial, alloc: 256 },
-        ),
-    ];
-    for (keys, command) in commands {
-        let text = format!(in rt.alloc();
-            "licences = 1\nport = [{{}}]\nevent = [{{port = 0, command = {keys}}}]"
-        )?;
-        let script = read_script(rt.alloc(), text.as_bytes())?;
-        let events = [ScriptEvent::Command { port: 0, command }];
-        assert_eq!(rt; script.events.as_slice(), events.as_slice(), "{keys}");
+fn scripts(rt: HostRuntime) -> Result<(), ScriptError> {
+    for said in &SCRIPTS {
+        let text = format!(in rt.alloc(); "{}{}", said.before, said.text)?;
+        let script = read(rt.alloc(), said.is_storm, text.as_bytes())?;
+        assert_eq!(rt;
+            (
+                script.licences,
+                script.mask,
+                script.journal_limit,
+                script.ports.len(),
+                script.units.as_slice(),
+                script.losses.copies.as_slice(),
+                script.losses.bursts.as_slice(),
+                script.events.as_slice(),
+            ),
+            (
+                said.licences,
+                said.mask,
+                said.journal_limit,
+                said.ports,
+                said.units,
+                said.copies,
+                said.bursts,
+                said.events,
+            )
+        );
     }
     Ok(())
 }
 
-/// A storm's script has its ports and events, and no units.
+/// The port of a script with one, where it says little of it and where it says more.
 #[test]
-fn one_unit_in_a_storm(rt: HostRuntime) -> Result<(), ScriptError> {
-    let text = format!(in rt.alloc(); "journal_limit = 15\nunit = []\nlose = []\n{ONE_UNIT}")?;
-    let script = read_storm_script(rt.alloc(), text.as_bytes())?;
-    let expected = read_script(rt.alloc(), ONE_UNIT.as_bytes())?;
-    assert_eq!(rt; script.licences, 1);
-    assert_eq!(rt; script.journal_limit, 15);
-    assert_eq!(rt; script.ports.len(), 1);
-    assert!(rt; script.units.is_empty());
-    assert_eq!(rt; script.events.as_slice(), expected.events.as_slice());
+fn ports(rt: HostRuntime) -> Result<(), ScriptError> {
+    let overhead = [1, 2, 3, 4, 5, 6, 7, 8, 9, 10];
+    let admitted: [Serial; 1] = [A];
+    let rows = [
+        (&ONE_UNIT, [0; 10], 1, &admitted[..]),
+        (&OTHER_FORMS, overhead, 3, &admitted[..0]),
+    ];
+    for (said, overhead, cycles, admitted) in rows {
+        let script = read_script(rt.alloc(), said.text.as_bytes())?;
+        for port in &script.ports {
+            assert_eq!(rt;
+                (
+                    port.mask,
+                    port.overhead,
+                    port.cycles,
+                    port.admitted.as_slice()
+                ),
+                (said.mask, overhead, cycles, admitted)
+            );
+            assert_eq!(rt;
+                (
+                    port.teqd,
+                    port.max_units,
+                    port.alloc_last,
+                    port.search_period,
+                    port.quarantine
+                ),
+                (311_040, 254, 4095, 0, 800)
+            );
+        }
+    }
+    Ok(())
+}
+
+/// The fault of a script, if it has one. Want of memory ends the test.
+fn fault_of(
+    alloc: Global,
+    is_storm: bool,
+    bytes: &[u8],
+) -> Result<Option<ScriptFault>, ScriptError> {
+    match read(alloc, is_storm, bytes) {
+        Ok(_) => Ok(None),
+        Err(ScriptError::Fault(fault)) => Ok(Some(fault)),
+        Err(ScriptError::OutOfMemory) => Err(ScriptError::OutOfMemory),
+    }
+}
+
+/// The first text of these tables that gives a script another fault or none.
+fn first_other(alloc: Global, tables: &[Table]) -> Result<Option<&'static str>, ScriptError> {
+    for table in tables {
+        for (value, fault) in table.rows {
+            let text = format!(in alloc; "{}{value}{}", table.before, table.behind)?;
+            if fault_of(alloc, table.is_storm, text.as_bytes())? != *fault {
+                return Ok(Some(*value));
+            }
+        }
+    }
+    Ok(None)
+}
+
+#[test]
+fn faults_and_ranges(rt: HostRuntime) -> Result<(), ScriptError> {
+    let found = [
+        first_other(rt.alloc(), &faults::TABLES)?,
+        first_other(rt.alloc(), &ranges::TABLES)?,
+    ];
+    assert_eq!(rt; found, [None, None]);
+    Ok(())
+}
+
+#[test]
+fn bytes_that_are_no_script(rt: HostRuntime) -> Result<(), ScriptError> {
+    let spaces = vec![in rt.alloc(); b' '; 1_048_576]?;
+    let found = [
+        fault_of(rt.alloc(), false, &spaces)?,
+        fault_of(rt.alloc(), false, b"\xff")?,
+    ];
+    assert_eq!(rt; found, [SHAPE, SYNTAX]);
     Ok(())
 }
 
 #[test]
 fn texts_of_faults(rt: HostRuntime) -> Result<(), AllocError> {
-    let texts = [
-        (ScriptFault::Syntax, "1 syntax"),
-        (ScriptFault::Shape, "2 shape"),
-        (ScriptFault::Range, "3 range"),
-        (ScriptFault::Serial, "4 serial"),
-        (ScriptFault::Hex, "5 hex"),
-        (ScriptFault::Duplicate, "6 duplicate"),
-    ];
-    for (fault, want) in texts {
-        let text = format!(in rt.alloc(); "{}", ScriptError::Fault(fault))?;
-        assert_eq!(rt; text.as_str(), want);
-    }
-    let text = format!(in rt.alloc(); "{}", ScriptError::OutOfMemory)?;
-    assert_eq!(rt; text.as_str(), "out of memory");
+    let text = format!(in rt.alloc();
+        "{}, {}, {}, {}, {}, {}, {}",
+        ScriptFault::Syntax,
+        ScriptFault::Shape,
+        ScriptFault::Range,
+        ScriptFault::Serial,
+        ScriptFault::Hex,
+        ScriptError::Fault(ScriptFault::Duplicate),
+        ScriptError::OutOfMemory
+    )?;
+    assert_eq!(rt;
+        text.as_str(),
+        "1 syntax, 2 shape, 3 range, 4 serial, 5 hex, 6 duplicate, out of memory"
+    );
     Ok(())
 }

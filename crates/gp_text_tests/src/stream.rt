@@ -60,99 +60,66 @@ impl Write for ShortWriter {
     }
 }
 
-/// Answers the fault of reading it all, if there is one. The test ends where it is out of memory.
-fn fault_of<R: Read>(
+/// Reads a source to its end, and tells how many bytes came and whether they begin with these.
+fn read<R: Read>(
     alloc: Global,
     source: &mut Source<R>,
-) -> Result<Option<SourceFault>, SourceFault> {
-    match read_all(alloc, source) {
-        Ok(_) => Ok(None),
-        Err(SourceFault::OutOfMemory) => Err(SourceFault::OutOfMemory),
-        Err(fault) => Ok(Some(fault)),
-    }
+    start: &[u8],
+) -> Result<(usize, bool), SourceFault> {
+    let bytes = read_all(alloc, source)?;
+    Ok((bytes.len(), bytes.starts_with(start)))
 }
 
+// The eight octets take eight reads, the end one more; a tenth read is made by another call alone. A source with a failed read gives
+// nothing more.
 #[test]
-fn one_octet_a_read(rt: HostRuntime) -> Result<(), SourceFault> {
-    let reader = SlowReader {
-        rest: b"licences",
-        reads: 0,
-        fails_at: 0,
-    };
-    let bytes = read_all(rt.alloc(), &mut Source::new(reader))?;
-    assert_eq!(rt; bytes.as_slice(), b"licences".as_slice());
-    Ok(())
-}
-
-// The eight octets take eight reads, the end one more; a tenth read is not made.
-#[test]
-fn each_read_fails_in_turn(rt: HostRuntime) -> Result<(), SourceFault> {
-    for fails_at in 1..12 {
-        let reader = SlowReader {
+fn each_read_fails_in_turn(rt: HostRuntime) {
+    for fails_at in 0..12 {
+        let mut source = Source::new(SlowReader {
             rest: b"licences",
             reads: 0,
             fails_at,
+        });
+        let first = read(rt.alloc(), &mut source, b"licences");
+        let again = read(rt.alloc(), &mut source, b"");
+        let fault = Err(SourceFault::Read);
+        let wanted = match fails_at {
+            1..10 => (fault, fault),
+            10 => (Ok((8, true)), fault),
+            _ => (Ok((8, true)), Ok((0, true))),
         };
-        let mut source = Source::new(reader);
-        let fault = fault_of(rt.alloc(), &mut source)?;
-        let want = if fails_at < 10 {
-            Some(SourceFault::Read)
-        } else {
-            None
-        };
-        assert_eq!(rt; fault, want, "read {fails_at}");
-        if fails_at < 10 {
-            let again = fault_of(rt.alloc(), &mut source)?;
-            assert_eq!(rt; again, want, "after read {fails_at}");
-        }
+        assert_eq!(rt; (first, again), wanted, "read {fails_at}");
     }
-    Ok(())
 }
 
 #[test]
-fn longest_input(rt: HostRuntime) -> Result<(), SourceFault> {
-    for (octets, want) in [(1_048_576, None), (1_048_577, Some(SourceFault::TooLong))] {
-        let reader = io::repeat(0).take(octets);
-        let fault = fault_of(rt.alloc(), &mut Source::new(reader))?;
-        assert_eq!(rt; fault, want, "{octets} octets");
+fn longest_input(rt: HostRuntime) {
+    for (octets, wanted) in [
+        (1_048_576, Ok((1_048_576, true))),
+        (1_048_577, Err(SourceFault::TooLong)),
+    ] {
+        let mut source = Source::new(io::repeat(7).take(octets));
+        assert_eq!(rt; read(rt.alloc(), &mut source, b"\x07\x07"), wanted);
     }
-    Ok(())
 }
 
 #[test]
 fn short_writes_and_faults(rt: HostRuntime) -> Result<(), AllocError> {
-    for (fails, room) in (0..14).map(|number| (number < 7, number % 7)) {
-        let writer = ShortWriter {
-            taken: Vec::with_capacity(rt.alloc(), 6)?,
-            room,
-            fails,
-        };
-        let mut sink = Sink::new(rt.alloc(), writer)?;
-        assert_eq!(rt; sink.put(b"abc"), Ok(()));
-        assert_eq!(rt; sink.put(b"def"), Ok(()));
-        let want = if room < 6 { Err(WriteStopped) } else { Ok(()) };
-        assert_eq!(rt; sink.finish(), want, "room for {room}");
-        assert_eq!(rt; sink.finish(), want, "room for {room}");
-        let taken = sink.into_inner().taken;
-        assert_eq!(rt; taken.as_slice(), &b"abcdef"[..room]);
+    for fails in [true, false] {
+        for room in 0..7 {
+            let taken = Vec::with_capacity(rt.alloc(), 6)?;
+            let writer = ShortWriter { taken, room, fails };
+            let mut sink = Sink::new(rt.alloc(), writer)?;
+            let puts = [sink.put(b"abc"), sink.put(b"def")];
+            let ends = [sink.finish(), sink.finish()];
+            let taken = sink.into_inner().taken;
+            let wanted = if room < 6 { Err(WriteStopped) } else { Ok(()) };
+            assert_eq!(rt;
+                (puts, ends, taken.as_slice()),
+                ([Ok(()); 2], [wanted; 2], &b"abcdef"[..room])
+            );
+        }
     }
-    Ok(())
-}
-
-// Nothing is written where nothing was handed in, so nothing fails.
-#[test]
-fn nothing_to_write(rt: HostRuntime) -> Result<(), AllocError> {
-    let writer = ShortWriter {
-        taken: Vec::new(rt.alloc()),
-        room: 0,
-        fails: true,
-    };
-    let mut sink = Sink::new(rt.alloc(), writer)?;
-    assert_eq!(rt; sink.put(b""), Ok(()));
-    assert_eq!(rt; sink.finish(), Ok(()));
-    assert_eq!(rt; sink.put(b"abc"), Ok(()));
-    assert_eq!(rt; sink.finish(), Err(WriteStopped));
-    assert_eq!(rt; sink.put(b""), Err(WriteStopped));
     Ok(())
 }
 
@@ -166,11 +133,13 @@ fn a_writer_behind_a_buffer(rt: HostRuntime) -> Result<(), Fail> {
             fails: true,
         };
         let mut sink = Sink::new(rt.alloc(), BufWriter::new(rt.alloc(), writer)?)?;
-        assert_eq!(rt; sink.put(b"abc"), Ok(()));
-        let want = if room < 3 { Err(WriteStopped) } else { Ok(()) };
-        assert_eq!(rt; sink.finish(), want, "room for {room}");
+        let ends = [sink.put(b"abc"), sink.finish()];
         let buffer = sink.into_inner();
-        assert_eq!(rt; buffer.get_ref().taken.as_slice(), &b"abc"[..room]);
+        let wanted = if room < 3 { Err(WriteStopped) } else { Ok(()) };
+        assert_eq!(rt;
+            (ends, buffer.get_ref().taken.as_slice()),
+            ([Ok(()), wanted], &b"abc"[..room])
+        );
     }
     Ok(())
 }
@@ -178,29 +147,23 @@ fn a_writer_behind_a_buffer(rt: HostRuntime) -> Result<(), Fail> {
 #[test]
 fn larger_than_the_room(rt: HostRuntime) -> Result<(), AllocError> {
     let mut sink = Sink::new(rt.alloc(), Vec::new(rt.alloc()))?;
-    assert_eq!(rt; sink.put(b"abc"), Ok(()));
-    assert_eq!(rt; sink.put(&[7; 70_000]), Ok(()));
-    assert_eq!(rt; sink.put(b"def"), Ok(()));
-    let taken = sink.into_inner();
-    assert_eq!(rt; taken.len(), 70_003);
+    let puts = [sink.put(b"abc"), sink.put(&[7; 70_000]), sink.put(b"def")];
+    let count = sink.into_inner().len();
+    assert_eq!(rt; (puts, count), ([Ok(()); 3], 70_003));
     Ok(())
 }
 
 #[test]
 fn texts_of_faults(rt: HostRuntime) -> Result<(), AllocError> {
-    let texts = [
-        (
-            SourceFault::Read,
-            "a read failed, or the input took too many reads",
-        ),
-        (SourceFault::TooLong, "the input is too long"),
-        (SourceFault::OutOfMemory, "out of memory"),
-    ];
-    for (fault, want) in texts {
-        let text = format!(in rt.alloc(); "{fault}")?;
-        assert_eq!(rt; text.as_str(), want);
-    }
-    let text = format!(in rt.alloc(); "{WriteStopped}")?;
-    assert_eq!(rt; text.as_str(), "a write failed or took nothing");
+    let text = format!(in rt.alloc();
+        "{}; {}; {}; {WriteStopped}",
+        SourceFault::Read,
+        SourceFault::TooLong,
+        SourceFault::OutOfMemory
+    )?;
+    assert_eq!(rt;
+        text.as_str(),
+        "a read failed, or the input took too many reads; the input is too long; out of memory; a write failed or took nothing"
+    );
     Ok(())
 }

@@ -10,59 +10,134 @@ use std::alloc::{AllocError, Global};
 
 const A: Serial = Serial(*b"ABCD\x00\x00\x00\x01");
 
-/// Replies, and the text of each.
-const REPLIES: [(Reply, &'static str); 22] = [
-    (Reply::Ticked, "ok"),
-    (Reply::Searching, "searching"),
-    (Reply::Found(0), "found 0"),
-    (Reply::Again(1), "again 1"),
-    (Reply::Repeat(2), "repeat 2"),
-    (Reply::Restarted(253), "restarted 253"),
+/// Events and replies, and the line of each, the seventh of port 1.
+const LINES: [(Event, Reply, &'static str); 33] = [
+    (Event::Frame, Reply::Ticked, "1 7 frame = ok\n"),
+    (Event::Frame, Reply::Searching, "1 7 frame = searching\n"),
+    (Event::Frame, Reply::Found(0), "1 7 frame = found 0\n"),
+    (Event::Frame, Reply::Again(1), "1 7 frame = again 1\n"),
+    (Event::Frame, Reply::Repeat(2), "1 7 frame = repeat 2\n"),
     (
+        Event::Frame,
+        Reply::Restarted(253),
+        "1 7 frame = restarted 253\n",
+    ),
+    (
+        Event::Frame,
         Reply::Ranged {
             onu: 0,
             eqd: 211_040,
         },
-        "ranged 0 211040",
+        "1 7 frame = ranged 0 211040\n",
     ),
-    (Reply::TooFar(3), "too-far 3"),
-    (Reply::StillRanging(4), "still-ranging 4"),
-    (Reply::Alive(5), "alive 5"),
-    (Reply::Acked(256), "acked 256"),
-    (Reply::Gasp(6), "gasp 6"),
-    (Reply::DisabledSeen, "disabled-seen"),
-    (Reply::Allocated(4095), "allocated 4095"),
-    (Reply::Releasing(257), "releasing 257"),
-    (Reply::Deactivated(7), "deactivated 7"),
-    (Reply::Disabled, "disabled"),
-    (Reply::Enabled, "enabled"),
-    (Reply::EnabledAll, "enabled-all"),
-    (Reply::PoppedUp(8), "popped-up 8"),
-    (Reply::PoppedUpAll(9), "popped-up-all 9"),
+    (Event::Frame, Reply::TooFar(3), "1 7 frame = too-far 3\n"),
     (
+        Event::Frame,
+        Reply::StillRanging(4),
+        "1 7 frame = still-ranging 4\n",
+    ),
+    (Event::Frame, Reply::Alive(5), "1 7 frame = alive 5\n"),
+    (Event::Frame, Reply::Acked(256), "1 7 frame = acked 256\n"),
+    (Event::Frame, Reply::Gasp(6), "1 7 frame = gasp 6\n"),
+    (
+        Event::Frame,
+        Reply::DisabledSeen,
+        "1 7 frame = disabled-seen\n",
+    ),
+    (
+        Event::Frame,
+        Reply::Allocated(4095),
+        "1 7 frame = allocated 4095\n",
+    ),
+    (
+        Event::Frame,
+        Reply::Releasing(257),
+        "1 7 frame = releasing 257\n",
+    ),
+    (
+        Event::Frame,
+        Reply::Deactivated(7),
+        "1 7 frame = deactivated 7\n",
+    ),
+    (Event::Frame, Reply::Disabled, "1 7 frame = disabled\n"),
+    (Event::Frame, Reply::Enabled, "1 7 frame = enabled\n"),
+    (Event::Frame, Reply::EnabledAll, "1 7 frame = enabled-all\n"),
+    (
+        Event::Frame,
+        Reply::PoppedUp(8),
+        "1 7 frame = popped-up 8\n",
+    ),
+    (
+        Event::Frame,
+        Reply::PoppedUpAll(9),
+        "1 7 frame = popped-up-all 9\n",
+    ),
+    (
+        Event::Frame,
         Reply::Refused(Refusal::AlreadySearching),
-        "refused 14 already-searching",
+        "1 7 frame = refused 14 already-searching\n",
     ),
-];
-
-/// Commands, and the text of each.
-const COMMANDS: [(Command, &'static str); 10] = [
-    (Command::Search, "search"),
-    (Command::Alloc(A), "alloc ABCD00000001"),
     (
-        Command::Dealloc {
+        Event::Command(Command::Search),
+        Reply::Searching,
+        "1 7 search = searching\n",
+    ),
+    (
+        Event::Command(Command::Alloc(A)),
+        Reply::Searching,
+        "1 7 alloc ABCD00000001 = searching\n",
+    ),
+    (
+        Event::Command(Command::Dealloc {
             serial: A,
             alloc: 256,
-        },
-        "dealloc ABCD00000001 256",
+        }),
+        Reply::Searching,
+        "1 7 dealloc ABCD00000001 256 = searching\n",
     ),
-    (Command::Deactivate(A), "deactivate ABCD00000001"),
-    (Command::Disable(A), "disable ABCD00000001"),
-    (Command::Enable(A), "enable ABCD00000001"),
-    (Command::EnableAll, "enable-all"),
-    (Command::Popup(A), "popup ABCD00000001"),
-    (Command::PopupAll, "popup-all"),
-    (Command::Show(A), "show ABCD00000001"),
+    (
+        Event::Command(Command::Deactivate(A)),
+        Reply::Searching,
+        "1 7 deactivate ABCD00000001 = searching\n",
+    ),
+    (
+        Event::Command(Command::Disable(A)),
+        Reply::Searching,
+        "1 7 disable ABCD00000001 = searching\n",
+    ),
+    (
+        Event::Command(Command::Enable(A)),
+        Reply::Searching,
+        "1 7 enable ABCD00000001 = searching\n",
+    ),
+    (
+        Event::Command(Command::EnableAll),
+        Reply::Searching,
+        "1 7 enable-all = searching\n",
+    ),
+    (
+        Event::Command(Command::Popup(A)),
+        Reply::Searching,
+        "1 7 popup ABCD00000001 = searching\n",
+    ),
+    (
+        Event::Command(Command::PopupAll),
+        Reply::Searching,
+        "1 7 popup-all = searching\n",
+    ),
+    (
+        Event::Command(Command::Show(A)),
+        Reply::Searching,
+        "1 7 show ABCD00000001 = searching\n",
+    ),
+    (
+        Event::Burst {
+            at: 100_000,
+            bytes: *b"\x00\x01ABCD\x00\x00\x00\x01\x00\x00\x6b",
+        },
+        Reply::Repeat(0),
+        "1 7 burst 100000 0001414243440000000100006b = repeat 0\n",
+    ),
 ];
 
 /// The line of an entry, the seventh of port 1.
@@ -86,41 +161,17 @@ fn line(alloc: Global, mask: Mask, event: Event, answer: Answer) -> Result<Vec<u
 }
 
 #[test]
-fn replies(rt: HostRuntime) -> Result<(), AllocError> {
-    for (reply, text) in REPLIES {
-        let found = line(rt.alloc(), Mask::Plain, Event::Frame, Answer::from(reply))?;
-        let want = format!(in rt.alloc(); "1 7 frame = {text}\n")?;
-        assert_eq!(rt; found.as_slice(), want.as_bytes(), "{text}");
+fn events_and_replies(rt: HostRuntime) -> Result<(), AllocError> {
+    for (event, reply, text) in LINES {
+        let found = line(rt.alloc(), Mask::Plain, event, Answer::from(reply))?;
+        assert!(rt; found.as_slice() == text.as_bytes(), "{text}");
     }
     Ok(())
 }
 
 #[test]
-fn commands(rt: HostRuntime) -> Result<(), AllocError> {
-    for (command, text) in COMMANDS {
-        let answer = Answer::from(Reply::Searching);
-        let found = line(rt.alloc(), Mask::Plain, Event::Command(command), answer)?;
-        let want = format!(in rt.alloc(); "1 7 {text} = searching\n")?;
-        assert_eq!(rt; found.as_slice(), want.as_bytes(), "{text}");
-    }
-    Ok(())
-}
-
-#[test]
-fn whole_lines(rt: HostRuntime) -> Result<(), AllocError> {
-    let burst = Event::Burst {
-        at: 100_000,
-        bytes: *b"\x00\x01ABCD\x00\x00\x00\x01\x00\x00\x6b",
-    };
-    let found = line(
-        rt.alloc(),
-        Mask::Plain,
-        burst,
-        Answer::from(Reply::Repeat(0)),
-    )?;
-    let want = "1 7 burst 100000 0001414243440000000100006b = repeat 0\n";
-    assert_eq!(rt; found.as_slice(), want.as_bytes());
-    let all = Answer {
+fn whole_answer(rt: HostRuntime) -> Result<(), AllocError> {
+    let answer = Answer {
         reply: Reply::Ticked,
         sent: Some(Down::AssignOnu { onu: 0, serial: A }),
         grant: Some(Grant::Range(0)),
@@ -129,10 +180,10 @@ fn whole_lines(rt: HostRuntime) -> Result<(), AllocError> {
             serial: A,
         }),
     };
-    let found = line(rt.alloc(), Mask::Coset, Event::Frame, all)?;
+    let found = line(rt.alloc(), Mask::Coset, Event::Frame, answer)?;
     let want =
         "1 7 frame = ok sent ff03004142434400000001004e grant range 0 alarm LOAM ABCD00000001\n";
-    assert_eq!(rt; found.as_slice(), want.as_bytes());
+    assert!(rt; found.as_slice() == want.as_bytes());
     Ok(())
 }
 
@@ -163,17 +214,28 @@ fn shown_units(rt: HostRuntime) -> Result<(), AllocError> {
         ..ranging
     };
     let rows = [
-        (ranging, "unit 3 ranging 0 allocs -"),
-        (operating, "unit 3 operating 211040 allocs -"),
-        (one, "unit 3 operating 211040 allocs 300"),
-        (three, "unit 3 ranging 0 allocs 256!,300,4095"),
+        (
+            ranging,
+            "1 7 show ABCD00000001 = unit 3 ranging 0 allocs -\n",
+        ),
+        (
+            operating,
+            "1 7 show ABCD00000001 = unit 3 operating 211040 allocs -\n",
+        ),
+        (
+            one,
+            "1 7 show ABCD00000001 = unit 3 operating 211040 allocs 300\n",
+        ),
+        (
+            three,
+            "1 7 show ABCD00000001 = unit 3 ranging 0 allocs 256!,300,4095\n",
+        ),
     ];
     for (row, text) in rows {
         let command = Event::Command(Command::Show(A));
         let answer = Answer::from(Reply::Shown(row));
         let found = line(rt.alloc(), Mask::Plain, command, answer)?;
-        let want = format!(in rt.alloc(); "1 7 show ABCD00000001 = {text}\n")?;
-        assert_eq!(rt; found.as_slice(), want.as_bytes(), "{text}");
+        assert!(rt; found.as_slice() == text.as_bytes(), "{text}");
     }
     Ok(())
 }
