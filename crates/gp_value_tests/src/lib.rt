@@ -4,7 +4,7 @@
 //! - `ploam.rt`: codes and check values from outside, the limits of each field, and printed faults.
 //! - `serial.rt`: worked spellings, a full port, printed faults, and memory that is refused.
 //! - `licence.rt`: the generic code, once at a ledger of its own.
-//! - `alarms.rt`: the ends of poll windows, by rows and one after the other, and the names of alarms.
+//! - `alarms.rt`: the ends of poll windows, by rows, and the names of alarms.
 //! - `timers.rt`: a wheel used by hand, wheels of many sizes, and memory that is refused.
 //! - `samples.rt`: what several of them use.
 #![tactic(auto)]

@@ -4,19 +4,10 @@ ghost use Rattle.std.specs.Prelude.{◌≡◌};
 use gp_licence::{LicenceBook, Licences, MAX_LICENCES};
 use std::marker::Brand;
 use std::sync::ledger::{Blank, Ledger};
-use std::test::Fail;
 
-/// How many licences there are after each step of `take_and_give_two`.
-#[derive(Clone, Copy, Debug, PartialEq, Eq)]
-struct Seen {
-    first: u32,
-    second: u32,
-    third: u32,
-    free: u32,
-    closed: u32,
-}
-
-fn take_and_give_two<L: Ledger>(blank: Blank) -> Seen
+/// Takes three licences of two, one after the other, and gives one back: how many were held after the first and the second,
+/// how many came third, how many are free in the end, and how many the book had when it was closed.
+fn take_and_give_two<L: Ledger>(blank: Blank) -> [u32; 5]
     requires name { blank.name ≡ L.name }
     requires parts { (blank.parts ≡ L.parts) × (L.parts ≡ MAX_LICENCES) }
 {
@@ -30,25 +21,12 @@ fn take_and_give_two<L: Ledger>(blank: Blank) -> Seen
     let (one, rest) = held.join(none_left).split_one();
     book.give(one);
     let free = book.free();
-    Seen {
-        first,
-        second,
-        third,
-        free,
-        closed: book.close(rest.join(Licences::none())),
-    }
+    let closed = book.close(rest.join(Licences::none()));
+    [first, second, third, free, closed]
 }
 
 #[test]
-fn last_licence_once(rt: HostRuntime) -> Result<(), Fail> {
-    let seen = take_and_give_two::<Brand>(Blank::new(u64::from(MAX_LICENCES)));
-    let expected = Seen {
-        first: 1,
-        second: 2,
-        third: 0,
-        free: 1,
-        closed: 2,
-    };
-    assert_eq!(rt; seen, expected);
-    Ok(())
+fn last_licence_once(rt: HostRuntime) {
+    let blank = Blank::new(u64::from(MAX_LICENCES));
+    assert!(rt; take_and_give_two::<Brand>(blank) == [1, 2, 0, 1, 2]);
 }

@@ -1,5 +1,5 @@
 //! Worked spellings, printed faults, and what only a run shows: that memory suffices, or is told.
-use crate::samples::SERIAL;
+use crate::samples::{SERIAL, prints};
 use gp_ploam::Serial;
 use gp_serial::{
     AdmissionList, AdmitFault, MAX_ON_A_PORT, SerialFault, SerialText, parse_serial,
@@ -14,53 +14,85 @@ fn numbered(number: u16) -> Serial {
     Serial([0x41, 0x42, 0x43, 0x44, 0, 0, high, low])
 }
 
+/// With a vendor code, of letters or digits too, and without one.
+const TEXTS: [(Serial, &str); 4] = [
+    (SERIAL, "ABCD00000001"),
+    (Serial([0; 8]), "0000000000000000"),
+    (
+        Serial([0x30, 0x39, 0x5a, 0x41, 0xde, 0xad, 0xbe, 0xef]),
+        "09ZADEADBEEF",
+    ),
+    (
+        Serial([0xff, 0x39, 0x5a, 0x41, 0xde, 0xad, 0xbe, 0xef]),
+        "FF395A41DEADBEEF",
+    ),
+];
+
 #[test]
-fn serial_texts(rt: HostRuntime) -> Result<(), Fail> {
-    assert_eq!(rt; parse_serial("ABCD0000001"), Err(SerialFault::Length));
-    assert_eq!(rt; parse_serial("abCD00000001"), Err(SerialFault::Vendor));
-    assert_eq!(rt; parse_serial("ABCD0000000G"), Err(SerialFault::Digit));
-    assert_eq!(rt; parse_serial("4142434400000001"), Ok(SERIAL));
-    assert_eq!(rt; serial_text(rt.alloc(), &SERIAL)?.as_str(), "ABCD00000001");
-    assert_eq!(rt;
-        serial_text(rt.alloc(), &Serial([0; 8]))?.as_str(),
-        "0000000000000000"
-    );
-    Ok(())
+fn serial_texts(rt: HostRuntime) {
+    let read = [
+        parse_serial("ABCD0000001"),
+        parse_serial("abCD00000001"),
+        parse_serial("ABCD0000000G"),
+        parse_serial("4142434400000001"),
+    ];
+    let expected = [
+        Err(SerialFault::Length),
+        Err(SerialFault::Vendor),
+        Err(SerialFault::Digit),
+        Ok(SERIAL),
+    ];
+    assert_eq!(rt; read, expected);
+    for (serial, text) in TEXTS {
+        assert!(rt; is_written(rt.alloc(), &serial, text), "{text}");
+    }
+}
+
+/// Tells whether a serial number is written as this text, as a text of its own and where it is printed.
+fn is_written(alloc: Global, serial: &Serial, text: &str) -> bool {
+    match serial_text(alloc, serial) {
+        Ok(written) => written.as_str() == text && prints(alloc, &SerialText::of(serial), text),
+        Err(_) => false,
+    }
 }
 
 #[test]
-fn texts_elsewhere(rt: HostRuntime) -> Result<(), Fail> {
-    let vendor_of_digits = Serial([0x30, 0x39, 0x5a, 0x41, 0xde, 0xad, 0xbe, 0xef]);
-    let text = format!(in rt.alloc(); "{}", SerialText::of(&vendor_of_digits))?;
-    assert_eq!(rt; text.as_str(), "09ZADEADBEEF");
-    let without_vendor = Serial([0xff, 0x39, 0x5a, 0x41, 0xde, 0xad, 0xbe, 0xef]);
-    let text = format!(in rt.alloc(); "{}", SerialText::of(&without_vendor))?;
-    assert_eq!(rt; text.as_str(), "FF395A41DEADBEEF");
+fn pushed_texts(rt: HostRuntime) -> Result<(), Fail> {
     let mut out = Vec::new(rt.alloc());
     push_serial_text(&mut out, &Serial([0x5b, 0x42, 0x43, 0x44, 0, 0, 0, 0xa1]))?;
     push_serial_text(&mut out, &SERIAL)?;
-    assert_eq!(rt; out.as_slice(), b"5B424344000000A1ABCD00000001".as_slice());
+    assert!(rt; out.as_slice() == b"5B424344000000A1ABCD00000001".as_slice());
     Ok(())
 }
 
-#[test]
-fn duplicates(rt: HostRuntime) {
-    let mut list = AdmissionList::new(rt.alloc());
-    assert_eq!(rt; list.admit(0, SERIAL), Ok(()));
-    assert_eq!(rt; list.admit(0, SERIAL), Err(AdmitFault::Duplicate));
-    assert_eq!(rt; list.admit(1, SERIAL), Err(AdmitFault::Duplicate));
-}
-
+/// Port 0 has as many as it can. Those that it has are admitted nowhere else, and one more is, on another port.
 #[test]
 fn a_full_port(rt: HostRuntime) {
     let mut list = AdmissionList::new(rt.alloc());
     for number in 0..512u16 {
-        assert_eq!(rt; list.admit(0, numbered(number)), Ok(()));
+        let _ = list.admit(0, numbered(number));
     }
-    assert_eq!(rt; list.admitted_on(0), MAX_ON_A_PORT);
-    assert_eq!(rt; list.admit(0, numbered(512)), Err(AdmitFault::Full));
-    assert_eq!(rt; list.admit(1, numbered(512)), Ok(()));
-    assert_eq!(rt; list.port_of(&numbered(512)), Some(1));
+    let (first, more) = (numbered(0), numbered(512));
+    let admitted = [
+        list.admit(0, more),
+        list.admit(0, first),
+        list.admit(1, first),
+        list.admit(1, more),
+    ];
+    let expected = [
+        Err(AdmitFault::Full),
+        Err(AdmitFault::Duplicate),
+        Err(AdmitFault::Duplicate),
+        Ok(()),
+    ];
+    let disabled = [
+        list.is_disabled(&more),
+        list.set_disabled(&more, true),
+        list.is_disabled(&more),
+    ];
+    let told = (list.admitted_on(0), list.port_of(&more), disabled);
+    assert_eq!(rt; admitted, expected);
+    assert!(rt; told == (MAX_ON_A_PORT, Some(1), [false, true, true]));
 }
 
 #[test]
@@ -68,18 +100,9 @@ fn each_port(rt: HostRuntime) {
     let mut list = AdmissionList::new(rt.alloc());
     for port in 0..=255u8 {
         let serial = numbered(u16::from(port));
-        assert_eq!(rt; list.admit(port, serial), Ok(()));
-        assert_eq!(rt; list.port_of(&serial), Some(port));
+        let told = (list.admit(port, serial), list.port_of(&serial));
+        assert!(rt; told == (Ok(()), Some(port)), "{port}");
     }
-}
-
-#[test]
-fn disabled(rt: HostRuntime) {
-    let mut list = AdmissionList::new(rt.alloc());
-    assert_eq!(rt; list.admit(0, SERIAL), Ok(()));
-    assert!(rt; !list.is_disabled(&SERIAL));
-    assert!(rt; list.set_disabled(&SERIAL, true));
-    assert!(rt; list.is_disabled(&SERIAL));
 }
 
 // Run with each allocation refused in turn (`rt try --test --fail-alloc N`).
@@ -89,58 +112,48 @@ fn admitted(alloc: Global) -> (Result<(), AdmitFault>, Option<u8>) {
 }
 
 #[test]
-fn memory_short_or_ample(rt: HostRuntime) -> Result<(), Fail> {
-    match admitted(rt.alloc()) {
-        (Ok(()), port) => assert_eq!(rt; port, Some(3)),
-        (Err(fault), port) => {
-            assert_eq!(rt; fault, AdmitFault::OutOfMemory);
-            assert_eq!(rt; port, None);
-        }
-    }
-    if let Err(fault) = serial_text(rt.alloc(), &SERIAL) {
-        assert_eq!(rt; fault, SerialFault::OutOfMemory);
-    }
-    Ok(())
+fn memory_short_or_ample(rt: HostRuntime) {
+    let expected = match admitted(rt.alloc()) {
+        (Ok(()), port) => port == Some(3),
+        (Err(fault), port) => fault == AdmitFault::OutOfMemory && port.is_none(),
+    };
+    let fault = serial_text(rt.alloc(), &SERIAL).err();
+    assert!(rt; expected && (fault.is_none() || fault == Some(SerialFault::OutOfMemory)));
 }
 
 #[test]
-fn printed_serial_faults(rt: HostRuntime) -> Result<(), Fail> {
+fn printed_faults(rt: HostRuntime) {
     let alloc = rt.alloc();
-    for (fault, text) in [
-        (
-            SerialFault::Length,
+    let reading = [
+        prints(
+            alloc,
+            &SerialFault::Length,
             "a serial number has 12 or 16 characters",
         ),
-        (
-            SerialFault::Vendor,
+        prints(
+            alloc,
+            &SerialFault::Vendor,
             "a vendor code has letters A to Z and digits 0 to 9",
         ),
-        (
-            SerialFault::Digit,
+        prints(
+            alloc,
+            &SerialFault::Digit,
             "a serial number's octets are hex digits",
         ),
-        (SerialFault::OutOfMemory, "out of memory"),
-    ] {
-        assert_eq!(rt; format!(in alloc; "{fault}")?.as_str(), text);
-    }
-    Ok(())
-}
-
-#[test]
-fn printed_admit_faults(rt: HostRuntime) -> Result<(), Fail> {
-    let alloc = rt.alloc();
-    for (fault, text) in [
-        (
-            AdmitFault::Duplicate,
+        prints(alloc, &SerialFault::OutOfMemory, "out of memory"),
+    ];
+    let admitting = [
+        prints(
+            alloc,
+            &AdmitFault::Duplicate,
             "the serial number is admitted already",
         ),
-        (
-            AdmitFault::Full,
+        prints(
+            alloc,
+            &AdmitFault::Full,
             "512 serial numbers are admitted on the port",
         ),
-        (AdmitFault::OutOfMemory, "out of memory"),
-    ] {
-        assert_eq!(rt; format!(in alloc; "{fault}")?.as_str(), text);
-    }
-    Ok(())
+        prints(alloc, &AdmitFault::OutOfMemory, "out of memory"),
+    ];
+    assert!(rt; (reading, admitting) == ([true; 4], [true; 3]));
 }

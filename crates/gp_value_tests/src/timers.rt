@@ -1,4 +1,5 @@
 //! A wheel used by hand, wheels of many sizes, and what only a run shows: that memory suffices, or is told.
+use crate::samples::prints;
 use gp_timers::{TimerFault, Wheel};
 use std::test::Fail;
 
@@ -8,54 +9,42 @@ fn wheel(rt: HostRuntime) -> Result<(), Fail> {
     wheel.set(2, 5);
     wheel.set(0, 5);
     wheel.set(1, 9);
-    assert_eq!(rt; wheel.due(4), None);
-    assert_eq!(rt; wheel.due(7), Some(0));
-    assert_eq!(rt; wheel.due(7), Some(2));
-    assert_eq!(rt; wheel.due(7), None);
-    assert_eq!(rt; wheel.cancel(1), true);
-    assert_eq!(rt; wheel.cancel(1), false);
+    let due = [wheel.due(4), wheel.due(7), wheel.due(7), wheel.due(7)];
+    let was_set = [wheel.cancel(1), wheel.cancel(1)];
+    assert_eq!(rt;
+        (due, was_set),
+        ([None, Some(0), Some(2), None], [true, false])
+    );
     Ok(())
 }
 
+/// Wheels of no name up to 300, and of the most names: the last name is due in the last frame, and none before it.
 #[test]
-fn ends_of_the_range(rt: HostRuntime) -> Result<(), Fail> {
-    let mut none = Wheel::begin(rt.alloc(), 0)?;
-    assert_eq!(rt; none.cancel(0), false);
-    assert_eq!(rt; none.due(u64::MAX), None);
-    let mut one = Wheel::begin(rt.alloc(), 1)?;
-    one.set(0, u64::MAX);
-    assert_eq!(rt; one.due(u64::MAX - 1), None);
-    assert_eq!(rt; one.due(u64::MAX), Some(0));
-    let mut most = Wheel::begin(rt.alloc(), u16::MAX)?;
-    most.set(65534, 1);
-    most.set(65533, 1);
-    assert_eq!(rt; most.due(1), Some(65533));
-    assert_eq!(rt; most.due(1), Some(65534));
-    assert_eq!(rt; most.due(1), None);
-    Ok(())
-}
-
-#[test]
-fn each_small_wheel(rt: HostRuntime) -> Result<(), Fail> {
-    for names in 1..=300u16 {
+fn wheel_of_each_size(rt: HostRuntime) -> Result<(), Fail> {
+    for step in 0..=301u16 {
+        let names = if step == 301 { u16::MAX } else { step };
+        let last = names.checked_sub(1);
         let mut wheel = Wheel::begin(rt.alloc(), names)?;
-        wheel.set(names - 1, 1);
-        assert_eq!(rt; wheel.due(1), Some(names - 1));
+        if let Some(name) = last {
+            wheel.set(name, u64::MAX);
+        }
+        let due = [wheel.due(u64::MAX - 1), wheel.due(u64::MAX)];
+        assert!(rt; due == [None, last], "{names}");
     }
     Ok(())
 }
 
+// Run with each allocation refused in turn (`rt try --test --fail-alloc N`).
 #[test]
 fn memory_short_or_ample(rt: HostRuntime) {
-    match Wheel::begin(rt.alloc(), 5120) {
-        Ok(mut wheel) => assert_eq!(rt; wheel.due(u64::MAX), None),
-        Err(fault) => assert_eq!(rt; fault, TimerFault::OutOfMemory),
-    }
+    let is_told = match Wheel::begin(rt.alloc(), 5120) {
+        Ok(mut wheel) => wheel.due(u64::MAX).is_none(),
+        Err(fault) => fault == TimerFault::OutOfMemory,
+    };
+    assert!(rt; is_told);
 }
 
 #[test]
-fn fault_text(rt: HostRuntime) -> Result<(), Fail> {
-    let text = format!(in rt.alloc(); "{}", TimerFault::OutOfMemory)?;
-    assert_eq!(rt; text.as_str(), "out of memory");
-    Ok(())
+fn fault_text(rt: HostRuntime) {
+    assert!(rt; prints(rt.alloc(), &TimerFault::OutOfMemory, "out of memory"));
 }
