@@ -1,5 +1,7 @@
-//! Every number leased in turn, the quarantine by frames, and a unit's Alloc-IDs.
-use gp_pools::{AllocIds, Allocs, MAX_ALLOCS, OnuIds};
+//! Every number leased in turn, and the quarantine by frames.
+ghost use Rattle.std.specs.Prelude.{◌≤◌};
+
+use gp_pools::{AllocIds, OnuIds};
 
 /// Leases the next ONU-ID, and settles it.
 fn settle_next_onu_id(ids: &mut OnuIds) -> Option<u8> {
@@ -33,56 +35,96 @@ fn pass_next_alloc_id_through(ids: &mut AllocIds) -> Option<u16> {
     Some(number)
 }
 
+/// Settles all ONU-IDs, each after it was passed through, and gives the first number that didn't come in its turn.
+fn first_onu_id_out_of_turn(ids: &mut OnuIds) -> Option<u8> {
+    for number in 0..254 {
+        let come = (
+            ids.any_free(),
+            pass_next_onu_id_through(ids),
+            settle_next_onu_id(ids),
+        );
+        if come != (true, Some(number), Some(number)) {
+            return Some(number);
+        }
+    }
+    None
+}
+
 #[test]
 fn each_onu_id_in_turn(rt: HostRuntime) {
     let mut ids = OnuIds::new(254, 0);
-    assert!(rt; ids.is_free(0) && ids.is_free(253) && !ids.is_free(254) && !ids.is_free(255));
-    for number in 0..254 {
-        assert!(rt; ids.any_free());
-        assert_eq!(rt; pass_next_onu_id_through(&mut ids), Some(number));
-        assert_eq!(rt; settle_next_onu_id(&mut ids), Some(number));
+    let free = [0, 253, 254, 255].map(|number| ids.is_free(number));
+    let wrong = first_onu_id_out_of_turn(&mut ids);
+    let left = [ids.any_free(), ids.is_free(0), ids.is_free(253)];
+    let next = settle_next_onu_id(&mut ids);
+    assert!(rt; free == [true, true, false, false] && left == [false; 3]);
+    assert_eq!(rt; (wrong, next), (None, None));
+}
+
+/// Settles the Alloc-IDs up to an end, each after it was passed through, and gives the first number that didn't come in its
+/// turn.
+fn first_alloc_id_out_of_turn(ids: &mut AllocIds, end: u16) -> Option<u16> {
+    for number in 256..end {
+        let come = (
+            ids.any_free(),
+            pass_next_alloc_id_through(ids),
+            settle_next_alloc_id(ids),
+        );
+        if come != (true, Some(number), Some(number)) {
+            return Some(number);
+        }
     }
-    assert!(rt; !ids.any_free() && !ids.is_free(0) && !ids.is_free(253));
-    assert_eq!(rt; settle_next_onu_id(&mut ids), None);
+    None
 }
 
 #[test]
 fn each_alloc_id_in_turn(rt: HostRuntime) {
     for (last, end) in [(255, 256), (256, 257), (4095, 4096)] {
         let mut ids = AllocIds::new(last);
-        assert!(rt; !ids.is_free(255) && ids.is_free(256) == (last >= 256) && !ids.is_free(4096));
-        for number in 256..end {
-            assert!(rt; ids.any_free());
-            assert_eq!(rt; pass_next_alloc_id_through(&mut ids), Some(number));
-            assert_eq!(rt; settle_next_alloc_id(&mut ids), Some(number));
-        }
-        assert!(rt; !ids.any_free() && !ids.is_free(256));
-        assert_eq!(rt; settle_next_alloc_id(&mut ids), None);
+        let free = [ids.is_free(255), ids.is_free(256), ids.is_free(4096)];
+        let wrong = first_alloc_id_out_of_turn(&mut ids, end);
+        let left = [ids.any_free(), ids.is_free(256)];
+        let next = settle_next_alloc_id(&mut ids);
+        assert!(rt; free == [false, last >= 256, false] && left == [false; 2]);
+        assert_eq!(rt; (wrong, next), (None, None));
     }
 }
 
-/// A gets 0 and gives it back. Then B gets a number, and C one after the quarantine.
-#[test]
-fn a_freed_number_cools(rt: HostRuntime) {
-    for (quarantine, number_of_b, number_of_c) in [
-        (0, 0, 1),
-        (1, 1, 0),
-        (800, 1, 0),
-        (8000, 1, 0),
-    ] {
-        let mut ids = OnuIds::new(254, quarantine);
-        assert_eq!(rt; pass_next_onu_id_through(&mut ids), Some(0));
-        assert_eq!(rt; settle_next_onu_id(&mut ids), Some(number_of_b));
-        for frame in 0..quarantine {
-            assert!(rt;
-                ids.is_cooling(0) && !ids.is_free(0),
-                "{quarantine} {frame}"
-            );
+/// Tells what becomes of the ONU-ID 0, which A gave back: B gets a number, the frames pass in which 0 cools, and C gets a number.
+fn after_a_gave_0_back(quarantine: u16) -> (Option<u8>, u16, Option<u8>)
+    requires { quarantine ≤ 8000 }
+{
+    let mut ids = OnuIds::new(254, quarantine);
+    let _ = pass_next_onu_id_through(&mut ids);
+    let number_of_b = settle_next_onu_id(&mut ids);
+    let mut cooled = 0;
+    for frame in 0..9000u16 {
+        if ids.is_cooling(0) && !ids.is_free(0) {
+            cooled = frame + 1;
             ids.tick();
         }
-        assert!(rt; !ids.is_cooling(0), "{quarantine}");
-        assert_eq!(rt; settle_next_onu_id(&mut ids), Some(number_of_c));
     }
+    (number_of_b, cooled, settle_next_onu_id(&mut ids))
+}
+
+#[test]
+fn a_freed_number_cools(rt: HostRuntime) {
+    let told = [
+        after_a_gave_0_back(0),
+        after_a_gave_0_back(1),
+        after_a_gave_0_back(800),
+        after_a_gave_0_back(8000),
+    ];
+    let (zero, one) = (Some(0), Some(1));
+    assert_eq!(rt;
+        told,
+        [
+            (zero, 0, one),
+            (one, 1, zero),
+            (one, 800, zero),
+            (one, 8000, zero)
+        ]
+    );
 }
 
 /// A cooling number doesn't count among those that are out, and isn't handed out either.
@@ -93,38 +135,14 @@ fn no_number_but_a_cooling_one(rt: HostRuntime) {
         for _ in 0..settled {
             let _ = settle_next_onu_id(&mut ids);
         }
-        assert_eq!(rt; pass_next_onu_id_through(&mut ids), Some(settled));
-        assert_eq!(rt; ids.any_free(), max_units == 2);
-        assert_eq!(rt; settle_next_onu_id(&mut ids).is_some(), max_units == 2);
+        let passed = pass_next_onu_id_through(&mut ids);
+        let free = ids.any_free();
+        let next = settle_next_onu_id(&mut ids);
         for _ in 0..800 {
             ids.tick();
         }
-        assert_eq!(rt; ids.any_free(), max_units == 254);
+        let is_two = max_units == 2;
+        let told = (passed, free, next.is_some(), ids.any_free());
+        assert_eq!(rt; told, (Some(settled), is_two, is_two, !is_two));
     }
-}
-
-#[test]
-fn alloc_ids_of_a_unit_rise(rt: HostRuntime) {
-    let mut allocs = Allocs::new();
-    for alloc in [300, 4095, 256, 300, 257] {
-        if allocs.len() < MAX_ALLOCS {
-            allocs.insert(alloc, alloc == 4095);
-        }
-    }
-    allocs.remove(257);
-    allocs.remove(258);
-    let want = [
-        Some((256, false)),
-        Some((300, false)),
-        Some((4095, true)),
-        None,
-        None,
-        None,
-        None,
-        None,
-    ];
-    assert_eq!(rt; allocs.slots(), want);
-    assert_eq!(rt; allocs.len(), 3);
-    assert_eq!(rt; allocs.get(4095), Some(true));
-    assert_eq!(rt; allocs.get(257), None);
 }

@@ -1,12 +1,14 @@
 //! What no clause says: a port used by hand, its fault texts, memory that is refused, and octets of each length. `lines.rt` plays
-//! a port by lines; `worked.rt` and `images.rt` play runs so. More worked runs stand as scripts with their traces in
+//! a port by lines, which are in `parts.rt`; `worked.rt` and `images.rt` play runs so. More worked runs stand as scripts with their traces in
 //! `olt_examples`.
 ghost use Rattle.std.specs.Prelude.{◌≡◌};
 
 mod images;
 mod lines;
+mod parts;
 mod worked;
 
+use crate::texts::prints;
 use gp_licence::{LicenceBook, Licences, MAX_LICENCES};
 use gp_machine::{Admitted, Command, Event, PortConfig, Reply};
 use gp_ploam::{Mask, PloamFault};
@@ -15,22 +17,21 @@ use lines::A;
 use std::alloc::{AllocError, Global};
 use std::marker::Brand;
 use std::sync::ledger::{Blank, Ledger};
-use std::test::Fail;
 
 /// A's serial number, without an ONU-ID.
 const A_SEARCHED: [u8; 13] = [0xff, 1, 0x41, 0x42, 0x43, 0x44, 0, 0, 0, 1, 0, 0, 0x2c];
 
-/// The defaults, with A admitted.
-fn config_of_a(alloc: Global) -> Result<PortConfig, AllocError> {
+/// Makes the defaults but for two numbers, with A admitted.
+fn config_of_a(alloc: Global, cycles: u8, quarantine: u16) -> Result<PortConfig, AllocError> {
     Ok(PortConfig {
         mask: Mask::Plain,
         teqd: 311_040,
         overhead: [0; 10],
         max_units: 254,
         alloc_last: 4095,
-        cycles: 3,
+        cycles,
         search_period: 0,
-        quarantine: 800,
+        quarantine,
         admitted: Admitted::from([A].to_vec(alloc)?),
     })
 }
@@ -61,15 +62,16 @@ fn find_one<L: Ledger>(alloc: Global, blank: Blank, config: &PortConfig) -> Resu
 }
 
 #[test]
-fn one_unit_by_hand(rt: HostRuntime) -> Result<(), Fail> {
-    let config = config_of_a(rt.alloc())?;
+fn one_unit_by_hand(rt: HostRuntime) {
     let blank = Blank::new(u64::from(MAX_LICENCES));
-    let reply = find_one::<Brand>(rt.alloc(), blank, &config)?;
-    assert_eq!(rt; reply, Reply::Found(0));
-    Ok(())
+    let reply = match config_of_a(rt.alloc(), 3, 800) {
+        Ok(config) => find_one::<Brand>(rt.alloc(), blank, &config),
+        Err(_) => Err(OpenFault::OutOfMemory),
+    };
+    assert_eq!(rt; reply, Ok(Reply::Found(0)));
 }
 
-/// Why a port with this configuration is not opened, if it is not.
+/// Tells why a port with this configuration is not opened, if it is not.
 fn fault_of(alloc: Global, config: &PortConfig) -> Option<OpenFault> {
     match PortCore::<Brand>::begin(alloc, config) {
         Ok(port) => {
@@ -80,60 +82,59 @@ fn fault_of(alloc: Global, config: &PortConfig) -> Option<OpenFault> {
     }
 }
 
-#[test]
-fn opened_with_ample_memory(rt: HostRuntime) -> Result<(), Fail> {
-    let config = config_of_a(rt.alloc())?;
-    let fault = fault_of(rt.alloc(), &config);
-    assert!(rt; fault.is_none() || fault == Some(OpenFault::OutOfMemory));
-    Ok(())
-}
-
-#[test]
-fn quarantine_of_8001_frames(rt: HostRuntime) -> Result<(), Fail> {
-    let config = PortConfig {
-        quarantine: 8001,
-        ..config_of_a(rt.alloc())?
-    };
-    assert_eq!(rt; fault_of(rt.alloc(), &config), Some(OpenFault::Limit));
-    Ok(())
-}
-
-#[test]
-fn no_search_windows(rt: HostRuntime) -> Result<(), Fail> {
-    let config = PortConfig {
-        cycles: 0,
-        ..config_of_a(rt.alloc())?
-    };
-    assert_eq!(rt; fault_of(rt.alloc(), &config), Some(OpenFault::Limit));
-    Ok(())
-}
-
-#[test]
-fn octets_of_each_length(rt: HostRuntime) -> Result<(), Fail> {
-    let octets = [0xff; 64];
-    for length in 0..65usize {
-        let made = burst_of(1, &octets[..length]);
-        let thirteen = Event::Burst {
-            at: 1,
-            bytes: [0xff; 13],
-        };
-        if length == 13 {
-            assert_eq!(rt; made, Ok(thirteen));
-        } else {
-            assert_eq!(rt; made, Err(PloamFault::Length));
-        }
+/// Tells the same of the defaults but for these numbers.
+fn fault_with(alloc: Global, cycles: u8, quarantine: u16) -> Option<OpenFault> {
+    match config_of_a(alloc, cycles, quarantine) {
+        Ok(config) => fault_of(alloc, &config),
+        Err(_) => Some(OpenFault::OutOfMemory),
     }
-    Ok(())
+}
+
+// Run with each allocation refused in turn (`rt try --test --fail-alloc N`).
+#[test]
+fn opened_with_ample_memory(rt: HostRuntime) {
+    let fault = fault_with(rt.alloc(), 3, 800);
+    assert!(rt; fault.is_none() || fault == Some(OpenFault::OutOfMemory));
+}
+
+/// No search windows, and a quarantine of 8001 frames.
+#[test]
+fn outside_the_limits(rt: HostRuntime) {
+    let faults = [
+        fault_with(rt.alloc(), 0, 800),
+        fault_with(rt.alloc(), 3, 8001),
+    ];
+    assert_eq!(rt; faults, [Some(OpenFault::Limit); 2]);
+}
+
+/// Twelve, thirteen and fourteen octets.
+#[test]
+fn octets_of_each_length(rt: HostRuntime) {
+    let octets = [0xff; 14];
+    let made = [
+        burst_of(1, &octets[..12]),
+        burst_of(1, &octets[..13]),
+        burst_of(1, &octets),
+    ];
+    let thirteen = Event::Burst {
+        at: 1,
+        bytes: [0xff; 13],
+    };
+    assert!(rt;
+        made == [
+            Err(PloamFault::Length),
+            Ok(thirteen),
+            Err(PloamFault::Length)
+        ]
+    );
 }
 
 #[test]
-fn fault_texts(rt: HostRuntime) -> Result<(), Fail> {
-    let limit = format!(in rt.alloc(); "{}", OpenFault::Limit)?;
-    assert_eq!(rt;
-        limit.as_str(),
-        "a number is outside its range, or a serial number is admitted twice"
-    );
-    let memory = format!(in rt.alloc(); "{}", OpenFault::OutOfMemory)?;
-    assert_eq!(rt; memory.as_str(), "out of memory");
-    Ok(())
+fn fault_texts(rt: HostRuntime) {
+    let limit = "a number is outside its range, or a serial number is admitted twice";
+    let printed = [
+        prints(rt.alloc(), &OpenFault::Limit, limit),
+        prints(rt.alloc(), &OpenFault::OutOfMemory, "out of memory"),
+    ];
+    assert!(rt; printed == [true; 2]);
 }

@@ -24,13 +24,17 @@ fn row_after_measuring(teqd: u32, rtd: u32) -> Option<Row> {
 
 #[test]
 fn a_delay_up_to_the_limit(rt: HostRuntime) {
-    for (teqd, rtd, eqd) in [(100, 40, Some(60)), (100, 100, Some(0)), (100, 101, None)] {
-        let want = match eqd {
-            Some(eqd) => Row::ranging(0).measured(eqd),
-            None => Row::ranging(0),
-        };
-        assert_eq!(rt; row_after_measuring(teqd, rtd), Some(want), "{rtd}");
-    }
+    let rows = [
+        row_after_measuring(100, 40),
+        row_after_measuring(100, 100),
+        row_after_measuring(100, 101),
+    ];
+    let expected = [
+        Some(Row::ranging(0).measured(60)),
+        Some(Row::ranging(0).measured(0)),
+        Some(Row::ranging(0)),
+    ];
+    assert!(rt; rows == expected);
 }
 
 /// Whether anything was heard of a unit that failed in two ranging windows, and whether its ONU-ID is free then.
@@ -58,13 +62,14 @@ fn failed_unit(first: bool, second: bool) -> Option<(bool, bool)> {
 
 #[test]
 fn two_ranging_windows(rt: HostRuntime) {
-    for (first, second) in [(false, false), (true, false), (false, true), (true, true)] {
-        assert_eq!(rt;
-            failed_unit(first, second),
-            Some((first || second, true)),
-            "{first} {second}"
-        );
-    }
+    let told = [
+        failed_unit(false, false),
+        failed_unit(true, false),
+        failed_unit(false, true),
+        failed_unit(true, true),
+    ];
+    let heard = Some((true, true));
+    assert!(rt; told == [Some((false, true)), heard, heard, heard]);
 }
 
 /// Gives the unit an Alloc-ID, which it acknowledges: whether that freed one, and the row in the end.
@@ -96,17 +101,20 @@ fn a_unit_acknowledges_an_alloc_id(rt: HostRuntime) {
     let mut alloc_ids = AllocIds::new(256);
     let onu = onus.take().expect(&rt, "all are free");
     let lease = alloc_ids.take().expect(&rt, "all are free");
-    match Ranging::begin(SERIAL, onu).measured(100, 40) {
-        Ok(unit) => {
-            let (freed, row) = acknowledges(unit, lease, &mut onus, &mut alloc_ids);
-            assert!(rt; !freed && row.pending.is_none() && row.holds_alloc(256));
-        }
+    let told = match Ranging::begin(SERIAL, onu).measured(100, 40) {
+        Ok(unit) => Some(acknowledges(unit, lease, &mut onus, &mut alloc_ids)),
         Err(unit) => {
             alloc_ids.give_back(lease);
             unit.retire().give_up(&mut onus, &mut alloc_ids);
+            None
         }
-    }
-    assert!(rt; !alloc_ids.any_free() && !onus.any_free());
+    };
+    let any_free = alloc_ids.any_free() || onus.any_free();
+    let acknowledged = match told {
+        Some((freed, row)) => !freed && row.pending.is_none() && row.holds_alloc(256),
+        None => false,
+    };
+    assert!(rt; acknowledged && !any_free);
 }
 
 /// The row of a unit that was polled, kept, and called back by POPUP.
@@ -130,12 +138,11 @@ fn popped_up(outcome: Outcome) -> Option<Row> {
 
 #[test]
 fn a_polled_unit_pops_up(rt: HostRuntime) {
-    for outcome in [
-        Outcome::Good,
-        Outcome::Garbled,
-        Outcome::Dark,
-        Outcome::Gasped,
-    ] {
-        assert_eq!(rt; popped_up(outcome), Some(Row::ranging(0)), "{outcome:?}");
-    }
+    let rows = [
+        popped_up(Outcome::Good),
+        popped_up(Outcome::Garbled),
+        popped_up(Outcome::Dark),
+        popped_up(Outcome::Gasped),
+    ];
+    assert!(rt; rows == [Some(Row::ranging(0)); 4]);
 }

@@ -1,4 +1,5 @@
 //! A full queue, the order of copies, and what only a run shows: that memory suffices, or is told.
+use crate::texts::prints;
 use gp_ploam::Down;
 use gp_volley::{QueueFault, VolleyQueue};
 use std::test::Fail;
@@ -12,34 +13,58 @@ fn owe_63(queue: &mut VolleyQueue) {
     }
 }
 
+/// What a queue has at its ends.
+#[derive(Clone, Copy, Debug, PartialEq, Eq)]
+struct Ends {
+    len: usize,
+    last: [Option<Down>; 3],
+    first: [Option<Down>; 2],
+    owes: [bool; 2],
+}
+
+/// Looks at both ends of a queue that owed 189 copies and is filled: the last ones, and then the first ones after one message
+/// and a copy were sent.
+fn ends_of(queue: &mut VolleyQueue) -> Ends {
+    if queue.len_copies() == 189 {
+        queue.owe(Down::NoMessage);
+    }
+    let len = queue.len_copies();
+    let last = [queue.copy_at(188), queue.copy_at(189), queue.copy_at(192)];
+    for _ in 0..4 {
+        let _ = queue.send_one();
+    }
+    let owes = [
+        queue.owes(&Down::Deactivate { onu: 0 }),
+        queue.owes(&Down::Deactivate { onu: 1 }),
+    ];
+    Ends {
+        len,
+        last,
+        first: [queue.copy_at(1), queue.copy_at(2)],
+        owes,
+    }
+}
+
 #[test]
 fn full_room(rt: HostRuntime) -> Result<(), Fail> {
     let mut queue = VolleyQueue::begin(rt.alloc())?;
     owe_63(&mut queue);
-    assert_eq!(rt; queue.len_copies(), 189);
-    if queue.len_copies() <= 189 {
-        queue.owe(Down::NoMessage);
-    }
-    assert_eq!(rt; queue.len_copies(), 192);
-    assert_eq!(rt; queue.copy_at(188), Some(Down::Deactivate { onu: 62 }));
-    assert_eq!(rt; queue.copy_at(189), Some(Down::NoMessage));
-    assert_eq!(rt; queue.copy_at(192), None);
+    let ends = ends_of(&mut queue);
     queue.close();
-    Ok(())
-}
-
-#[test]
-fn after_one_message_and_a_copy(rt: HostRuntime) -> Result<(), Fail> {
-    let mut queue = VolleyQueue::begin(rt.alloc())?;
-    owe_63(&mut queue);
-    for _ in 0..4 {
-        let _ = queue.send_one();
-    }
-    assert_eq!(rt; queue.copy_at(1), Some(Down::Deactivate { onu: 1 }));
-    assert_eq!(rt; queue.copy_at(2), Some(Down::Deactivate { onu: 2 }));
-    assert_eq!(rt; queue.owes(&Down::Deactivate { onu: 0 }), false);
-    assert_eq!(rt; queue.owes(&Down::Deactivate { onu: 1 }), true);
-    queue.close();
+    let expected = Ends {
+        len: 192,
+        last: [
+            Some(Down::Deactivate { onu: 62 }),
+            Some(Down::NoMessage),
+            None,
+        ],
+        first: [
+            Some(Down::Deactivate { onu: 1 }),
+            Some(Down::Deactivate { onu: 2 }),
+        ],
+        owes: [false, true],
+    };
+    assert_eq!(rt; ends, expected);
     Ok(())
 }
 
@@ -48,33 +73,31 @@ fn three_copies_in_a_row(rt: HostRuntime) -> Result<(), Fail> {
     let mut queue = VolleyQueue::begin(rt.alloc())?;
     queue.owe(Down::EnableAll);
     queue.owe(Down::Popup { onu: 255 });
-    for copy in 0..6 {
-        let message = if copy < 3 {
-            Down::EnableAll
-        } else {
-            Down::Popup { onu: 255 }
-        };
-        assert_eq!(rt; queue.send_one(), Some(message));
+    let mut sent = [None; 7];
+    for copy in &mut sent {
+        *copy = queue.send_one();
     }
-    assert_eq!(rt; queue.send_one(), None);
     queue.close();
+    let (first, second) = (Some(Down::EnableAll), Some(Down::Popup { onu: 255 }));
+    assert_eq!(rt; sent, [first, first, first, second, second, second, None]);
     Ok(())
 }
 
+// Run with each allocation refused in turn (`rt try --test --fail-alloc N`).
 #[test]
 fn memory_short_or_ample(rt: HostRuntime) {
-    match VolleyQueue::begin(rt.alloc()) {
+    let is_told = match VolleyQueue::begin(rt.alloc()) {
         Ok(queue) => {
-            assert_eq!(rt; queue.len_copies(), 0);
+            let copies = queue.len_copies();
             queue.close();
+            copies == 0
         }
-        Err(fault) => assert_eq!(rt; fault, QueueFault::OutOfMemory),
-    }
+        Err(fault) => fault == QueueFault::OutOfMemory,
+    };
+    assert!(rt; is_told);
 }
 
 #[test]
-fn fault_text(rt: HostRuntime) -> Result<(), Fail> {
-    let text = format!(in rt.alloc(); "{}", QueueFault::OutOfMemory)?;
-    assert_eq!(rt; text.as_str(), "out of memory");
-    Ok(())
+fn fault_text(rt: HostRuntime) {
+    assert!(rt; prints(rt.alloc(), &QueueFault::OutOfMemory, "out of memory"));
 }

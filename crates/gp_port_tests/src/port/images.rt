@@ -1,45 +1,18 @@
 //! Images of a port that has all that an image can have.
-ghost use Rattle.std.specs.Prelude.{◌≡◌};
+ghost use Rattle.std.specs.Prelude.{◌≡◌, ◌≤◌};
 
-use super::lines::{
-    A, A_ACKNOWLEDGES, B, B_RANGED, B_SEARCHED, C, D, D_SEARCHED, FAR, FINDS_A, GARBLED, Line,
-    Played, RANGES_A, SEARCHES,
-};
+use super::lines::{A, B_RANGED, C, D, FAR, GARBLED, Played, USUAL, Wrong};
+use super::parts::Part;
 use gp_licence::MAX_LICENCES;
-use gp_machine::{Admitted, Command, Entry, Event, PortConfig, Refusal, Reply};
+use gp_machine::{Command, Entry, Event, Refusal, Reply};
 use gp_ploam::{Mask, encode_up};
-use gp_port::{ImageFault, OpenFault, PortFollower};
-use gp_ranging::Grant;
-use std::alloc::{AllocError, Global};
+use gp_port::{ImageFault, OpenFault, PortCore, PortFollower, PortImage};
+use std::alloc::Global;
 use std::marker::Brand;
 use std::sync::ledger::{Blank, Ledger};
-use std::test::Fail;
 
-/// A operates, with one Alloc-ID held and one leaving. B is ranging, and its window is open. C is disabled. The ONU-ID that D had
-/// is cooling. Six copies are owed.
-const ALL_AT_ONCE: [Line; 14] = [
-    Line::Asked(1, Command::Alloc(A), Reply::Allocated(256)),
-    Line::Frames(4, Some(Grant::Poll(0)), None),
-    Line::Heard(FAR, A_ACKNOWLEDGES, Reply::Acked(256), None),
-    Line::Asked(1, Command::Alloc(A), Reply::Allocated(257)),
-    Line::Frames(4, Some(Grant::Poll(0)), None),
-    Line::Heard(FAR, A_ACKNOWLEDGES, Reply::Acked(257), None),
-    Line::Asked(
-        1,
-        Command::Dealloc {
-            serial: A,
-            alloc: 257,
-        },
-        Reply::Releasing(257),
-    ),
-    Line::Asked(1, Command::Search, Reply::Searching),
-    Line::Frames(8, Some(Grant::Search), None),
-    Line::Heard(FAR, B_SEARCHED, Reply::Found(1), None),
-    Line::Heard(FAR, D_SEARCHED, Reply::Found(2), None),
-    Line::Frames(7, Some(Grant::Range(1)), None),
-    Line::Asked(1, Command::Deactivate(D), Reply::Deactivated(2)),
-    Line::Asked(1, Command::Disable(C), Reply::Disabled),
-];
+/// What comes before the first image: the port has all that an image can have.
+const BEFORE: [Part; 4] = [Part::Searches, Part::FindsA, Part::RangesA, Part::AllAtOnce];
 
 /// One event after another, each of which changes the port, with its reply.
 fn changes() -> [(Event, Reply); 8] {
@@ -71,125 +44,85 @@ fn changes() -> [(Event, Reply); 8] {
     ]
 }
 
-fn config_of_four(alloc: Global) -> Result<PortConfig, AllocError> {
-    Ok(PortConfig {
-        mask: Mask::Plain,
-        teqd: 311_040,
-        overhead: [0; 10],
-        max_units: 254,
-        alloc_last: 4095,
-        cycles: 1,
-        search_period: 0,
-        quarantine: 800,
-        admitted: Admitted::from([A, B, C, D].to_vec(alloc)?),
-    })
+/// Tells whether a port that begins at the image makes the step of the entry, and whether it stands where the port does then.
+fn follows<L: Ledger>(
+    alloc: Global,
+    image: &PortImage,
+    entry: &Entry,
+    port: &PortCore<L>,
+) -> Result<(bool, bool), ImageFault>
+    requires { entry.now.purse_in ≤ MAX_LICENCES }
+{
+    let mut follower = PortFollower::resume(alloc, image)?;
+    let followed = follower.follow(entry);
+    let arrived = follower.stands_as(port);
+    follower.close();
+    Ok((followed, arrived))
 }
 
-/// What an image tells of one event after it.
-#[derive(Clone, Copy, Debug, PartialEq, Eq)]
-struct Told {
-    /// The port answered as it has to.
-    replied: bool,
-    /// The image stood for the port before the event, and stands for it afterwards.
-    stood: [bool; 2],
-    /// A port that begins at the image makes the step of the entry, and of the entry with a licence more left.
-    followed: [bool; 2],
-    /// After the first of these it stands where the port does.
-    arrived: bool,
-}
-
-const AS_IT_HAS_TO_BE: Told = Told {
-    replied: true,
-    stood: [true, false],
-    followed: [true, false],
-    arrived: true,
-};
-
-/// What became of an image and one event more.
+/// Tells of an image and one event after it: whether the port answered so; whether the image stood for the port before the
+/// event and afterwards; whether a port that begins at the image makes the step of the entry, and of the entry with a licence
+/// more left; and whether it stands where the port does after the first of these.
 fn told_of<L: Ledger>(
     alloc: Global,
     played: &mut Played<L>,
     event: Event,
     reply: Reply,
-) -> Result<Told, ImageFault> {
+) -> Result<[bool; 6], ImageFault> {
     let image = played.port.image(alloc)?;
     let before = played.port.stands_for(&image);
     let entry = played.step(event);
+    let after = played.port.stands_for(&image);
     let other = Entry {
         purse_out: entry.purse_out.wrapping_add(1),
         ..entry
     };
-    let mut one = PortFollower::resume(alloc, &image)?;
-    let followed = one.follow(&entry);
-    let arrived = one.stands_as(&played.port);
-    one.close();
-    let mut two = PortFollower::resume(alloc, &image)?;
-    let misled = two.follow(&other);
-    two.close();
-    Ok(Told {
-        replied: entry.answer.reply == reply,
-        stood: [before, played.port.stands_for(&image)],
-        followed: [followed, misled],
-        arrived,
-    })
+    let (followed, arrived) = follows(alloc, &image, &entry, &played.port)?;
+    let (misled, _) = follows(alloc, &image, &other, &played.port)?;
+    let replied = entry.answer.reply == reply;
+    Ok([replied, before, after, followed, misled, arrived])
 }
 
-/// Whether two images of a port stand for it, also where the allocator refuses one of them.
-fn images_stand<L: Ledger>(alloc: Global, played: &Played<L>) -> bool {
-    let one = played.port.image(alloc);
-    let two = played.port.image(alloc);
-    match (one, two) {
-        (Ok(one), Ok(two)) => {
-            played.port.stands_for(&one) && played.port.stands_for(&two) && one.is_same_as(&two)
+const AS_IT_HAS_TO_BE: [bool; 6] = [true, true, false, true, false, true];
+
+/// Makes each event, and gives the place of the first of which an image tells otherwise, and what it tells.
+fn told_otherwise<L: Ledger>(
+    alloc: Global,
+    played: &mut Played<L>,
+) -> Result<Option<(usize, [bool; 6])>, ImageFault> {
+    let changes = changes();
+    for (place, (event, reply)) in changes.iter().enumerate() {
+        let told = told_of(alloc, played, *event, *reply)?;
+        if told != AS_IT_HAS_TO_BE {
+            return Ok(Some((place, told)));
         }
-        (Ok(image), Err(fault)) | (Err(fault), Ok(image)) => {
-            fault == ImageFault::OutOfMemory && played.port.stands_for(&image)
-        }
-        _ => false,
     }
+    Ok(None)
 }
 
-/// Plays the port up to where it has all, and then each event more, and gives what the images told.
-fn images_of<L: Ledger>(
+/// Plays a port up to where it has all, and then each event more: the first line that it answers otherwise, and the first event
+/// of which an image tells otherwise.
+fn wrong_in_images<L: Ledger>(
     alloc: Global,
     blank: Blank,
-) -> Result<(bool, Result<[Told; 8], ImageFault>), OpenFault>
+) -> Result<(Wrong, Result<Option<(usize, [bool; 6])>, ImageFault>), OpenFault>
     requires name { blank.name ≡ L.name }
     requires parts { (blank.parts ≡ L.parts) × (L.parts ≡ MAX_LICENCES) }
 {
-    let config = config_of_four(alloc)?;
-    let mut played = Played::<L>::begin(alloc, blank, &config, 4)?;
-    let mut came = true;
-    for lines in [&SEARCHES[..], &FINDS_A[..], &RANGES_A[..], &ALL_AT_ONCE[..]] {
-        came = came && played.first_wrong(lines).is_none();
-    }
-    came = came && images_stand(alloc, &played);
-    let told = told_of_each(alloc, &mut played);
+    let mut played = Played::<L>::begin(alloc, blank, USUAL)?;
+    let wrong = played.first_wrong(&BEFORE);
+    let told = told_otherwise(alloc, &mut played);
     played.close();
-    Ok((came, told))
+    Ok((wrong, told))
 }
 
-fn told_of_each<L: Ledger>(alloc: Global, played: &mut Played<L>) -> Result<[Told; 8], ImageFault> {
-    let mut told = [AS_IT_HAS_TO_BE; 8];
-    for (place, (event, reply)) in changes().into_iter().enumerate() {
-        told[place] = told_of(alloc, played, event, reply)?;
-    }
-    Ok(told)
-}
-
+// Run with each allocation refused in turn (`rt try --test --fail-alloc N`).
 #[test]
-fn images_of_all_at_once(rt: HostRuntime) -> Result<(), Fail> {
+fn images_of_all_at_once(rt: HostRuntime) {
     let blank = Blank::new(u64::from(MAX_LICENCES));
-    match images_of::<Brand>(rt.alloc(), blank) {
-        Ok((came, Ok(told))) => {
-            assert!(rt; came);
-            assert_eq!(rt; told, [AS_IT_HAS_TO_BE; 8]);
-        }
-        Ok((came, Err(fault))) => {
-            assert!(rt; came);
-            assert_eq!(rt; fault, ImageFault::OutOfMemory);
-        }
+    match wrong_in_images::<Brand>(rt.alloc(), blank) {
+        Ok((wrong, Err(ImageFault::OutOfMemory))) => assert_eq!(rt; wrong, None),
+        Ok((wrong, told)) => assert_eq!(rt; (wrong, told), (None, Ok(None))),
         Err(fault) => assert_eq!(rt; fault, OpenFault::OutOfMemory),
     }
-    Ok(())
 }

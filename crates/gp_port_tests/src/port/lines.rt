@@ -1,9 +1,12 @@
 //! A port that is played by lines: what it is asked, and what it has to answer.
 ghost use Rattle.std.specs.Prelude.{◌≡◌, ◌≤◌};
 
+use super::parts::{
+    ALL_AT_ONCE, BEGINNINGS, COMMANDS, EIGHT_ALLOC_IDS, NUMBERS, Part, RANGING, TWO_UNITS,
+};
 use gp_alarms::{Alarm, AlarmKind};
 use gp_licence::{LicenceBook, Licences, MAX_LICENCES};
-use gp_machine::{Answer, Command, Entry, Event, PortConfig, Refusal, Reply};
+use gp_machine::{Admitted, Command, Entry, Event, PortConfig, Refusal, Reply};
 use gp_ploam::{ASSIGN_ALLOC_ID, BROADCAST_ONU, Down, Mask, Serial, Up, encode_up, is_proper_up};
 use gp_port::{OpenFault, PortCore};
 use gp_ranging::Grant;
@@ -90,26 +93,6 @@ pub(super) const GARBLED: Event = Event::Burst {
 /// How far the units are, in bit times; an equalized delay of 311,040 leaves them 211,040.
 pub(super) const FAR: u32 = 100_000;
 
-/// A port in which a search window opens.
-pub(super) const SEARCHES: [Line; 2] = [
-    Line::Asked(1, Command::Search, Reply::Searching),
-    Line::Frames(5, Some(Grant::Search), None),
-];
-
-/// A is found there, and the window in which it is ranged opens. There is one search window in a search.
-pub(super) const FINDS_A: [Line; 3] = [
-    Line::Heard(FAR, A_SEARCHED, Reply::Found(0), None),
-    Line::Sends(3, Down::AssignOnu { onu: 0, serial: A }),
-    Line::Frames(1, Some(Grant::Range(0)), None),
-];
-
-/// A is ranged there, and the port is in standby, with nothing owed and no window.
-pub(super) const RANGES_A: [Line; 3] = [
-    Line::Heard(FAR, A_RANGED, RANGED_A, None),
-    Line::Sends(3, RANGING_TIME),
-    Line::Frames(1, None, None),
-];
-
 pub(super) const RANGED_A: Reply = Reply::Ranged {
     onu: 0,
     eqd: 211_040,
@@ -120,6 +103,23 @@ pub(super) const RANGING_TIME: Down = Down::RangingTime {
     eqd: 211_040,
 };
 
+/// The numbers in which ports differ.
+#[derive(Clone, Copy)]
+pub(super) struct Numbers {
+    pub(super) max_units: u8,
+    pub(super) alloc_last: u16,
+    pub(super) quarantine: u16,
+}
+
+pub(super) const USUAL: Numbers = Numbers {
+    max_units: 254,
+    alloc_last: 4095,
+    quarantine: 800,
+};
+
+/// The place of the first part that a port answers otherwise, and the line's place in the table that has the part.
+pub(super) type Wrong = Option<(usize, [Option<usize>; 7])>;
+
 /// A port, and the licences that its units don't hold.
 pub(super) struct Played<L: Ledger> {
     pub(super) port: PortCore<L>,
@@ -127,19 +127,28 @@ pub(super) struct Played<L: Ledger> {
 }
 
 impl<L: Ledger> Played<L> {
-    /// Opens a port that has so many licences.
+    /// Opens a port of four licences, on which A to D are admitted.
     pub(super) fn begin(
         alloc: Global,
         blank: Blank,
-        config: &PortConfig,
-        licences: u32,
+        numbers: Numbers,
     ) -> Result<Played<L>, OpenFault>
         requires name { blank.name ≡ L.name }
         requires parts { (blank.parts ≡ L.parts) × (L.parts ≡ MAX_LICENCES) }
-        requires total { licences ≤ MAX_LICENCES }
     {
-        let port = PortCore::begin(alloc, config)?;
-        let book = LicenceBook::new(blank, licences);
+        let config = PortConfig {
+            mask: Mask::Plain,
+            teqd: 311_040,
+            overhead: [0; 10],
+            max_units: numbers.max_units,
+            alloc_last: numbers.alloc_last,
+            cycles: 1,
+            search_period: 0,
+            quarantine: numbers.quarantine,
+            admitted: Admitted::from([A, B, C, D].to_vec(alloc)?),
+        };
+        let port = PortCore::begin(alloc, &config)?;
+        let book = LicenceBook::new(blank, 4);
         Ok(Played { port, book })
     }
 
@@ -163,10 +172,57 @@ impl<L: Ledger> Played<L> {
         }
     }
 
-    /// Plays the lines, and gives the place of the first one that the port answers otherwise.
-    pub(super) fn first_wrong(&mut self, lines: &[Line]) -> Option<usize> {
-        for (place, line) in lines.iter().enumerate() {
-            if !self.answers(line) {
+    /// Plays the parts, and gives the first one that the port answers otherwise, with the place of the line in its table.
+    pub(super) fn first_wrong(&mut self, parts: &[Part]) -> Wrong {
+        for (place, part) in parts.iter().enumerate() {
+            let wrong = [
+                self.wrong_beginning(*part),
+                self.wrong_ranging(*part),
+                self.wrong_numbers(*part),
+                self.wrong_two(*part),
+                self.wrong_commands(*part),
+                self.wrong_alloc_ids(*part),
+                self.wrong_all(*part),
+            ];
+            if wrong != [None; 7] {
+                return Some((place, wrong));
+            }
+        }
+        None
+    }
+
+    fn wrong_beginning(&mut self, part: Part) -> Option<usize> {
+        self.first_wrong_of(&BEGINNINGS, part)
+    }
+
+    fn wrong_ranging(&mut self, part: Part) -> Option<usize> {
+        self.first_wrong_of(&RANGING, part)
+    }
+
+    fn wrong_numbers(&mut self, part: Part) -> Option<usize> {
+        self.first_wrong_of(&NUMBERS, part)
+    }
+
+    fn wrong_two(&mut self, part: Part) -> Option<usize> {
+        self.first_wrong_of(&TWO_UNITS, part)
+    }
+
+    fn wrong_commands(&mut self, part: Part) -> Option<usize> {
+        self.first_wrong_of(&COMMANDS, part)
+    }
+
+    fn wrong_alloc_ids(&mut self, part: Part) -> Option<usize> {
+        self.first_wrong_of(&EIGHT_ALLOC_IDS, part)
+    }
+
+    fn wrong_all(&mut self, part: Part) -> Option<usize> {
+        self.first_wrong_of(&ALL_AT_ONCE, part)
+    }
+
+    /// Plays those of the lines that are of this part, and gives the place of the first one that the port answers otherwise.
+    fn first_wrong_of(&mut self, lines: &[(Part, Line)], part: Part) -> Option<usize> {
+        for (place, (of, line)) in lines.iter().enumerate() {
+            if *of == part && !self.answers(line) {
                 return Some(place);
             }
         }
