@@ -109,7 +109,7 @@ fn outside_the_limits(rt: HostRuntime) {
 
 /// Twelve, thirteen and fourteen octets.
 #[test]
-fn octets_of_each_length(rt: HostRuntime) {
+fn twelve_to_fourteen_octets(rt: HostRuntime) {
     let octets = [0xff; 14];
     let made = [
         burst_of(1, &octets[..12]),
