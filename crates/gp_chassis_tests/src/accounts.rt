@@ -1,132 +1,119 @@
-//! What no clause says: that receipts and journals of the same steps are reconciled where memory is ample, and the fault's texts.
+//! What no clause says: which receipts are reconciled with the journal of a port, by worked rows, and what becomes of it where
+//! memory is refused.
+use super::units::{SEARCH, record};
 use gp_accounts::{CloseFault, reconcile};
 use gp_journal::{Journal, JournalFault};
-use gp_machine::{Answer, Command, Entry, Event, Receipt, Reply};
+use gp_machine::{Answer, Entry, Event, Receipt, Reply};
 use std::alloc::Global;
-use std::test::Fail;
 
-/// An entry of a frame.
-fn frame() -> Entry {
+/// An entry of the port: it searched first, and had a frame then. The answer to the search may be altered.
+fn entry(number: u64, altered: bool) -> Entry {
+    let (event, reply) = match (number, altered) {
+        (0, false) => (SEARCH, Reply::Searching),
+        (0, true) => (SEARCH, Reply::Ticked),
+        _ => (Event::Frame, Reply::Ticked),
+    };
     Entry {
         purse_in: 0,
-        event: Event::Frame,
-        answer: Answer::from(Reply::Ticked),
-        purse_out: 0,
-    }
-}
-
-/// An entry of a command that was answered so.
-fn search(reply: Reply) -> Entry {
-    Entry {
-        purse_in: 0,
-        event: Event::Command(Command::Search),
+        event,
         answer: Answer::from(reply),
         purse_out: 0,
     }
 }
 
-/// The receipt of an entry of port 0.
-fn receipt(number: u64, entry: Entry) -> Receipt {
+/// The receipt of that entry.
+fn receipt(number: u64, altered: bool) -> Receipt {
     Receipt {
         port: 0,
         number,
-        entry,
+        entry: entry(number, altered),
     }
 }
+
+/// A worked row: two receipts, each by the entry's number and whether it is altered; how many of them the first worker was told, from
+/// which one on the second was, and whether that is what the journal has.
+type Row = (
+    &'static str,
+    [(u64, bool); 2],
+    (usize, usize),
+    Result<(), CloseFault>,
+);
+
+const ROWS: &[Row] = &[
+    ("told to one", [(0, false), (1, false)], (2, 2), Ok(())),
+    ("told to two", [(1, false), (0, false)], (1, 1), Ok(())),
+    (
+        "an answer altered",
+        [(0, true), (1, false)],
+        (2, 2),
+        Err(CloseFault::Mismatch),
+    ),
+    (
+        "in the wrong order",
+        [(1, false), (0, false)],
+        (2, 2),
+        Err(CloseFault::Mismatch),
+    ),
+    (
+        "told to nobody",
+        [(0, false), (1, false)],
+        (1, 2),
+        Err(CloseFault::Mismatch),
+    ),
+];
 
 /// The journal of a port that searched and then had a frame.
 fn journal(alloc: Global) -> Result<Journal, JournalFault> {
     let mut journal = Journal::new(alloc);
-    for entry in [search(Reply::Searching), frame()] {
-        journal.reserve_one()?;
-        if journal.len() < 2 {
-            let _ = journal.append(entry);
-        }
-    }
+    record(&mut journal, entry(0, false))?;
+    record(&mut journal, entry(1, false))?;
     Ok(journal)
 }
 
-#[test]
-fn told_to_two_workers(rt: HostRuntime) -> Result<(), Fail> {
-    let journals = [journal(rt.alloc())?];
-    let first = [receipt(1, frame())].to_vec(rt.alloc())?;
-    let second = [receipt(0, search(Reply::Searching))].to_vec(rt.alloc())?;
-    assert_eq!(rt; reconcile(rt.alloc(), &journals, &[first, second]), Ok(()));
-    Ok(())
+/// The receipts from one place up to another.
+fn part_of(alloc: Global, receipts: &[Receipt], from: usize, to: usize) -> Option<Vec<Receipt>> {
+    if from > to || to > receipts.len() {
+        return None;
+    }
+    receipts[from..to].to_vec(alloc).ok()
+}
+
+/// Reconciles what two workers were told with the journal, with so many tries at most where memory is refused. There is no answer
+/// where it is refused before.
+fn reconciled(alloc: Global, row: &Row, tries: u8) -> Option<Result<(), CloseFault>> {
+    let journals = [journal(alloc).ok()?];
+    let named = row.1;
+    let receipts = [
+        receipt(named[0].0, named[0].1),
+        receipt(named[1].0, named[1].1),
+    ];
+    let first = part_of(alloc, &receipts, 0, row.2.0)?;
+    let second = part_of(alloc, &receipts, row.2.1, 2)?;
+    let told = [first, second];
+    let mut answer = Err(CloseFault::OutOfMemory);
+    for _ in 0..tries {
+        if answer == Err(CloseFault::OutOfMemory) {
+            answer = reconcile(alloc, &journals, &told);
+        }
+    }
+    Some(answer)
 }
 
 #[test]
-fn an_answer_altered(rt: HostRuntime) -> Result<(), Fail> {
-    let journals = [journal(rt.alloc())?];
-    let told = [receipt(0, search(Reply::Ticked)), receipt(1, frame())].to_vec(rt.alloc())?;
-    assert_eq!(rt;
-        reconcile(rt.alloc(), &journals, &[told]),
-        Err(CloseFault::Mismatch)
-    );
-    Ok(())
-}
-
-#[test]
-fn told_in_the_wrong_order(rt: HostRuntime) -> Result<(), Fail> {
-    let journals = [journal(rt.alloc())?];
-    let told = [receipt(1, frame()), receipt(0, search(Reply::Searching))].to_vec(rt.alloc())?;
-    assert_eq!(rt;
-        reconcile(rt.alloc(), &journals, &[told]),
-        Err(CloseFault::Mismatch)
-    );
-    Ok(())
-}
-
-#[test]
-fn an_entry_told_to_nobody(rt: HostRuntime) -> Result<(), Fail> {
-    let journals = [journal(rt.alloc())?];
-    let told = [receipt(0, search(Reply::Searching))].to_vec(rt.alloc())?;
-    assert_eq!(rt;
-        reconcile(rt.alloc(), &journals, &[told]),
-        Err(CloseFault::Mismatch)
-    );
-    Ok(())
-}
-
-/// Reconciles, at the second time where memory is refused the first time.
-fn reconcile_short(
-    alloc: Global,
-    journals: &[Journal; 1],
-    told: &[Vec<Receipt>; 1],
-) -> Result<(), CloseFault> {
-    match reconcile(alloc, journals, told) {
-        Err(CloseFault::OutOfMemory) => reconcile(alloc, journals, told),
-        answer => answer,
+fn worked_rows(rt: HostRuntime) {
+    for row in ROWS {
+        assert_eq!(rt; reconciled(rt.alloc(), row, 1), Some(row.3), "{}", row.0);
     }
 }
 
-// Run with each allocation refused in turn (`rt try --test --fail-alloc N`).
+// Passes whichever one request for memory is refused, and with ample memory (`rt try --test --fail-alloc N`).
 #[test]
-fn memory_short_or_ample(rt: HostRuntime) -> Result<(), Fail> {
-    let Ok(journal) = journal(rt.alloc()) else {
-        return Ok(());
-    };
-    let told = [receipt(0, search(Reply::Searching)), receipt(1, frame())];
-    let altered = [receipt(0, search(Reply::Ticked)), receipt(1, frame())];
-    let (Ok(told), Ok(altered)) = (told.to_vec(rt.alloc()), altered.to_vec(rt.alloc())) else {
-        return Ok(());
-    };
-    let journals = [journal];
-    assert_eq!(rt; reconcile_short(rt.alloc(), &journals, &[told]), Ok(()));
-    assert_eq!(rt;
-        reconcile_short(rt.alloc(), &journals, &[altered]),
-        Err(CloseFault::Mismatch)
-    );
-    Ok(())
-}
-
-#[test]
-fn fault_texts(rt: HostRuntime) -> Result<(), Fail> {
-    let missing = format!(in rt.alloc(); "{}", CloseFault::WorkerMissing)?;
-    assert_eq!(rt; missing.as_str(), "a worker is missing");
-    let mismatch = format!(in rt.alloc(); "{}", CloseFault::Mismatch)?;
-    assert_eq!(rt; mismatch.as_str(), "receipts and journals differ");
-    let memory = format!(in rt.alloc(); "{}", CloseFault::OutOfMemory)?;
-    assert_eq!(rt; memory.as_str(), "out of memory");
-    Ok(())
+fn memory_short_or_ample(rt: HostRuntime) {
+    for row in ROWS {
+        let found = match reconciled(rt.alloc(), row, 2) {
+            None => reconciled(rt.alloc(), row, 2),
+            found => found,
+        };
+        assert_eq!(rt; found, Some(row.3), "{}", row.0);
+    }
 }

@@ -1,12 +1,12 @@
 //! The tests of `gp_journal`, `gp_accounts`, `gp_chassis` and `gp_workers`: what no clause says of them. They stand here, since a
 //! crate with tests is proved twice.
 //!
-//! - `journal.rt`: histories of a port by hand, pieces of them, and their fault texts.
-//! - `accounts.rt`: receipts and journals that agree, and each way in which they don't.
-//! - `chassis.rt`: a chassis used by hand. `chassis/lines.rt` plays one by lines; `chassis/worked.rt` plays runs so, and
-//!   `chassis/memory.rt` refuses memory.
-//! - `workers.rt`: what the tests with threads share; `workers/accounts.rt`, `workers/journals.rt`, `workers/loops.rt`,
-//!   `workers/memory.rt` and `workers/parallel.rt` are those, and `workers/meeting.rt` has threads meet.
+//! - `units.rt`: what they share: units, what these send, configurations, and replies as tables name them.
+//! - `journal.rt`: histories of a port by hand. `accounts.rt`: receipts and journals that agree, and each way in which they don't.
+//! - `chassis.rt`: runs of a chassis, as tables of lines, also where memory is refused. `chassis/lines.rt` plays them.
+//! - `workers.rt`: what the tests with threads share; `workers/accounts.rt`, `workers/journals.rt`, `workers/loops.rt` and
+//!   `workers/parallel.rt` are those, and `workers/meeting.rt` has threads meet.
+//! - `texts.rt`: the texts of faults.
 #![tactic(auto)]
 
 #[cfg(test)]
@@ -15,5 +15,9 @@ mod accounts;
 mod chassis;
 #[cfg(test)]
 mod journal;
+#[cfg(test)]
+mod texts;
+#[cfg(test)]
+mod units;
 #[cfg(test)]
 mod workers;

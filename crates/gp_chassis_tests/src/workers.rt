@@ -1,146 +1,85 @@
 //! What no clause says: worked runs of a chassis with workers, ports whose locks are held at once, threads over rings, and that
 //! memory suffices or is told.
-ghost use Rattle.gp_ploam.specs.Up.{IsProperUp};
-
 mod accounts;
 mod journals;
 mod loops;
 mod meeting;
-mod memory;
 mod parallel;
 
-use gp_chassis::{ApplyFault, ChassisConfig};
-use gp_machine::{Admitted, Command, Event, LAST_ALLOC_ID, MAX_UNITS, PortConfig, Receipt, Reply};
-use gp_ploam::{BROADCAST_ONU, Mask, Serial, Up, encode_up};
+use super::units::{A_RANGED, A_SEARCHED, SEARCH, Said, spoken};
+use gp_chassis::ApplyFault;
+use gp_machine::Event;
 use gp_workers::{Chassis, CloseFault, CloseRefused, Closed, Gate, Worker};
-use std::alloc::{AllocError, Global};
-use std::process::Abort;
+use std::alloc::Global;
 use std::sync::Wait;
 use std::sync::ledger::Ledger;
 
-/// The number of the unit A.
-const A: u16 = 1;
-/// The operator asks for a search.
-const SEARCH: Event = Event::Command(Command::Search);
+/// A worker has a port serve an event so many times, and the port answers so each time: the worker, how many times, the port, the
+/// event and the answer.
+type Line = (usize, u8, u8, Event, Result<Said, ApplyFault>);
 
-/// The unit of the vendor ABCD with this number.
-fn unit(number: u16) -> Serial {
-    let [high, low] = number.to_be_bytes();
-    Serial([0x41, 0x42, 0x43, 0x44, 0, 0, high, low])
-}
+/// A begins to operate on port 0, which has seen nothing yet.
+const ONE_UNIT: &[Line] = &[
+    (0, 1, 0, SEARCH, Ok(Said::Searching)),
+    (0, 5, 0, Event::Frame, Ok(Said::Ticked)),
+    (0, 1, 0, A_SEARCHED, Ok(Said::Found(0))),
+    (0, 4, 0, Event::Frame, Ok(Said::Ticked)),
+    (0, 1, 0, A_RANGED, Ok(Said::Ranged(0, 211_040))),
+    (0, 4, 0, Event::Frame, Ok(Said::Ticked)),
+];
 
-/// The number of a port's first unit: A's on port 0.
-fn first_unit(port: u8) -> u16 {
-    u16::from(port) * 100 + A
-}
-
-/// A port with one search window to a search, which admits so many units from this one on.
-fn port_of(alloc: Global, first: u16, units: u8) -> Result<PortConfig, AllocError> {
-    let mut serials = Vec::new(alloc);
-    for number in 0..units {
-        serials.push(unit(first.wrapping_add(u16::from(number))))?;
-    }
-    Ok(PortConfig {
-        mask: Mask::Plain,
-        teqd: 311_040,
-        overhead: [0; 10],
-        max_units: MAX_UNITS,
-        alloc_last: LAST_ALLOC_ID,
-        cycles: 1,
-        search_period: 0,
-        quarantine: 800,
-        admitted: Admitted::from(serials),
-    })
-}
-
-/// So many ports, each of which admits so many units of its own.
-fn config_of(
-    alloc: Global,
-    ports: u8,
-    units: u8,
-    licences: u32,
-    journal_limit: u32,
-) -> Result<ChassisConfig, AllocError> {
-    let mut configs = Vec::new(alloc);
-    for port in 0..ports {
-        configs.push(port_of(alloc, first_unit(port), units)?)?;
-    }
-    Ok(ChassisConfig {
-        licences,
-        journal_limit,
-        ports: configs,
-    })
-}
-
-/// A message arrives, 100,000 bit times after its grant.
-fn burst(message: &Up) -> Event
-    requires { IsProperUp message.now }
-{
-    Event::Burst {
-        at: 100_000,
-        bytes: encode_up(message, Mask::Plain),
-    }
-}
-
-/// A unit tells its serial number.
-fn heard(onu: u8, number: u16) -> Event {
-    burst(&Up::SerialNumber {
-        onu,
-        serial: unit(number),
-        random: 0,
-        flags: 0,
-    })
-}
-
-/// How a unit comes to operate on a port that has seen nothing yet: events, each so many times, and what is replied each time.
-fn one_unit(number: u16) -> [(u8, Event, Reply); 6] {
-    let ranged = Reply::Ranged {
-        onu: 0,
-        eqd: 211_040,
-    };
-    [
-        (1, SEARCH, Reply::Searching),
-        (5, Event::Frame, Reply::Ticked),
-        (1, heard(BROADCAST_ONU, number), Reply::Found(0)),
-        (4, Event::Frame, Reply::Ticked),
-        (1, heard(0, number), ranged),
-        (4, Event::Frame, Reply::Ticked),
-    ]
-}
-
-/// What the port replied.
-fn reply_of(applied: Result<Receipt, ApplyFault>) -> Result<Reply, ApplyFault> {
-    match applied {
-        Ok(receipt) => Ok(receipt.entry.answer.reply),
+/// Has an event served, and tells what the port replied.
+fn reply<G: Gate<L>, L: Ledger, R: Wait>(
+    rt: &R,
+    chassis: &Chassis<G, L>,
+    worker: &mut Worker<L>,
+    port: u8,
+    event: Event,
+) -> Result<Said, ApplyFault> {
+    match chassis.apply(rt, worker, port, event) {
+        Ok(receipt) => Ok(spoken(&receipt.entry.answer.reply)),
         Err(fault) => Err(fault),
     }
 }
 
-/// Has an event served so many times, and compares each reply.
-fn repeat<G: Gate<L>, L: Ledger, R: Abort + Wait>(
+/// The same, with so many tries at most where memory is refused.
+fn serve<G: Gate<L>, L: Ledger, R: Wait>(
     rt: &R,
     chassis: &Chassis<G, L>,
     worker: &mut Worker<L>,
     port: u8,
-    act: &(u8, Event, Reply),
-) {
-    for _ in 0..act.0 {
-        let applied = chassis.apply(rt, worker, port, act.1);
-        assert_eq!(rt; reply_of(applied), Ok(act.2));
+    event: Event,
+    tries: u8,
+) -> Result<Said, ApplyFault> {
+    let mut answer = Err(ApplyFault::OutOfMemory);
+    for _ in 0..tries {
+        if answer == Err(ApplyFault::OutOfMemory) {
+            answer = reply(rt, chassis, worker, port, event);
+        }
     }
+    answer
 }
 
-/// Has events served, each so many times, and compares each reply.
-fn play<G: Gate<L>, L: Ledger, R: Abort + Wait>(
+/// Plays lines, with so many tries of each call at most where memory is refused, and gives the place of the first line that is
+/// answered otherwise.
+fn play<G: Gate<L>, L: Ledger, R: Wait>(
     rt: &R,
     chassis: &Chassis<G, L>,
-    worker: &mut Worker<L>,
-    port: u8,
-    acts: &[(u8, Event, Reply)],
-) {
-    for act in acts {
-        repeat(rt, chassis, worker, port, act);
+    workers: &mut [Worker<L>],
+    lines: &[Line],
+    tries: u8,
+) -> Option<usize> {
+    for (place, (worker, times, port, event, answer)) in lines.iter().enumerate() {
+        if *worker >= workers.len() {
+            return Some(place);
+        }
+        for _ in 0..*times {
+            if serve(rt, chassis, &mut workers[*worker], *port, *event, tries) != *answer {
+                return Some(place);
+            }
+        }
     }
+    None
 }
 
 /// Adds a worker to a list. Where memory is refused twice for it, the worker ends.
@@ -150,6 +89,22 @@ fn add<L: Ledger>(workers: &mut Vec<Worker<L>>, worker: Worker<L>) {
             failed.value.retire();
         }
     }
+}
+
+/// Makes so many workers.
+fn workers_of<G: Gate<L>, L: Ledger, R: Wait>(
+    rt: &R,
+    alloc: Global,
+    chassis: &Chassis<G, L>,
+    count: u8,
+) -> Vec<Worker<L>> {
+    let mut workers = Vec::new(alloc);
+    for _ in 0..count {
+        if let Ok(worker) = chassis.worker(rt, alloc) {
+            add(&mut workers, worker);
+        }
+    }
+    workers
 }
 
 /// Ends workers, with their receipts.
@@ -173,13 +128,26 @@ fn end<G: Gate<L>, L: Ledger, R: Wait>(rt: &R, refused: CloseRefused<G, L>) -> C
     fault
 }
 
-/// Closes a chassis. Where it does not close it ends all the same, with its workers.
+/// Closes a chassis, with a second try where memory may be refused. Where it does not close it ends all the same, with its workers.
 fn close<G: Gate<L>, L: Ledger, R: Wait>(
     rt: &R,
     alloc: Global,
     chassis: Chassis<G, L>,
     workers: Vec<Worker<L>>,
+    tries: u8,
 ) -> Result<Closed, CloseFault> {
+    let refused = match chassis.close(alloc, workers) {
+        Ok(closed) => return Ok(closed),
+        Err(refused) => refused,
+    };
+    if tries < 2 {
+        return Err(end(rt, refused));
+    }
+    let CloseRefused {
+        fault: _,
+        chassis,
+        workers,
+    } = refused;
     match chassis.close(alloc, workers) {
         Ok(closed) => Ok(closed),
         Err(refused) => Err(end(rt, refused)),

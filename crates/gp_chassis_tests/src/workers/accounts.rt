@@ -2,9 +2,10 @@
 ghost use Rattle.std.specs.Prelude.{◌≡◌};
 ghost use Rattle.gp_licence.specs.declared.ledger_parts.TheConstants.{MAX_LICENCES};
 
-use super::{A, add, close, config_of, one_unit, play, reply_of, unit};
+use super::{Line, ONE_UNIT, add, close, play, workers_of};
+use crate::units::{A, Said, chassis_of};
 use gp_accounts::reconcile;
-use gp_chassis::ApplyFault;
+use gp_chassis::{ApplyFault, ChassisConfig};
 use gp_licence::MAX_LICENCES;
 use gp_machine::{Command, Event, FIRST_ALLOC_ID, Receipt, Reply};
 use gp_unit::{Phase, RowView};
@@ -16,7 +17,6 @@ use std::marker::Brand;
 use std::process::Abort;
 use std::sync::Wait;
 use std::sync::ledger::{Blank, Ledger};
-use std::test::Fail;
 
 /// A with the equalization delay that it was ranged with, and one further Alloc-ID, which it has still to acknowledge.
 const A_WITH_ALLOC_ID: RowView = RowView {
@@ -54,112 +54,153 @@ const THREE_WORKERS: Totals = Totals {
     units: 1,
 };
 
-/// The row that was shown.
-fn shown(reply: Result<Reply, ApplyFault>) -> Option<RowView> {
-    match reply {
-        Ok(Reply::Shown(row)) => Some(row.view()),
+/// The second worker asks for an Alloc-ID for A, the third for what the port knows of A; it has port 1 tick, and there is no port 2.
+const TWO_MORE: &[Line] = &[
+    (
+        1,
+        1,
+        0,
+        Event::Command(Command::Alloc(A)),
+        Ok(Said::Allocated(FIRST_ALLOC_ID)),
+    ),
+    (2, 1, 0, Event::Command(Command::Show(A)), Ok(Said::More)),
+    (2, 1, 1, Event::Frame, Ok(Said::Ticked)),
+    (2, 1, 2, Event::Frame, Err(ApplyFault::NoPort)),
+];
+
+/// The row that the worker was shown first.
+fn shown<L: Ledger>(worker: Option<&Worker<L>>) -> Option<RowView> {
+    match worker?.receipts().first()?.entry.answer.reply {
+        Reply::Shown(row) => Some(row.view()),
         _ => None,
     }
 }
 
-/// Copies the receipts of three workers, in order.
+/// Copies the receipts of workers, in order.
 fn told_to<L: Ledger>(
     alloc: Global,
-    first: &Worker<L>,
-    second: &Worker<L>,
-    third: &Worker<L>,
-) -> Result<[Vec<Receipt>; 3], AllocError> {
-    Ok([
-        first.receipts().to_vec(alloc)?,
-        second.receipts().to_vec(alloc)?,
-        third.receipts().to_vec(alloc)?,
-    ])
+    workers: &[Worker<L>],
+) -> Result<Vec<Vec<Receipt>>, AllocError> {
+    let mut told = Vec::new(alloc);
+    for worker in workers {
+        told.push(worker.receipts().to_vec(alloc)?)?;
+    }
+    Ok(told)
 }
 
-/// Compares what three workers leave, and their receipts with the journals: as they were told, and with one answer altered.
-fn compare<R: Abort>(rt: &R, alloc: Global, closed: &Closed, told: [Vec<Receipt>; 3]) {
-    assert_eq!(rt; closed.totals, THREE_WORKERS);
-    assert_eq!(rt; closed.licences, 2);
-    assert_eq!(rt; closed.journals.len(), 2);
-    assert_eq!(rt; closed.journals[0].len(), 18);
-    assert_eq!(rt; closed.journals[1].len(), 1);
-    assert_eq!(rt; reconcile(alloc, closed.journals.as_slice(), &told), Ok(()));
-    let [first, mut second, third] = told;
-    assert_eq!(rt; second.len(), 1);
-    second[0].entry.answer.reply = Reply::Allocated(257);
-    assert_eq!(rt;
-        reconcile(alloc, closed.journals.as_slice(), &[first, second, third]),
-        Err(CloseFault::Mismatch)
-    );
-}
-
-fn three_on<L: Ledger, R: Abort + Wait>(rt: &R, alloc: Global, blank: Blank) -> Result<(), Fail>
-    requires name { blank.name ≡ L.name }
-    requires parts { (blank.parts ≡ L.parts) × (L.parts ≡ MAX_LICENCES) }
-{
-    let config = config_of(alloc, 2, 1, 2, 100)?;
-    let chassis = Chassis::<NoGate, L>::begin(alloc, blank, &config, NoGate)?;
-    let mut first = chassis.worker(rt, alloc).expect(rt, "a first worker");
-    let mut second = chassis.worker(rt, alloc).expect(rt, "a second worker");
-    let mut third = chassis.worker(rt, alloc).expect(rt, "a third worker");
-    let alloc_a = Event::Command(Command::Alloc(unit(A)));
-    let show_a = Event::Command(Command::Show(unit(A)));
-    play(rt, &chassis, &mut first, 0, &one_unit(A));
-    let allocated = Reply::Allocated(FIRST_ALLOC_ID);
-    play(rt, &chassis, &mut second, 0, &[(1, alloc_a, allocated)]);
-    assert_eq!(rt;
-        shown(reply_of(chassis.apply(rt, &mut third, 0, show_a))),
-        Some(A_WITH_ALLOC_ID)
-    );
-    play(
-        rt,
-        &chassis,
-        &mut third,
-        1,
-        &[(1, Event::Frame, Reply::Ticked)],
-    );
-    assert_eq!(rt;
-        reply_of(chassis.apply(rt, &mut third, 2, Event::Frame)),
-        Err(ApplyFault::NoPort)
-    );
-    let told = told_to(alloc, &first, &second, &third).expect(rt, "memory");
-    let mut workers = Vec::new(alloc);
-    add(&mut workers, first);
-    add(&mut workers, second);
-    let Err(refused) = chassis.close(alloc, workers) else {
-        third.retire();
-        return Err(Fail::new("closed with two workers of three"));
+/// Closes a chassis without its last worker, and gives why that is refused, with all as it was.
+fn close_without_last<L: Ledger, R: Abort>(
+    rt: &R,
+    alloc: Global,
+    chassis: Chassis<NoGate, L>,
+    mut workers: Vec<Worker<L>>,
+) -> (CloseFault, Chassis<NoGate, L>, Vec<Worker<L>>) {
+    let last = workers.pop().expect(rt, "a last worker");
+    let refused = match chassis.close(alloc, workers) {
+        Ok(_) => panic!(rt; "closed without its last worker"),
+        Err(refused) => refused,
     };
     let CloseRefused {
         fault,
         chassis,
         mut workers,
     } = refused;
-    assert_eq!(rt; fault, CloseFault::WorkerMissing);
-    add(&mut workers, third);
-    let closed = close(rt, alloc, chassis, workers)?;
-    compare(rt, alloc, &closed, told);
-    Ok(())
+    add(&mut workers, last);
+    (fault, chassis, workers)
 }
 
-#[test]
-fn three_workers(rt: HostRuntime) -> Result<(), Fail> {
-    three_on::<Brand, HostRuntime>(&rt, rt.alloc(), Blank::new(u64::from(MAX_LICENCES)))
+/// Compares the receipts with the journals: as they were told, and with the answer to the second worker altered.
+fn reconciled(
+    alloc: Global,
+    closed: &Closed,
+    mut told: Vec<Vec<Receipt>>,
+) -> [Result<(), CloseFault>; 2] {
+    if closed.journals.len() > 16 {
+        return [Err(CloseFault::Mismatch); 2];
+    }
+    let before = reconcile(alloc, closed.journals.as_slice(), told.as_slice());
+    for receipts in told.iter_mut().skip(1).take(1) {
+        for receipt in receipts.iter_mut() {
+            receipt.entry.answer.reply = Reply::Allocated(257);
+        }
+    }
+    [
+        before,
+        reconcile(alloc, closed.journals.as_slice(), told.as_slice()),
+    ]
 }
 
-fn one_too_many<L: Ledger, R: Abort + Wait>(rt: &R, alloc: Global, blank: Blank) -> Result<(), Fail>
+/// What three workers leave: the places of the lines that were answered otherwise, the row that was shown, and why the chassis does not
+/// close without the third; the totals, the lengths of the journals, and how the receipts compare with them.
+type Outcome = (
+    ([Option<usize>; 2], Option<RowView>, CloseFault),
+    (Totals, [u64; 2], [Result<(), CloseFault>; 2]),
+);
+
+/// How long the first two journals are.
+fn lengths_of(closed: &Closed) -> [u64; 2] {
+    match closed.journals.as_slice() {
+        [first, second] => [first.len(), second.len()],
+        _ => [0, 0],
+    }
+}
+
+fn three_on<L: Ledger, R: Abort + Wait>(
+    rt: &R,
+    alloc: Global,
+    blank: Blank,
+    config: &ChassisConfig,
+) -> Option<Outcome>
     requires name { blank.name ≡ L.name }
     requires parts { (blank.parts ≡ L.parts) × (L.parts ≡ MAX_LICENCES) }
 {
-    let config = config_of(alloc, 1, 1, 1, 100)?;
-    let chassis = Chassis::<NoGate, L>::begin(alloc, blank, &config, NoGate)?;
-    let mut workers = Vec::new(alloc);
-    for _ in 0..MAX_WORKERS {
-        add(
-            &mut workers,
-            chassis.worker(rt, alloc).expect(rt, "a worker"),
-        );
-    }
+    let chassis = Chassis::<NoGate, L>::begin(alloc, blank, config, NoGate).ok()?;
+    let mut workers = workers_of(rt, alloc, &chassis, 3);
+    let wrong = [
+        play(rt, &chassis, &mut workers, ONE_UNIT, 1),
+        play(rt, &chassis, &mut workers, TWO_MORE, 1),
+    ];
+    let row = shown(workers.as_slice().get(2));
+    let told = told_to(alloc, workers.as_slice());
+    let (fault, chassis, workers) = close_without_last(rt, alloc, chassis, workers);
+    let closed = close(rt, alloc, chassis, workers, 1).ok()?;
+    let compared = reconciled(alloc, &closed, told.ok()?);
+    Some((
+        (wrong, row, fault),
+        (closed.totals, lengths_of(&closed), compared),
+    ))
+}
+
+/// The same with a new ledger.
+fn three<R: Abort + Wait>(rt: &R, alloc: Global) -> Option<Outcome> {
+    let config = chassis_of(alloc, 2, 100, 1, &[(1, 1), (101, 1)]).ok()?;
+    three_on::<Brand, R>(rt, alloc, Blank::new(u64::from(MAX_LICENCES)), &config)
+}
+
+#[test]
+fn three_workers(rt: HostRuntime) {
+    let served = (
+        [None, None],
+        Some(A_WITH_ALLOC_ID),
+        CloseFault::WorkerMissing,
+    );
+    let left = (THREE_WORKERS, [18, 1], [Ok(()), Err(CloseFault::Mismatch)]);
+    assert_eq!(rt; three(&rt, rt.alloc()), Some((served, left)));
+}
+
+/// How many workers are made, why there is none after them, and whether the chassis closes with them.
+fn most_on<L: Ledger, R: Wait>(
+    rt: &R,
+    alloc: Global,
+    blank: Blank,
+    config: &ChassisConfig,
+) -> Option<(usize, Option<WorkerFault>, bool)>
+    requires name { blank.name ≡ L.name }
+    requires parts { (blank.parts ≡ L.parts) × (L.parts ≡ MAX_LICENCES) }
+{
+    let chassis = Chassis::<NoGate, L>::begin(alloc, blank, config, NoGate).ok()?;
+    let workers = workers_of(rt, alloc, &chassis, MAX_WORKERS);
+    let count = workers.len();
     let fault = match chassis.worker(rt, alloc) {
         Ok(worker) => {
             worker.retire();
@@ -167,13 +208,20 @@ fn one_too_many<L: Ledger, R: Abort + Wait>(rt: &R, alloc: Global, blank: Blank)
         }
         Err(fault) => Some(fault),
     };
-    assert_eq!(rt; fault, Some(WorkerFault::TooMany));
-    let closed = close(rt, alloc, chassis, workers)?;
-    assert_eq!(rt; closed.licences, 1);
-    Ok(())
+    let closes = close(rt, alloc, chassis, workers, 1).is_ok();
+    Some((count, fault, closes))
+}
+
+/// The same with a new ledger.
+fn most<R: Wait>(rt: &R, alloc: Global) -> Option<(usize, Option<WorkerFault>, bool)> {
+    let config = chassis_of(alloc, 1, 100, 1, &[(1, 1)]).ok()?;
+    most_on::<Brand, R>(rt, alloc, Blank::new(u64::from(MAX_LICENCES)), &config)
 }
 
 #[test]
-fn most_workers(rt: HostRuntime) -> Result<(), Fail> {
-    one_too_many::<Brand, HostRuntime>(&rt, rt.alloc(), Blank::new(u64::from(MAX_LICENCES)))
+fn most_workers(rt: HostRuntime) {
+    assert_eq!(rt;
+        most(&rt, rt.alloc()),
+        Some((64, Some(WorkerFault::TooMany), true))
+    );
 }

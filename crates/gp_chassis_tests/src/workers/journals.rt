@@ -1,22 +1,21 @@
-//! Journals that are full and cut, and copies that are owed up to the most.
+//! Journals that are full and cut, also where memory is refused, and copies that are owed up to the most.
 ghost use Rattle.std.specs.Prelude.{◌≡◌};
 ghost use Rattle.gp_licence.specs.declared.ledger_parts.TheConstants.{MAX_LICENCES};
 
 use super::meeting::{Meeting, Meets};
-use super::{A, add, burst, close, config_of, end, one_unit, play, reply_of, unit};
+use super::{Line, ONE_UNIT, add, close, play, workers_of};
+use crate::units::{A, A_RANGED, A_SEARCHED, B_SEARCHED, NOTHING, SEARCH, Said, chassis_of};
 use gp_alarms::{Alarm, AlarmKind};
-use gp_chassis::ApplyFault;
+use gp_chassis::{ApplyFault, ChassisConfig};
 use gp_licence::MAX_LICENCES;
-use gp_machine::{Command, Event, FIRST_ALLOC_ID, Refusal, Reply};
-use gp_ploam::Up;
-use gp_port::OpenFault;
-use gp_workers::{Chassis, CloseFault, CloseRefused, Closed, Cut, NoGate, Totals};
+use gp_machine::{Command, Event, FIRST_ALLOC_ID, Refusal};
+use gp_workers::{Chassis, CloseFault, CloseRefused, Closed, Cut, NoGate, Totals, Worker};
 use std::alloc::Global;
 use std::marker::Brand;
 use std::process::Abort;
 use std::sync::Wait;
+use std::sync::atomic::{AtomicU64, Ordering};
 use std::sync::ledger::{Blank, Ledger};
-use std::test::Fail;
 use std::time::Clock;
 
 /// No events, no alarms, and one unit that is active.
@@ -34,56 +33,69 @@ const ONE_ACTIVE: Totals = Totals {
 };
 
 /// The operator asks what the port knows of A.
-fn show_a() -> Event {
-    Event::Command(Command::Show(unit(A)))
-}
+const SHOW_A: Event = Event::Command(Command::Show(A));
 
-/// Compares a piece of sixteen entries with the journal that goes on after it.
-fn compare<R: Abort>(rt: &R, cut: &Cut, closed: &Closed) {
-    let cut_totals = Totals {
-        frames: 13,
-        bursts: 2,
-        commands: 1,
-        ..ONE_ACTIVE
-    };
-    assert_eq!(rt; cut.totals, cut_totals);
-    assert_eq!(rt; cut.pieces.len(), 1);
-    let piece = &cut.pieces[0];
-    assert_eq!(rt; (piece.first, piece.len()), (0, 16));
-    let totals = Totals {
-        commands: 1,
-        ..ONE_ACTIVE
-    };
-    assert_eq!(rt; closed.totals, totals);
-    assert_eq!(rt; closed.licences, 1);
-    assert_eq!(rt; closed.journals.len(), 1);
-    let journal = &closed.journals[0];
-    assert_eq!(rt; (journal.first(), journal.entries().len()), (16, 1));
-    let joins = match journal.base() {
-        Some(base) => (piece.joins(16, base), piece.joins(15, base)),
-        None => (false, false),
-    };
-    assert_eq!(rt; joins, (true, false));
-}
+const ENABLE_ALL: Event = Event::Command(Command::EnableAll);
 
-fn cut_at_sixteen<L: Ledger, R: Abort + Wait>(
+/// A comes to operate with the last entry that the journal keeps.
+const BOUNDED: &[Line] = &[
+    (0, 1, 0, SEARCH, Ok(Said::Searching)),
+    (0, 5, 0, Event::Frame, Ok(Said::Ticked)),
+    (0, 1, 0, A_SEARCHED, Ok(Said::Found(0))),
+    (0, 4, 0, Event::Frame, Ok(Said::Ticked)),
+    (0, 1, 0, A_RANGED, Ok(Said::Ranged(0, 211_040))),
+    (0, 4, 0, Event::Frame, Ok(Said::Ticked)),
+    (0, 1, 0, Event::Frame, Err(ApplyFault::JournalFull)),
+];
+
+const SHOWN: &[Line] = &[(0, 1, 0, SHOW_A, Ok(Said::More))];
+
+/// A search up to its window.
+const WINDOW: &[Line] = &[
+    (0, 1, 0, SEARCH, Ok(Said::Searching)),
+    (0, 5, 0, Event::Frame, Ok(Said::Ticked)),
+];
+
+/// A worker with no receipts finds A on a port with no entries: both take memory while it has the one licence.
+const FOUND: &[Line] = &[
+    (1, 1, 0, A_SEARCHED, Ok(Said::Found(0))),
+    (0, 1, 0, B_SEARCHED, Ok(Said::Refused(Refusal::NoLicence))),
+];
+
+/// Cuts the journals of a chassis, with a second try where memory may be refused.
+fn cut<L: Ledger, R: Abort + Wait>(
     rt: &R,
     alloc: Global,
-    blank: Blank,
-) -> Result<(), Fail>
-    requires name { blank.name ≡ L.name }
-    requires parts { (blank.parts ≡ L.parts) × (L.parts ≡ MAX_LICENCES) }
-{
-    let config = config_of(alloc, 1, 1, 1, 16)?;
-    let chassis = Chassis::<NoGate, L>::begin(alloc, blank, &config, NoGate)?;
-    let mut worker = chassis.worker(rt, alloc).expect(rt, "a worker");
-    play(rt, &chassis, &mut worker, 0, &one_unit(A));
-    assert_eq!(rt;
-        reply_of(chassis.apply(rt, &mut worker, 0, Event::Frame)),
-        Err(ApplyFault::JournalFull)
-    );
-    let refused = match chassis.cut(alloc, Vec::new(alloc)) {
-        Ok(_) => panic!(rt; "cut without its worker"),
+    chassis: Chassis<NoGate, L>,
+    workers: Vec<Worker<L>>,
+    tries: u8,
+) -> (Chassis<NoGate, L>, Vec<Worker<L>>, Cut) {
+    let refused = match chassis.cut(alloc, workers) {
+        Ok(done) => return done,
+        Err(refused) => refused,
+    };
+    assert!(rt; tries > 1);
+    let CloseRefused {
+        fault: _,
+        chassis,
+        workers,
+    } = refused;
+    match chassis.cut(alloc, workers) {
+        Ok(done) => done,
+        Err(_) => panic!(rt; "not cut"),
+    }
+}
+
+/// Cuts a chassis without its last worker, and gives why that is refused, with all as it was.
+fn cut_without_last<L: Ledger, R: Abort>(
+    rt: &R,
+    alloc: Global,
+    chassis: Chassis<NoGate, L>,
+    mut workers: Vec<Worker<L>>,
+) -> (CloseFault, Chassis<NoGate, L>, Vec<Worker<L>>) {
+    let last = workers.pop().expect(rt, "a last worker");
+    let refused = match chassis.cut(alloc, workers) {
+        Ok(_) => panic!(rt; "cut without its last worker"),
         Err(refused) => refused,
     };
     let CloseRefused {
@@ -91,108 +103,216 @@ fn cut_at_sixteen<L: Ledger, R: Abort + Wait>(
         chassis,
         mut workers,
     } = refused;
-    assert_eq!(rt; fault, CloseFault::WorkerMissing);
-    add(&mut workers, worker);
-    let (chassis, mut workers, cut) = match chassis.cut(alloc, workers) {
-        Ok(done) => done,
-        Err(refused) => return Err(Fail::from(end(rt, refused))),
-    };
-    assert_eq!(rt; workers.len(), 1);
-    let number = match chassis.apply(rt, &mut workers[0], 0, show_a()) {
-        Ok(receipt) => receipt.number,
-        Err(_) => 0,
-    };
-    assert_eq!(rt; number, 16);
-    let closed = close(rt, alloc, chassis, workers)?;
-    compare(rt, &cut, &closed);
-    Ok(())
+    add(&mut workers, last);
+    (fault, chassis, workers)
 }
 
-#[test]
-fn bounded_journals(rt: HostRuntime) -> Result<(), Fail> {
-    cut_at_sixteen::<Brand, HostRuntime>(&rt, rt.alloc(), Blank::new(u64::from(MAX_LICENCES)))
+/// How a piece and the journal after it join: the numbers of the first entries, how many entries each has, and whether the journal goes
+/// on where the piece ends, and an entry earlier.
+fn joined(cut: &Cut, closed: &Closed) -> Option<((u64, u64), (u64, usize), (bool, bool))> {
+    let piece = cut.pieces.as_slice().first()?;
+    let journal = closed.journals.as_slice().first()?;
+    let base = journal.base()?;
+    let next = journal.first();
+    Some((
+        (piece.first, piece.len()),
+        (next, journal.entries().len()),
+        (
+            piece.joins(next, base),
+            piece.joins(next.wrapping_sub(1), base),
+        ),
+    ))
 }
 
-/// Why a chassis is not opened, if it is not.
-fn fault_of<L: Ledger, R: Wait>(
+/// What a cut leaves: the places of the lines before and after it that were answered otherwise, and why it is refused without the last
+/// worker; what it adds up to, what the journals add up to that go on after it, and how the two join.
+type Outcome = (
+    ([Option<usize>; 2], CloseFault),
+    (
+        [Totals; 2],
+        Option<((u64, u64), (u64, usize), (bool, bool))>,
+    ),
+);
+
+/// Plays lines, cuts, and plays others, with so many tries at most where memory is refused. There is no outcome where the chassis is not
+/// opened.
+fn outcome_of<L: Ledger, R: Abort + Wait>(
     rt: &R,
     alloc: Global,
     blank: Blank,
+    config: &ChassisConfig,
+    lines: (&[Line], &[Line]),
+    tries: u8,
+) -> Option<Outcome>
+    requires name { blank.name ≡ L.name }
+    requires parts { (blank.parts ≡ L.parts) × (L.parts ≡ MAX_LICENCES) }
+{
+    let chassis = Chassis::<NoGate, L>::begin(alloc, blank, config, NoGate).ok()?;
+    let mut workers = workers_of(rt, alloc, &chassis, 2);
+    let wrong = play(rt, &chassis, &mut workers, lines.0, tries);
+    let (fault, chassis, workers) = cut_without_last(rt, alloc, chassis, workers);
+    let (chassis, mut workers, cut) = cut(rt, alloc, chassis, workers, tries);
+    let wrong = [wrong, play(rt, &chassis, &mut workers, lines.1, tries)];
+    let closed = close(rt, alloc, chassis, workers, tries).expect(rt, "closed");
+    Some((
+        (wrong, fault),
+        ([cut.totals, closed.totals], joined(&cut, &closed)),
+    ))
+}
+
+/// The same on one port that admits A and B, with one licence and a new ledger.
+fn outcome<R: Abort + Wait>(
+    rt: &R,
+    alloc: Global,
     journal_limit: u32,
-) -> Result<Option<OpenFault>, Fail>
-    requires name { blank.name ≡ L.name }
-    requires parts { (blank.parts ≡ L.parts) × (L.parts ≡ MAX_LICENCES) }
-{
-    let config = config_of(alloc, 1, 1, 1, journal_limit)?;
-    match Chassis::<NoGate, L>::begin(alloc, blank, &config, NoGate) {
-        Ok(chassis) => {
-            chassis.discard(rt);
-            Ok(None)
-        }
-        Err(fault) => Ok(Some(fault)),
-    }
+    lines: (&[Line], &[Line]),
+    tries: u8,
+) -> Option<Outcome> {
+    let config = chassis_of(alloc, 1, journal_limit, 1, &[(1, 2)]).ok()?;
+    let blank = Blank::new(u64::from(MAX_LICENCES));
+    outcome_of::<Brand, R>(rt, alloc, blank, &config, lines, tries)
 }
 
 #[test]
-fn journals_of_no_entries(rt: HostRuntime) -> Result<(), Fail> {
-    let blank = Blank::new(u64::from(MAX_LICENCES));
-    let fault = fault_of::<Brand, HostRuntime>(&rt, rt.alloc(), blank, 0)?;
-    assert_eq!(rt; fault, Some(OpenFault::Limit));
-    Ok(())
+fn bounded_journals(rt: HostRuntime) {
+    let cut = Totals {
+        frames: 13,
+        bursts: 2,
+        commands: 1,
+        ..ONE_ACTIVE
+    };
+    let left = Totals {
+        commands: 1,
+        ..ONE_ACTIVE
+    };
+    let joined = Some(((0, 16), (16, 1), (true, false)));
+    assert_eq!(rt;
+        outcome(&rt, rt.alloc(), 16, (BOUNDED, SHOWN), 1),
+        Some((
+            ([None, None], CloseFault::WorkerMissing),
+            ([cut, left], joined)
+        ))
+    );
 }
 
-fn fill_the_queue<C: Clock + Drop, L: Ledger, R: Abort + Wait>(
+// Passes whichever one request for memory is refused, and with ample memory (`rt try --test --fail-alloc N`).
+#[test]
+fn cuts_and_bursts_short_of_memory(rt: HostRuntime) {
+    let found = match outcome(&rt, rt.alloc(), 100, (WINDOW, FOUND), 2) {
+        None => outcome(&rt, rt.alloc(), 100, (WINDOW, FOUND), 2),
+        found => found,
+    };
+    let cut = Totals {
+        frames: 5,
+        commands: 1,
+        units: 0,
+        ..ONE_ACTIVE
+    };
+    let left = Totals {
+        bursts: 2,
+        ..ONE_ACTIVE
+    };
+    let joined = Some(((0, 6), (6, 2), (true, false)));
+    assert_eq!(rt;
+        found,
+        Some((
+            ([None, None], CloseFault::WorkerMissing),
+            ([cut, left], joined)
+        ))
+    );
+}
+
+/// A gets an Alloc-ID, does not acknowledge it in two polls, and commands fill the queue.
+const FILLED: &[Line] = &[
+    (
+        0,
+        1,
+        0,
+        Event::Command(Command::Alloc(A)),
+        Ok(Said::Allocated(FIRST_ALLOC_ID)),
+    ),
+    // Three copies are sent, and then the unit is polled.
+    (0, 4, 0, Event::Frame, Ok(Said::Ticked)),
+    (0, 1, 0, NOTHING, Ok(Said::Alive(0))),
+    (0, 1, 0, Event::Frame, Ok(Said::Ticked)),
+    (0, 1, 0, NOTHING, Ok(Said::Alive(0))),
+    (0, 1, 0, Event::Frame, Ok(Said::Ticked)),
+    (0, 63, 0, ENABLE_ALL, Ok(Said::EnabledAll)),
+    (0, 1, 0, ENABLE_ALL, Ok(Said::Refused(Refusal::Busy))),
+];
+
+/// A third poll is not acknowledged: A is removed.
+const LOST: &[Line] = &[
+    (0, 1, 0, NOTHING, Ok(Said::Alive(0))),
+    (0, 1, 0, SHOW_A, Ok(Said::Refused(Refusal::NotActive))),
+];
+
+/// Which alarm a worker was told last.
+fn last_alarm<L: Ledger>(worker: Option<&Worker<L>>) -> Option<Alarm> {
+    let mut last = None;
+    for receipt in worker?.receipts() {
+        if receipt.entry.answer.alarm.is_some() {
+            last = receipt.entry.answer.alarm;
+        }
+    }
+    last
+}
+
+/// Fills the queue of a port, and gives the places of the lines that were answered otherwise, how many copies were owed before and after
+/// A was lost, the alarm of it, and how many such alarms and active units there are at last.
+fn fill_the_queue<C: Clock + Drop, L: Ledger, R: Wait>(
     rt: &R,
     alloc: Global,
     blank: Blank,
+    config: &ChassisConfig,
     meeting: &Meeting<C>,
-) -> Result<(), Fail>
+) -> Option<([Option<usize>; 3], [u64; 2], Option<Alarm>, (u64, u64))>
     requires name { blank.name ≡ L.name }
     requires parts { (blank.parts ≡ L.parts) × (L.parts ≡ MAX_LICENCES) }
 {
-    let config = config_of(alloc, 1, 1, 1, 200)?;
-    let gate = Meets { meeting };
-    let chassis = Chassis::<Meets<'_, C>, L>::begin(alloc, blank, &config, gate)?;
-    let mut worker = chassis.worker(rt, alloc).expect(rt, "a worker");
-    play(rt, &chassis, &mut worker, 0, &one_unit(A));
-    let alloc_a = Event::Command(Command::Alloc(unit(A)));
-    let enable_all = Event::Command(Command::EnableAll);
-    let no_message = burst(&Up::NoMessage { onu: 0 });
-    let acts = [
-        (1, alloc_a, Reply::Allocated(FIRST_ALLOC_ID)),
-        // Three copies are sent, and then the unit is polled.
-        (4, Event::Frame, Reply::Ticked),
-        (1, no_message, Reply::Alive(0)),
-        (1, Event::Frame, Reply::Ticked),
-        (1, no_message, Reply::Alive(0)),
-        (1, Event::Frame, Reply::Ticked),
-        (63, enable_all, Reply::EnabledAll),
-        (1, enable_all, Reply::Refused(Refusal::Busy)),
-    ];
-    play(rt, &chassis, &mut worker, 0, &acts);
-    assert_eq!(rt; meeting.notes().0, 189);
-    let lost = match chassis.apply(rt, &mut worker, 0, no_message) {
-        Ok(receipt) => (Some(receipt.entry.answer.reply), receipt.entry.answer.alarm),
-        Err(_) => (None, None),
+    let chassis = Chassis::<Meets<'_, C>, L>::begin(alloc, blank, config, Meets(meeting)).ok()?;
+    let mut workers = workers_of(rt, alloc, &chassis, 1);
+    let begun = play(rt, &chassis, &mut workers, ONE_UNIT, 1);
+    let filled = play(rt, &chassis, &mut workers, FILLED, 1);
+    let before = meeting.owed.load(Ordering::SeqCst);
+    let lost = play(rt, &chassis, &mut workers, LOST, 1);
+    let owed = [before, meeting.owed.load(Ordering::SeqCst)];
+    let alarm = last_alarm(workers.as_slice().first());
+    let closed = close(rt, alloc, chassis, workers, 1).ok()?;
+    Some((
+        [begun, filled, lost],
+        owed,
+        alarm,
+        (closed.totals.loa, closed.totals.units),
+    ))
+}
+
+/// The same with a new ledger.
+fn queue<C: Clock + Drop, R: Wait>(
+    rt: &R,
+    alloc: Global,
+    clock: C,
+) -> Option<([Option<usize>; 3], [u64; 2], Option<Alarm>, (u64, u64))> {
+    let config = chassis_of(alloc, 1, 200, 1, &[(1, 1)]).ok()?;
+    let meeting = Meeting {
+        clock,
+        kept: 0,
+        awaited: 1,
+        owed: AtomicU64::new(0),
+        stage: AtomicU64::new(0),
     };
+    let blank = Blank::new(u64::from(MAX_LICENCES));
+    fill_the_queue::<C, Brand, R>(rt, alloc, blank, &config, &meeting)
+}
+
+#[test]
+fn full_queue(rt: HostRuntime) {
     let loa = Alarm {
         kind: AlarmKind::Loa,
-        serial: unit(A),
+        serial: A,
     };
-    assert_eq!(rt; lost, (Some(Reply::Alive(0)), Some(loa)));
-    let not_active = Reply::Refused(Refusal::NotActive);
-    play(rt, &chassis, &mut worker, 0, &[(1, show_a(), not_active)]);
-    assert_eq!(rt; meeting.notes().0, 192);
-    let mut workers = Vec::new(alloc);
-    add(&mut workers, worker);
-    let closed = close(rt, alloc, chassis, workers)?;
-    assert_eq!(rt; (closed.totals.loa, closed.totals.units), (1, 0));
-    Ok(())
-}
-
-#[test]
-fn full_queue(rt: HostRuntime) -> Result<(), Fail> {
-    let meeting = Meeting::new(rt, 0, 1);
-    let blank = Blank::new(u64::from(MAX_LICENCES));
-    fill_the_queue::<HostRuntime, Brand, HostRuntime>(&rt, rt.alloc(), blank, &meeting)
+    assert_eq!(rt;
+        queue(&rt, rt.alloc(), rt),
+        Some(([None; 3], [189, 192], Some(loa), (1, 0)))
+    );
 }

@@ -2,74 +2,127 @@
 ghost use Rattle.std.specs.Prelude.{◌≡◌};
 ghost use Rattle.gp_licence.specs.declared.ledger_parts.TheConstants.{MAX_LICENCES};
 
-use super::{A, SEARCH, add, close, config_of, heard};
-use gp_chassis::ApplyFault;
+use super::{close, workers_of};
+use crate::units::{A_OCTETS, chassis_of};
+use gp_chassis::{ApplyFault, ChassisConfig};
 use gp_licence::MAX_LICENCES;
-use gp_machine::{Command, Event};
-use gp_ploam::BROADCAST_ONU;
+use gp_machine::Command;
 use gp_workers::{
     Chassis, Closed, NoGate, RingItem, Worker, clock_loop, operator_loop, reader_loop,
 };
-use rtrb::{Producer, RingBuffer};
+use rtrb::{Consumer, Producer, RingBuffer};
 use std::alloc::Global;
 use std::marker::Brand;
-use std::process::Abort;
 use std::sync::Wait;
 use std::sync::ledger::{Blank, Ledger};
-use std::test::Fail;
 use std::thread;
 use std::thread::Threads;
 
-/// Whether each receipt is of an event on a port, in order.
-fn are_of<L: Ledger>(worker: &Worker<L>, asked: &[(u8, Event)]) -> bool {
-    let receipts = worker.receipts();
-    if receipts.len() != asked.len() {
-        return false;
+/// What a loop answers, and how many receipts its worker got.
+type Told = (Result<u64, ApplyFault>, usize);
+
+/// What a clock, an operator and a reader told, and how many frames, commands and bursts the journals have.
+type Outcome = ((Told, Told, Told), Option<(u64, u64, u64)>);
+
+/// Three frames on two ports; a search on port 1, and one on a port that is not there; two bursts.
+const TOLD: (Told, Told, Told) = ((Ok(3), 3), (Err(ApplyFault::NoPort), 1), (Ok(2), 2));
+
+/// A burst of A.
+const BURST: RingItem = RingItem::Burst {
+    at: 100_000,
+    bytes: A_OCTETS,
+};
+
+/// Runs a clock, an operator and a reader, each with a worker of its own.
+fn run<L: Ledger, R: Wait>(
+    rt: &R,
+    chassis: &Chassis<NoGate, L>,
+    workers: &mut [Worker<L>],
+    consumer: Consumer<RingItem>,
+) -> (Told, Told, Told) {
+    if workers.len() < 3 {
+        return ((Ok(0), 0), (Ok(0), 0), (Ok(0), 0));
     }
-    for place in 0..asked.len() {
-        let (port, event) = asked[place];
-        if receipts[place].port != port || receipts[place].entry.event != event {
-            return false;
-        }
-    }
-    true
+    let ticked = clock_loop(rt, chassis, &mut workers[0], &[(0, 2), (1, 1)]);
+    let commands = [(1, Command::Search), (5, Command::Search)];
+    let asked = operator_loop(rt, chassis, &mut workers[1], &commands);
+    let read = reader_loop(rt, chassis, &mut workers[2], 0, consumer);
+    (
+        (ticked, workers[0].receipts().len()),
+        (asked, workers[1].receipts().len()),
+        (read, workers[2].receipts().len()),
+    )
 }
 
-fn tick_and_operate<L: Ledger, R: Abort + Wait>(
+/// How many frames, commands and bursts the journals have.
+fn events_of(closed: Option<Closed>) -> Option<(u64, u64, u64)> {
+    closed.map(|closed| {
+        (
+            closed.totals.frames,
+            closed.totals.commands,
+            closed.totals.bursts,
+        )
+    })
+}
+
+/// Runs the loops on a chassis of two ports. There is no outcome where it is not opened.
+fn outcome_of<L: Ledger, R: Wait>(
     rt: &R,
     alloc: Global,
     blank: Blank,
-) -> Result<(), Fail>
+    consumer: Consumer<RingItem>,
+    tries: u8,
+) -> Option<Outcome>
     requires name { blank.name ≡ L.name }
     requires parts { (blank.parts ≡ L.parts) × (L.parts ≡ MAX_LICENCES) }
 {
-    let config = config_of(alloc, 2, 1, 1, 100)?;
-    let chassis = Chassis::<NoGate, L>::begin(alloc, blank, &config, NoGate)?;
-    let mut clock = chassis.worker(rt, alloc).expect(rt, "a worker");
-    let mut operator = chassis.worker(rt, alloc).expect(rt, "a worker");
-    assert_eq!(rt;
-        clock_loop(rt, &chassis, &mut clock, &[(0, 2), (1, 1)]),
-        Ok(3)
-    );
-    let frames = [(0, Event::Frame), (0, Event::Frame), (1, Event::Frame)];
-    assert!(rt; are_of(&clock, &frames));
-    let commands = [(1, Command::Search), (5, Command::Search)];
-    assert_eq!(rt;
-        operator_loop(rt, &chassis, &mut operator, &commands),
-        Err(ApplyFault::NoPort)
-    );
-    assert!(rt; are_of(&operator, &[(1, SEARCH)]));
-    let mut workers = Vec::new(alloc);
-    add(&mut workers, clock);
-    add(&mut workers, operator);
-    let closed = close(rt, alloc, chassis, workers)?;
-    assert_eq!(rt; (closed.totals.frames, closed.totals.commands), (3, 1));
-    Ok(())
+    let config = chassis_of(alloc, 1, 100, 1, &[(1, 1), (101, 1)]).ok()?;
+    let chassis = Chassis::<NoGate, L>::begin(alloc, blank, &config, NoGate).ok()?;
+    let mut workers = workers_of(rt, alloc, &chassis, 3);
+    let told = run(rt, &chassis, &mut workers, consumer);
+    let closed = close(rt, alloc, chassis, workers, tries);
+    Some((told, events_of(closed.ok())))
+}
+
+/// The same with a new ledger, and a ring of two bursts. It is told also how much room the ring has at last.
+fn outcome<R: Wait>(rt: &R, alloc: Global, tries: u8) -> Option<(Outcome, usize)> {
+    let (mut producer, consumer) = RingBuffer::new(alloc, 3).ok()?;
+    let fed = producer.push_entire_slice(&[BURST, BURST, RingItem::End]);
+    let blank = Blank::new(u64::from(MAX_LICENCES));
+    let outcome = outcome_of::<Brand, R>(rt, alloc, blank, consumer, tries)?;
+    match fed {
+        Ok(()) => Some((outcome, producer.slots())),
+        Err(_) => None,
+    }
 }
 
 #[test]
-fn clock_and_operator(rt: HostRuntime) -> Result<(), Fail> {
-    tick_and_operate::<Brand, HostRuntime>(&rt, rt.alloc(), Blank::new(u64::from(MAX_LICENCES)))
+fn clock_operator_and_reader(rt: HostRuntime) {
+    assert_eq!(rt;
+        outcome(&rt, rt.alloc(), 1),
+        Some(((TOLD, Some((3, 1, 2))), 3))
+    );
+}
+
+/// Whether a loop told what it has to, or ended early for want of memory.
+fn is_told(told: &Told, whole: &Told) -> bool {
+    *told == *whole || (told.0 == Err(ApplyFault::OutOfMemory) && told.1 < whole.1)
+}
+
+// Passes whichever one request for memory is refused, and with ample memory (`rt try --test --fail-alloc N`).
+#[test]
+fn loops_short_of_memory(rt: HostRuntime) {
+    let found = match outcome(&rt, rt.alloc(), 2) {
+        None => outcome(&rt, rt.alloc(), 2),
+        found => found,
+    };
+    let (outcome, room) = found.expect(&rt, "an outcome");
+    let (clock, operator, reader) = outcome.0;
+    let counts = (clock.1 as u64, operator.1 as u64, reader.1 as u64);
+    assert_eq!(rt; (outcome.1, room), (Some(counts), 3));
+    assert!(rt;
+        is_told(&clock, &TOLD.0) && is_told(&operator, &TOLD.1) && is_told(&reader, &TOLD.2)
+    );
 }
 
 /// Puts an item into the ring once there is a place, and tells whether it did: not where the reader is gone.
@@ -88,60 +141,72 @@ fn put<R: Wait>(rt: &R, producer: &mut Producer<RingItem>, item: RingItem) -> bo
 
 /// Puts so many bursts of A into the ring and then the end, and tells whether it did.
 fn feed<R: Wait>(rt: &R, producer: &mut Producer<RingItem>, bursts: u8) -> bool {
-    let Event::Burst { at, bytes } = heard(BROADCAST_ONU, A) else {
-        return false;
-    };
     for _ in 0..bursts {
-        if !put(rt, producer, RingItem::Burst { at, bytes }) {
+        if !put(rt, producer, BURST) {
             return false;
         }
     }
     put(rt, producer, RingItem::End)
 }
 
+/// Feeds a ring in one thread, and reads it in another for port 0 of a chassis.
+fn feed_and_read<L: Ledger + Send + Sync, R: Threads + Wait + Sync>(
+    rt: &R,
+    chassis: &Chassis<NoGate, L>,
+    workers: &mut [Worker<L>],
+    (mut producer, consumer): (Producer<RingItem>, Consumer<RingItem>),
+    bursts: u8,
+) -> (bool, Result<u64, ApplyFault>) {
+    if workers.len() < 1 {
+        return (false, Ok(0));
+    }
+    let worker = &mut workers[0];
+    thread::join(
+        rt,
+        || feed(rt, &mut producer, bursts),
+        || reader_loop(rt, chassis, worker, 0, consumer),
+    )
+}
+
 /// Feeds a ring of two places with so many bursts in one thread, and reads it in another for a port whose journal keeps so many;
-/// gives what the reader answers, whether all went into the ring, and how many bursts the journal has.
-fn read_from<L: Ledger + Send + Sync, R: Abort + Threads + Wait + Sync>(
+/// gives whether all went into the ring, what the reader answers, and how many bursts the journal has.
+fn read_of<L: Ledger + Send + Sync, R: Threads + Wait + Sync>(
     rt: &R,
     alloc: Global,
     blank: Blank,
+    config: &ChassisConfig,
     bursts: u8,
-    journal_limit: u32,
-) -> Result<(Result<u64, ApplyFault>, bool, u64), Fail>
+) -> Option<((bool, Result<u64, ApplyFault>), Option<(u64, u64, u64)>)>
     requires name { blank.name ≡ L.name }
     requires parts { (blank.parts ≡ L.parts) × (L.parts ≡ MAX_LICENCES) }
 {
-    let config = config_of(alloc, 1, 1, 1, journal_limit)?;
-    let (mut producer, consumer) = RingBuffer::new(alloc, 2)?;
-    let chassis = Chassis::<NoGate, L>::begin(alloc, blank, &config, NoGate)?;
-    let mut worker = chassis.worker(rt, alloc).expect(rt, "a worker");
-    let (was_fed, answer) = thread::join(
-        rt,
-        || feed(rt, &mut producer, bursts),
-        || reader_loop(rt, &chassis, &mut worker, 0, consumer),
-    );
-    let mut workers = Vec::new(alloc);
-    add(&mut workers, worker);
-    let Closed { totals, .. } = close(rt, alloc, chassis, workers)?;
-    Ok((answer, was_fed, totals.bursts))
+    let ring = RingBuffer::new(alloc, 2).ok()?;
+    let chassis = Chassis::<NoGate, L>::begin(alloc, blank, config, NoGate).ok()?;
+    let mut workers = workers_of(rt, alloc, &chassis, 1);
+    let read = feed_and_read(rt, &chassis, &mut workers, ring, bursts);
+    let closed = close(rt, alloc, chassis, workers, 1);
+    Some((read, events_of(closed.ok())))
 }
 
-/// The same, with a new ledger.
-fn read<R: Abort + Threads + Wait + Sync>(
+/// The same with a new ledger.
+fn read<R: Threads + Wait + Sync>(
     rt: &R,
     alloc: Global,
     bursts: u8,
     journal_limit: u32,
-) -> Result<(Result<u64, ApplyFault>, bool, u64), Fail> {
+) -> Option<((bool, Result<u64, ApplyFault>), Option<(u64, u64, u64)>)> {
+    let config = chassis_of(alloc, 1, journal_limit, 1, &[(1, 1)]).ok()?;
     let blank = Blank::new(u64::from(MAX_LICENCES));
-    read_from::<Brand, R>(rt, alloc, blank, bursts, journal_limit)
+    read_of::<Brand, R>(rt, alloc, blank, &config, bursts)
 }
 
+// After the second burst has found a journal of one entry full, the others and the end are taken out all the same.
 #[test]
-fn reader_of_a_ring(rt: HostRuntime) -> Result<(), Fail> {
-    assert_eq!(rt; read(&rt, rt.alloc(), 2, 100)?, (Ok(2), true, 2));
-    // After the second burst has found the journal full, the others and the end are taken out all the same.
-    let full = (Err(ApplyFault::JournalFull), true, 1);
-    assert_eq!(rt; read(&rt, rt.alloc(), 9, 1)?, full);
-    Ok(())
+fn reader_of_a_ring(rt: HostRuntime) {
+    let all = ((true, Ok(2)), Some((0, 0, 2)));
+    let full = ((true, Err(ApplyFault::JournalFull)), Some((0, 0, 1)));
+    assert_eq!(rt;
+        [read(&rt, rt.alloc(), 2, 100), read(&rt, rt.alloc(), 9, 1)],
+        [Some(all), Some(full)]
+    );
 }

@@ -1,5 +1,0 @@
-use Rattle.gp_licence.specs.declared.ledger_parts.TheConstants.{MAX_LICENCES}
-use Rattle.gp_chassis_tests.proofs.chassis.memory.memory_short_or_ample.Given as goal
-
-abbrev pub ghosts-outcome_of : goal.ghosts-outcome_of
-ghosts-outcome_of g a = record { name = a.blank.name; parts = MAX_LICENCES }
