@@ -1,4 +1,0 @@
-use Rattle.gp_world_tests.proofs.fibre.limits.Given as goal
-
-abbrev pub ghosts-limit_of : goal.ghosts-limit_of
-ghosts-limit_of g a = record { name = a.blank.name; parts = 4064 }
