@@ -30,7 +30,7 @@ enum Window {
 }
 
 /// Whose serial number the bursts have as octets 3 to 10.
-#[derive(Clone, Copy, PartialEq, Eq)]
+#[derive(Clone, Copy)]
 enum Speaker {
     /// The unit that is asked.
     A,

@@ -4,7 +4,8 @@
 //! - `octets.rt`: octets of each length, into whatever reads octets.
 //! - `bursts.rt`: every identifier with every octet 1, in each window of a port; the same through a script in
 //!   `script_bursts.rt`.
-//! - `impersonation.rt`: units that speak for others, and units that have no business on the port.
+//! - `impersonation.rt`: units that speak for others, and units that have no business on the port, line by line as
+//!   `stories.rt` has them.
 //! - `streams.rt`: readers and writers that fail. `scripts.rt`: bytes and texts that are no script, and keys with a
 //!   fault, or two.
 //! - `port.rt`: the port that is attacked. `tally.rt`: how many cases came out right.
@@ -22,6 +23,7 @@ mod octets;
 mod port;
 mod script_bursts;
 mod scripts;
+mod stories;
 mod streams;
 mod tally;
 

@@ -30,7 +30,7 @@ pub(crate) const STRANGER: Serial = Serial(*b"ZZZZ\0\0\0\x01");
 pub(crate) const FAR: u32 = 100_000;
 
 /// What came of an event, and how the port stands behind it.
-#[derive(Clone, Copy, Debug, PartialEq, Eq)]
+#[derive(Clone, Copy, PartialEq, Eq)]
 pub(crate) struct Outcome {
     pub(crate) reply: Reply,
     pub(crate) sent: Option<Down>,

@@ -54,7 +54,7 @@ frames = 1
 /// - With no window open: 256 stray.
 /// - Octet 1 = 0 in the poll window of ONU-ID 0: a gasp, and 255 others.
 /// - And the unit's own two answers.
-const ENDS: [(&'static str, usize); 8] = [
+const ENDS: &[(&'static str, usize)] = &[
     ("= refused 1 stray", 256),
     ("= refused 3 wrong-window", 256),
     ("= refused 4 not-admitted", 1),

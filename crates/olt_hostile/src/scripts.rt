@@ -13,8 +13,17 @@ const SERIAL: Option<ScriptFault> = Some(ScriptFault::Serial);
 
 const HEX: Option<ScriptFault> = Some(ScriptFault::Hex);
 
+/// Scripts that differ in what stands between two texts, and the fault of each, if it has one.
+#[derive(Clone, Copy)]
+struct Table {
+    name: &'static str,
+    before: &'static str,
+    behind: &'static str,
+    rows: &'static [(&'static str, Option<ScriptFault>)],
+}
+
 /// Bytes in place of a script.
-const BYTES: [(&'static [u8], Option<ScriptFault>); 30] = [
+const BYTES: &[(&'static [u8], Option<ScriptFault>)] = &[
     (b"", SHAPE),
     (b"\n\n", SHAPE),
     (b"# licences = 1", SHAPE),
@@ -66,7 +75,7 @@ const BYTES: [(&'static [u8], Option<ScriptFault>); 30] = [
 ];
 
 /// Texts in place of a serial number: as a unit's, and as one that is admitted.
-const SERIALS: [(&'static str, Option<ScriptFault>); 20] = [
+const SERIALS: &[(&'static str, Option<ScriptFault>)] = &[
     ("ABCD00000001", None),
     ("0000deadBEEF", None),
     ("4142434400000001", None),
@@ -90,7 +99,7 @@ const SERIALS: [(&'static str, Option<ScriptFault>); 20] = [
 ];
 
 /// Events at two ports.
-const EVENTS: [(&'static str, Option<ScriptFault>); 9] = [
+const EVENTS: &[(&'static str, Option<ScriptFault>)] = &[
     ("{port = 1, frames = 1}, {port = 0, frames = 1}", None),
     ("{port = 2, frames = 1}", Some(ScriptFault::Range)),
     (
@@ -123,7 +132,7 @@ const EVENTS: [(&'static str, Option<ScriptFault>); 9] = [
 ];
 
 /// Scripts with faults at the keys of the top, of units and of what is lost.
-const TOP_KEYS: [(&'static str, Option<ScriptFault>); 22] = [
+const TOP_KEYS: &[(&'static str, Option<ScriptFault>)] = &[
     // The keys in another order.
     (
         "event = [{light = false, unit = 0}]\nlose = [{copy = 0}]\nunit = [{random = 4095, delay = 0, serial = \"ABCD00000001\"}]\nport = [{}]\njournal_limit = 7\nmask = 85\nlicences = 1",
@@ -187,7 +196,7 @@ const TOP_KEYS: [(&'static str, Option<ScriptFault>); 22] = [
 ];
 
 /// Keys of a port: in another order, twice, too long, the greatest and the least numbers, of other types, and two faults.
-const PORT_KEYS: [(&'static str, Option<ScriptFault>); 25] = [
+const PORT_KEYS: &[(&'static str, Option<ScriptFault>)] = &[
     (
         "admit = [], overhead = \"00000000000000000000\", quarantine = 0, search_period = 0, cycles = 1, alloc_last = 256, max_units = 1, teqd = 0",
         None,
@@ -219,7 +228,7 @@ const PORT_KEYS: [(&'static str, Option<ScriptFault>); 25] = [
 ];
 
 /// Keys of an event, likewise, and left out.
-const EVENT_KEYS: [(&'static str, Option<ScriptFault>); 38] = [
+const EVENT_KEYS: &[(&'static str, Option<ScriptFault>)] = &[
     ("frames = 1, port = 0", None),
     (
         "burst = \"0004000000000000000000007C\", at = 0, port = 0",
@@ -308,16 +317,62 @@ const EVENT_KEYS: [(&'static str, Option<ScriptFault>); 38] = [
     ),
 ];
 
-/// Reads a script, and tells its fault, if it has one.
-fn fault_of(alloc: Global, script: &[u8]) -> io::Result<Option<ScriptFault>> {
+/// Events of a script with two ports.
+const TWO_PORTS: &[Table] = &[Table {
+    name: "events",
+    before: "licences = 1\nport = [{}, {}]\nevent = [",
+    behind: "]",
+    rows: EVENTS,
+}];
+
+/// Where a serial number may stand.
+const UNITS: &[Table] = &[
+    Table {
+        name: "admitted",
+        before: "licences = 1\nport = [{admit = [\"",
+        behind: "\"]}]",
+        rows: SERIALS,
+    },
+    Table {
+        name: "commanded",
+        before: "licences = 1\nport = [{}]\nevent = [{port = 0, command = \"show\", serial = \"",
+        behind: "\"}]",
+        rows: SERIALS,
+    },
+];
+
+/// Where keys may stand.
+const KEYS: &[Table] = &[
+    Table {
+        name: "top",
+        before: "",
+        behind: "",
+        rows: TOP_KEYS,
+    },
+    Table {
+        name: "port",
+        before: "licences = 1\nport = [{",
+        behind: "}]",
+        rows: PORT_KEYS,
+    },
+    Table {
+        name: "event",
+        before: "licences = 1\nport = [{}]\nevent = [{",
+        behind: "}]",
+        rows: EVENT_KEYS,
+    },
+];
+
+/// Tells whether a script has this fault, or none.
+fn is_read(alloc: Global, script: &[u8], wanted: Option<ScriptFault>) -> io::Result<bool> {
     match read_script(alloc, script) {
-        Ok(_) => Ok(None),
-        Err(ScriptError::Fault(fault)) => Ok(Some(fault)),
+        Ok(_) => Ok(wanted.is_none()),
+        Err(ScriptError::Fault(fault)) => Ok(wanted == Some(fault)),
         Err(ScriptError::OutOfMemory) => Err(io::ErrorKind::OutOfMemory.into()),
     }
 }
 
-/// Tells whether a script between these two texts has the fault.
+/// Tells whether a script of three texts has the fault.
 fn has_fault(
     alloc: Global,
     before: &str,
@@ -326,121 +381,96 @@ fn has_fault(
     wanted: Option<ScriptFault>,
 ) -> io::Result<bool> {
     let script = format!(in alloc; "{before}{middle}{behind}")?;
-    Ok(fault_of(alloc, script.as_bytes())? == wanted)
+    is_read(alloc, script.as_bytes(), wanted)
 }
 
-/// Reads each of the tables above.
-fn check_tables<R: AllocGlobal + Print>(rt: &R) -> io::Result<()> {
-    let alloc = rt.alloc();
-    let mut bytes = Tally::default();
-    for (place, (script, wanted)) in BYTES.iter().enumerate() {
-        bytes.count("script", place, fault_of(alloc, script)? == *wanted);
+/// Counts each text of a table.
+fn count_rows(alloc: Global, tally: &mut Tally, table: &Table) -> io::Result<()> {
+    for (place, (text, wanted)) in table.rows.iter().enumerate() {
+        let right = has_fault(alloc, table.before, text, table.behind, *wanted)?;
+        tally.count(table.name, place, right);
     }
-    bytes.tell(rt, "bytes in place of a script")?;
-    let mut events = Tally::default();
-    for (place, (text, wanted)) in EVENTS.iter().enumerate() {
-        let before = "licences = 1\nport = [{}, {}]\nevent = [";
-        events.count(
-            "events",
-            place,
-            has_fault(alloc, before, text, "]", *wanted)?,
-        );
-    }
-    events.tell(rt, "events at two ports")
+    Ok(())
 }
 
-/// Reads serial numbers that are said and that are admitted.
-fn check_serials<R: AllocGlobal + Print>(rt: &R) -> io::Result<()> {
-    let alloc = rt.alloc();
+/// Reads each text of these tables.
+fn check_tables<R: AllocGlobal + Print>(rt: &R, title: &str, tables: &[Table]) -> io::Result<()> {
     let mut tally = Tally::default();
-    for (place, (text, wanted)) in SERIALS.iter().enumerate() {
-        let before = "licences = 1\nport = [{admit = [\"";
-        tally.count(
-            "admitted",
-            place,
-            has_fault(alloc, before, text, "\"]}]", *wanted)?,
-        );
-        let before =
-            "licences = 1\nport = [{}]\nevent = [{port = 0, command = \"show\", serial = \"";
-        tally.count(
-            "commanded",
-            place,
-            has_fault(alloc, before, text, "\"}]", *wanted)?,
-        );
+    for table in tables {
+        count_rows(rt.alloc(), &mut tally, table)?;
     }
-    tally.tell(rt, "texts in place of a serial number")
+    tally.tell(rt, title)
+}
+
+fn check_bytes<R: AllocGlobal + Print>(rt: &R) -> io::Result<()> {
+    let mut tally = Tally::default();
+    for (place, (script, wanted)) in BYTES.iter().enumerate() {
+        tally.count("script", place, is_read(rt.alloc(), script, *wanted)?);
+    }
+    tally.tell(rt, "bytes in place of a script")
+}
+
+/// Tells whether so many digits are read in place of octets, which are so many digits.
+fn are_octets(
+    alloc: Global,
+    length: usize,
+    before: &str,
+    behind: &str,
+    digits: usize,
+) -> io::Result<bool> {
+    let text = "0".repeat(alloc, length)?;
+    let wanted = if length == digits { None } else { HEX };
+    has_fault(alloc, before, text.as_str(), behind, wanted)
 }
 
 /// Reads digits of each length in place of thirteen octets, and of ten.
 fn check_digits<R: AllocGlobal + Print>(rt: &R) -> io::Result<()> {
-    let alloc = rt.alloc();
     let mut tally = Tally::default();
     for length in 0..80usize {
-        let digits = "0".repeat(alloc, length)?;
         let before = "licences = 1\nport = [{}]\nevent = [{port = 0, at = 0, burst = \"";
-        let wanted = if length == 26 { None } else { HEX };
-        let right = has_fault(alloc, before, digits.as_str(), "\"}]", wanted)?;
+        let right = are_octets(rt.alloc(), length, before, "\"}]", 26)?;
         tally.count("burst", length, right);
         let before = "licences = 1\nport = [{overhead = \"";
-        let wanted = if length == 20 { None } else { HEX };
-        let right = has_fault(alloc, before, digits.as_str(), "\"}]", wanted)?;
+        let right = are_octets(rt.alloc(), length, before, "\"}]", 20)?;
         tally.count("overhead", length, right);
     }
     tally.tell(rt, "digits in place of octets")
 }
 
+/// Tells whether so many values, each within the one before it, are read so where each is closed, and aren't where none is.
+fn is_nested(
+    alloc: Global,
+    depth: usize,
+    (opening, closing): (&str, &str),
+    wanted: Option<ScriptFault>,
+) -> io::Result<bool> {
+    let before = opening.repeat(alloc, depth)?;
+    let behind = closing.repeat(alloc, depth)?;
+    let value = format!(in alloc; "{before}1{behind}")?;
+    let script = "licences = 1\nport = [{}]\nmask = ";
+    let closed = has_fault(alloc, script, value.as_str(), "", wanted)?;
+    let open = has_fault(alloc, script, before.as_str(), "", SYNTAX)?;
+    Ok(closed && open)
+}
+
 /// Reads values within values. What is no deeper than sixty is read, and is of a wrong type; what is a hundred deep is refused.
 fn check_nesting<R: AllocGlobal + Print>(rt: &R) -> io::Result<()> {
-    let alloc = rt.alloc();
     let mut tally = Tally::default();
-    let depths = [(1, SHAPE), (60, SHAPE), (100, SYNTAX), (10_000, SYNTAX)];
-    for (depth, wanted) in depths {
-        for (opening, closing) in [("[", "]"), ("{a = ", "}")] {
-            let before = opening.repeat(alloc, depth)?;
-            let behind = closing.repeat(alloc, depth)?;
-            let value = format!(in alloc; "{before}1{behind}")?;
-            let script = "licences = 1\nport = [{}]\nmask = ";
-            let right = has_fault(alloc, script, value.as_str(), "", wanted)?;
-            tally.count("closed", depth, right);
-            let right = has_fault(alloc, script, before.as_str(), "", SYNTAX)?;
-            tally.count("open", depth, right);
-        }
+    for (depth, wanted) in [(1, SHAPE), (60, SHAPE), (100, SYNTAX), (10_000, SYNTAX)] {
+        let arrays = is_nested(rt.alloc(), depth, ("[", "]"), wanted)?;
+        tally.count("arrays", depth, arrays);
+        let tables = is_nested(rt.alloc(), depth, ("{a = ", "}"), wanted)?;
+        tally.count("tables", depth, tables);
     }
-    tally.tell(rt, "values within values")
-}
-
-/// Counts each text of a table, between what stands before and behind it.
-fn count_keys(
-    alloc: Global,
-    tally: &mut Tally,
-    name: &'static str,
-    ends: (&str, &str),
-    table: &[(&'static str, Option<ScriptFault>)],
-) -> io::Result<()> {
-    for (place, (keys, wanted)) in table.iter().enumerate() {
-        let right = has_fault(alloc, ends.0, keys, ends.1, *wanted)?;
-        tally.count(name, place, right);
-    }
-    Ok(())
-}
-
-/// Reads tables with a fault, or two, at their keys.
-fn check_keys<R: AllocGlobal + Print>(rt: &R) -> io::Result<()> {
-    let alloc = rt.alloc();
-    let mut tally = Tally::default();
-    count_keys(alloc, &mut tally, "top", ("", ""), &TOP_KEYS)?;
-    let port = ("licences = 1\nport = [{", "}]");
-    count_keys(alloc, &mut tally, "port", port, &PORT_KEYS)?;
-    let event = ("licences = 1\nport = [{}]\nevent = [{", "}]");
-    count_keys(alloc, &mut tally, "event", event, &EVENT_KEYS)?;
-    tally.tell(rt, "keys of tables")
+    tally.tell(rt, "values within values, closed and open")
 }
 
 /// Reads what is no script, or nearly none.
 pub(crate) fn check<R: AllocGlobal + Print>(rt: &R) -> io::Result<()> {
-    check_tables(rt)?;
-    check_serials(rt)?;
+    check_bytes(rt)?;
+    check_tables(rt, "events at two ports", TWO_PORTS)?;
+    check_tables(rt, "texts in place of a serial number", UNITS)?;
     check_digits(rt)?;
     check_nesting(rt)?;
-    check_keys(rt)
+    check_tables(rt, "keys of tables", KEYS)
 }
