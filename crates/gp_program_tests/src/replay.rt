@@ -110,6 +110,99 @@ const ONE_SIMULATED_UNIT_TRACE: &str = "\
 0 13 burst 200000 0001414243440000000100006b = ranged 0 111040
 ";
 
+/// A script in two pieces, how its replay ends, and what is written.
+#[derive(Clone, Copy)]
+struct Row {
+    before: &'static str,
+    script: &'static str,
+    outcome: Result<(), RunFault>,
+    trace: &'static str,
+}
+
+/// A script with a fault, of which nothing is written.
+const FAULTY: Row = Row {
+    before: "licences = 1\n",
+    script: "",
+    outcome: Err(RunFault::Script(ScriptFault::Shape)),
+    trace: "",
+};
+
+const SCRIPTS: &[Row] = &[
+    Row {
+        before: "",
+        script: ONE_UNIT,
+        outcome: Ok(()),
+        trace: ONE_UNIT_TRACE,
+    },
+    // A journal that keeps one entry is cut before each further one.
+    Row {
+        before: "journal_limit = 1",
+        script: ONE_UNIT,
+        outcome: Ok(()),
+        trace: ONE_UNIT_TRACE,
+    },
+    Row {
+        before: "",
+        script: TWO_PORTS,
+        outcome: Ok(()),
+        trace: TWO_PORTS_TRACE,
+    },
+    Row {
+        before: "",
+        script: ONE_SIMULATED_UNIT,
+        outcome: Ok(()),
+        trace: ONE_SIMULATED_UNIT_TRACE,
+    },
+    Row {
+        before: "",
+        ..FAULTY
+    },
+    Row {
+        script: "port = 3",
+        ..FAULTY
+    },
+    Row {
+        before: "licences = \"1\"\n",
+        script: "port = [{},{},{},{},{},{},{},{},{},{},{},{},{},{},{},{},{}]",
+        ..FAULTY
+    },
+    Row {
+        script: "[[port]]\n[[event]]\nport = 0\nat = 0\nsay = \"ack\"\nonu = 0",
+        ..FAULTY
+    },
+    Row {
+        script: "[[port",
+        outcome: Err(RunFault::Script(ScriptFault::Syntax)),
+        ..FAULTY
+    },
+    Row {
+        before: "licences = 4065\n",
+        script: "[[port]]",
+        outcome: Err(RunFault::Script(ScriptFault::Range)),
+        ..FAULTY
+    },
+    Row {
+        script: "port = []",
+        outcome: Err(RunFault::Script(ScriptFault::Range)),
+        ..FAULTY
+    },
+    Row {
+        script: "[[port]]\nadmit = [\"ABCD00000001\", \"ABCD00000001\"]",
+        outcome: Err(RunFault::Script(ScriptFault::Duplicate)),
+        ..FAULTY
+    },
+    Row {
+        script: "[[port]]\nadmit = [\"abCD00000001\"]",
+        outcome: Err(RunFault::Script(ScriptFault::Serial)),
+        ..FAULTY
+    },
+    Row {
+        script: "[[port]]\n[[event]]\nport = 0\nat = 0\nburst = \"0004000000000000000000007\"",
+        outcome: Err(RunFault::Script(ScriptFault::Hex)),
+        ..FAULTY
+    },
+];
+
 /// Fails at each read.
 #[derive(Drop)]
 struct FailingReader;
@@ -123,150 +216,120 @@ impl Read for FailingReader {
 /// Room for each trace of these tests, so that no write takes memory.
 const ROOM: usize = 131_072;
 
-/// How a replay of these bytes ends, and what it writes.
-fn replay(alloc: Global, script: &[u8]) -> Result<(Result<(), RunFault>, Vec<u8>), AllocError> {
-    let mut source = Source::new(script);
+/// How a replay of what is read ends, and what it writes.
+fn replay<R: Read + Drop>(
+    alloc: Global,
+    reader: R,
+) -> Result<(Result<(), RunFault>, Vec<u8>), AllocError> {
+    let mut source = Source::new(reader);
     let mut sink = Sink::new(alloc, Vec::with_capacity(alloc, ROOM)?)?;
     let outcome = run_replay(alloc, &mut source, &mut sink);
     Ok((outcome, sink.into_inner()))
 }
 
+/// Tells whether a replay of what is read ends so, with this trace.
+fn ends_with<R: Read + Drop>(
+    alloc: Global,
+    reader: R,
+    wanted: Result<(), RunFault>,
+    trace: &str,
+) -> Result<bool, AllocError> {
+    let (outcome, written) = replay(alloc, reader)?;
+    Ok(outcome == wanted && written.as_slice() == trace.as_bytes())
+}
+
+#[test]
+fn scripts(rt: HostRuntime) {
+    for row in SCRIPTS {
+        let reader = row.before.as_bytes().chain(row.script.as_bytes());
+        let told = ends_with(rt.alloc(), reader, row.outcome, row.trace);
+        assert!(rt; told == Ok(true), "{}{}", row.before, row.script);
+    }
+}
+
 /// Where an allocation was made to fail it is told, and nothing is written; else each trace is as it should be. What the test
 /// takes for itself may be refused too, and then nothing was replayed.
 #[test]
-fn memory_short_or_ample(rt: HostRuntime) -> Result<(), Fail> {
-    let rows = [
-        (ONE_UNIT, ONE_UNIT_TRACE),
-        (TWO_PORTS, TWO_PORTS_TRACE),
-        (ONE_SIMULATED_UNIT, ONE_SIMULATED_UNIT_TRACE),
-    ];
-    for (script, expected) in rows {
-        let Ok((outcome, trace)) = replay(rt.alloc(), script.as_bytes()) else {
-            return Ok(());
+fn memory_short_or_ample(rt: HostRuntime) {
+    for row in &SCRIPTS[..4] {
+        let reader = row.before.as_bytes().chain(row.script.as_bytes());
+        let Ok((outcome, trace)) = replay(rt.alloc(), reader) else {
+            return;
         };
         if outcome == Err(RunFault::OutOfMemory) {
             assert!(rt; trace.is_empty());
-            return Ok(());
+            return;
         }
-        assert_eq!(rt; outcome, Ok(()));
-        assert_eq!(rt; trace.as_slice(), expected.as_bytes());
+        assert!(rt; outcome == Ok(()));
+        assert!(rt; trace.as_slice() == row.trace.as_bytes());
     }
-    Ok(())
 }
 
 /// With memory enough each of many frames has its line, to the last: also where the port's journal, which
 /// keeps 4,096 entries, is cut on the way.
 #[test]
 fn five_thousand_frames(rt: HostRuntime) -> Result<(), Fail> {
-    let script = b"licences = 0\n[[port]]\n[[event]]\nport = 0\nframes = 5000";
-    let mut expected = String::new(rt.alloc());
+    let script: &[u8] = b"licences = 0\n[[port]]\n[[event]]\nport = 0\nframes = 5000";
+    let mut trace = String::new(rt.alloc());
     for number in 0..5000 {
         let line = format!(in rt.alloc(); "0 {number} frame = ok\n")?;
-        expected.push_str(line.as_str())?;
+        trace.push_str(line.as_str())?;
     }
-    let (outcome, trace) = replay(rt.alloc(), script)?;
-    assert_eq!(rt; outcome, Ok(()));
-    assert_eq!(rt; trace.as_slice(), expected.as_bytes());
+    assert!(rt; ends_with(rt.alloc(), script, Ok(()), trace.as_str())?);
     Ok(())
 }
 
-/// A journal that keeps one entry is cut before each further one.
-#[test]
-fn one_entry_kept(rt: HostRuntime) -> Result<(), Fail> {
-    let script = format!(in rt.alloc(); "journal_limit = 1\n{ONE_UNIT}")?;
-    let (outcome, trace) = replay(rt.alloc(), script.as_bytes())?;
-    assert_eq!(rt; outcome, Ok(()));
-    assert_eq!(rt; trace.as_slice(), ONE_UNIT_TRACE.as_bytes());
-    Ok(())
-}
-
-#[test]
-fn empty_script(rt: HostRuntime) -> Result<(), Fail> {
-    let (outcome, trace) = replay(rt.alloc(), b"")?;
-    assert_eq!(rt; outcome, Err(RunFault::Script(ScriptFault::Shape)));
-    assert!(rt; trace.is_empty());
-    Ok(())
-}
-
-/// A script that comes in two pieces, and a slice that takes as many bytes as it has room for, and then
-/// none: it has the first octets of the trace.
-#[test]
-fn a_writer_that_stops(rt: HostRuntime) -> Result<(), Fail> {
+/// Tells whether a slice with so much room has the first octets of the trace, and how the replay ends.
+fn is_cut_at(alloc: Global, room: usize) -> Result<bool, AllocError> {
     let trace = ONE_UNIT_TRACE.as_bytes();
-    let script = ONE_UNIT.as_bytes();
-    let (prefix, back) = script.split_at(script.len() / 2);
-    for room in 0..=trace.len() {
-        let mut source = Source::new(prefix.chain(back));
-        let mut taken = vec![in rt.alloc(); 0; trace.len()]?;
-        let mut sink = Sink::new(rt.alloc(), &mut taken[..room])?;
-        let outcome = run_replay(rt.alloc(), &mut source, &mut sink);
-        drop(sink);
-        let ends = if room < trace.len() {
-            Err(RunFault::Write)
-        } else {
-            Ok(())
-        };
-        assert_eq!(rt; outcome, ends, "{room}");
-        assert_eq!(rt; &taken[..room], &trace[..room], "{room}");
+    let mut taken = vec![in alloc; 0; room]?;
+    let mut sink = Sink::new(alloc, &mut taken[..])?;
+    let outcome = run_replay(alloc, &mut Source::new(ONE_UNIT.as_bytes()), &mut sink);
+    drop(sink);
+    let wanted = if room < trace.len() {
+        Err(RunFault::Write)
+    } else {
+        Ok(())
+    };
+    Ok(outcome == wanted && trace.starts_with(&taken))
+}
+
+/// A slice takes as many octets as it has room for, and then none.
+#[test]
+fn a_writer_that_stops(rt: HostRuntime) {
+    for room in 0..=ONE_UNIT_TRACE.len() {
+        assert!(rt; is_cut_at(rt.alloc(), room) == Ok(true), "{room}");
     }
-    Ok(())
 }
 
 #[test]
-fn a_second_read_that_fails(rt: HostRuntime) -> Result<(), Fail> {
-    let mut source = Source::new(ONE_UNIT.as_bytes().chain(FailingReader));
-    let mut sink = Sink::new(rt.alloc(), Vec::new(rt.alloc()))?;
-    let outcome = run_replay(rt.alloc(), &mut source, &mut sink);
-    assert_eq!(rt; outcome, Err(RunFault::Read));
-    assert!(rt; sink.into_inner().is_empty());
-    Ok(())
+fn a_second_read_that_fails(rt: HostRuntime) {
+    let reader = ONE_UNIT.as_bytes().chain(FailingReader);
+    assert!(rt; ends_with(rt.alloc(), reader, Err(RunFault::Read), "") == Ok(true));
 }
 
-/// Scripts that are none: each ends with its fault, and nothing is written.
+/// Octets that are no text.
 #[test]
-fn faulty_scripts(rt: HostRuntime) -> Result<(), Fail> {
-    let rows: [(&[u8], ScriptFault); 9] = [
-        (b"\xff", ScriptFault::Syntax),
-        (b"licences = 4065\n[[port]]", ScriptFault::Range),
-        (b"licences = 1\nport = 3", ScriptFault::Shape),
-        (b"licences = 1\nport = []", ScriptFault::Range),
-        (
-            b"licences = \"1\"\nport = [{},{},{},{},{},{},{},{},{},{},{},{},{},{},{},{},{}]",
-            ScriptFault::Shape,
-        ),
-        (
-            b"licences = 1\n[[port]]\nadmit = [\"ABCD00000001\", \"ABCD00000001\"]",
-            ScriptFault::Duplicate,
-        ),
-        (
-            b"licences = 1\n[[port]]\nadmit = [\"abCD00000001\"]",
-            ScriptFault::Serial,
-        ),
-        (
-            b"licences = 1\n[[port]]\n[[event]]\nport = 0\nat = 0\nburst = \"0004000000000000000000007\"",
-            ScriptFault::Hex,
-        ),
-        (
-            b"licences = 1\n[[port]]\n[[event]]\nport = 0\nat = 0\nsay = \"ack\"\nonu = 0",
-            ScriptFault::Shape,
-        ),
-    ];
-    for (text, fault) in rows {
-        let (outcome, trace) = replay(rt.alloc(), text)?;
-        assert_eq!(rt; outcome, Err(RunFault::Script(fault)), "{text:?}");
-        assert!(rt; trace.is_empty());
-    }
-    Ok(())
+fn no_text(rt: HostRuntime) {
+    let reader: &[u8] = b"\xff";
+    let wanted = Err(RunFault::Script(ScriptFault::Syntax));
+    assert!(rt; ends_with(rt.alloc(), reader, wanted, "") == Ok(true));
+}
+
+/// Tells whether a replay of so many spaces ends so.
+fn spaces_end_with(
+    alloc: Global,
+    count: usize,
+    wanted: Result<(), RunFault>,
+) -> Result<bool, AllocError> {
+    let spaces = vec![in alloc; b' '; count]?;
+    ends_with(alloc, spaces.as_slice(), wanted, "")
 }
 
 #[test]
-fn as_long_as_may_be_and_longer(rt: HostRuntime) -> Result<(), Fail> {
-    let mut spaces = vec![in rt.alloc(); b' '; 1_048_576]?;
-    let (outcome, _) = replay(rt.alloc(), spaces.as_slice())?;
-    assert_eq!(rt; outcome, Err(RunFault::Script(ScriptFault::Shape)));
-    spaces.push(b' ')?;
-    let (outcome, trace) = replay(rt.alloc(), spaces.as_slice())?;
-    assert_eq!(rt; outcome, Err(RunFault::TooLong));
-    assert!(rt; trace.is_empty());
-    Ok(())
+fn as_long_as_may_be_and_longer(rt: HostRuntime) {
+    let shape = Err(RunFault::Script(ScriptFault::Shape));
+    assert!(rt; spaces_end_with(rt.alloc(), 1_048_576, shape) == Ok(true));
+    let too_long = Err(RunFault::TooLong);
+    assert!(rt; spaces_end_with(rt.alloc(), 1_048_577, too_long) == Ok(true));
 }

@@ -2,10 +2,10 @@ use gp_decode::LineFault;
 use gp_replay::RunFault;
 use gp_report::{arguments_report, line_report, memory_report, run_report, write_report};
 use gp_script::ScriptFault;
-use std::alloc::AllocError;
+use std::alloc::{AllocError, Global};
 
 /// Each fault of a replay or of a storm, its line on standard error and the exit status.
-const REPORTS: [(RunFault, &'static str, u8); 12] = [
+const REPORTS: &[(RunFault, &'static str, u8)] = &[
     (RunFault::Read, "oltctl: read", 1),
     (RunFault::TooLong, "oltctl: too long", 1),
     (
@@ -45,7 +45,7 @@ const REPORTS: [(RunFault, &'static str, u8); 12] = [
 ];
 
 /// The same of the faults of a code.
-const LINE_REPORTS: [(LineFault, &'static str, u8); 5] = [
+const LINE_REPORTS: &[(LineFault, &'static str, u8)] = &[
     (LineFault::Length, "oltctl: decode length", 1),
     (LineFault::Digit, "oltctl: decode digit", 1),
     (LineFault::Crc, "oltctl: decode crc", 1),
@@ -53,27 +53,39 @@ const LINE_REPORTS: [(LineFault, &'static str, u8); 5] = [
     (LineFault::Write, "oltctl: write", 4),
 ];
 
-/// The line of a replay's fault is the program's name and the fault's text.
+/// Tells whether a fault of a replay is reported so. Its line is the program's name and the fault's text.
+fn is_reported(
+    alloc: Global,
+    fault: &RunFault,
+    line: &str,
+    status: u8,
+) -> Result<bool, AllocError> {
+    let text = format!(in alloc; "oltctl: {fault}")?;
+    let (told, exit) = run_report(fault);
+    Ok(told == line && exit == status && text.as_str() == line)
+}
+
 #[test]
-fn reports_of_replays(rt: HostRuntime) -> Result<(), AllocError> {
+fn reports_of_replays(rt: HostRuntime) {
     for (fault, line, status) in REPORTS {
-        assert_eq!(rt; run_report(&fault), (line, status));
-        let text = format!(in rt.alloc(); "oltctl: {fault}")?;
-        assert_eq!(rt; text.as_str(), line);
+        assert!(rt;
+            is_reported(rt.alloc(), fault, line, *status) == Ok(true),
+            "{fault}"
+        );
     }
-    Ok(())
 }
 
 #[test]
 fn reports_of_codes(rt: HostRuntime) {
     for (fault, line, status) in LINE_REPORTS {
-        assert_eq!(rt; line_report(&fault), (line, status));
+        let (told, exit) = line_report(fault);
+        assert!(rt; told == *line && exit == *status, "{line}");
     }
 }
 
 #[test]
 fn other_reports(rt: HostRuntime) {
-    assert_eq!(rt; memory_report(), ("oltctl: memory", 3));
-    assert_eq!(rt; write_report(), ("oltctl: write", 4));
-    assert_eq!(rt; arguments_report(), ("oltctl: arguments", 2));
+    assert!(rt; memory_report() == ("oltctl: memory", 3));
+    assert!(rt; write_report() == ("oltctl: write", 4));
+    assert!(rt; arguments_report() == ("oltctl: arguments", 2));
 }

@@ -7,7 +7,6 @@ use std::alloc::{AllocError, Global};
 use std::io;
 use std::io::{ErrorKind, Read};
 use std::sync::Wait;
-use std::test::Fail;
 use std::thread::Threads;
 
 /// One unit is found and ranged: a command, three frames' worth of windows and two bursts.
@@ -61,6 +60,75 @@ event = [
 
 const TWO_PORTS_TOTALS: &str = "frames 342\nbursts 3\ncommands 2\nentries 347\nlicences 3\n";
 
+/// A script in two pieces, how its storm ends, and what is written.
+#[derive(Clone, Copy)]
+struct Row {
+    before: &'static str,
+    script: &'static str,
+    outcome: Result<(), RunFault>,
+    totals: &'static str,
+}
+
+/// A script with a fault, of which nothing is written.
+const FAULTY: Row = Row {
+    before: "licences = 1\nport = [{}]\n",
+    script: "",
+    outcome: Err(RunFault::Script(ScriptFault::Shape)),
+    totals: "",
+};
+
+const SCRIPTS: &[Row] = &[
+    Row {
+        before: "",
+        script: ONE_UNIT,
+        outcome: Ok(()),
+        totals: ONE_UNIT_TOTALS,
+    },
+    Row {
+        before: "",
+        script: TWO_PORTS,
+        outcome: Ok(()),
+        totals: TWO_PORTS_TOTALS,
+    },
+    Row {
+        before: "licences = 4064\n",
+        script: "port = [{}, {}, {}, {}, {}, {}, {}, {}, {}, {}, {}, {}, {}, {}, {}, {}]\nevent = [{port = 15, frames = 9}]",
+        outcome: Ok(()),
+        totals: "frames 9\nbursts 0\ncommands 0\nentries 9\nlicences 4064\n",
+    },
+    // A journal that keeps an entry less than the script has is full, and one that keeps as many isn't.
+    Row {
+        before: "journal_limit = 15",
+        script: ONE_UNIT,
+        outcome: Err(RunFault::JournalFull),
+        totals: "",
+    },
+    Row {
+        before: "journal_limit = 16",
+        script: ONE_UNIT,
+        outcome: Ok(()),
+        totals: ONE_UNIT_TOTALS,
+    },
+    // A storm has no units on its fibres, and loses nothing.
+    Row {
+        before: "",
+        ..FAULTY
+    },
+    Row {
+        script: "unit = [{serial = \"ABCD00000001\", delay = 0}]",
+        ..FAULTY
+    },
+    Row {
+        script: "lose = [{copy = 0}]",
+        ..FAULTY
+    },
+    Row {
+        script: "event = [{port = 1, frames = 1}]",
+        outcome: Err(RunFault::Script(ScriptFault::Range)),
+        ..FAULTY
+    },
+];
+
 /// Fails at each read.
 #[derive(Drop)]
 struct FailingReader;
@@ -74,121 +142,90 @@ impl Read for FailingReader {
 /// Room for all that a storm writes, so that no write takes memory.
 const ROOM: usize = 1024;
 
-/// How a storm of these bytes ends, and what it writes.
-fn storm_of<R: Threads + Wait + Sync>(
+/// How a storm of what is read ends, and what it writes.
+fn storm_of<R: Threads + Wait + Sync, S: Read + Drop>(
     rt: &R,
     alloc: Global,
-    script: &[u8],
+    reader: S,
 ) -> Result<(Result<(), RunFault>, Vec<u8>), AllocError> {
-    let mut source = Source::new(script);
+    let mut source = Source::new(reader);
     let mut sink = Sink::new(alloc, Vec::with_capacity(alloc, ROOM)?)?;
     let outcome = run_storm(rt, alloc, &mut source, &mut sink);
     Ok((outcome, sink.into_inner()))
 }
 
+/// Tells whether a storm of what is read ends so, with these totals.
+fn ends_with<R: Threads + Wait + Sync, S: Read + Drop>(
+    rt: &R,
+    alloc: Global,
+    reader: S,
+    wanted: Result<(), RunFault>,
+    totals: &str,
+) -> Result<bool, AllocError> {
+    let (outcome, written) = storm_of(rt, alloc, reader)?;
+    Ok(outcome == wanted && written.as_slice() == totals.as_bytes())
+}
+
 /// With memory enough the totals are those of the script, whatever the schedule.
 #[test]
-fn totals_of_scripts(rt: HostRuntime) -> Result<(), Fail> {
-    let rows = [
-        (ONE_UNIT, ONE_UNIT_TOTALS),
-        (TWO_PORTS, TWO_PORTS_TOTALS),
-        (
-            "licences = 4064\nport = [{}, {}, {}, {}, {}, {}, {}, {}, {}, {}, {}, {}, {}, {}, {}, {}]\nevent = [{port = 15, frames = 9}]",
-            "frames 9\nbursts 0\ncommands 0\nentries 9\nlicences 4064\n",
-        ),
-    ];
-    for (script, totals) in rows {
-        let (outcome, written) = storm_of(&rt, rt.alloc(), script.as_bytes())?;
-        assert_eq!(rt; outcome, Ok(()));
-        assert_eq!(rt; written.as_slice(), totals.as_bytes());
+fn scripts(rt: HostRuntime) {
+    for row in SCRIPTS {
+        let reader = row.before.as_bytes().chain(row.script.as_bytes());
+        let told = ends_with(&rt, rt.alloc(), reader, row.outcome, row.totals);
+        assert!(rt; told == Ok(true), "{}{}", row.before, row.script);
     }
-    Ok(())
 }
 
 /// Where an allocation was made to fail it is told, or that a thread was not started, and nothing is written. What the test takes
 /// for itself may be refused too, and then there was no storm.
 #[test]
-fn memory_short_or_ample(rt: HostRuntime) -> Result<(), Fail> {
+fn memory_short_or_ample(rt: HostRuntime) {
     let Ok((outcome, written)) = storm_of(&rt, rt.alloc(), TWO_PORTS.as_bytes()) else {
-        return Ok(());
+        return;
     };
     if outcome == Err(RunFault::OutOfMemory) || outcome == Err(RunFault::Mismatch) {
         assert!(rt; written.is_empty());
-        return Ok(());
+        return;
     }
-    assert_eq!(rt; outcome, Ok(()));
-    assert_eq!(rt; written.as_slice(), TWO_PORTS_TOTALS.as_bytes());
-    Ok(())
+    assert!(rt; outcome == Ok(()));
+    assert!(rt; written.as_slice() == TWO_PORTS_TOTALS.as_bytes());
 }
 
-/// A journal that keeps an entry less than the script has is full, and one that keeps as many isn't.
 #[test]
-fn full_journals(rt: HostRuntime) -> Result<(), Fail> {
-    let rows = [
-        (15, Err(RunFault::JournalFull), ""),
-        (16, Ok(()), ONE_UNIT_TOTALS),
-    ];
-    for (limit, ends, totals) in rows {
-        let script = format!(in rt.alloc(); "journal_limit = {limit}\n{ONE_UNIT}")?;
-        let (outcome, written) = storm_of(&rt, rt.alloc(), script.as_bytes())?;
-        assert_eq!(rt; outcome, ends, "{limit}");
-        assert_eq!(rt; written.as_slice(), totals.as_bytes(), "{limit}");
-    }
-    Ok(())
+fn a_second_read_that_fails(rt: HostRuntime) {
+    let reader = ONE_UNIT.as_bytes().chain(FailingReader);
+    assert!(rt; ends_with(&rt, rt.alloc(), reader, Err(RunFault::Read), "") == Ok(true));
 }
 
-/// Scripts that are none for a storm: each ends with its fault, and nothing is written.
-#[test]
-fn faulty_scripts(rt: HostRuntime) -> Result<(), Fail> {
-    let rows: [(&str, ScriptFault); 4] = [
-        ("", ScriptFault::Shape),
-        (
-            "licences = 1\nport = [{}]\nunit = [{serial = \"ABCD00000001\", delay = 0}]",
-            ScriptFault::Shape,
-        ),
-        (
-            "licences = 1\nport = [{}]\nlose = [{copy = 0}]",
-            ScriptFault::Shape,
-        ),
-        (
-            "licences = 1\nport = [{}]\nevent = [{port = 1, frames = 1}]",
-            ScriptFault::Range,
-        ),
-    ];
-    for (text, fault) in rows {
-        let (outcome, written) = storm_of(&rt, rt.alloc(), text.as_bytes())?;
-        assert_eq!(rt; outcome, Err(RunFault::Script(fault)), "{text}");
-        assert!(rt; written.is_empty());
-    }
-    Ok(())
-}
-
-/// A read that fails after the script, and a writer with less room than the totals need: it has their first octets.
-#[test]
-fn readers_and_writers_that_fail(rt: HostRuntime) -> Result<(), Fail> {
-    let mut source = Source::new(ONE_UNIT.as_bytes().chain(FailingReader));
-    let mut sink = Sink::new(rt.alloc(), Vec::new(rt.alloc()))?;
-    let outcome = run_storm(&rt, rt.alloc(), &mut source, &mut sink);
-    assert_eq!(rt; outcome, Err(RunFault::Read));
-    assert!(rt; sink.into_inner().is_empty());
+/// Tells whether a slice with less room than the totals need has their first octets.
+fn is_cut_at<R: Threads + Wait + Sync>(
+    rt: &R,
+    alloc: Global,
+    room: usize,
+) -> Result<bool, AllocError> {
     let totals = ONE_UNIT_TOTALS.as_bytes();
-    for room in 0..totals.len() {
-        let mut source = Source::new(ONE_UNIT.as_bytes());
-        let mut taken = vec![in rt.alloc(); 0; totals.len()]?;
-        let mut sink = Sink::new(rt.alloc(), &mut taken[..room])?;
-        let outcome = run_storm(&rt, rt.alloc(), &mut source, &mut sink);
-        drop(sink);
-        assert_eq!(rt; outcome, Err(RunFault::Write), "{room}");
-        assert_eq!(rt; &taken[..room], &totals[..room], "{room}");
-    }
-    Ok(())
+    let mut taken = vec![in alloc; 0; room]?;
+    let mut sink = Sink::new(alloc, &mut taken[..])?;
+    let mut source = Source::new(ONE_UNIT.as_bytes());
+    let outcome = run_storm(rt, alloc, &mut source, &mut sink);
+    drop(sink);
+    Ok(outcome == Err(RunFault::Write) && totals.starts_with(&taken))
 }
 
 #[test]
-fn longer_than_may_be(rt: HostRuntime) -> Result<(), Fail> {
-    let spaces = vec![in rt.alloc(); b' '; 1_048_577]?;
-    let (outcome, written) = storm_of(&rt, rt.alloc(), spaces.as_slice())?;
-    assert_eq!(rt; outcome, Err(RunFault::TooLong));
-    assert!(rt; written.is_empty());
-    Ok(())
+fn a_writer_that_stops(rt: HostRuntime) {
+    for room in 0..ONE_UNIT_TOTALS.len() {
+        assert!(rt; is_cut_at(&rt, rt.alloc(), room) == Ok(true), "{room}");
+    }
+}
+
+/// Tells whether a storm of more spaces than may be ends so, and writes nothing.
+fn is_too_long<R: Threads + Wait + Sync>(rt: &R, alloc: Global) -> Result<bool, AllocError> {
+    let spaces = vec![in alloc; b' '; 1_048_577]?;
+    ends_with(rt, alloc, spaces.as_slice(), Err(RunFault::TooLong), "")
+}
+
+#[test]
+fn longer_than_may_be(rt: HostRuntime) {
+    assert!(rt; is_too_long(&rt, rt.alloc()) == Ok(true));
 }
