@@ -5,7 +5,7 @@ ghost use Rattle.gp_fibre.specs.AskedUnits.{asked_by_of};
 use gp_onu::{State, Unit};
 
 /// Which grants ask a unit, by its state. Frames that don't end the state don't change that.
-#[derive(Clone, Copy, Debug, PartialEq, Eq)]
+#[derive(Clone, Copy, PartialEq, Eq)]
 pub enum AskedBy {
     /// None, in O1, O2 and O7.
     Nothing,

@@ -2,7 +2,7 @@ ghost use Rattle.std.specs.Prelude.{◌≡◌};
 ghost use Rattle.gp_fibre.specs.Schedule.{is_due};
 
 /// A burst on its way to the port.
-#[derive(Clone, Copy, Debug, PartialEq, Eq)]
+#[derive(Clone, Copy)]
 pub struct Flight {
     /// Its number among all bursts of the world.
     pub(super) number: u64,

@@ -7,7 +7,7 @@ use gp_ploam::{Down, Serial};
 use gp_ranging::Grant;
 
 /// What a frame gives. An `Answer` has room for a whole row, which no frame gives, so it is made of this once, at the end.
-#[derive(Clone, Copy, Debug)]
+#[derive(Clone, Copy)]
 pub(super) struct FrameAnswer {
     pub(super) sent: Option<Down>,
     pub(super) grant: Option<Grant>,
@@ -29,14 +29,14 @@ impl FrameAnswer {
 }
 
 /// What a burst gives, which sends and grants nothing; an `Answer` is made of this once, at the end.
-#[derive(Clone, Copy, Debug)]
+#[derive(Clone, Copy)]
 pub(super) struct BurstAnswer {
     pub(super) reply: BurstReply,
     pub(super) alarm: Option<Alarm>,
 }
 
 /// What a port replies to a burst: those of `Reply` that are for bursts.
-#[derive(Clone, Copy, Debug)]
+#[derive(Clone, Copy)]
 pub(super) enum BurstReply {
     Refused(Refusal),
     Found(u8),

@@ -6,7 +6,7 @@ ghost use Rattle.std.specs.Option.{ForSome};
 ghost use Rattle.gp_timers.specs.Tournament.{IsRewritten, IsTournament, earlier_of, is_earlier, timer_at};
 
 /// A timer that is set.
-#[derive(Clone, Copy, Debug, PartialEq, Eq)]
+#[derive(Clone, Copy, PartialEq, Eq)]
 pub struct Timer {
     pub frame: u64,
     pub name: u16,

@@ -9,7 +9,7 @@ use std::collections::VecDeque;
 use std::marker::Model;
 
 /// A message with the copies of it that are still to be sent, 1 to 3, as plain data.
-#[derive(Clone, Copy, Debug)]
+#[derive(Clone, Copy)]
 struct VolleyImage {
     message: Down,
     left: u8,
