@@ -93,6 +93,8 @@ impl<L: Ledger> Fibre<L> {
     }
 
     /// Gives the port an event. A burst takes a licence first, where one is free, and what is left is free again.
+    // Inlined, so that the entry is made where the caller wants it.
+    #[inline(always)]
     pub fn take(&mut self, event: Event) -> Entry
         requires copies { 0 < self.old.copies_room }
         requires grants { 0 < self.old.grants_room }

@@ -75,6 +75,8 @@ impl<L: Ledger> PortCore<L> {
     /// Makes one step of the machine with these licences at hand: a new unit takes one of them, and a unit that is
     /// removed gives its one back. What is left of them is given back. It takes no memory. Which of the free numbers a new
     /// unit or a command gets is not promised. A burst's delay and an equalization delay in the answer are in bit times.
+    // Inlined, so that the answer is copied to where the caller wants it.
+    #[inline(always)]
     pub fn step(&mut self, purse: Licences<L>, event: Event) -> (Answer, Licences<L>)
         ensures step { Step purse self.old event (step_result_of result self.new) }
         ensures sound { IsSound self.new }
