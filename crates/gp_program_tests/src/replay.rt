@@ -154,10 +154,6 @@ const SCRIPTS: &[Row] = &[
         trace: ONE_SIMULATED_UNIT_TRACE,
     },
     Row {
-        before: "",
-        ..FAULTY
-    },
-    Row {
         script: "port = 3",
         ..FAULTY
     },
@@ -306,6 +302,13 @@ fn a_writer_that_stops(rt: HostRuntime) {
 fn a_second_read_that_fails(rt: HostRuntime) {
     let reader = ONE_UNIT.as_bytes().chain(FailingReader);
     assert!(rt; ends_with(rt.alloc(), reader, Err(RunFault::Read), "") == Ok(true));
+}
+
+#[test]
+fn empty_script(rt: HostRuntime) {
+    let reader: &[u8] = b"";
+    let wanted = Err(RunFault::Script(ScriptFault::Shape));
+    assert!(rt; ends_with(rt.alloc(), reader, wanted, "") == Ok(true));
 }
 
 /// Octets that are no text.

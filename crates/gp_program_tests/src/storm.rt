@@ -168,7 +168,7 @@ fn ends_with<R: Threads + Wait + Sync, S: Read + Drop>(
 
 /// With memory enough the totals are those of the script, whatever the schedule.
 #[test]
-fn scripts(rt: HostRuntime) {
+fn storm_totals(rt: HostRuntime) {
     for row in SCRIPTS {
         let reader = row.before.as_bytes().chain(row.script.as_bytes());
         let told = ends_with(&rt, rt.alloc(), reader, row.outcome, row.totals);
