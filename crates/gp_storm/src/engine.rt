@@ -4,7 +4,7 @@ ghost use Rattle.gp_machine.specs.Config.{max_ports};
 ghost use Rattle.gp_chassis.specs.Limits.{IsWithin};
 ghost use Rattle.gp_workers.specs.Closing.{Ending};
 
-use super::fault::StormFault;
+use super::fault::{PlanFault, StormFault, storm_fault};
 use super::plan::Plan;
 use super::slot::{slots_for, workers_of};
 use super::threads::{rings, run};
@@ -29,7 +29,8 @@ pub fn storm<L: Ledger + Send + Sync, R: Threads + Wait + Sync>(
 ) -> Result<Closed, StormFault>
     requires name { blank.name ≡ L.name }
     requires parts { (blank.parts ≡ L.parts) × (L.parts ≡ MAX_LICENCES) }
-    ensures limit { (IsWithin config.now → ⊥) → result ≡ Err StormFault.Limit }
+    ensures limit { IsWithin config.now → result ≡ Err StormFault.Limit → ⊥ }
+    ensures outside { (IsWithin config.now → ⊥) → result ≡ Err StormFault.Limit }
     ensures licences { IfOk result (λ closed. closed.licences ≡ config.now.licences) }
     ensures ending { IfOk result (λ closed. Ending config.now.ports.items closed.journals.items closed.totals) }
 {
@@ -43,7 +44,7 @@ pub fn storm<L: Ledger + Send + Sync, R: Threads + Wait + Sync>(
         Ok(workers) => workers,
         Err(fault) => {
             chassis.discard(rt);
-            return Err(fault);
+            return Err(storm_fault(fault));
         }
     };
     match chassis.close(alloc, workers) {
@@ -59,14 +60,14 @@ fn work<L: Ledger + Send + Sync, R: Threads + Wait + Sync>(
     chassis: &Chassis<NoGate, L>,
     ports: usize,
     plan: &Plan,
-) -> Result<Vec<Worker<L>>, StormFault>
+) -> Result<Vec<Worker<L>>, PlanFault>
     requires { ports ≤ max_ports }
 {
     let Ok(rings) = rings(alloc, ports) else {
-        return Err(StormFault::OutOfMemory);
+        return Err(PlanFault::OutOfMemory);
     };
     let Ok(workers) = Vec::with_capacity(alloc, ports + 2) else {
-        return Err(StormFault::OutOfMemory);
+        return Err(PlanFault::OutOfMemory);
     };
     let slots = match slots_for(rt, alloc, chassis, ports + 2) {
         Ok(slots) => slots,

@@ -1,3 +1,5 @@
+ghost use Rattle.std.specs.Prelude.{◌≡◌};
+
 use gp_chassis::ApplyFault;
 use gp_replay::RunFault;
 use thiserror::Error;
@@ -23,12 +25,35 @@ pub enum StormFault {
     Mismatch,
 }
 
-/// The same fault, told by a storm.
-pub(crate) fn storm_fault(fault: ApplyFault) -> StormFault {
+/// Why the threads of a storm did not serve all of its plan.
+#[derive(Clone, Copy)]
+pub(crate) enum PlanFault {
+    NoPort,
+    JournalFull,
+    OutOfMemory,
+    /// A thread was not started, or has no worker.
+    Mismatch,
+}
+
+impl From<ApplyFault> for PlanFault {
+    fn from(fault: ApplyFault) -> PlanFault {
+        match fault {
+            ApplyFault::NoPort => PlanFault::NoPort,
+            ApplyFault::OutOfMemory => PlanFault::OutOfMemory,
+            ApplyFault::JournalFull => PlanFault::JournalFull,
+        }
+    }
+}
+
+/// The same fault, told by a storm: its configuration was within the limits.
+pub(crate) fn storm_fault(fault: PlanFault) -> StormFault
+    ensures { result ≡ StormFault.Limit → ⊥ }
+{
     match fault {
-        ApplyFault::NoPort => StormFault::NoPort,
-        ApplyFault::OutOfMemory => StormFault::OutOfMemory,
-        ApplyFault::JournalFull => StormFault::JournalFull,
+        PlanFault::NoPort => StormFault::NoPort,
+        PlanFault::JournalFull => StormFault::JournalFull,
+        PlanFault::OutOfMemory => StormFault::OutOfMemory,
+        PlanFault::Mismatch => StormFault::Mismatch,
     }
 }
 

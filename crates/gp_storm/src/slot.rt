@@ -1,6 +1,6 @@
 ghost use Rattle.std.specs.Prelude.{◌≡◌, ◌+◌, ◌≤◌, IfOk, vec_len, vec_capacity};
 
-use super::fault::StormFault;
+use super::fault::PlanFault;
 use gp_workers::{Chassis, NoGate, Worker};
 use std::alloc::Global;
 use std::mem;
@@ -41,17 +41,17 @@ pub(crate) fn slots_for<L: Ledger, R: Wait>(
     alloc: Global,
     chassis: &Chassis<NoGate, L>,
     count: usize,
-) -> Result<Vec<Slot<L>>, StormFault>
+) -> Result<Vec<Slot<L>>, PlanFault>
     ensures { IfOk result (λ slots. vec_len slots ≡ count) }
 {
     let Ok(slots) = Vec::with_capacity(alloc, count) else {
-        return Err(StormFault::OutOfMemory);
+        return Err(PlanFault::OutOfMemory);
     };
     let mut slots = slots;
     for _ in 0..count {
         let Ok(worker) = chassis.worker(rt, alloc) else {
             end_slots(slots);
-            return Err(StormFault::Mismatch);
+            return Err(PlanFault::Mismatch);
         };
         slots.push_reserved(Slot::new(worker));
     }

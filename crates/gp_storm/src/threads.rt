@@ -1,6 +1,6 @@
 ghost use Rattle.std.specs.Prelude.{◌≡◌, IfErr, OnOk, Err};
 
-use super::fault::{StormFault, storm_fault};
+use super::fault::PlanFault;
 use super::feeder::feed;
 use super::plan::Plan;
 use super::slot::Slot;
@@ -35,10 +35,10 @@ pub(crate) fn rings(alloc: Global, count: usize) -> Result<Vec<Ring>, AllocError
 }
 
 /// What the answer of a loop means for the storm.
-fn told(answer: Result<u64, ApplyFault>) -> Result<(), StormFault> {
+fn told(answer: Result<u64, ApplyFault>) -> Result<(), PlanFault> {
     match answer {
         Ok(_) => Ok(()),
-        Err(fault) => Err(storm_fault(fault)),
+        Err(fault) => Err(PlanFault::from(fault)),
     }
 }
 
@@ -49,9 +49,9 @@ fn read<L: Ledger, R: Wait>(
     slot: &Slot<L>,
     port: u8,
     consumer: Consumer<RingItem>,
-) -> Result<(), StormFault> {
+) -> Result<(), PlanFault> {
     let Some(worker) = slot.take(rt) else {
-        return Err(StormFault::Mismatch);
+        return Err(PlanFault::Mismatch);
     };
     let mut worker = worker;
     let answer = reader_loop(rt, chassis, &mut worker, port, consumer);
@@ -65,9 +65,9 @@ fn tick<L: Ledger, R: Wait>(
     chassis: &Chassis<NoGate, L>,
     slot: &Slot<L>,
     pairs: &[(u8, u32)],
-) -> Result<(), StormFault> {
+) -> Result<(), PlanFault> {
     let Some(worker) = slot.take(rt) else {
-        return Err(StormFault::Mismatch);
+        return Err(PlanFault::Mismatch);
     };
     let mut worker = worker;
     let answer = clock_loop(rt, chassis, &mut worker, pairs);
@@ -81,9 +81,9 @@ fn operate<L: Ledger, R: Wait>(
     chassis: &Chassis<NoGate, L>,
     slot: &Slot<L>,
     commands: &[(u8, Command)],
-) -> Result<(), StormFault> {
+) -> Result<(), PlanFault> {
     let Some(worker) = slot.take(rt) else {
-        return Err(StormFault::Mismatch);
+        return Err(PlanFault::Mismatch);
     };
     let mut worker = worker;
     let answer = operator_loop(rt, chassis, &mut worker, commands);
@@ -94,8 +94,8 @@ fn operate<L: Ledger, R: Wait>(
 /// Waits for the readers, and gives the first fault by port.
 fn joined<R: Threads>(
     rt: &R,
-    readers: Vec<JoinHandle<Result<(), StormFault>>>,
-) -> Result<(), StormFault> {
+    readers: Vec<JoinHandle<Result<(), PlanFault>>>,
+) -> Result<(), PlanFault> {
     let mut first = Ok(());
     for reader in readers {
         let answer = reader.join(rt);
@@ -108,10 +108,10 @@ fn joined<R: Threads>(
 
 /// Gives the operator's fault, else the readers', else the clock's.
 fn first_fault(
-    operator: Result<(), StormFault>,
-    readers: Result<(), StormFault>,
-    clock: Result<(), StormFault>,
-) -> Result<(), StormFault>
+    operator: Result<(), PlanFault>,
+    readers: Result<(), PlanFault>,
+    clock: Result<(), PlanFault>,
+) -> Result<(), PlanFault>
     ensures operator { IfErr operator (λ fault. result ≡ Err fault) }
     ensures readers { OnOk operator (IfErr readers (λ fault. result ≡ Err fault)) }
     ensures clock { OnOk operator (OnOk readers (result ≡ clock)) }
@@ -134,23 +134,23 @@ pub(crate) fn run<L: Ledger + Send + Sync, R: Threads + Wait + Sync>(
     readers: &[Slot<L>],
     clock: &Slot<L>,
     operator: &Slot<L>,
-) -> Result<(), StormFault> {
+) -> Result<(), PlanFault> {
     thread::scope(
         thread::scope_env(),
         rt,
-        move |scope| -> Result<(), StormFault> {
+        move |scope| -> Result<(), PlanFault> {
             let mut rings = rings;
             let mut started = Vec::new(alloc);
             for port in 0..readers.len() {
                 let slot = &readers[port];
                 let Ok(number) = u8::try_from(port) else {
-                    return Err(StormFault::Mismatch);
+                    return Err(PlanFault::Mismatch);
                 };
                 let Some(Ring { producer, consumer }) = rings.pop() else {
-                    return Err(StormFault::Mismatch);
+                    return Err(PlanFault::Mismatch);
                 };
                 let Some(bursts) = plan.bursts.get(port) else {
-                    return Err(StormFault::Mismatch);
+                    return Err(PlanFault::Mismatch);
                 };
                 let mut producer = producer;
                 let bursts = bursts.as_slice();
@@ -158,19 +158,19 @@ pub(crate) fn run<L: Ledger + Send + Sync, R: Threads + Wait + Sync>(
                     .spawn(move || feed(rt, &mut producer, bursts))
                     .is_err()
                 {
-                    return Err(StormFault::Mismatch);
+                    return Err(PlanFault::Mismatch);
                 }
                 let Ok(reader) = scope.spawn(move || read(rt, chassis, slot, number, consumer))
                 else {
-                    return Err(StormFault::Mismatch);
+                    return Err(PlanFault::Mismatch);
                 };
                 if started.push(reader).is_err() {
-                    return Err(StormFault::OutOfMemory);
+                    return Err(PlanFault::OutOfMemory);
                 }
             }
             let pairs = plan.frames.as_slice();
             let Ok(ticking) = scope.spawn(move || tick(rt, chassis, clock, pairs)) else {
-                return Err(StormFault::Mismatch);
+                return Err(PlanFault::Mismatch);
             };
             let commands = plan.commands.as_slice();
             let asked = operate(rt, chassis, operator, commands);
