@@ -66,9 +66,9 @@ pub LeadsTo-stops : (first mid last : PortState) (entries : List Entry) (i : ℕ
     → ((after : PortState) → IsStep mid entry after → ⊥) → Run first entries last → ⊥
 LeadsTo-stops first mid last entries i entry l is h refuted run =
     let whole : Run first (take (i + 1) entries ++ drop (i + 1) entries) last = subst (λ (w : List Entry). Run first w last) (sym (take-append-drop (i + 1) entries)) run in
-    let front = Run-split first last (take (i + 1) entries) (drop (i + 1) entries) whole in
-    let more : Run first (take i entries ++ entry ∷ []) front.0 = subst (λ (w : List Entry). Run first w front.0) (take_entry entries i entry l is) front.1 in
-    let parts = Run-split first front.0 (take i entries) (entry ∷ []) more in
+    let prefix = Run-split first last (take (i + 1) entries) (drop (i + 1) entries) whole in
+    let more : Run first (take i entries ++ entry ∷ []) prefix.0 = subst (λ (w : List Entry). Run first w prefix.0) (take_entry entries i entry l is) prefix.1 in
+    let parts = Run-split first prefix.0 (take i entries) (entry ∷ []) more in
     refuted parts.2.0 (subst (λ (port : PortState). IsStep port entry parts.2.0) (h.alone parts.0 parts.1) parts.2.1)
 
 -- no more licences than a book can have are those of one entry more

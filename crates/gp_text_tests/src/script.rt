@@ -356,7 +356,7 @@ fn ports(rt: HostRuntime) -> Result<(), ScriptError> {
     Ok(())
 }
 
-/// The fault of a script, if it has one. Want of memory ends the test.
+/// The fault of a script, if it has one. Running out of memory ends the test.
 fn fault_of(
     alloc: Global,
     is_storm: bool,

@@ -104,7 +104,7 @@ fn clock_operator_and_reader(rt: HostRuntime) {
     );
 }
 
-/// Whether a loop told what it has to, or ended early for want of memory.
+/// Whether a loop told what it has to, or ended early since memory ran out.
 fn is_told(told: &Told, whole: &Told) -> bool {
     *told == *whole || (told.0 == Err(ApplyFault::OutOfMemory) && told.1 < whole.1)
 }
