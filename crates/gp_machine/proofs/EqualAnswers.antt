@@ -3,11 +3,12 @@ use Rattle.std.proofs.Common.{◌≡◌, ℕ, zero, suc, ◌-◌, length, Bool, 
 use Rattle.std.specs.Option.{option_eq}
 use Rattle.std.specs.FinMap.{FinMap, entries, same_entries_map}
 use Rattle.std.specs.Ordering.{nat_cmp}
-use Rattle.std.specs.Cmp.Lexicographic.{pointwise, pointwise_decides}
+use Rattle.std.specs.Cmp.Lexicographic.{pointwise_decides}
 use Rattle.std.specs.contracts.prelude.BoolPartialEq.TheImpl as bool
 use Rattle.std.proofs.lemmas.Bool.{false≢true, eqb-true}
 use Rattle.gp_pools.specs.Slots.{filled, slots_of}
 use Rattle.gp_pools.specs.contracts.allocs.AllocsPartialEq.TheImpl as allocs
+use Rattle.gp_pools.specs.contracts.place.PlacePartialEq.TheImpl as place
 use Rattle.gp_unit.specs.declared.row.Row.{Row}
 use Rattle.gp_unit.specs.declared.row.Phase.{Phase}
 use Rattle.gp_unit.specs.declared.row.Phase.TheVariants.{Ranging, Operating}
@@ -19,7 +20,6 @@ use Rattle.gp_machine.specs.declared.refusal.Refusal.TheVariants as refused
 use Rattle.gp_machine.specs.contracts.refusal.RefusalPartialEq.TheImpl as refusal
 use Rattle.gp_machine.specs.declared.reply.Reply.{Reply}
 use Rattle.gp_machine.specs.declared.reply.Reply.TheVariants as reply
-use Rattle.gp_machine.specs.contracts.reply.ReplyPartialEq.TheImpl as replies
 use Rattle.gp_machine.specs.ComparingAnswers.{ComparesReplies, ComparesRows}
 
 -- the test tells whether the fact holds
@@ -70,17 +70,31 @@ with_nothing (e ∷ es) = ap (λ (xs : List (ℕ × Bool)). e ∷ xs) (with_noth
 filled_slots : (es : List (ℕ × Bool)) → filled (slots_of es) ≡ es
 filled_slots es = all_filled es (replicate (8 - length es) None) ∙ ap (λ (xs : List (ℕ × Bool)). es ++ xs) (nothing (8 - length es)) ∙ with_nothing es
 
-same_pair : (x y : ℕ × Bool) → Tells (eqb x.0 y.0 && (bool.ghosts).eq x.1 y.1) (x ≡ y)
-same_pair x y =
-    conv (eqb x.0 y.0 && (bool.ghosts).eq x.1 y.1) ((x.0 ≡ y.0) × (x.1 ≡ y.1)) (x ≡ y) (λ p. λ i. (p.0 i, p.1 i)) (λ e. (ap (λ (z : ℕ × Bool). z.0) e, ap (λ (z : ℕ × Bool). z.1) e))
-    (both (eqb x.0 y.0) ((bool.ghosts).eq x.1 y.1) (x.0 ≡ y.0) (x.1 ≡ y.1) (numbers x.0 y.0) (bools x.1 y.1))
+abbrev alloc_of : Option (ℕ × Bool) → ℕ
+alloc_of None = 0
+alloc_of (Some e) = e.0
+
+abbrev leaves : Option (ℕ × Bool) → Bool
+leaves None = false
+leaves (Some e) = e.1
+
+same_place : (a b : Option (ℕ × Bool)) → Tells ((place.ghosts).eq a b) (a ≡ b)
+same_place None None = (λ h. refl, λ e. refl)
+same_place None (Some (n, false)) = (λ h. absurd (false≢true h), λ e. cc)
+same_place None (Some (n, true)) = (λ h. absurd (false≢true h), λ e. cc)
+same_place (Some (m, false)) None = (λ h. absurd (false≢true h), λ e. cc)
+same_place (Some (m, true)) None = (λ h. absurd (false≢true h), λ e. cc)
+same_place (Some (m, false)) (Some (n, false)) = conv (eqb m n) (m ≡ n) (Some (m, false) ≡ Some (n, false)) (λ e. ap (λ (k : ℕ). Some (k, false)) e) (λ e. ap alloc_of e) (numbers m n)
+same_place (Some (m, true)) (Some (n, true)) = conv (eqb m n) (m ≡ n) (Some (m, true) ≡ Some (n, true)) (λ e. ap (λ (k : ℕ). Some (k, true)) e) (λ e. ap alloc_of e) (numbers m n)
+same_place (Some (m, false)) (Some (n, true)) = (λ h. absurd (false≢true h), λ e. absurd (false≢true (ap leaves e)))
+same_place (Some (m, true)) (Some (n, false)) = (λ h. absurd (false≢true h), λ e. absurd (false≢true (sym (ap leaves e))))
 
 same_allocs : (a b : FinMap nat_cmp Bool) → Tells ((allocs.ghosts).eq a b) (a ≡ b)
 same_allocs a b =
     conv ((allocs.ghosts).eq a b) (slots_of (entries a) ≡ slots_of (entries b)) (a ≡ b)
     (λ e. same_entries_map a b (sym (filled_slots (entries a)) ∙ ap (λ (xs : List (Option (ℕ × Bool))). filled xs) e ∙ filled_slots (entries b)))
     (λ e. ap (λ (m : FinMap nat_cmp Bool). slots_of (entries m)) e)
-    (pointwise_decides (options (λ x y. eqb x.0 y.0 && (bool.ghosts).eq x.1 y.1) same_pair) (slots_of (entries a)) (slots_of (entries b)))
+    (pointwise_decides same_place (slots_of (entries a)) (slots_of (entries b)))
 
 -- ---- rows
 

@@ -1,6 +1,6 @@
 -- Eight places with Alloc-IDs in rising order: what a search finds, and what an edit leaves.
 use Rattle.std.proofs.Common.{◌≡◌, ℕ, zero, suc, ◌+◌, ◌-◌, ◌<◌, ◌≤◌, false, List, [], ◌∷◌, ◌++◌, length, map, replicate, inl, inr, take, drop, set, Option, None, Some, is_some, refl, sym, ap, subst, ◌∙◌, get_or, arith, append_assoc}
-use Rattle.std.proofs.lemmas.List.{map-append, length-map, length-replicate, length-append, get_or_append_left, get_or-append_right, take-append-le, drop-append-le, take-map, drop-map, take_at, drop_at, take_all, drop_all, set_at, length-take-le, length-drop, length_push, append-nil, replicate_more, take-append-drop, drop_more, take_more, get_or_at}
+use Rattle.std.proofs.lemmas.List.{map-append, length-map, length-replicate, length-append, get_or_append_left, get_or-append_right, take-append-le, drop-append-le, take-map, drop-map, take_at, drop_at, take_all, drop_all, set_at, length-take-le, length-drop, length_push, append-nil, replicate_more, take-append-drop, drop_more, take_more, get_or_at, get_or_default}
 use Rattle.std.proofs.lemmas.Bool.{cases_lt, cases_eq, false≢true}
 use Rattle.std.proofs.lemmas.List.Edits.{insert-append_left, length-insert, remove-append_left, length-remove}
 use Rattle.std.proofs.lemmas.Slice.{put_mid-rotated}
@@ -69,6 +69,10 @@ module _ (slots : Slots) (h : AreSlots slots) where
     | inl low ↦ absurd (none_some (get_or (filled slots) i nowhere) (sym is ∙ slot_filled i low))
     | inr high ↦ high
   ]
+
+-- what a read gave that names another default
+pub read_at : (slots : Slots) → AreSlots slots → (i : ℕ) (d r : Option Entry) → i < 8 → r ≡ get_or slots i d → get_or slots i None ≡ r
+read_at slots h i d r within is = let size = eight slots h in get_or_default slots i None d (omega arith) ∙ sym is
 
 pub empty_at : (slots : Slots) → AreSlots slots → (i : ℕ) → is_some (get_or slots i None) ≡ false → length (filled slots) ≤ i
 empty_at slots h i is = nothing_at slots h i (by_value (get_or slots i None) is)
@@ -163,10 +167,10 @@ module _ (slots : Slots) (h : AreSlots slots) (i : ℕ) where
       ∙ sym (append_assoc (map Some es) (replicate (7 - length es) nothing) (None ∷ []))
 
   -- an Alloc-ID put in at place i
-  pub slots_with : (e : Entry) (ys : Slots) → i ≤ length (filled slots) → length (filled slots) < 8
+  with_eight : (e : Entry) (ys : Slots) → i ≤ length (filled slots) → length (filled slots) < 8
       → ys ≡ drop (length (mid_of i (8 - i) slots) - 1) (mid_of i (8 - i) slots) ++ take (length (mid_of i (8 - i) slots) - 1) (mid_of i (8 - i) slots)
       → set (put_mid i (8 - i) slots ys) i (Some e) ≡ slots_of (insert (filled slots) i e)
-  slots_with e ys within few is =
+  with_eight e ys within few is =
       let es = filled slots in
       let empty : Slots = replicate (7 - length es) None in
       let ws : Slots = map Some es ++ empty in
@@ -181,10 +185,17 @@ module _ (slots : Slots) (h : AreSlots slots) (i : ℕ) where
       ∙ ap (λ (xs : Slots). xs ++ empty) (map-insert es i e)
       ∙ ap (λ (k : ℕ). map Some (insert es i e) ++ replicate k nothing) less
 
+  pub slots_with : (e : Entry) (ys : Slots) → i ≤ length (filled slots) → length (filled slots) < 8
+      → ys ≡ drop (length (mid_of i (length slots - i) slots) - 1) (mid_of i (length slots - i) slots) ++ take (length (mid_of i (length slots - i) slots) - 1) (mid_of i (length slots - i) slots)
+      → set (put_mid i (length slots - i) slots ys) i (Some e) ≡ slots_of (insert (filled slots) i e)
+  slots_with e ys within few =
+      subst (λ (n : ℕ). ys ≡ drop (length (mid_of i (n - i) slots) - 1) (mid_of i (n - i) slots) ++ take (length (mid_of i (n - i) slots) - 1) (mid_of i (n - i) slots)
+      → set (put_mid i (n - i) slots ys) i (Some e) ≡ slots_of (insert (filled slots) i e)) (sym (eight slots h)) (with_eight e ys within few)
+
   -- the Alloc-ID at place i taken out
-  pub slots_without : (ys : Slots) → i < length (filled slots) → ys ≡ drop 1 (mid_of i (8 - i) slots) ++ take 1 (mid_of i (8 - i) slots)
+  without_eight : (ys : Slots) → i < length (filled slots) → ys ≡ drop 1 (mid_of i (8 - i) slots) ++ take 1 (mid_of i (8 - i) slots)
       → set (put_mid i (8 - i) slots ys) 7 None ≡ slots_of (remove (filled slots) i)
-  slots_without ys within is =
+  without_eight ys within is =
       let es = filled slots in
       let empty : Slots = replicate (8 - length es) None in
       let left = length-map es Some in
@@ -198,6 +209,11 @@ module _ (slots : Slots) (h : AreSlots slots) (i : ℕ) where
       ∙ append_assoc (map Some (remove es i)) empty (None ∷ [])
       ∙ ap (λ (xs : Slots). map Some (remove es i) ++ xs) (replicate_more (8 - length es) nothing)
       ∙ ap (λ (k : ℕ). map Some (remove es i) ++ replicate k nothing) one
+
+  pub slots_without : (ys : Slots) → i < length (filled slots) → ys ≡ drop 1 (mid_of i (length slots - i) slots) ++ take 1 (mid_of i (length slots - i) slots)
+      → set (put_mid i (length slots - i) slots ys) 7 None ≡ slots_of (remove (filled slots) i)
+  slots_without ys within =
+      subst (λ (n : ℕ). ys ≡ drop 1 (mid_of i (n - i) slots) ++ take 1 (mid_of i (n - i) slots) → set (put_mid i (n - i) slots ys) 7 None ≡ slots_of (remove (filled slots) i)) (sym (eight slots h)) (without_eight ys within)
 
 -- ---- one place after another
 

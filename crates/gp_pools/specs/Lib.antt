@@ -5,3 +5,4 @@ pub mod Onu
 pub mod Pool
 pub mod Slots
 pub mod SameSlots
+pub mod Places

@@ -3,6 +3,7 @@ ghost use Rattle.std.specs.FinMap as map;
 ghost use Rattle.gp_pools.specs.Allocs.{IsGapFor, IsPlaceOf, IsRising};
 ghost use Rattle.gp_pools.specs.Slots.{AreSlots, filled, max_allocs, slots_of};
 
+use super::place::Place;
 use std::marker::Model;
 
 /// The most further Alloc-IDs of one unit (this profile's own rule).
@@ -12,7 +13,7 @@ pub const MAX_ALLOCS: usize = 8;
 /// is leaving: the unit was told to give it back, and has not yet acknowledged that.
 #[derive(Clone, Copy, Debug, PartialEq, Eq)]
 pub struct Allocs {
-    slots: [Option<(u16, bool)>; MAX_ALLOCS],
+    slots: [Place; MAX_ALLOCS],
 }
 
 impl Model for Allocs {
@@ -39,13 +40,13 @@ impl Model for Allocs {
 }
 
 /// Finds the place of the Alloc-ID, or where it would go.
-fn search(slots: &[Option<(u16, bool)>; 8], alloc: u16) -> Result<usize, usize>
+fn search(slots: &[Place; MAX_ALLOCS], alloc: u16) -> Result<usize, usize>
     requires { AreSlots slots.now }
     ensures found { IfOk result (IsPlaceOf (filled slots.now) alloc) }
     ensures absent { IfErr result (IsGapFor (filled slots.now) alloc) }
 {
     for place in 0..MAX_ALLOCS {
-        match slots[place] {
+        match slots[place].get() {
             Some((number, _)) if number < alloc => {}
             Some((number, _)) if number == alloc => return Ok(place),
             _ => return Err(place),
@@ -60,7 +61,7 @@ impl Allocs {
         ensures { result ≡ map.empty }
     {
         Allocs {
-            slots: [None; MAX_ALLOCS],
+            slots: [Place::EMPTY; MAX_ALLOCS],
         }
     }
 
@@ -70,7 +71,7 @@ impl Allocs {
         ensures few { result ≤ max_allocs }
     {
         for place in 0..MAX_ALLOCS {
-            if self.slots[place].is_none() {
+            if self.slots[place].get().is_none() {
                 return place;
             }
         }
@@ -84,7 +85,7 @@ impl Allocs {
         let Ok(place) = search(&self.slots, alloc) else {
             return None;
         };
-        let (_, leaving) = self.slots[place]?;
+        let (_, leaving) = self.slots[place].get()?;
         Some(leaving)
     }
 
@@ -106,8 +107,9 @@ impl Allocs {
         match search(&self.slots, alloc) {
             Ok(_) => unreachable!(),
             Err(place) => {
-                self.slots[place..].rotate_right(1);
-                self.slots[place] = Some((alloc, leaving));
+                let slots = &mut self.slots[..];
+                slots[place..].rotate_right(1);
+                self.slots[place] = Place::with(alloc, leaving);
             }
         }
     }
@@ -118,8 +120,9 @@ impl Allocs {
         ensures few { map.len self.old ≤ max_allocs }
     {
         if let Ok(place) = search(&self.slots, alloc) {
-            self.slots[place..].rotate_left(1);
-            self.slots[MAX_ALLOCS - 1] = None;
+            let slots = &mut self.slots[..];
+            slots[place..].rotate_left(1);
+            self.slots[MAX_ALLOCS - 1] = Place::EMPTY;
         }
     }
 
@@ -129,6 +132,10 @@ impl Allocs {
         ensures entries { filled result ≡ map.entries self.now }
         ensures rising { IsRising (filled result) }
     {
-        self.slots
+        let mut shown = [None; MAX_ALLOCS];
+        for place in 0..MAX_ALLOCS {
+            shown[place] = self.slots[place].get();
+        }
+        shown
     }
 }

@@ -9,6 +9,7 @@
 //! - `cooling.rt`: how long a freed number stays away. A frame in which none leaves looks at none.
 //! - `copies.rt`: a second pool with the same numbers out, for an image of a port.
 //! - `allocs.rt`: the further Alloc-IDs of one unit, plain data in eight places.
+//! - `place.rt`: one of these places, in four octets: rows, answers and entries of journals have eight each.
 //! - `alloc_leases.rt`: the leases of these, one spent value.
 //!
 //! `specs/` has the pools and the places as contracts see them, `proofs/` the lemmas.
@@ -22,6 +23,7 @@ mod copies;
 mod named_leases;
 mod number_pool;
 mod onu_ids;
+mod place;
 
 pub use alloc_ids::{AllocIds, AllocLease, FIRST_ALLOC_ID, LAST_ALLOC_ID};
 pub use alloc_leases::AllocLeases;

@@ -1,4 +1,3 @@
-use Rattle.std.proofs.Common.{◌∙◌}
 use Rattle.gp_pools.proofs.SecondPools.{union_itself}
 use Rattle.gp_pools.proofs.cooling.Cooling.copy.Goals as goal
 

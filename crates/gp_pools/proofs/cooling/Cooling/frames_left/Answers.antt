@@ -1,4 +1,4 @@
-use Rattle.std.proofs.Common.{Bool, true, false, Some, ap, sym, ◌∙◌, arith}
+use Rattle.std.proofs.Common.{true, false, Some, ap, sym, ◌∙◌, arith}
 use Rattle.std.specs.FinSet.{contains}
 use Rattle.gp_pools.proofs.Cool.{left_is}
 use Rattle.gp_pools.proofs.SecondPools.{left_of}

@@ -1,4 +1,3 @@
-use Rattle.std.proofs.Common.{sym, ◌∙◌}
 use Rattle.gp_pools.specs.Onu.{IsFreeOnu, OnuPool}
 use Rattle.gp_pools.proofs.Apart.{apart-lease}
 use Rattle.gp_pools.proofs.onu_ids.OnuIds.lease.Goals as goal
