@@ -3,6 +3,7 @@
 //!
 //! - `units.rt`: what they share: units, what these send, configurations, and replies as tables name them.
 //! - `journal.rt`: histories of a port by hand. `accounts.rt`: receipts and journals that agree, and each way in which they don't.
+//! - `desk.rt`: a port with its journal, until that is full.
 //! - `chassis.rt`: runs of a chassis, as tables of lines, also where memory is refused. `chassis/lines.rt` plays them.
 //! - `workers.rt`: what the tests with threads share; `workers/accounts.rt`, `workers/journals.rt`, `workers/loops.rt` and
 //!   `workers/parallel.rt` are those, and `workers/meeting.rt` has threads meet.
@@ -13,6 +14,8 @@
 mod accounts;
 #[cfg(test)]
 mod chassis;
+#[cfg(test)]
+mod desk;
 #[cfg(test)]
 mod journal;
 #[cfg(test)]
