@@ -3,7 +3,7 @@ ghost use Rattle.std.specs.Prelude.{◌≡◌};
 ghost use Rattle.gp_licence.specs.declared.ledger_parts.TheConstants.{MAX_LICENCES};
 
 use super::meeting::{Meeting, Meets};
-use super::{Line, ONE_UNIT, add, close, play, workers_of};
+use super::{Line, ONE_UNIT, add, close, play, reply, workers_of};
 use crate::units::{A, A_RANGED, A_SEARCHED, B_SEARCHED, NOTHING, SEARCH, Said, chassis_of};
 use gp_alarms::{Alarm, AlarmKind};
 use gp_chassis::{ApplyFault, ChassisConfig};
@@ -60,6 +60,12 @@ const WINDOW: &[Line] = &[
 const FOUND: &[Line] = &[
     (1, 1, 0, A_SEARCHED, Ok(Said::Found(0))),
     (0, 1, 0, B_SEARCHED, Ok(Said::Refused(Refusal::NoLicence))),
+];
+
+/// What A and B are answered, who speak once each, with one licence. Where memory is refused for A's burst, its licence is back for B.
+const HEARD: [[Result<Said, ApplyFault>; 2]; 2] = [
+    [Ok(Said::Found(0)), Ok(Said::Refused(Refusal::NoLicence))],
+    [Err(ApplyFault::OutOfMemory), Ok(Said::Found(0))],
 ];
 
 /// Cuts the journals of a chassis, with a second try where memory may be refused.
@@ -220,6 +226,48 @@ fn cuts_and_bursts_short_of_memory(rt: HostRuntime) {
             ([cut, left], joined)
         ))
     );
+}
+
+/// Has a worker with no receipts hear A and then B on a port with no entries, without a second try, and gives the place of the line
+/// before them that was answered otherwise. There is no answer where the chassis is not opened.
+fn heard_of<L: Ledger, R: Abort + Wait>(
+    rt: &R,
+    alloc: Global,
+    blank: Blank,
+    config: &ChassisConfig,
+) -> Option<(Option<usize>, [Result<Said, ApplyFault>; 2])>
+    requires name { blank.name ≡ L.name }
+    requires parts { (blank.parts ≡ L.parts) × (L.parts ≡ MAX_LICENCES) }
+{
+    let chassis = Chassis::<NoGate, L>::begin(alloc, blank, config, NoGate).ok()?;
+    let mut workers = workers_of(rt, alloc, &chassis, 1);
+    let wrong = play(rt, &chassis, &mut workers, WINDOW, 2);
+    let (chassis, mut workers, _) = cut(rt, alloc, chassis, workers, 2);
+    let worker = workers.first_mut().expect(rt, "a worker");
+    let first = reply(rt, &chassis, worker, 0, A_SEARCHED);
+    let second = reply(rt, &chassis, worker, 0, B_SEARCHED);
+    close(rt, alloc, chassis, workers, 2).expect(rt, "closed");
+    Some((wrong, [first, second]))
+}
+
+/// The same on one port that admits A and B, with one licence and a new ledger.
+fn heard<R: Abort + Wait>(
+    rt: &R,
+    alloc: Global,
+) -> Option<(Option<usize>, [Result<Said, ApplyFault>; 2])> {
+    let config = chassis_of(alloc, 1, 100, 1, &[(1, 2)]).ok()?;
+    heard_of::<Brand, R>(rt, alloc, Blank::new(u64::from(MAX_LICENCES)), &config)
+}
+
+// Passes whichever one request for memory is refused, and with ample memory (`rt try --test --fail-alloc N`).
+#[test]
+fn a_burst_behind_one_short_of_memory(rt: HostRuntime) {
+    let found = match heard(&rt, rt.alloc()) {
+        None => heard(&rt, rt.alloc()),
+        found => found,
+    };
+    let wanted = HEARD.map(|answers| Some((None, answers)));
+    assert!(rt; wanted.contains(&found), "{found:?}");
 }
 
 /// A gets an Alloc-ID, does not acknowledge it in two polls, and commands fill the queue.
