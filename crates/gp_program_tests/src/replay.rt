@@ -3,7 +3,7 @@ use gp_script::ScriptFault;
 use gp_stream::{Sink, Source};
 use std::alloc::{AllocError, Global};
 use std::io;
-use std::io::{ErrorKind, Read};
+use std::io::{ErrorKind, Read, Write};
 use std::test::Fail;
 
 const ONE_UNIT: &str = r#"
@@ -275,11 +275,41 @@ fn five_thousand_frames(rt: HostRuntime) -> Result<(), Fail> {
     Ok(())
 }
 
-/// Tells whether a slice with so much room has the first octets of the trace, and how the replay ends.
-fn is_cut_at(alloc: Global, room: usize) -> Result<bool, AllocError> {
+/// What a writer does that has no room left.
+#[derive(Clone, Copy)]
+enum Full {
+    /// It takes nothing.
+    Stops,
+    /// It fails.
+    Fails,
+}
+
+/// Takes as many octets as a slice has room for.
+#[derive(Drop)]
+struct SliceWriter<'a> {
+    rest: &'a mut [u8],
+    full: Full,
+}
+
+impl Write for SliceWriter<'_> {
+    fn write(&mut self, buffer: &[u8]) -> io::Result<usize> {
+        match self.full {
+            Full::Fails if self.rest.is_empty() => Err(io::Error::from(ErrorKind::Other)),
+            _ => self.rest.write(buffer),
+        }
+    }
+
+    fn flush(&mut self) -> io::Result<()> {
+        Ok(())
+    }
+}
+
+/// Tells whether a writer with so much room gets the first octets of the trace, and how the replay ends.
+fn is_cut_at(alloc: Global, room: usize, full: Full) -> Result<bool, AllocError> {
     let trace = ONE_UNIT_TRACE.as_bytes();
     let mut taken = vec![in alloc; 0; room]?;
-    let mut sink = Sink::new(alloc, &mut taken[..])?;
+    let rest = &mut taken[..];
+    let mut sink = Sink::new(alloc, SliceWriter { rest, full })?;
     let outcome = run_replay(alloc, &mut Source::new(ONE_UNIT.as_bytes()), &mut sink);
     drop(sink);
     let wanted = if room < trace.len() {
@@ -290,11 +320,12 @@ fn is_cut_at(alloc: Global, room: usize) -> Result<bool, AllocError> {
     Ok(outcome == wanted && trace.starts_with(&taken))
 }
 
-/// A slice takes as many octets as it has room for, and then none.
 #[test]
-fn a_writer_that_stops(rt: HostRuntime) {
+fn a_writer_that_stops_or_fails(rt: HostRuntime) {
     for room in 0..=ONE_UNIT_TRACE.len() {
-        assert!(rt; is_cut_at(rt.alloc(), room) == Ok(true), "{room}");
+        for full in [Full::Stops, Full::Fails] {
+            assert!(rt; is_cut_at(rt.alloc(), room, full) == Ok(true), "{room}");
+        }
     }
 }
 
