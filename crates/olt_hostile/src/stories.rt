@@ -302,6 +302,7 @@ pub(crate) const STORIES: &[Story] = &[
             Line::Frames(5, Some(Grant::Search)),
             Line::Refuses(Said::Number(0, A), Refusal::WrongWindow),
             Line::Refuses(Said::Nothing(0), Refusal::WrongWindow),
+            Line::Refuses(Said::Nothing(255), Refusal::WrongWindow),
             Line::Stands(1, 0, 1),
             Line::Says(Said::Number(255, A), Told::Restarted(0)),
             Line::Stands(0, 3, 2),
