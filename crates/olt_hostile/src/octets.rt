@@ -7,12 +7,38 @@ use gp_stream::Sink;
 use std::alloc::Global;
 use std::io;
 
-/// Octets 3 to 12 of a code of zeros. It is a message of no named row, whose check octet is right under the first mask and wrong
-/// under the other.
+/// What both decoders make of octets.
+type Read = (Result<Down, PloamFault>, Result<Up, PloamFault>);
+
+/// Octets 3 to 12 of a code of zeros.
 const BODY: [u8; 10] = [0; 10];
 
-/// Tells whether both decoders and a port's burst read octets as their length says.
-fn are_read(octets: &[u8]) -> bool {
+/// Thirteen zeros are a message of no named row.
+const OTHER: Read = (
+    Ok(Down::Other {
+        id: 0,
+        octet1: 0,
+        body: BODY,
+    }),
+    Ok(Up::Other {
+        id: 0,
+        octet1: 0,
+        body: BODY,
+    }),
+);
+
+const WRONG_LENGTH: Read = (Err(PloamFault::Length), Err(PloamFault::Length));
+
+const WRONG_CRC: Read = (Err(PloamFault::Crc), Err(PloamFault::Crc));
+
+/// An octet that codes are filled with, and what thirteen of them are read as under the first mask and under the other: after twelve
+/// zeros the check octet is 00 or 55, after twelve octets FF it is 71 or 24.
+const FILLED: [(u8, Read, Read); 2] = [(0, OTHER, WRONG_CRC), (255, WRONG_CRC, WRONG_CRC)];
+
+/// Tells whether both decoders and a port's burst read so many octets of a row as their number says.
+fn are_read(row: &(u8, Read, Read), length: usize) -> bool {
+    let octets = [row.0; 64];
+    let octets = &octets[..length];
     let plain = (
         decode_down(octets, Mask::Plain),
         decode_up(octets, Mask::Plain),
@@ -22,27 +48,12 @@ fn are_read(octets: &[u8]) -> bool {
         decode_up(octets, Mask::Coset),
     );
     let burst = burst_of(7, octets);
-    if octets.len() != 13 {
+    if length != 13 {
         let fault = PloamFault::Length;
-        return plain == (Err(fault), Err(fault))
-            && coset == (Err(fault), Err(fault))
-            && burst == Err(fault);
+        return plain == WRONG_LENGTH && coset == WRONG_LENGTH && burst == Err(fault);
     }
-    let down = Down::Other {
-        id: 0,
-        octet1: 0,
-        body: BODY,
-    };
-    let up = Up::Other {
-        id: 0,
-        octet1: 0,
-        body: BODY,
-    };
-    let crc = PloamFault::Crc;
-    let bytes = [0; 13];
-    plain == (Ok(down), Ok(up))
-        && coset == (Err(crc), Err(crc))
-        && burst == Ok(Event::Burst { at: 7, bytes })
+    let bytes = [row.0; 13];
+    plain == row.1 && coset == row.2 && burst == Ok(Event::Burst { at: 7, bytes })
 }
 
 /// Tells whether a text of so many zeros, which may end with another letter, is told as its length says, and nothing is written of
@@ -70,9 +81,10 @@ fn is_told(alloc: Global, length: usize, last: &str, upstream: bool) -> io::Resu
 pub(crate) fn check<R: AllocGlobal + Print>(rt: &R) -> io::Result<()> {
     let mut read = Tally::default();
     let mut told = Tally::default();
-    let octets = [0; 64];
     for length in 0..65usize {
-        read.count("octets", length, are_read(&octets[..length]));
+        for row in &FILLED {
+            read.count("octets", length, are_read(row, length));
+        }
         for upstream in [false, true] {
             told.count("digits", length, is_told(rt.alloc(), length, "", upstream)?);
             told.count(
