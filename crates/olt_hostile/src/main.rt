@@ -2,7 +2,7 @@
 //! that did not. What the bursts of `bursts.rt` were answered with is printed too.
 //!
 //! - `octets.rt`: octets of each length, into whatever reads octets.
-//! - `bursts.rt`: every identifier with every octet 1, in each window of a port; the same through a script in
+//! - `bursts.rt`: every identifier with every octet 1, in each window of a port; the same through scripts in
 //!   `script_bursts.rt`.
 //! - `impersonation.rt`: units that speak for others, and units that have no business on the port, line by line as
 //!   `stories.rt` has them.
