@@ -240,10 +240,10 @@ fn heard_of<L: Ledger, R: Abort + Wait>(
     requires parts { (blank.parts ≡ L.parts) × (L.parts ≡ MAX_LICENCES) }
 {
     let chassis = Chassis::<NoGate, L>::begin(alloc, blank, config, NoGate).ok()?;
-    let mut workers = workers_of(rt, alloc, &chassis, 1);
+    let mut workers = workers_of(rt, alloc, &chassis, 2);
     let wrong = play(rt, &chassis, &mut workers, WINDOW, 2);
     let (chassis, mut workers, _) = cut(rt, alloc, chassis, workers, 2);
-    let worker = workers.first_mut().expect(rt, "a worker");
+    let worker = workers.last_mut().expect(rt, "a worker");
     let first = reply(rt, &chassis, worker, 0, A_SEARCHED);
     let second = reply(rt, &chassis, worker, 0, B_SEARCHED);
     close(rt, alloc, chassis, workers, 2).expect(rt, "closed");
