@@ -12,6 +12,8 @@
 //!
 //! A new case is a line of its table. What a burst or a command has to be answered with is said in docs/MACHINE.md, which fault
 //! a script has in docs/FORMATS.md.
+//!
+//! With the checks of `rt try` it takes some minutes: `rt try --seconds 600`.
 #![tactic(auto)]
 
 ghost use Rattle.std.specs.Prelude.{◌≡◌};
