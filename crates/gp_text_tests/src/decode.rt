@@ -1,7 +1,7 @@
 use gp_decode::{LineFault, decode_line};
 use gp_ploam::Mask;
 use gp_stream::Sink;
-use std::alloc::AllocError;
+use std::alloc::{AllocError, Global};
 
 const DOWN: bool = false;
 
@@ -147,4 +147,36 @@ fn a_writer_that_stops(rt: HostRuntime) -> Result<(), AllocError> {
         assert_eq!(rt; (outcome, &taken[..room]), (wanted, &line[..room]));
     }
     Ok(())
+}
+
+/// Room for each of these lines, so that no write takes memory.
+const ROOM: usize = 64;
+
+/// How a text is decoded, and what is written.
+fn decoded(
+    alloc: Global,
+    text: &str,
+    upstream: bool,
+    mask: Mask,
+) -> Result<(Result<(), LineFault>, Vec<u8>), AllocError> {
+    let mut sink = Sink::new(alloc, Vec::with_capacity(alloc, ROOM)?)?;
+    let outcome = decode_line(alloc, text, upstream, mask, &mut sink);
+    Ok((outcome, sink.into_inner()))
+}
+
+/// Where an allocation was made to fail it is told, and nothing is written; else each line is as it should be. What the test
+/// takes for itself may be refused too, and then nothing was decoded.
+#[test]
+fn memory_short_or_ample(rt: HostRuntime) {
+    for (text, upstream, mask, line) in LINES {
+        let Ok((outcome, written)) = decoded(rt.alloc(), text, upstream, mask) else {
+            return;
+        };
+        if outcome == Err(LineFault::OutOfMemory) {
+            assert!(rt; written.is_empty(), "{text}");
+            return;
+        }
+        assert_eq!(rt; outcome, Ok(()), "{text}");
+        assert!(rt; written.as_slice() == line.as_bytes(), "{text}");
+    }
 }

@@ -3,7 +3,7 @@
 //!
 //! - `stream.rt`: readers and writers that fail, or take an octet a call.
 //! - `script.rt`: scripts that are read; `script/ranges.rt` has the ends of each range, `script/faults.rt` what is refused.
-//! - `decode.rt`, `trace.rt`: lines as they are printed.
+//! - `decode.rt`, `trace.rt`: lines as they are printed; a code is decoded also where memory is refused.
 #![tactic(auto)]
 
 #[cfg(test)]
