@@ -173,7 +173,7 @@ const LIGHT_FAULTS: [(&'static str, Option<ScriptFault>); 9] = [
 ];
 
 /// Scripts with two faults, and the first of them.
-const TWO_FAULTS: [(&'static str, Option<ScriptFault>); 17] = [
+const TWO_FAULTS: [(&'static str, Option<ScriptFault>); 21] = [
     ("licences = \"1\"\n[[port", SYNTAX),
     ("licences = 4065\nport = [{cycle = 1}]", RANGE),
     ("licences = \"1\"\nmask = 1\nport = [{}]", SHAPE),
@@ -193,6 +193,19 @@ const TWO_FAULTS: [(&'static str, Option<ScriptFault>); 17] = [
     (
         "licences = 1\nport = [{overhead = \"0\", admit = [\"A\"]}]",
         HEX,
+    ),
+    ("licences = 1\nport = [{cycles = 0}, {cycle = 1}]", RANGE),
+    (
+        "licences = 1\nport = [{overhead = \"0\"}, {cycles = 0}]",
+        HEX,
+    ),
+    (
+        "licences = 1\nport = [{}, {admit = [\"A\"]}, {admit = 0}]",
+        SERIAL,
+    ),
+    (
+        "licences = 1\nport = [{admit = [\"ABCD00000001\"]}, {admit = [\"ABCD00000001\"]}, {overhead = \"0\"}]",
+        DUPLICATE,
     ),
     (
         "licences = 1\nport = [{admit = [\"A\"]}]\n[[event]]",

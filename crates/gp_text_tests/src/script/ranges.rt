@@ -245,7 +245,7 @@ const UNITS: Repeated = Repeated {
 };
 
 /// The greatest counts, and one more than each.
-const COUNTS: [Repeated; 11] = [
+const COUNTS: [Repeated; 14] = [
     ADMITTING,
     Repeated {
         count: 513,
@@ -287,10 +287,28 @@ const COUNTS: [Repeated; 11] = [
         fault: SHAPE,
         ..PORTS
     },
+    // A port table too many is told before a fault of one.
+    Repeated {
+        before: "licences = 1\nport = [{cycle = 1},",
+        groups: 16,
+        ..PORTS
+    },
     UNITS,
     Repeated {
         count: 1025,
         fault: RANGE,
+        ..UNITS
+    },
+    // And so is a unit table too many; as many as there may be come after the ports.
+    Repeated {
+        before: "licences = 1\nport = [{cycle = 1}]\n",
+        count: 1025,
+        fault: RANGE,
+        ..UNITS
+    },
+    Repeated {
+        before: "licences = 1\nport = [{cycle = 1}]\n",
+        fault: SHAPE,
         ..UNITS
     },
 ];
