@@ -87,7 +87,8 @@ const NO_LOSS: Plan = Plan {
     units: [NEAR, NEAR],
 };
 
-pub(super) const LOSSES: [Plan; 2] = [
+/// A number that stands twice in a plan is lost once, and one that never comes changes nothing.
+pub(super) const LOSSES: [Plan; 4] = [
     Plan {
         run: Run::LostCopies,
         cycles: 2,
@@ -95,9 +96,23 @@ pub(super) const LOSSES: [Plan; 2] = [
         ..NO_LOSS
     },
     Plan {
+        run: Run::LostCopies,
+        cycles: 2,
+        copies: &[3, 4, 5, 4, 1_000_000],
+        bursts: &[99],
+        ..NO_LOSS
+    },
+    Plan {
         run: Run::LostBursts,
         cycles: 2,
         bursts: &[0],
+        ..NO_LOSS
+    },
+    Plan {
+        run: Run::LostBursts,
+        cycles: 2,
+        copies: &[1_000_000],
+        bursts: &[0, 99, 0],
         ..NO_LOSS
     },
 ];
