@@ -188,7 +188,7 @@ pub(super) enum Act {
     Run(u32),
 }
 
-pub(super) const SEARCH: Act = Act::Step(WorldStep::Command(Command::Search));
+const SEARCH: Act = Act::Step(WorldStep::Command(Command::Search));
 
 const POPUP: Act = Act::Step(WorldStep::Command(Command::Popup(A)));
 
@@ -208,6 +208,8 @@ const BYTES: Act = Act::Step(WorldStep::Bytes {
     at: 100_000,
     bytes: A_SEARCHED,
 });
+
+const A_FRAME_OF_A_RUN: Act = Act::Run(1);
 
 /// What is done in each run, in this order.
 pub(super) const ACTS: [(Run, Act); 51] = [
@@ -262,6 +264,32 @@ pub(super) const ACTS: [(Run, Act); 51] = [
     (Run::BeyondTheWindow, Act::Run(9)),
     (Run::BurstsOfOneFrame, SEARCH),
     (Run::BurstsOfOneFrame, Act::Run(9)),
+];
+
+/// What is done in a new world, and the last reply. The first step of a world takes memory, be it a frame, a command or a burst;
+/// so do the first grant that is given, and a frame of a run.
+pub(super) const SHORT_OF_MEMORY: [(&'static [Act], Option<Reply>); 5] = [
+    (&[FRAME], Some(Reply::Ticked)),
+    (&[SEARCH], Some(Reply::Searching)),
+    (&[BYTES], Some(Reply::Refused(Refusal::Stray))),
+    (
+        &[
+            SEARCH, FRAME, FRAME, DELIVER, FRAME, FRAME, FRAME, GIVE, ARRIVE,
+        ],
+        Some(Reply::Found(0)),
+    ),
+    (
+        &[
+            SEARCH,
+            A_FRAME_OF_A_RUN,
+            A_FRAME_OF_A_RUN,
+            A_FRAME_OF_A_RUN,
+            A_FRAME_OF_A_RUN,
+            A_FRAME_OF_A_RUN,
+            ARRIVE,
+        ],
+        Some(Reply::Repeat(0)),
+    ),
 ];
 
 /// What an entry has, or that there is none, and this is the number of entries.
