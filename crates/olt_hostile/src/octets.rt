@@ -35,10 +35,8 @@ const WRONG_CRC: Read = (Err(PloamFault::Crc), Err(PloamFault::Crc));
 /// zeros the check octet is 00 or 55, after twelve octets FF it is 71 or 24.
 const FILLED: [(u8, Read, Read); 2] = [(0, OTHER, WRONG_CRC), (255, WRONG_CRC, WRONG_CRC)];
 
-/// Tells whether both decoders and a port's burst read so many octets of a row as their number says.
-fn are_read(row: &(u8, Read, Read), length: usize) -> bool {
-    let octets = [row.0; 64];
-    let octets = &octets[..length];
+/// Tells whether both decoders and a port's burst read octets of a row as their number says.
+fn are_read(row: &(u8, Read, Read), octets: &[u8]) -> bool {
     let plain = (
         decode_down(octets, Mask::Plain),
         decode_up(octets, Mask::Plain),
@@ -48,7 +46,7 @@ fn are_read(row: &(u8, Read, Read), length: usize) -> bool {
         decode_up(octets, Mask::Coset),
     );
     let burst = burst_of(7, octets);
-    if length != 13 {
+    if octets.len() != 13 {
         let fault = PloamFault::Length;
         return plain == WRONG_LENGTH && coset == WRONG_LENGTH && burst == Err(fault);
     }
@@ -83,7 +81,8 @@ pub(crate) fn check<R: AllocGlobal + Print>(rt: &R) -> io::Result<()> {
     let mut told = Tally::default();
     for length in 0..65usize {
         for row in &FILLED {
-            read.count("octets", length, are_read(row, length));
+            let octets = [row.0; 64];
+            read.count("octets", length, are_read(row, &octets[..length]));
         }
         for upstream in [false, true] {
             told.count("digits", length, is_told(rt.alloc(), length, "", upstream)?);
