@@ -79,6 +79,8 @@ impl<L: Ledger> PortDesk<L> {
     /// Makes one step of the port with these licences at hand, and records it. `port` is the number that the receipt has.
     /// What the port leaves of the licences is given back, and all of them where there is a fault: `JournalFull`, else
     /// `OutOfMemory`.
+    // Inlined, so that the receipt is made where the caller wants it.
+    #[inline(always)]
     pub fn serve(
         &mut self,
         port: u8,
