@@ -1,4 +1,5 @@
-use Rattle.std.proofs.Common.{rules, ◌<◌, length}
+use Rattle.std.proofs.Common.{rules, ◌<◌, length, arith}
+use Rattle.std.proofs.lemmas.Grind.{common_steps}
 use Rattle.gp_chassis.specs.Core.{CoreApplies}
 use Rattle.gp_chassis.proofs.Cores.{applied_run, lent_full}
 use Rattle.gp_chassis.proofs.chassis_core.ChassisCore.apply.Goals as goal
@@ -15,3 +16,6 @@ returns-after-count-before-clause-full g c = λ port.
     let full = rw c.lend.ensures at c.in-Err.ensures.full in
     let same = lent_full c.args.event c.args.self.now c.args.port in
     (λ h. same.0 (full.0 h), λ f. full.1 (same.1 f))
+
+pub returns-after-count-before-clause-err : goal.returns-after-count-before-clause-err
+returns-after-count-before-clause-err g c = grind (arith, common_steps)

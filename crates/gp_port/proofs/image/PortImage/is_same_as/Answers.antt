@@ -1,4 +1,4 @@
-use Rattle.std.proofs.Common.{ap}
+use Rattle.std.proofs.Common.{ap, rules}
 use Rattle.gp_machine.specs.State.{PortState}
 use Rattle.gp_port.proofs.SameUnits.{listed, refuse}
 use Rattle.gp_port.proofs.image.PortImage.is_same_as.Goals as goal
@@ -17,3 +17,6 @@ returns-then-not-same_units c =
     rw (← c.self.view_is, ← c.other.view_is)
     (refuse _ c.same_units.result c.if-not-same_units.true
     (λ e. c.same_units.ensures.1 (record { rows = ap (λ (p : PortState). p.rows) e; disabled = ap (λ (p : PortState). p.disabled) e; cooling = ap (λ (p : PortState). p.cooling) e })))
+
+pub returns : goal.returns
+returns c = search rules

@@ -1,4 +1,4 @@
-use Rattle.std.proofs.Common.{sym}
+use Rattle.std.proofs.Common.{sym, rules}
 use Rattle.gp_ranging.specs.declared.grant.Grant.TheVariants.{Range, Poll}
 use Rattle.gp_port.specs.Answers.{number_given}
 use Rattle.gp_port.proofs.Wishes.{heard_wish, poll_gives, range_gives}
@@ -17,3 +17,12 @@ returns-in-Poll-clause-wished c =
     let n = c.in-Poll.onu in
     heard_wish c.args.purse c.args.self.now c.args.at c.args.heard c.in-Some.window (Poll n) m c.args.wished (number_given c.in_poll.result.0) (rw (← c.self.view_is) c.in-Some.is) c.in-Some-heard.is (sym c.in-Poll.ensures)
     (poll_gives c.args.purse c.args.self.now c.args.at n m)
+
+pub returns-in-Search-clause-free : goal.returns-in-Search-clause-free
+returns-in-Search-clause-free c = search rules
+
+pub returns-in-Search-clause-wished : goal.returns-in-Search-clause-wished
+returns-in-Search-clause-wished c = search rules
+
+pub returns-in-Search-clause-outcome : goal.returns-in-Search-clause-outcome
+returns-in-Search-clause-outcome c = search rules

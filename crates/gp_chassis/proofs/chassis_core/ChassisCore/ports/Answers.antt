@@ -1,0 +1,5 @@
+use Rattle.std.proofs.Common.{rules}
+use Rattle.gp_chassis.proofs.chassis_core.ChassisCore.ports.Goals as goal
+
+pub returns : goal.returns
+returns g c = search rules
