@@ -1,5 +1,5 @@
 -- One more serial number in the admission list.
-use Rattle.std.proofs.Common.{◌≡◌, ℕ, ◌+◌, ◌<◌, ◌==◌, ◌||◌, Bool, true, false, cond, List, [], ◌∷◌, ◌++◌, map, length, drop, get_or, suc, subst, Vec, Global, Option, None, Some, Result, Ok, Err, IsSome, IsErr, IsErrAnd, refl, sym, ap, ◌∙◌, arith}
+use Rattle.std.proofs.Common.{◌≡◌, ℕ, ◌+◌, ◌<◌, ◌==◌, ◌||◌, Bool, true, false, cond, List, [], ◌∷◌, ◌++◌, map, length, drop, get_or, suc, subst, Option, None, Some, Result, Ok, Err, IsSome, refl, sym, ap, ◌∙◌, arith}
 use Rattle.std.proofs.Math.Seq.{drop-cons}
 use Rattle.std.proofs.lemmas.Bool.{or_parts}
 use Rattle.std.proofs.lemmas.Bool.Decides.{nat_tests}
@@ -29,7 +29,7 @@ use Rattle.gp_script.specs.declared.fault.ScriptFault.{ScriptFault}
 use Rattle.gp_script.specs.declared.fault.ScriptFault.TheVariants as faults
 use Rattle.gp_script.specs.declared.fault.ScriptError.{ScriptError}
 use Rattle.gp_script.specs.declared.fault.ScriptError.TheVariants as errors
-use Rattle.gp_script.specs.Fault.{error_of_admit, Fails, Gives}
+use Rattle.gp_script.specs.Fault.{error_of_admit, Fails}
 use Rattle.gp_script.specs.Port.{is_admitted, new_serial, serial_in, serials_from}
 use Rattle.gp_script.specs.Admits.{Admits}
 
@@ -186,9 +186,3 @@ refused_at ports serials texts i text says error here is walk fails =
     let there = refused_there ports serials (view text) (items_view (drop (suc i) texts)) error fails in
     let first : drop i texts ≡ text ∷ drop (suc i) texts = drop-cons texts i text here ∙ ap (λ (t : Value). t ∷ drop (suc i) texts) (sym is) in
     subst (Fails error) (ap (λ (ts : List Value). serials_from ports serials (items_view ts)) (sym first) ∙ walk) there
-
--- an error with which the function ends
-pub ended : (r : Result (Vec Serial Global) ScriptError) (error : ScriptError) (says : Result (List Serial) ScriptFault) → IsErr r → IsErrAnd r (λ e. e ≡ error) → Fails error says
-    → Gives (λ v. v.items) r says
-ended (Ok v) error says err and fails = absurd and
-ended (Err e) error says err and fails = subst (λ (x : ScriptError). Fails x says) (sym and) fails

@@ -4,5 +4,7 @@ pub mod EventsLemmas
 pub mod ItemsLemmas
 pub mod NamesLemmas
 pub mod PlacesLemmas
+pub mod TableLemmas
 pub mod TextLemmas
+pub mod UnitsLemmas
 pub mod LoseLemmas

@@ -1,11 +1,39 @@
--- What is lost where no table says it.
-use Rattle.std.proofs.Common.{◌≡◌, List, [], Ok, IfOk, refl, sym, subst}
+-- What is lost where no table says it, and what is read one after another.
+use Rattle.std.proofs.Common.{◌≡◌, List, [], None, Result, Ok, Err, IfOk, refl, sym, ap, subst}
 use Rattle.std.proofs.lemmas.Result.{IfOk-at_ok}
+use Rattle.toml.specs.Data.{Data, string, integer, float, boolean, datetime, array, table, Members, Items, item, as_table}
 use Rattle.toml.specs.View.{items_view}
 use Rattle.toml.specs.declared.value.Value.{Value}
-use Rattle.gp_script.specs.Lose.{LossesView, losses_from, no_losses}
+use Rattle.gp_script.specs.declared.lose.Loss.{Loss}
+use Rattle.gp_script.specs.declared.fault.ScriptFault.{ScriptFault}
+use Rattle.gp_script.specs.declared.fault.ScriptFault.TheVariants as faults
+use Rattle.gp_script.specs.Fault.{◌>>=◌}
+use Rattle.gp_script.specs.Lose.{LossesView, loss_of, losses_from, no_losses, with_loss}
 
+-- no tables, nothing lost
 pub nothing_lost : (losses : LossesView) (tables : List Value) → tables ≡ [] → losses_from no_losses (items_view tables) ≡ Ok losses → losses ≡ no_losses
 unfolding losses_from
 nothing_lost losses tables none says =
     IfOk-at_ok (λ (l : LossesView). l ≡ no_losses) says (subst (λ (t : List Value). IfOk (losses_from no_losses (items_view t)) (λ l. l ≡ no_losses)) (sym none) refl)
+
+-- the walk ends at what is no table,
+pub no_loss : (before : LossesView) (d : Data) (rest : Items) → as_table d ≡ None → losses_from before (item d rest) ≡ Err faults.Shape
+unfolding losses_from
+no_loss before (string s) rest none = refl
+no_loss before (integer z) rest none = refl
+no_loss before (float x) rest none = refl
+no_loss before (boolean b) rest none = refl
+no_loss before (datetime t) rest none = refl
+no_loss before (array items) rest none = refl
+no_loss before (table ms) rest none = cc none
+
+-- and at a table that is refused,
+pub bad_loss : (before : LossesView) (ms : Members) (rest : Items) (f : ScriptFault) → loss_of ms ≡ Err f → losses_from before (item (table ms) rest) ≡ Err f
+unfolding losses_from
+bad_loss before ms rest f says = simp says
+
+-- and goes on behind one that is read
+pub next_loss : (before : LossesView) (ms : Members) (rest : Items) (loss : Loss) → loss_of ms ≡ Ok loss
+    → losses_from (with_loss before loss) rest ≡ losses_from before (item (table ms) rest)
+unfolding losses_from
+next_loss before ms rest loss says = ap (λ (r : Result Loss ScriptFault). r >>= (λ l. losses_from (with_loss before l) rest)) (sym says)

@@ -1,5 +1,5 @@
 -- The tables under `unit`, each a simulated unit on the fibre of the script's port (this profile's own rule).
-use Rattle.std.specs.Prelude.{ℕ, List, [], ◌∷◌, ◌++◌, ◌&&◌, Bool, Result, Ok, Err, codes, nat_le}
+use Rattle.std.specs.Prelude.{List, [], ◌∷◌, ◌++◌, ◌&&◌, Bool, Result, Ok, Err, codes, nat_le}
 use Rattle.toml.specs.Data.{table, Items, no_items, item, Members}
 use Rattle.gp_onu.specs.declared.limits.TheConstants.{MAX_DELAY, MAX_RANDOM_DELAY}
 use Rattle.gp_script.specs.declared.script.ScriptUnit.{ScriptUnit}

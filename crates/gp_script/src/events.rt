@@ -83,7 +83,7 @@ fn event_of(ports: u8, units: u16, mask: Mask, table: &Table) -> Result<ScriptEv
 }
 
 /// Reads the event tables.
-#[tactic(auto, unfolding(crate::specs::Event::events_of), using(crate::proofs::EventsLemmas::behind_nothing, crate::proofs::EventsLemmas::behind_push))]
+#[tactic(auto, unfolding(crate::specs::Event::events_of), using(crate::proofs::EventsLemmas::behind_nothing))]
 pub(crate) fn events_of(
     alloc: Global,
     ports: u8,

@@ -4,7 +4,8 @@ use Rattle.toml.specs.View.{view}
 use Rattle.gp_serial.specs.Admitted.{max_on_a_port}
 use Rattle.gp_script.specs.Port.{serials_from}
 use Rattle.gp_script.proofs.AdmitLemmas.{is_distinct-push, once_more}
-use Rattle.gp_script.proofs.AdmissionLemmas.{admits_more, is_new, read_new, refused, refused_at, ended}
+use Rattle.gp_script.proofs.AdmissionLemmas.{admits_more, is_new, read_new, refused, refused_at}
+use Rattle.gp_script.proofs.TableLemmas.{ends}
 use Rattle.gp_script.proofs.ports.serials_of.Goals as goal
 
 pub returns-in_err-admit-clause-value : goal.returns-in_err-admit-clause-value
@@ -13,7 +14,7 @@ returns-in_err-admit-clause-value c =
     let fails = refused c.texts.admitted c.args.before.now c.texts.serials.items (view c.text-item.result) c.in_ok-serial.serial c.in_err-admit.field-0.0 (sym c.in_ok-serial.ensures) c.texts.invariant.admits few
     (λ same. c.in_err-admit.ensures.duplicate.0 (ap (λ f. Err f) same))
     (λ same. (c.in_err-admit.ensures.full.0 (ap (λ f. Err f) same)).1) in
-    ended _ _ _ c.from_residual-in_err-admit.ensures.0 c.from_residual-in_err-admit.ensures.1
+    ends (λ v. v.items) _ _ _ c.from_residual-in_err-admit.ensures.0 c.from_residual-in_err-admit.ensures.1
     (refused_at c.args.before.now c.texts.serials.items c.args.texts.now c.texts.text-index c.text-item.result _ _ c.texts-test.true c.text-item.is c.texts.invariant.value fails)
 
 pub texts-preserved : goal.texts-preserved

@@ -1,0 +1,30 @@
+-- Units read one after another.
+use Rattle.std.proofs.Common.{◌≡◌, List, [], ◌∷◌, ◌++◌, None, Result, Ok, Err, refl, sym, ap}
+use Rattle.toml.specs.Data.{Data, string, integer, float, boolean, datetime, array, table, Members, Items, item, as_table}
+use Rattle.gp_script.specs.declared.script.ScriptUnit.{ScriptUnit}
+use Rattle.gp_script.specs.declared.fault.ScriptFault.{ScriptFault}
+use Rattle.gp_script.specs.declared.fault.ScriptFault.TheVariants as faults
+use Rattle.gp_script.specs.Fault.{◌>>=◌}
+use Rattle.gp_script.specs.Unit.{unit_of, units_from}
+
+-- the walk ends at what is no table,
+pub no_unit : (before : List ScriptUnit) (d : Data) (rest : Items) → as_table d ≡ None → units_from before (item d rest) ≡ Err faults.Shape
+unfolding units_from
+no_unit before (string s) rest none = refl
+no_unit before (integer z) rest none = refl
+no_unit before (float x) rest none = refl
+no_unit before (boolean b) rest none = refl
+no_unit before (datetime t) rest none = refl
+no_unit before (array items) rest none = refl
+no_unit before (table ms) rest none = cc none
+
+-- and at a table that is refused,
+pub bad_unit : (before : List ScriptUnit) (ms : Members) (rest : Items) (f : ScriptFault) → unit_of ms ≡ Err f → units_from before (item (table ms) rest) ≡ Err f
+unfolding units_from
+bad_unit before ms rest f says = simp says
+
+-- and goes on behind one that is read
+pub next_unit : (before : List ScriptUnit) (ms : Members) (rest : Items) (unit : ScriptUnit) → unit_of ms ≡ Ok unit
+    → units_from (before ++ unit ∷ []) rest ≡ units_from before (item (table ms) rest)
+unfolding units_from
+next_unit before ms rest unit says = ap (λ (r : Result ScriptUnit ScriptFault). r >>= (λ u. units_from (before ++ u ∷ []) rest)) (sym says)
