@@ -8,7 +8,7 @@ mod lines;
 mod parts;
 mod worked;
 
-use crate::texts::prints;
+use crate::samples::prints;
 use gp_licence::{LicenceBook, Licences, MAX_LICENCES};
 use gp_machine::{Admitted, Command, Event, PortConfig, Reply};
 use gp_ploam::{Mask, PloamFault};

@@ -1,5 +1,5 @@
 //! A full queue, the order of copies, and what only a run shows: that memory suffices, or is told.
-use crate::texts::prints;
+use crate::samples::prints;
 use gp_ploam::Down;
 use gp_volley::{QueueFault, VolleyQueue};
 use std::test::Fail;

@@ -1,4 +1,4 @@
-use Rattle.gp_world_tests.proofs.fibre.outcome.Given as goal
+use Rattle.gp_chassis_tests.proofs.fibre.outcome.Given as goal
 
 abbrev pub ghosts-outcome_of : goal.ghosts-outcome_of
 ghosts-outcome_of a = record { name = a.blank.name; parts = 4064 }
