@@ -383,12 +383,14 @@ fn first_other(alloc: Global, tables: &[Table]) -> Result<Option<&'static str>, 
 }
 
 #[test]
-fn faults_and_ranges(rt: HostRuntime) -> Result<(), ScriptError> {
-    let found = [
-        first_other(rt.alloc(), &faults::TABLES)?,
-        first_other(rt.alloc(), &ranges::TABLES)?,
-    ];
-    assert_eq!(rt; found, [None, None]);
+fn faults_of_scripts(rt: HostRuntime) -> Result<(), ScriptError> {
+    assert_eq!(rt; first_other(rt.alloc(), &faults::TABLES)?, None);
+    Ok(())
+}
+
+#[test]
+fn ends_of_ranges(rt: HostRuntime) -> Result<(), ScriptError> {
+    assert_eq!(rt; first_other(rt.alloc(), &ranges::TABLES)?, None);
     Ok(())
 }
 

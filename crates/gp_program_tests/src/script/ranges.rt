@@ -244,8 +244,8 @@ const UNITS: Repeated = Repeated {
     fault: None,
 };
 
-/// The greatest counts, and one more than each.
-const COUNTS: [Repeated; 14] = [
+/// As many serial numbers as a port may admit, and one more.
+const SERIALS: [Repeated; 6] = [
     ADMITTING,
     Repeated {
         count: 513,
@@ -276,6 +276,10 @@ const COUNTS: [Repeated; 14] = [
         fault: RANGE,
         ..ADMITTING
     },
+];
+
+/// A port table too many, beside another fault each.
+const PORT_TABLES: [Repeated; 4] = [
     PORTS,
     Repeated {
         before: "licences = \"1\"\nport = [",
@@ -293,13 +297,17 @@ const COUNTS: [Repeated; 14] = [
         groups: 16,
         ..PORTS
     },
+];
+
+/// As many units as there may be, and one more.
+const UNIT_TABLES: [Repeated; 4] = [
     UNITS,
     Repeated {
         count: 1025,
         fault: RANGE,
         ..UNITS
     },
-    // And so is a unit table too many; as many as there may be come after the ports.
+    // A unit table too many is told before a fault of a port; as many as there may be come after the ports.
     Repeated {
         before: "licences = 1\nport = [{cycle = 1}]\n",
         count: 1025,
@@ -330,12 +338,35 @@ fn text_of(alloc: Global, row: &Repeated) -> Result<String, AllocError> {
     Ok(text)
 }
 
-#[test]
-fn greatest_counts(rt: HostRuntime) -> Result<(), ScriptError> {
-    for (place, row) in COUNTS.iter().enumerate() {
-        let text = text_of(rt.alloc(), row)?;
-        let found = fault_of(rt.alloc(), false, text.as_bytes())?;
-        assert_eq!(rt; found, row.fault, "row {place}");
+/// Gives the place of the first row whose script has another fault, and that.
+fn first_wrong(
+    alloc: Global,
+    rows: &[Repeated],
+) -> Result<Option<(usize, Option<ScriptFault>)>, ScriptError> {
+    for (place, row) in rows.iter().enumerate() {
+        let text = text_of(alloc, row)?;
+        let found = fault_of(alloc, false, text.as_bytes())?;
+        if found != row.fault {
+            return Ok(Some((place, found)));
+        }
     }
+    Ok(None)
+}
+
+#[test]
+fn most_serial_numbers(rt: HostRuntime) -> Result<(), ScriptError> {
+    assert_eq!(rt; first_wrong(rt.alloc(), &SERIALS)?, None);
+    Ok(())
+}
+
+#[test]
+fn most_ports(rt: HostRuntime) -> Result<(), ScriptError> {
+    assert_eq!(rt; first_wrong(rt.alloc(), &PORT_TABLES)?, None);
+    Ok(())
+}
+
+#[test]
+fn most_units(rt: HostRuntime) -> Result<(), ScriptError> {
+    assert_eq!(rt; first_wrong(rt.alloc(), &UNIT_TABLES)?, None);
     Ok(())
 }
