@@ -1,3 +1,4 @@
+use Rattle.std.proofs.Common.{rules}
 use Rattle.std.specs.String.{string_bytes}
 use Rattle.std.proofs.lemmas.Result.{err_from_is_err_and}
 use Rattle.gp_decode.specs.declared.fault.LineFault.TheVariants as fault
@@ -16,3 +17,15 @@ returns-in_err-write_line-clause-fault g c f own =
 
 pub returns-clause-fault : goal.returns-clause-fault
 returns-clause-fault g c f own = no_fault_with_line c.args.upstream c.args.mask c.args.text.now (string_bytes c.in_ok-line.line) f c.in_ok-line.ensures.line
+
+pub returns-in_err-line-clause-kept : goal.returns-in_err-line-clause-kept
+returns-in_err-line-clause-kept g c = search rules
+
+pub returns-in_err-write_line-clause-prefix : goal.returns-in_err-write_line-clause-prefix
+returns-in_err-write_line-clause-prefix g c = search rules
+
+pub returns-clause-ok : goal.returns-clause-ok
+returns-clause-ok g c = search rules
+
+pub returns-clause-flushed : goal.returns-clause-flushed
+returns-clause-flushed g c = search rules

@@ -21,3 +21,18 @@ returns-in_err-text-clause-mismatch g c =
       script = script_view c.in_ok-script.script;
       input = record { bytes = c.in_ok-bytes.bytes.items; read = c.in_ok-bytes.ensures.whole; short = short; says = says };
     }
+
+pub returns-in_err-bytes-clause-untouched : goal.returns-in_err-bytes-clause-untouched
+returns-in_err-bytes-clause-untouched g c = search rules
+
+pub returns-in_err-script-clause-untouched : goal.returns-in_err-script-clause-untouched
+returns-in_err-script-clause-untouched g c = search rules
+
+pub returns-in_err-text-clause-untouched : goal.returns-in_err-text-clause-untouched
+returns-in_err-text-clause-untouched g c = search rules
+
+pub returns-in_err-write_text-clause-prefix : goal.returns-in_err-write_text-clause-prefix
+returns-in_err-write_text-clause-prefix g c = search rules
+
+pub returns-clause-ok : goal.returns-clause-ok
+returns-clause-ok g c = search rules

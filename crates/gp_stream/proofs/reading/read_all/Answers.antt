@@ -18,3 +18,9 @@ returns-in_err-extend_from_slice-in-Ok-clause-memory g c = λ _. record {
   few = omega (arith, length-append c.reads.bytes.items (take c.in-Ok.count c.read.new.buffer), c.in-Ok.ensures.bound.1, c.if-count-len.false, c.reads.invariant.short, c.len.ensures);
   unfailed = search rules;
 }
+
+pub returns-in-Err-clause-whole : goal.returns-in-Err-clause-whole
+returns-in-Err-clause-whole g c = search rules
+
+pub returns-in-Err-clause-failed : goal.returns-in-Err-clause-failed
+returns-in-Err-clause-failed g c = search rules
