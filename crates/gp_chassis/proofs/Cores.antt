@@ -1,27 +1,33 @@
 -- A chassis on one thread: what each call leaves of it.
 use Rattle.std.proofs.Common.{◌≡◌, ◌<◌, ◌≤◌, ◌+◌, ◌-◌, ◌==◌, ◌&&◌, ℕ, Bool, true, false, List, [], ◌∷◌, length, map, set, get_or, refl, sym, ap, subst, ◌∙◌, arith, length-set, IsTrue}
-use Rattle.std.specs.Prelude.{Some, slice_get, slice_set, slice_index, sum_by, All, if◌then◌else◌, nat_lt, option_map, ◌↔◌}
+use Rattle.std.specs.Prelude.{Option, Some, slice_get, slice_set, slice_index, sum_by, All, if◌then◌else◌, nat_lt, option_map, ◌↔◌}
 use Rattle.std.specs.FinMap.{len-empty}
 use Rattle.std.proofs.lemmas.List.{map-set, set-set, set-get_or, length-replicate}
 use Rattle.std.proofs.lemmas.List.Elements.{All-set, All-map}
 use Rattle.std.proofs.lemmas.List.Folds.{sum_by-replicate}
 use Rattle.std.proofs.lemmas.List.Sums.{sum_by-cons}
-use Rattle.std.proofs.lemmas.Option.{slice_get-map, get_or_from_slice_get, slice_get_read, slice_get_within}
+use Rattle.std.proofs.lemmas.Option.{slice_get-map, get_or_from_slice_get, slice_get_read, slice_get_within, same_Some}
 use Rattle.gp_ploam.specs.Serials.{serial_cmp}
 use Rattle.gp_unit.specs.declared.row.Row.{Row}
 use Rattle.gp_machine.specs.declared.config.PortConfig.{PortConfig}
+use Rattle.gp_machine.specs.declared.answer.Answer.{Answer}
 use Rattle.gp_machine.specs.declared.event.Event.{Event}
 use Rattle.gp_machine.specs.declared.event.Event.TheVariants.{Frame, Burst, Command}
+use Rattle.gp_machine.specs.declared.entry.Entry.{Entry}
 use Rattle.gp_machine.specs.declared.entry.Receipt.{Receipt}
 use Rattle.gp_machine.specs.Config.{is_within_limits}
 use Rattle.gp_machine.specs.State.{PortState, opening_of, rows_of}
 use Rattle.gp_machine.specs.Sound.{IsSound}
+use Rattle.gp_machine.specs.Changes.{StepResult}
+use Rattle.gp_machine.specs.Step.{Step}
+use Rattle.gp_machine.specs.Run.{entry_outcome}
+use Rattle.gp_port.specs.Numbers.{GrantsWish, HandsOut}
 use Rattle.gp_laws.proofs.WholeRuns.{every_state}
 use Rattle.gp_journal.specs.declared.piece.Piece.{Piece}
 use Rattle.gp_journal.proofs.Runs.{Replays-opened}
 use Rattle.gp_chassis.specs.Desk.{DeskState, DeskStands, HasRoom, opened, Serves, Cuts}
-use Rattle.gp_chassis.specs.World.{ChassisWorld, Port, hand, taken, ChassisStep, ChassisRun, IsBalanced, HoldsApart, units_of}
-use Rattle.gp_chassis.specs.Core.{CoreState, Stands, CoreServes, CoreCuts, CoreApplies, world_of, with_licences, lent, moves_of, core_opened, IsFullAt, JoinsAt}
+use Rattle.gp_chassis.specs.World.{ChassisWorld, Port, PortMoves, hand, taken, given, ChassisStep, ChassisRun, IsBalanced, HoldsApart, units_of}
+use Rattle.gp_chassis.specs.Core.{CoreState, Stands, CoreServes, CoreCuts, CoreApplies, GrantsFrom, GrantsTurn, world_of, with_licences, lent, moves_of, core_opened, IsFullAt, JoinsAt}
 use Rattle.gp_chassis.proofs.Worlds.{move_keeps, taken_ports, set_same, apart_reached}
 
 same_desk : (s : CoreState) (p : ℕ) (d e : DeskState) → slice_get s.desks p ≡ Some d → slice_get s.desks p ≡ Some e → d ≡ e
@@ -207,3 +213,73 @@ pub lent_full : (event : Event) (s : CoreState) (p : ℕ) → IsFullAt (lent eve
 lent_full (Burst at bytes) s p = (λ f. record { desk = f.desk; is = f.is; full = f.full }, λ f. record { desk = f.desk; is = f.is; full = f.full })
 lent_full Frame s p = (λ f. f, λ f. f)
 lent_full (Command command) s p = (λ f. f, λ f. f)
+
+-- ---- a wish
+
+-- the desk of a port serves with what was pulled out of an actor's hands, and grants a wish
+pub granted_core : (s : CoreState) (a p q : ℕ) (event : Event) (wished : Option ℕ) (e : Entry) (d next : DeskState) (purse : ℕ) (h2 : List ℕ)
+    → p < length s.desks → q ≡ p → d ≡ get_or s.desks q d → purse ≡ slice_index s.hands a → GrantsWish purse d.state event wished (entry_outcome e next.state)
+    → GrantsFrom s (record s { desks = set s.desks q next; hands = h2 }) a p event wished e
+granted_core s a p q event wished e d next purse h2 l is at pulled grants desk end was now =
+    let there : slice_get s.desks p ≡ Some d = slice_get_read s.desks (length s.desks) p d refl l (subst (λ (n : ℕ). d ≡ get_or s.desks n d) is at) in
+    let same : d ≡ desk = same_desk s p d desk there was in
+    let image : slice_get (set s.desks p next) p ≡ Some end = subst (λ (n : ℕ). slice_get (set s.desks n next) p ≡ Some end) is now in
+    let ended : next ≡ end = same_Some _ _ (sym (set_same s.desks p next l) ∙ image) in
+    subst (λ (n : ℕ). GrantsWish n desk.state event wished (entry_outcome e end.state)) pulled
+    (subst (λ (x : DeskState). GrantsWish purse desk.state event wished (entry_outcome e x.state)) ended
+    (subst (λ (x : DeskState). GrantsWish purse x.state event wished (entry_outcome e next.state)) same grants))
+
+same_entry : (a b : Entry) → a.purse_in ≡ b.purse_in → a.event ≡ b.event → a.answer ≡ b.answer → a.purse_out ≡ b.purse_out → a ≡ b
+same_entry a b h1 h2 h3 h4 =
+    let E : ℕ → Event → Answer → ℕ → Entry = λ p e x q. record { purse_in = p; event = e; answer = x; purse_out = q } in
+    ap (λ (n : ℕ). E n a.event a.answer a.purse_out) h1 ∙ ap (λ (e : Event). E b.purse_in e a.answer a.purse_out) h2 ∙ ap (λ (x : Answer). E b.purse_in b.event x a.purse_out) h3 ∙ ap (E b.purse_in b.event b.answer) h4
+
+-- the world that a port leaves which serves
+served_world : (old new : CoreState) (a p : ℕ) (event : Event) (r : Receipt) → CoreServes old new a p event r → (next : DeskState) → slice_get new.desks p ≡ Some next
+    → world_of new ≡ record (world_of old) { ports = slice_set (world_of old).ports p next.state; hands = slice_set old.hands a r.entry.purse_out }
+served_world old new a p event r h next now =
+    let f : DeskState → PortState = λ d. d.state in
+    let W : List PortState → List ℕ → ChassisWorld = λ xs ys. record { ports = xs; free = old.free; hands = ys } in
+    let l : p < length old.desks = slice_get_within old.desks p h.desk h.is in
+    let there : slice_get new.desks p ≡ Some h.next = ap (λ (s : CoreState). slice_get s.desks p) h.core ∙ set_same old.desks p h.next l in
+    let same : h.next ≡ next = same_Some _ _ (sym there ∙ now) in
+    ap world_of h.core ∙ ap (λ (xs : List PortState). W xs (set old.hands a h.rest)) (map-set f old.desks p h.next)
+    ∙ ap (λ (n : ℕ). W (set (map f old.desks) p h.next.state) (set old.hands a n)) h.serves.rest_is
+    ∙ ap (λ (d : DeskState). W (set (map f old.desks) p d.state) (set old.hands a r.entry.purse_out)) same
+
+-- a port that moves so that it hands out the wished number, or none, moves as it served
+step_granted : (old new : CoreState) (a p : ℕ) (event : Event) (wished : Option ℕ) (r : Receipt) → CoreServes old new a p event r → GrantsFrom old new a p event wished r.entry
+    → (other : Entry) (end : ChassisWorld) → other.event ≡ event → PortMoves a p other (world_of old) end → HandsOut wished other.answer.reply → (r.entry ≡ other) × (world_of new ≡ end)
+step_granted old new a p event wished r h grants other end what m hands =
+    let f : DeskState → PortState = λ d. d.state in
+    let l : p < length old.desks = slice_get_within old.desks p h.desk h.is in
+    let there : slice_get new.desks p ≡ Some h.next = ap (λ (s : CoreState). slice_get s.desks p) h.core ∙ set_same old.desks p h.next l in
+    let stood : m.stood ≡ h.desk.state = same_Some _ _ (sym m.is ∙ slice_get-map f old.desks p ∙ ap (option_map f) h.is) in
+    let one : Step (hand (world_of old) a) m.stood other.event (entry_outcome other m.next) = subst (λ (n : ℕ). Step n m.stood other.event (entry_outcome other m.next)) m.purse m.step in
+    let two : Step (hand (world_of old) a) m.stood event (entry_outcome other m.next) = subst (λ (e : Event). Step (hand (world_of old) a) m.stood e (entry_outcome other m.next)) what one in
+    let step : Step (hand (world_of old) a) h.desk.state event (entry_outcome other m.next) =
+    subst (λ (x : PortState). Step (hand (world_of old) a) x event (entry_outcome other m.next)) stood two in
+    let same : entry_outcome r.entry h.next.state ≡ entry_outcome other m.next = grants h.desk h.next h.is there (entry_outcome other m.next) step hands in
+    let entry : r.entry ≡ other =
+    same_entry r.entry other (h.serves.purse_in ∙ sym m.purse) (h.serves.event_is ∙ sym what) (ap (λ (o : StepResult). o.answer) same) (ap (λ (o : StepResult). o.purse) same) in
+    let W : PortState → ℕ → ChassisWorld = λ q n. record { ports = slice_set (world_of old).ports p q; free = old.free; hands = slice_set old.hands a n } in
+    let world : world_of new ≡ end =
+    served_world old new a p event r h h.next there ∙ ap (λ (q : PortState). W q r.entry.purse_out) (ap (λ (o : StepResult). o.state) same)
+    ∙ ap (W m.next) (ap (λ (o : StepResult). o.purse) same) ∙ sym m.world_is in
+    (entry, world)
+
+pub turn_granted : (old between new : CoreState) (p : ℕ) (event : Event) (wished : Option ℕ) (r : Receipt) → 0 < length old.hands
+    → CoreServes (lent event old) between 0 p event r → GrantsFrom (lent event old) between 0 p event wished r.entry → new ≡ with_licences between (given 0 (world_of between))
+    → GrantsTurn (world_of old) (world_of new) p event wished r.entry
+turn_granted old between new p Frame wished r l h grants given_is other end what run hands =
+    let (entry, world) = step_granted old between 0 p Frame wished r h grants other run.0 what run.1.1 hands in
+    (entry, ap world_of given_is ∙ ap (given 0) world ∙ sym run.2.1.1 ∙ sym run.2.2)
+turn_granted old between new p (Command command) wished r l h grants given_is other end what run hands =
+    let (entry, world) = step_granted old between 0 p (Command command) wished r h grants other run.0 what run.1.1 hands in
+    (entry, ap world_of given_is ∙ ap (given 0) world ∙ sym run.2.1.1 ∙ sym run.2.2)
+turn_granted old between new p (Burst at bytes) wished r l h grants given_is other end what run hands =
+    let mid : CoreState = with_licences old (taken 0 (world_of old)) in
+    let image : run.0 ≡ world_of mid = run.1.1 ∙ sym (took_step old 0) in
+    let moves : PortMoves 0 p other (world_of mid) run.2.0 = subst (λ (w : ChassisWorld). PortMoves 0 p other w run.2.0) image run.2.1.1 in
+    let (entry, world) = step_granted mid between 0 p (Burst at bytes) wished r h grants other run.2.0 what moves hands in
+    (entry, ap world_of given_is ∙ ap (given 0) world ∙ sym run.2.2.1.1 ∙ sym run.2.2.2)

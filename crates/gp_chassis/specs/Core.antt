@@ -1,13 +1,15 @@
 -- A chassis on one thread (this profile's own rule).
-use Rattle.std.specs.Prelude.{ℕ, ◌≡◌, ◌+◌, List, [], ◌∷◌, Some, All, map, length, slice_set, slice_get, replicate}
+use Rattle.std.specs.Prelude.{ℕ, ◌≡◌, ◌+◌, List, [], ◌∷◌, Option, Some, All, map, length, slice_set, slice_get, replicate}
 use Rattle.gp_machine.specs.declared.config.PortConfig.{PortConfig}
 use Rattle.gp_machine.specs.declared.event.Event.{Event}
 use Rattle.gp_machine.specs.declared.event.Event.TheVariants.{Frame, Burst, Command}
 use Rattle.gp_machine.specs.declared.entry.Entry.{Entry}
 use Rattle.gp_machine.specs.declared.entry.Receipt.{Receipt}
+use Rattle.gp_machine.specs.Run.{entry_outcome}
+use Rattle.gp_port.specs.Numbers.{GrantsWish, HandsOut}
 use Rattle.gp_journal.specs.declared.piece.Piece.{Piece}
 use Rattle.gp_chassis.specs.Desk.{DeskState, DeskStands, HasRoom, opened, Serves, Cuts}
-use Rattle.gp_chassis.specs.World.{ChassisWorld, Move, Take, Port, Give, hand, taken, given, IsBalanced, actors}
+use Rattle.gp_chassis.specs.World.{ChassisWorld, ChassisRun, Move, Take, Port, Give, hand, taken, given, IsBalanced, actors}
 
 -- a chassis: its desks, how many licences are free, how many each actor has in hand, and how many there are in all
 pub record CoreState : Type 0 where
@@ -76,6 +78,25 @@ pub record IsFullAt (core : CoreState) (port : ℕ) : Type 0 where
   pub desk : DeskState
   pub is : slice_get core.desks port ≡ Some desk
   pub full : HasRoom desk → ⊥
+
+-- of the steps that the port may make with what the actor has in hand, the one that hands out the wished number, or none, is
+-- the one that is made
+abbrev pub GrantsFrom : CoreState → CoreState → ℕ → ℕ → Event → Option ℕ → Entry → Type 0
+GrantsFrom old new actor port event wished entry =
+    (desk next : DeskState)
+    → slice_get old.desks port ≡ Some desk
+    → slice_get new.desks port ≡ Some next
+    → GrantsWish (hand (world_of old) actor) desk.state event wished (entry_outcome entry next.state)
+
+-- of the turns that actor 0 may take with this event at the port, the one that hands out the wished number, or none, is the
+-- one that is taken: no other may be taken then
+abbrev pub GrantsTurn : ChassisWorld → ChassisWorld → ℕ → Event → Option ℕ → Entry → Type 0
+GrantsTurn world after port event wished entry =
+    (other : Entry) (end : ChassisWorld)
+    → other.event ≡ event
+    → ChassisRun (moves_of event port other) world end
+    → HandsOut wished other.answer.reply
+    → (entry ≡ other) × (after ≡ end)
 
 -- ---- cutting
 

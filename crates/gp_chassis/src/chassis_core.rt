@@ -4,7 +4,7 @@ ghost use Rattle.gp_ploam.specs.Down.{IsProperDown};
 ghost use Rattle.gp_chassis.specs.Desk.{opened};
 ghost use Rattle.gp_chassis.specs.Limits.{IsWithin};
 ghost use Rattle.gp_chassis.specs.World.{Take, Port, Give, ChassisStep, ChassisRun, HoldsApart, hand, taken, given, units_of, actors};
-ghost use Rattle.gp_chassis.specs.Core.{Stands, CoreServes, CoreCuts, CoreApplies, JoinsAt, IsBurst, world_of, core_opened, with_licences, lent, IsFullAt, moves_of};
+ghost use Rattle.gp_chassis.specs.Core.{Stands, CoreServes, CoreCuts, CoreApplies, JoinsAt, IsBurst, world_of, core_opened, with_licences, lent, IsFullAt, moves_of, GrantsFrom, GrantsTurn};
 
 use crate::config::ChassisConfig;
 use crate::desk::PortDesk;
@@ -151,7 +151,7 @@ impl<L: Ledger> ChassisCore<L> {
         if usize::from(port) >= self.desks.len() {
             return Err(CoreFault::NoPort);
         }
-        self.serve_from(actor, port, event)
+        self.serve_from(actor, port, event, None)
     }
 
     /// Makes all that is in the actor's hands free again. The only fault is `NoActor`. It takes no memory.
@@ -182,12 +182,32 @@ impl<L: Ledger> ChassisCore<L> {
         ensures full { port < length self.old.desks → IfErr result (λ fault. (fault ≡ CoreFault.JournalFull) ↔ IsFullAt self.old port) }
         ensures some_actor { result ≡ Err CoreFault.NoActor → ⊥ }
     {
+        self.apply_wishing(port, event, None)
+    }
+
+    /// Does the same, and hands out the wished number where it is free and one is handed out.
+    pub fn apply_wishing(
+        &mut self,
+        port: u8,
+        event: Event,
+        wished: Option<u16>,
+    ) -> Result<Receipt, CoreFault>
+        ensures ok { IfOk result (λ receipt. CoreApplies self.old self.new port event receipt) }
+        ensures run { IfOk result (λ receipt. ChassisRun (moves_of event port receipt.entry) (world_of self.old) (world_of self.new)) }
+        ensures purse { IfOk result (λ receipt. IsBurst event → receipt.entry.purse_in ≡ 0 → self.old.free ≡ 0) }
+        ensures proper { IfOk result (λ receipt. ForSome receipt.entry.answer.sent IsProperDown) }
+        ensures err { OnErr result (self.new ≡ self.old) }
+        ensures no_port { (result ≡ Err CoreFault.NoPort) ↔ (length self.old.desks ≤ port) }
+        ensures full { port < length self.old.desks → IfErr result (λ fault. (fault ≡ CoreFault.JournalFull) ↔ IsFullAt self.old port) }
+        ensures some_actor { result ≡ Err CoreFault.NoActor → ⊥ }
+        ensures wished { IfOk result (λ receipt. GrantsTurn (world_of self.old) (world_of self.new) port event wished receipt.entry) }
+    {
         if usize::from(port) >= self.desks.len() {
             return Err(CoreFault::NoPort);
         }
         let before = self.hands[0].count();
         self.lend(&event);
-        match self.serve_from(0, port, event) {
+        match self.serve_from(0, port, event, wished) {
             Ok(receipt) => {
                 self.give_from(0);
                 Ok(receipt)
@@ -260,19 +280,26 @@ impl<L: Ledger> ChassisCore<L> {
         }
     }
 
-    /// Has the desk of a port serve an event with all that is in the actor's hands.
-    fn serve_from(&mut self, actor: usize, port: u8, event: Event) -> Result<Receipt, CoreFault>
+    /// Has the desk of a port serve an event with all that is in the actor's hands, and hand out the wished number where it can.
+    fn serve_from(
+        &mut self,
+        actor: usize,
+        port: u8,
+        event: Event,
+        wished: Option<u16>,
+    ) -> Result<Receipt, CoreFault>
         requires actor { actor < length self.old.hands }
         requires port { port < length self.old.desks }
         ensures ok { IfOk result (λ receipt. CoreServes self.old self.new actor port event receipt) }
         ensures proper { IfOk result (λ receipt. ForSome receipt.entry.answer.sent IsProperDown) }
         ensures err { OnErr result (self.new ≡ self.old) }
         ensures full { IfErr result (λ fault. (fault ≡ CoreFault.JournalFull) ↔ IsFullAt self.old port) }
+        ensures wished { IfOk result (λ receipt. GrantsFrom self.old self.new actor port event wished receipt.entry) }
         ensures only { IfErr result (λ fault. (fault ≡ CoreFault.NoActor → ⊥) × (fault ≡ CoreFault.NoPort → ⊥)) }
     {
         let purse = pull(&mut self.hands, actor);
         let desk = &mut self.desks[usize::from(port)];
-        match desk.serve(port, purse, event) {
+        match desk.serve_wishing(port, purse, event, wished) {
             Ok((receipt, rest)) => {
                 put(&mut self.hands, actor, rest);
                 Ok(receipt)

@@ -1,5 +1,7 @@
 ghost use Rattle.std.specs.Prelude.{◌≡◌, ◌+◌, ◌<◌, ◌≤◌, ◌↔◌, ◌^◌, ◌++◌, ◌∷◌, [], length, IfOk, IfErr, OnErr, IsErrOf, IsTrue};
 ghost use Rattle.gp_machine.specs.State.{rows_of};
+ghost use Rattle.gp_machine.specs.Run.{entry_outcome};
+ghost use Rattle.gp_port.specs.Numbers.{GrantsWish};
 ghost use Rattle.gp_chassis.specs.Desk.{DeskStands, HasRoom, MayOpen, Serves, Cuts, opened};
 ghost use Rattle.gp_machine.specs.Config.{max_journal_limit};
 
@@ -92,6 +94,24 @@ impl<L: Ledger> PortDesk<L> {
         ensures full { IfErr result (λ fault. (fault.0 ≡ ApplyFault.JournalFull) ↔ (HasRoom self.old → ⊥)) }
         ensures some_port { IfErr result (λ fault. fault.0 ≡ ApplyFault.NoPort → ⊥) }
     {
+        self.serve_wishing(port, purse, event, None)
+    }
+
+    /// Does the same, and hands out the wished number where it is free and one is handed out.
+    #[inline(always)]
+    pub fn serve_wishing(
+        &mut self,
+        port: u8,
+        purse: Licences<L>,
+        event: Event,
+        wished: Option<u16>,
+    ) -> Result<(Receipt, Licences<L>), (ApplyFault, Licences<L>)>
+        ensures ok { IfOk result (λ served. Serves self.old self.new port purse event served.0 served.1) }
+        ensures err { IfErr result (λ fault. (fault.1 ≡ purse) × (self.new ≡ self.old)) }
+        ensures full { IfErr result (λ fault. (fault.0 ≡ ApplyFault.JournalFull) ↔ (HasRoom self.old → ⊥)) }
+        ensures some_port { IfErr result (λ fault. fault.0 ≡ ApplyFault.NoPort → ⊥) }
+        ensures wished { IfOk result (λ served. GrantsWish purse self.old.state event wished (entry_outcome served.0.entry self.new.state)) }
+    {
         if !self.has_room() {
             return Err((ApplyFault::JournalFull, purse));
         }
@@ -99,7 +119,7 @@ impl<L: Ledger> PortDesk<L> {
             return Err((ApplyFault::OutOfMemory, purse));
         }
         let purse_in = purse.count();
-        let (answer, rest) = self.core.step(purse, event);
+        let (answer, rest) = self.core.step_wishing(purse, event, wished);
         let entry = Entry {
             purse_in,
             event,

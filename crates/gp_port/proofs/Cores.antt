@@ -1,5 +1,5 @@
 -- What a step leaves of a port core, in the words of its clauses.
-use Rattle.std.proofs.Common.{◌≡◌, ℕ, ◌+◌, true, List, [], ◌∷◌, refl, sym, ap, subst, ◌∙◌, arith}
+use Rattle.std.proofs.Common.{◌≡◌, ℕ, Option, ◌+◌, true, List, [], ◌∷◌, refl, sym, ap, subst, ◌∙◌, arith}
 use Rattle.gp_machine.specs.declared.event.Event.{Event}
 use Rattle.gp_machine.specs.declared.event.Event.TheVariants as event
 use Rattle.gp_machine.specs.Config.{is_within_limits}
@@ -9,6 +9,7 @@ use Rattle.gp_machine.specs.declared.answer.Answer.{Answer}
 use Rattle.gp_machine.specs.Changes.{Change, MarksSeen, StepResult, state_after, state_after_change, step_result_of}
 use Rattle.gp_machine.specs.Responses.{changes_with}
 use Rattle.gp_machine.specs.Step.{Step, state_at}
+use Rattle.gp_port.specs.Numbers.{GrantsWish}
 use Rattle.gp_port.specs.Parts.{IsKept}
 
 -- ---- the configuration stays
@@ -47,3 +48,9 @@ shared now rest purse held left count sums same counted = omega arith
 pub moved : (count purse left rest : ℕ) (p q : PortState) (e : Event) (a : Answer) → count ≡ purse → rest ≡ left → Step count p e (step_result_of (a, left) q) → Step purse p e (step_result_of (a, rest) q)
 moved count purse left rest p q e a counted same step =
     subst (λ (n : ℕ). Step n p e (step_result_of (a, rest) q)) counted (subst (λ (n : ℕ). Step count p e (step_result_of (a, n) q)) (sym same) step)
+
+-- and so is the wish
+pub moved_wish : (count purse left rest : ℕ) (p q : PortState) (e : Event) (wished : Option ℕ) (a : Answer) → count ≡ purse → rest ≡ left
+    → GrantsWish count p e wished (step_result_of (a, left) q) → GrantsWish purse p e wished (step_result_of (a, rest) q)
+moved_wish count purse left rest p q e wished a counted same grants =
+    subst (λ (n : ℕ). GrantsWish n p e wished (step_result_of (a, rest) q)) counted (subst (λ (n : ℕ). GrantsWish count p e wished (step_result_of (a, n) q)) (sym same) grants)

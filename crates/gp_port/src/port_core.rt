@@ -16,6 +16,7 @@ ghost use Rattle.gp_machine.specs.Responses.{bare_answer};
 ghost use Rattle.gp_machine.specs.Step.{Step, StepOwing};
 ghost use Rattle.gp_machine.specs.OneStep.{state_refused};
 ghost use Rattle.gp_machine.specs.Messages.{three_times};
+ghost use Rattle.gp_port.specs.Numbers.{GrantsWish};
 
 use super::image::{ImageFault, PortImage};
 use super::open::OpenFault;
@@ -85,11 +86,30 @@ impl<L: Ledger> PortCore<L> {
         ensures refused { (refusal : Refusal) → result.0.reply ≡ Refused refusal → step_result_of result self.new ≡ record { answer = bare_answer (Refused refusal); purse = purse; state = state_refused self.old event } }
         ensures proper { ForSome result.0.sent IsProperDown }
     {
+        self.step_wishing(purse, event, None)
+    }
+
+    /// Does the same, and hands out the wished number where it is free and one is handed out.
+    #[inline(always)]
+    pub fn step_wishing(
+        &mut self,
+        purse: Licences<L>,
+        event: Event,
+        wished: Option<u16>,
+    ) -> (Answer, Licences<L>)
+        ensures step { Step purse self.old event (step_result_of result self.new) }
+        ensures sound { IsSound self.new }
+        ensures licences { result.1 + rows_of self.new ≡ purse + rows_of self.old }
+        ensures sends { (messages : List Down) × StepOwing purse self.old event (step_result_of result self.new) messages × (option_to_list result.0.sent ++ self.new.owed ≡ self.old.owed ++ three_times messages) }
+        ensures refused { (refusal : Refusal) → result.0.reply ≡ Refused refusal → step_result_of result self.new ≡ record { answer = bare_answer (Refused refusal); purse = purse; state = state_refused self.old event } }
+        ensures proper { ForSome result.0.sent IsProperDown }
+        ensures wished { GrantsWish purse self.old event wished (step_result_of result self.new) }
+    {
         sound_step();
         step_keeps_licences();
         step_sends_in_order();
         refusals_change_nothing();
-        let (answer, left) = self.machine.step(purse.count(), event, None);
+        let (answer, left) = self.machine.step(purse.count(), event, wished);
         let rest = share_out(purse, &mut self.held, left);
         (answer, rest)
     }

@@ -1,5 +1,5 @@
 -- What the chassis does, as the play that it shows.
-use Rattle.std.proofs.Common.{◌≡◌, ◌↔◌, ℕ, ◌+◌, ◌<◌, ◌≤◌, ◌^◌, List, [], ◌∷◌, ◌++◌, All, length, map, Some, option_map, refl, sym, ap, ◌∙◌, subst, slice_get, slice_set, arith, length-append, Result, Ok, Err, IfOk, IfErr, OnErr}
+use Rattle.std.proofs.Common.{◌≡◌, ◌↔◌, ℕ, ◌+◌, ◌<◌, ◌≤◌, ◌^◌, List, [], ◌∷◌, ◌++◌, All, length, get_or, map, Some, option_map, refl, sym, ap, ◌∙◌, subst, slice_get, slice_set, arith, length-append, Result, Ok, Err, IfOk, IfErr, OnErr}
 use Rattle.std.proofs.lemmas.List.{append-nil, map-set, set-get_or}
 use Rattle.std.proofs.lemmas.List.Elements.{All-get_or, All-map, All-set}
 use Rattle.std.proofs.lemmas.Option.{slice_get-map, slice_get_within, get_or_from_slice_get, same_Some}
@@ -8,13 +8,14 @@ use Rattle.gp_machine.specs.declared.event.Event.{Event}
 use Rattle.gp_machine.specs.declared.event.Event.TheVariants.{Frame, Burst, Command}
 use Rattle.gp_machine.specs.declared.entry.Receipt.{Receipt}
 use Rattle.gp_machine.specs.State.{PortState, opening_of}
+use Rattle.gp_laws.proofs.WholeRuns.{every_state}
 use Rattle.gp_journal.specs.declared.piece.Piece.{Piece}
 use Rattle.gp_chassis.specs.declared.fault.CoreFault.{CoreFault}
 use Rattle.gp_chassis.specs.declared.fault.CoreFault.TheVariants as faults
 use Rattle.gp_chassis.specs.World.{ChassisRun}
 use Rattle.gp_chassis.specs.Desk.{DeskState, HasRoom as DeskHasRoom, desk_cut, opened, Serves}
-use Rattle.gp_chassis.specs.Core.{CoreState, CoreCuts, CoreApplies, IsFullAt, core_opened, lent, moves_of, world_of}
-use Rattle.gp_replay.specs.Chassis.{HasRoom, KeepsFew, PlayState, next_of, opened_play, play_of}
+use Rattle.gp_chassis.specs.Core.{CoreState, CoreCuts, CoreApplies, Stands, IsFullAt, core_opened, lent, moves_of, world_of}
+use Rattle.gp_replay.specs.Chassis.{HasRoom, KeepsFew, IsSoundPort, PlayState, next_of, opened_play, play_of}
 use Rattle.gp_replay.specs.Play.{TakesTurns}
 use Rattle.gp_replay.proofs.LawsLemmas.{get_set_same}
 
@@ -170,3 +171,12 @@ full_at (Err faults.JournalFull) full is p = p.0 refl
 full_at (Err faults.NoActor) full is p = absurd (cc)
 full_at (Err faults.NoPort) full is p = absurd (cc)
 full_at (Err faults.OutOfMemory) full is p = absurd (cc)
+
+-- ---- what holds of every port
+
+pub ports_stand : (s : CoreState) → Stands s → All IsSoundPort (play_of s).world.ports
+ports_stand s h =
+    let state_of : DeskState → PortState = λ d. d.state in
+    All-map IsSoundPort state_of s.desks
+    (λ k d within. let desk = h.desks k d within in
+    record { sound = every_state (get_or s.desks k d).state.config (get_or s.desks k d).state desk.reached; within = desk.replays.within })

@@ -13,7 +13,7 @@ use Rattle.gp_replay.specs.Writing.{WritesTurns}
 use Rattle.gp_replay.proofs.RunLemmas.{as_many}
 
 -- each of these numbers can be followed by so many more
-abbrev Leave : ℕ → List ℕ → Type 0
+abbrev pub Leave : ℕ → List ℕ → Type 0
 Leave count next = All (λ n. n + count < 2 ^ 64) next
 
 leave_fewer : (few many : ℕ) (next : List ℕ) → few ≤ many → Leave many next → Leave few next
@@ -34,7 +34,7 @@ leave_after count number port next there room =
     All-set (λ n. n + count < 2 ^ 64) next port (number + 1) own (leave_fewer count (1 + count) next (omega arith) room)
 
 -- entries take the room of one each
-leave_after_all : (count : ℕ) (receipts : List Receipt) (old new : List ℕ) → AreNumbered old receipts new → Leave (length receipts + count) old → Leave count new
+pub leave_after_all : (count : ℕ) (receipts : List Receipt) (old new : List ℕ) → AreNumbered old receipts new → Leave (length receipts + count) old → Leave count new
 leave_after_all count [] old new numbers room = rw numbers (leave_fewer count (0 + count) old (omega arith) room)
 leave_after_all count (r ∷ rs) old new numbers room =
     leave_after_all count rs (slice_set old r.port (r.number + 1)) new numbers.1 (

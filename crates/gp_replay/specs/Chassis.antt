@@ -1,6 +1,9 @@
 -- The chassis that a script is played on (this profile's own rule).
-use Rattle.std.specs.Prelude.{ℕ, ◌+◌, ◌<◌, ◌≤◌, ◌^◌, List, All, length, map}
+use Rattle.std.specs.Prelude.{◌≡◌, true, ℕ, ◌+◌, ◌<◌, ◌≤◌, ◌^◌, List, All, length, map}
 use Rattle.gp_machine.specs.declared.config.PortConfig.{PortConfig}
+use Rattle.gp_machine.specs.Config.{is_within_limits}
+use Rattle.gp_machine.specs.State.{PortState}
+use Rattle.gp_machine.specs.Sound.{IsSound}
 use Rattle.gp_chassis.specs.World.{ChassisWorld, world_opened, units_of}
 use Rattle.gp_chassis.specs.Desk.{DeskState}
 use Rattle.gp_chassis.specs.Core.{CoreState, world_of}
@@ -40,3 +43,8 @@ play_of chassis = record { world = world_of chassis; next = map next_of chassis.
 pub record KeepsFew (desk : DeskState) : Type 0 where
   pub some : 0 < desk.limit
   pub few : desk.limit ≤ MAX_KEPT
+
+-- a port whose state is sound, and whose configuration is within its limits
+pub record IsSoundPort (port : PortState) : Type 0 where
+  pub sound : IsSound port
+  pub within : is_within_limits port.config ≡ true

@@ -26,5 +26,7 @@ mod world_playing;
 
 pub use fault::RunFault;
 pub use laws::{each_port_runs, licences_are_kept};
+pub use line_buffer::LineBuffer;
+pub use player::{MAX_KEPT, Player};
 pub use replaying::run_replay;
 pub use turn::Turn;

@@ -12,7 +12,7 @@ use std::marker::Model;
 /// Where the lines of a trace are built, one at a time. It has room for the longest, so a line takes no
 /// memory. Contracts see the line that was built last.
 #[derive(Drop)]
-pub(crate) struct LineBuffer {
+pub struct LineBuffer {
     bytes: Vec<u8>,
 }
 
@@ -28,7 +28,8 @@ impl Model for LineBuffer {
 }
 
 impl LineBuffer {
-    pub(crate) fn new(alloc: Global) -> Result<LineBuffer, AllocError>
+    /// Takes the memory for the longest line.
+    pub fn new(alloc: Global) -> Result<LineBuffer, AllocError>
         ensures { IfOk result (λ buffer. buffer ≡ []) }
     {
         let bytes = Vec::with_capacity(alloc, MAX_LINE)?;
@@ -36,7 +37,7 @@ impl LineBuffer {
     }
 
     /// Builds the line of an entry.
-    pub(crate) fn build(&mut self, mask: Mask, receipt: &Receipt)
+    pub fn build(&mut self, mask: Mask, receipt: &Receipt)
         requires { ForSome receipt.now.entry.answer.sent IsProperDown }
         ensures { self.new ≡ line_of mask receipt.now }
     {
@@ -44,7 +45,8 @@ impl LineBuffer {
         gp_trace::push_line(&mut self.bytes, mask, receipt).unwrap();
     }
 
-    pub(crate) fn as_bytes(&self) -> &[u8]
+    /// Gives the line that was built last.
+    pub fn as_bytes(&self) -> &[u8]
         ensures { result.now ≡ self.now }
     {
         self.bytes.as_slice()

@@ -3,7 +3,8 @@ ghost use Rattle.std.specs.Option.{ForSome};
 ghost use Rattle.gp_ploam.specs.Down.{IsProperDown};
 ghost use Rattle.gp_chassis.specs.Limits.{IsWithin};
 ghost use Rattle.gp_chassis.specs.Core.{IsFullAt};
-ghost use Rattle.gp_replay.specs.Chassis.{HasRoom, KeepsFew, opened_play, play_of};
+ghost use Rattle.gp_chassis.specs.Core.{GrantsTurn};
+ghost use Rattle.gp_replay.specs.Chassis.{HasRoom, KeepsFew, IsSoundPort, opened_play, play_of};
 ghost use Rattle.gp_replay.specs.Play.{TakesTurns};
 
 use super::turn::Turn;
@@ -17,12 +18,12 @@ use std::sync::ledger::{Blank, Ledger};
 
 /// How many entries the journal of a port keeps at most while a script is played, whatever the script's own limit is: so the
 /// memory of a replay doesn't grow with its trace.
-pub(crate) const MAX_KEPT: u32 = 4096;
+pub const MAX_KEPT: u32 = 4096;
 
 /// The chassis that a script is played on, by one actor. Contracts see its world, and the number of each port's next entry.
 ///
 /// It has no `Drop`: its licences are gathered by `close`.
-pub(crate) struct Player<L: Ledger> {
+pub struct Player<L: Ledger> {
     alloc: Global,
     chassis: ChassisCore<L>,
 }
@@ -47,7 +48,7 @@ impl<L: Ledger> Model for Player<L> {
 
 impl<L: Ledger> Player<L> {
     /// Opens the chassis, before its first event.
-    pub(crate) fn begin(
+    pub fn begin(
         alloc: Global,
         blank: Blank,
         config: &ChassisConfig,
@@ -69,7 +70,7 @@ impl<L: Ledger> Player<L> {
     /// the port's journal is full it is cut first, and what it kept is let go.
     ///
     /// An error is answered where memory for the journal was refused; no turn is then taken.
-    pub(crate) fn take_turn(&mut self, turn: Turn) -> Result<Receipt, AllocError>
+    pub fn take_turn(&mut self, turn: Turn) -> Result<Receipt, AllocError>
         requires port { turn.port < length self.old.next }
         requires room { HasRoom 1 self.old }
         ensures taken { IfOk result (λ receipt. TakesTurns self.old (turn ∷ []) (receipt ∷ []) self.new) }
@@ -77,26 +78,61 @@ impl<L: Ledger> Player<L> {
         ensures refused { OnErr result (self.new ≡ self.old) }
         ensures ports { length self.new.next ≡ length self.old.next }
     {
-        match serve(&mut self.chassis, turn) {
+        self.take_turn_wishing(turn, None)
+    }
+
+    /// Does the same, and hands out the wished number where it is free and one is handed out.
+    pub fn take_turn_wishing(
+        &mut self,
+        turn: Turn,
+        wished: Option<u16>,
+    ) -> Result<Receipt, AllocError>
+        requires port { turn.port < length self.old.next }
+        requires room { HasRoom 1 self.old }
+        ensures taken { IfOk result (λ receipt. TakesTurns self.old (turn ∷ []) (receipt ∷ []) self.new) }
+        ensures proper { IfOk result (λ receipt. ForSome receipt.entry.answer.sent IsProperDown) }
+        ensures refused { OnErr result (self.new ≡ self.old) }
+        ensures ports { length self.new.next ≡ length self.old.next }
+        ensures wished { IfOk result (λ receipt. GrantsTurn self.old.world self.new.world turn.port turn.event wished receipt.entry) }
+    {
+        match serve(&mut self.chassis, turn, wished) {
             Ok(receipt) => Ok(receipt),
             Err(CoreFault::JournalFull) => {
                 make_room(&mut self.chassis, self.alloc, turn.port)?;
-                serve_with_room(&mut self.chassis, turn)
+                serve_with_room(&mut self.chassis, turn, wished)
             }
             Err(CoreFault::OutOfMemory) => Err(AllocError),
             Err(CoreFault::NoActor | CoreFault::NoPort) => unreachable!(),
         }
     }
 
+    /// Tells how many ports there are.
+    pub fn ports(&self) -> usize
+        ensures { result ≡ length self.now.next }
+    {
+        self.chassis.ports()
+    }
+
+    /// States what holds of every port: its state is sound, and its configuration within its limits.
+    pub fn stands(&self)
+        ensures { All IsSoundPort self.now.world.ports }
+    {
+        self.chassis.stands();
+    }
+
     /// Ends the chassis, and answers how many licences there are.
-    pub(crate) fn close(self) -> u32 {
+    pub fn close(self) -> u32 {
         let Player { alloc: _, chassis } = self;
         chassis.close()
     }
 }
 
 /// Has the port serve the event of a turn, as actor 0.
-fn serve<L: Ledger>(chassis: &mut ChassisCore<L>, turn: Turn) -> Result<Receipt, CoreFault>
+fn serve<L: Ledger>(
+    chassis: &mut ChassisCore<L>,
+    turn: Turn,
+    wished: Option<u16>,
+) -> Result<Receipt, CoreFault>
     requires few { All KeepsFew chassis.old.desks }
     requires port { turn.port < length chassis.old.desks }
     ensures taken { IfOk result (λ receipt. TakesTurns (play_of chassis.old) (turn ∷ []) (receipt ∷ []) (play_of chassis.new)) }
@@ -106,14 +142,16 @@ fn serve<L: Ledger>(chassis: &mut ChassisCore<L>, turn: Turn) -> Result<Receipt,
     ensures full { result ≡ Err CoreFault.JournalFull → IsFullAt chassis.old turn.port }
     ensures some_port { result ≢ Err CoreFault.NoPort }
     ensures some_actor { result ≢ Err CoreFault.NoActor }
+    ensures wished { IfOk result (λ receipt. GrantsTurn (play_of chassis.old).world (play_of chassis.new).world turn.port turn.event wished receipt.entry) }
 {
-    chassis.apply(turn.port, turn.event)
+    chassis.apply_wishing(turn.port, turn.event, wished)
 }
 
 /// The same where the port's journal has room for the entry.
 fn serve_with_room<L: Ledger>(
     chassis: &mut ChassisCore<L>,
     turn: Turn,
+    wished: Option<u16>,
 ) -> Result<Receipt, AllocError>
     requires few { All KeepsFew chassis.old.desks }
     requires port { turn.port < length chassis.old.desks }
@@ -122,8 +160,9 @@ fn serve_with_room<L: Ledger>(
     ensures proper { IfOk result (λ receipt. ForSome receipt.entry.answer.sent IsProperDown) }
     ensures few { All KeepsFew chassis.new.desks }
     ensures refused { OnErr result (chassis.new ≡ chassis.old) }
+    ensures wished { IfOk result (λ receipt. GrantsTurn (play_of chassis.old).world (play_of chassis.new).world turn.port turn.event wished receipt.entry) }
 {
-    match serve(chassis, turn) {
+    match serve(chassis, turn, wished) {
         Ok(receipt) => Ok(receipt),
         Err(CoreFault::OutOfMemory) => Err(AllocError),
         Err(CoreFault::NoActor | CoreFault::NoPort | CoreFault::JournalFull) => unreachable!(),

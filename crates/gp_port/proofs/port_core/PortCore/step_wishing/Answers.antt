@@ -1,8 +1,8 @@
 use Rattle.std.proofs.Common.{◌≡◌, ◌+◌, arith}
 use Rattle.gp_machine.specs.State.{rows_of}
 use Rattle.gp_machine.specs.Changes.{step_result_of}
-use Rattle.gp_port.proofs.Cores.{kept, moved, same_config, shared}
-use Rattle.gp_port.proofs.port_core.PortCore.step.Goals as goal
+use Rattle.gp_port.proofs.Cores.{kept, moved, moved_wish, same_config, shared}
+use Rattle.gp_port.proofs.port_core.PortCore.step_wishing.Goals as goal
 
 pub share_out-rest-requires : goal.share_out-rest-requires
 share_out-rest-requires g c =
@@ -45,3 +45,8 @@ returns-clause-refused g c =
     rw (← c.self.view_is)
     (λ refusal is.
     c.refusals_change_nothing.ensures c.args.purse c.self.inside.machine c.args.event (step_result_of (c.step-answer.result.0, c.share_out-rest.result) c.step-answer.new.self) refusal c.self.invariant.sound step is)
+
+pub returns-clause-wished : goal.returns-clause-wished
+returns-clause-wished g c =
+    rw (← c.self.view_is)
+    (moved_wish c.count.result c.args.purse c.step-answer.result.1 c.share_out-rest.result c.self.inside.machine c.step-answer.new.self c.args.event c.args.wished c.step-answer.result.0 c.count.ensures.count c.share_out-rest.ensures.left c.step-answer.ensures.wished)

@@ -1,8 +1,8 @@
 use Rattle.std.proofs.Common.{rules, ◌<◌, length, arith}
 use Rattle.std.proofs.lemmas.Grind.{common_steps}
-use Rattle.gp_chassis.specs.Core.{CoreApplies}
-use Rattle.gp_chassis.proofs.Cores.{applied_run, lent_full}
-use Rattle.gp_chassis.proofs.chassis_core.ChassisCore.apply.Goals as goal
+use Rattle.gp_chassis.specs.Core.{CoreApplies, CoreServes, GrantsFrom, lent}
+use Rattle.gp_chassis.proofs.Cores.{applied_run, lent_full, turn_granted}
+use Rattle.gp_chassis.proofs.chassis_core.ChassisCore.apply_wishing.Goals as goal
 
 pub returns-in-Ok-clause-run : goal.returns-in-Ok-clause-run
 returns-in-Ok-clause-run g c =
@@ -19,3 +19,10 @@ returns-after-count-before-clause-full g c = λ port.
 
 pub returns-after-count-before-clause-err : goal.returns-after-count-before-clause-err
 returns-after-count-before-clause-err g c = grind (arith, common_steps)
+
+pub returns-in-Ok-clause-wished : goal.returns-in-Ok-clause-wished
+returns-in-Ok-clause-wished g c =
+    let actors : 0 < length c.args.self.now.hands = search rules in
+    let serves : CoreServes (lent c.args.event c.args.self.now) c.serve_from.new.self 0 c.args.port c.args.event c.in-Ok.receipt = rw c.lend.ensures at c.in-Ok.ensures.ok in
+    let grants : GrantsFrom (lent c.args.event c.args.self.now) c.serve_from.new.self 0 c.args.port c.args.event c.args.wished c.in-Ok.receipt.entry = rw c.lend.ensures at c.in-Ok.ensures.wished in
+    turn_granted _ _ _ _ _ _ _ actors serves grants c.give_from.ensures
