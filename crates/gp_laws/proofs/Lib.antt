@@ -1,7 +1,6 @@
 pub mod AnyFree
 pub mod Readings
 pub mod EveryStep
-pub mod TableLines
 pub mod WholeRuns
 pub mod RunMessages
 pub mod HeldNumbers
@@ -11,3 +10,9 @@ pub mod OrderlyFrames
 pub mod Losing
 pub mod ProperMessages
 pub mod Resting
+pub mod OwedFirst
+pub mod PollCounts
+pub mod PollAnswers
+pub mod FreeAgain
+pub mod Stretches
+pub mod PollAlarms

@@ -49,7 +49,7 @@ set_keeps rows t new old s n has same h =
 
 pub change_keeps : (p : PortState) (change : Change) (later : List Change) → KeepsOnuId p change later → (s : Serial) (n : ℕ) → HasOnuId p.rows s n
     → HasOnuId (state_after_change p change).rows s n ⊎ TakesOnuId (owed_by later) s n
-change_keeps p (AddsUnit t row) later none s n h = inl (h.0, has_others p.rows t row s h.0 (differs p.rows t s h.0 none h.1) h.1, h.2)
+change_keeps p (AddsUnit t row) later none s n h = inl (h.0, has_others p.rows t row s h.0 (differs p.rows t s h.0 none.0 h.1) h.1, h.2)
 change_keeps p (SetsRow t new) later k s n h = inl (set_keeps p.rows t new k.0 s n k.1 k.2 h)
 change_keeps p (RemovesUnit t m) later k s n h =
     elim (cases_Bool (same_serial s t)) [

@@ -73,7 +73,7 @@ IsToldLast p m later = Unit {0}
 -- what a change does with ONU-IDs, where these changes come after it
 abbrev pub KeepsOnuId : PortState → Change → List Change → Type 0
 KeepsOnuId p (Owes m) later = IsToldLast p m later
-KeepsOnuId p (AddsUnit s row) later = get p.rows s ≡ None
+KeepsOnuId p (AddsUnit s row) later = (get p.rows s ≡ None) × (later ≡ Owes (down.AssignOnu row.onu s) ∷ [])
 KeepsOnuId p (SetsRow s row) later = (old : Row) × HasRow p.rows s old × (row.onu ≡ old.onu)
 KeepsOnuId p (RemovesUnit s n) later = (row : Row) × HasRow p.rows s row × (row.onu ≡ n) × TakesOnuId (owed_by later) s n
 KeepsOnuId p change later = Unit {0}
@@ -128,7 +128,7 @@ module _ (p : PortState) where
   newcomer : (u : ℕ) (s : Serial) → is_among s p.config.admitted ≡ true → get p.rows s ≡ None → IsOrderly p (newcomer_response u p s)
   newcomer u s admitted none =
       by_causes (IsOrderly p) refuses_burst (newcomer_causes u p) (GivesOnu s) refused_burst
-      (λ causes. record { founded = λ n free. (admitted, tt); kept = λ n free. (none, (((new_row n, has_it p.rows s (new_row n), refl), refl), tt)); removes = tt })
+      (λ causes. record { founded = λ n free. (admitted, tt); kept = λ n free. ((none, refl), (((new_row n, has_it p.rows s (new_row n), refl), refl), tt)); removes = tt })
 
   again : (s : Serial) (row : Row) → is_among s p.config.admitted ≡ true → HasRow p.rows s row → IsOrderly p (again_response p s row.onu)
   again s row admitted has =

@@ -33,7 +33,7 @@ use Rattle.gp_laws.proofs.Losing.{has_same, set_keeps, start_rows}
 -- ---- the counts of cooling frames
 
 -- a port has a count for each ONU-ID
-abbrev IsCounted : PortState → Type 0
+abbrev pub IsCounted : PortState → Type 0
 IsCounted p = length p.cooling ≡ onu_ids
 
 change_counted : (p : PortState) (change : Change) → IsCounted p → IsCounted (state_after_change p change)
@@ -110,11 +110,11 @@ module _ (n : ℕ) (low : n < onu_ids) where
   -- ---- what frees an ONU-ID
 
   -- a unit keeps its ONU-ID, or the quarantine of the ONU-ID begins
-  abbrev RestsOrIsHeld : PortState → Serial → ℕ → Type 0
+  abbrev pub RestsOrIsHeld : PortState → Serial → ℕ → Type 0
   RestsOrIsHeld q s k = HasOnuId q.rows s n ⊎ (k ≤ cooling_of q n)
 
   change_frees : (p : PortState) (change : Change) (later : List Change) → IsCounted p → KeepsOnuId p change later → (s : Serial) → HasOnuId p.rows s n → RestsOrIsHeld (state_after_change p change) s p.config.quarantine
-  change_frees p (AddsUnit t row) later counted none s h = inl (h.0, has_others p.rows t row s h.0 (differs p.rows t s h.0 none h.1) h.1, h.2)
+  change_frees p (AddsUnit t row) later counted none s h = inl (h.0, has_others p.rows t row s h.0 (differs p.rows t s h.0 none.0 h.1) h.1, h.2)
   change_frees p (SetsRow t new) later counted k s h = inl (set_keeps p.rows t new k.0 s n k.1 k.2 h)
   change_frees p (RemovesUnit t m) later counted k s h =
       elim (cases_Bool (same_serial s t)) [
@@ -139,7 +139,7 @@ module _ (n : ℕ) (low : n < onu_ids) where
       by_change (inr rests) later =
           inr (changes_cool (state_after_change p change) changes p.config.quarantine (change_counted p change counted) (subst (λ (c : PortConfig). p.config.quarantine ≤ c.quarantine) (sym (change_config p change)) (omega arith)) rests)
 
-  step_frees : (p q : PortState) (e : Entry) → IsCounted p → IsStep p e q → (s : Serial) → HasOnuId p.rows s n → RestsOrIsHeld q s p.config.quarantine
+  pub step_frees : (p q : PortState) (e : Entry) → IsCounted p → IsStep p e q → (s : Serial) → HasOnuId p.rows s n → RestsOrIsHeld q s p.config.quarantine
   step_frees p q e counted step s h =
       let t = step.1 in
       let start = state_at p e.event in

@@ -1,9 +1,9 @@
 pub mod Steps
-pub mod TableLines
 pub mod Runs
-pub mod Messages
 pub mod Numbers
+pub mod Quarantine
+pub mod Messages
 pub mod Causes
 pub mod Removals
 pub mod Alarms
-pub mod Quarantine
+pub mod Polls

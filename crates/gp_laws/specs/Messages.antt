@@ -1,6 +1,6 @@
 -- The messages of whole runs: what is sent, and what is still owed, is what the steps owe (G.984.3, clauses 9 and 10; that the
 -- three copies go out in a row, behind all that is owed, is this profile's own rule).
-use Rattle.std.specs.Prelude.{◌≡◌, ◌^◌, ◌<◌, ◌≤◌, List, ◌++◌, length, All}
+use Rattle.std.specs.Prelude.{◌≡◌, ◌^◌, ◌<◌, ◌≤◌, List, ◌++◌, length, take, drop, All}
 use Rattle.gp_pools.specs.Limits.{last_alloc_id}
 use Rattle.gp_ploam.specs.declared.message.Down.{Down}
 use Rattle.gp_ploam.specs.Down.{IsProperDown}
@@ -9,6 +9,7 @@ use Rattle.gp_machine.specs.declared.entry.Entry.{Entry}
 use Rattle.gp_machine.specs.State.{PortState, opening_of}
 use Rattle.gp_machine.specs.Run.{Run}
 use Rattle.gp_machine.specs.Messages.{RunOwing, sent_in, three_times}
+use Rattle.gp_laws.specs.Quarantine.{frames_in}
 
 -- each run has a list of the messages that its steps owe; it may be empty
 abbrev pub EveryRunHasOwedMessages : Type 0
@@ -28,6 +29,24 @@ SendsWhatWasOwedFirst =
     (port last : PortState) (entries : List Entry) (messages : List Down)
     → RunOwing port entries messages last
     → sent_in entries ++ last.owed ≡ port.owed ++ three_times messages
+
+-- each frame of a run sends one of the copies that were owed at its start, in order, while there are any; what the steps
+-- of the run owe, those frames included, comes behind the rest of these
+abbrev pub SendsFirstOwed : Type 0
+SendsFirstOwed =
+    (port last : PortState) (entries : List Entry) (messages : List Down)
+    → RunOwing port entries messages last
+    → frames_in entries ≤ length port.owed
+    → (sent_in entries ≡ take (frames_in entries) port.owed)
+    × (last.owed ≡ drop (frames_in entries) port.owed ++ three_times messages)
+
+-- with as many frames or more all of these are sent, and then the first of those that the steps owe
+abbrev pub SendsAllOwed : Type 0
+SendsAllOwed =
+    (port last : PortState) (entries : List Entry) (messages : List Down)
+    → RunOwing port entries messages last
+    → length port.owed ≤ frames_in entries
+    → (more : List Down) × (sent_in entries ≡ port.owed ++ more) × (three_times messages ≡ more ++ last.owed)
 
 -- what the types of a configuration say of what it puts into messages, and that its Alloc-IDs have twelve bits: ten octets of
 -- Upstream_Overhead, delays of 32 bits, and serial numbers of eight octets

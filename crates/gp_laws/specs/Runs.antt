@@ -1,5 +1,5 @@
 -- Whole runs: their parts, the states that they lead to, and their licences (this profile's own rule).
-use Rattle.std.specs.Prelude.{◌≡◌, ◌↔◌, ℕ, ◌+◌, List, ◌++◌}
+use Rattle.std.specs.Prelude.{◌≡◌, ◌↔◌, ℕ, ◌+◌, List, [], ◌∷◌, ◌++◌}
 use Rattle.std.specs.List.{sum_by}
 use Rattle.gp_machine.specs.declared.config.PortConfig.{PortConfig}
 use Rattle.gp_machine.specs.declared.entry.Entry.{Entry}
@@ -11,6 +11,33 @@ use Rattle.gp_machine.specs.Run.{Run, IsReached}
 abbrev pub RunsInParts : Type 0
 RunsInParts =
     (port last : PortState) (entries more : List Entry) → Run port (entries ++ more) last ↔ ((mid : PortState) × Run port entries mid × Run mid more last)
+
+-- given the state in which a run begins, its entries determine the one in which it ends
+abbrev pub RunsEndAlike : Type 0
+RunsEndAlike =
+    (port last other : PortState) (entries : List Entry) → Run port entries last → Run port entries other → last ≡ other
+
+-- two entries have as many licences handed in, the same event and the same reply
+abbrev pub AreAlike : Entry → Entry → Type 0
+AreAlike one other =
+    (one.purse_in ≡ other.purse_in) × (one.event ≡ other.event) × (one.answer.reply ≡ other.answer.reply)
+
+-- so have the entries of two lists, one by one
+abbrev pub AreAllAlike : List Entry → List Entry → Type 0
+AreAllAlike [] [] = Unit {0}
+AreAllAlike [] (other ∷ others) = ⊥
+AreAllAlike (one ∷ entries) [] = ⊥
+AreAllAlike (one ∷ entries) (other ∷ others) = AreAlike one other × AreAllAlike entries others
+
+-- the licences handed in, the events and the replies determine all else of a run: what is sent, granted and raised, the
+-- licences handed back, and the end
+abbrev pub RepliesTellRuns : Type 0
+RepliesTellRuns =
+    (port last other : PortState) (entries others : List Entry)
+    → Run port entries last
+    → Run port others other
+    → AreAllAlike entries others
+    → (entries ≡ others) × (last ≡ other)
 
 -- every state that is reached is sound, so each state on the way of a run from an opening
 abbrev pub EveryStateIsSound : Type 0

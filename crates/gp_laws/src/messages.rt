@@ -1,4 +1,4 @@
-ghost use Rattle.gp_laws.specs.Messages.{EveryRunHasOwedMessages, SendsEachThreeTimes, SendsWhatWasOwedFirst, SendsOnlyProperMessages};
+ghost use Rattle.gp_laws.specs.Messages.{EveryRunHasOwedMessages, SendsEachThreeTimes, SendsWhatWasOwedFirst, SendsFirstOwed, SendsAllOwed, SendsOnlyProperMessages};
 
 /// States that the copies sent along a run, and after them those still owed, are the messages that its
 /// steps owe, in order, each three times; the copies that were owed at its start come first.
@@ -12,4 +12,11 @@ pub fn sends_each_message_three_times()
 /// code.
 pub fn sends_only_proper_messages()
     ensures { SendsOnlyProperMessages }
+{}
+
+/// States that the frames of a run send the copies that were owed at its start, one each and in order, and
+/// that what its steps owe, those frames included, comes behind them.
+pub fn sends_first_owed()
+    ensures first { SendsFirstOwed }
+    ensures all { SendsAllOwed }
 {}

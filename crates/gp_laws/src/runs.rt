@@ -1,4 +1,6 @@
-ghost use Rattle.gp_laws.specs.Runs.{RunsInParts, EveryStateIsSound, KeepsConfiguration, RunsKeepLicences};
+ghost use Rattle.gp_laws.specs.Runs.{RunsInParts, RunsEndAlike, RepliesTellRuns, EveryStateIsSound, KeepsConfiguration, RunsKeepLicences};
+
+use gp_machine::one_outcome;
 
 /// States that a run may be cut anywhere, and that runs may be joined.
 pub fn runs_in_parts()
@@ -20,3 +22,12 @@ pub fn runs_keep_licences()
 pub fn keeps_configuration()
     ensures { KeepsConfiguration }
 {}
+
+/// States that two runs of the same entries from one state end in one state, and that the licences handed
+/// in, the events and the replies are enough to tell all else of a run.
+pub fn runs_end_alike()
+    ensures entries { RunsEndAlike }
+    ensures replies { RepliesTellRuns }
+{
+    one_outcome();
+}
