@@ -20,7 +20,7 @@ use Rattle.gp_machine.specs.declared.event.Event.TheVariants as event
 use Rattle.gp_machine.specs.declared.reply.Reply.TheVariants.{Found}
 use Rattle.gp_machine.specs.State.{PortState, Rows, HasRow, cooling_of, rows_of}
 use Rattle.gp_machine.specs.Sound.{IsSound}
-use Rattle.gp_machine.specs.Changes.{Change, StepResult, Owes, MarksSeen, CountsDown, ClosesWindow, OpensWindow, Enters, Wants, AddsUnit, SetsRow, RemovesUnit, Disables, Enables, EnablesAll, PopsUpAll, state_after_change, state_after}
+use Rattle.gp_machine.specs.Changes.{Change, StepResult, Owes, AddsUnit, SetsRow, RemovesUnit, PopsUpAll, state_after_change, state_after}
 use Rattle.gp_machine.specs.Responses.{changes_with}
 use Rattle.gp_machine.specs.Step.{state_at}
 use Rattle.gp_machine.specs.Run.{IsStep, Run, entry_outcome}
@@ -75,33 +75,12 @@ change_unheld p n PopsUpAll later k unheld none = (λ s h. before s h (has_mappe
   where
     before : (s : Serial) (h : HasOnuId (state_after_change p PopsUpAll).rows s n) → (row : Row) × HasRow p.rows s row × (row_popped_up row row.phase ≡ h.0) → ⊥
     before s h b = unheld s (b.0, b.1, sym (popped_onu b.0 b.0.phase) ∙ ap (λ (r : Row). r.onu) b.2 ∙ h.2)
-change_unheld p n (Owes m) later k unheld none = (unheld, refl)
-change_unheld p n MarksSeen later k unheld none = (unheld, refl)
-change_unheld p n CountsDown later k unheld none = (unheld, refl)
-change_unheld p n ClosesWindow later k unheld none = (unheld, refl)
-change_unheld p n (OpensWindow g) later k unheld none = (unheld, refl)
-change_unheld p n (Enters c) later k unheld none = (unheld, refl)
-change_unheld p n (Wants w) later k unheld none = (unheld, refl)
-change_unheld p n (Disables s) later k unheld none = (unheld, refl)
-change_unheld p n (Enables s) later k unheld none = (unheld, refl)
-change_unheld p n EnablesAll later k unheld none = (unheld, refl)
+change_unheld p n change later k unheld none = (unheld, refl)
 
 -- whether a change gives a number to a unit
 added : (change : Change) → ((s : Serial) × (row : Row) × (change ≡ AddsUnit s row)) ⊎ ((s : Serial) (row : Row) → change ≡ AddsUnit s row → ⊥)
 added (AddsUnit s row) = inl (s, row, refl)
-added (SetsRow t new) = inr (λ s row e. cc)
-added (RemovesUnit t m) = inr (λ s row e. cc)
-added PopsUpAll = inr (λ s row e. cc)
-added (Owes m) = inr (λ s row e. cc)
-added MarksSeen = inr (λ s row e. cc)
-added CountsDown = inr (λ s row e. cc)
-added ClosesWindow = inr (λ s row e. cc)
-added (OpensWindow g) = inr (λ s row e. cc)
-added (Enters c) = inr (λ s row e. cc)
-added (Wants w) = inr (λ s row e. cc)
-added (Disables t) = inr (λ s row e. cc)
-added (Enables t) = inr (λ s row e. cc)
-added EnablesAll = inr (λ s row e. cc)
+added change = inr (λ s row e. cc)
 
 changes_unheld : (p : PortState) (n : ℕ) (changes : List Change) → KeepOnuIds p changes → IsUnheld n p.rows → cooling_of (state_after p changes) n ≡ cooling_of p n
 changes_unheld p n [] k unheld = refl
@@ -115,17 +94,14 @@ changes_unheld p n (change ∷ changes) k unheld = by_change (added change) (λ 
         (λ i. cooling_of (state_after (state_after_change p (adds.2 i)) (last i)) n)
     by_change (inr none) later = let now = change_unheld p n change changes k.0 unheld none in later now.0 ∙ now.1
 
+less_none : (k : ℕ) → k ≡ k - 0
+less_none k = omega arith
+
 -- a step shortens it by the frame that it is
 start_cooling : (p : PortState) (e : Event) (n : ℕ) → cooling_of (state_at p e) n ≡ cooling_of p n - frames_of e
 start_cooling p event.Frame n = get_or-map (λ (left : ℕ). left - 1) p.cooling n 0
-start_cooling p (event.Burst at bytes) n = unchanged (cooling_of p n)
-  where
-    unchanged : (k : ℕ) → k ≡ k - 0
-    unchanged k = omega arith
-start_cooling p (event.Command c) n = unchanged (cooling_of p n)
-  where
-    unchanged : (k : ℕ) → k ≡ k - 0
-    unchanged k = omega arith
+start_cooling p (event.Burst at bytes) n = less_none (cooling_of p n)
+start_cooling p (event.Command c) n = less_none (cooling_of p n)
 
 step_cooling : (p q : PortState) (e : Entry) (n : ℕ) → IsStep p e q → IsUnheld n p.rows → cooling_of q n ≡ cooling_of p n - frames_of e.event
 step_cooling p q e n step unheld =
@@ -150,10 +126,7 @@ module _ (n : ℕ) where
       by_holder (inr before) = unheld s before
 
   run_unheld : (p q : PortState) (es : List Entry) → IsSound p → Run p es q → All IsKept es → IsUnheld n p.rows → IsUnheld n q.rows × (cooling_of q n ≡ cooling_of p n - frames_in es)
-  run_unheld p q [] sound run kept unheld = (subst (λ (x : PortState). IsUnheld n x.rows) (sym run) unheld, ap (λ (x : PortState). cooling_of x n) run ∙ none (cooling_of p n))
-    where
-      none : (k : ℕ) → k ≡ k - 0
-      none k = omega arith
+  run_unheld p q [] sound run kept unheld = (subst (λ (x : PortState). IsUnheld n x.rows) (sym run) unheld, ap (λ (x : PortState). cooling_of x n) run ∙ less_none (cooling_of p n))
   run_unheld p q (e ∷ es) sound run kept unheld =
       let now = still_unheld p run.0 e sound run.1 (All-head IsKept e es kept) unheld in
       let rest = run_unheld run.0 q es (sound_step e.purse_in p e.event (entry_outcome e run.0) sound run.1) run.2 (All-tail IsKept e es kept) now in

@@ -103,6 +103,10 @@ no_alarm a e = cc
 no_end : (o : Outcome) → None ≡ Some o → ⊥
 no_end o e = cc
 
+cond_none : (b : Bool) → ◌≡◌ {A = Option Outcome} (cond b None None) None
+cond_none true = refl
+cond_none false = refl
+
 -- ---- where no poll window ends
 
 module _ (p : PortState) (end : ℕ → Option Outcome) (none : (n : ℕ) → end n ≡ None) where
@@ -383,10 +387,6 @@ module _ (p : PortState) (sound : IsSound p) where
 
   -- ---- any window
 
-  cond_none : (b : Bool) → ◌≡◌ {A = Option Outcome} (cond b None None) None
-  cond_none true = refl
-  cond_none false = refl
-
   module _ (at : ℕ) (bytes : List ℕ) where
     abbrev BurstEnds : Option WindowState → Reply → ℕ → Option Outcome
     BurstEnds o reply n = poll_end o (event.Burst at bytes) reply n
@@ -479,11 +479,7 @@ module _ (p : PortState) (ranging next : Option ℕ) (sound : IsSound (state_beg
       (λ last. subst (λ (b : Bool). IsCounting q (λ reply n. cond (polls w.grant n) (cond b (Some (poll_ended w.seen)) None) None) (close_response w.seen w.grant (asked_unit p w.grant))) (sym last) (closes w.seen w.grant (asked_unit p w.grant) asked refl))
       (λ more.
       still q (FrameEnds (Some w))
-      (λ reply n. ap (λ (b : Bool). cond (polls w.grant n) (cond b (Some (poll_ended w.seen)) None) None) more ∙ cond_nothing (polls w.grant n)) Ticked None tt)
-    where
-      cond_nothing : (b : Bool) → ◌≡◌ {A = Option Outcome} (cond b None None) None
-      cond_nothing true = refl
-      cond_nothing false = refl
+      (λ reply n. ap (λ (b : Bool). cond (polls w.grant n) (cond b (Some (poll_ended w.seen)) None) None) more ∙ cond_none (polls w.grant n)) Ticked None tt)
 
   by_opened : (o : Option WindowState) → IsAsked p.rows o → IsCounting q (FrameEnds o) (opened_response p ranging next o)
   by_opened None asked =

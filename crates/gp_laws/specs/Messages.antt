@@ -30,8 +30,8 @@ SendsWhatWasOwedFirst =
     → RunOwing port entries messages last
     → sent_in entries ++ last.owed ≡ port.owed ++ three_times messages
 
--- each frame of a run sends one of the copies that were owed at its start, in order, while there are any; what the steps
--- of the run owe, those frames included, comes behind the rest of these
+-- each frame of a run sends one of the copies that were owed at its start, in order, while there are any; what the
+-- steps of the run owe, those frames included, comes behind the rest of these
 abbrev pub SendsFirstOwed : Type 0
 SendsFirstOwed =
     (port last : PortState) (entries : List Entry) (messages : List Down)

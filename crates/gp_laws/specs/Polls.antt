@@ -1,6 +1,6 @@
 -- The poll windows of a unit along a run: how they end, what is counted of them, and after which of them an alarm is
--- raised. That four dark windows give LOS and three garbled ones LOAM is G.984.3, clause 11; all else is this profile's own
--- rule.
+-- raised. That four dark windows give LOS and three garbled ones LOAM is G.984.3, clause 11; all else is this profile's
+-- own rule.
 use Rattle.std.specs.Prelude.{◌≡◌, ◌↔◌, ℕ, ◌==◌, Bool, true, false, if◌then◌else◌, List, [], ◌∷◌, ◌++◌, replicate, All, Option, None, Some, is_some}
 use Rattle.std.specs.List.{sum_by}
 use Rattle.std.specs.Option.{option_and_then, option_to_list}
@@ -35,8 +35,8 @@ end_by_answer (reply.Acked alloc) = Some Acked
 end_by_answer (reply.Gasp onu) = Some Gasped
 end_by_answer _ = None
 
--- how this event, with this reply, ends a poll window, if it does: with its last frame, garbled where something was seen
--- and else dark, or with an answer of the unit
+-- how this event, with this reply, ends a poll window, if it does: with its last frame, garbled where something was
+-- seen and else dark, or with an answer of the unit
 abbrev pub window_end : WindowState → Event → Reply → Option Outcome
 window_end window Frame reply = if window.left == 1 then Some (poll_ended window.seen) else None
 window_end window (Burst round_trip bytes) reply = end_by_answer reply
@@ -72,8 +72,8 @@ awaits row = is_some row.pending
 abbrev pub RowPasses : (Row → Bool) → Serial → PortState → Type 0
 RowPasses test serial port = (row : Row) × HasRow port.rows serial row × (test row ≡ true)
 
--- the entries are steps from the first state to the last, the unit's row passes the test in both and in each state between
--- them, and with these entries its poll windows end so, in order
+-- the entries are steps from the first state to the last, the unit's row passes the test in both and in each state
+-- between them, and with these entries its poll windows end so, in order
 abbrev pub RunPolling : (Row → Bool) → Serial → PortState → List Entry → List Outcome → PortState → Type 0
 RunPolling test serial port [] ends last = RowPasses test serial port × (last ≡ port) × (ends ≡ [])
 RunPolling test serial port (entry ∷ entries) ends last =
@@ -84,8 +84,8 @@ RunPolling test serial port (entry ∷ entries) ends last =
 -- these entries lead from the opening to the last state, and the latest of them are a stretch in which the unit's row
 -- passes the test, and in which its poll windows end so
 pub record EndsPolling
-    (config : PortConfig) (entries : List Entry) (last : PortState) (serial : Serial) (test : Row → Bool) (ends : List Outcome)
-    : Type 0 where
+    (config : PortConfig) (entries : List Entry) (last : PortState)
+    (serial : Serial) (test : Row → Bool) (ends : List Outcome) : Type 0 where
   pub before : List Entry
   pub stretch : List Entry
   pub start : PortState
@@ -146,8 +146,8 @@ CountsGarbledWindows =
     × AreUnanswered ends (counts_of row).garbled
     × CountsNone polling.start serial (λ row. (counts_of row).garbled)
 
--- and since the waiting count of a unit that has still to acknowledge an Alloc-ID was last 0, as many of its poll windows
--- ended that count for LOA
+-- and since the waiting count of a unit that has still to acknowledge an Alloc-ID was last 0, as many of its poll
+-- windows ended that count for LOA
 abbrev pub CountsWaitedWindows : Type 0
 CountsWaitedWindows =
     (config : PortConfig) (last : PortState) (entries : List Entry) (serial : Serial) (row : Row)
@@ -176,8 +176,8 @@ EndsThreeGarbled config entries last entry serial =
     (ends : List Outcome) × EndsPolling config entries last serial operates ends
     × AreUnanswered ends 2 × (end_of last serial entry ≡ Some Garbled)
 
--- this entry ends a poll window of the unit that counts for LOA, and of those before it two counted, while it had still to
--- acknowledge an Alloc-ID
+-- this entry ends a poll window of the unit that counts for LOA, and of those before it two counted, while it had still
+-- to acknowledge an Alloc-ID
 abbrev pub EndsThreeWaited : PortConfig → List Entry → PortState → Entry → Serial → Type 0
 EndsThreeWaited config entries last entry serial =
     (ends : List Outcome) × (final : Outcome) × EndsPolling config entries last serial awaits ends
@@ -199,8 +199,8 @@ RaisesLoamAfterThreeGarbled =
     → IsStep last entry after
     → Raises entry Loam serial ↔ EndsThreeGarbled config entries last entry serial
 
--- and it raises LOA exactly where it ends the third one in which a pending Alloc-ID was not acknowledged, and neither LOS
--- nor LOAM comes first
+-- and it raises LOA exactly where it ends the third one in which a pending Alloc-ID was not acknowledged, and neither
+-- LOS nor LOAM comes first
 abbrev pub RaisesLoaAfterThreeWaited : Type 0
 RaisesLoaAfterThreeWaited =
     (config : PortConfig) (last after : PortState) (entries : List Entry) (entry : Entry) (serial : Serial)

@@ -39,9 +39,9 @@ FreedOnuIdsRest =
     → giving.answer.reply ≡ Found onu
     → config.quarantine ≤ frames_in entries
 
--- where a step of a run from an opening frees an ONU-ID, and no later step gives it to a new unit: it is free again once as
--- many frames have begun as the quarantine has, and not before, as long as there is room for a further unit. The step that
--- frees it is not counted, also where it is itself a frame
+-- where a step of a run from an opening frees an ONU-ID, and no later step gives it to a new unit: it is free again
+-- once as many frames have begun as the quarantine has, and not before, as long as there is room for a further unit. The
+-- step that frees it is not counted, also where it is itself a frame
 abbrev pub FreedOnuIdsAreFreeAgain : Type 0
 FreedOnuIdsAreFreeAgain =
     (config : PortConfig) (port mid last : PortState) (freeing : Entry) (entries : List Entry)
