@@ -1,0 +1,102 @@
+-- A line that asks for something (this profile's own rule).
+use Rattle.std.specs.Prelude.{◌≡◌, ℕ, ◌==◌, ◌≤◌, Bool, true, false, List, [], ◌∷◌, ◌++◌, length, if◌then◌else◌, codes, decimal, ⊤}
+use Rattle.gp_ploam.specs.OnuIds.{last_onu}
+use Rattle.gp_ranging.specs.declared.grant.Grant.{Grant}
+use Rattle.gp_ranging.specs.declared.grant.Grant.TheVariants as grants
+use Rattle.gp_trace.specs.Reply.{numbered}
+use Rattle.gp_trace.specs.Text.{event_text}
+use Rattle.gp_lines.specs.declared.turn.Asked.{Asked}
+use Rattle.gp_lines.specs.declared.turn.Asked.TheVariants as asked
+use Rattle.gp_lines.specs.Parts.{parts_of}
+use Rattle.gp_lines.specs.Spelling.{last_port, SpellsNumber, SpellsParts}
+use Rattle.gp_lines.specs.Told.{IsTold}
+
+-- the most octets that a line has before its line feed
+abbrev pub longest_line : ℕ
+longest_line = 4096
+
+-- the most frames that one line asks for
+abbrev pub most_frames : ℕ
+most_frames = 1000000
+
+-- the last place that a simulated unit may have in a script
+abbrev pub last_unit : ℕ
+last_unit = 1023
+
+-- a carriage return at the end of a line is no part of its text
+abbrev pub without_return : List ℕ → List ℕ
+without_return [] = []
+without_return (octet ∷ []) = if octet == 13 then [] else octet ∷ []
+without_return (octet ∷ next ∷ rest) = octet ∷ without_return (next ∷ rest)
+
+-- a text that is empty or begins with `#` asks for nothing
+abbrev pub is_remark : List ℕ → Bool
+is_remark [] = true
+is_remark (octet ∷ rest) = octet == 35
+
+-- a word and an ONU-ID
+abbrev pub SpellsOnu : List ℕ → List (List ℕ) → ℕ → Type 0
+SpellsOnu word parts onu =
+    (digits : List ℕ) × (parts ≡ word ∷ digits ∷ []) × SpellsNumber digits onu × (onu ≤ last_onu)
+
+-- who is asked to answer, in the words of a trace
+abbrev pub SpellsGrant : List (List ℕ) → Grant → Type 0
+SpellsGrant parts grants.Search = parts ≡ codes "search" ∷ []
+SpellsGrant parts (grants.Range onu) = SpellsOnu (codes "range") parts onu
+SpellsGrant parts (grants.Poll onu) = SpellsOnu (codes "poll") parts onu
+
+-- a port, and the parts behind it
+abbrev pub SpellsPort : List (List ℕ) → ℕ → List (List ℕ) → Type 0
+SpellsPort parts port others =
+    (digits : List ℕ) × (parts ≡ digits ∷ others) × SpellsNumber digits port × (port ≤ last_port)
+
+-- a unit is lit, or dark
+abbrev pub light_word : Bool → List ℕ
+light_word true = codes "light"
+light_word false = codes "dark"
+
+-- the text asks for this
+abbrev pub SpellsAsked : List ℕ → Asked → Type 0
+SpellsAsked text asked.Nothing = is_remark text ≡ true
+SpellsAsked text (asked.Event port event) =
+    (others : List (List ℕ)) × SpellsPort (parts_of text) port others × SpellsParts others event
+SpellsAsked text (asked.Frames port count) =
+    (digits : List ℕ) × SpellsPort (parts_of text) port (codes "frame" ∷ digits ∷ [])
+    × SpellsNumber digits count × (1 ≤ count) × (count ≤ most_frames)
+SpellsAsked text (asked.Until port grant) =
+    (others : List (List ℕ)) × SpellsPort (parts_of text) port (codes "until" ∷ others) × SpellsGrant others grant
+SpellsAsked text (asked.Light unit lit) =
+    (digits : List ℕ) × (parts_of text ≡ codes "unit" ∷ digits ∷ light_word lit ∷ [])
+    × SpellsNumber digits unit × (unit ≤ last_unit)
+
+-- the line, without its line feed, asks for this
+abbrev pub SpellsTurn : List ℕ → Asked → Type 0
+SpellsTurn line asked = (length line ≤ longest_line) × SpellsAsked (without_return line) asked
+
+-- a grant as a line names it
+abbrev pub grant_words : Grant → List ℕ
+grant_words grants.Search = codes "search"
+grant_words (grants.Range onu) = numbered (codes "range") onu
+grant_words (grants.Poll onu) = numbered (codes "poll") onu
+
+-- a line that asks for this
+abbrev pub turn_text : Asked → List ℕ
+turn_text asked.Nothing = []
+turn_text (asked.Event port event) = decimal port ++ codes " " ++ event_text event
+turn_text (asked.Frames port count) = decimal port ++ codes " frame " ++ decimal count
+turn_text (asked.Until port grant) = decimal port ++ codes " until " ++ grant_words grant
+turn_text (asked.Light unit lit) = numbered (codes "unit") unit ++ codes " " ++ light_word lit
+
+-- an ONU-ID that a grant names is one that a unit may have
+abbrev pub IsGrantToAsk : Grant → Type 0
+IsGrantToAsk grants.Search = ⊤
+IsGrantToAsk (grants.Range onu) = onu ≤ last_onu
+IsGrantToAsk (grants.Poll onu) = onu ≤ last_onu
+
+-- what a line can ask for: its numbers are in their ranges, and a trace can tell its event
+abbrev pub CanBeAsked : Asked → Type 0
+CanBeAsked asked.Nothing = ⊤
+CanBeAsked (asked.Event port event) = (port ≤ last_port) × IsTold event
+CanBeAsked (asked.Frames port count) = (port ≤ last_port) × (1 ≤ count) × (count ≤ most_frames)
+CanBeAsked (asked.Until port grant) = (port ≤ last_port) × IsGrantToAsk grant
+CanBeAsked (asked.Light unit lit) = unit ≤ last_unit

@@ -1,0 +1,112 @@
+-- What is read from a line that asks for something, or its first fault (this profile's own rule).
+use Rattle.std.specs.Prelude.{ℕ, Bool, true, false, List, [], ◌∷◌, length, Result, Ok, Err, if◌then◌else◌, nat_le, codes}
+use Rattle.std.specs.Str.{bytes_eq}
+use Rattle.gp_ranging.specs.declared.grant.Grant.{Grant}
+use Rattle.gp_ranging.specs.declared.grant.Grant.TheVariants as grants
+use Rattle.gp_lines.specs.declared.fault.LineFault.{LineFault}
+use Rattle.gp_lines.specs.declared.fault.LineFault.TheVariants as fault
+use Rattle.gp_lines.specs.declared.turn.Asked.{Asked}
+use Rattle.gp_lines.specs.declared.turn.Asked.TheVariants as asked
+use Rattle.gp_lines.specs.Parts.{parts_of}
+use Rattle.gp_lines.specs.Reading.{◌>>=◌, number_in, one_of, two_of, event_of_parts}
+use Rattle.gp_lines.specs.Turn.{without_return, is_remark}
+
+-- a number that stands alone
+unfoldable pub one_number : ℕ → ℕ → List (List ℕ) → Result ℕ LineFault
+one_number low high parts = do
+  digits ← one_of parts
+  number_in low high digits
+
+-- a grant that names an ONU-ID
+unfoldable pub range_grant : List (List ℕ) → Result Grant LineFault
+range_grant parts = do
+  onu ← one_number 0 253 parts
+  Ok (grants.Range onu)
+
+unfoldable pub poll_grant : List (List ℕ) → Result Grant LineFault
+poll_grant parts = do
+  onu ← one_number 0 253 parts
+  Ok (grants.Poll onu)
+
+unfoldable pub onu_grant : List ℕ → List (List ℕ) → Result Grant LineFault
+onu_grant word parts =
+    if bytes_eq word (codes "range") then range_grant parts
+    else if bytes_eq word (codes "poll") then poll_grant parts
+    else Err fault.Word
+
+-- a grant that names none
+unfoldable pub lone_grant : List ℕ → Result Grant LineFault
+lone_grant word = if bytes_eq word (codes "search") then Ok grants.Search else Err fault.Word
+
+-- the grant of the parts
+abbrev pub grant_of : List (List ℕ) → Result Grant LineFault
+grant_of [] = Err fault.Word
+grant_of (word ∷ []) = lone_grant word
+grant_of (word ∷ next ∷ others) = onu_grant word (next ∷ others)
+
+-- so many frames
+unfoldable pub frames_turn : ℕ → List (List ℕ) → Result Asked LineFault
+frames_turn port parts = do
+  count ← one_number 1 1000000 parts
+  Ok (asked.Frames port count)
+
+-- frames up to a grant
+unfoldable pub until_turn : ℕ → List (List ℕ) → Result Asked LineFault
+until_turn port parts = do
+  grant ← grant_of parts
+  Ok (asked.Until port grant)
+
+-- an event, once
+unfoldable pub event_turn : ℕ → List (List ℕ) → Result Asked LineFault
+event_turn port parts = do
+  event ← event_of_parts parts
+  Ok (asked.Event port event)
+
+-- what a word asks a port for, with the parts behind it
+unfoldable pub worded_turn : ℕ → List ℕ → List (List ℕ) → Result Asked LineFault
+worded_turn port word parts =
+    if bytes_eq word (codes "frame") then frames_turn port parts
+    else if bytes_eq word (codes "until") then until_turn port parts
+    else event_turn port (word ∷ parts)
+
+-- what a port is asked for
+abbrev pub behind_turn : ℕ → List (List ℕ) → Result Asked LineFault
+behind_turn port [] = Err fault.Word
+behind_turn port (word ∷ []) = event_turn port (word ∷ [])
+behind_turn port (word ∷ next ∷ others) = worded_turn port word (next ∷ others)
+
+-- a port, and what it is asked for
+unfoldable pub port_turn : List ℕ → List (List ℕ) → Result Asked LineFault
+port_turn digits parts = do
+  port ← number_in 0 15 digits
+  behind_turn port parts
+
+-- whether a unit is lit
+unfoldable pub lit_of : List ℕ → Result Bool LineFault
+lit_of word =
+    if bytes_eq word (codes "light") then Ok true else if bytes_eq word (codes "dark") then Ok false else Err fault.Word
+
+-- the light of a unit
+unfoldable pub light_turn : List (List ℕ) → Result Asked LineFault
+light_turn parts = do
+  fields ← two_of parts
+  lit ← lit_of fields.1
+  unit ← number_in 0 1023 fields.0
+  Ok (asked.Light unit lit)
+
+-- what begins with a unit or a port
+unfoldable pub begun_turn : List ℕ → List (List ℕ) → Result Asked LineFault
+begun_turn first parts = if bytes_eq first (codes "unit") then light_turn parts else port_turn first parts
+
+abbrev pub turn_of_parts : List (List ℕ) → Result Asked LineFault
+turn_of_parts [] = Err fault.Word
+turn_of_parts (first ∷ []) = Err fault.Word
+turn_of_parts (first ∷ second ∷ others) = begun_turn first (second ∷ others)
+
+-- what a text asks for
+abbrev pub asked_of : List ℕ → Result Asked LineFault
+asked_of text = if is_remark text then Ok asked.Nothing else turn_of_parts (parts_of text)
+
+-- what a line asks for
+abbrev pub turn_of : List ℕ → Result Asked LineFault
+turn_of line = if nat_le (length line) 4096 then asked_of (without_return line) else Err fault.Long

@@ -1,0 +1,186 @@
+//! Lines that ask for something.
+ghost use Rattle.std.specs.Prelude.{◌≡◌, ◌↔◌, Ok, Err};
+ghost use Rattle.gp_lines.specs.declared.fault.LineFault.{LineFault as AnyFault};
+ghost use Rattle.gp_lines.specs.declared.turn.Asked.{Asked as AnyAsked};
+ghost use Rattle.gp_lines.specs.Parts.{parts_of};
+ghost use Rattle.gp_lines.specs.Turn.{SpellsTurn, without_return, is_remark};
+ghost use Rattle.gp_lines.specs.TurnFault.{HasTurnFault};
+ghost use Rattle.gp_lines.specs.TurnReading as spec;
+
+use crate::event::event_in;
+use crate::fault::LineFault;
+use crate::fields::number_in;
+use crate::grant::{grant_in, one_number};
+use crate::laws::turns_are_read;
+use crate::parts::{cut, is_word, two_parts};
+use gp_machine::Event;
+use gp_ranging::Grant;
+
+/// The greatest port.
+pub const LAST_PORT: u8 = 15;
+
+/// The most frames that one line asks for.
+pub const MOST_FRAMES: u32 = 1_000_000;
+
+/// The last place that a simulated unit may have in a script.
+pub const LAST_UNIT: u16 = 1023;
+
+/// The most octets that a line has before its line feed.
+pub const LONGEST_LINE: usize = 4096;
+
+/// What a line asks for.
+#[derive(Clone, Copy, Debug, PartialEq, Eq)]
+pub enum Asked {
+    /// Nothing: the line is empty, or a remark.
+    Nothing,
+    /// That this happens at the port, once. The port is 0 to `LAST_PORT`.
+    Event { port: u8, event: Event },
+    /// So many frames at the port, 1 to `MOST_FRAMES`.
+    Frames { port: u8, count: u32 },
+    /// Frames at the port, up to the one that makes this grant.
+    Until { port: u8, grant: Grant },
+    /// The light of a simulated unit comes or goes. The unit is told by its place in the script, 0 to `LAST_UNIT`.
+    Light { unit: u16, lit: bool },
+}
+
+/// Reads so many frames.
+#[tactic(auto, unfolding(crate::specs::TurnReading::frames_turn))]
+fn frames_turn(port: u8, text: &[u8]) -> Result<Asked, LineFault>
+    ensures { result ≡ spec.frames_turn port (parts_of text.now) }
+{
+    let count = one_number(1, u64::from(MOST_FRAMES), text)? as u32;
+    Ok(Asked::Frames { port, count })
+}
+
+/// Reads a grant, up to which frames are asked for.
+#[tactic(auto, unfolding(crate::specs::TurnReading::until_turn))]
+fn until_turn(port: u8, text: &[u8]) -> Result<Asked, LineFault>
+    ensures { result ≡ spec.until_turn port (parts_of text.now) }
+{
+    let grant = grant_in(text)?;
+    Ok(Asked::Until { port, grant })
+}
+
+/// Reads an event, which is to happen once.
+#[tactic(auto, unfolding(crate::specs::TurnReading::event_turn))]
+fn event_turn(port: u8, text: &[u8]) -> Result<Asked, LineFault>
+    ensures { result ≡ spec.event_turn port (parts_of text.now) }
+{
+    let event = event_in(text)?;
+    Ok(Asked::Event { port, event })
+}
+
+/// Reads what stands behind a port.
+fn behind_turn(port: u8, text: &[u8]) -> Result<Asked, LineFault>
+    ensures { result ≡ spec.behind_turn port (parts_of text.now) }
+{
+    let (word, rest) = cut(text);
+    let Some(rest) = rest else {
+        return event_turn(port, text);
+    };
+    if is_word(word, "frame") {
+        frames_turn(port, rest)
+    } else if is_word(word, "until") {
+        until_turn(port, rest)
+    } else {
+        event_turn(port, text)
+    }
+}
+
+/// Reads a port, and what stands behind it.
+#[tactic(auto, unfolding(crate::specs::TurnReading::port_turn))]
+fn port_turn(digits: &[u8], text: &[u8]) -> Result<Asked, LineFault>
+    ensures { result ≡ spec.port_turn digits.now (parts_of text.now) }
+{
+    let port = number_in(0, u64::from(LAST_PORT), digits)? as u8;
+    behind_turn(port, text)
+}
+
+/// Reads whether a unit is lit.
+#[tactic(auto, unfolding(crate::specs::TurnReading::lit_of))]
+fn lit_in(word: &[u8]) -> Result<bool, LineFault>
+    ensures { result ≡ spec.lit_of word.now }
+{
+    match word {
+        b"light" => Ok(true),
+        b"dark" => Ok(false),
+        _ => Err(LineFault::Word),
+    }
+}
+
+/// Reads the light of a unit.
+#[tactic(auto, unfolding(crate::specs::TurnReading::light_turn))]
+fn light_turn(text: &[u8]) -> Result<Asked, LineFault>
+    ensures { result ≡ spec.light_turn (parts_of text.now) }
+{
+    let (unit, word) = two_parts(text)?;
+    let lit = lit_in(word)?;
+    let unit = number_in(0, u64::from(LAST_UNIT), unit)? as u16;
+    Ok(Asked::Light { unit, lit })
+}
+
+/// Reads what begins with a unit or a port.
+#[tactic(auto, unfolding(crate::specs::TurnReading::begun_turn))]
+fn begun_turn(first: &[u8], text: &[u8]) -> Result<Asked, LineFault>
+    ensures { result ≡ spec.begun_turn first.now (parts_of text.now) }
+{
+    if is_word(first, "unit") {
+        light_turn(text)
+    } else {
+        port_turn(first, text)
+    }
+}
+
+/// Reads the parts of a text.
+fn turn_in(text: &[u8]) -> Result<Asked, LineFault>
+    ensures { result ≡ spec.turn_of_parts (parts_of text.now) }
+{
+    let (first, rest) = cut(text);
+    match rest {
+        None => Err(LineFault::Word),
+        Some(rest) => begun_turn(first, rest),
+    }
+}
+
+/// Tells whether a text asks for nothing.
+fn is_remark(text: &[u8]) -> bool
+    ensures { result ≡ is_remark text.now }
+{
+    matches!(text, [] | [b'#', ..])
+}
+
+/// Gives a line without a carriage return at its end.
+fn without_return(line: &[u8]) -> &[u8]
+    ensures { result.now ≡ without_return line.now }
+{
+    match line.strip_suffix(b"\r") {
+        Some(text) => text,
+        None => line,
+    }
+}
+
+/// Reads a line.
+fn asked_in(line: &[u8]) -> Result<Asked, LineFault>
+    ensures { result ≡ spec.turn_of line.now }
+{
+    if line.len() > LONGEST_LINE {
+        return Err(LineFault::Long);
+    }
+    let text = without_return(line);
+    if is_remark(text) {
+        return Ok(Asked::Nothing);
+    }
+    turn_in(text)
+}
+
+/// Reads a line `PORT EVENT`, with the event as `parse_event` reads it, `PORT frame COUNT`, `PORT until GRANT`,
+/// `unit I light` or `unit I dark`. A grant is `search`, `range N` or `poll N`. The line comes without its line feed; a
+/// carriage return at its end is no part of it. Takes no memory.
+pub fn parse_turn(line: &[u8]) -> Result<Asked, LineFault>
+    ensures value { result ≡ spec.turn_of line.now }
+    ensures asked { (asked : AnyAsked) → (result ≡ Ok asked) ↔ SpellsTurn line.now asked }
+    ensures fault { (fault : AnyFault) → (result ≡ Err fault) ↔ HasTurnFault line.now fault }
+{
+    turns_are_read();
+    asked_in(line)
+}
