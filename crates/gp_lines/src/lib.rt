@@ -4,8 +4,8 @@
 //! - `turn.rt`, `grant.rt`: `parse_turn`, what a line asks for.
 //! - `traced.rt`: `split_line`, a line of a trace cut into its parts.
 //! - `picks.rt`: `picked`, the number that an answer picks.
-//! - `laws.rt`, `told.rt`: what `gp_trace` writes is read back, a text tells one thing at most, and a line of a trace
-//!   has no line feed but the one that ends it.
+//! - `laws.rt`, `told.rt`, `short.rt`: what `gp_trace` writes is read back, a text tells one thing at most, and a
+//!   line of a trace has no line feed but the one that ends it, and is not too long.
 //! - `word.rt`, `fields.rt`, `parts.rt`: the words that events begin with, numbers, codes and serial numbers, and what
 //!   stands between the spaces of a text. `fault.rt`: what is wrong with a line.
 //!
@@ -22,6 +22,7 @@ mod grant;
 mod laws;
 mod parts;
 mod picks;
+mod short;
 mod told;
 mod traced;
 mod turn;
@@ -31,10 +32,11 @@ pub use event::parse_event;
 pub use fault::LineFault;
 pub use laws::{
     events_are_read, one_cut, one_event, one_turn, picks_are_read, told_events_are_read,
-    told_picks_are_read, told_turns_are_read, traced_lines_are_cut, traced_lines_end_once,
-    turns_are_read,
+    told_picks_are_read, told_turns_are_read, traced_lines_are_cut, traced_lines_are_short,
+    traced_lines_end_once, turns_are_read,
 };
 pub use picks::picked;
+pub use short::answer_is_short;
 pub use told::event_is_told;
 pub use traced::{TraceLine, split_line};
 pub use turn::{Asked, LAST_PORT, LAST_UNIT, LONGEST_LINE, MOST_FRAMES, parse_turn};
