@@ -71,7 +71,7 @@ SpellsAsked text (asked.Light unit lit) =
 
 -- the line, without its line feed, asks for this
 abbrev pub SpellsTurn : List ℕ → Asked → Type 0
-SpellsTurn line asked = (length line ≤ longest_line) × SpellsAsked (without_return line) asked
+SpellsTurn line turn = (length line ≤ longest_line) × SpellsAsked (without_return line) turn
 
 -- a grant as a line names it
 abbrev pub grant_words : Grant → List ℕ

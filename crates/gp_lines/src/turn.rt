@@ -174,8 +174,10 @@ fn asked_in(line: &[u8]) -> Result<Asked, LineFault>
 }
 
 /// Reads a line `PORT EVENT`, with the event as `parse_event` reads it, `PORT frame COUNT`, `PORT until GRANT`,
-/// `unit I light` or `unit I dark`. A grant is `search`, `range N` or `poll N`. The line comes without its line feed; a
-/// carriage return at its end is no part of it. Takes no memory.
+/// `unit I light` or `unit I dark`. A grant is `search`, `range N` or `poll N`. A line that is empty or begins with `#`
+/// asks for nothing. The line comes without its line feed; a carriage return at its end is no part of it.
+///
+/// Whether the port and the unit are there is not known here. Takes no memory.
 pub fn parse_turn(line: &[u8]) -> Result<Asked, LineFault>
     ensures value { result ≡ spec.turn_of line.now }
     ensures asked { (asked : AnyAsked) → (result ≡ Ok asked) ↔ SpellsTurn line.now asked }
