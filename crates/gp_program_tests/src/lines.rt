@@ -1,0 +1,292 @@
+use gp_lines::{Asked, LONGEST_LINE, LineFault, parse_event, parse_turn, picked, split_line};
+use gp_machine::{Command, Event};
+use gp_ploam::Serial;
+use gp_ranging::Grant;
+use std::test::Fail;
+
+const A: Serial = Serial(*b"ABCD\x00\x00\x00\x01");
+
+/// Texts, and the event that each tells.
+const EVENTS: [(&'static str, Event); 16] = [
+    ("frame", Event::Frame),
+    (
+        "burst 100000 ff01414243440000000100002c",
+        Event::Burst {
+            at: 100_000,
+            bytes: [255, 1, 65, 66, 67, 68, 0, 0, 0, 1, 0, 0, 44],
+        },
+    ),
+    (
+        "burst 04294967295 FF01414243440000000100002C",
+        Event::Burst {
+            at: 4_294_967_295,
+            bytes: [255, 1, 65, 66, 67, 68, 0, 0, 0, 1, 0, 0, 44],
+        },
+    ),
+    ("search", Event::Command(Command::Search)),
+    ("alloc ABCD00000001", Event::Command(Command::Alloc(A))),
+    ("alloc 4142434400000001", Event::Command(Command::Alloc(A))),
+    (
+        "dealloc ABCD00000001 256",
+        Event::Command(Command::Dealloc {
+            serial: A,
+            alloc: 256,
+        }),
+    ),
+    (
+        "dealloc ABCD00000001 4095",
+        Event::Command(Command::Dealloc {
+            serial: A,
+            alloc: 4095,
+        }),
+    ),
+    (
+        "dealloc ABCD00000001 00",
+        Event::Command(Command::Dealloc {
+            serial: A,
+            alloc: 0,
+        }),
+    ),
+    (
+        "deactivate ABCD00000001",
+        Event::Command(Command::Deactivate(A)),
+    ),
+    ("disable ABCD00000001", Event::Command(Command::Disable(A))),
+    ("enable ABCD00000001", Event::Command(Command::Enable(A))),
+    ("enable-all", Event::Command(Command::EnableAll)),
+    ("popup ABCD00000001", Event::Command(Command::Popup(A))),
+    ("popup-all", Event::Command(Command::PopupAll)),
+    ("show ABCD00000001", Event::Command(Command::Show(A))),
+];
+
+/// Texts that tell no event, and the first fault of each.
+const EVENT_FAULTS: [(&'static str, LineFault); 22] = [
+    ("", LineFault::Word),
+    ("Frame", LineFault::Word),
+    ("frame ", LineFault::Word),
+    (" frame", LineFault::Word),
+    ("frame\r", LineFault::Word),
+    ("enable_all", LineFault::Word),
+    ("alloc", LineFault::Word),
+    ("alloc  ABCD00000001", LineFault::Word),
+    ("alloc ABCD00000001 256", LineFault::Word),
+    ("dealloc ABCD00000001", LineFault::Word),
+    ("alloc ABCD0000001", LineFault::Serial),
+    ("alloc abcd00000001", LineFault::Serial),
+    ("dealloc x x", LineFault::Serial),
+    ("dealloc ABCD00000001 x", LineFault::Number),
+    ("dealloc ABCD00000001 4096", LineFault::Range),
+    ("burst x x", LineFault::Number),
+    ("burst +1 00", LineFault::Number),
+    ("burst  00", LineFault::Number),
+    ("burst 4294967296 x", LineFault::Range),
+    ("burst 99999999999999999999999 00", LineFault::Range),
+    ("burst 1 ff01414243440000000100002", LineFault::Hex),
+    ("burst 1 ff0141424344000000010000zz", LineFault::Hex),
+];
+
+/// Lines, and what each asks for.
+const TURNS: [(&'static str, Asked); 17] = [
+    ("", Asked::Nothing),
+    ("\r", Asked::Nothing),
+    ("#", Asked::Nothing),
+    ("# 16 frame", Asked::Nothing),
+    (
+        "15 frame",
+        Asked::Event {
+            port: 15,
+            event: Event::Frame,
+        },
+    ),
+    (
+        "0 search\r",
+        Asked::Event {
+            port: 0,
+            event: Event::Command(Command::Search),
+        },
+    ),
+    ("0 frame 1", Asked::Frames { port: 0, count: 1 }),
+    (
+        "0 frame 1000000",
+        Asked::Frames {
+            port: 0,
+            count: 1_000_000,
+        },
+    ),
+    (
+        "15 frame 010\r",
+        Asked::Frames {
+            port: 15,
+            count: 10,
+        },
+    ),
+    (
+        "0 until search",
+        Asked::Until {
+            port: 0,
+            grant: Grant::Search,
+        },
+    ),
+    (
+        "0 until range 0",
+        Asked::Until {
+            port: 0,
+            grant: Grant::Range(0),
+        },
+    ),
+    (
+        "1 until poll 4",
+        Asked::Until {
+            port: 1,
+            grant: Grant::Poll(4),
+        },
+    ),
+    (
+        "1 until poll 253",
+        Asked::Until {
+            port: 1,
+            grant: Grant::Poll(253),
+        },
+    ),
+    ("unit 0 light", Asked::Light { unit: 0, lit: true }),
+    (
+        "unit 0 dark",
+        Asked::Light {
+            unit: 0,
+            lit: false,
+        },
+    ),
+    (
+        "unit 1023 light\r",
+        Asked::Light {
+            unit: 1023,
+            lit: true,
+        },
+    ),
+    (
+        "unit 0001 dark",
+        Asked::Light {
+            unit: 1,
+            lit: false,
+        },
+    ),
+];
+
+/// Lines that are no turn, and the first fault of each.
+const TURN_FAULTS: [(&'static str, LineFault); 27] = [
+    ("15", LineFault::Word),
+    ("frame", LineFault::Word),
+    (" ", LineFault::Number),
+    (" # x", LineFault::Number),
+    ("x nothing", LineFault::Number),
+    ("16 nothing", LineFault::Range),
+    ("0 nothing", LineFault::Word),
+    ("0 frame\r\r", LineFault::Word),
+    ("0 \r", LineFault::Word),
+    ("1 frame 0", LineFault::Range),
+    ("1 frame 1000001", LineFault::Range),
+    ("1 frame x", LineFault::Number),
+    ("1 frame ", LineFault::Number),
+    ("1 frame 1 2", LineFault::Word),
+    ("1 alloc x", LineFault::Serial),
+    ("1 burst 1 x", LineFault::Hex),
+    ("0 until", LineFault::Word),
+    ("0 until frame", LineFault::Word),
+    ("0 until poll", LineFault::Word),
+    ("0 until search 1", LineFault::Word),
+    ("0 until poll x", LineFault::Number),
+    ("0 until range 254", LineFault::Range),
+    ("x until poll 254", LineFault::Number),
+    ("unit 0", LineFault::Word),
+    ("unit x bright", LineFault::Word),
+    ("unit x light", LineFault::Number),
+    ("unit 1024 dark", LineFault::Range),
+];
+
+/// Faults, and the word by which each is printed.
+const WORDS: [(LineFault, &'static str); 6] = [
+    (LineFault::Word, "word"),
+    (LineFault::Number, "number"),
+    (LineFault::Serial, "serial"),
+    (LineFault::Hex, "hex"),
+    (LineFault::Range, "range"),
+    (LineFault::Long, "long"),
+];
+
+#[test]
+fn events_of_a_trace(rt: HostRuntime) {
+    for (text, event) in EVENTS {
+        assert_eq!(rt; parse_event(text.as_bytes()), Ok(event), "{text}");
+    }
+    for (text, fault) in EVENT_FAULTS {
+        assert_eq!(rt; parse_event(text.as_bytes()), Err(fault), "{text}");
+    }
+    assert_eq!(rt; parse_event(b"alloc \xff"), Err(LineFault::Serial));
+}
+
+#[test]
+fn turns(rt: HostRuntime) {
+    for (text, asked) in TURNS {
+        assert_eq!(rt; parse_turn(text.as_bytes()), Ok(asked), "{text}");
+    }
+    for (text, fault) in TURN_FAULTS {
+        assert_eq!(rt; parse_turn(text.as_bytes()), Err(fault), "{text}");
+    }
+}
+
+#[test]
+fn long_lines(rt: HostRuntime) {
+    let mut line = [b' '; LONGEST_LINE + 1];
+    line[0] = b'#';
+    assert_eq!(rt; parse_turn(&line[..LONGEST_LINE]), Ok(Asked::Nothing));
+    assert_eq!(rt; parse_turn(&line), Err(LineFault::Long));
+}
+
+#[test]
+fn words_of_faults(rt: HostRuntime) -> Result<(), Fail> {
+    for (fault, word) in WORDS {
+        let text = format!(in rt.alloc(); "{fault}")?;
+        assert_eq!(rt; text.as_str(), word);
+    }
+    Ok(())
+}
+
+#[test]
+fn lines_of_a_trace(rt: HostRuntime) -> Result<(), Fail> {
+    let text =
+        b"0 18446744073709551615 burst 100000 ff01414243440000000100002c = found 7 alarm = x";
+    let line = split_line(text).ok_or("no line")?;
+    assert_eq!(rt; (line.port, line.number), (0, u64::MAX));
+    assert_eq!(rt; line.answer, b"found 7 alarm = x".as_slice());
+    assert_eq!(rt; picked(line.answer), Some(7));
+    assert_eq!(rt; picked(b"allocated 256"), Some(256));
+    for other in [b"again 7".as_slice(), b"found", b"found 65536", b"found x"] {
+        assert_eq!(rt; picked(other), None);
+    }
+    let line = split_line(b"15 0 show ABCD00000001 = ").ok_or("no line")?;
+    assert_eq!(rt;
+        (line.port, line.number, line.event),
+        (15, 0, Event::Command(Command::Show(A)))
+    );
+    assert!(rt; line.answer.is_empty());
+    Ok(())
+}
+
+#[test]
+fn no_lines_of_a_trace(rt: HostRuntime) {
+    let texts = [
+        "",
+        "0 6 frame",
+        "0 6 frame= ok",
+        "0 6 frame =ok",
+        "0 6 frame  = ok",
+        "16 6 frame = ok",
+        "0 18446744073709551616 frame = ok",
+        "0 frame = ok",
+        "0 x frame = ok",
+        "0 6 frames = ok",
+    ];
+    for text in texts {
+        assert!(rt; split_line(text.as_bytes()).is_none(), "{text}");
+    }
+}
