@@ -1,0 +1,159 @@
+-- Lines answered one after another.
+use Rattle.std.proofs.Common.{inl, inr, ◌||◌, ℕ, true, false, List, [], ◌∷◌, ◌++◌, Option, Result, Ok, Err, refl, sym, ap, ◌∙◌, subst, append_assoc, append-nil}
+use Rattle.std.proofs.KnownBytes.{Appends-nil}
+use Rattle.gp_flow.specs.declared.fault.LineFault.{LineFault}
+use Rattle.gp_flow.specs.declared.fault.LineFault.TheVariants.{Write, OutOfMemory, Full}
+use Rattle.gp_flow.specs.declared.sink.WriteStopped.{WriteStopped}
+use Rattle.gp_flow.specs.Sink.{SinkState, Puts, Finishes, TakesPrefix}
+use Rattle.gp_flow.specs.Lines.{Speech, DoesAll, Answers, AnswersAll}
+use Rattle.gp_flow.proofs.SinkLemmas.{takes_nothing, takes_more, takes_prefix_after}
+
+-- lines, and then lines
+pub does_more : {S : Type 0} (does : Speech S) (old mid new : S) (xs ys : List (Option (List ℕ))) (said more : List ℕ)
+    → DoesAll does old xs said mid → DoesAll does mid ys more new → DoesAll does old (xs ++ ys) (said ++ more) new
+does_more does old mid new [] ys said more p q =
+    subst (λ l. DoesAll does old ys (l ++ more) new) (sym p.0) (subst (λ s. DoesAll does s ys more new) p.1 q)
+does_more does old mid new (x ∷ xs) ys said more p q =
+    (p.0, p.1 ++ more, p.2, p.3, does_more does p.2 mid new xs ys p.1 more p.4 q, ap (λ l. l ++ more) p.5 ∙ append_assoc p.0 p.1 more)
+
+-- one line
+pub does_one : {S : Type 0} (does : Speech S) (old new : S) (line : Option (List ℕ)) (said : List ℕ) → does old line said new → DoesAll does old (line ∷ []) said new
+does_one does old new line said p = (said, [], new, p, (refl, refl), sym (append-nil said))
+
+-- an answer to one line is an answer to a list of one
+pub answers_one : {S W T : Type 0} (does : Speech S) (line : Option (List ℕ)) (old new : S) (before after : SinkState W) (r : Result T LineFault)
+    → Answers does line old new before after r → AnswersAll does (line ∷ []) old new before after r
+answers_one does line old new before after (Ok x) p = record {
+  ok = (p.ok.0, does_one does old new line p.ok.0 p.ok.1, p.ok.2);
+  error = tt;
+  flushed = p.flushed;
+  stopped = p.stopped;
+}
+answers_one does line old new before after (Err e) p = record {
+  ok = tt;
+  error = elim p.error [
+    | inl nothing ↦ record { begun = []; others = line ∷ []; all = refl; said = []; next = old; spoken = (refl, refl); written = nothing }
+    | inr some ↦ record {
+        begun = line ∷ [];
+        others = [];
+        all = refl;
+        said = some.0;
+        next = some.1;
+        spoken = does_one does old some.1 line some.0 some.2;
+        written = some.3;
+      }
+  ];
+  flushed = p.flushed;
+  stopped = p.stopped;
+}
+
+-- no line
+pub answers_none : {S W T : Type 0} (does : Speech S) (old : S) (before : SinkState W) (x : T) → AnswersAll does [] old old before before (Ok x)
+answers_none does old before x = record { ok = ([], (refl, refl), takes_nothing before); error = tt; flushed = λ f. f; stopped = λ s. s }
+
+-- lines, and then lines
+pub answers_more : {S W T U : Type 0} (does : Speech S) (xs ys : List (Option (List ℕ))) (old mid new : S) (before between after : SinkState W) (x : T) (r : Result U LineFault)
+    → AnswersAll does xs old mid before between (Ok x) → AnswersAll does ys mid new between after r → AnswersAll does (xs ++ ys) old new before after r
+answers_more does xs ys old mid new before between after x (Ok y) p q = record {
+  ok = (p.ok.0 ++ q.ok.0, does_more does old mid new xs ys p.ok.0 q.ok.0 p.ok.1 q.ok.1, takes_more before between after p.ok.0 q.ok.0 p.ok.2 q.ok.2);
+  error = tt;
+  flushed = λ f. q.flushed (p.flushed f);
+  stopped = λ s. q.stopped (p.stopped s);
+}
+answers_more does xs ys old mid new before between after x (Err e) p q = record {
+  ok = tt;
+  error = record {
+    begun = xs ++ q.error.begun;
+    others = q.error.others;
+    all = append_assoc xs q.error.begun q.error.others ∙ ap (λ l. xs ++ l) q.error.all;
+    said = p.ok.0 ++ q.error.said;
+    next = q.error.next;
+    spoken = does_more does old mid q.error.next xs q.error.begun p.ok.0 q.error.said p.ok.1 q.error.spoken;
+    written = takes_prefix_after before between after p.ok.0 q.error.said p.ok.2 q.error.written;
+  };
+  flushed = λ f. tt;
+  stopped = λ s. q.stopped (p.stopped s);
+}
+
+-- where a fault comes, it doesn't matter which lines would have followed
+pub answers_stopped : {S W T U : Type 0} (does : Speech S) (xs ys : List (Option (List ℕ))) (old new other : S) (before after : SinkState W) (e : LineFault)
+    → AnswersAll {T = T} does xs old new before after (Err e) → AnswersAll {T = U} does (xs ++ ys) old other before after (Err e)
+answers_stopped does xs ys old new other before after e p = record {
+  ok = tt;
+  error = record {
+    begun = p.error.begun;
+    others = p.error.others ++ ys;
+    all = sym (append_assoc p.error.begun p.error.others ys) ∙ ap (λ l. l ++ ys) p.error.all;
+    said = p.error.said;
+    next = p.error.next;
+    spoken = p.error.spoken;
+    written = p.error.written;
+  };
+  flushed = λ f. tt;
+  stopped = p.stopped;
+}
+
+-- writing out what is gathered answers no line
+pub finish_answers : {S W T U : Type 0} (does : Speech S) (old : S) (before after : SinkState W) (x : T) (y : U) → Finishes {E = WriteStopped} before after (Ok x)
+    → AnswersAll does [] old old before after (Ok y)
+finish_answers does old before after x y p = record {
+  ok = ([], (refl, refl), p.gives.ok);
+  error = tt;
+  flushed = p.gives.flushed;
+  stopped = λ s. p.gives.stopped ∙ ap (λ v. v || false) s;
+}
+
+pub finish_stopped : {S W T U : Type 0} (does : Speech S) (old : S) (before after : SinkState W) (e : WriteStopped) → Finishes {T = T} before after (Err e)
+    → AnswersAll {T = U} does [] old old before after (Err Write)
+finish_stopped does old before after e p = record {
+  ok = tt;
+  error = record { begun = []; others = []; all = refl; said = []; next = old; spoken = (refl, refl); written = p.gives.error };
+  flushed = λ f. tt;
+  stopped = λ s. p.gives.stopped ∙ ap (λ v. v || true) s;
+}
+
+nothing_taken : {W : Type 0} (before : SinkState W) → TakesPrefix before before []
+nothing_taken before = record { written = []; unwritten = before.gathered; appended = Appends-nil before.held; rest = append-nil before.gathered }
+
+-- no more lines can be taken
+pub no_room : {S W U : Type 0} (does : Speech S) (line : Option (List ℕ)) (old new : S) (before : SinkState W) → Answers {T = U} does line old new before before (Err Full)
+no_room does line old new before = record {
+  ok = tt;
+  error = inl (nothing_taken before);
+  flushed = λ f. tt;
+  stopped = λ s. s;
+}
+
+-- ---- for what answers a line: all that it says is put in at once
+
+pub put_answers : {S W T U : Type 0} (does : Speech S) (line : Option (List ℕ)) (old new : S) (before after : SinkState W) (said : List ℕ) (x : T) (y : U) → does old line said new
+    → Puts {E = WriteStopped} before after said (Ok x) → Answers does line old new before after (Ok y)
+put_answers does line old new before after said x y d p = record {
+  ok = (said, d, p.gives.ok);
+  error = tt;
+  flushed = p.gives.flushed;
+  stopped = λ s. p.gives.stopped ∙ ap (λ v. v || false) s;
+}
+
+pub put_stopped : {S W T U : Type 0} (does : Speech S) (line : Option (List ℕ)) (old new next : S) (before after : SinkState W) (said : List ℕ) (e : WriteStopped) → does old line said next
+    → Puts {T = T} before after said (Err e) → Answers {T = U} does line old new before after (Err Write)
+put_stopped does line old new next before after said e d p = record {
+  ok = tt;
+  error = inr (said, next, d, p.gives.error);
+  flushed = λ f. tt;
+  stopped = λ s. p.gives.stopped ∙ ap (λ v. v || true) s;
+}
+
+-- nothing was put in, for want of memory
+pub no_memory : {S W U : Type 0} (does : Speech S) (line : Option (List ℕ)) (old new : S) (before : SinkState W) → Answers {T = U} does line old new before before (Err OutOfMemory)
+no_memory does line old new before = record {
+  ok = tt;
+  error = inl (nothing_taken before);
+  flushed = λ f. tt;
+  stopped = λ s. s;
+}
+
+-- nothing is said
+pub silent_answers : {S W U : Type 0} (does : Speech S) (line : Option (List ℕ)) (old new : S) (before : SinkState W) (y : U) → does old line [] new
+    → Answers does line old new before before (Ok y)
+silent_answers does line old new before y d = record { ok = ([], d, takes_nothing before); error = tt; flushed = λ f. f; stopped = λ s. s }

@@ -1,0 +1,254 @@
+-- An input, piece by piece.
+use Rattle.std.specs.Prelude.{map, ◌↔◌, IsTrue}
+use Rattle.std.proofs.Common.{◌≡◌, ◌<◌, ◌||◌, ◌⊎◌, inl, inr, ℕ, Bool, true, false, List, [], ◌++◌, Option, Ok, Err, refl, sym, ap, ◌∙◌, subst, append-nil, append_assoc, take, length, arith}
+use Rattle.std.proofs.Math.Seq.{take-append_seam}
+use Rattle.std.specs.Io.KnownBytes.{Appends, Consumes, Keeps, IsAtEnd}
+use Rattle.std.proofs.KnownBytes.{Consumes-nil, Consumes-trans, Consumes-kept, Appends-nil}
+use Rattle.gp_flow.specs.declared.fault.LineFault.{LineFault}
+use Rattle.gp_flow.specs.declared.fault.LineFault.TheVariants.{Write, OutOfMemory, Full}
+use Rattle.gp_flow.specs.declared.lines.LinesEnd.TheVariants.{Over}
+use Rattle.gp_flow.specs.declared.fault.LinesFault.TheVariants.{Read, Line}
+use Rattle.gp_flow.specs.declared.sink.WriteStopped.{WriteStopped}
+use Rattle.gp_flow.specs.Sink.{SinkState, KeepsNothing, Takes, TakesPrefix, Finishes}
+use Rattle.gp_flow.specs.Source.{SourceState}
+use Rattle.gp_flow.specs.Lines.{Speech, DoesAll, AnswersAll, handed, lines_of, Serves, ServesAll, ServesEnded, ServesTo, end_of_input, tells_stopped, tells_write}
+use Rattle.gp_flow.specs.declared.lines.LinesEnd.{LinesEnd}
+use Rattle.gp_flow.specs.Lines.{with_feeds}
+use Rattle.gp_flow.specs.OpenLine.{OpenLine, fed_lines, fed_text, last_line}
+use Rattle.gp_flow.proofs.LineLemmas.{fed_lines-append, fed_text-append, fed_ended, fed_all, fed_whole}
+use Rattle.gp_flow.proofs.AnswerLemmas.{answers_more, finish_answers}
+
+-- where nothing is gathered any more, the writer got everything
+written_all : {W : Type 0} (before after : SinkState W) (said : List ℕ) → Takes before after said → after.gathered ≡ [] → Appends before.held after.held (before.gathered ++ said)
+written_all before after said p none =
+    let all : before.gathered ++ said ≡ p.written = p.rest ∙ ap (λ l. p.written ++ l) none ∙ append-nil p.written in
+    subst (Appends before.held after.held) (sym all) p.appended
+
+written_some : {W : Type 0} (before after : SinkState W) (said : List ℕ) → TakesPrefix before after said → (count : ℕ) × Appends before.held after.held (take count (before.gathered ++ said))
+written_some before after said p =
+    let prefix : take (length p.written) (before.gathered ++ said) ≡ p.written = ap (take (length p.written)) p.rest ∙ take-append_seam p.written p.unwritten in
+    (length p.written, subst (Appends before.held after.held) (sym prefix) p.appended)
+
+tells_same : (T U : Type 0) (e : LineFault) → tells_stopped {T = T} (Err e) ≡ tells_write {T = U} (Err (Line e))
+tells_same _ _ Write = refl
+tells_same _ _ OutOfMemory = refl
+tells_same _ _ Full = refl
+
+-- bytes came, and what they are in lines was answered so far
+pub record Reading {S R W : Type 0} (does : Speech S) (limit : ℕ) (line : OpenLine) (from now : SourceState R) (old mid : S) (before between : SinkState W) : Type 0 where
+  pub bytes : List ℕ
+  pub came : Consumes from.remaining now.remaining bytes
+  pub answers : AnswersAll {T = Unit {0}} does (fed_lines limit [] bytes) old mid before between (Ok tt)
+  pub line_is : line ≡ record { text = fed_text limit [] bytes; limit = limit }
+  pub kept : KeepsNothing between
+  pub unfailed : from.failed ≡ false → now.failed ≡ false
+
+pub reading_start : {S R W T : Type 0} (does : Speech S) (line : OpenLine) (from : SourceState R) (old : S) (before between : SinkState W) (x : T)
+    → line.text ≡ [] → before.flushed ≡ true → Finishes {E = WriteStopped} before between (Ok x) → Reading does line.limit line from from old old before between
+reading_start does line from old before between x none flushed p = record {
+  bytes = [];
+  came = Consumes-nil from.remaining;
+  answers = finish_answers does old before between x tt p;
+  line_is = ap (λ (t : List ℕ). let l : OpenLine = record { text = t; limit = line.limit } in l) none;
+  kept = (p.empty, p.gives.flushed flushed);
+  unfailed = λ f. f;
+}
+
+-- the end of an input
+to_the_end : {S R W : Type 0} (does : Speech S) (over : S → Bool) (limit : ℕ) (whole : Bool) (from to : SourceState R) (old new : S) (before after : SinkState W)
+    → ServesAll does limit whole from to old new before after → ServesTo does over limit (end_of_input whole) from to old new before after
+to_the_end does over limit true from to old new before after p = p
+to_the_end does over limit false from to old new before after p = p
+
+module _ {S R W : Type 0} (does : Speech S) (limit : ℕ) (line : OpenLine) (from now : SourceState R) (old mid : S) (before between : SinkState W)
+    (p : Reading does limit line from now old mid before between) where
+  -- what the open line makes of more bytes, by the bytes before it
+  more_lines : (more : List ℕ) → fed_lines line.limit line.text more ≡ fed_lines limit (fed_text limit [] p.bytes) more
+  more_lines more = ap (λ (l : OpenLine). fed_lines l.limit l.text more) p.line_is
+
+  -- a piece more
+  pub reading_step : {T : Type 0} (more : List ℕ) (next : OpenLine) (to : SourceState R) (new : S) (after : SinkState W) (x : T)
+      → Consumes now.remaining to.remaining more → to.failed ≡ (now.failed || false)
+      → AnswersAll does (fed_lines line.limit line.text more) mid new between after (Ok x)
+      → next ≡ record { text = fed_text line.limit line.text more; limit = line.limit } → KeepsNothing after
+      → Reading does limit next from to old new before after
+  reading_step more next to new after x came ok answers next_is kept = record {
+    bytes = p.bytes ++ more;
+    came = Consumes-trans _ _ _ p.bytes more p.came came;
+    answers = rw (fed_lines-append limit [] p.bytes more) (answers_more does _ _ old mid new before between after tt (Ok tt) p.answers
+        (subst (λ l. AnswersAll {T = Unit {0}} does l mid new between after (Ok tt)) (more_lines more) (record { ok = answers.ok; error = tt; flushed = answers.flushed; stopped = answers.stopped })));
+    line_is = next_is ∙ ap (λ (l : OpenLine). let o : OpenLine = record { text = fed_text l.limit l.text more; limit = l.limit } in o) p.line_is
+        ∙ ap (λ (t : List ℕ). let o : OpenLine = record { text = t; limit = limit } in o) (sym (fed_text-append limit [] p.bytes more));
+    kept = kept;
+    unfailed = λ f. ok ∙ ap (λ v. v || false) (p.unfailed f);
+  }
+
+  serves_ended : (to : SourceState R) → Consumes from.remaining to.remaining p.bytes → ServesEnded does limit from to old mid before between
+  serves_ended to came = record {
+    bytes = p.bytes;
+    read = came;
+    said = p.answers.ok.0;
+    spoken = subst (λ l. DoesAll does old l p.answers.ok.0 mid) (fed_ended limit p.bytes) p.answers.ok.1;
+    written = written_all before between p.answers.ok.0 p.answers.ok.2 p.kept.0;
+    kept = p.kept;
+  }
+
+  -- the work is over
+  pub serves_over : (over : S → Bool) → over mid ≡ true → Serves does over limit from now old mid before between (Ok Over)
+  serves_over over is = record {
+    ok = (serves_ended now p.came, is);
+    read = λ e. absurd (cc);
+    fault = λ fault e. absurd (cc);
+    tells_read = λ f t. absurd (let no : now.failed ≡ false = p.unfailed f in cc);
+    failed = λ e. absurd (cc);
+    stopped = p.answers.stopped;
+  }
+
+  -- a read failed, or no read is left
+  pub serves_read : (over : S → Bool) (to : SourceState R) → Keeps now.remaining to.remaining → (to.failed ≡ true) ⊎ (to.left ≡ 0) → Serves does over limit from to old mid before between (Err Read)
+  serves_read over to kept why = record {
+    ok = tt;
+    read = λ _. serves_ended to (Consumes-kept _ _ _ p.bytes p.came kept);
+    fault = λ fault e. absurd (cc);
+    tells_read = λ _ _. refl;
+    failed = λ _. why;
+    stopped = p.answers.stopped;
+  }
+
+  -- a fault in a piece more, or at the last line
+  serves_fault : {T : Type 0} (over : S → Bool) (more : List ℕ) (to : SourceState R) (begun others : List (Option (List ℕ))) (new other : S) (after : SinkState W) (e : LineFault)
+      → Consumes now.remaining to.remaining more → to.failed ≡ (now.failed || false)
+      → fed_lines limit [] p.bytes ++ begun ++ others ≡ map (handed limit) (lines_of (p.bytes ++ more))
+      → AnswersAll {T = T} does begun mid new between after (Err e) → Serves does over limit from to old other before after (Err (Line e))
+  serves_fault {T = T} over more to begun others new other after e came ok all answers =
+      let sofar = answers_more does (fed_lines limit [] p.bytes) begun old mid new before between after tt (Err e) p.answers answers in
+      let within = sofar.error in record {
+        ok = tt;
+        read = λ e. absurd (cc);
+        fault = λ fault same. record {
+          bytes = p.bytes ++ more;
+          read = Consumes-trans _ _ _ p.bytes more p.came came;
+          begun = within.begun;
+          others = within.others ++ others;
+          all = sym (append_assoc within.begun within.others others) ∙ ap (λ l. l ++ others) within.all ∙ all;
+          said = within.said;
+          next = within.next;
+          spoken = within.spoken;
+          written = written_some before after within.said within.written;
+        };
+        tells_read = λ f t. absurd (let no : to.failed ≡ false = ok ∙ ap (λ v. v || false) (p.unfailed f) in cc);
+        failed = λ e. absurd (cc);
+        stopped = λ s. sofar.stopped s ∙ tells_same T LinesEnd e;
+      }
+
+  pub serves_piece_fault : {T : Type 0} (over : S → Bool) (more : List ℕ) (to : SourceState R) (new other : S) (after : SinkState W) (e : LineFault)
+      → Consumes now.remaining to.remaining more → to.failed ≡ (now.failed || false)
+      → AnswersAll {T = T} does (fed_lines line.limit line.text more) mid new between after (Err e) → Serves does over limit from to old other before after (Err (Line e))
+  serves_piece_fault {T = T} over more to new other after e came ok answers =
+      let tail = last_line limit (fed_text limit [] (p.bytes ++ more)) in
+      let lines = fed_lines limit (fed_text limit [] p.bytes) more in
+      let all : fed_lines limit [] p.bytes ++ lines ++ tail ≡ map (handed limit) (lines_of (p.bytes ++ more)) =
+      ap (λ l. l ++ tail) (sym (fed_lines-append limit [] p.bytes more)) ∙ fed_all limit (p.bytes ++ more) in
+      serves_fault over more to lines tail new other after e came ok all (subst (λ l. AnswersAll {T = T} does l mid new between after (Err e)) (more_lines more) answers)
+
+  -- nothing is open at the end where the bytes end at a line feed, and only there
+  text_feeds : (line.text ≡ []) ↔ (p.bytes ≡ with_feeds (lines_of p.bytes))
+  text_feeds =
+      let same : line.text ≡ fed_text limit [] p.bytes = ap (λ (l : OpenLine). l.text) p.line_is in
+      let fed = fed_whole limit p.bytes in
+      (λ e. fed.0 (sym same ∙ e), λ e. same ∙ fed.1 e)
+
+  -- the line that is open at the end, by the bytes before it
+  last_is : last_line line.limit line.text ≡ last_line limit (fed_text limit [] p.bytes)
+  last_is = ap (λ (l : OpenLine). last_line l.limit l.text) p.line_is
+
+  pub serves_last_fault : {T : Type 0} (over : S → Bool) (none : List ℕ) (to : SourceState R) (new other : S) (after : SinkState W) (e : LineFault)
+      → none ≡ [] → Consumes now.remaining to.remaining none → to.failed ≡ (now.failed || false)
+      → AnswersAll {T = T} does (last_line line.limit line.text) mid new between after (Err e) → Serves does over limit from to old other before after (Err (Line e))
+  serves_last_fault {T = T} over none to new other after e empty came ok answers =
+      let lines = last_line limit (fed_text limit [] p.bytes) in
+      let all : fed_lines limit [] p.bytes ++ lines ++ [] ≡ map (handed limit) (lines_of (p.bytes ++ [])) =
+      append-nil (fed_lines limit [] p.bytes ++ lines) ∙ fed_all limit p.bytes ∙ ap (λ l. map (handed limit) (lines_of l)) (sym (append-nil p.bytes)) in
+      serves_fault over [] to lines [] new other after e (subst (Consumes now.remaining to.remaining) empty came) ok all
+      (subst (λ l. AnswersAll {T = T} does l mid new between after (Err e)) last_is answers)
+
+  -- the end of the input
+  pub serves_end : {T : Type 0} (over : S → Bool) (whole : Bool) (none : List ℕ) (to : SourceState R) (new : S) (after : SinkState W) (x : T)
+      → IsTrue whole ↔ (line.text ≡ []) → none ≡ [] → Consumes now.remaining to.remaining none → IsAtEnd to.remaining → now.failed ≡ false → to.failed ≡ (now.failed || false)
+      → AnswersAll does (last_line line.limit line.text) mid new between after (Ok x) → KeepsNothing after → Serves does over limit from to old new before after (Ok (end_of_input whole))
+  serves_end over whole none to new after x feeds empty came end known ok answers kept =
+      let lines = subst (λ l. AnswersAll does l mid new between after (Ok x)) last_is answers in
+      let all = answers_more does _ _ old mid new before between after tt (Ok x) p.answers lines in
+      let unfailed : to.failed ≡ false = ok ∙ ap (λ v. v || false) known in record {
+        ok = to_the_end does over limit whole from to old new before after (record {
+          bytes = p.bytes;
+          feeds = (λ t. text_feeds.0 (feeds.0 t), λ t. feeds.1 (text_feeds.1 t));
+          read = record {
+            consumed = subst (Consumes from.remaining to.remaining) (append-nil p.bytes) (Consumes-trans _ _ _ p.bytes [] p.came (subst (Consumes now.remaining to.remaining) empty came));
+            end = end;
+            unfailed = unfailed;
+          };
+          said = all.ok.0;
+          spoken = subst (λ l. DoesAll does old l all.ok.0 new) (fed_all limit p.bytes) all.ok.1;
+          written = written_all before after all.ok.0 all.ok.2 kept.0;
+          kept = kept;
+        });
+        read = λ e. absurd (cc);
+        fault = λ fault e. absurd (cc);
+        tells_read = λ f t. absurd (cc);
+        failed = λ e. absurd (cc);
+        stopped = all.stopped;
+      }
+
+-- a fault before the first read
+pub serves_start_fault : {S R W T : Type 0} (does : Speech S) (over : S → Bool) (limit : ℕ) (from : SourceState R) (old other : S) (before after : SinkState W) (e : WriteStopped)
+    → Finishes {T = T} before after (Err e) → Serves does over limit from from old other before after (Err (Line Write))
+serves_start_fault does over limit from old other before after e p = record {
+  ok = tt;
+  read = λ e. absurd (cc);
+  fault = λ fault same. record {
+    bytes = [];
+    read = Consumes-nil from.remaining;
+    begun = [];
+    others = [];
+    all = refl;
+    said = [];
+    next = old;
+    spoken = (refl, refl);
+    written = written_some before after [] p.gives.error;
+  };
+  tells_read = λ f t. absurd (cc);
+  failed = λ e. absurd (cc);
+  stopped = λ s. p.gives.stopped ∙ ap (λ v. v || true) s;
+}
+
+-- no memory for the line
+pub serves_no_memory : {S R W : Type 0} (does : Speech S) (over : S → Bool) (limit : ℕ) (from : SourceState R) (old : S) (before : SinkState W)
+    → Serves does over limit from from old old before before (Err (Line OutOfMemory))
+serves_no_memory does over limit from old before = record {
+  ok = tt;
+  read = λ e. absurd (cc);
+  fault = λ fault same. record {
+    bytes = [];
+    read = Consumes-nil from.remaining;
+    begun = [];
+    others = [];
+    all = refl;
+    said = [];
+    next = old;
+    spoken = (refl, refl);
+    written = (0, Appends-nil before.held);
+  };
+  tells_read = λ f t. absurd (cc);
+  failed = λ e. absurd (cc);
+  stopped = λ s. s;
+}
+
+-- no read may be made
+pub no_read : (b : Bool) (left : ℕ) (failed : Bool) → IsTrue b ↔ ((0 < left) × (failed ≡ false)) → b ≡ false → (failed ≡ true) ⊎ (left ≡ 0)
+no_read b left true p e = inl refl
+no_read b left false p e = inr (grind arith)
+
+pub failed_read : (a b : Bool) → a ≡ (b || true) → a ≡ true
+failed_read a true e = e
+failed_read a false e = e

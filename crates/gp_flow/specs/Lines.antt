@@ -1,0 +1,157 @@
+-- The lines of an input, and what answering each of them means (this profile's own rule).
+use Rattle.std.specs.Prelude.{◌≡◌, ◌↔◌, ◌⊎◌, take, IfOk, IsTrue, ◌==◌, if◌then◌else◌, nat_le, ℕ, Bool, true, false, List, [], ◌∷◌, ◌++◌, length, map, Option, None, Some, Result, Ok, Err, OnOk, OnErr}
+use Rattle.std.specs.Io.KnownBytes.{Appends, Consumes}
+use Rattle.gp_flow.specs.declared.fault.LineFault.{LineFault}
+use Rattle.gp_flow.specs.declared.fault.LinesFault.{LinesFault}
+use Rattle.gp_flow.specs.declared.fault.LineFault.TheVariants.{Write, OutOfMemory, Full}
+use Rattle.gp_flow.specs.declared.lines.LinesEnd.{LinesEnd}
+use Rattle.gp_flow.specs.declared.lines.LinesEnd.TheVariants.{Whole, Open, Over}
+use Rattle.std.specs.List.{flat_map}
+use Rattle.gp_flow.specs.declared.fault.LinesFault.TheVariants.{Read, Line}
+use Rattle.gp_flow.specs.Sink.{SinkState, KeepsNothing, Takes, TakesPrefix}
+use Rattle.gp_flow.specs.Source.{SourceState, ReadsWhole}
+
+-- an octet at the head of the first of these lines, if there is one
+abbrev pub onto_first : ℕ → List (List ℕ) → List (List ℕ)
+onto_first b [] = []
+onto_first b (line ∷ lines) = (b ∷ line) ∷ lines
+
+-- the lines that a line feed ends, each without it
+abbrev pub ended_lines : List ℕ → List (List ℕ)
+ended_lines [] = []
+ended_lines (b ∷ bytes) = if b == 10 then [] ∷ ended_lines bytes else onto_first b (ended_lines bytes)
+
+-- an octet at the head of the first of these lines, or a line of its own
+abbrev pub onto_line : ℕ → List (List ℕ) → List (List ℕ)
+onto_line b [] = (b ∷ []) ∷ []
+onto_line b (line ∷ lines) = (b ∷ line) ∷ lines
+
+-- all lines: those that a line feed ends, and what stands behind the last line feed, if anything does
+abbrev pub lines_of : List ℕ → List (List ℕ)
+lines_of [] = []
+lines_of (b ∷ bytes) = if b == 10 then [] ∷ lines_of bytes else onto_line b (lines_of bytes)
+
+-- these lines, with a line feed behind each
+abbrev pub with_feeds : List (List ℕ) → List ℕ
+with_feeds lines = flat_map (λ (line : List ℕ). line ++ 10 ∷ []) lines
+
+-- what is handed on of a line: nothing of one that is longer than the limit
+abbrev pub handed : ℕ → List ℕ → Option (List ℕ)
+handed limit line = if nat_le (length line) limit then Some line else None
+
+-- what may be said to a line: from this state, to this line, these octets, to that state
+abbrev pub Speech : Type 0 → Type 1
+Speech S = S → Option (List ℕ) → List ℕ → S → Type 0
+
+-- from the old state, to these lines in their order, all these octets are said, to the new state
+abbrev pub DoesAll : {S : Type 0} → Speech S → S → List (Option (List ℕ)) → List ℕ → S → Type 0
+DoesAll does old [] said new = (said ≡ []) × (new ≡ old)
+DoesAll does old (line ∷ lines) said new = (first : List ℕ) × (rest : List ℕ) × (next : _) × does old line first next × DoesAll does next lines rest new × (said ≡ first ++ rest)
+
+-- the answer tells that the writer stopped
+abbrev pub tells_stopped : {T : Type 0} → Result T LineFault → Bool
+tells_stopped (Ok _) = false
+tells_stopped (Err Write) = true
+tells_stopped (Err OutOfMemory) = false
+tells_stopped (Err Full) = false
+
+-- a line was answered
+pub record Answers {S W T : Type 0} (does : Speech S) (line : Option (List ℕ)) (old new : S) (before after : SinkState W) (answer : Result T LineFault) : Type 0 where
+  -- all that is said to it was handed in
+  pub ok : OnOk answer ((said : List ℕ) × does old line said new × Takes before after said)
+  -- nothing was said to it, or nothing but a prefix of what is said to it was written
+  pub error : OnErr answer (TakesPrefix before after [] ⊎ ((said : List ℕ) × (next : S) × does old line said next × TakesPrefix before after said))
+  pub flushed : before.flushed ≡ true → OnOk answer (after.flushed ≡ true)
+  pub stopped : before.stopped ≡ false → after.stopped ≡ tells_stopped answer
+
+-- only the first of these lines were answered, the last of them maybe in part
+pub record StopsWithin {S W : Type 0} (does : Speech S) (lines : List (Option (List ℕ))) (old : S) (before after : SinkState W) : Type 0 where
+  -- the lines that were begun
+  pub begun : List (Option (List ℕ))
+  -- the others
+  pub others : List (Option (List ℕ))
+  pub all : begun ++ others ≡ lines
+  -- what is said to those that were begun
+  pub said : List ℕ
+  -- the state that it leads to
+  pub next : S
+  pub spoken : DoesAll does old begun said next
+  -- the writer took a prefix of it, and nothing else
+  pub written : TakesPrefix before after said
+
+-- lines were answered in their order, up to the first fault
+pub record AnswersAll {S W T : Type 0} (does : Speech S) (lines : List (Option (List ℕ))) (old new : S) (before after : SinkState W) (answer : Result T LineFault) : Type 0 where
+  pub ok : OnOk answer ((said : List ℕ) × DoesAll does old lines said new × Takes before after said)
+  pub error : OnErr answer (StopsWithin does lines old before after)
+  pub flushed : before.flushed ≡ true → OnOk answer (after.flushed ≡ true)
+  pub stopped : before.stopped ≡ false → after.stopped ≡ tells_stopped answer
+
+-- the whole input was read, and each of its lines was answered; it is told whether the last line had its line feed
+pub record ServesAll {S R W : Type 0} (does : Speech S) (limit : ℕ) (whole : Bool) (from to : SourceState R) (old new : S) (before after : SinkState W) : Type 0 where
+  -- the input
+  pub bytes : List ℕ
+  pub read : ReadsWhole from to bytes
+  pub feeds : IsTrue whole ↔ (bytes ≡ with_feeds (lines_of bytes))
+  -- what is said to its lines
+  pub said : List ℕ
+  pub spoken : DoesAll does old (map (handed limit) (lines_of bytes)) said new
+  -- the writer got all of it, and keeps nothing back
+  pub written : Appends before.held after.held (before.gathered ++ said)
+  pub kept : KeepsNothing after
+
+-- bytes came, and each line among them was answered that a line feed ends
+pub record ServesEnded {S R W : Type 0} (does : Speech S) (limit : ℕ) (from to : SourceState R) (old new : S) (before after : SinkState W) : Type 0 where
+  pub bytes : List ℕ
+  pub read : Consumes from.remaining to.remaining bytes
+  pub said : List ℕ
+  pub spoken : DoesAll does old (map (handed limit) (ended_lines bytes)) said new
+  -- the writer got all of it, and keeps nothing back
+  pub written : Appends before.held after.held (before.gathered ++ said)
+  pub kept : KeepsNothing after
+
+-- the end of an input, by whether the last line had its line feed
+abbrev pub end_of_input : Bool → LinesEnd
+end_of_input true = Whole
+end_of_input false = Open
+
+-- the input was read to its end, or until the work was over
+abbrev pub ServesTo : {S R W : Type 0} → Speech S → (S → Bool) → ℕ → LinesEnd → SourceState R → SourceState R → S → S → SinkState W → SinkState W → Type 0
+ServesTo does over limit Whole from to old new before after = ServesAll does limit true from to old new before after
+ServesTo does over limit Open from to old new before after = ServesAll does limit false from to old new before after
+ServesTo does over limit Over from to old new before after = ServesEnded does limit from to old new before after × (over new ≡ true)
+
+-- bytes came, and the first lines among them were answered, the last of these maybe in part
+pub record ServesSome {S R W : Type 0} (does : Speech S) (limit : ℕ) (from to : SourceState R) (old : S) (before after : SinkState W) : Type 0 where
+  pub bytes : List ℕ
+  pub read : Consumes from.remaining to.remaining bytes
+  -- the lines that were begun
+  pub begun : List (Option (List ℕ))
+  -- the others
+  pub others : List (Option (List ℕ))
+  pub all : begun ++ others ≡ map (handed limit) (lines_of bytes)
+  -- what is said to those that were begun
+  pub said : List ℕ
+  -- the state that it leads to
+  pub next : S
+  pub spoken : DoesAll does old begun said next
+  -- the writer got a prefix of it, and nothing else
+  pub written : (count : ℕ) × Appends before.held after.held (take count (before.gathered ++ said))
+
+-- the answer tells that the writer stopped
+abbrev pub tells_write : {T : Type 0} → Result T LinesFault → Bool
+tells_write (Ok _) = false
+tells_write (Err Read) = false
+tells_write (Err (Line Write)) = true
+tells_write (Err (Line OutOfMemory)) = false
+tells_write (Err (Line Full)) = false
+
+-- the lines of an input were answered in their order, up to the first fault
+pub record Serves {S R W : Type 0} (does : Speech S) (over : S → Bool) (limit : ℕ) (from to : SourceState R) (old new : S) (before after : SinkState W) (answer : Result LinesEnd LinesFault) : Type 0 where
+  pub ok : IfOk answer (λ end. ServesTo does over limit end from to old new before after)
+  pub read : answer ≡ Err Read → ServesEnded does limit from to old new before after
+  pub fault : (fault : LineFault) → answer ≡ Err (Line fault) → ServesSome does limit from to old before after
+  -- a failed read is always answered
+  pub tells_read : from.failed ≡ false → to.failed ≡ true → answer ≡ Err Read
+  -- and only it and the bound of reads are
+  pub failed : answer ≡ Err Read → (to.failed ≡ true) ⊎ (to.left ≡ 0)
+  pub stopped : before.stopped ≡ false → after.stopped ≡ tells_write answer

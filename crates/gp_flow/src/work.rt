@@ -1,0 +1,27 @@
+use crate::fault::LineFault;
+use crate::sink::Sink;
+use std::io::Write;
+
+/// What is done with the lines of an input.
+pub trait LineWork {
+    ghost use Rattle.std.specs.Prelude.{◌≡◌, Bool, List, ℕ, Option, Some, None};
+    ghost use Rattle.gp_flow.specs.Lines.{Answers};
+
+    // From this state, to this line, these octets are said, to that state.
+    ghost says: { Self → Option (List ℕ) → List ℕ → Self → Type 0 };
+
+    // No more of the input needs to be read.
+    ghost over: { Self → Bool };
+
+    /// Tells whether the work is over: no more of the input needs to be read.
+    fn is_over(&self) -> bool
+        ensures { result ≡ over self.now };
+
+    /// Answers a line, which comes without its line feed.
+    fn line<W: Write>(&mut self, text: &[u8], sink: &mut Sink<W>) -> Result<(), LineFault>
+        ensures { Answers says (Some text.now) self.old self.new sink.old sink.new result };
+
+    /// Answers a line that is too long to be kept.
+    fn long_line<W: Write>(&mut self, sink: &mut Sink<W>) -> Result<(), LineFault>
+        ensures { Answers says None self.old self.new sink.old sink.new result };
+}
