@@ -1,0 +1,27 @@
+-- What a verifier does with the lines that it is handed (this profile's own rule).
+use Rattle.std.specs.Prelude.{◌≡◌, ℕ, ◌+◌, Bool, List, [], Option, None, Some, is_some}
+use Rattle.gp_verify.specs.declared.verdict.Verdict.{Verdict}
+use Rattle.gp_verify.specs.declared.verdict.Verdict.TheVariants.{TooLong}
+use Rattle.gp_verify.specs.Verdicts.{Judges, VerifyState, ending}
+
+-- the line was judged
+pub record JudgesLine (old : VerifyState) (text : List ℕ) (new : VerifyState) : Type 0 where
+  pub verdict : Verdict
+  pub judged : Judges verdict old.mask old.play text new.play new.said
+  pub ended : new.ended ≡ ending verdict
+  pub lines : new.lines ≡ old.lines + 1
+  pub mask : new.mask ≡ old.mask
+
+-- by what ended it before: nothing is judged any more; a line that is too long ends it; any other is judged
+abbrev pub TakesFrom : Option Verdict → VerifyState → Option (List ℕ) → VerifyState → Type 0
+TakesFrom (Some verdict) old line new = new ≡ old
+TakesFrom None old None new = new ≡ record old { lines = old.lines + 1; ended = Some TooLong }
+TakesFrom None old (Some text) new = JudgesLine old text new
+
+-- to no line anything is said
+abbrev pub Follows : VerifyState → Option (List ℕ) → List ℕ → VerifyState → Type 0
+Follows old line said new = (said ≡ []) × TakesFrom old.ended old line new
+
+-- it has ended
+abbrev pub has_ended : VerifyState → Bool
+has_ended state = is_some state.ended

@@ -1,0 +1,5 @@
+pub mod Faults
+pub mod Following
+pub mod Outcome
+pub mod Tells
+pub mod Verdicts

@@ -1,0 +1,83 @@
+-- How the verification of a text may end (this profile's own rule).
+use Rattle.std.specs.Prelude.{◌≡◌, ◌≢◌, ◌<◌, ◌⊎◌, ℕ, ◌+◌, true, List, ◌∷◌, ◌++◌, length, IfSome, Option, Some, None, Result, Ok, Err}
+use Rattle.std.specs.Io.KnownBytes.{Consumes}
+use Rattle.gp_flow.specs.declared.fault.LinesFault.{LinesFault}
+use Rattle.gp_flow.specs.declared.fault.LinesFault.TheVariants as faults
+use Rattle.gp_flow.specs.declared.lines.LinesEnd.{LinesEnd}
+use Rattle.gp_flow.specs.declared.lines.LinesEnd.TheVariants.{Whole, Open, Over}
+use Rattle.gp_flow.specs.Lines.{lines_of}
+use Rattle.gp_flow.specs.Source.{SourceState, ReadsWhole}
+use Rattle.gp_ploam.specs.declared.check.Mask.{Mask}
+use Rattle.gp_machine.specs.declared.entry.Receipt.{Receipt}
+use Rattle.gp_replay.specs.Chassis.{PlayState}
+use Rattle.gp_verify.specs.declared.outcome.VerifyFault.{VerifyFault}
+use Rattle.gp_verify.specs.declared.outcome.VerifyFault.TheVariants.{Refused, Unended, Lines}
+use Rattle.gp_verify.specs.declared.verdict.Verdict.{Verdict}
+use Rattle.gp_verify.specs.declared.verdict.Verdict.TheVariants.{TooLong}
+use Rattle.gp_verify.specs.Tells.{AreLinesOf, IsTraceText}
+use Rattle.gp_verify.specs.Verdicts.{Judges, VerifyState}
+
+-- the most octets of a line that is looked at
+abbrev pub longest_line : ℕ
+longest_line = 4096
+
+-- the whole text was read; it is the trace of some run, and has so many lines
+pub record IsRun {R : Type 0} (old : VerifyState) (from to : SourceState R) (lines : ℕ) : Type 0 where
+  pub text : List ℕ
+  pub read : ReadsWhole from to text
+  pub trace : IsTraceText old.mask old.play text
+  pub count : length (lines_of text) ≡ lines
+
+-- what is said of the line that can't be: a line that is too long was not looked at
+abbrev pub Condemns : Verdict → Mask → PlayState → List ℕ → PlayState → List ℕ → Type 0
+Condemns TooLong mask old text new said = longest_line < length text
+Condemns verdict mask old text new said = Judges verdict mask old text new said
+
+-- the text is not the trace of any run, where the reader tells its bytes
+abbrev pub IsNoRun : {R : Type 0} → VerifyState → SourceState R → Type 0
+IsNoRun old from = IfSome from.remaining (λ text. IsTraceText old.mask old.play text → ⊥)
+
+-- the lines before this one are those of a run, and this one can't follow, for this reason
+pub record IsRefused {R : Type 0} (old new : VerifyState) (from to : SourceState R) (line : ℕ) (verdict : Verdict) : Type 0 where
+  -- what was read of the text
+  pub bytes : List ℕ
+  pub came : Consumes from.remaining to.remaining bytes
+  -- its lines: those before, this one, and others
+  pub before : List (List ℕ)
+  pub text : List ℕ
+  pub others : List (List ℕ)
+  pub lines : lines_of bytes ≡ before ++ text ∷ others
+  pub number : length before + 1 ≡ line
+  -- the run
+  pub receipts : List Receipt
+  pub mid : PlayState
+  pub run : AreLinesOf old.mask old.play before receipts mid
+  pub condemned : Condemns verdict old.mask mid text new.play new.said
+  -- so no run has this trace, whatever comes behind what was read
+  pub none : verdict ≢ TooLong → IsNoRun old from
+
+-- the whole text was read, and its lines are those of a run, but it ends before the last one's line feed
+pub record IsUnended {R : Type 0} (old : VerifyState) (from to : SourceState R) (line : ℕ) : Type 0 where
+  pub text : List ℕ
+  pub read : ReadsWhole from to text
+  pub count : length (lines_of text) ≡ line
+  pub none : IsNoRun old from
+
+-- a failed read is told, and only it and the bound of reads are
+abbrev pub IsUnread : {R : Type 0} → LinesFault → SourceState R → Type 0
+IsUnread faults.Read to = (to.failed ≡ true) ⊎ (to.left ≡ 0)
+IsUnread (faults.Line fault) to = Unit {0}
+
+-- how a verification may end
+abbrev pub Verifies : {R : Type 0} → VerifyState → VerifyState → SourceState R → SourceState R → Result ℕ VerifyFault → Type 0
+Verifies old new from to (Ok lines) = IsRun old from to lines
+Verifies old new from to (Err (Refused line verdict)) = IsRefused old new from to line verdict
+Verifies old new from to (Err (Unended line)) = IsUnended old from to line
+Verifies old new from to (Err (Lines fault)) = IsUnread fault to
+
+-- what was found, by how far the text was read, what ended the verification, and how many lines were judged
+abbrev pub finding : LinesEnd → Option Verdict → ℕ → Result ℕ VerifyFault
+finding end (Some verdict) line = Err (Refused line verdict)
+finding Open None line = Err (Unended line)
+finding Whole None line = Ok line
+finding Over None line = Ok line

@@ -1,0 +1,38 @@
+ghost use Rattle.std.specs.Prelude.{◌≡◌};
+ghost use Rattle.gp_flow.specs.declared.fault.LineFault.TheVariants as lines;
+ghost use Rattle.gp_verify.specs.declared.fault.LineRefusal.TheVariants.{OutOfMemory, Full};
+ghost use Rattle.gp_verify.specs.Faults.{line_fault};
+
+use gp_flow::LineFault;
+use std::alloc::AllocError;
+use thiserror::Error;
+
+/// Why a line was not judged.
+#[derive(Clone, Copy, Debug, PartialEq, Eq, Error)]
+pub enum LineRefusal {
+    /// Out of memory for the journal of a port.
+    #[error("out of memory")]
+    OutOfMemory,
+    /// `u64::MAX` lines were judged before.
+    #[error("more lines than can be counted")]
+    Full,
+}
+
+impl From<AllocError> for LineRefusal {
+    ghost from_gives = { λ _ fault. fault ≡ OutOfMemory };
+
+    fn from(_error: AllocError) -> LineRefusal {
+        LineRefusal::OutOfMemory
+    }
+}
+
+impl From<LineRefusal> for LineFault {
+    ghost from_gives = { λ refusal fault. fault ≡ line_fault refusal };
+
+    fn from(refusal: LineRefusal) -> LineFault {
+        match refusal {
+            LineRefusal::OutOfMemory => LineFault::OutOfMemory,
+            LineRefusal::Full => LineFault::Full,
+        }
+    }
+}

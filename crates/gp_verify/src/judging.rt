@@ -1,0 +1,79 @@
+ghost use Rattle.std.specs.Prelude.{◌≡◌, ◌<◌, ◌≤◌, ◌+◌, ◌↔◌, ◌++◌, ℕ, codes, IfOk, OnErr, IsTrue, length};
+ghost use Rattle.gp_lines.specs.Trace.{SplitsLine};
+ghost use Rattle.gp_replay.specs.Chassis.{HasRoom};
+ghost use Rattle.gp_verify.specs.Verdicts.{Judges};
+
+use super::verdict::Verdict;
+use gp_lines::{TraceLine, event_is_told, picked, split_line};
+use gp_ploam::Mask;
+use gp_replay::{LineBuffer, Player, Turn};
+use std::alloc::AllocError;
+use std::sync::ledger::Ledger;
+
+/// Tells whether a line is this text and a line feed.
+fn is_line_of(line: &[u8], text: &[u8]) -> bool
+    ensures { IsTrue result ↔ (line.now ≡ text.now ++ codes "\n") }
+{
+    match line.strip_suffix(b"\n") {
+        Some(front) => front == text,
+        None => false,
+    }
+}
+
+/// Takes the turn that a line tells of, with the number that its answer names, and tells whether the line is that turn's.
+fn judge_turn<L: Ledger>(
+    player: &mut Player<L>,
+    buffer: &mut LineBuffer,
+    mask: Mask,
+    text: &[u8],
+    line: TraceLine<'_>,
+) -> Result<Verdict, AllocError>
+    requires port { line.port < length player.old.next }
+    requires few { length player.old.next ≤ 16 }
+    requires room { HasRoom 1 player.old }
+    requires split { SplitsLine text.now line.port line.number line.event line.answer.now }
+    ensures judged { IfOk result (λ verdict. Judges verdict mask player.old text.now player.new buffer.new) }
+    ensures err { OnErr result ((player.new ≡ player.old) × (buffer.new ≡ buffer.old)) }
+    ensures ports { length player.new.next ≡ length player.old.next }
+    ensures room { (count : ℕ) → HasRoom (1 + count) player.old → HasRoom count player.new }
+{
+    player.stands();
+    event_is_told(&line.event);
+    let wished = picked(line.answer);
+    let turn = Turn {
+        port: line.port,
+        event: line.event,
+    };
+    let receipt = player.take_turn_wishing(turn, wished)?;
+    buffer.build(mask, &receipt);
+    if is_line_of(buffer.as_bytes(), text) {
+        return Ok(Verdict::Follows);
+    }
+    if receipt.number != line.number {
+        return Ok(Verdict::WrongNumber);
+    }
+    Ok(Verdict::NotAStep)
+}
+
+/// Takes the turn that a text tells of, and tells whether the text is its line.
+pub(crate) fn judge_line<L: Ledger>(
+    player: &mut Player<L>,
+    buffer: &mut LineBuffer,
+    mask: Mask,
+    text: &[u8],
+) -> Result<Verdict, AllocError>
+    requires few { length player.old.next ≤ 16 }
+    requires room { HasRoom 1 player.old }
+    ensures judged { IfOk result (λ verdict. Judges verdict mask player.old text.now player.new buffer.new) }
+    ensures err { OnErr result ((player.new ≡ player.old) × (buffer.new ≡ buffer.old)) }
+    ensures ports { length player.new.next ≡ length player.old.next }
+    ensures room { (count : ℕ) → HasRoom (1 + count) player.old → HasRoom count player.new }
+{
+    let Some(line) = split_line(text) else {
+        return Ok(Verdict::NotALine);
+    };
+    if usize::from(line.port) >= player.ports() {
+        return Ok(Verdict::NoPort);
+    }
+    judge_turn(player, buffer, mask, text, line)
+}

@@ -1,0 +1,43 @@
+ghost use Rattle.std.specs.Prelude.{◌≡◌, None, true};
+ghost use Rattle.gp_verify.specs.Outcome.{Verifies, finding};
+
+use super::outcome::VerifyFault;
+use super::verdict::Verdict;
+use super::verifier::Verifier;
+use gp_flow::{LinesEnd, Sink, Source, run_lines};
+use std::alloc::Global;
+use std::io::{Read, Write};
+use std::sync::ledger::Ledger;
+
+/// Tells whether a text is the trace of some run, from where the verifier stands, and how many lines it has. It is read to
+/// its end, or to the first line that can't be, and a little further.
+///
+/// The sink is what the finding may be written to behind it; nothing is written here.
+pub fn run_verify<L: Ledger, R: Read, W: Write>(
+    alloc: Global,
+    source: &mut Source<R>,
+    sink: &mut Sink<W>,
+    verifier: &mut Verifier<L>,
+) -> Result<u64, VerifyFault>
+    requires begins { verifier.old.ended ≡ None }
+    requires first { verifier.old.lines ≡ 0 }
+    requires flushed { sink.old.flushed ≡ true }
+    ensures { Verifies verifier.old verifier.new source.old source.new result }
+{
+    let end = run_lines(alloc, source, sink, verifier)?;
+    let found = verifier.ended();
+    finding(end, found, verifier.lines())
+}
+
+/// What was found, where so many lines were judged.
+fn finding(end: LinesEnd, found: Option<Verdict>, line: u64) -> Result<u64, VerifyFault>
+    ensures { result ≡ finding end found line }
+{
+    if let Some(verdict) = found {
+        return Err(VerifyFault::Refused { line, verdict });
+    }
+    match end {
+        LinesEnd::Open => Err(VerifyFault::Unended { line }),
+        LinesEnd::Whole | LinesEnd::Over => Ok(line),
+    }
+}

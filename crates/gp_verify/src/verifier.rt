@@ -1,0 +1,164 @@
+ghost use Rattle.std.specs.Prelude.{◌≡◌, ◌+◌, ◌≤◌, ℕ, None, Some, Ok, Err, IfOk, OnErr};
+ghost use Rattle.gp_chassis.specs.Limits.{IsWithin};
+ghost use Rattle.gp_verify.specs.declared.fault.LineRefusal.TheVariants.{Full};
+ghost use Rattle.gp_verify.specs.declared.verdict.Verdict.{Verdict as AnyVerdict};
+ghost use Rattle.gp_verify.specs.declared.verdict.Verdict.TheVariants.{TooLong};
+ghost use Rattle.gp_verify.specs.Verdicts.{Judges, ending, most_lines, opened_verify};
+
+use super::fault::LineRefusal;
+use super::judging::judge_line;
+use super::verdict::Verdict;
+use gp_chassis::ChassisConfig;
+use gp_licence::MAX_LICENCES;
+use gp_ploam::Mask;
+use gp_replay::{LineBuffer, MAX_KEPT, Player};
+use std::alloc::{AllocError, Global};
+use std::marker::Model;
+use std::sync::ledger::{Blank, Ledger};
+
+/// Tells of the lines of a text, one after another, whether they are the trace of some run. The first line that is not ends
+/// it. Contracts see the play that the lines so far tell of, how many lines were judged, and what the machine said last.
+///
+/// It has no `Drop`: its licences are gathered by `close`.
+pub struct Verifier<L: Ledger> {
+    player: Player<L>,
+    buffer: LineBuffer,
+    mask: Mask,
+    lines: u64,
+    ended: Option<Verdict>,
+}
+
+impl<L: Ledger> Model for Verifier<L> {
+    ghost use Rattle.std.specs.Prelude.{◌≤◌, ◌-◌, length};
+    ghost use Rattle.std.specs.FinMap as map;
+    ghost use Rattle.std.specs.FinSet as set;
+    ghost use Rattle.std.specs.Coded.{codes};
+    ghost use Rattle.gp_ploam.specs.Serials.{serial_cmp, coded_serial};
+    ghost use Rattle.gp_unit.specs.contracts.row.Row as row;
+    ghost use Rattle.gp_replay.specs.Chassis.{HasRoom};
+    ghost use Rattle.gp_verify.specs.Verdicts.{VerifyState, most_lines};
+
+    ghost Value = { VerifyState };
+
+    ghost coded = { Prim.hlevel (codes, map.code {R = serial_cmp} coded_serial row.the_row.coded, set.code {R = serial_cmp} coded_serial) };
+
+    ghost view = { λ v. record { mask = v.mask; play = v.player; lines = v.lines; said = v.buffer; ended = v.ended } };
+
+    ghost invariant = { λ v. (length v.player.next ≤ 16) × HasRoom (most_lines - v.lines) v.player };
+}
+
+impl<L: Ledger> Verifier<L> {
+    /// Opens the chassis, before the first line. `blank` is a new ledger of `MAX_LICENCES` parts, made by `Blank::new`, and
+    /// `L` its name.
+    pub fn begin(
+        alloc: Global,
+        blank: Blank,
+        config: &ChassisConfig,
+        mask: Mask,
+    ) -> Result<Verifier<L>, AllocError>
+        requires name { blank.name ≡ L.name }
+        requires parts { (blank.parts ≡ L.parts) × (L.parts ≡ MAX_LICENCES) }
+        requires within { IsWithin config.now }
+        requires few { config.now.journal_limit ≤ MAX_KEPT }
+        ensures { IfOk result (λ verifier. verifier ≡ opened_verify mask config.now.ports.items config.now.licences) }
+    {
+        let buffer = LineBuffer::new(alloc)?;
+        let player = Player::begin(alloc, blank, config)?;
+        Ok(Verifier {
+            player,
+            buffer,
+            mask,
+            lines: 0,
+            ended: None,
+        })
+    }
+
+    /// Judges the next line, without its line feed. A verdict other than `Follows` ends it: that verdict is then given for
+    /// every further line.
+    ///
+    /// `OutOfMemory` is answered where memory for the journal was refused; the line may then be given again. `Full` is
+    /// answered where `u64::MAX` lines were judged before.
+    pub fn judge(&mut self, text: &[u8]) -> Result<Verdict, LineRefusal>
+        ensures judged { self.old.ended ≡ None → IfOk result (λ verdict.
+            Judges verdict self.old.mask self.old.play text.now self.new.play self.new.said) }
+        ensures ends { self.old.ended ≡ None → IfOk result (λ verdict. self.new.ended ≡ ending verdict) }
+        ensures lines { self.old.ended ≡ None → IfOk result (λ _. self.new.lines ≡ self.old.lines + 1) }
+        ensures ended { (verdict : AnyVerdict) → self.old.ended ≡ Some verdict → (result ≡ Ok verdict) × (self.new ≡ self.old) }
+        ensures err { OnErr result (self.new ≡ self.old) }
+        ensures full { result ≡ Err Full → self.old.lines ≡ most_lines }
+        ensures mask { self.new.mask ≡ self.old.mask }
+    {
+        if let Some(verdict) = self.ended {
+            return Ok(verdict);
+        }
+        if self.lines == u64::MAX {
+            return Err(LineRefusal::Full);
+        }
+        let verdict = judge_line(&mut self.player, &mut self.buffer, self.mask, text)?;
+        self.lines += 1;
+        self.ended = ending(verdict);
+        Ok(verdict)
+    }
+
+    /// Ends it at a line that is too long to be looked at, if it has not ended.
+    pub fn pass_long(&mut self) -> Result<(), LineRefusal>
+        ensures ended { (verdict : AnyVerdict) → self.old.ended ≡ Some verdict → (result ≡ Ok tt) × (self.new ≡ self.old) }
+        ensures long { self.old.ended ≡ None → IfOk result (λ _.
+            self.new ≡ record self.old { lines = self.old.lines + 1; ended = Some TooLong }) }
+        ensures err { OnErr result (self.new ≡ self.old) }
+        ensures full { result ≡ Err Full → self.old.lines ≡ most_lines }
+    {
+        if self.ended.is_some() {
+            return Ok(());
+        }
+        if self.lines == u64::MAX {
+            return Err(LineRefusal::Full);
+        }
+        self.lines += 1;
+        self.ended = Some(Verdict::TooLong);
+        Ok(())
+    }
+
+    /// The verdict that ended it, of the line that was judged last.
+    pub fn ended(&self) -> Option<Verdict>
+        ensures { result ≡ self.now.ended }
+    {
+        self.ended
+    }
+
+    /// How many lines were judged.
+    pub fn lines(&self) -> u64
+        ensures { result ≡ self.now.lines }
+    {
+        self.lines
+    }
+
+    /// The line that the machine said last, with its line feed: after `WrongNumber` and `NotAStep` that in the line's place.
+    pub fn said(&self) -> &[u8]
+        ensures { result.now ≡ self.now.said }
+    {
+        self.buffer.as_bytes()
+    }
+
+    /// Ends the chassis, and answers how many licences there are.
+    pub fn close(self) -> u32 {
+        let Verifier {
+            player,
+            buffer: _,
+            mask: _,
+            lines: _,
+            ended: _,
+        } = self;
+        player.close()
+    }
+}
+
+/// The verdict, where it ends a verification.
+fn ending(verdict: Verdict) -> Option<Verdict>
+    ensures { result ≡ ending verdict }
+{
+    match verdict {
+        Verdict::Follows => None,
+        _ => Some(verdict),
+    }
+}
