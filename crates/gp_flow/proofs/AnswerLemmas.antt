@@ -34,14 +34,14 @@ answers_one does line old new before after (Err e) p = record {
   error = elim p.error [
     | inl nothing ↦ record { begun = []; others = line ∷ []; all = refl; said = []; next = old; spoken = (refl, refl); written = nothing }
     | inr some ↦ record {
-        begun = line ∷ [];
-        others = [];
-        all = refl;
-        said = some.0;
-        next = some.1;
-        spoken = does_one does old some.1 line some.0 some.2;
-        written = some.3;
-      }
+      begun = line ∷ [];
+      others = [];
+      all = refl;
+      said = some.0;
+      next = some.1;
+      spoken = does_one does old some.1 line some.0 some.2;
+      written = some.3;
+    }
   ];
   flushed = p.flushed;
   stopped = p.stopped;

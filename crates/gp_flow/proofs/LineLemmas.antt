@@ -1,6 +1,6 @@
 -- What octets make of an part line, one by one, is what the lines of the whole input say.
 use Rattle.std.specs.Prelude.{◌==◌, ◌↔◌, if◌then◌else◌, nat_le, map}
-use Rattle.std.proofs.Common.{Option, Some, None, subst, length-append, ◌≡◌, ◌≤◌, ◌<◌, ℕ, ◌+◌, Bool, true, false, List, [], ◌∷◌, ◌++◌, refl, sym, ap, ◌∙◌, append_assoc, append-nil, take, length, arith, inl, inr, ◌⊎◌, add-one}
+use Rattle.std.proofs.Common.{Some, None, subst, length-append, ◌≡◌, ◌≤◌, ◌<◌, ℕ, ◌+◌, Bool, true, false, List, [], ◌∷◌, ◌++◌, refl, sym, ap, ◌∙◌, append_assoc, append-nil, take, length, arith, inl, inr, ◌⊎◌, add-one}
 use Rattle.std.proofs.lemmas.Bool.{eqb-true, lt-leb, le-leb}
 use Rattle.std.proofs.lemmas.List.{append_cancel_left}
 use Rattle.std.proofs.Math.Seq.{take-nil, take-take, take_all, length-take-le, take-append-le}

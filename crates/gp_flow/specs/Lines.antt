@@ -46,7 +46,9 @@ Speech S = S → Option (List ℕ) → List ℕ → S → Type 0
 -- from the old state, to these lines in their order, all these octets are said, to the new state
 abbrev pub DoesAll : {S : Type 0} → Speech S → S → List (Option (List ℕ)) → List ℕ → S → Type 0
 DoesAll does old [] said new = (said ≡ []) × (new ≡ old)
-DoesAll does old (line ∷ lines) said new = (first : List ℕ) × (rest : List ℕ) × (next : _) × does old line first next × DoesAll does next lines rest new × (said ≡ first ++ rest)
+DoesAll does old (line ∷ lines) said new =
+    (first : List ℕ) × (rest : List ℕ) × (next : _) × does old line first next × DoesAll does next lines rest new
+    × (said ≡ first ++ rest)
 
 -- the answer tells that the writer stopped
 abbrev pub tells_stopped : {T : Type 0} → Result T LineFault → Bool
@@ -56,16 +58,19 @@ tells_stopped (Err OutOfMemory) = false
 tells_stopped (Err Full) = false
 
 -- a line was answered
-pub record Answers {S W T : Type 0} (does : Speech S) (line : Option (List ℕ)) (old new : S) (before after : SinkState W) (answer : Result T LineFault) : Type 0 where
+pub record Answers {S W T : Type 0} (does : Speech S) (line : Option (List ℕ)) (old new : S)
+    (before after : SinkState W) (answer : Result T LineFault) : Type 0 where
   -- all that is said to it was handed in
   pub ok : OnOk answer ((said : List ℕ) × does old line said new × Takes before after said)
   -- nothing was said to it, or nothing but a prefix of what is said to it was written
-  pub error : OnErr answer (TakesPrefix before after [] ⊎ ((said : List ℕ) × (next : S) × does old line said next × TakesPrefix before after said))
+  pub error : OnErr answer (TakesPrefix before after []
+      ⊎ ((said : List ℕ) × (next : S) × does old line said next × TakesPrefix before after said))
   pub flushed : before.flushed ≡ true → OnOk answer (after.flushed ≡ true)
   pub stopped : before.stopped ≡ false → after.stopped ≡ tells_stopped answer
 
 -- only the first of these lines were answered, the last of them maybe in part
-pub record StopsWithin {S W : Type 0} (does : Speech S) (lines : List (Option (List ℕ))) (old : S) (before after : SinkState W) : Type 0 where
+pub record StopsWithin {S W : Type 0} (does : Speech S) (lines : List (Option (List ℕ))) (old : S)
+    (before after : SinkState W) : Type 0 where
   -- the lines that were begun
   pub begun : List (Option (List ℕ))
   -- the others
@@ -80,14 +85,16 @@ pub record StopsWithin {S W : Type 0} (does : Speech S) (lines : List (Option (L
   pub written : TakesPrefix before after said
 
 -- lines were answered in their order, up to the first fault
-pub record AnswersAll {S W T : Type 0} (does : Speech S) (lines : List (Option (List ℕ))) (old new : S) (before after : SinkState W) (answer : Result T LineFault) : Type 0 where
+pub record AnswersAll {S W T : Type 0} (does : Speech S) (lines : List (Option (List ℕ))) (old new : S)
+    (before after : SinkState W) (answer : Result T LineFault) : Type 0 where
   pub ok : OnOk answer ((said : List ℕ) × DoesAll does old lines said new × Takes before after said)
   pub error : OnErr answer (StopsWithin does lines old before after)
   pub flushed : before.flushed ≡ true → OnOk answer (after.flushed ≡ true)
   pub stopped : before.stopped ≡ false → after.stopped ≡ tells_stopped answer
 
 -- the whole input was read, and each of its lines was answered; it is told whether the last line had its line feed
-pub record ServesAll {S R W : Type 0} (does : Speech S) (limit : ℕ) (whole : Bool) (from to : SourceState R) (old new : S) (before after : SinkState W) : Type 0 where
+pub record ServesAll {S R W : Type 0} (does : Speech S) (limit : ℕ) (whole : Bool) (from to : SourceState R)
+    (old new : S) (before after : SinkState W) : Type 0 where
   -- the input
   pub bytes : List ℕ
   pub read : ReadsWhole from to bytes
@@ -100,7 +107,8 @@ pub record ServesAll {S R W : Type 0} (does : Speech S) (limit : ℕ) (whole : B
   pub kept : KeepsNothing after
 
 -- bytes came, and each line among them was answered that a line feed ends
-pub record ServesEnded {S R W : Type 0} (does : Speech S) (limit : ℕ) (from to : SourceState R) (old new : S) (before after : SinkState W) : Type 0 where
+pub record ServesEnded {S R W : Type 0} (does : Speech S) (limit : ℕ) (from to : SourceState R)
+    (old new : S) (before after : SinkState W) : Type 0 where
   pub bytes : List ℕ
   pub read : Consumes from.remaining to.remaining bytes
   pub said : List ℕ
@@ -115,13 +123,16 @@ end_of_input true = Whole
 end_of_input false = Open
 
 -- the input was read to its end, or until the work was over
-abbrev pub ServesTo : {S R W : Type 0} → Speech S → (S → Bool) → ℕ → LinesEnd → SourceState R → SourceState R → S → S → SinkState W → SinkState W → Type 0
+abbrev pub ServesTo : {S R W : Type 0} → Speech S → (S → Bool) → ℕ → LinesEnd → SourceState R → SourceState R → S → S
+    → SinkState W → SinkState W → Type 0
 ServesTo does over limit Whole from to old new before after = ServesAll does limit true from to old new before after
 ServesTo does over limit Open from to old new before after = ServesAll does limit false from to old new before after
-ServesTo does over limit Over from to old new before after = ServesEnded does limit from to old new before after × (over new ≡ true)
+ServesTo does over limit Over from to old new before after =
+    ServesEnded does limit from to old new before after × (over new ≡ true)
 
 -- bytes came, and the first lines among them were answered, the last of these maybe in part
-pub record ServesSome {S R W : Type 0} (does : Speech S) (limit : ℕ) (from to : SourceState R) (old : S) (before after : SinkState W) : Type 0 where
+pub record ServesSome {S R W : Type 0} (does : Speech S) (limit : ℕ) (from to : SourceState R) (old : S)
+    (before after : SinkState W) : Type 0 where
   pub bytes : List ℕ
   pub read : Consumes from.remaining to.remaining bytes
   -- the lines that were begun
@@ -146,7 +157,8 @@ tells_write (Err (Line OutOfMemory)) = false
 tells_write (Err (Line Full)) = false
 
 -- the lines of an input were answered in their order, up to the first fault
-pub record Serves {S R W : Type 0} (does : Speech S) (over : S → Bool) (limit : ℕ) (from to : SourceState R) (old new : S) (before after : SinkState W) (answer : Result LinesEnd LinesFault) : Type 0 where
+pub record Serves {S R W : Type 0} (does : Speech S) (over : S → Bool) (limit : ℕ) (from to : SourceState R)
+    (old new : S) (before after : SinkState W) (answer : Result LinesEnd LinesFault) : Type 0 where
   pub ok : IfOk answer (λ end. ServesTo does over limit end from to old new before after)
   pub read : answer ≡ Err Read → ServesEnded does limit from to old new before after
   pub fault : (fault : LineFault) → answer ≡ Err (Line fault) → ServesSome does limit from to old before after

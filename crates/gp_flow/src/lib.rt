@@ -1,4 +1,13 @@
-//! Reads lines without bound, answers each at once, and writes in large pieces up to the first fault and no further.
+//! Serves the lines of an input without bound: each is answered at once, and memory is flat.
+//!
+//! - `lines.rt`: `run_lines`, which reads an input piece by piece. Whenever it asks for more, all answers are out.
+//! - `work.rt`: `LineWork`, what is done with lines; `fault.rt`: why a line, or a whole input, was not answered.
+//! - `open_line.rt`: the line of which octets came, and no line feed yet.
+//! - `sink.rt`, `source.rt`, `watched.rt`: what is written to and read from.
+//!
+//! Where to make which change: what the lines of an input are stands in `specs/Lines.antt`, and how serving them may end
+//! in `Serves` there. A new way to work with lines is an `impl` of `LineWork`, which says by `says` what it answers and by
+//! `over` when no more of the input needs to be read.
 #![tactic(auto)]
 
 mod fault;

@@ -80,7 +80,11 @@ fn serve<R: Read, W: Write, K: LineWork>(
 fn end_of_input(whole: bool) -> LinesEnd
     ensures { result ≡ end_of_input whole }
 {
-    if whole { LinesEnd::Whole } else { LinesEnd::Open }
+    if whole {
+        LinesEnd::Whole
+    } else {
+        LinesEnd::Open
+    }
 }
 
 /// Asks the reader for more, which is done only once all answers are written and flushed.

@@ -56,7 +56,8 @@ impl OpenLine {
         work: &mut K,
         sink: &mut Sink<W>,
     ) -> Result<(), LineFault>
-        ensures answers { AnswersAll K.says (handed self.old.limit self.old.text ∷ []) work.old work.new sink.old sink.new result }
+        ensures answers { AnswersAll K.says (handed self.old.limit self.old.text ∷ [])
+            work.old work.new sink.old sink.new result }
         ensures next { OnOk result (self.new ≡ record { text = []; limit = self.old.limit }) }
     {
         if self.text.len() <= self.limit {
@@ -75,8 +76,10 @@ impl OpenLine {
         work: &mut K,
         sink: &mut Sink<W>,
     ) -> Result<(), LineFault>
-        ensures answers { AnswersAll K.says (fed_lines self.old.limit self.old.text (byte ∷ [])) work.old work.new sink.old sink.new result }
-        ensures next { OnOk result (self.new ≡ record { text = fed_text self.old.limit self.old.text (byte ∷ []); limit = self.old.limit }) }
+        ensures answers { AnswersAll K.says (fed_lines self.old.limit self.old.text (byte ∷ []))
+            work.old work.new sink.old sink.new result }
+        ensures next { OnOk result (self.new ≡
+            record { text = fed_text self.old.limit self.old.text (byte ∷ []); limit = self.old.limit }) }
     {
         if byte == LINE_FEED {
             return self.end(work, sink);
@@ -91,7 +94,8 @@ impl OpenLine {
         work: &mut K,
         sink: &mut Sink<W>,
     ) -> Result<(), LineFault>
-        ensures { AnswersAll K.says (last_line self.old.limit self.old.text) work.old work.new sink.old sink.new result }
+        ensures { AnswersAll K.says (last_line self.old.limit self.old.text)
+            work.old work.new sink.old sink.new result }
     {
         if self.text.is_empty() {
             return Ok(());
@@ -108,8 +112,10 @@ impl OpenLine {
         sink: &mut Sink<W>,
     ) -> Result<(), LineFault>
         requires { sink.old.flushed ≡ true }
-        ensures answers { AnswersAll K.says (fed_lines self.old.limit self.old.text piece.now) work.old work.new sink.old sink.new result }
-        ensures next { OnOk result (self.new ≡ record { text = fed_text self.old.limit self.old.text piece.now; limit = self.old.limit }) }
+        ensures answers { AnswersAll K.says (fed_lines self.old.limit self.old.text piece.now)
+            work.old work.new sink.old sink.new result }
+        ensures next { OnOk result (self.new ≡
+            record { text = fed_text self.old.limit self.old.text piece.now; limit = self.old.limit }) }
         ensures kept { OnOk result (KeepsNothing sink.new) }
     {
         'octets: for byte in piece {
@@ -127,7 +133,8 @@ impl OpenLine {
         sink: &mut Sink<W>,
     ) -> Result<bool, LineFault>
         requires { sink.old.flushed ≡ true }
-        ensures answers { AnswersAll K.says (last_line self.limit self.text) work.old work.new sink.old sink.new result }
+        ensures answers { AnswersAll K.says (last_line self.limit self.text)
+            work.old work.new sink.old sink.new result }
         ensures kept { OnOk result (KeepsNothing sink.new) }
         ensures whole { IfOk result (λ whole. IsTrue whole ↔ (self.text ≡ [])) }
     {

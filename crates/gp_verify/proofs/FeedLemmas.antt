@@ -1,6 +1,6 @@
 -- No line of a trace has a line feed inside.
-use Rattle.std.specs.Prelude.{◌==◌, ◌&&◌, if◌then◌else◌, not, map, slice_index}
-use Rattle.std.proofs.Common.{◌≡◌, ℕ, ◌+◌, ◌/◌, ◌%◌, Bool, true, false, cond, List, [], ◌∷◌, ◌++◌, Option, None, Some, codes, decimal, refl, sym, ap, subst, ◌∙◌, get_or, take, drop, append_assoc}
+use Rattle.std.specs.Prelude.{◌==◌, ◌&&◌, if◌then◌else◌, not}
+use Rattle.std.proofs.Common.{◌≡◌, ℕ, ◌/◌, ◌%◌, Bool, true, false, cond, List, [], ◌∷◌, ◌++◌, Option, None, Some, codes, decimal, refl, get_or, take, drop}
 use Rattle.std.specs.Fmt.{digits, digits_onto, digit_glyph}
 use Rattle.std.specs.List.{flat_map, list_all}
 use Rattle.std.specs.FinMap.{entries}
@@ -31,7 +31,7 @@ use Rattle.gp_machine.specs.declared.reply.Reply.TheVariants as replies
 use Rattle.gp_machine.specs.declared.answer.Answer.{Answer}
 use Rattle.gp_machine.specs.declared.entry.Receipt.{Receipt}
 use Rattle.gp_machine.specs.Refusals.{refusal_name, refusal_number}
-use Rattle.gp_trace.specs.Reply.{alloc_text, allocs_text, leaving_text, listed, next_alloc_text, numbered, phase_text, reply_text, row_text}
+use Rattle.gp_trace.specs.Reply.{alloc_text, allocs_text, leaving_text, next_alloc_text, numbered, phase_text, reply_text, row_text}
 use Rattle.gp_trace.specs.Text.{alarm_text, answer_text, command_text, event_text, grant_text, of_unit, sent_text}
 use Rattle.gp_flow.proofs.LineLemmas.{NoFeed}
 

@@ -1,6 +1,5 @@
 -- Lines that are handed to a verifier.
-use Rattle.std.proofs.Common.{◌≡◌, ℕ, ◌+◌, List, [], Option, None, Some, Result, Ok, Err, OnErr, IfOk, refl, sym, ap, ◌∙◌, subst}
-use Rattle.gp_flow.specs.declared.fault.LineFault.{LineFault}
+use Rattle.std.proofs.Common.{◌≡◌, ℕ, ◌+◌, List, Option, None, Some, Err}
 use Rattle.gp_flow.specs.Sink.{SinkState}
 use Rattle.gp_flow.specs.Lines.{Answers, Speech}
 use Rattle.gp_flow.proofs.AnswerLemmas.{no_memory, no_room}
@@ -9,7 +8,7 @@ use Rattle.gp_verify.specs.declared.fault.LineRefusal.TheVariants.{OutOfMemory, 
 use Rattle.gp_verify.specs.declared.verdict.Verdict.{Verdict}
 use Rattle.gp_verify.specs.declared.verdict.Verdict.TheVariants.{TooLong}
 use Rattle.gp_verify.specs.Faults.{line_fault}
-use Rattle.gp_verify.specs.Following.{JudgesLine, TakesFrom}
+use Rattle.gp_verify.specs.Following.{TakesFrom}
 use Rattle.gp_verify.specs.Verdicts.{Judges, VerifyState, ending}
 
 -- a line that was not judged is not answered

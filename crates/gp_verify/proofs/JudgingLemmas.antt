@@ -8,7 +8,6 @@ use Rattle.gp_machine.specs.declared.entry.Entry.{Entry}
 use Rattle.gp_machine.specs.declared.entry.Receipt.{Receipt}
 use Rattle.gp_machine.specs.declared.event.Event.{Event}
 use Rattle.gp_machine.specs.declared.event.Event.TheVariants as events
-use Rattle.gp_machine.specs.declared.event.Command.{Command as AnyCommand}
 use Rattle.gp_machine.specs.declared.event.Command.TheVariants as commands
 use Rattle.gp_machine.specs.declared.reply.Reply.{Reply}
 use Rattle.gp_machine.specs.declared.reply.Reply.TheVariants.{Found, Allocated}

@@ -1,13 +1,13 @@
 -- How the verification of a text ends.
-use Rattle.std.specs.Prelude.{IfSome, ◌↔◌, IsTrue, is_some}
-use Rattle.std.proofs.Common.{◌≡◌, ◌⊎◌, ◌<◌, inl, inr, ℕ, ◌+◌, Bool, true, false, List, [], ◌∷◌, ◌++◌, Option, None, Some, Result, Ok, Err, length, map, refl, sym, ap, subst, ◌∙◌, append_assoc}
+use Rattle.std.specs.Prelude.{IfSome, is_some}
+use Rattle.std.proofs.Common.{◌≡◌, ℕ, true, false, List, [], ◌∷◌, ◌++◌, Option, None, Some, Result, Err, length, map, refl, sym, ap, subst, ◌∙◌, append_assoc}
 use Rattle.std.proofs.lemmas.List.{append-nil}
 use Rattle.std.specs.Io.KnownBytes.{Consumes, IsAtEnd}
 use Rattle.gp_flow.specs.declared.lines.LinesEnd.{LinesEnd}
 use Rattle.gp_flow.specs.declared.lines.LinesEnd.TheVariants.{Whole, Open, Over}
 use Rattle.gp_flow.specs.declared.fault.LinesFault.{LinesFault}
 use Rattle.gp_flow.specs.declared.fault.LinesFault.TheVariants as faults
-use Rattle.gp_flow.specs.Lines.{DoesAll, Serves, ServesAll, ServesEnded, ServesTo, ended_lines, handed, lines_of, with_feeds}
+use Rattle.gp_flow.specs.Lines.{DoesAll, Serves, ServesTo, ended_lines, handed, lines_of, with_feeds}
 use Rattle.gp_flow.specs.Sink.{SinkState}
 use Rattle.gp_flow.specs.Source.{SourceState, ReadsWhole}
 use Rattle.gp_flow.proofs.LineLemmas.{ended_first, handed_none, handed_whole, lines_fed}
@@ -18,7 +18,7 @@ use Rattle.gp_verify.specs.declared.outcome.VerifyFault.TheVariants.{Lines}
 use Rattle.gp_verify.specs.declared.verdict.Verdict.{Verdict}
 use Rattle.gp_verify.specs.declared.verdict.Verdict.TheVariants as verdict
 use Rattle.gp_verify.specs.Following.{Follows, has_ended}
-use Rattle.gp_verify.specs.Outcome.{Condemns, IsNoRun, IsRefused, IsRun, IsUnended, Verifies, finding, longest_line}
+use Rattle.gp_verify.specs.Outcome.{Condemns, IsRefused, IsRun, IsUnended, Verifies, finding, longest_line}
 use Rattle.gp_verify.specs.Tells.{AreTrace, IsTraceText, TellsNothing}
 use Rattle.gp_verify.specs.Verdicts.{Judges, VerifyState}
 use Rattle.gp_verify.proofs.CourseLemmas.{Course, Fails, Halts, Runs, course, wholes}
@@ -156,9 +156,9 @@ module _ {R : Type 0} (limit : ℕ) (from to : SourceState R) (old new : VerifyS
         condemned = condemned v halts.line halts.mid p.raw p.is halts.fails;
         none = λ short. if_some from.remaining (λ (xs : List ℕ). IsTraceText old.mask old.play xs → ⊥)
             (λ xs here trace.
-                let o = first xs here in
-                stage_ends old.mask old.play halts.mid halts.before p.raw (p.others ++ o.0) (lines_of xs) (o.1 ∙ behind o.0) halts.stage
-                (told_nothing v halts.line halts.mid p.raw short p.is halts.fails) (in_lines old.mask old.play xs trace).trace);
+            let o = first xs here in
+            stage_ends old.mask old.play halts.mid halts.before p.raw (p.others ++ o.0) (lines_of xs) (o.1 ∙ behind o.0) halts.stage
+            (told_nothing v halts.line halts.mid p.raw short p.is halts.fails) (in_lines old.mask old.play xs trace).trace);
       }
 
   -- the lines of all that is to come begin with those of what came

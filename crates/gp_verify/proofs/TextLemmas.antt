@@ -1,10 +1,9 @@
 -- The text of a trace, and its lines.
 use Rattle.std.proofs.Common.{◌≡◌, ℕ, List, [], ◌∷◌, ◌++◌, map, codes, decimal, refl, sym, ap, ◌∙◌, append_assoc}
-use Rattle.std.specs.List.{flat_map}
 use Rattle.gp_ploam.specs.declared.check.Mask.{Mask}
 use Rattle.gp_machine.specs.declared.entry.Receipt.{Receipt}
 use Rattle.gp_trace.specs.Text.{answer_text, event_text, line_of, trace_text}
-use Rattle.gp_verify.specs.Tells.{AreTrace, IsTraceText, TracesAreLines, joined}
+use Rattle.gp_verify.specs.Tells.{TracesAreLines, joined}
 use Rattle.std.proofs.Common.{subst}
 use Rattle.std.proofs.lemmas.List.{append_cancel_right}
 use Rattle.gp_flow.proofs.LineLemmas.{NoFeed, NoFeeds}

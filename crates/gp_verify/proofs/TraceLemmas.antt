@@ -1,20 +1,18 @@
 -- Lines that tell of turns one after the other.
-use Rattle.std.proofs.Common.{◌≡◌, ◌↔◌, ℕ, ◌+◌, List, [], ◌∷◌, ◌++◌, All, map, true, false, length, take, drop, get_or, ◌<◌, ◌≤◌, add-one, drop-cons, codes, refl, sym, ap, subst, ◌∙◌, slice_set}
-use Rattle.std.specs.Borrow.{Bor}
-use Rattle.std.proofs.lemmas.List.{append-nil, map-append, take_more, take-append-drop, take_all}
+use Rattle.std.proofs.Common.{◌≡◌, ℕ, ◌+◌, List, [], ◌∷◌, ◌++◌, map, refl, sym, subst, ◌∙◌, slice_set}
+use Rattle.std.proofs.lemmas.List.{append-nil}
 use Rattle.std.proofs.lemmas.List.Elements.{All-nil, All-cons, All-head, All-tail}
 use Rattle.gp_ploam.specs.declared.check.Mask.{Mask}
 use Rattle.gp_machine.specs.declared.entry.Receipt.{Receipt}
-use Rattle.gp_chassis.specs.World.{ChassisWorld, ChassisStep, ChassisRun, Move}
-use Rattle.gp_trace.specs.Text.{line_of}
+use Rattle.gp_chassis.specs.World.{ChassisWorld, ChassisRun, Move}
 use Rattle.gp_lines.specs.Told.{IsTold}
 use Rattle.gp_replay.specs.Chassis.{PlayState}
 use Rattle.gp_replay.specs.Play.{TakesTurns, all_moves, moves_told, turn_of}
 use Rattle.gp_replay.proofs.RunLemmas.{no_turns, turns_append}
-use Rattle.gp_verify.specs.Tells.{AreLinesOf, AreTrace, Tells, TellsAlone, TellsNothing, texts_of}
+use Rattle.gp_verify.specs.Tells.{AreLinesOf, AreTrace, Tells, TellsAlone, TellsNothing}
 use Rattle.gp_verify.specs.declared.verdict.Verdict.{Verdict}
 use Rattle.gp_verify.specs.declared.verdict.Verdict.TheVariants as verdict
-use Rattle.gp_verify.specs.Verdicts.{Judges, ending}
+use Rattle.gp_verify.specs.Verdicts.{Judges}
 use Rattle.gp_verify.proofs.JudgingLemmas.{same_play}
 
 -- ---- one line after the other

@@ -38,7 +38,8 @@ abbrev pub IsNoRun : {R : Type 0} → VerifyState → SourceState R → Type 0
 IsNoRun old from = IfSome from.remaining (λ text. IsTraceText old.mask old.play text → ⊥)
 
 -- the lines before this one are those of a run, and this one can't follow, for this reason
-pub record IsRefused {R : Type 0} (old new : VerifyState) (from to : SourceState R) (line : ℕ) (verdict : Verdict) : Type 0 where
+pub record IsRefused {R : Type 0} (old new : VerifyState) (from to : SourceState R) (line : ℕ)
+    (verdict : Verdict) : Type 0 where
   -- what was read of the text
   pub bytes : List ℕ
   pub came : Consumes from.remaining to.remaining bytes
@@ -69,7 +70,8 @@ IsUnread faults.Read to = (to.failed ≡ true) ⊎ (to.left ≡ 0)
 IsUnread (faults.Line fault) to = Unit {0}
 
 -- how a verification may end
-abbrev pub Verifies : {R : Type 0} → VerifyState → VerifyState → SourceState R → SourceState R → Result ℕ VerifyFault → Type 0
+abbrev pub Verifies : {R : Type 0} → VerifyState → VerifyState → SourceState R → SourceState R
+    → Result ℕ VerifyFault → Type 0
 Verifies old new from to (Ok lines) = IsRun old from to lines
 Verifies old new from to (Err (Refused line verdict)) = IsRefused old new from to line verdict
 Verifies old new from to (Err (Unended line)) = IsUnended old from to line

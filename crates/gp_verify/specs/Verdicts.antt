@@ -76,7 +76,8 @@ pub record VerifyState : Type 0 where
 
 -- before the first line
 abbrev pub opened_verify : Mask → List PortConfig → ℕ → VerifyState
-opened_verify mask ports licences = record { mask = mask; play = opened_play ports licences; lines = 0; said = []; ended = None }
+opened_verify mask ports licences =
+    record { mask = mask; play = opened_play ports licences; lines = 0; said = []; ended = None }
 
 -- a verdict other than that the line follows ends it
 abbrev pub ending : Verdict → Option Verdict

@@ -40,7 +40,11 @@ impl<L: Ledger> Model for Verifier<L> {
 
     ghost Value = { VerifyState };
 
-    ghost coded = { Prim.hlevel (codes, map.code {R = serial_cmp} coded_serial row.the_row.coded, set.code {R = serial_cmp} coded_serial) };
+    ghost coded = { Prim.hlevel (
+      codes,
+      map.code {R = serial_cmp} coded_serial row.the_row.coded,
+      set.code {R = serial_cmp} coded_serial,
+    ) };
 
     ghost view = { λ v. record { mask = v.mask; play = v.player; lines = v.lines; said = v.buffer; ended = v.ended } };
 
@@ -83,7 +87,8 @@ impl<L: Ledger> Verifier<L> {
             Judges verdict self.old.mask self.old.play text.now self.new.play self.new.said) }
         ensures ends { self.old.ended ≡ None → IfOk result (λ verdict. self.new.ended ≡ ending verdict) }
         ensures lines { self.old.ended ≡ None → IfOk result (λ _. self.new.lines ≡ self.old.lines + 1) }
-        ensures ended { (verdict : AnyVerdict) → self.old.ended ≡ Some verdict → (result ≡ Ok verdict) × (self.new ≡ self.old) }
+        ensures ended { (verdict : AnyVerdict) → self.old.ended ≡ Some verdict
+            → (result ≡ Ok verdict) × (self.new ≡ self.old) }
         ensures err { OnErr result (self.new ≡ self.old) }
         ensures full { result ≡ Err Full → self.old.lines ≡ most_lines }
         ensures mask { self.new.mask ≡ self.old.mask }
@@ -102,7 +107,8 @@ impl<L: Ledger> Verifier<L> {
 
     /// Ends it at a line that is too long to be looked at, if it has not ended.
     pub fn pass_long(&mut self) -> Result<(), LineRefusal>
-        ensures ended { (verdict : AnyVerdict) → self.old.ended ≡ Some verdict → (result ≡ Ok tt) × (self.new ≡ self.old) }
+        ensures ended { (verdict : AnyVerdict) → self.old.ended ≡ Some verdict
+            → (result ≡ Ok tt) × (self.new ≡ self.old) }
         ensures long { self.old.ended ≡ None → IfOk result (λ _.
             self.new ≡ record self.old { lines = self.old.lines + 1; ended = Some TooLong }) }
         ensures err { OnErr result (self.new ≡ self.old) }
