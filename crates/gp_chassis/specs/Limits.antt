@@ -5,7 +5,7 @@ use Rattle.std.specs.List.{flat_map}
 use Rattle.gp_ploam.specs.declared.message.Serial.{Serial}
 use Rattle.gp_ploam.specs.Serials.{is_among}
 use Rattle.gp_serial.specs.Admitted.{Admissions}
-use Rattle.gp_licence.specs.declared.ledger_parts.TheConstants.{MAX_LICENCES}
+use Rattle.gp_licence.specs.Limits.{max_licences}
 use Rattle.gp_machine.specs.declared.config.PortConfig.{PortConfig}
 use Rattle.gp_machine.specs.Config.{is_within_limits, is_distinct, max_ports, max_journal_limit}
 use Rattle.gp_chassis.specs.declared.config.ChassisConfig.{ChassisConfig}
@@ -25,7 +25,7 @@ Lists admissions serials = (serial : Serial) → is_some (get admissions serial)
 
 -- each number of the configuration is within its limits, and no serial number is admitted twice, on one port or on two
 pub record IsWithin (config : ChassisConfig) : Type 0 where
-  pub licences : config.licences ≤ MAX_LICENCES
+  pub licences : config.licences ≤ max_licences
   pub journal : IsJournalLimit config.journal_limit
   pub some_port : 0 < length config.ports.items
   pub few_ports : length config.ports.items ≤ max_ports

@@ -1,7 +1,6 @@
 -- What a port does in a frame in which no window is open and nothing is owed (this profile's own rule; the common
 -- states are those of G.984.3, clause 10).
 use Rattle.std.specs.Prelude.{ℕ, zero, suc, Bool, true, false, Option, None, Some}
-use Rattle.gp_ranging.specs.declared.grant.Grant.{Grant}
 use Rattle.gp_ranging.specs.declared.grant.Grant.TheVariants.{Search, Range, Poll}
 use Rattle.gp_common.specs.declared.common.Common.{Common}
 use Rattle.gp_common.specs.declared.common.Common.TheVariants.{Standby, Acquisition, Measuring}
@@ -17,12 +16,6 @@ measurement_of None = (Standby, Nothing)
 abbrev pub standby_decision_of : Option ℕ → Option ℕ → Common × Decision
 standby_decision_of None (Some onu) = (Standby, Ask (Poll onu))
 standby_decision_of ranging next_poll = measurement_of ranging
-
--- what a decision grants
-abbrev pub grant_of : Decision → Option Grant
-grant_of Nothing = None
-grant_of Overhead = None
-grant_of (Ask grant) = Some grant
 
 -- the next common state and the decision, from: the common state; whether an acquisition is wanted; the least
 -- ranging ONU-ID; the operating ONU-ID whose turn it is to be polled; the search windows of an acquisition

@@ -14,8 +14,3 @@ abbrev pub is_acquiring : Common → Bool
 is_acquiring Standby = false
 is_acquiring (Acquisition left) = true
 is_acquiring Measuring = false
-
--- an acquisition begins: the port leaves standby for it
-abbrev pub begins_acquisition : Common → Common → Bool
-begins_acquisition Standby (Acquisition left) = true
-begins_acquisition _ _ = false

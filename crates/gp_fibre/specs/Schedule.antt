@@ -9,7 +9,7 @@ use Rattle.gp_ranging.specs.declared.grant.Grant.{Grant}
 use Rattle.gp_machine.specs.declared.config.PortConfig.{PortConfig}
 use Rattle.gp_machine.specs.declared.entry.Entry.{Entry}
 use Rattle.gp_machine.specs.declared.event.Event.{Event}
-use Rattle.gp_onu.specs.declared.limits.TheConstants.{FRAME_BIT_TIMES}
+use Rattle.gp_onu.specs.Limits.{frame_bit_times}
 use Rattle.gp_fibre.specs.declared.fault.WorldFault.{WorldFault}
 use Rattle.gp_fibre.specs.declared.fault.WorldFault.TheVariants.{Limit, NoCopy, NoUnit, NoGrant, NoBurst, OutOfMemory}
 use Rattle.gp_fibre.specs.declared.flight.Flight.{Flight}
@@ -119,7 +119,7 @@ inputs_of_grant grant units (Some issued) = grants_given grant units
 -- so many whole frames
 abbrev pub flights_of : ℕ → ℕ → List SentBurst → List Flight
 flights_of frame number [] = []
-flights_of frame number (burst ∷ bursts) = record { number = number; due = frame + burst.at / FRAME_BIT_TIMES } ∷ flights_of frame (number + 1) bursts
+flights_of frame number (burst ∷ bursts) = record { number = number; due = frame + burst.at / frame_bit_times } ∷ flights_of frame (number + 1) bursts
 
 -- the bursts that come in this frame, but for those that are lost
 abbrev pub arrivals : List ℕ → ℕ → List Flight → List FibreInput

@@ -9,7 +9,7 @@ use Rattle.gp_ploam.specs.declared.message.Down.TheVariants as down
 use Rattle.gp_ploam.specs.OnuIds.{broadcast_onu}
 use Rattle.gp_ranging.specs.declared.grant.Grant.{Grant}
 use Rattle.gp_ranging.specs.declared.grant.Grant.TheVariants.{Poll}
-use Rattle.gp_onu.specs.declared.limits.TheConstants.{MAX_DELAY, MAX_RANDOM_DELAY, MAX_SIMULATED_UNITS}
+use Rattle.gp_onu.specs.Limits.{max_delay, max_random_delay, max_simulated_units}
 use Rattle.gp_onu.specs.Frames.{frames_left, unit_after_frames}
 use Rattle.gp_onu.specs.Noticing.{is_asked}
 use Rattle.gp_timers.specs.Timers.{Timers}
@@ -96,8 +96,8 @@ with_timer timers name (Some due) = record timers { frames = insert timers.frame
 -- its random delay has twelve bits, it was brought up to date, and its state ends only after this many frames
 pub record IsStoredUnit (mask : Mask) (frames least : ℕ) (stored : StoredUnit) : Type 0 where
   pub mask_is : stored.unit.mask ≡ mask
-  pub delay : stored.delay ≤ MAX_DELAY
-  pub random : stored.random ≤ MAX_RANDOM_DELAY
+  pub delay : stored.delay ≤ max_delay
+  pub random : stored.random ≤ max_random_delay
   pub brought : stored.brought ≤ frames
   pub ahead : ForSome (due_of stored) (λ due. least ≤ due)
 
@@ -106,7 +106,7 @@ pub record IsUnitStore (mask : Mask) (frames least : ℕ) (stored_units : List S
   pub each : All (IsStoredUnit mask frames least) stored_units
   pub names : timers.names ≡ length stored_units
   pub set : (name : ℕ) → get timers.frames name ≡ due_at stored_units name
-  pub few : length stored_units ≤ MAX_SIMULATED_UNITS
+  pub few : length stored_units ≤ max_simulated_units
   pub fits : frames ≤ MAX_FRAMES
 
 -- each grant asks exactly the places of the units that it asks as they were stored

@@ -1,14 +1,14 @@
 -- A fibre: one port, and the simulated units that it reaches (this profile's own rule).
 use Rattle.std.specs.Prelude.{ℕ, nat_le, Bool, false, ◌&&◌, List, [], length, map}
 use Rattle.std.specs.List.{list_all}
-use Rattle.gp_licence.specs.declared.ledger_parts.TheConstants.{MAX_LICENCES}
+use Rattle.gp_licence.specs.Limits.{max_licences}
 use Rattle.gp_ploam.specs.declared.message.Down.{Down}
 use Rattle.gp_ploam.specs.declared.check.Mask.{Mask}
 use Rattle.gp_ranging.specs.declared.grant.Grant.{Grant}
 use Rattle.gp_machine.specs.declared.config.PortConfig.{PortConfig}
 use Rattle.gp_machine.specs.Config.{is_within_limits}
 use Rattle.gp_machine.specs.State.{PortState, opening_of}
-use Rattle.gp_onu.specs.declared.limits.TheConstants.{MAX_DELAY, MAX_RANDOM_DELAY, MAX_SIMULATED_UNITS}
+use Rattle.gp_onu.specs.Limits.{max_delay, max_random_delay, max_simulated_units}
 use Rattle.gp_onu.specs.declared.stage.Stage.TheVariants.{Initial}
 use Rattle.gp_onu.specs.Table.{UnitState, Light, unit_after}
 use Rattle.gp_fibre.specs.declared.unit_plan.UnitPlan.{UnitPlan}
@@ -46,9 +46,9 @@ opening_world config licences plans =
 
 -- a round trip of at most four frames, and a random delay of twelve bits
 abbrev pub is_plan_within_limits : UnitPlan → Bool
-is_plan_within_limits plan = nat_le plan.delay MAX_DELAY && nat_le plan.random MAX_RANDOM_DELAY
+is_plan_within_limits plan = nat_le plan.delay max_delay && nat_le plan.random max_random_delay
 
 -- all numbers that a world begins with are in their ranges
 abbrev pub is_world_within_limits : PortConfig → ℕ → List UnitPlan → Bool
 is_world_within_limits config licences plans =
-    is_within_limits config && nat_le licences MAX_LICENCES && nat_le (length plans) MAX_SIMULATED_UNITS && list_all is_plan_within_limits plans
+    is_within_limits config && nat_le licences max_licences && nat_le (length plans) max_simulated_units && list_all is_plan_within_limits plans

@@ -1,6 +1,6 @@
 -- When entries tell how a port came to stand where it stands (this profile's own rule).
 use Rattle.std.specs.Prelude.{◌≡◌, ◌≤◌, true, List, Option, None, Some, All}
-use Rattle.gp_licence.specs.declared.ledger_parts.TheConstants.{MAX_LICENCES}
+use Rattle.gp_licence.specs.Limits.{max_licences}
 use Rattle.gp_machine.specs.declared.config.PortConfig.{PortConfig}
 use Rattle.gp_machine.specs.declared.entry.Entry.{Entry}
 use Rattle.gp_machine.specs.Config.{is_within_limits}
@@ -14,7 +14,7 @@ start_of config (Some base) = base
 
 -- no more licences were handed in with the entry than a book can have
 abbrev pub IsWithinBook : Entry → Type 0
-IsWithinBook entry = entry.purse_in ≤ MAX_LICENCES
+IsWithinBook entry = entry.purse_in ≤ max_licences
 
 -- the configuration is within its limits and is that of the state before the first entry, no entry has more licences than a
 -- book can have, and the entries are a run from that state to the last

@@ -1,7 +1,8 @@
 //! The book that hands licences out and takes them back.
 ghost use Rattle.std.specs.Prelude.{◌≡◌, ℕ, ◌+◌, ◌≤◌, min};
+ghost use Rattle.gp_licence.specs.Limits.{max_licences};
 
-use crate::ledger_parts::{LedgerParts, MAX_LICENCES};
+use crate::ledger_parts::LedgerParts;
 use crate::licences::Licences;
 use gp_linear::NeverDropped;
 use std::marker::Model;
@@ -20,7 +21,7 @@ impl<L: Ledger> NeverDropped for LicenceBook<L> {}
 
 impl<L: Ledger> Model for LicenceBook<L> {
     ghost use Rattle.std.specs.Prelude.{◌≡◌, ◌+◌, ◌≤◌};
-    ghost use Rattle.gp_licence.specs.declared.ledger_parts.TheConstants.{MAX_LICENCES};
+    ghost use Rattle.gp_licence.specs.Limits.{max_licences};
     ghost use Rattle.gp_licence.specs.Book.{BookState};
 
     ghost Value = { BookState };
@@ -28,7 +29,7 @@ impl<L: Ledger> Model for LicenceBook<L> {
     ghost view = { λ b. record { free = b.free; total = b.total } };
 
     // The book keeps the parts of the ledger that stand for no licence, too.
-    ghost invariant = { λ b. (b.parts + b.total ≡ MAX_LICENCES + b.free) × (b.free ≤ b.total) × (b.total ≤ MAX_LICENCES) };
+    ghost invariant = { λ b. (b.parts + b.total ≡ max_licences + b.free) × (b.free ≤ b.total) × (b.total ≤ max_licences) };
 }
 
 impl<L: Ledger> LicenceBook<L> {
@@ -37,8 +38,8 @@ impl<L: Ledger> LicenceBook<L> {
     /// `blank` is a new ledger of `MAX_LICENCES` parts, made by `Blank::new`, and `L` its name.
     pub fn new(blank: Blank, total: u32) -> LicenceBook<L>
         requires name { blank.name ≡ L.name }
-        requires parts { (blank.parts ≡ L.parts) × (L.parts ≡ MAX_LICENCES) }
-        requires total { total ≤ MAX_LICENCES }
+        requires parts { (blank.parts ≡ L.parts) × (L.parts ≡ max_licences) }
+        requires total { total ≤ max_licences }
         ensures free { result.free ≡ total }
         ensures total { result.total ≡ total }
     {
@@ -60,7 +61,7 @@ impl<L: Ledger> LicenceBook<L> {
     /// Tells how many licences the book was made with.
     pub fn total(&self) -> u32
         ensures total { result ≡ self.now.total }
-        ensures most { result ≤ MAX_LICENCES }
+        ensures most { result ≤ max_licences }
     {
         self.total
     }

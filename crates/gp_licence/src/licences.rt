@@ -1,6 +1,6 @@
 //! Licences in somebody's hands.
 ghost use Rattle.std.specs.Prelude.{◌≡◌, ℕ, ◌+◌, ◌<◌, ◌≤◌, IfSome, IfNone};
-ghost use Rattle.gp_licence.specs.declared.ledger_parts.TheConstants.{MAX_LICENCES};
+ghost use Rattle.gp_licence.specs.Limits.{max_licences};
 
 use crate::ledger_parts::LedgerParts;
 use gp_linear::NeverDropped;
@@ -22,13 +22,13 @@ impl<L: Ledger> NeverDropped for Licences<L> {}
 
 impl<L: Ledger> Model for Licences<L> {
     ghost use Rattle.std.specs.Prelude.{◌≡◌, ℕ, ◌≤◌, IfSome, IfNone};
-    ghost use Rattle.gp_licence.specs.declared.ledger_parts.TheConstants.{MAX_LICENCES};
+    ghost use Rattle.gp_licence.specs.Limits.{max_licences};
 
     ghost Value = { ℕ };
 
     ghost view = { λ l. l.count };
 
-    ghost invariant = { λ l. IfSome l.parts (λ p. p ≡ l.count) × IfNone l.parts (l.count ≡ 0) × (l.count ≤ MAX_LICENCES) };
+    ghost invariant = { λ l. IfSome l.parts (λ p. p ≡ l.count) × IfNone l.parts (l.count ≡ 0) × (l.count ≤ max_licences) };
 }
 
 impl<L: Ledger> Licences<L> {
@@ -45,7 +45,7 @@ impl<L: Ledger> Licences<L> {
     /// Makes as many licences as there are parts.
     pub(crate) fn of_parts(count: u32, parts: LedgerParts<L>) -> Licences<L>
         requires count { parts ≡ count }
-        requires most { count ≤ MAX_LICENCES }
+        requires most { count ≤ max_licences }
         ensures { result ≡ count }
     {
         Licences {
@@ -66,7 +66,7 @@ impl<L: Ledger> Licences<L> {
     /// Tells how many there are.
     pub fn count(&self) -> u32
         ensures count { result ≡ self.now }
-        ensures most { result ≤ MAX_LICENCES }
+        ensures most { result ≤ max_licences }
     {
         self.count
     }

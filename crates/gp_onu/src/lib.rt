@@ -6,9 +6,11 @@
 //!   `specs/Frames.antt` has many frames, the count to the end of a state, and the limits that every unit keeps.
 //! - `laws.rt`: the laws that a code heard twice is as one heard once, and that a unit has only what it heard (`specs/Told.antt`).
 //! - `specs/Noticing.antt`: which messages and grants a unit surely passes over.
-//! - `limits.rt`: how many simulated units there may be, and how late each may answer; `gp_fibre` and `gp_script` hold them to it.
+//! - `limits.rt`, `specs/Limits.antt`: how many simulated units there may be, and how late each may answer; `gp_fibre` and
+//!   `gp_script` hold them to it.
 //!
-//! A new rule is a line of `unit_table` and a method; another limit is a constant of `limits.rt`.
+//! A new rule is a line of `unit_table` and a method; another limit is a constant of `limits.rt` and a number of
+//! `specs/Limits.antt`.
 #![tactic(auto)]
 
 mod laws;
@@ -18,6 +20,8 @@ mod state;
 mod unit;
 
 pub use laws::{heard_twice, knows_what_it_hears};
-pub use limits::{FRAME_BIT_TIMES, MAX_DELAY, MAX_RANDOM_DELAY, MAX_SIMULATED_UNITS};
+pub use limits::{
+    FRAME_BIT_TIMES, MAX_DELAY, MAX_RANDOM_DELAY, MAX_SIMULATED_UNITS, units_are_limited,
+};
 pub use state::State;
 pub use unit::Unit;

@@ -7,7 +7,7 @@ ghost use Rattle.gp_ploam.specs.OnuIds.{last_onu};
 ghost use Rattle.gp_ploam.specs.Row.{HasRightCheck};
 ghost use Rattle.gp_ploam.specs.Up.{IsProperUp, code_of_up};
 ghost use Rattle.gp_ranging.specs.declared.grant.Grant.TheVariants.{Poll, Range, Search};
-ghost use Rattle.gp_onu.specs.declared.limits.TheConstants.{MAX_RANDOM_DELAY};
+ghost use Rattle.gp_onu.specs.Limits.{max_random_delay};
 ghost use Rattle.gp_onu.specs.Frames.{IsFirstChange, NeverChanges, frames_left, unit_after_frames};
 ghost use Rattle.gp_onu.specs.Noticing.{LeavesUnanswered, PassesOver, is_asked, is_meant};
 ghost use Rattle.gp_onu.specs.Stage.{eqd_of, onu_id_of, state_of};
@@ -337,7 +337,7 @@ impl Unit {
     /// Gives the code of the unit's answer to a grant, if it answers. `random`, at most `MAX_RANDOM_DELAY`, is its random
     /// delay under a serial number request, in units of 32 bytes; other grants don't look at it.
     pub fn grant(&mut self, grant: Grant, random: u16) -> Option<[u8; 13]>
-        requires { random ≤ MAX_RANDOM_DELAY }
+        requires { random ≤ max_random_delay }
         ensures answer { result ≡ option_map (λ m. code_of_up m (mask_value self.old.mask)) (answer_to self.old (Granted grant random)) }
         ensures after { self.new ≡ unit_after self.old (Granted grant random) }
     {
@@ -350,7 +350,7 @@ impl Unit {
 
     fn answer(&mut self, grant: Grant, random: u16) -> Option<Up>
         requires lit { IsTrue self.old.lit }
-        requires random { random ≤ MAX_RANDOM_DELAY }
+        requires random { random ≤ max_random_delay }
         ensures answer { result ≡ answer_to self.old (Granted grant random) }
         ensures after { self.new ≡ unit_after self.old (Granted grant random) }
         ensures proper { IfSome result IsProperUp }
@@ -364,7 +364,7 @@ impl Unit {
 
     fn answer_search(&self, random: u16) -> Option<Up>
         requires lit { IsTrue self.now.lit }
-        requires random { random ≤ MAX_RANDOM_DELAY }
+        requires random { random ≤ max_random_delay }
         ensures answer { result ≡ answer_to self.now (Granted Search random) }
         ensures after { self.now ≡ unit_after self.now (Granted Search random) }
         ensures proper { IfSome result IsProperUp }

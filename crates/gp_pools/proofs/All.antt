@@ -1,9 +1,9 @@
 -- All further Alloc-IDs of a unit at once.
-use Rattle.std.proofs.Common.{◌≡◌, ℕ, zero, suc, ◌+◌, ◌-◌, ◌≤◌, ◌<◌, true, List, [], ◌∷◌, length, Some, sym, ap, subst, ◌∙◌, inl, inr, arith, is_some, nat_eq, IsSome}
+use Rattle.std.proofs.Common.{◌≡◌, ℕ, zero, suc, ◌≤◌, ◌<◌, true, List, [], ◌∷◌, length, Some, sym, ap, subst, ◌∙◌, inl, inr, arith, is_some, nat_eq, IsSome}
 use Rattle.std.proofs.lemmas.Bool.{cases_Bool, false≢true, eqb-true}
 use Rattle.std.specs.FinMap as map
-use Rattle.gp_pools.specs.Pool.{Pool, IsLeased, IsSettled, pool_with_settled, pool_with_lease_again, pool_without_lease, settle_each, lease_each, give_back_each}
-use Rattle.gp_pools.specs.Allocs.{AllocMap, AreLeased, AreSettled, number_at}
+use Rattle.gp_pools.specs.Pool.{Pool, IsLeased, IsSettled}
+use Rattle.gp_pools.specs.Allocs.{AllocMap, AreFurther, AreLeased, AreSettled, number_at}
 use Rattle.gp_pools.proofs.Entries.{find, find-head, find-tail}
 use Rattle.gp_pools.proofs.AllocPlaces.{Entry}
 
@@ -40,18 +40,11 @@ all_settled pool m es same each n has = let at = member m es n same has in subst
 pub all_leased : (pool : Pool) (m : AllocMap) (es : List Entry) → es ≡ map.entries m → ((i : ℕ) → i < length es → IsLeased pool (number_at es i)) → AreLeased pool m
 all_leased pool m es same each n has = let at = member m es n same has in subst (IsLeased pool) at.2 (each at.0 at.1)
 
--- the range of the pool stays
-abbrev pub HasRange : Pool → Type 0
-HasRange pool = (pool.first ≡ 256) × (pool.last ≤ 4095) × (pool.limit ≡ pool.last + 1 - 256)
-
-pub range-settle : (pool : Pool) (es : List Entry) → HasRange pool → HasRange (settle_each pool es)
-range-settle pool [] h = h
-range-settle pool (e ∷ es) h = range-settle (pool_with_settled pool e.0) es h
-
-pub range-lease : (pool : Pool) (es : List Entry) → HasRange pool → HasRange (lease_each pool es)
-range-lease pool [] h = h
-range-lease pool (e ∷ es) h = range-lease (pool_with_lease_again pool e.0) es h
-
-pub range-give_back : (pool : Pool) (es : List Entry) → HasRange pool → HasRange (give_back_each pool es)
-range-give_back pool [] h = h
-range-give_back pool (e ∷ es) h = range-give_back (pool_without_lease pool e.0) es h
+-- numbers that were settled are the pool's, so they are further Alloc-IDs
+pub all_further : (first last : ℕ) (m : AllocMap) (es : List Entry) → es ≡ map.entries m → first ≡ 256 → last ≤ 4095
+    → ((i : ℕ) → i < length es → (first ≤ number_at es i) × (number_at es i ≤ last)) → AreFurther m
+all_further first last m es same low high each n has =
+    let at = member m es n same has in
+    let own = each at.0 at.1 in
+    let here = at.2 in
+    (omega (arith, own.0, here), omega (arith, own.1, here))

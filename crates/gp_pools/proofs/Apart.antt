@@ -6,10 +6,10 @@ use Rattle.std.specs.FinMap as map
 use Rattle.std.specs.FinSet.{contains, insert, remove}
 use Rattle.gp_numbers.proofs.Members.{contains-insert_other, contains-remove_same, contains-remove_other}
 use Rattle.gp_pools.specs.Pool.{IsLeased, IsSettled, IsSound}
-use Rattle.gp_pools.specs.Cooling.{FramesLeft, left_after_frame}
+use Rattle.gp_pools.specs.Cooling.{FramesLeft}
 use Rattle.gp_pools.specs.Onu.{OnuPool, IsApart, IsWarm, onus_with_lease, onus_without_lease, onus_with_settled, onus_with_lease_again, onus_after_frame}
 use Rattle.gp_pools.proofs.Pools.{leased-not_settled}
-use Rattle.gp_pools.proofs.Cool.{get-insert_other, get-after_frame}
+use Rattle.gp_pools.proofs.Cool.{get-insert_other, get-after_frame, left_after_frame}
 
 warm_after : (frames : ℕ) (b : Bool) (cooling : FramesLeft) (n m : ℕ) → (m ≡ n → ⊥) → map.get cooling m ≡ None → map.get (cond b cooling (map.insert cooling n frames)) m ≡ None
 warm_after frames true cooling n m other warm = warm

@@ -12,10 +12,15 @@ use Rattle.std.specs.FinMap as map
 use Rattle.std.specs.FinMap.Entries.{below_all}
 use Rattle.std.specs.FinSet as num
 use Rattle.gp_numbers.proofs.Members.{contains-insert_same, contains-insert_other, contains-remove_other, of_insert, of_remove}
-use Rattle.gp_pools.specs.Cooling.{FramesLeft, Quarantine, quarantine_with, left_after_frame, entries_after_frame, cooling_after_frame, left_at, cooling_in, IsCool}
+use Rattle.gp_pools.specs.Cooling.{FramesLeft, Quarantine, quarantine_with, entries_after_frame, cooling_after_frame, left_at, cooling_in, IsCool}
 
 abbrev Members : Type 0
 Members = num.FinSet nat_cmp
+
+-- a frame less, or none where that was the last
+abbrev pub left_after_frame : Option ℕ → Option ℕ
+left_after_frame None = None
+left_after_frame (Some left) = if nat_le left 1 then None else Some (left - 1)
 
 -- ---- maps by number
 

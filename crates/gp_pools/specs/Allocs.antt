@@ -1,13 +1,18 @@
 -- The further Alloc-IDs of a unit, in rising order (this profile's own rule).
 use Rattle.std.specs.Prelude.{◌≡◌, ℕ, ◌<◌, ◌≤◌, Bool, false, List, length, slice_index_or, IsSome}
 use Rattle.std.specs.Ordering.{nat_cmp}
-use Rattle.std.specs.FinMap.{FinMap, from_entries, get}
+use Rattle.std.specs.FinMap.{FinMap, from_entries, get, keys}
+use Rattle.std.specs.FinSet.{FinSet, from_list}
 use Rattle.gp_pools.specs.Limits.{first_alloc_id, last_alloc_id}
 use Rattle.gp_pools.specs.Pool.{Pool, IsLeased, IsSettled}
 
 -- from each further Alloc-ID to whether it is Leaving; else it is Held
 abbrev pub AllocMap : Type 0
 AllocMap = FinMap nat_cmp Bool
+
+-- the further Alloc-IDs, held and leaving
+abbrev pub numbers_of : AllocMap → FinSet nat_cmp
+numbers_of allocs = from_list (keys allocs)
 
 -- the map that a list makes
 abbrev pub allocs_of : List (ℕ × Bool) → AllocMap

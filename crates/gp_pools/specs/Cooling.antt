@@ -1,5 +1,5 @@
 -- Numbers in quarantine (this profile's own rule: a freed ONU-ID is given to no unit for some frames).
-use Rattle.std.specs.Prelude.{ℕ, zero, suc, ◌+◌, ◌-◌, ◌%◌, ◌<◌, ◌≤◌, nat_le, if◌then◌else◌, IsTrue, List, [], ◌∷◌, Option, None, Some, slice_index, refl}
+use Rattle.std.specs.Prelude.{ℕ, zero, suc, ◌+◌, ◌-◌, ◌%◌, ◌<◌, ◌≤◌, nat_le, if◌then◌else◌, IsTrue, List, [], ◌∷◌, slice_index, refl}
 use Rattle.std.specs.Coded.{Coded, code_by, coded×, coded_ℕ}
 use Rattle.std.specs.Ordering.{nat_cmp}
 use Rattle.std.specs.FinMap as map
@@ -19,11 +19,6 @@ pub record Quarantine : Type 0 where
 -- a quarantine is stored as its two parts
 abbrev pub quarantine_code : Coded Quarantine
 quarantine_code = code_by (ℕ × FramesLeft) (coded× coded_ℕ (map.code coded_ℕ coded_ℕ)) (λ q. (q.frames, q.cooling)) (λ p. record { frames = p.0; cooling = p.1 }) (λ _. refl)
-
--- a frame less, or none where that was the last
-abbrev pub left_after_frame : Option ℕ → Option ℕ
-left_after_frame None = None
-left_after_frame (Some left) = if nat_le left 1 then None else Some (left - 1)
 
 -- the entries with a frame less each, without those whose last it was
 abbrev pub entries_after_frame : List (ℕ × ℕ) → List (ℕ × ℕ)

@@ -1,6 +1,6 @@
 -- A pool of numbers as contracts see it (this profile's own rule: G.984.3 says which numbers there are, and not which a
 -- unit gets).
-use Rattle.std.specs.Prelude.{◌≡◌, ℕ, ◌+◌, ◌-◌, ◌^◌, ◌<◌, ◌≤◌, Bool, List, [], ◌∷◌, IsTrue, refl}
+use Rattle.std.specs.Prelude.{◌≡◌, ℕ, ◌+◌, ◌-◌, ◌^◌, ◌<◌, ◌≤◌, IsTrue, refl}
 use Rattle.std.specs.Coded.{Coded, code_by, coded×, coded_ℕ}
 use Rattle.std.specs.Ordering.{nat_cmp}
 use Rattle.std.specs.FinSet as set
@@ -90,17 +90,14 @@ pub record IsKept (pool : Pool) (out end : ℕ) : Type 0 where
   pub held : pool.last < end
   pub fits : end ≤ 2 ^ 16
 
--- each of these numbers is settled, one after another; the numbers stand with their flags
-abbrev pub settle_each : Pool → List (ℕ × Bool) → Pool
-settle_each pool [] = pool
-settle_each pool (e ∷ es) = settle_each (pool_with_settled pool e.0) es
+-- the pool with these leased numbers settled: exactly these are leased no more, and are settled
+abbrev pub pool_with_all_settled : Pool → set.FinSet nat_cmp → Pool
+pool_with_all_settled pool numbers = record pool { leased = set.difference pool.leased numbers; settled = set.union pool.settled numbers }
 
--- each of these numbers is leased again
-abbrev pub lease_each : Pool → List (ℕ × Bool) → Pool
-lease_each pool [] = pool
-lease_each pool (e ∷ es) = lease_each (pool_with_lease_again pool e.0) es
+-- the pool with these settled numbers leased again: exactly these are settled no more, and are leased
+abbrev pub pool_with_all_leased_again : Pool → set.FinSet nat_cmp → Pool
+pool_with_all_leased_again pool numbers = record pool { leased = set.union pool.leased numbers; settled = set.difference pool.settled numbers }
 
--- each of these numbers is given back
-abbrev pub give_back_each : Pool → List (ℕ × Bool) → Pool
-give_back_each pool [] = pool
-give_back_each pool (e ∷ es) = give_back_each (pool_without_lease pool e.0) es
+-- the pool with these leased numbers given back: exactly these are out no more
+abbrev pub pool_without_all : Pool → set.FinSet nat_cmp → Pool
+pool_without_all pool numbers = record pool { leased = set.difference pool.leased numbers }

@@ -1,8 +1,7 @@
 ghost use Rattle.std.specs.Prelude.{◌≡◌, ℕ, ◌+◌, ◌-◌, ◌≤◌, ◌↔◌, IsTrue, IsNone, IfNone, IfSome};
-ghost use Rattle.std.specs.FinMap as map;
-ghost use Rattle.gp_pools.specs.Allocs.{AreFurther, AreLeased, AreSettled};
+ghost use Rattle.gp_pools.specs.Allocs.{AreLeased, AreSettled, numbers_of};
 ghost use Rattle.gp_pools.specs.Limits.{first_alloc_id, last_alloc_id};
-ghost use Rattle.gp_pools.specs.Pool.{give_back_each, lease_each, settle_each, AreAllOut, IsFree, IsLeased, IsSettled, IsSound, fresh_pool, pool_with_lease, pool_with_lease_again, pool_with_settled, pool_without_lease};
+ghost use Rattle.gp_pools.specs.Pool.{AreAllOut, IsFree, IsLeased, IsSettled, IsSound, fresh_pool, pool_with_all_leased_again, pool_with_all_settled, pool_with_lease, pool_with_lease_again, pool_with_settled, pool_without_all, pool_without_lease};
 
 use super::alloc_leases::AllocLeases;
 use super::allocs::Allocs;
@@ -140,7 +139,7 @@ impl AllocIds {
     pub fn settle_all(&mut self, leases: AllocLeases) -> Allocs
         requires { AreLeased self.old leases }
         ensures allocs { result ≡ leases }
-        ensures pool { self.new ≡ settle_each self.old (map.entries leases) }
+        ensures pool { self.new ≡ pool_with_all_settled self.old (numbers_of leases) }
         ensures settled { AreSettled self.new leases }
     {
         let AllocLeases { allocs } = leases;
@@ -150,10 +149,9 @@ impl AllocIds {
 
     /// Leases these settled Alloc-IDs again; they are settled no more.
     pub fn leases_of(&mut self, allocs: Allocs) -> AllocLeases
-        requires settled { AreSettled self.old allocs }
-        requires further { AreFurther allocs }
+        requires { AreSettled self.old allocs }
         ensures leases { result ≡ allocs }
-        ensures pool { self.new ≡ lease_each self.old (map.entries allocs) }
+        ensures pool { self.new ≡ pool_with_all_leased_again self.old (numbers_of allocs) }
         ensures leased { AreLeased self.new allocs }
     {
         self.pool.lease_each(&allocs.slots());
@@ -163,7 +161,7 @@ impl AllocIds {
     /// Takes back each of these leases.
     pub fn give_back_all(&mut self, leases: AllocLeases)
         requires { AreLeased self.old leases }
-        ensures { self.new ≡ give_back_each self.old (map.entries leases) }
+        ensures { self.new ≡ pool_without_all self.old (numbers_of leases) }
     {
         let AllocLeases { allocs } = leases;
         self.pool.give_back_each(&allocs.slots());

@@ -24,7 +24,7 @@ pub struct Cooling {
     leaves: [u16; OCTETS],
     /// The frames that went by, without the carry out of 16 bits.
     clock: u16,
-    /// How many frames no member leaves in; 0 where there is none.
+    /// No member leaves before the frame that is so many frames ahead, the next one at 1; 0 where there is no member.
     wait: u16,
 }
 
@@ -96,11 +96,9 @@ impl Cooling {
         }
         self.members.insert(number);
         self.leaves[usize::from(number)] = self.clock.wrapping_add(self.frames);
-        self.wait = if self.wait == 0 {
-            self.frames
-        } else {
-            self.wait
-        };
+        if self.wait == 0 {
+            self.wait = self.frames;
+        }
     }
 
     /// Lets a frame go by. Where no number leaves it looks at none.

@@ -11,6 +11,7 @@
 //! - `allocs.rt`: the further Alloc-IDs of one unit, plain data in eight places.
 //! - `place.rt`: one of these places, in four octets: rows, answers and entries of journals have eight each.
 //! - `alloc_leases.rt`: the leases of these, one spent value.
+//! - `limits.rt`: the law that the constants are the numbers of `specs/`.
 //!
 //! `specs/` has the pools and the places as contracts see them, `proofs/` the lemmas.
 #![tactic(auto)]
@@ -20,6 +21,7 @@ mod alloc_leases;
 mod allocs;
 mod cooling;
 mod copies;
+mod limits;
 mod named_leases;
 mod number_pool;
 mod onu_ids;
@@ -29,4 +31,5 @@ pub use alloc_ids::{AllocIds, AllocLease, FIRST_ALLOC_ID, LAST_ALLOC_ID};
 pub use alloc_leases::AllocLeases;
 pub use allocs::{Allocs, MAX_ALLOCS};
 pub use cooling::MAX_QUARANTINE;
+pub use limits::numbers_are_limited;
 pub use onu_ids::{OnuIds, OnuLease};

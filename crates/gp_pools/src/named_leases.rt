@@ -45,9 +45,6 @@ impl AllocIds {
         ensures none { IfNone result ((number : ℕ) → IsFree self.now number → ⊥) }
         ensures free { IfSome result (IsFree self.now) }
     {
-        if !self.pool.has_room() {
-            return None;
-        }
         self.pool.least_free(&NumberSet::new())
     }
 
@@ -58,6 +55,7 @@ impl AllocIds {
         ensures pool { self.new ≡ pool_with_lease self.old number }
         ensures leased { IsLeased self.new number }
     {
+        // The question is asked so that the pool is known to be sound: then a free number leaves room.
         let free = self.pool.is_free(number);
         prove!(free);
         self.pool.lease(number);

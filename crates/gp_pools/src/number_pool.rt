@@ -1,8 +1,8 @@
 ghost use Rattle.std.specs.Prelude.{◌≡◌, ℕ, ◌+◌, ◌-◌, ◌*◌, ◌^◌, ◌<◌, ◌≤◌, ◌↔◌, IsTrue, IsNone, IfNone, IfSome, EachIndex, false};
 ghost use Rattle.std.specs.FinSet as set;
-ghost use Rattle.gp_pools.specs.Pool.{IsFree, IsLeased, IsSettled, IsSound, HasRoom, count_out, fresh_pool, give_back_each, lease_each, settle_each, pool_with_lease, pool_with_lease_again, pool_with_settled, pool_without_lease};
+ghost use Rattle.gp_pools.specs.Pool.{IsFree, IsLeased, IsSettled, IsSound, HasRoom, count_out, fresh_pool, pool_with_all_leased_again, pool_with_all_settled, pool_with_lease, pool_with_lease_again, pool_with_settled, pool_without_all, pool_without_lease};
 ghost use Rattle.gp_pools.specs.Allocs.{IsRising, number_at};
-ghost use Rattle.gp_pools.specs.Slots.{filled};
+ghost use Rattle.gp_pools.specs.Slots.{filled, numbers_in};
 
 use gp_numbers::NumberSet;
 use std::marker::Model;
@@ -95,6 +95,7 @@ impl<const FIRST: u16, const WORDS: usize> NumberPool<FIRST, WORDS> {
         ensures free { IfSome result (IsFree self.now) }
         ensures unbarred { IfSome result (λ number. set.contains barred.now number ≡ false) }
         ensures room { IfSome result (λ _. HasRoom self.now) }
+        ensures sound { IsSound self.now }
     {
         if self.out == self.limit {
             return None;
@@ -164,7 +165,7 @@ impl<const FIRST: u16, const WORDS: usize> NumberPool<FIRST, WORDS> {
     pub fn settle_each(&mut self, slots: &[Option<(u16, bool)>])
         requires rising { IsRising (filled slots.now) }
         requires leased { EachIndex (filled slots.now) (λ k. IsLeased self.old (number_at (filled slots.now) k)) }
-        ensures pool { self.new ≡ settle_each self.old (filled slots.now) }
+        ensures pool { self.new ≡ pool_with_all_settled self.old (numbers_in slots.now) }
         ensures settled { EachIndex (filled slots.now) (λ k. IsSettled self.new (number_at (filled slots.now) k)) }
     {
         for slot in slots {
@@ -179,8 +180,9 @@ impl<const FIRST: u16, const WORDS: usize> NumberPool<FIRST, WORDS> {
     pub fn lease_each(&mut self, slots: &[Option<(u16, bool)>])
         requires rising { IsRising (filled slots.now) }
         requires settled { EachIndex (filled slots.now) (λ k. IsSettled self.old (number_at (filled slots.now) k)) }
-        ensures pool { self.new ≡ lease_each self.old (filled slots.now) }
+        ensures pool { self.new ≡ pool_with_all_leased_again self.old (numbers_in slots.now) }
         ensures leased { EachIndex (filled slots.now) (λ k. IsLeased self.new (number_at (filled slots.now) k)) }
+        ensures own { EachIndex (filled slots.now) (λ k. (self.old.first ≤ number_at (filled slots.now) k) × (number_at (filled slots.now) k ≤ self.old.last)) }
     {
         for slot in slots {
             let Some((number, _)) = slot else {
@@ -194,7 +196,7 @@ impl<const FIRST: u16, const WORDS: usize> NumberPool<FIRST, WORDS> {
     pub fn give_back_each(&mut self, slots: &[Option<(u16, bool)>])
         requires rising { IsRising (filled slots.now) }
         requires leased { EachIndex (filled slots.now) (λ k. IsLeased self.old (number_at (filled slots.now) k)) }
-        ensures { self.new ≡ give_back_each self.old (filled slots.now) }
+        ensures { self.new ≡ pool_without_all self.old (numbers_in slots.now) }
     {
         for slot in slots {
             let Some((number, _)) = slot else {

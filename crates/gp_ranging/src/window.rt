@@ -29,13 +29,15 @@ impl Model for Window {
     ghost invariant = { λ w. (1 ≤ w.left) × (w.left ≤ window_frames) };
 }
 
-/// What is left of a window after a frame.
+/// What is left of a window after a frame. It is no `Drop`, as a window is none.
 pub enum Ticked {
     /// It is still open.
     Still(Window),
     /// It ended with this frame: its grant, and whether anything was seen in it.
     Ended(Grant, bool),
 }
+
+impl NeverDropped for Ticked {}
 
 impl Window {
     /// Opens a window for the answers to `grant`.

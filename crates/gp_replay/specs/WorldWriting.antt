@@ -4,7 +4,7 @@ use Rattle.std.specs.Io.KnownBytes.{Appends}
 use Rattle.gp_ploam.specs.declared.check.Mask.{Mask}
 use Rattle.gp_machine.specs.declared.entry.Entry.{Entry}
 use Rattle.gp_machine.specs.declared.entry.Receipt.{Receipt}
-use Rattle.gp_onu.specs.declared.limits.TheConstants.{MAX_SIMULATED_UNITS}
+use Rattle.gp_onu.specs.Limits.{max_simulated_units}
 use Rattle.gp_fibre.specs.declared.loss_plan.LossPlan.{LossPlan}
 use Rattle.gp_fibre.specs.declared.world_step.WorldStep.{WorldStep}
 use Rattle.gp_fibre.specs.declared.world_step.WorldStep.TheVariants as steps
@@ -79,13 +79,13 @@ WorldTakesPrefix losses all old entries new = (done : List ScriptEvent) × IsPre
 -- how many entries each frame adds at most: one for the frame, and one for each burst that comes of it; each unit sends two
 -- in a frame at most
 abbrev pub max_entries_each : ℕ
-max_entries_each = 1 + 2 * MAX_SIMULATED_UNITS
+max_entries_each = 1 + 2 * max_simulated_units
 
 -- there is room for so many more frames and other events: the fibre can count them, and the port can number their entries
 pub record HasFibreRoom (count : ℕ) (play : FibrePlay) : Type 0 where
   pub frames : play.world.frames + count ≤ MAX_FRAMES
   pub numbers : play.next + length play.world.flights + max_entries_each * count < 2 ^ 64
-  pub few : length play.world.fibre.units ≤ MAX_SIMULATED_UNITS
+  pub few : length play.world.fibre.units ≤ max_simulated_units
 
 -- how many frames an event is, or that it is one other thing that happens
 abbrev pub count_of : ScriptEvent → ℕ

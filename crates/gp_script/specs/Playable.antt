@@ -1,7 +1,7 @@
 -- What a script has to be for a line terminal to play it (this profile's own rule).
 use Rattle.std.specs.Prelude.{◌≡◌, ◌<◌, ◌≤◌, All, IsTrue, length}
-use Rattle.gp_licence.specs.declared.ledger_parts.TheConstants.{MAX_LICENCES}
-use Rattle.gp_onu.specs.declared.limits.TheConstants.{MAX_SIMULATED_UNITS}
+use Rattle.gp_licence.specs.Limits.{max_licences}
+use Rattle.gp_onu.specs.Limits.{max_simulated_units}
 use Rattle.gp_machine.specs.Config.{is_distinct, is_within_limits, max_ports, max_journal_limit}
 use Rattle.gp_script.specs.Port.{all_admitted}
 use Rattle.gp_script.specs.Script.{ScriptView, max_events}
@@ -11,7 +11,7 @@ use Rattle.gp_script.specs.View.{NamesOneOf}
 -- what a line terminal needs of a script so that it can play it
 pub record IsPlayable (script : ScriptView) : Type 0 where
   -- no more licences than there may be
-  pub licences : script.licences ≤ MAX_LICENCES
+  pub licences : script.licences ≤ max_licences
   -- a port's journal keeps an entry at least
   pub some_entry : 1 ≤ script.journal_limit
   -- and no more entries than it may
@@ -27,7 +27,7 @@ pub record IsPlayable (script : ScriptView) : Type 0 where
   -- each port has the script's mask
   pub one_mask : All (λ port. port.mask ≡ script.mask) script.ports
   -- no more simulated units than there may be
-  pub few_units : length script.units ≤ MAX_SIMULATED_UNITS
+  pub few_units : length script.units ≤ max_simulated_units
   -- each unit's delays are within their limits
   pub units : All (λ unit. IsTrue (is_unit_within_limits unit)) script.units
   -- units stand on the fibre of one port

@@ -4,10 +4,10 @@ use Rattle.std.specs.Str.{is_utf8}
 use Rattle.toml.specs.Data.{Items, Members}
 use Rattle.toml.specs.Parse.{parse_document}
 use Rattle.gp_ploam.specs.declared.check.Mask.{Mask}
-use Rattle.gp_licence.specs.declared.ledger_parts.TheConstants.{MAX_LICENCES}
+use Rattle.gp_licence.specs.Limits.{max_licences}
 use Rattle.gp_machine.specs.Config.{max_ports, max_journal_limit}
 use Rattle.gp_machine.specs.declared.config.PortConfig.{PortConfig}
-use Rattle.gp_onu.specs.declared.limits.TheConstants.{MAX_SIMULATED_UNITS}
+use Rattle.gp_onu.specs.Limits.{max_simulated_units}
 use Rattle.gp_script.specs.declared.script.ScriptEvent.{ScriptEvent}
 use Rattle.gp_script.specs.declared.script.ScriptUnit.{ScriptUnit}
 use Rattle.gp_script.specs.declared.fault.ScriptFault.{ScriptFault}
@@ -89,11 +89,11 @@ pub record ScriptView : Type 0 where
 unfoldable pub script_of_table : Bool → Members → Result ScriptView ScriptFault
 script_of_table may_have_units members = do
   shape ← top_shape may_have_units members
-  licences ← in_range 0 MAX_LICENCES shape.licences
+  licences ← in_range 0 max_licences shape.licences
   mask ← mask_of shape.mask
   journal_limit ← in_range_or max_journal_limit 1 max_journal_limit shape.journal_limit
   count ← count_in 1 max_ports shape.ports
-  unit_count ← count_in 0 MAX_SIMULATED_UNITS shape.units
+  unit_count ← count_in 0 max_simulated_units shape.units
   _ ← count_in 0 max_events shape.events
   ports ← ports_from mask [] shape.ports
   units ← units_from [] shape.units

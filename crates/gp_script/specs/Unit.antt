@@ -1,7 +1,7 @@
 -- The tables under `unit`, each a simulated unit on the fibre of the script's port (this profile's own rule).
 use Rattle.std.specs.Prelude.{List, [], ◌∷◌, ◌++◌, ◌&&◌, Bool, Result, Ok, Err, codes, nat_le}
 use Rattle.toml.specs.Data.{table, Items, no_items, item, Members}
-use Rattle.gp_onu.specs.declared.limits.TheConstants.{MAX_DELAY, MAX_RANDOM_DELAY}
+use Rattle.gp_onu.specs.Limits.{max_delay, max_random_delay}
 use Rattle.gp_script.specs.declared.script.ScriptUnit.{ScriptUnit}
 use Rattle.gp_script.specs.declared.fault.ScriptFault.{ScriptFault}
 use Rattle.gp_script.specs.declared.fault.ScriptFault.TheVariants as fault
@@ -11,7 +11,7 @@ use Rattle.gp_script.specs.Values.{in_range, in_range_or, serial_of}
 
 -- the delays of a unit are no longer than they may be
 abbrev pub is_unit_within_limits : ScriptUnit → Bool
-is_unit_within_limits unit = nat_le unit.delay MAX_DELAY && nat_le unit.random MAX_RANDOM_DELAY
+is_unit_within_limits unit = nat_le unit.delay max_delay && nat_le unit.random max_random_delay
 
 -- a unit table
 unfoldable pub unit_of : Members → Result ScriptUnit ScriptFault
@@ -21,8 +21,8 @@ unit_of members = do
   delay ← needed_number (codes "delay") members
   random ← number_at (codes "random") members
   serial ← serial_of serial
-  delay ← in_range 0 MAX_DELAY delay
-  random ← in_range_or 0 0 MAX_RANDOM_DELAY random
+  delay ← in_range 0 max_delay delay
+  random ← in_range_or 0 0 max_random_delay random
   Ok (record { serial = serial; delay = delay; random = random })
 
 -- the units of the unit tables, behind those before them

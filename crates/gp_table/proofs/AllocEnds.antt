@@ -5,13 +5,13 @@ use Rattle.std.specs.Ordering.{nat_cmp, eq_by_cmp}
 use Rattle.std.specs.Cmp.{nat_cmp_total, unsigned_tied}
 use Rattle.std.specs.FinMap as map
 use Rattle.std.specs.FinSet.{contains}
-use Rattle.gp_pools.specs.Allocs.{AllocMap, AreLeased}
-use Rattle.gp_pools.specs.Pool.{Pool, settle_each, lease_each, give_back_each, pool_with_lease, pool_without_lease}
+use Rattle.gp_pools.specs.Allocs.{AllocMap, AreLeased, numbers_of}
+use Rattle.gp_pools.specs.Pool.{Pool, pool_with_all_leased_again, pool_with_all_settled, pool_with_lease, pool_without_all, pool_without_lease}
 use Rattle.gp_unit.specs.Rows.{allocs_left}
 use Rattle.gp_unit.specs.Units.{freed_alloc}
 use Rattle.gp_table.specs.Active.{pool_freed}
 use Rattle.gp_table.proofs.Numbers.{moved}
-use Rattle.gp_table.proofs.PoolMembers.{Holds, plain, is_in, in_entries, holds-lease, holds-give_back, holds-lease_each, holds-settle_each, holds-give_back_each}
+use Rattle.gp_table.proofs.PoolMembers.{Holds, plain, is_in, in_entries, holds-lease, holds-give_back, holds-lease_all, holds-settle_all, holds-give_back_all}
 
 -- nothing is leased, and just these are settled
 pub record Ends (start now : Pool) (settled : ℕ → Bool) : Type 0 where
@@ -78,30 +78,30 @@ module _ (a : Pool) (idle : (q : ℕ) → contains a.leased q ≡ false) where
   none_in q = in_entries map.empty q ∙ ap is_some (map.get-empty nat_cmp q)
 
   -- no Alloc-IDs settled
-  pub ends-add : Ends a (settle_each a (map.entries (map.empty {K = ℕ} {X = Bool} {R = nat_cmp}))) (contains a.settled)
+  pub ends-add : Ends a (pool_with_all_settled a (numbers_of (map.empty {K = ℕ} {X = Bool} {R = nat_cmp}))) (contains a.settled)
   ends-add =
-      ends-by a _ _ _ _ (holds-settle_each a.first a.last a.limit (contains a.leased) (contains a.settled) a (map.entries map.empty) (plain a))
+      ends-by a _ _ _ _ (holds-settle_all a.first a.last a.limit (contains a.leased) (contains a.settled) a (map.entries map.empty) (plain a))
       (λ q. idle_again (is_in (map.entries map.empty) q) (contains a.leased q) (idle q))
       (λ q. ap (λ b. b || contains a.settled q) (none_in q))
 
   module _ (m : AllocMap) where
-    waked : Holds (lease_each a (map.entries m)) a.first a.last a.limit (λ q. is_in (map.entries m) q || contains a.leased q) (λ q. not (is_in (map.entries m) q) && contains a.settled q)
-    waked = holds-lease_each a.first a.last a.limit (contains a.leased) (contains a.settled) a (map.entries m) (plain a)
+    waked : Holds (pool_with_all_leased_again a (numbers_of m)) a.first a.last a.limit (λ q. is_in (map.entries m) q || contains a.leased q) (λ q. not (is_in (map.entries m) q) && contains a.settled q)
+    waked = holds-lease_all a.first a.last a.limit (contains a.leased) (contains a.settled) a (map.entries m) (plain a)
 
-    freed : Holds (give_back_each (lease_each a (map.entries m)) (map.entries m)) a.first a.last a.limit
+    freed : Holds (pool_without_all (pool_with_all_leased_again a (numbers_of m)) (numbers_of m)) a.first a.last a.limit
         (λ q. not (is_in (map.entries m) q) && (is_in (map.entries m) q || contains a.leased q)) (λ q. not (is_in (map.entries m) q) && contains a.settled q)
-    freed = holds-give_back_each a.first a.last a.limit _ _ (lease_each a (map.entries m)) (map.entries m) waked
+    freed = holds-give_back_all a.first a.last a.limit _ _ (pool_with_all_leased_again a (numbers_of m)) (map.entries m) waked
 
     -- these leased again and given back
-    pub ends-remove : Ends a (give_back_each (lease_each a (map.entries m)) (map.entries m)) (moved (contains a.settled) (has_in m) (λ n. false))
+    pub ends-remove : Ends a (pool_without_all (pool_with_all_leased_again a (numbers_of m)) (numbers_of m)) (moved (contains a.settled) (has_in m) (λ n. false))
     ends-remove =
         ends-by a _ _ _ _ freed (λ q. both_out (is_in (map.entries m) q) (contains a.leased q) (idle q))
         (λ q. after_remove (is_in (map.entries m) q) (contains a.settled q) ∙ ap (λ b. false || (contains a.settled q && not b)) (in_entries m q))
 
     -- and none settled after it
-    pub ends-restart : Ends a (settle_each (give_back_each (lease_each a (map.entries m)) (map.entries m)) (map.entries (map.empty {K = ℕ} {X = Bool} {R = nat_cmp}))) (moved (contains a.settled) (has_in m) (has_in map.empty))
+    pub ends-restart : Ends a (pool_with_all_settled (pool_without_all (pool_with_all_leased_again a (numbers_of m)) (numbers_of m)) (numbers_of (map.empty {K = ℕ} {X = Bool} {R = nat_cmp}))) (moved (contains a.settled) (has_in m) (has_in map.empty))
     ends-restart =
-        ends-by a _ _ _ _ (holds-settle_each a.first a.last a.limit _ _ (give_back_each (lease_each a (map.entries m)) (map.entries m)) (map.entries map.empty) freed)
+        ends-by a _ _ _ _ (holds-settle_all a.first a.last a.limit _ _ (pool_without_all (pool_with_all_leased_again a (numbers_of m)) (numbers_of m)) (map.entries map.empty) freed)
         (λ q. idle_again (is_in (map.entries map.empty) q) _ (both_out (is_in (map.entries m) q) (contains a.leased q) (idle q)))
         (λ q.
         after_put (is_in (map.entries map.empty) q) (is_in (map.entries m) q) (contains a.settled q)
@@ -109,9 +109,9 @@ module _ (a : Pool) (idle : (q : ℕ) → contains a.leased q ≡ false) where
         ∙ ap (λ b. has_in map.empty q || (contains a.settled q && not b)) (in_entries m q))
 
     -- these leased again and settled
-    pub ends-waked : Ends a (settle_each (lease_each a (map.entries m)) (map.entries m)) (moved (contains a.settled) (has_in m) (has_in m))
+    pub ends-waked : Ends a (pool_with_all_settled (pool_with_all_leased_again a (numbers_of m)) (numbers_of m)) (moved (contains a.settled) (has_in m) (has_in m))
     ends-waked =
-        ends-by a _ _ _ _ (holds-settle_each a.first a.last a.limit _ _ (lease_each a (map.entries m)) (map.entries m) waked)
+        ends-by a _ _ _ _ (holds-settle_all a.first a.last a.limit _ _ (pool_with_all_leased_again a (numbers_of m)) (map.entries m) waked)
         (λ q. both_out (is_in (map.entries m) q) (contains a.leased q) (idle q))
         (λ q.
         after_put (is_in (map.entries m) q) (is_in (map.entries m) q) (contains a.settled q)
@@ -129,19 +129,19 @@ module _ (a : Pool) (idle : (q : ℕ) → contains a.leased q ≡ false) where
           parted true o = refl
           parted false o = refl
 
-      settled_rest : Holds (settle_each (lease_each a (map.entries m)) (map.entries (map.remove m alloc))) a.first a.last a.limit
+      settled_rest : Holds (pool_with_all_settled (pool_with_all_leased_again a (numbers_of m)) (numbers_of (map.remove m alloc))) a.first a.last a.limit
           (λ q. not (is_in (map.entries (map.remove m alloc)) q) && (is_in (map.entries m) q || contains a.leased q))
           (λ q. is_in (map.entries (map.remove m alloc)) q || (not (is_in (map.entries m) q) && contains a.settled q))
-      settled_rest = holds-settle_each a.first a.last a.limit _ _ (lease_each a (map.entries m)) (map.entries (map.remove m alloc)) waked
+      settled_rest = holds-settle_all a.first a.last a.limit _ _ (pool_with_all_leased_again a (numbers_of m)) (map.entries (map.remove m alloc)) waked
 
       out : (e i l : Bool) → l ≡ false → (not e && (not (not e && i) && (i || l))) ≡ false
       out true i l h = refl
       out false true l h = refl
       out false false l h = h
 
-      pub ends-freed : Ends a (pool_without_lease (settle_each (lease_each a (map.entries m)) (map.entries (map.remove m alloc))) alloc) (moved (contains a.settled) (has_in m) (has_in (map.remove m alloc)))
+      pub ends-freed : Ends a (pool_without_lease (pool_with_all_settled (pool_with_all_leased_again a (numbers_of m)) (numbers_of (map.remove m alloc))) alloc) (moved (contains a.settled) (has_in m) (has_in (map.remove m alloc)))
       ends-freed =
-          ends-by a _ _ _ _ (holds-give_back a.first a.last a.limit _ _ (settle_each (lease_each a (map.entries m)) (map.entries (map.remove m alloc))) alloc settled_rest)
+          ends-by a _ _ _ _ (holds-give_back a.first a.last a.limit _ _ (pool_with_all_settled (pool_with_all_leased_again a (numbers_of m)) (numbers_of (map.remove m alloc))) alloc settled_rest)
           (λ q.
           ap (λ b. not (eq_by_cmp nat_cmp q alloc) && (not b && (is_in (map.entries m) q || contains a.leased q))) (rest_in q)
           ∙ out (eq_by_cmp nat_cmp q alloc) (is_in (map.entries m) q) (contains a.leased q) (idle q))
@@ -151,7 +151,7 @@ module _ (a : Pool) (idle : (q : ℕ) → contains a.leased q ≡ false) where
           ∙ ap (λ b. has_in (map.remove m alloc) q || (contains a.settled q && not b)) (in_entries m q))
 
       -- it is still leased before it is given back
-      pub freed_leased : has_in m alloc ≡ true → contains (let p : Pool = settle_each (lease_each a (map.entries m)) (map.entries (map.remove m alloc)) in p.leased) alloc ≡ true
+      pub freed_leased : has_in m alloc ≡ true → contains (let p : Pool = pool_with_all_settled (pool_with_all_leased_again a (numbers_of m)) (numbers_of (map.remove m alloc)) in p.leased) alloc ≡ true
       freed_leased has =
           settled_rest.are_leased alloc
           ∙ ap (λ b. not b && (is_in (map.entries m) alloc || contains a.leased alloc)) (rest_in alloc ∙ ap (λ b. not b && is_in (map.entries m) alloc) (unsigned_tied alloc alloc ∙ eq-eqb alloc alloc refl))
@@ -169,18 +169,18 @@ module _ (a : Pool) (idle : (q : ℕ) → contains a.leased q ≡ false) where
         parted true o = refl
         parted false o = refl
 
-    leased_more : Holds (lease_each (pool_with_lease a alloc) (map.entries m)) a.first a.last a.limit
+    leased_more : Holds (pool_with_all_leased_again (pool_with_lease a alloc) (numbers_of m)) a.first a.last a.limit
         (λ q. is_in (map.entries m) q || (eq_by_cmp nat_cmp q alloc || contains a.leased q)) (λ q. not (is_in (map.entries m) q) && contains a.settled q)
-    leased_more = holds-lease_each a.first a.last a.limit _ _ (pool_with_lease a alloc) (map.entries m) (holds-lease a.first a.last a.limit (contains a.leased) (contains a.settled) a alloc (plain a))
+    leased_more = holds-lease_all a.first a.last a.limit _ _ (pool_with_lease a alloc) (map.entries m) (holds-lease a.first a.last a.limit (contains a.leased) (contains a.settled) a alloc (plain a))
 
     out_more : (e i l : Bool) → l ≡ false → (not (e || i) && (i || (e || l))) ≡ false
     out_more true i l h = refl
     out_more false true l h = refl
     out_more false false l h = h
 
-    pub ends-more : Ends a (settle_each (lease_each (pool_with_lease a alloc) (map.entries m)) (map.entries (map.insert m alloc leaving))) (moved (contains a.settled) (has_in m) (has_in (map.insert m alloc leaving)))
+    pub ends-more : Ends a (pool_with_all_settled (pool_with_all_leased_again (pool_with_lease a alloc) (numbers_of m)) (numbers_of (map.insert m alloc leaving))) (moved (contains a.settled) (has_in m) (has_in (map.insert m alloc leaving)))
     ends-more =
-        ends-by a _ _ _ _ (holds-settle_each a.first a.last a.limit _ _ (lease_each (pool_with_lease a alloc) (map.entries m)) (map.entries (map.insert m alloc leaving)) leased_more)
+        ends-by a _ _ _ _ (holds-settle_all a.first a.last a.limit _ _ (pool_with_all_leased_again (pool_with_lease a alloc) (numbers_of m)) (map.entries (map.insert m alloc leaving)) leased_more)
         (λ q.
         ap (λ b. not b && (is_in (map.entries m) q || (eq_by_cmp nat_cmp q alloc || contains a.leased q))) (more_in q)
         ∙ out_more (eq_by_cmp nat_cmp q alloc) (is_in (map.entries m) q) (contains a.leased q) (idle q))
@@ -190,7 +190,7 @@ module _ (a : Pool) (idle : (q : ℕ) → contains a.leased q ≡ false) where
         ∙ ap (λ b. has_in (map.insert m alloc leaving) q || (contains a.settled q && not b)) (in_entries m q))
 
     -- all of them are leased before they are settled
-    pub more_leased : AreLeased (lease_each (pool_with_lease a alloc) (map.entries m)) (map.insert m alloc leaving)
+    pub more_leased : AreLeased (pool_with_all_leased_again (pool_with_lease a alloc) (numbers_of m)) (map.insert m alloc leaving)
     more_leased q has =
         leased_more.are_leased q
         ∙ either (is_in (map.entries m) q) (eq_by_cmp nat_cmp q alloc) (contains a.leased q) (sym (more_in q) ∙ in_entries (map.insert m alloc leaving) q ∙ has)
@@ -229,15 +229,15 @@ left_some m alloc (Some true) q has = by_test (eq_by_cmp nat_cmp q alloc) (map.g
 module _ (a : Pool) (idle : (q : ℕ) → contains a.leased q ≡ false) (m : AllocMap) (alloc : ℕ) where
   -- what was freed is leased before it is given back
   pub acked_leased : (state : Option Bool) (lease : ℕ) → map.get m alloc ≡ state → freed_alloc alloc state ≡ Some lease
-      → contains (let p : Pool = settle_each (lease_each a (map.entries m)) (map.entries (allocs_left m alloc state)) in p.leased) lease ≡ true
+      → contains (let p : Pool = pool_with_all_settled (pool_with_all_leased_again a (numbers_of m)) (numbers_of (allocs_left m alloc state)) in p.leased) lease ≡ true
   acked_leased None lease is freed = absurd (no_lease lease freed)
   acked_leased (Some false) lease is freed = absurd (no_lease lease freed)
   acked_leased (Some true) lease is freed =
-      ap (contains (let p : Pool = settle_each (lease_each a (map.entries m)) (map.entries (map.remove m alloc)) in p.leased)) (sym (same_lease alloc lease freed))
+      ap (contains (let p : Pool = pool_with_all_settled (pool_with_all_leased_again a (numbers_of m)) (numbers_of (map.remove m alloc)) in p.leased)) (sym (same_lease alloc lease freed))
       ∙ freed_leased a idle m alloc (ap is_some is)
 
   pub ends-acked : (state : Option Bool) → map.get m alloc ≡ state
-      → Ends a (pool_freed (settle_each (lease_each a (map.entries m)) (map.entries (allocs_left m alloc state))) (freed_alloc alloc state)) (moved (contains a.settled) (has_in m) (has_in (allocs_left m alloc state)))
+      → Ends a (pool_freed (pool_with_all_settled (pool_with_all_leased_again a (numbers_of m)) (numbers_of (allocs_left m alloc state))) (freed_alloc alloc state)) (moved (contains a.settled) (has_in m) (has_in (allocs_left m alloc state)))
   ends-acked None is = ends-waked a idle m
   ends-acked (Some false) is = ends-waked a idle m
   ends-acked (Some true) is = ends-freed a idle m alloc

@@ -9,8 +9,8 @@ use Rattle.std.proofs.lemmas.List.FromFn.{get_or-map-range_with_len, length-map-
 use Rattle.std.specs.Prelude.{nat_le}
 use Rattle.std.specs.FinMap as fin
 use Rattle.std.specs.Ordering.{nat_cmp}
-use Rattle.gp_pools.specs.Cooling.{FramesLeft, Quarantine, cooling_after_frame, left_after_frame, quarantine_with}
-use Rattle.gp_pools.proofs.Cool.{get-after_frame, get-insert_same, get-insert_other}
+use Rattle.gp_pools.specs.Cooling.{FramesLeft, Quarantine, cooling_after_frame, quarantine_with}
+use Rattle.gp_pools.proofs.Cool.{get-after_frame, get-insert_same, get-insert_other, left_after_frame}
 use Rattle.gp_ploam.specs.OnuIds.{onu_ids}
 use Rattle.gp_table.specs.Active.{counts_of, left_or_zero}
 

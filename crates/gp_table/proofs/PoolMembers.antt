@@ -5,12 +5,12 @@ use Rattle.std.specs.List.{list_any}
 use Rattle.std.specs.Ordering.{nat_cmp, eq_by_cmp}
 use Rattle.std.specs.Cmp.{nat_cmp_total}
 use Rattle.std.specs.FinMap as map
-use Rattle.std.specs.FinSet.{FinSet, contains, insert, remove, contains-insert, contains-remove}
+use Rattle.std.specs.FinSet.{FinSet, contains, insert, remove, union, difference, from_list, contains-insert, contains-remove, contains-union, contains-difference, contains-from_list}
 use Rattle.gp_numbers.proofs.Members.{contains-insert_other, contains-remove_same, contains-remove_other, insert-remove, same_members}
 use Rattle.gp_pools.specs.Allocs.{AllocMap}
 use Rattle.gp_pools.specs.Onu.{OnuPool, onus_with_lease, onus_with_lease_again, onus_with_settled, onus_without_lease}
 use Rattle.gp_pools.specs.Cooling.{quarantine_with}
-use Rattle.gp_pools.specs.Pool.{Pool, settle_each, lease_each, give_back_each, pool_with_lease, pool_with_lease_again, pool_with_settled, pool_without_lease}
+use Rattle.gp_pools.specs.Pool.{Pool, pool_with_all_leased_again, pool_with_all_settled, pool_with_lease, pool_without_all, pool_without_lease}
 
 abbrev pub Entries : Type 0
 Entries = List (ℕ × Bool)
@@ -34,18 +34,6 @@ pub record Holds (pool : Pool) (first last limit : ℕ) (leased settled : ℕ �
 abbrev pub plain : (pool : Pool) → Holds pool pool.first pool.last pool.limit (contains pool.leased) (contains pool.settled)
 plain pool = record { same_first = refl; same_last = refl; same_limit = refl; are_leased = λ n. refl; are_settled = λ n. refl }
 
-swap : (a b c : Bool) → (a || (b || c)) ≡ ((b || a) || c)
-swap true true c = refl
-swap true false c = refl
-swap false true c = refl
-swap false false c = refl
-
-swap_not : (a b c : Bool) → (not a && (not b && c)) ≡ (not (b || a) && c)
-swap_not true true c = refl
-swap_not true false c = refl
-swap_not false true c = refl
-swap_not false false c = refl
-
 module _ (first last limit : ℕ) (leased settled : ℕ → Bool) where
   pub holds-lease : (pool : Pool) (n : ℕ) → Holds pool first last limit leased settled → Holds (pool_with_lease pool n) first last limit (λ q. eq_by_cmp nat_cmp q n || leased q) settled
   holds-lease pool n h = record {
@@ -54,24 +42,6 @@ module _ (first last limit : ℕ) (leased settled : ℕ → Bool) where
     same_limit = h.same_limit;
     are_leased = λ q. contains-insert nat_cmp_total pool.leased n q ∙ ap (λ b. eq_by_cmp nat_cmp q n || b) (h.are_leased q);
     are_settled = h.are_settled;
-  }
-
-  pub holds-lease_again : (pool : Pool) (n : ℕ) → Holds pool first last limit leased settled → Holds (pool_with_lease_again pool n) first last limit (λ q. eq_by_cmp nat_cmp q n || leased q) (λ q. not (eq_by_cmp nat_cmp q n) && settled q)
-  holds-lease_again pool n h = record {
-    same_first = h.same_first;
-    same_last = h.same_last;
-    same_limit = h.same_limit;
-    are_leased = λ q. contains-insert nat_cmp_total pool.leased n q ∙ ap (λ b. eq_by_cmp nat_cmp q n || b) (h.are_leased q);
-    are_settled = λ q. contains-remove nat_cmp_total pool.settled n q ∙ ap (λ b. not (eq_by_cmp nat_cmp q n) && b) (h.are_settled q);
-  }
-
-  pub holds-settle : (pool : Pool) (n : ℕ) → Holds pool first last limit leased settled → Holds (pool_with_settled pool n) first last limit (λ q. not (eq_by_cmp nat_cmp q n) && leased q) (λ q. eq_by_cmp nat_cmp q n || settled q)
-  holds-settle pool n h = record {
-    same_first = h.same_first;
-    same_last = h.same_last;
-    same_limit = h.same_limit;
-    are_leased = λ q. contains-remove nat_cmp_total pool.leased n q ∙ ap (λ b. not (eq_by_cmp nat_cmp q n) && b) (h.are_leased q);
-    are_settled = λ q. contains-insert nat_cmp_total pool.settled n q ∙ ap (λ b. eq_by_cmp nat_cmp q n || b) (h.are_settled q);
   }
 
   pub holds-give_back : (pool : Pool) (n : ℕ) → Holds pool first last limit leased settled → Holds (pool_without_lease pool n) first last limit (λ q. not (eq_by_cmp nat_cmp q n) && leased q) settled
@@ -83,42 +53,59 @@ module _ (first last limit : ℕ) (leased settled : ℕ → Bool) where
     are_settled = h.are_settled;
   }
 
-  -- the same by other words
-  pub holds-alike : (pool : Pool) (others those : ℕ → Bool) → ((q : ℕ) → leased q ≡ others q) → ((q : ℕ) → settled q ≡ those q) → Holds pool first last limit leased settled → Holds pool first last limit others those
-  holds-alike pool others those a b h = record {
+-- ---- all of some entries
+
+leaves : (a b : Bool) → (a && not b) ≡ (not b && a)
+leaves true true = refl
+leaves true false = refl
+leaves false true = refl
+leaves false false = refl
+
+joins : (a b : Bool) → (a || b) ≡ (b || a)
+joins true true = refl
+joins true false = refl
+joins false true = refl
+joins false false = refl
+
+-- the numbers of entries
+abbrev numbers : Entries → FinSet nat_cmp
+numbers es = from_list (Rattle.std.proofs.Common.map (λ e. e.0) es)
+
+contains-joined : (s : FinSet nat_cmp) (es : Entries) (q : ℕ) → contains (union s (numbers es)) q ≡ (is_in es q || contains s q)
+contains-joined s es q =
+    contains-union nat_cmp_total s (numbers es) q ∙ ap (λ b. contains s q || b) (contains-from_list nat_cmp_total _ q) ∙ joins (contains s q) (is_in es q)
+
+contains-left : (s : FinSet nat_cmp) (es : Entries) (q : ℕ) → contains (difference s (numbers es)) q ≡ (not (is_in es q) && contains s q)
+contains-left s es q =
+    contains-difference nat_cmp_total s (numbers es) q ∙ ap (λ b. contains s q && not b) (contains-from_list nat_cmp_total _ q) ∙ leaves (contains s q) (is_in es q)
+
+module _ (first last limit : ℕ) (leased settled : ℕ → Bool) (pool : Pool) (es : Entries) (h : Holds pool first last limit leased settled) where
+  pub holds-lease_all : Holds (pool_with_all_leased_again pool (numbers es)) first last limit (λ q. is_in es q || leased q) (λ q. not (is_in es q) && settled q)
+  holds-lease_all = record {
     same_first = h.same_first;
     same_last = h.same_last;
     same_limit = h.same_limit;
-    are_leased = λ q. h.are_leased q ∙ a q;
-    are_settled = λ q. h.are_settled q ∙ b q;
+    are_leased = λ q. contains-joined pool.leased es q ∙ ap (λ b. is_in es q || b) (h.are_leased q);
+    are_settled = λ q. contains-left pool.settled es q ∙ ap (λ b. not (is_in es q) && b) (h.are_settled q);
   }
 
-pub holds-lease_each : (first last limit : ℕ) (leased settled : ℕ → Bool) (pool : Pool) (es : Entries) → Holds pool first last limit leased settled
-    → Holds (lease_each pool es) first last limit (λ q. is_in es q || leased q) (λ q. not (is_in es q) && settled q)
-holds-lease_each first last limit leased settled pool [] h = h
-holds-lease_each first last limit leased settled pool (e ∷ es) h =
-    holds-alike first last limit _ _ (lease_each pool (e ∷ es)) (λ q. is_in (e ∷ es) q || leased q) (λ q. not (is_in (e ∷ es) q) && settled q)
-    (λ q. swap (is_in es q) (eq_by_cmp nat_cmp q e.0) (leased q)) (λ q. swap_not (is_in es q) (eq_by_cmp nat_cmp q e.0) (settled q))
-    (holds-lease_each first last limit (λ q. eq_by_cmp nat_cmp q e.0 || leased q) (λ q. not (eq_by_cmp nat_cmp q e.0) && settled q) (pool_with_lease_again pool e.0) es
-    (holds-lease_again first last limit leased settled pool e.0 h))
+  pub holds-settle_all : Holds (pool_with_all_settled pool (numbers es)) first last limit (λ q. not (is_in es q) && leased q) (λ q. is_in es q || settled q)
+  holds-settle_all = record {
+    same_first = h.same_first;
+    same_last = h.same_last;
+    same_limit = h.same_limit;
+    are_leased = λ q. contains-left pool.leased es q ∙ ap (λ b. not (is_in es q) && b) (h.are_leased q);
+    are_settled = λ q. contains-joined pool.settled es q ∙ ap (λ b. is_in es q || b) (h.are_settled q);
+  }
 
-pub holds-settle_each : (first last limit : ℕ) (leased settled : ℕ → Bool) (pool : Pool) (es : Entries) → Holds pool first last limit leased settled
-    → Holds (settle_each pool es) first last limit (λ q. not (is_in es q) && leased q) (λ q. is_in es q || settled q)
-holds-settle_each first last limit leased settled pool [] h = h
-holds-settle_each first last limit leased settled pool (e ∷ es) h =
-    holds-alike first last limit _ _ (settle_each pool (e ∷ es)) (λ q. not (is_in (e ∷ es) q) && leased q) (λ q. is_in (e ∷ es) q || settled q)
-    (λ q. swap_not (is_in es q) (eq_by_cmp nat_cmp q e.0) (leased q)) (λ q. swap (is_in es q) (eq_by_cmp nat_cmp q e.0) (settled q))
-    (holds-settle_each first last limit (λ q. not (eq_by_cmp nat_cmp q e.0) && leased q) (λ q. eq_by_cmp nat_cmp q e.0 || settled q) (pool_with_settled pool e.0) es
-    (holds-settle first last limit leased settled pool e.0 h))
-
-pub holds-give_back_each : (first last limit : ℕ) (leased settled : ℕ → Bool) (pool : Pool) (es : Entries) → Holds pool first last limit leased settled
-    → Holds (give_back_each pool es) first last limit (λ q. not (is_in es q) && leased q) settled
-holds-give_back_each first last limit leased settled pool [] h = h
-holds-give_back_each first last limit leased settled pool (e ∷ es) h =
-    holds-alike first last limit _ _ (give_back_each pool (e ∷ es)) (λ q. not (is_in (e ∷ es) q) && leased q) settled
-    (λ q. swap_not (is_in es q) (eq_by_cmp nat_cmp q e.0) (leased q)) (λ q. refl)
-    (holds-give_back_each first last limit (λ q. not (eq_by_cmp nat_cmp q e.0) && leased q) settled (pool_without_lease pool e.0) es
-    (holds-give_back first last limit leased settled pool e.0 h))
+  pub holds-give_back_all : Holds (pool_without_all pool (numbers es)) first last limit (λ q. not (is_in es q) && leased q) settled
+  holds-give_back_all = record {
+    same_first = h.same_first;
+    same_last = h.same_last;
+    same_limit = h.same_limit;
+    are_leased = λ q. contains-left pool.leased es q ∙ ap (λ b. not (is_in es q) && b) (h.are_leased q);
+    are_settled = h.are_settled;
+  }
 
 -- ---- one ONU-ID, where nothing is leased
 

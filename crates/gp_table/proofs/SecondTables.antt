@@ -1,5 +1,5 @@
 -- A second table of the same units.
-use Rattle.std.proofs.Common.{◌≡◌, List, [], ◌∷◌, Option, None, Some, refl, sym, ap, ◌∙◌}
+use Rattle.std.proofs.Common.{◌≡◌, [], ◌∷◌, None, Some, refl}
 use Rattle.std.specs.List.{AllZip}
 use Rattle.slab.specs.Slab.{IsSlotClone}
 use Rattle.gp_unit.specs.declared.record.Record.{Record}

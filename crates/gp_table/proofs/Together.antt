@@ -15,8 +15,7 @@ use Rattle.gp_pools.specs.Allocs.{AreSettled}
 use Rattle.gp_pools.specs.Cooling.{quarantine_with}
 use Rattle.gp_pools.specs.Onu.{OnuPool, IsFreeOnu, fresh_onu_pool, onus_after_frame}
 use Rattle.gp_pools.specs.Pool.{Pool, HasRoom, IsFree, fresh_pool}
-use Rattle.gp_pools.proofs.Cool.{get-after_frame}
-use Rattle.gp_pools.specs.Cooling.{left_after_frame}
+use Rattle.gp_pools.proofs.Cool.{get-after_frame, left_after_frame}
 use Rattle.gp_unit.specs.declared.row.Row.{Row}
 use Rattle.gp_unit.specs.declared.record.Awake.{Awake}
 use Rattle.gp_unit.specs.declared.record.Awake.TheVariants.{Ranging, Operating}
@@ -331,9 +330,6 @@ table_rows table o a u e = ap (λ (v : ActiveState). v.rows) e
 
 pub table_has : (table : Units) (o : OnuPool) (a : Pool) (u : ActiveState) → active_of table o a ≡ u → (s : Serial) (row : Row) → HasRow u.rows s row → HasRow table.rows s row
 table_has table o a u e s row has = ap (λ (v : ActiveState). fin.get v.rows s) e ∙ has
-
-pub alloc_range : (table : Units) (o : OnuPool) (a : Pool) (u : ActiveState) → active_of table o a ≡ u → a.last ≡ u.alloc_last
-alloc_range table o a u e = ap (λ (v : ActiveState). v.alloc_last) e
 
 -- a unit is removed
 pub state_removed : (table : Units) (o : OnuPool) (a now : Pool) (s : Serial) (row : Row) → row.onu ≤ 253 → fin.get o.quarantine.cooling row.onu ≡ None → now.last ≡ a.last

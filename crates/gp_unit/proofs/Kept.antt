@@ -14,7 +14,6 @@ use Rattle.gp_unit.specs.declared.row.Phase.{Phase}
 use Rattle.gp_unit.specs.declared.row.Phase.TheVariants.{Ranging, Operating}
 use Rattle.gp_unit.specs.declared.row.Row.{Row}
 use Rattle.gp_unit.specs.Rows.{AllocMap, is_ranging, has_alloc, is_held, holds_alloc, new_row, row_unranged, row_measured, counts_in, counts_polled, phase_counted, row_counted, row_polled, alarm_polled, row_with_alloc, row_releasing, allocs_left, row_acknowledged, row_popped_up}
-use Rattle.gp_pools.specs.Allocs.{AreFurther}
 use Rattle.gp_unit.specs.Sound.{IsCounted, IsSoundPending, IsSoundRow}
 use Rattle.gp_unit.proofs.AllocMaps.{none_some, same_value, alloc_put, alloc_it, alloc_left, len_new, len_known, no_alloc}
 
@@ -183,17 +182,6 @@ waits_little allocs (Some a) waiting h = h.0
 -- what waking a record asks
 pub few_waits : (last : ℕ) (row : Row) → IsSoundRow last row → row.waiting ≤ 2
 few_waits last row h = waits_little row.allocs row.pending row.waiting h.pending
-
-pub are_further : (last : ℕ) (row : Row) → last ≤ 4095 → IsSoundRow last row → AreFurther row.allocs
-are_further last row most h alloc has =
-    let there = known_alloc (get row.allocs alloc) has in
-    let range = h.ranged alloc there.0 there.1 in
-    let high = range.1 in
-    (range.0, omega arith)
-  where
-    known_alloc : (o : Option Bool) → is_some o ≡ true → (v : Bool) × (o ≡ Some v)
-    known_alloc None e = absurd (false≢true e)
-    known_alloc (Some v) e = (v, refl)
 
 -- no count of a sound row is at its limit
 pub below_limits : (last : ℕ) (row : Row) → IsSoundRow last row → IsBelowEachLimit (counts_in row.phase row.waiting)

@@ -1,9 +1,8 @@
 ghost use Rattle.std.specs.Prelude.{◌≡◌, ◌<◌, ◌≤◌, None};
 ghost use Rattle.std.specs.Option.{ForSome};
-ghost use Rattle.std.specs.FinMap as map;
-ghost use Rattle.gp_pools.specs.Allocs.{AreLeased, AreSettled};
+ghost use Rattle.gp_pools.specs.Allocs.{AreLeased, AreSettled, numbers_of};
 ghost use Rattle.gp_pools.specs.Onu.{onus_with_settled};
-ghost use Rattle.gp_pools.specs.Pool.{IsLeased, IsSettled, settle_each};
+ghost use Rattle.gp_pools.specs.Pool.{IsLeased, IsSettled, pool_with_all_settled};
 ghost use Rattle.gp_unit.specs.Records.{record_of};
 ghost use Rattle.gp_unit.specs.Rows.{row_acknowledged, row_polled, row_with_alloc};
 ghost use Rattle.gp_unit.specs.Sound.{IsCounted};
@@ -84,13 +83,13 @@ impl Leased {
         requires allocs { AreLeased alloc_ids.old self.row.allocs }
         ensures unit { result ≡ self }
         ensures onus { onus.new ≡ onus_with_settled onus.old self.row.onu }
-        ensures allocs { alloc_ids.new ≡ settle_each alloc_ids.old (map.entries self.row.allocs) }
+        ensures allocs { alloc_ids.new ≡ pool_with_all_settled alloc_ids.old (numbers_of self.row.allocs) }
         ensures settled_onu { IsSettled onus.new.pool result.row.onu }
         ensures settled_allocs { AreSettled alloc_ids.new result.row.allocs }
     {
         let Leased { unit, onu, allocs } = self;
-        let _ = onus.settle(onu);
-        let _ = alloc_ids.settle_all(allocs);
+        onus.settle(onu);
+        alloc_ids.settle_all(allocs);
         unit
     }
 }

@@ -1,10 +1,10 @@
 ghost use Rattle.std.specs.Prelude.{◌≡◌, ◌<◌, ◌≤◌, IsSome, IsTrue, MatchOption, None};
 ghost use Rattle.std.specs.Option.{ForSome};
 ghost use Rattle.std.specs.FinMap as map;
-ghost use Rattle.gp_pools.specs.Allocs.{AreLeased, AreSettled};
+ghost use Rattle.gp_pools.specs.Allocs.{AreLeased, AreSettled, numbers_of};
 ghost use Rattle.gp_pools.specs.Onu.{onus_with_settled};
 ghost use Rattle.gp_pools.specs.Slots.{max_allocs};
-ghost use Rattle.gp_pools.specs.Pool.{IsLeased, IsSettled, settle_each};
+ghost use Rattle.gp_pools.specs.Pool.{IsLeased, IsSettled, pool_with_all_settled};
 ghost use Rattle.gp_alarms.specs.declared.poll.Outcome.TheVariants.{Acked};
 ghost use Rattle.gp_unit.specs.Records.{record_of};
 ghost use Rattle.gp_unit.specs.Rows.{alarm_polled, holds_alloc, row_acknowledged, row_polled, row_popped_up, row_releasing, row_with_alloc};
@@ -42,13 +42,15 @@ impl Model for Operating {
     ghost invariant = { λ u. is_ranging u.unit.row.phase ≡ false };
 }
 
-/// What is left of a unit after a poll window.
+/// What is left of a unit after a poll window. It is no `Drop`, as a unit is none.
 pub enum PollClosed {
     /// It is polled on.
     Still(Operating),
     /// It is lost, with this alarm.
     Lost(Retired, AlarmKind),
 }
+
+impl NeverDropped for PollClosed {}
 
 impl Operating {
     /// Counts a poll window of the unit that ended so: at the limit of a count the unit is lost.
@@ -168,7 +170,7 @@ impl Operating {
         requires allocs { AreLeased alloc_ids.old self.row.allocs }
         ensures unit { result ≡ self }
         ensures onus { onus.new ≡ onus_with_settled onus.old self.row.onu }
-        ensures allocs { alloc_ids.new ≡ settle_each alloc_ids.old (map.entries self.row.allocs) }
+        ensures allocs { alloc_ids.new ≡ pool_with_all_settled alloc_ids.old (numbers_of self.row.allocs) }
         ensures settled_onu { IsSettled onus.new.pool result.row.onu }
         ensures settled_allocs { AreSettled alloc_ids.new result.row.allocs }
     {

@@ -1,8 +1,7 @@
 ghost use Rattle.std.specs.Prelude.{◌≡◌, ◌-◌, ◌<◌, ◌≤◌, ◌||◌, MatchOption, MatchResult};
-ghost use Rattle.std.specs.FinMap as map;
-ghost use Rattle.gp_pools.specs.Allocs.{AreLeased, AreSettled};
+ghost use Rattle.gp_pools.specs.Allocs.{AreLeased, AreSettled, numbers_of};
 ghost use Rattle.gp_pools.specs.Onu.{onus_with_settled};
-ghost use Rattle.gp_pools.specs.Pool.{IsLeased, IsSettled, settle_each};
+ghost use Rattle.gp_pools.specs.Pool.{IsLeased, IsSettled, pool_with_all_settled};
 ghost use Rattle.gp_unit.specs.Records.{record_of};
 ghost use Rattle.gp_unit.specs.Rows.{new_row, row_measured, row_unranged, was_seen};
 ghost use Rattle.gp_unit.specs.Units.{left_by_restart, retired};
@@ -41,13 +40,15 @@ impl Model for Ranging {
     ghost invariant = { λ u. is_ranging u.unit.row.phase ≡ true };
 }
 
-/// What is left of a unit after a ranging window that closed without a result.
+/// What is left of a unit after a ranging window that closed without a result. It is no `Drop`, as a unit is none.
 pub enum RangingClosed {
     /// It is asked once more.
     Still(Ranging),
     /// It failed twice and is no more; whether anything was heard of it.
     Failed(Retired, bool),
 }
+
+impl NeverDropped for RangingClosed {}
 
 impl Ranging {
     /// Begins to range a unit that is given this ONU-ID.
@@ -124,7 +125,7 @@ impl Ranging {
         requires allocs { AreLeased alloc_ids.old self.row.allocs }
         ensures unit { result ≡ self }
         ensures onus { onus.new ≡ onus_with_settled onus.old self.row.onu }
-        ensures allocs { alloc_ids.new ≡ settle_each alloc_ids.old (map.entries self.row.allocs) }
+        ensures allocs { alloc_ids.new ≡ pool_with_all_settled alloc_ids.old (numbers_of self.row.allocs) }
         ensures settled_onu { IsSettled onus.new.pool result.row.onu }
         ensures settled_allocs { AreSettled alloc_ids.new result.row.allocs }
     {

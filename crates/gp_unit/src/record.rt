@@ -1,8 +1,7 @@
 ghost use Rattle.std.specs.Prelude.{◌≡◌, ◌≤◌, if◌then◌else◌};
-ghost use Rattle.std.specs.FinMap as map;
-ghost use Rattle.gp_pools.specs.Allocs.{AreFurther, AreLeased, AreSettled};
+ghost use Rattle.gp_pools.specs.Allocs.{AreLeased, AreSettled, numbers_of};
 ghost use Rattle.gp_pools.specs.Onu.{onus_with_lease_again};
-ghost use Rattle.gp_pools.specs.Pool.{IsLeased, IsSettled, lease_each};
+ghost use Rattle.gp_pools.specs.Pool.{IsLeased, IsSettled, pool_with_all_leased_again};
 ghost use Rattle.gp_unit.specs.Rows.{is_ranging};
 ghost use Rattle.gp_unit.specs.Sound.{IsCounted};
 
@@ -10,6 +9,7 @@ use super::leased::Leased;
 use super::operating::Operating;
 use super::ranging::Ranging;
 use super::row::Row;
+use gp_linear::NeverDropped;
 use gp_ploam::Serial;
 use gp_pools::{AllocIds, OnuIds};
 
@@ -22,7 +22,7 @@ pub struct Record {
     pub row: Row,
 }
 
-/// A unit that was made of its record again.
+/// A unit that was made of its record again. It is no `Drop`, as a unit is none.
 pub enum Awake {
     /// Its delay is still to be measured.
     Ranging(Ranging),
@@ -30,17 +30,18 @@ pub enum Awake {
     Operating(Operating),
 }
 
+impl NeverDropped for Awake {}
+
 impl Record {
     /// Leases the numbers of the record again, and makes its unit. It is the inverse of `settle`, with the same pools.
     pub fn wake(self, onus: &mut OnuIds, alloc_ids: &mut AllocIds) -> Awake
         requires onu { IsSettled onus.old.pool self.row.onu }
         requires allocs { AreSettled alloc_ids.old self.row.allocs }
-        requires further { AreFurther self.row.allocs }
         requires counted { IsCounted self.row.phase }
         requires waits { self.row.waiting ≤ 2 }
         ensures unit { result ≡ (if is_ranging self.row.phase then Awake.Ranging self else Awake.Operating self) }
         ensures onus { onus.new ≡ onus_with_lease_again onus.old self.row.onu }
-        ensures allocs { alloc_ids.new ≡ lease_each alloc_ids.old (map.entries self.row.allocs) }
+        ensures allocs { alloc_ids.new ≡ pool_with_all_leased_again alloc_ids.old (numbers_of self.row.allocs) }
         ensures leased_onu { IsLeased onus.new.pool self.row.onu }
         ensures leased_allocs { AreLeased alloc_ids.new self.row.allocs }
     {

@@ -1,8 +1,7 @@
 ghost use Rattle.std.specs.Prelude.{◌≡◌};
 ghost use Rattle.std.specs.Option.{ForSome};
-ghost use Rattle.std.specs.FinMap as map;
-ghost use Rattle.gp_pools.specs.Allocs.{AreLeased};
-ghost use Rattle.gp_pools.specs.Pool.{IsLeased, give_back_each};
+ghost use Rattle.gp_pools.specs.Allocs.{AreLeased, numbers_of};
+ghost use Rattle.gp_pools.specs.Pool.{IsLeased, pool_without_all};
 ghost use Rattle.gp_unit.specs.Units.{onus_given_up};
 
 use gp_linear::NeverDropped;
@@ -43,7 +42,7 @@ impl Retired {
         requires onu { ForSome self.onu (IsLeased onus.old.pool) }
         requires allocs { AreLeased alloc_ids.old self.allocs }
         ensures onus { onus.new ≡ onus_given_up onus.old self.onu }
-        ensures allocs { alloc_ids.new ≡ give_back_each alloc_ids.old (map.entries self.allocs) }
+        ensures allocs { alloc_ids.new ≡ pool_without_all alloc_ids.old (numbers_of self.allocs) }
     {
         let Retired {
             serial: _,

@@ -1,15 +1,20 @@
 -- Volleys kept as plain data: the same copies are of the same volleys.
-use Rattle.std.proofs.Common.{◌≡◌, ℕ, zero, suc, ◌+◌, ◌*◌, ◌<◌, ◌≤◌, Bool, List, [], ◌∷◌, ◌++◌, map, length, length-append, replicate, take, ◌⊎◌, inl, inr, refl, sym, ap, subst, ◌∙◌, arith, get_or}
+use Rattle.std.proofs.Common.{◌≡◌, ℕ, zero, suc, ◌+◌, ◌<◌, ◌≤◌, List, [], ◌∷◌, ◌++◌, map, length, replicate, take, inl, inr, refl, sym, ap, ◌∙◌, arith, get_or}
 use Rattle.std.proofs.lemmas.Bool.{cases_lt}
 use Rattle.std.proofs.Math.Seq.{take-suc}
 use Rattle.std.proofs.lemmas.List.{ext_get_or, get_or-map}
 use Rattle.std.proofs.lemmas.Option.{get_or_from_slice_get, slice_get_read}
 use Rattle.gp_ploam.specs.declared.message.Down.{Down}
+use Rattle.gp_ploam.specs.declared.message.Down.TheVariants.{NoMessage}
 use Rattle.gp_volley.specs.Volley.{VolleyState}
 use Rattle.gp_volley.specs.Queue.{AreWhole, IsInOrder, copies_of}
-use Rattle.gp_volley.specs.Images.{no_volley, volley_in}
+use Rattle.gp_volley.specs.Images.{volley_in}
 use Rattle.gp_volley.specs.declared.owed_image.VolleyImage.{VolleyImage}
 use Rattle.gp_volley.proofs.Copies.{length-copies}
+
+-- a volley of nothing
+abbrev pub no_volley : VolleyState
+no_volley = record { message = NoMessage; left = 0 }
 
 first_copy : (m n : Down) (xs ys : List Down) → m ∷ xs ≡ n ∷ ys → m ≡ n
 first_copy m n xs ys e = cc

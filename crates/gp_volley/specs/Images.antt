@@ -1,16 +1,7 @@
 -- A volley kept as plain data (this profile's own rule). No statement of another crate cites it.
-use Rattle.gp_ploam.specs.declared.message.Down.TheVariants.{NoMessage}
 use Rattle.gp_volley.specs.Volley.{VolleyState}
 use Rattle.gp_volley.specs.declared.owed_image.VolleyImage.{VolleyImage}
 
 -- the volley that an image has
 abbrev pub volley_in : VolleyImage → VolleyState
 volley_in image = record { message = image.message; left = image.left }
-
--- a volley of nothing
-abbrev pub no_volley : VolleyState
-no_volley = record { message = NoMessage; left = 0 }
-
--- its image
-abbrev pub no_image : VolleyImage
-no_image = record { message = NoMessage; left = 0 }

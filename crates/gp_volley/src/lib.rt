@@ -17,5 +17,7 @@ mod queue;
 mod volley;
 
 pub use owed_image::OwedImage;
-pub use queue::{MAX_COPIES, MAX_COPIES_WITH_ROOM, MAX_MESSAGES, QueueFault, VolleyQueue};
+pub use queue::{
+    MAX_COPIES, MAX_COPIES_WITH_ROOM, MAX_MESSAGES, QueueFault, VolleyQueue, copies_are_limited,
+};
 pub use volley::{COPIES, Volley};

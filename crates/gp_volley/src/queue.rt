@@ -1,7 +1,8 @@
 ghost use Rattle.std.specs.Prelude.{◌≡◌, ◌+◌, ◌≤◌, ◌↔◌, [], ◌++◌, drop, length, slice_get, Contains, IfOk, IsTrue};
-ghost use Rattle.gp_volley.specs.Copies.{all_copies, copies_each, first_of, max_copies};
+ghost use Rattle.gp_volley.specs.Copies.{all_copies, copies_each, first_of, max_copies, max_copies_with_room, max_messages};
 
 use super::volley::{COPIES, Volley};
+use gp_linear::NeverDropped;
 use gp_ploam::Down;
 use std::alloc::{AllocError, Global};
 use std::collections::VecDeque;
@@ -16,6 +17,14 @@ pub const MAX_COPIES: usize = MAX_MESSAGES * COPIES as usize;
 
 /// How many copies may be owed with room left for those of one message more: 189.
 pub const MAX_COPIES_WITH_ROOM: usize = MAX_COPIES - COPIES as usize;
+
+/// States that the constants are the numbers that contracts have for them.
+pub fn copies_are_limited()
+    ensures each { COPIES ≡ copies_each }
+    ensures messages { MAX_MESSAGES ≡ max_messages }
+    ensures copies { MAX_COPIES ≡ max_copies }
+    ensures with_room { MAX_COPIES_WITH_ROOM ≡ max_copies_with_room }
+{}
 
 /// Why no queue was made.
 #[derive(Clone, Copy, Debug, PartialEq, Eq, Error)]
@@ -36,10 +45,12 @@ impl From<AllocError> for QueueFault {
 }
 
 /// The copies of messages that are owed, in the order in which they are sent. There is room for those of
-/// `MAX_MESSAGES` messages.
+/// `MAX_MESSAGES` messages. It is no `Drop`: it ends by `close`.
 pub struct VolleyQueue {
     pub(super) volleys: VecDeque<Volley>,
 }
+
+impl NeverDropped for VolleyQueue {}
 
 impl Model for VolleyQueue {
     ghost use Rattle.std.specs.Prelude.{List, ◌≤◌, length};

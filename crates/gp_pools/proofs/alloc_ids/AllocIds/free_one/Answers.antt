@@ -1,16 +1,9 @@
-use Rattle.std.proofs.Common.{◌≡◌, ◌+◌, ◌-◌, ℕ, arith, false, IfNone, Option, None, Some, sym, ◌∙◌}
-use Rattle.std.proofs.lemmas.Bool.{false≢true}
+use Rattle.std.proofs.Common.{◌≡◌, ◌+◌, ◌-◌, ℕ, arith, false, IfNone, Option, None, Some}
 use Rattle.std.specs.Ordering.{nat_cmp}
 use Rattle.std.specs.FinSet as set
 use Rattle.gp_pools.specs.Pool.{HasRoom, IsFree, Pool}
 use Rattle.gp_pools.proofs.Pools.{free_has_room}
 use Rattle.gp_pools.proofs.alloc_ids.AllocIds.free_one.Goals as goal
-
-pub returns-then-not-has_room-clause-none : goal.returns-then-not-has_room-clause-none
-returns-then-not-has_room-clause-none c =
-    let pool = c.self.inside.pool in
-    let size : pool.limit ≡ pool.last + 1 - pool.first = omega (arith, c.self.invariant.0, c.self.invariant.2) in
-    rw (← c.self.view_is) (λ number free. false≢true (sym c.if-not-has_room.true ∙ c.has_room.ensures.room.1 (free_has_room pool c.has_room.ensures.sound size number free)))
 
 none_free : (pool : Pool) (found : Option ℕ) → ((n : ℕ) → IsFree pool n → HasRoom pool)
     → IfNone found ((n : ℕ) → IsFree pool n → set.contains (set.empty {R = nat_cmp}) n ≡ false → HasRoom pool → ⊥) → IfNone found ((n : ℕ) → IsFree pool n → ⊥)
@@ -21,4 +14,4 @@ pub returns-clause-none : goal.returns-clause-none
 returns-clause-none c =
     let pool = c.self.inside.pool in
     let size : pool.limit ≡ pool.last + 1 - pool.first = omega (arith, c.self.invariant.0, c.self.invariant.2) in
-    rw (← c.self.view_is) (none_free pool c.least_free.result (free_has_room pool c.has_room.ensures.sound size) (rw c.new.ensures at c.least_free.ensures.none))
+    rw (← c.self.view_is) (none_free pool c.least_free.result (free_has_room pool c.least_free.ensures.sound size) (rw c.new.ensures at c.least_free.ensures.none))

@@ -1,9 +1,9 @@
 use Rattle.std.proofs.Common.{◌≡◌, ℕ, take, sym, ap, subst, arith, rules}
-use Rattle.gp_pools.specs.Pool.{give_back_each, IsLeased}
+use Rattle.gp_pools.specs.Pool.{IsLeased}
 use Rattle.gp_pools.specs.Allocs.{number_at}
 use Rattle.gp_pools.specs.Slots.{filled}
 use Rattle.gp_pools.proofs.AllocPlaces.{Entry}
-use Rattle.gp_pools.proofs.Each.{give_back_more, leased_ahead_more}
+use Rattle.gp_pools.proofs.Each.{give_back_each, all_given_back_in, give_back_more, leased_ahead_more}
 use Rattle.gp_pools.proofs.Slots.{filled_before, next_empty, next_filled}
 use Rattle.gp_pools.proofs.number_pool.NumberPool.give_back_each.Goals as goal
 
@@ -33,3 +33,6 @@ loop-slot-preserved g c =
       pool = subst (λ (k : ℕ). c.give_back.new.self ≡ give_back_each c.args.self.now (take k es)) (sym next.more) (rw (c.give_back.ensures.pool, ← number) (give_back_more c.args.self.now now es at next.within c.loop-slot.invariant.pool));
       ahead = λ k from inside. let more = next.more in rw (c.give_back.ensures.pool, ← number) (leased_ahead_more now es at c.requires.rising next.within c.loop-slot.invariant.ahead k (omega arith) inside);
     }
+
+pub returns : goal.returns
+returns g c = all_given_back_in c.args.self.now c.loop-slot.self c.args.slots.now c.loop-slot.slot-index (omega arith) c.loop-slot.invariant.pool

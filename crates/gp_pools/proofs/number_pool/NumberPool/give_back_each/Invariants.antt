@@ -1,8 +1,9 @@
 use Rattle.std.proofs.Common.{◌≡◌, ℕ, ◌≤◌, ◌<◌, length, take}
-use Rattle.gp_pools.specs.Pool.{IsLeased, give_back_each}
+use Rattle.gp_pools.specs.Pool.{IsLeased}
 use Rattle.gp_pools.specs.Allocs.{number_at}
 use Rattle.gp_pools.specs.Slots.{filled}
 use Rattle.gp_pools.proofs.Slots.{filled_before}
+use Rattle.gp_pools.proofs.Each.{give_back_each}
 use Rattle.gp_pools.proofs.number_pool.NumberPool.give_back_each.Given as goal
 
 -- the numbers of the places so far are given back

@@ -1,9 +1,9 @@
 use Rattle.std.proofs.Common.{◌≡◌, ℕ, take, sym, ap, subst, arith, rules}
-use Rattle.gp_pools.specs.Pool.{settle_each, IsLeased}
+use Rattle.gp_pools.specs.Pool.{IsLeased}
 use Rattle.gp_pools.specs.Allocs.{number_at}
 use Rattle.gp_pools.specs.Slots.{filled}
 use Rattle.gp_pools.proofs.AllocPlaces.{Entry}
-use Rattle.gp_pools.proofs.Each.{settle_more, settled_below_more, AreSettledBelow}
+use Rattle.gp_pools.proofs.Each.{settle_each, all_settled_in, settle_more, settled_below_more, AreSettledBelow}
 use Rattle.gp_pools.proofs.Slots.{filled_before, next_empty, next_filled}
 use Rattle.gp_pools.proofs.number_pool.NumberPool.settle_each.Goals as goal
 
@@ -33,3 +33,6 @@ loop-slot-preserved g c =
       pool = subst (λ (k : ℕ). c.settle.new.self ≡ settle_each c.args.self.now (take k es)) (sym next.more) (rw (c.settle.ensures.pool, ← number) (settle_more c.args.self.now now es at next.within c.loop-slot.invariant.pool));
       below = subst (λ (k : ℕ). AreSettledBelow c.settle.new.self es k) (sym next.more) (rw (c.settle.ensures.pool, ← number) (settled_below_more now es at c.requires.rising next.within c.loop-slot.invariant.below));
     }
+
+pub returns-clause-pool : goal.returns-clause-pool
+returns-clause-pool g c = all_settled_in c.args.self.now c.loop-slot.self c.args.slots.now c.loop-slot.slot-index (omega arith) c.loop-slot.invariant.pool

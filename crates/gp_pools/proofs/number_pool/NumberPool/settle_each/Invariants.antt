@@ -1,8 +1,7 @@
 use Rattle.std.proofs.Common.{◌≡◌, take}
-use Rattle.gp_pools.specs.Pool.{settle_each}
 use Rattle.gp_pools.specs.Slots.{filled}
 use Rattle.gp_pools.proofs.Slots.{filled_before}
-use Rattle.gp_pools.proofs.Each.{AreSettledBelow}
+use Rattle.gp_pools.proofs.Each.{settle_each, AreSettledBelow}
 use Rattle.gp_pools.proofs.number_pool.NumberPool.settle_each.Given as goal
 
 -- the numbers of the places so far are settled

@@ -2,7 +2,8 @@ use Rattle.std.proofs.Common.{ℕ, refl, sym, ap, ◌∙◌}
 use Rattle.std.specs.FinMap as map
 use Rattle.gp_alarms.specs.declared.poll.Outcome.TheVariants.{Acked}
 use Rattle.gp_pools.specs.Onu.{onus_with_lease_again, onus_with_settled}
-use Rattle.gp_pools.specs.Pool.{lease_each, settle_each}
+use Rattle.gp_pools.specs.Allocs.{numbers_of}
+use Rattle.gp_pools.specs.Pool.{pool_with_all_leased_again, pool_with_all_settled}
 use Rattle.gp_unit.specs.declared.record.Record.{Record}
 use Rattle.gp_unit.specs.declared.row.Row.{Row}
 use Rattle.gp_unit.specs.Records.{record_of}
@@ -86,7 +87,7 @@ invariant_of-self c =
       onus-same q.onus unit.row.onu h.onus_leased (onu_settled q.table.rows q.onus q.allocs h unit.serial unit.row has),
     )
     (together-put q.table.rows q.onus q.allocs h unit.serial unit.row (acked_row unit.row p.0)
-    (pool_freed (settle_each (lease_each q.allocs (map.entries unit.row.allocs)) (map.entries (allocs_left unit.row.allocs p.0 state))) (freed_alloc p.0 state))
+    (pool_freed (pool_with_all_settled (pool_with_all_leased_again q.allocs (numbers_of unit.row.allocs)) (numbers_of (allocs_left unit.row.allocs p.0 state))) (freed_alloc p.0 state))
     has refl (ends-acked q.allocs h.allocs_leased unit.row.allocs p.0 state refl) (λ number own is. left_some unit.row.allocs p.0 state number own))
 
 pub returns : goal.returns
@@ -101,4 +102,4 @@ returns c alloc is =
     let ends = ends-acked q.allocs c.self.invariant.allocs_leased unit.row.allocs alloc state refl in
     rw (c.replace.ensures, c.give_back_freed.ensures, c.settle-unit.ensures.onus, c.settle-unit.ensures.allocs, c.settle-unit.ensures.unit, acked, freed, c.wake.ensures.onus, c.wake.ensures.allocs, ← c.self.view_is)
     (same_range (record q.table { rows = map.insert q.table.rows unit.serial (acked_row unit.row alloc) }) (onus_with_settled (onus_with_lease_again q.onus unit.row.onu) unit.row.onu) q.allocs
-    (pool_freed (settle_each (lease_each q.allocs (map.entries unit.row.allocs)) (map.entries (allocs_left unit.row.allocs alloc state))) (freed_alloc alloc state)) ends.same_last)
+    (pool_freed (pool_with_all_settled (pool_with_all_leased_again q.allocs (numbers_of unit.row.allocs)) (numbers_of (allocs_left unit.row.allocs alloc state))) (freed_alloc alloc state)) ends.same_last)

@@ -3,7 +3,8 @@ use Rattle.std.proofs.lemmas.Bool.{cases_Bool}
 use Rattle.std.specs.FinMap as map
 use Rattle.std.specs.FinSet as set
 use Rattle.gp_pools.specs.Onu.{onus_with_lease, onus_with_settled}
-use Rattle.gp_pools.specs.Pool.{settle_each}
+use Rattle.gp_pools.specs.Allocs.{numbers_of}
+use Rattle.gp_pools.specs.Pool.{pool_with_all_settled}
 use Rattle.gp_unit.specs.Rows.{new_row}
 use Rattle.gp_table.specs.Rows.{Rows}
 use Rattle.gp_pools.proofs.Callers.{leased_none}
@@ -35,7 +36,7 @@ invariant_of-self c =
       | inr f ↦ f
     ] in
     rw (c.insert.ensures, c.settle-unit.ensures.onus, c.settle-unit.ensures.allocs, c.settle-unit.ensures.unit, c.begin.ensures, c.lease-lease.ensures.pool, c.lease-lease.ensures.number, onus-added q.onus onu h.onus_leased)
-    (together-add q.table.rows q.onus q.allocs h c.args.serial onu (settle_each q.allocs (map.entries map.empty)) none unsettled free.1 (ends-add q.allocs h.allocs_leased))
+    (together-add q.table.rows q.onus q.allocs h c.args.serial onu (pool_with_all_settled q.allocs (numbers_of map.empty)) none unsettled free.1 (ends-add q.allocs h.allocs_leased))
 
 pub returns : goal.returns
 returns c =
@@ -43,4 +44,4 @@ returns c =
     let h = c.self.invariant in
     let ends = ends-add q.allocs h.allocs_leased in
     rw (c.insert.ensures, c.settle-unit.ensures.onus, c.settle-unit.ensures.allocs, c.settle-unit.ensures.unit, c.begin.ensures, c.lease-lease.ensures.pool, c.lease-lease.ensures.number, ← c.self.view_is)
-    (same_range (record q.table { rows = map.insert q.table.rows c.args.serial (new_row c.args.onu) }) (onus_with_settled (onus_with_lease q.onus c.args.onu) c.args.onu) q.allocs (settle_each q.allocs (map.entries map.empty)) ends.same_last)
+    (same_range (record q.table { rows = map.insert q.table.rows c.args.serial (new_row c.args.onu) }) (onus_with_settled (onus_with_lease q.onus c.args.onu) c.args.onu) q.allocs (pool_with_all_settled q.allocs (numbers_of map.empty)) ends.same_last)

@@ -2,7 +2,8 @@ use Rattle.std.proofs.Common.{false, refl, ap, ◌∙◌, ◌||◌}
 use Rattle.std.specs.FinMap as map
 use Rattle.std.specs.FinSet as set
 use Rattle.gp_pools.specs.Onu.{onus_with_lease_again, onus_with_settled}
-use Rattle.gp_pools.specs.Pool.{IsFree, lease_each, pool_with_lease, settle_each}
+use Rattle.gp_pools.specs.Allocs.{numbers_of}
+use Rattle.gp_pools.specs.Pool.{IsFree, pool_with_all_leased_again, pool_with_all_settled, pool_with_lease}
 use Rattle.gp_unit.specs.Rows.{row_with_alloc}
 use Rattle.gp_table.proofs.AllocEnds.{ends-more, more_leased, fresh_more}
 use Rattle.gp_table.proofs.PoolMembers.{onus-same}
@@ -60,7 +61,7 @@ invariant_of-self c =
       onus-same q.onus unit.row.onu h.onus_leased (onu_settled q.table.rows q.onus q.allocs h unit.serial unit.row has),
     )
     (together-put q.table.rows q.onus q.allocs h unit.serial unit.row (row_with_alloc unit.row alloc)
-    (settle_each (lease_each (pool_with_lease q.allocs alloc) (map.entries unit.row.allocs)) (map.entries (map.insert unit.row.allocs alloc false)))
+    (pool_with_all_settled (pool_with_all_leased_again (pool_with_lease q.allocs alloc) (numbers_of unit.row.allocs)) (numbers_of (map.insert unit.row.allocs alloc false)))
     has refl (ends-more q.allocs h.allocs_leased unit.row.allocs alloc false) (fresh_more q.allocs unit.row.allocs alloc false (λ settled. free.2 (ap (λ b. b || set.contains q.allocs.settled alloc) (h.allocs_leased alloc) ∙ settled))))
 
 pub returns : goal.returns
@@ -85,4 +86,4 @@ returns c =
       ← c.self.view_is,
     )
     (same_range (record q.table { rows = map.insert q.table.rows unit.serial (row_with_alloc unit.row alloc) }) (onus_with_settled (onus_with_lease_again q.onus unit.row.onu) unit.row.onu) q.allocs
-    (settle_each (lease_each (pool_with_lease q.allocs alloc) (map.entries unit.row.allocs)) (map.entries (map.insert unit.row.allocs alloc false))) ends.same_last)
+    (pool_with_all_settled (pool_with_all_leased_again (pool_with_lease q.allocs alloc) (numbers_of unit.row.allocs)) (numbers_of (map.insert unit.row.allocs alloc false))) ends.same_last)

@@ -1,13 +1,14 @@
-use Rattle.std.proofs.Common.{◌≡◌, Some, None, sym, ap, ◌∙◌, arith}
+use Rattle.std.proofs.Common.{◌≡◌, Some, None, sym, ap, ◌∙◌}
 use Rattle.std.specs.FinMap as map
-use Rattle.gp_pools.specs.Pool.{give_back_each, lease_each}
-use Rattle.gp_unit.proofs.Kept.{are_further, few_waits}
+use Rattle.gp_pools.specs.Allocs.{numbers_of}
+use Rattle.gp_pools.specs.Pool.{pool_with_all_leased_again, pool_without_all}
+use Rattle.gp_unit.proofs.Kept.{few_waits}
 use Rattle.gp_table.specs.Rows.{Rows}
 use Rattle.gp_table.specs.Active.{active_of, without}
 use Rattle.gp_table.proofs.AllocEnds.{ends-remove}
 use Rattle.gp_table.proofs.Entries.{remove-absent}
 use Rattle.gp_table.proofs.PoolMembers.{onus-freed}
-use Rattle.gp_table.proofs.Together.{alloc_range, allocs_settled, awake_record, found_row, no_row, onu_settled, state_removed, table_rows, together-remove}
+use Rattle.gp_table.proofs.Together.{allocs_settled, awake_record, found_row, no_row, onu_settled, state_removed, table_rows, together-remove}
 use Rattle.gp_table.proofs.active_units.ActiveUnits.remove.Goals as goal
 
 pub wake-waked-requires-clause-onu : goal.wake-waked-requires-clause-onu
@@ -19,15 +20,6 @@ pub wake-waked-requires-clause-allocs : goal.wake-waked-requires-clause-allocs
 wake-waked-requires-clause-allocs c =
     let q = c.self.inside in
     allocs_settled q.table.rows q.onus q.allocs c.self.invariant c.args.serial.now c.in-Some.unit.row (found_row _ c.args.serial.now c.in-Some.unit c.in-Some.ensures.unit).0
-
-pub wake-waked-requires-clause-further : goal.wake-waked-requires-clause-further
-wake-waked-requires-clause-further c =
-    let q = c.self.inside in
-    let row = c.in-Some.unit.row in
-    let has = (found_row (map.get q.table.rows c.args.serial.now) c.args.serial.now c.in-Some.unit c.in-Some.ensures.unit).0 in
-    let last = alloc_range q.table q.onus q.allocs _ c.self.view_is in
-    let low = c.self.invariant.last_alloc in
-    are_further c.args.self.now.alloc_last row (omega arith) (c.requires.sound row (ap (λ (rows : Rows). map.get rows c.args.serial.now) (sym (table_rows q.table q.onus q.allocs _ c.self.view_is)) ∙ has))
 
 pub wake-waked-requires-clause-counted : goal.wake-waked-requires-clause-counted
 wake-waked-requires-clause-counted c =
@@ -53,7 +45,7 @@ invariant_of-self c =
     let has = (found_row (map.get q.table.rows s) s unit c.in-Some.ensures.unit).0 in
     let woken = awake_record c.wake-waked.result unit _ c.wake-waked.ensures.unit in
     rw (c.remove.ensures.rest, c.give_up.ensures.onus, c.give_up.ensures.allocs, c.retired.ensures, woken, c.wake-waked.ensures.onus, c.wake-waked.ensures.allocs, onus-freed q.onus unit.row.onu h.onus_leased)
-    (together-remove q.table.rows q.onus q.allocs h s unit.row (give_back_each (lease_each q.allocs (map.entries unit.row.allocs)) (map.entries unit.row.allocs)) has (ends-remove q.allocs h.allocs_leased unit.row.allocs))
+    (together-remove q.table.rows q.onus q.allocs h s unit.row (pool_without_all (pool_with_all_leased_again q.allocs (numbers_of unit.row.allocs)) (numbers_of unit.row.allocs)) has (ends-remove q.allocs h.allocs_leased unit.row.allocs))
 
 pub invariant_of-self-in_default : goal.invariant_of-self-in_default
 invariant_of-self-in_default c =
@@ -73,7 +65,7 @@ returns-in-Some c =
     let sound = c.requires.sound unit.row (ap (λ (rows : Rows). map.get rows s) (sym (table_rows q.table q.onus q.allocs _ c.self.view_is)) ∙ has) in
     let ends = ends-remove q.allocs h.allocs_leased unit.row.allocs in
     rw (c.remove.ensures.rest, c.give_up.ensures.onus, c.give_up.ensures.allocs, c.retired.ensures, woken, c.wake-waked.ensures.onus, c.wake-waked.ensures.allocs, ← c.self.view_is)
-    (state_removed q.table q.onus q.allocs (give_back_each (lease_each q.allocs (map.entries unit.row.allocs)) (map.entries unit.row.allocs)) s unit.row sound.low
+    (state_removed q.table q.onus q.allocs (pool_without_all (pool_with_all_leased_again q.allocs (numbers_of unit.row.allocs)) (numbers_of unit.row.allocs)) s unit.row sound.low
     (h.warm unit.row.onu (onu_settled q.table.rows q.onus q.allocs h s unit.row has)) ends.same_last
     ∙ ap (without (active_of q.table q.onus q.allocs) s) (sym has))
 

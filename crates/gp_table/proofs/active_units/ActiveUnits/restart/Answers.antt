@@ -4,7 +4,8 @@ use Rattle.std.specs.Ordering.{nat_cmp}
 use Rattle.std.specs.FinMap as map
 use Rattle.gp_pools.proofs.Callers.{leased_none}
 use Rattle.gp_pools.specs.Onu.{onus_with_lease_again, onus_with_settled}
-use Rattle.gp_pools.specs.Pool.{give_back_each, lease_each, settle_each}
+use Rattle.gp_pools.specs.Allocs.{numbers_of}
+use Rattle.gp_pools.specs.Pool.{pool_with_all_leased_again, pool_with_all_settled, pool_without_all}
 use Rattle.gp_unit.specs.declared.record.Record.{Record}
 use Rattle.gp_unit.specs.Rows.{new_row}
 use Rattle.gp_table.proofs.AllocEnds.{ends-restart}
@@ -63,7 +64,7 @@ invariant_of-self c =
       onus-same q.onus unit.row.onu h.onus_leased (onu_settled q.table.rows q.onus q.allocs h unit.serial unit.row has),
     )
     (together-put q.table.rows q.onus q.allocs h unit.serial unit.row (new_row unit.row.onu)
-    (settle_each (give_back_each (lease_each q.allocs (map.entries unit.row.allocs)) (map.entries unit.row.allocs)) (map.entries map.empty))
+    (pool_with_all_settled (pool_without_all (pool_with_all_leased_again q.allocs (numbers_of unit.row.allocs)) (numbers_of unit.row.allocs)) (numbers_of map.empty))
     has refl (ends-restart q.allocs h.allocs_leased unit.row.allocs) (λ number own is. absurd (false≢true (sym (ap is_some (map.get-empty nat_cmp number)) ∙ own))))
 
 pub returns : goal.returns
@@ -74,7 +75,6 @@ returns c =
     let woken = awake_record c.wake-waked.result unit _ c.wake-waked.ensures.unit in
     let serial = c.ranging.ensures.same_serial_number ∙ ap (λ (u : Record). u.serial) woken in
     let onu = c.ranging.ensures.same_onu ∙ ap (λ (u : Record). u.row.onu) woken in
-    let allocs = c.ranging.ensures.same_allocs ∙ ap (λ (u : Record). u.row.allocs) woken in
     let ends = ends-restart q.allocs h.allocs_leased unit.row.allocs in
     rw (
       c.replace.ensures,
@@ -87,10 +87,9 @@ returns c =
       c.restart-begun.ensures.rest,
       serial,
       onu,
-      allocs,
       c.wake-waked.ensures.onus,
       c.wake-waked.ensures.allocs,
       ← c.self.view_is,
     )
     (same_range (record q.table { rows = map.insert q.table.rows unit.serial (new_row unit.row.onu) }) (onus_with_settled (onus_with_lease_again q.onus unit.row.onu) unit.row.onu) q.allocs
-    (settle_each (give_back_each (lease_each q.allocs (map.entries unit.row.allocs)) (map.entries unit.row.allocs)) (map.entries map.empty)) ends.same_last)
+    (pool_with_all_settled (pool_without_all (pool_with_all_leased_again q.allocs (numbers_of unit.row.allocs)) (numbers_of unit.row.allocs)) (numbers_of map.empty)) ends.same_last)

@@ -1,4 +1,4 @@
-use Rattle.std.proofs.Common.{◌≡◌, ◌≤◌, rules, sym, ap, ◌∙◌, arith}
+use Rattle.std.proofs.Common.{◌≡◌, ◌≤◌, rules, ap, ◌∙◌, arith}
 use Rattle.std.specs.Prelude.{count_by, is_some}
 use Rattle.slab.specs.Slab.{slab_len}
 use Rattle.gp_pools.proofs.SecondPools.{union_itself}

@@ -1,6 +1,6 @@
 use Rattle.std.proofs.Common.{map}
-use Rattle.gp_volley.specs.Images.{no_volley, volley_in}
-use Rattle.gp_volley.proofs.SameCopies.{AreSameTo}
+use Rattle.gp_volley.specs.Images.{volley_in}
+use Rattle.gp_volley.proofs.SameCopies.{AreSameTo, no_volley}
 use Rattle.gp_volley.proofs.owed_image.OwedImage.is_same_as.Given as goal
 
 -- the volleys so far are the same

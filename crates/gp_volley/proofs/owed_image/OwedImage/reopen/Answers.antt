@@ -1,6 +1,6 @@
-use Rattle.std.proofs.Common.{◌≡◌, ◌<◌, ◌≤◌, ◌∷◌, [], ◌++◌, length, map, take, get_or, refl, sym, ap, ◌∙◌, arith}
+use Rattle.std.proofs.Common.{◌<◌, ◌∷◌, [], ◌++◌, length, map, take, sym, ap, ◌∙◌, arith}
 use Rattle.std.proofs.lemmas.List.{length-map}
-use Rattle.gp_volley.specs.Images.{no_volley, volley_in}
+use Rattle.gp_volley.specs.Images.{volley_in}
 use Rattle.gp_volley.proofs.SameCopies.{bounds, further, volley_at}
 use Rattle.gp_volley.proofs.owed_image.OwedImage.reopen.Goals as goal
 

@@ -1,5 +1,4 @@
-use Rattle.gp_volley.specs.Images.{no_volley}
-use Rattle.gp_volley.proofs.SameCopies.{AreSameTo}
+use Rattle.gp_volley.proofs.SameCopies.{AreSameTo, no_volley}
 use Rattle.gp_volley.proofs.queue.VolleyQueue.is_same_as.Given as goal
 
 -- the volleys so far are the same

@@ -1,8 +1,8 @@
-use Rattle.std.proofs.Common.{◌≡◌, ◌<◌, ◌≤◌, false, true, length, map, get_or, refl, sym, ap, ◌∙◌, arith}
+use Rattle.std.proofs.Common.{map, refl, sym, ◌∙◌, arith}
 use Rattle.std.proofs.lemmas.Bool.{false≢true}
 use Rattle.std.proofs.lemmas.List.{length-map}
-use Rattle.gp_volley.specs.Images.{no_volley, volley_in}
-use Rattle.gp_volley.proofs.SameCopies.{copies_differ, copies_same, lengths_differ, one_more, volley_at, volley_read}
+use Rattle.gp_volley.specs.Images.{volley_in}
+use Rattle.gp_volley.proofs.SameCopies.{copies_differ, copies_same, lengths_differ, one_more, volley_at, volley_read, no_volley}
 use Rattle.gp_volley.proofs.queue.VolleyQueue.stands_for.Goals as goal
 
 pub returns-then-len : goal.returns-then-len

@@ -1,6 +1,6 @@
 use Rattle.std.proofs.Common.{map}
-use Rattle.gp_volley.specs.Images.{no_volley, volley_in}
-use Rattle.gp_volley.proofs.SameCopies.{AreSameTo}
+use Rattle.gp_volley.specs.Images.{volley_in}
+use Rattle.gp_volley.proofs.SameCopies.{AreSameTo, no_volley}
 use Rattle.gp_volley.proofs.queue.VolleyQueue.stands_for.Given as goal
 
 -- the volleys so far are the same
