@@ -4,7 +4,7 @@ use Rattle.std.proofs.lemmas.Bool.{cases_Bool, cases_lt, false≢true}
 use Rattle.std.specs.Ordering.{nat_cmp}
 use Rattle.std.specs.FinSet.{empty, insert, contains, contains-empty, len-empty}
 use Rattle.gp_numbers.specs.Numbers.{AreAllIn, IsLeastOutside}
-use Rattle.gp_pools.specs.Pool.{Pool, AreAllOut, HasRoom, IsFree, IsLeased, IsOut, IsKept, IsSettled, IsSound, count_out, fresh_pool, pool_with_lease, pool_with_lease_again, pool_with_settled, pool_without_lease}
+use Rattle.gp_pools.specs.Pool.{Pool, AreAllOut, HasRoom, IsFree, IsLeased, IsOut, IsKeptPool, IsSettled, IsSound, count_out, fresh_pool, pool_with_lease, pool_with_lease_again, pool_with_settled, pool_without_lease}
 use Rattle.gp_numbers.proofs.Members.{of_insert, of_remove, len-insert_new, len-remove_member}
 use Rattle.gp_pools.proofs.Counting.{IsApart, IsWithin, filled, room_for}
 
@@ -199,7 +199,7 @@ free_has_room pool sound size n free = elim (cases_lt (count_out pool) pool.limi
 ]
 
 -- the same, counted
-pub kept-new : (first last limit end : ℕ) → limit ≤ last + 1 - first → last < end → end ≤ 2 ^ 16 → IsKept (fresh_pool first last limit) 0 end
+pub kept-new : (first last limit end : ℕ) → limit ≤ last + 1 - first → last < end → end ≤ 2 ^ 16 → IsKeptPool (fresh_pool first last limit) 0 end
 kept-new first last limit end reach held fits = record {
   sound = fresh_pool-sound first last limit reach;
   counted = omega (arith, len-empty nat_cmp);
@@ -208,10 +208,10 @@ kept-new first last limit end reach held fits = record {
 }
 
 -- below its limit the pool has room
-pub has_room : (pool : Pool) (out end : ℕ) → IsKept pool out end → (out ≡ pool.limit → ⊥) → count_out pool < pool.limit
+pub has_room : (pool : Pool) (out end : ℕ) → IsKeptPool pool out end → (out ≡ pool.limit → ⊥) → count_out pool < pool.limit
 has_room pool out end kept below = omega (arith, kept.counted, kept.sound.few, below)
 
-pub kept-lease : (pool : Pool) (out end n : ℕ) → IsKept pool out end → (out ≡ pool.limit → ⊥) → IsFree pool n → IsKept (pool_with_lease pool n) (out + 1) end
+pub kept-lease : (pool : Pool) (out end n : ℕ) → IsKeptPool pool out end → (out ≡ pool.limit → ⊥) → IsFree pool n → IsKeptPool (pool_with_lease pool n) (out + 1) end
 kept-lease pool out end n kept below free = record {
   sound = lease-sound pool n kept.sound (has_room pool out end kept below) free;
   counted = omega (arith, kept.counted, count-lease pool n free);
@@ -219,7 +219,7 @@ kept-lease pool out end n kept below free = record {
   fits = kept.fits;
 }
 
-pub kept-give_back : (pool : Pool) (out end n : ℕ) → IsKept pool out end → IsLeased pool n → IsKept (pool_without_lease pool n) (out - 1) end
+pub kept-give_back : (pool : Pool) (out end n : ℕ) → IsKeptPool pool out end → IsLeased pool n → IsKeptPool (pool_without_lease pool n) (out - 1) end
 kept-give_back pool out end n kept has = record {
   sound = give_back-sound pool n kept.sound has;
   counted = omega (arith, kept.counted, count-give_back pool n has);
@@ -227,7 +227,7 @@ kept-give_back pool out end n kept has = record {
   fits = kept.fits;
 }
 
-pub kept-settle : (pool : Pool) (out end n : ℕ) → IsKept pool out end → IsLeased pool n → IsKept (pool_with_settled pool n) out end
+pub kept-settle : (pool : Pool) (out end n : ℕ) → IsKeptPool pool out end → IsLeased pool n → IsKeptPool (pool_with_settled pool n) out end
 kept-settle pool out end n kept has = record {
   sound = settle-sound pool n kept.sound has;
   counted = omega (arith, kept.counted, count-settle pool n kept.sound has);
@@ -235,7 +235,7 @@ kept-settle pool out end n kept has = record {
   fits = kept.fits;
 }
 
-pub kept-lease_again : (pool : Pool) (out end n : ℕ) → IsKept pool out end → IsSettled pool n → IsKept (pool_with_lease_again pool n) out end
+pub kept-lease_again : (pool : Pool) (out end n : ℕ) → IsKeptPool pool out end → IsSettled pool n → IsKeptPool (pool_with_lease_again pool n) out end
 kept-lease_again pool out end n kept has = record {
   sound = lease_again-sound pool n kept.sound has;
   counted = omega (arith, kept.counted, count-lease_again pool n kept.sound has);

@@ -84,7 +84,7 @@ pub record IsSound (pool : Pool) : Type 0 where
   pub reach : pool.limit ≤ pool.last + 1 - pool.first
 
 -- a sound pool whose count of numbers out is right, and whose bitmaps reach beyond its last number, to below `end`
-pub record IsKept (pool : Pool) (out end : ℕ) : Type 0 where
+pub record IsKeptPool (pool : Pool) (out end : ℕ) : Type 0 where
   pub sound : IsSound pool
   pub counted : out ≡ count_out pool
   pub held : pool.last < end

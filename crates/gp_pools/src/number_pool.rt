@@ -20,7 +20,7 @@ pub struct NumberPool<const FIRST: u16, const WORDS: usize> {
 
 impl<const FIRST: u16, const WORDS: usize> Model for NumberPool<FIRST, WORDS> {
     ghost use Rattle.std.specs.Prelude.{◌+◌, ◌*◌};
-    ghost use Rattle.gp_pools.specs.Pool.{Pool, pool_code, pool_of, IsKept};
+    ghost use Rattle.gp_pools.specs.Pool.{Pool, pool_code, pool_of, IsKeptPool};
 
     ghost Value = { Pool };
 
@@ -28,7 +28,7 @@ impl<const FIRST: u16, const WORDS: usize> Model for NumberPool<FIRST, WORDS> {
 
     ghost view = { λ p. pool_of FIRST p.last p.limit p.leased p.settled };
 
-    ghost invariant = { λ p. IsKept (pool_of FIRST p.last p.limit p.leased p.settled) p.out (FIRST + 64 * WORDS) };
+    ghost invariant = { λ p. IsKeptPool (pool_of FIRST p.last p.limit p.leased p.settled) p.out (FIRST + 64 * WORDS) };
 }
 
 impl<const FIRST: u16, const WORDS: usize> NumberPool<FIRST, WORDS> {

@@ -11,7 +11,7 @@ use Rattle.std.specs.FinSet as set
 use Rattle.gp_ploam.specs.declared.message.Serial.{Serial}
 use Rattle.gp_ploam.specs.Serials.{serial_cmp, same_serial, is_among}
 use Rattle.gp_ploam.proofs.Serials.{serials_total, serials_exact, by_cmp-same, same_serial-true}
-use Rattle.gp_table.specs.declared.admission_index.Admission.{Admission}
+use Rattle.gp_table.specs.declared.admission_index.AdmittedSerial.{AdmittedSerial}
 use Rattle.gp_table.specs.Values.{map_values}
 use Rattle.gp_table.specs.Index.{Admissions, key_in, disabled_in, key_or_zero, keys_of, admitted_of, disabled_of, changed, changed_at, with_key, with_disabled, enabled, fresh_admission, fresh_if, admitting, IsFresh}
 use Rattle.gp_table.proofs.Values.{get-map_values}
@@ -22,18 +22,18 @@ use Rattle.gp_table.proofs.Gets.{get-insert_same, get-insert_other}
 pub get-keys_of : (m : Admissions) (q : Serial) → fin.get (keys_of m) q ≡ key_in (fin.get m q)
 unfolding keys_of
 get-keys_of m q =
-    get-map_values serial_cmp (λ (a : Admission). key_or_zero a.key) (fin.retain_keys m (λ s. is_some (key_in (fin.get m s)))) q
-    ∙ ap (option_map (λ (a : Admission). key_or_zero a.key)) (fin.get-retain_keys m (λ s. is_some (key_in (fin.get m s))) q (λ x tie. ap (λ (o : Option Admission). is_some (key_in o)) (fin.get_tied serials_total m q x tie)))
+    get-map_values serial_cmp (λ (a : AdmittedSerial). key_or_zero a.key) (fin.retain_keys m (λ s. is_some (key_in (fin.get m s)))) q
+    ∙ ap (option_map (λ (a : AdmittedSerial). key_or_zero a.key)) (fin.get-retain_keys m (λ s. is_some (key_in (fin.get m s))) q (λ x tie. ap (λ (o : Option AdmittedSerial). is_some (key_in o)) (fin.get_tied serials_total m q x tie)))
     ∙ by_admission (fin.get m q)
   where
     by_key : (o : Option ℕ) → option_map key_or_zero (cond (is_some o) (Some o) None) ≡ o
     by_key None = refl
     by_key (Some k) = refl
 
-    by_admission : (o : Option Admission) → option_map (λ (a : Admission). key_or_zero a.key) (cond (is_some (key_in o)) o None) ≡ key_in o
+    by_admission : (o : Option AdmittedSerial) → option_map (λ (a : AdmittedSerial). key_or_zero a.key) (cond (is_some (key_in o)) o None) ≡ key_in o
     by_admission None = refl
     by_admission (Some a) =
-        elim a.key as (λ k. option_map (λ (b : Admission). key_or_zero b.key) (cond (is_some k) (Some (record a { key = k })) None) ≡ k) [ None ↦ refl | Some k ↦ refl ]
+        elim a.key as (λ k. option_map (λ (b : AdmittedSerial). key_or_zero b.key) (cond (is_some k) (Some (record a { key = k })) None) ≡ k) [ None ↦ refl | Some k ↦ refl ]
 
 contains-keys : (m : Admissions) (q : Serial) → set.contains (set.from_list {R = serial_cmp} (fin.keys m)) q ≡ is_some (fin.get m q)
 contains-keys m q = set.contains-from_list serials_total (fin.keys m) q ∙ sym (fin.contains_key-keys m q)
@@ -49,7 +49,7 @@ contains-disabled_of m q =
     ∙ ap (λ b. b && disabled_in (fin.get m q)) (contains-keys m q)
     ∙ by_admission (fin.get m q)
   where
-    by_admission : (o : Option Admission) → (is_some o && disabled_in o) ≡ disabled_in o
+    by_admission : (o : Option AdmittedSerial) → (is_some o && disabled_in o) ≡ disabled_in o
     by_admission None = refl
     by_admission (Some a) = refl
 
@@ -89,10 +89,10 @@ fresh_disabled m ss h = same_sets _ _ (λ q. contains-disabled_of m q ∙ ap dis
 
 -- a serial number more
 pub admitting_new : (m : Admissions) (s : Serial) → fin.get m s ≡ None → fin.insert m s fresh_admission ≡ admitting m s
-admitting_new m s none = sym (ap (λ (o : Option Admission). cond (is_some o) m (fin.insert m s fresh_admission)) none)
+admitting_new m s none = sym (ap (λ (o : Option AdmittedSerial). cond (is_some o) m (fin.insert m s fresh_admission)) none)
 
-pub admitting_known : (m : Admissions) (s : Serial) (a : Admission) → fin.get m s ≡ Some a → m ≡ admitting m s
-admitting_known m s a known = sym (ap (λ (o : Option Admission). cond (is_some o) m (fin.insert m s fresh_admission)) known)
+pub admitting_known : (m : Admissions) (s : Serial) (a : AdmittedSerial) → fin.get m s ≡ Some a → m ≡ admitting m s
+admitting_known m s a known = sym (ap (λ (o : Option AdmittedSerial). cond (is_some o) m (fin.insert m s fresh_admission)) known)
 
 pub fresh_none : IsFresh [] fin.empty
 fresh_none = record { each = λ q. fin.get-empty serial_cmp q }
@@ -124,26 +124,26 @@ fresh_step ss i d m new within h is = rw (take_more ss i d within, is) (fresh_mo
 
 -- ---- changes
 
-pub changed_absent : (m : Admissions) (s : Serial) (change : Admission → Admission) → fin.get m s ≡ None → m ≡ changed m s change
+pub changed_absent : (m : Admissions) (s : Serial) (change : AdmittedSerial → AdmittedSerial) → fin.get m s ≡ None → m ≡ changed m s change
 changed_absent m s change none = sym (ap (changed_at m s change) none)
 
-module _ (m : Admissions) (s : Serial) (change : Admission → Admission) where
+module _ (m : Admissions) (s : Serial) (change : AdmittedSerial → AdmittedSerial) where
   get-changed_same : fin.get (changed m s change) s ≡ option_map change (fin.get m s)
   get-changed_same = by_admission (fin.get m s) refl
     where
-      by_admission : (o : Option Admission) → fin.get m s ≡ o → fin.get (changed_at m s change o) s ≡ option_map change o
+      by_admission : (o : Option AdmittedSerial) → fin.get m s ≡ o → fin.get (changed_at m s change o) s ≡ option_map change o
       by_admission None e = e
       by_admission (Some a) e = get-insert_same m s (change a)
 
   get-changed_other : (q : Serial) → same_serial q s ≡ false → fin.get (changed m s change) q ≡ fin.get m q
   get-changed_other q f = by_admission (fin.get m s)
     where
-      by_admission : (o : Option Admission) → fin.get (changed_at m s change o) q ≡ fin.get m q
+      by_admission : (o : Option AdmittedSerial) → fin.get (changed_at m s change o) q ≡ fin.get m q
       by_admission None = refl
       by_admission (Some a) = get-insert_other m s (change a) q f
 
   -- what is asked of one serial number, where the change doesn't touch the answer
-  untouched : {A : Type 0} (ask : Option Admission → A) → ((o : Option Admission) → ask (option_map change o) ≡ ask o) → (q : Serial) → ask (fin.get (changed m s change) q) ≡ ask (fin.get m q)
+  untouched : {A : Type 0} (ask : Option AdmittedSerial → A) → ((o : Option AdmittedSerial) → ask (option_map change o) ≡ ask o) → (q : Serial) → ask (fin.get (changed m s change) q) ≡ ask (fin.get m q)
   untouched ask same q = elim (cases_Bool (same_serial q s)) [
     | inl t ↦ subst (λ (x : Serial). ask (fin.get (changed m s change) x) ≡ ask (fin.get m x)) (sym (same_serial-true q s t)) (ap ask get-changed_same ∙ same (fin.get m s))
     | inr f ↦ ap ask (get-changed_other q f)
@@ -152,7 +152,7 @@ module _ (m : Admissions) (s : Serial) (change : Admission → Admission) where
   pub admitted_stays : admitted_of (changed m s change) ≡ admitted_of m
   admitted_stays = same_sets _ _ (λ q. contains-admitted_of (changed m s change) q ∙ untouched is_some still q ∙ sym (contains-admitted_of m q))
     where
-      still : (o : Option Admission) → is_some (option_map change o) ≡ is_some o
+      still : (o : Option AdmittedSerial) → is_some (option_map change o) ≡ is_some o
       still None = refl
       still (Some a) = refl
 
@@ -180,7 +180,7 @@ pub keys_stay : (m : Admissions) (s : Serial) (disabled : Bool) → keys_of (cha
 keys_stay m s disabled = fin.same_map serials_total serials_exact _ _ (λ q.
     get-keys_of (changed m s (with_disabled disabled)) q ∙ untouched m s (with_disabled disabled) key_in still q ∙ sym (get-keys_of m q))
   where
-    still : (o : Option Admission) → key_in (option_map (with_disabled disabled) o) ≡ key_in o
+    still : (o : Option AdmittedSerial) → key_in (option_map (with_disabled disabled) o) ≡ key_in o
     still None = refl
     still (Some a) = refl
 
@@ -188,7 +188,7 @@ pub disabled_stays : (m : Admissions) (s : Serial) (key : Option ℕ) → disabl
 disabled_stays m s key = same_sets _ _ (λ q.
     contains-disabled_of (changed m s (with_key key)) q ∙ untouched m s (with_key key) disabled_in still q ∙ sym (contains-disabled_of m q))
   where
-    still : (o : Option Admission) → disabled_in (option_map (with_key key) o) ≡ disabled_in o
+    still : (o : Option AdmittedSerial) → disabled_in (option_map (with_key key) o) ≡ disabled_in o
     still None = refl
     still (Some a) = refl
 
@@ -202,7 +202,7 @@ keys_of-insert m s key admitted = fin.same_map serials_total serials_exact _ _ (
     ∙ ap (λ b. cond b (Some key) (fin.get (keys_of m) q)) (sym (by_cmp-same q s))
     ∙ sym (fin.get-insert serials_total (keys_of m) s key q))
   where
-    by_admission : (o : Option Admission) → is_some o ≡ true → key_in (option_map (with_key (Some key)) o) ≡ Some key
+    by_admission : (o : Option AdmittedSerial) → is_some o ≡ true → key_in (option_map (with_key (Some key)) o) ≡ Some key
     by_admission None e = cc
     by_admission (Some a) e = refl
 
@@ -213,7 +213,7 @@ keys_of-remove m s = fin.same_map serials_total serials_exact _ _ (λ q.
     ∙ ap (λ b. cond b None (fin.get (keys_of m) q)) (sym (by_cmp-same q s))
     ∙ sym (fin.get-remove serials_total (keys_of m) s q))
   where
-    by_admission : (o : Option Admission) → key_in (option_map (with_key None) o) ≡ None
+    by_admission : (o : Option AdmittedSerial) → key_in (option_map (with_key None) o) ≡ None
     by_admission None = refl
     by_admission (Some a) = refl
 
@@ -225,7 +225,7 @@ disabled_of-insert m s admitted = same_sets _ _ (λ q.
     ∙ ap (λ b. b || set.contains (disabled_of m) q) (sym (by_cmp-same q s))
     ∙ sym (set.contains-insert serials_total (disabled_of m) s q))
   where
-    by_admission : (o : Option Admission) → is_some o ≡ true → disabled_in (option_map (with_disabled true) o) ≡ true
+    by_admission : (o : Option AdmittedSerial) → is_some o ≡ true → disabled_in (option_map (with_disabled true) o) ≡ true
     by_admission None e = e
     by_admission (Some a) e = refl
 
@@ -241,7 +241,7 @@ disabled_of-remove m s = same_sets _ _ (λ q.
     ∙ ap (λ b. not b && set.contains (disabled_of m) q) (sym (by_cmp-same q s))
     ∙ sym (set.contains-remove serials_total (disabled_of m) s q))
   where
-    by_admission : (o : Option Admission) → disabled_in (option_map (with_disabled false) o) ≡ false
+    by_admission : (o : Option AdmittedSerial) → disabled_in (option_map (with_disabled false) o) ≡ false
     by_admission None = refl
     by_admission (Some a) = refl
 
@@ -252,20 +252,20 @@ disabled_of-remove m s = same_sets _ _ (λ q.
 -- ---- all are enabled
 
 module _ (m : Admissions) where
-  asked : {A : Type 0} (ask : Option Admission → A) → ((o : Option Admission) → ask (option_map enabled o) ≡ ask o) → (q : Serial) → ask (fin.get (map_values enabled m) q) ≡ ask (fin.get m q)
+  asked : {A : Type 0} (ask : Option AdmittedSerial → A) → ((o : Option AdmittedSerial) → ask (option_map enabled o) ≡ ask o) → (q : Serial) → ask (fin.get (map_values enabled m) q) ≡ ask (fin.get m q)
   asked ask same q = ap ask (get-map_values serial_cmp enabled m q) ∙ same (fin.get m q)
 
   pub admitted_of-enabled : admitted_of (map_values enabled m) ≡ admitted_of m
   admitted_of-enabled = same_sets _ _ (λ q. contains-admitted_of (map_values enabled m) q ∙ asked is_some still q ∙ sym (contains-admitted_of m q))
     where
-      still : (o : Option Admission) → is_some (option_map enabled o) ≡ is_some o
+      still : (o : Option AdmittedSerial) → is_some (option_map enabled o) ≡ is_some o
       still None = refl
       still (Some a) = refl
 
   pub keys_of-enabled : keys_of (map_values enabled m) ≡ keys_of m
   keys_of-enabled = fin.same_map serials_total serials_exact _ _ (λ q. get-keys_of (map_values enabled m) q ∙ asked key_in still q ∙ sym (get-keys_of m q))
     where
-      still : (o : Option Admission) → key_in (option_map enabled o) ≡ key_in o
+      still : (o : Option AdmittedSerial) → key_in (option_map enabled o) ≡ key_in o
       still None = refl
       still (Some a) = refl
 
@@ -273,6 +273,6 @@ module _ (m : Admissions) where
   disabled_of-enabled = same_sets _ _ (λ q.
       contains-disabled_of (map_values enabled m) q ∙ ap disabled_in (get-map_values serial_cmp enabled m q) ∙ by_admission (fin.get m q) ∙ sym (set.contains-empty serial_cmp q))
     where
-      by_admission : (o : Option Admission) → disabled_in (option_map enabled o) ≡ false
+      by_admission : (o : Option AdmittedSerial) → disabled_in (option_map enabled o) ≡ false
       by_admission None = refl
       by_admission (Some a) = refl

@@ -16,22 +16,22 @@ use Rattle.gp_unit.specs.declared.row.Row.{Row}
 use Rattle.gp_unit.specs.Rows.{is_ranging}
 use Rattle.gp_unit.specs.Records.{row_of, record_of}
 use Rattle.gp_table.specs.Rows.{Rows, HasRow, HasOnuId, IsInPhase}
-use Rattle.gp_table.specs.Table.{Slots, slot_at, row_in, rows_of, key_of_onu, IsKept, IsSetOf}
+use Rattle.gp_table.specs.Table.{Slots, slot_at, row_in, rows_of, key_of_onu, IsKeptTable, IsSetOf}
 use Rattle.gp_table.proofs.Gets.{len-insert_new, len-remove_known, same_value, no_value}
 use Rattle.gp_table.proofs.Values.{len-map_values}
 use Rattle.gp_table.proofs.Marks.{IsAlone, marks_ranging-put, marks_operating-put, marks-remove, marks-stay}
 use Rattle.gp_table.proofs.Tables.{Serials, Onus, IsIndexed, IsWritten, known, unknown, alone_new, alone_known, row_there, no_row_there, rows-insert, indexed-insert, rows-replace, indexed-replace, rows-remove, indexed-remove}
 
-abbrev pub indexed : (slots : Slots) (capacity : ℕ) (serials : Serials) (onus : Onus) (ranging operating : num.FinSet nat_cmp) → IsKept slots capacity serials onus ranging operating → IsIndexed slots serials onus
+abbrev pub indexed : (slots : Slots) (capacity : ℕ) (serials : Serials) (onus : Onus) (ranging operating : num.FinSet nat_cmp) → IsKeptTable slots capacity serials onus ranging operating → IsIndexed slots serials onus
 indexed slots capacity serials onus ranging operating h = record { places = h.places; there = h.there; holder = h.holder }
 
 pub len-rows : (slots : Slots) (serials : Serials) → map.len (rows_of slots serials) ≡ map.len serials
 len-rows slots serials = len-map_values serial_cmp (λ key. row_in (slot_at slots key)) serials
 
 pub kept-insert : (old new : Slots) (capacity : ℕ) (serials : Serials) (onus : Onus) (ranging operating : num.FinSet nat_cmp) (key : ℕ) (unit : Record)
-    → IsKept old capacity serials onus ranging operating → slot_at old key ≡ None → IsWritten old new key (Some unit) → count_by is_some new ≡ count_by is_some old + 1
+    → IsKeptTable old capacity serials onus ranging operating → slot_at old key ≡ None → IsWritten old new key (Some unit) → count_by is_some new ≡ count_by is_some old + 1
     → map.get (rows_of old serials) unit.serial ≡ None → unit.row.onu ≤ 253 → ((s : Serial) → HasOnuId (rows_of old serials) s unit.row.onu → ⊥)
-    → IsKept new capacity (map.insert serials unit.serial key) (set onus unit.row.onu (Some key))
+    → IsKeptTable new capacity (map.insert serials unit.serial key) (set onus unit.row.onu (Some key))
     (if is_ranging unit.row.phase then num.insert ranging unit.row.onu else num.remove ranging unit.row.onu)
     (if is_ranging unit.row.phase then num.remove operating unit.row.onu else num.insert operating unit.row.onu)
 kept-insert old new capacity serials onus ranging operating key unit h was written more none low unused =
@@ -53,9 +53,9 @@ kept-insert old new capacity serials onus ranging operating key unit h was writt
     }
 
 pub kept-replace : (old new : Slots) (capacity : ℕ) (serials : Serials) (onus : Onus) (ranging operating : num.FinSet nat_cmp) (key : ℕ) (unit : Record)
-    → (h : IsKept old capacity serials onus ranging operating) (at : map.get serials unit.serial ≡ Some key) → (h.there unit.serial key at).unit.row.onu ≡ unit.row.onu
+    → (h : IsKeptTable old capacity serials onus ranging operating) (at : map.get serials unit.serial ≡ Some key) → (h.there unit.serial key at).unit.row.onu ≡ unit.row.onu
     → IsWritten old new key (Some unit) → count_by is_some new ≡ count_by is_some old
-    → IsKept new capacity serials onus
+    → IsKeptTable new capacity serials onus
     (if is_ranging unit.row.phase then num.insert ranging unit.row.onu else num.remove ranging unit.row.onu)
     (if is_ranging unit.row.phase then num.remove operating unit.row.onu else num.insert operating unit.row.onu)
 kept-replace old new capacity serials onus ranging operating key unit h at same_onu written same =
@@ -77,9 +77,9 @@ kept-replace old new capacity serials onus ranging operating key unit h at same_
 
 -- the sets of ONU-IDs stay as they are where the unit stays in its phase
 pub kept-recount : (old new : Slots) (capacity : ℕ) (serials : Serials) (onus : Onus) (ranging operating : num.FinSet nat_cmp) (key : ℕ) (unit : Record)
-    → (h : IsKept old capacity serials onus ranging operating) (at : map.get serials unit.serial ≡ Some key) → (h.there unit.serial key at).unit.row.onu ≡ unit.row.onu
+    → (h : IsKeptTable old capacity serials onus ranging operating) (at : map.get serials unit.serial ≡ Some key) → (h.there unit.serial key at).unit.row.onu ≡ unit.row.onu
     → is_ranging (h.there unit.serial key at).unit.row.phase ≡ is_ranging unit.row.phase
-    → IsWritten old new key (Some unit) → count_by is_some new ≡ count_by is_some old → IsKept new capacity serials onus ranging operating
+    → IsWritten old new key (Some unit) → count_by is_some new ≡ count_by is_some old → IsKeptTable new capacity serials onus ranging operating
 kept-recount old new capacity serials onus ranging operating key unit h at same_onu kind written same =
     let both = indexed old capacity serials onus ranging operating h in
     let after = indexed-replace old new serials onus key unit both at written same_onu in
@@ -99,9 +99,9 @@ kept-recount old new capacity serials onus ranging operating key unit h at same_
     }
 
 pub kept-remove : (old new : Slots) (capacity : ℕ) (serials : Serials) (onus : Onus) (ranging operating : num.FinSet nat_cmp) (key : ℕ) (s : Serial) (unit : Record)
-    → (h : IsKept old capacity serials onus ranging operating) (at : map.get serials s ≡ Some key) (slot : slot_at old key ≡ Some unit) → unit.row.onu ≤ 253
+    → (h : IsKeptTable old capacity serials onus ranging operating) (at : map.get serials s ≡ Some key) (slot : slot_at old key ≡ Some unit) → unit.row.onu ≤ 253
     → IsWritten old new key None → count_by is_some new + 1 ≡ count_by is_some old
-    → IsKept new capacity (map.remove serials s) (set onus unit.row.onu None) (num.remove ranging unit.row.onu) (num.remove operating unit.row.onu)
+    → IsKeptTable new capacity (map.remove serials s) (set onus unit.row.onu None) (num.remove ranging unit.row.onu) (num.remove operating unit.row.onu)
 kept-remove old new capacity serials onus ranging operating key s unit h at slot low written less =
     let both = indexed old capacity serials onus ranging operating h in
     let after = indexed-remove old new serials onus key s unit both at slot written low in
@@ -195,7 +195,7 @@ count-written_over slots key old unit e =
 pub rows_of_nothing : rows_of [] map.empty ≡ map.empty {K = Serial} {X = Row} {R = serial_cmp}
 rows_of_nothing = map.empty_of_len (rows_of [] map.empty) (len-rows [] map.empty ∙ map.len-empty serial_cmp ℕ)
 
-pub kept-empty : (capacity : ℕ) (onus : Onus) → 254 ≤ capacity → length onus ≡ 254 → ((onu : ℕ) → key_of_onu onus onu ≡ None) → IsKept [] capacity map.empty onus num.empty num.empty
+pub kept-empty : (capacity : ℕ) (onus : Onus) → 254 ≤ capacity → length onus ≡ 254 → ((onu : ℕ) → key_of_onu onus onu ≡ None) → IsKeptTable [] capacity map.empty onus num.empty num.empty
 kept-empty capacity onus room long none = record {
   room = room;
   counted = sym (map.len-empty serial_cmp ℕ);

@@ -2,7 +2,7 @@
 use Rattle.std.proofs.Common.{◌≡◌, ℕ, Bool, true, false, cond, Option, None, Some, refl, sym, ap, ◌∙◌, is_some, IfSome, IsSome}
 use Rattle.std.specs.Option.{option_map}
 use Rattle.gp_unit.specs.declared.row.Row.{Row}
-use Rattle.gp_table.specs.declared.admission_index.Admission.{Admission}
+use Rattle.gp_table.specs.declared.admission_index.AdmittedSerial.{AdmittedSerial}
 use Rattle.gp_table.specs.declared.unit_table.Entry.{Entry}
 use Rattle.gp_table.proofs.Admissions.{contains-admitted_of, contains-disabled_of, get-keys_of}
 use Rattle.gp_table.proofs.Kept.{is_there}
@@ -32,7 +32,7 @@ units_are slots m u a r d =
     ∙ ap (λ (x : set.FinSet serial_cmp). let v : Units = record { admitted = u.admitted; rows = u.rows; disabled = x } in v) d
 
 -- what is looked up
-pub entry_is : (slots : Slots) (m : Admissions) (u : Units) (s : Serial) (row : Option Row) → units_of slots m ≡ u → (a : Admission) → map.get m s ≡ Some a → row ≡ map.get (rows_of slots (keys_of m)) s → Some (record { disabled = a.disabled; row = row }) ≡ entry_for u s
+pub entry_is : (slots : Slots) (m : Admissions) (u : Units) (s : Serial) (row : Option Row) → units_of slots m ≡ u → (a : AdmittedSerial) → map.get m s ≡ Some a → row ≡ map.get (rows_of slots (keys_of m)) s → Some (record { disabled = a.disabled; row = row }) ≡ entry_for u s
 entry_is slots m u s row is a has got =
     let admitted : set.contains u.admitted s ≡ true = ap (λ x. set.contains x s) (sym (same_admitted slots m u is)) ∙ contains-admitted_of m s ∙ ap is_some has in
     let disabled : a.disabled ≡ set.contains u.disabled s = sym (ap disabled_in has) ∙ sym (contains-disabled_of m s) ∙ ap (λ x. set.contains x s) (same_disabled slots m u is) in
@@ -46,14 +46,14 @@ entry_is_none slots m u s is none =
     ap (λ (b : Bool). cond b (Some (record { disabled = set.contains u.disabled s; row = map.get u.rows s })) None) (sym foreign)
 
 -- the row of a key that the index has
-pub row_got : (slots : Slots) (m : Admissions) (s : Serial) (a : Admission) → map.get m s ≡ Some a → option_map (λ key. row_in (slot_at slots key)) a.key ≡ map.get (rows_of slots (keys_of m)) s
+pub row_got : (slots : Slots) (m : Admissions) (s : Serial) (a : AdmittedSerial) → map.get m s ≡ Some a → option_map (λ key. row_in (slot_at slots key)) a.key ≡ map.get (rows_of slots (keys_of m)) s
 row_got slots m s a has = sym (get_rows slots (keys_of m) s ∙ ap (option_map (λ key. row_in (slot_at slots key))) (get-keys_of m s ∙ ap key_in has))
 
 pub no_row_got : (slots : Slots) (m : Admissions) (s : Serial) → map.get m s ≡ None → None ≡ map.get (rows_of slots (keys_of m)) s
 no_row_got slots m s none = sym (no_row_there slots (keys_of m) s (get-keys_of m s ∙ ap key_in none))
 
 -- each key that the index has is that of a record
-pub keys_filled : (slots : Slots) (m : Admissions) (onus : Onus) (s : Serial) (a : Admission) → IsIndexed slots (keys_of m) onus → map.get m s ≡ Some a → IfSome a.key (λ key. IsSome (slot_at slots key))
+pub keys_filled : (slots : Slots) (m : Admissions) (onus : Onus) (s : Serial) (a : AdmittedSerial) → IsIndexed slots (keys_of m) onus → map.get m s ≡ Some a → IfSome a.key (λ key. IsSome (slot_at slots key))
 keys_filled slots m onus s a h has = by_key a.key refl
   where
     by_key : (o : Option ℕ) → a.key ≡ o → IfSome o (λ key. IsSome (slot_at slots key))

@@ -8,11 +8,11 @@ use Rattle.std.proofs.lemmas.List.{map-set, get_or-set_same, get_or-set_other}
 use Rattle.std.specs.List.{insert}
 use Rattle.std.proofs.lemmas.List.Edits.{length-insert, get_or-insert_below, get_or-insert_at, get_or-insert_above}
 use Rattle.gp_ploam.specs.declared.message.Serial.{Serial}
-use Rattle.gp_table.specs.declared.admission_index.Place.{Place}
+use Rattle.gp_table.specs.declared.admission_index.IndexPlace.{IndexPlace}
 use Rattle.std.specs.FinMap as fin
 use Rattle.gp_ploam.specs.Serials.{serial_cmp, same_serial}
 use Rattle.gp_ploam.proofs.Serials.{serials_total, serials_exact, same_serial-true}
-use Rattle.gp_table.specs.declared.admission_index.Admission.{Admission}
+use Rattle.gp_table.specs.declared.admission_index.AdmittedSerial.{AdmittedSerial}
 use Rattle.gp_table.specs.Index.{serial_of, entry_of, admissions_of, blank_place, rank_at, enabled, enabled_place, changed, changed_at, IsRising, IsPlaceOf, IsGapFor}
 use Rattle.std.specs.Option.{option_map}
 use Rattle.gp_table.specs.Values.{map_values}
@@ -31,11 +31,11 @@ serial_of_rank s rank long octets is = ap (λ (xs : List ℕ). let t : Serial = 
 
 -- ---- the entries of places in order
 
-rising_tail : (p : Place) (ps : List Place) → IsRising (p ∷ ps) → IsRising ps
+rising_tail : (p : IndexPlace) (ps : List IndexPlace) → IsRising (p ∷ ps) → IsRising ps
 rising_tail p ps h = record { rising = λ i j lt within. h.rising (suc i) (suc j) (omega arith) (omega arith); fits = λ i within. h.fits (suc i) (omega arith) }
 
 -- a serial number whose number is at no place
-pub absent : (ps : List Place) (rank : ℕ) → rank < 2 ^ 64 → ((i : ℕ) → i < length ps → rank_at ps i < 2 ^ 64) → ((i : ℕ) → i < length ps → rank_at ps i ≡ rank → ⊥)
+pub absent : (ps : List IndexPlace) (rank : ℕ) → rank < 2 ^ 64 → ((i : ℕ) → i < length ps → rank_at ps i < 2 ^ 64) → ((i : ℕ) → i < length ps → rank_at ps i ≡ rank → ⊥)
     → find (serial_of rank) (map entry_of ps) ≡ None
 absent [] rank small fits none = refl
 absent (p ∷ ps) rank small fits none =
@@ -45,67 +45,67 @@ absent (p ∷ ps) rank small fits none =
     ]
 
 -- no serial number stands twice
-pub apart : (ps : List Place) → IsRising ps → IsApart (map entry_of ps)
+pub apart : (ps : List IndexPlace) → IsRising ps → IsApart (map entry_of ps)
 apart [] h = tt
 apart (p ∷ ps) h = (
   absent ps p.rank (h.fits 0 (omega arith)) (λ i within. h.fits (suc i) (omega arith)) (λ i within same. let less : p.rank < rank_at ps i = h.rising 0 (suc i) (omega arith) (omega arith) in omega arith),
   apart ps (rising_tail p ps h),
 )
 
-entry_at : (ps : List Place) (i : ℕ) → i < length ps → get_or (map entry_of ps) i (entry_of blank_place) ≡ entry_of (get_or ps i blank_place)
+entry_at : (ps : List IndexPlace) (i : ℕ) → i < length ps → get_or (map entry_of ps) i (entry_of blank_place) ≡ entry_of (get_or ps i blank_place)
 entry_at [] i within = absurd (omega arith)
 entry_at (p ∷ ps) zero within = refl
 entry_at (p ∷ ps) (suc i) within = entry_at ps i (omega arith)
 
-length-entries : (ps : List Place) → length (map entry_of ps) ≡ length ps
+length-entries : (ps : List IndexPlace) → length (map entry_of ps) ≡ length ps
 length-entries [] = refl
 length-entries (p ∷ ps) = ap suc (length-entries ps)
 
-map-insert : (ps : List Place) (i : ℕ) (p : Place) → map entry_of (insert ps i p) ≡ insert (map entry_of ps) i (entry_of p)
+map-insert : (ps : List IndexPlace) (i : ℕ) (p : IndexPlace) → map entry_of (insert ps i p) ≡ insert (map entry_of ps) i (entry_of p)
 map-insert ps zero p = refl
 map-insert [] (suc i) p = refl
 map-insert (q ∷ ps) (suc i) p = ap (λ es. entry_of q ∷ es) (map-insert ps i p)
 
 -- ---- what is found
 
-pub found_admission : (ps : List Place) (rank i : ℕ) → IsRising ps → IsPlaceOf ps rank i → fin.get (admissions_of ps) (serial_of rank) ≡ Some (get_or ps i blank_place).admission
+pub found_admission : (ps : List IndexPlace) (rank i : ℕ) → IsRising ps → IsPlaceOf ps rank i → fin.get (admissions_of ps) (serial_of rank) ≡ Some (get_or ps i blank_place).admission
 found_admission ps rank i h at =
     let within : i < length (map entry_of ps) = rw (length-entries ps) at.within in
     let e = entry_at ps i at.within in
     fin.get-from_entries serials_total (map entry_of ps) (serial_of rank)
     ∙ ap (λ n. find (serial_of n) (map entry_of ps)) (sym at.here)
-    ∙ ap (λ (x : Serial × Admission). find x.0 (map entry_of ps)) (sym e)
+    ∙ ap (λ (x : Serial × AdmittedSerial). find x.0 (map entry_of ps)) (sym e)
     ∙ find_at (map entry_of ps) i (entry_of blank_place) (apart ps h) within
-    ∙ ap (λ (x : Serial × Admission). Some x.1) e
+    ∙ ap (λ (x : Serial × AdmittedSerial). Some x.1) e
 
-pub gap_finds_none : (ps : List Place) (rank i : ℕ) → rank < 2 ^ 64 → IsRising ps → IsGapFor ps rank i → find (serial_of rank) (map entry_of ps) ≡ None
+pub gap_finds_none : (ps : List IndexPlace) (rank i : ℕ) → rank < 2 ^ 64 → IsRising ps → IsGapFor ps rank i → find (serial_of rank) (map entry_of ps) ≡ None
 gap_finds_none ps rank i small h gap =
     absent ps rank small h.fits (λ j within same. elim (cases_lt j i) [
       | inl low ↦ let less = gap.before j low in absurd (omega arith)
       | inr high ↦ let more = gap.after j high within in absurd (omega arith)
     ])
 
-pub found_none : (ps : List Place) (rank i : ℕ) → rank < 2 ^ 64 → IsRising ps → IsGapFor ps rank i → fin.get (admissions_of ps) (serial_of rank) ≡ None
+pub found_none : (ps : List IndexPlace) (rank i : ℕ) → rank < 2 ^ 64 → IsRising ps → IsGapFor ps rank i → fin.get (admissions_of ps) (serial_of rank) ≡ None
 found_none ps rank i small h gap = fin.get-from_entries serials_total (map entry_of ps) (serial_of rank) ∙ gap_finds_none ps rank i small h gap
 
 -- ---- edits
 
-abbrev rank_of_place : Place → ℕ
+abbrev rank_of_place : IndexPlace → ℕ
 rank_of_place p = p.rank
 
-pub admissions_of-insert : (ps : List Place) (rank i : ℕ) (admission : Admission) → rank < 2 ^ 64 → IsRising ps → IsGapFor ps rank i
+pub admissions_of-insert : (ps : List IndexPlace) (rank i : ℕ) (admission : AdmittedSerial) → rank < 2 ^ 64 → IsRising ps → IsGapFor ps rank i
     → admissions_of (insert ps i (record { rank = rank; admission = admission })) ≡ fin.insert (admissions_of ps) (serial_of rank) admission
 admissions_of-insert ps rank i admission small h gap =
-    let new : Place = record { rank = rank; admission = admission } in
+    let new : IndexPlace = record { rank = rank; admission = admission } in
     ap (fin.from_entries {R = serial_cmp}) (map-insert ps i new)
     ∙ from_entries-insert (map entry_of ps) i (serial_of rank) admission (gap_finds_none ps rank i small h gap)
 
 -- a place whose number stays
-module _ (ps : List Place) (i : ℕ) (p : Place) (within : i < length ps) (same : p.rank ≡ rank_at ps i) where
+module _ (ps : List IndexPlace) (i : ℕ) (p : IndexPlace) (within : i < length ps) (same : p.rank ≡ rank_at ps i) where
   pub admissions_of-set : IsRising ps → admissions_of (set ps i p) ≡ fin.insert (admissions_of ps) (serial_of p.rank) p.admission
   admissions_of-set h =
       let inside : i < length (map entry_of ps) = rw (length-entries ps) within in
-      let is : (get_or (map entry_of ps) i (entry_of blank_place)).0 ≡ serial_of p.rank = ap (λ (e : Serial × Admission). e.0) (entry_at ps i within) ∙ ap serial_of (sym same) in
+      let is : (get_or (map entry_of ps) i (entry_of blank_place)).0 ≡ serial_of p.rank = ap (λ (e : Serial × AdmittedSerial). e.0) (entry_at ps i within) ∙ ap serial_of (sym same) in
       ap (fin.from_entries {R = serial_cmp}) (map-set entry_of ps i p)
       ∙ from_entries-set (map entry_of ps) i (entry_of blank_place) (serial_of p.rank) p.admission (apart ps h) inside is
 
@@ -123,9 +123,9 @@ module _ (ps : List Place) (i : ℕ) (p : Place) (within : i < length ps) (same 
         fits = λ j inside. let f = h.fits j (omega arith) in let a = rank-set j in omega arith;
       }
 
-pub rising-insert : (ps : List Place) (rank i : ℕ) (admission : Admission) → rank < 2 ^ 64 → IsRising ps → IsGapFor ps rank i → IsRising (insert ps i (record { rank = rank; admission = admission }))
+pub rising-insert : (ps : List IndexPlace) (rank i : ℕ) (admission : AdmittedSerial) → rank < 2 ^ 64 → IsRising ps → IsGapFor ps rank i → IsRising (insert ps i (record { rank = rank; admission = admission }))
 rising-insert ps rank at admission small h gap =
-    let p : Place = record { rank = rank; admission = admission } in
+    let p : IndexPlace = record { rank = rank; admission = admission } in
     let new = insert ps at p in
     let long = length-insert ps at p gap.within in
     let below : (i : ℕ) → i < at → rank_at new i ≡ rank_at ps i = λ i low. ap rank_of_place (get_or-insert_below ps at p blank_place i low gap.within) in
@@ -137,31 +137,31 @@ rising-insert ps rank at admission small h gap =
     }
 
 -- a place that is found, with what it has changed
-pub changed_found : (ps : List Place) (rank i : ℕ) (place : Place) (change : Admission → Admission) → IsRising ps → IsPlaceOf ps rank i → place ≡ get_or ps i blank_place
+pub changed_found : (ps : List IndexPlace) (rank i : ℕ) (place : IndexPlace) (change : AdmittedSerial → AdmittedSerial) → IsRising ps → IsPlaceOf ps rank i → place ≡ get_or ps i blank_place
     → admissions_of (set ps i (record { rank = place.rank; admission = change place.admission })) ≡ changed (admissions_of ps) (serial_of rank) change
 changed_found ps rank i place change h at is =
-    let new : Place = record { rank = place.rank; admission = change place.admission } in
+    let new : IndexPlace = record { rank = place.rank; admission = change place.admission } in
     let same : place.rank ≡ rank_at ps i = ap rank_of_place is in
     admissions_of-set ps i new at.within same h
     ∙ ap (λ n. fin.insert (admissions_of ps) (serial_of n) (change place.admission)) (same ∙ at.here)
-    ∙ ap (λ (p : Place). fin.insert (admissions_of ps) (serial_of rank) (change p.admission)) is
+    ∙ ap (λ (p : IndexPlace). fin.insert (admissions_of ps) (serial_of rank) (change p.admission)) is
     ∙ sym (ap (changed_at (admissions_of ps) (serial_of rank) change) (found_admission ps rank i h at))
 
-pub rising-changed : (ps : List Place) (rank i : ℕ) (place : Place) (admission : Admission) → IsRising ps → IsPlaceOf ps rank i → place ≡ get_or ps i blank_place → IsRising (set ps i (record { rank = place.rank; admission = admission }))
+pub rising-changed : (ps : List IndexPlace) (rank i : ℕ) (place : IndexPlace) (admission : AdmittedSerial) → IsRising ps → IsPlaceOf ps rank i → place ≡ get_or ps i blank_place → IsRising (set ps i (record { rank = place.rank; admission = admission }))
 rising-changed ps rank i place admission h at is = rising-set ps i (record { rank = place.rank; admission = admission }) at.within (ap rank_of_place is) h
 
 -- ---- every place one that is not disabled
 
-pub enabled_ranks : (ps : List Place) (i : ℕ) → i < length ps → rank_at (map enabled_place ps) i ≡ rank_at ps i
+pub enabled_ranks : (ps : List IndexPlace) (i : ℕ) → i < length ps → rank_at (map enabled_place ps) i ≡ rank_at ps i
 enabled_ranks [] i within = absurd (omega arith)
 enabled_ranks (p ∷ ps) zero within = refl
 enabled_ranks (p ∷ ps) (suc i) within = enabled_ranks ps i (omega arith)
 
-pub length-enabled : (ps : List Place) → length (map enabled_place ps) ≡ length ps
+pub length-enabled : (ps : List IndexPlace) → length (map enabled_place ps) ≡ length ps
 length-enabled [] = refl
 length-enabled (p ∷ ps) = ap suc (length-enabled ps)
 
-pub rising-enabled : (ps : List Place) → IsRising ps → IsRising (map enabled_place ps)
+pub rising-enabled : (ps : List IndexPlace) → IsRising ps → IsRising (map enabled_place ps)
 rising-enabled ps h =
     let long = length-enabled ps in
     record {
@@ -169,7 +169,7 @@ rising-enabled ps h =
       fits = λ j inside. let f = h.fits j (omega arith) in let a = enabled_ranks ps j (omega arith) in omega arith;
     }
 
-find-enabled : (q : Serial) (ps : List Place) → find q (map entry_of (map enabled_place ps)) ≡ option_map enabled (find q (map entry_of ps))
+find-enabled : (q : Serial) (ps : List IndexPlace) → find q (map entry_of (map enabled_place ps)) ≡ option_map enabled (find q (map entry_of ps))
 find-enabled q [] = refl
 find-enabled q (p ∷ ps) =
     find-cons q (entry_of (enabled_place p)) (map entry_of (map enabled_place ps))
@@ -177,30 +177,30 @@ find-enabled q (p ∷ ps) =
     ∙ elim (same_serial q (serial_of p.rank)) as (λ b. cond b (Some (enabled p.admission)) (option_map enabled (find q (map entry_of ps))) ≡ option_map enabled (cond b (Some p.admission) (find q (map entry_of ps)))) [ true ↦ refl | false ↦ refl ]
     ∙ ap (option_map enabled) (sym (find-cons q (entry_of p) (map entry_of ps)))
 
-pub admissions_of-enabled : (ps : List Place) → admissions_of (map enabled_place ps) ≡ map_values enabled (admissions_of ps)
+pub admissions_of-enabled : (ps : List IndexPlace) → admissions_of (map enabled_place ps) ≡ map_values enabled (admissions_of ps)
 admissions_of-enabled ps = fin.same_map serials_total serials_exact _ _ (λ q.
     fin.get-from_entries serials_total (map entry_of (map enabled_place ps)) q ∙ find-enabled q ps
     ∙ ap (option_map enabled) (sym (fin.get-from_entries serials_total (map entry_of ps) q))
     ∙ sym (get-map_values serial_cmp enabled (admissions_of ps) q))
 
 -- where each place is one that is not disabled already
-pub all_enabled : (ps : List Place) → ((i : ℕ) → i < length ps → enabled_place (get_or ps i blank_place) ≡ get_or ps i blank_place) → map enabled_place ps ≡ ps
+pub all_enabled : (ps : List IndexPlace) → ((i : ℕ) → i < length ps → enabled_place (get_or ps i blank_place) ≡ get_or ps i blank_place) → map enabled_place ps ≡ ps
 all_enabled [] all = refl
-all_enabled (p ∷ ps) all = ap (λ (q : Place). q ∷ map enabled_place ps) (all 0 (omega arith)) ∙ ap (λ (qs : List Place). p ∷ qs) (all_enabled ps (λ i within. all (suc i) (omega arith)))
+all_enabled (p ∷ ps) all = ap (λ (q : IndexPlace). q ∷ map enabled_place ps) (all 0 (omega arith)) ∙ ap (λ (qs : List IndexPlace). p ∷ qs) (all_enabled ps (λ i within. all (suc i) (omega arith)))
 
 -- ---- the search by halves
 
 -- the number's place is among `size` places from `base` on, if it has one
-pub record IsHalved (ps : List Place) (rank base size : ℕ) : Type 0 where
+pub record IsHalved (ps : List IndexPlace) (rank base size : ℕ) : Type 0 where
   pub some : 1 ≤ size
   pub within : base + size ≤ length ps
   pub first : 1 ≤ base → rank_at ps base ≤ rank
   pub after : (j : ℕ) → base + size ≤ j → j < length ps → rank < rank_at ps j
 
-pub halved_first : (ps : List Place) (rank : ℕ) → 1 ≤ length ps → IsHalved ps rank 0 (length ps)
+pub halved_first : (ps : List IndexPlace) (rank : ℕ) → 1 ≤ length ps → IsHalved ps rank 0 (length ps)
 halved_first ps rank some = record { some = some; within = omega arith; first = λ high. absurd (omega arith); after = λ j from to. absurd (omega arith) }
 
-pub halved_up : (ps : List Place) (rank base size mid : ℕ) → 1 < size → mid ≡ base + size / 2 → rank_at ps mid ≤ rank → IsHalved ps rank base size → IsHalved ps rank mid (size - size / 2)
+pub halved_up : (ps : List IndexPlace) (rank base size mid : ℕ) → 1 < size → mid ≡ base + size / 2 → rank_at ps mid ≤ rank → IsHalved ps rank base size → IsHalved ps rank mid (size - size / 2)
 halved_up ps rank base size mid more is low h = record {
   some = omega arith;
   within = let w = h.within in omega arith;
@@ -208,7 +208,7 @@ halved_up ps rank base size mid more is low h = record {
   after = λ j from to. h.after j (omega arith) to;
 }
 
-pub halved_down : (ps : List Place) (rank base size mid : ℕ) → IsRising ps → 1 < size → mid ≡ base + size / 2 → rank < rank_at ps mid → IsHalved ps rank base size → IsHalved ps rank base (size - size / 2)
+pub halved_down : (ps : List IndexPlace) (rank base size mid : ℕ) → IsRising ps → 1 < size → mid ≡ base + size / 2 → rank < rank_at ps mid → IsHalved ps rank base size → IsHalved ps rank base (size - size / 2)
 halved_down ps rank base size mid rising more is high h = record {
   some = omega arith;
   within = let w = h.within in omega arith;
@@ -224,7 +224,7 @@ halved_down ps rank base size mid rising more is high h = record {
 }
 
 -- one place is left
-pub halved_gap_after : (ps : List Place) (rank base size : ℕ) → IsRising ps → size ≤ 1 → rank_at ps base < rank → IsHalved ps rank base size → IsGapFor ps rank (base + 1)
+pub halved_gap_after : (ps : List IndexPlace) (rank base size : ℕ) → IsRising ps → size ≤ 1 → rank_at ps base < rank → IsHalved ps rank base size → IsGapFor ps rank (base + 1)
 halved_gap_after ps rank base size rising last low h = record {
   within = let w = h.within in let s = h.some in omega arith;
   before = λ j lt. let w = h.within in let s = h.some in elim (cases_lt j base) [
@@ -234,7 +234,7 @@ halved_gap_after ps rank base size rising last low h = record {
   after = λ j from to. h.after j (omega arith) to;
 }
 
-pub halved_gap_here : (ps : List Place) (rank base size : ℕ) → IsRising ps → size ≤ 1 → rank < rank_at ps base → IsHalved ps rank base size → IsGapFor ps rank base
+pub halved_gap_here : (ps : List IndexPlace) (rank base size : ℕ) → IsRising ps → size ≤ 1 → rank < rank_at ps base → IsHalved ps rank base size → IsGapFor ps rank base
 halved_gap_here ps rank base size rising last high h = record {
   within = let w = h.within in let s = h.some in omega arith;
   before = λ j lt. let f = h.first (omega arith) in absurd (omega arith);

@@ -13,7 +13,7 @@ use Rattle.gp_unit.specs.declared.row.Row.{Row}
 use Rattle.gp_unit.specs.Rows.{is_ranging}
 use Rattle.gp_unit.specs.Records.{row_of}
 use Rattle.gp_table.specs.Rows.{Operates, PopsUpOne, popped_phase, popped_row}
-use Rattle.gp_table.specs.Table.{Slots, slot_at, rows_of, key_of_onu, IsKept}
+use Rattle.gp_table.specs.Table.{Slots, slot_at, rows_of, key_of_onu, IsKeptTable}
 use Rattle.gp_table.proofs.Gets.{same_value}
 use Rattle.gp_table.proofs.Tables.{Serials, Onus, row_there, rows-replace, unique}
 use Rattle.gp_table.proofs.Kept.{indexed, kept-replace, written_over, count-written_over}
@@ -31,7 +31,7 @@ popped_operating (Ranging attempts seen) e = absurd (false≢true (sym e))
 popped_operating (Operating eqd dark garbled) e = refl
 
 module _ (slots : Slots) (capacity : ℕ) (serials : Serials) (onus : Onus) (ranging operating : num.FinSet nat_cmp) (key onu : ℕ) (unit : Record)
-    (h : IsKept slots capacity serials onus ranging operating) (at : key_of_onu onus onu ≡ Some key) (slot : slot_at slots key ≡ Some unit)
+    (h : IsKeptTable slots capacity serials onus ranging operating) (at : key_of_onu onus onu ≡ Some key) (slot : slot_at slots key ≡ Some unit)
   where
     same_unit : (h.holder onu key at).unit ≡ unit
     same_unit = same_value (h.holder onu key at).unit unit (sym (h.holder onu key at).slot ∙ slot)
@@ -45,9 +45,9 @@ module _ (slots : Slots) (capacity : ℕ) (serials : Serials) (onus : Onus) (ran
     onu_there : (h.there unit.serial key named).unit.row.onu ≡ unit.row.onu
     onu_there = ap (λ (u : Record). u.row.onu) (same_value (h.there unit.serial key named).unit unit (sym (h.there unit.serial key named).slot ∙ slot))
 
-    pub kept-pop_up : IsKept (set slots key (Some (popped unit))) capacity serials onus (num.insert ranging onu) (num.remove operating onu)
+    pub kept-pop_up : IsKeptTable (set slots key (Some (popped unit))) capacity serials onus (num.insert ranging onu) (num.remove operating onu)
     kept-pop_up =
-        subst (λ n. IsKept (set slots key (Some (popped unit))) capacity serials onus (num.insert ranging n) (num.remove operating n)) onu_of_unit
+        subst (λ n. IsKeptTable (set slots key (Some (popped unit))) capacity serials onus (num.insert ranging n) (num.remove operating n)) onu_of_unit
         (kept-replace slots (set slots key (Some (popped unit))) capacity serials onus ranging operating key (popped unit) h named onu_there
         (written_over slots key unit (popped unit) slot) (count-written_over slots key unit (popped unit) slot))
 

@@ -12,7 +12,7 @@ use Rattle.gp_unit.specs.Rows.{is_ranging, row_counted}
 use Rattle.gp_unit.specs.Records.{row_of}
 use Rattle.gp_unit.proofs.Kept.{counted_still}
 use Rattle.gp_table.specs.Rows.{HasRow}
-use Rattle.gp_table.specs.Table.{Slots, slot_at, rows_of, key_of_onu, IsKept}
+use Rattle.gp_table.specs.Table.{Slots, slot_at, rows_of, key_of_onu, IsKeptTable}
 use Rattle.gp_table.proofs.Gets.{same_value}
 use Rattle.gp_table.proofs.Tables.{Serials, Onus, IsIndexed, row_there, rows-replace, unique}
 use Rattle.gp_table.proofs.Kept.{indexed, kept-recount, written_over, count-written_over}
@@ -22,7 +22,7 @@ abbrev pub recounted : Record → PollCounts → Record
 recounted unit counts = record unit { row = row_counted unit.row counts }
 
 module _ (slots : Slots) (capacity : ℕ) (serials : Serials) (onus : Onus) (ranging operating : num.FinSet nat_cmp) (key onu : ℕ) (unit : Record) (counts : PollCounts)
-    (h : IsKept slots capacity serials onus ranging operating) (at : key_of_onu onus onu ≡ Some key) (slot : slot_at slots key ≡ Some unit)
+    (h : IsKeptTable slots capacity serials onus ranging operating) (at : key_of_onu onus onu ≡ Some key) (slot : slot_at slots key ≡ Some unit)
   where
     same_unit : (h.holder onu key at).unit ≡ unit
     same_unit = same_value (h.holder onu key at).unit unit (sym (h.holder onu key at).slot ∙ slot)
@@ -36,7 +36,7 @@ module _ (slots : Slots) (capacity : ℕ) (serials : Serials) (onus : Onus) (ran
     unit_there : (h.there unit.serial key named).unit ≡ unit
     unit_there = same_value (h.there unit.serial key named).unit unit (sym (h.there unit.serial key named).slot ∙ slot)
 
-    pub kept-set_counts : IsKept (set slots key (Some (recounted unit counts))) capacity serials onus ranging operating
+    pub kept-set_counts : IsKeptTable (set slots key (Some (recounted unit counts))) capacity serials onus ranging operating
     kept-set_counts =
         kept-recount slots (set slots key (Some (recounted unit counts))) capacity serials onus ranging operating key (recounted unit counts) h named
         (ap (λ (u : Record). u.row.onu) unit_there)

@@ -61,7 +61,7 @@ pub record IsSetOf (onus : set.FinSet nat_cmp) (rows : Rows) (ranging : Bool) : 
   pub of_set : (onu : ℕ) → IsTrue (set.contains onus onu) → IsInPhase rows ranging onu
 
 -- what every unit table keeps: the indexes name the same records, no record stands beside them, and there is room
-pub record IsKept (slots : Slots) (capacity : ℕ) (serials : map.FinMap serial_cmp ℕ) (onus : List (Option ℕ)) (ranging operating : set.FinSet nat_cmp) : Type 0 where
+pub record IsKeptTable (slots : Slots) (capacity : ℕ) (serials : map.FinMap serial_cmp ℕ) (onus : List (Option ℕ)) (ranging operating : set.FinSet nat_cmp) : Type 0 where
   pub room : onu_ids ≤ capacity
   pub counted : count_by is_some slots ≡ map.len serials
   pub places : length onus ≡ onu_ids

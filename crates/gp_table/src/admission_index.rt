@@ -10,7 +10,7 @@ use std::marker::Model;
 
 /// What the index has for an admitted serial number.
 #[derive(Clone, Copy, Drop)]
-pub struct Admission {
+pub struct AdmittedSerial {
     /// The key of the record of its unit, where it is active.
     pub key: Option<usize>,
     /// Whether the serial number is disabled.
@@ -19,23 +19,23 @@ pub struct Admission {
 
 /// An admitted serial number, and what the index has for it.
 #[derive(Clone, Copy, Drop)]
-struct Place {
+struct IndexPlace {
     /// The serial number, as the number that its eight octets make, the first octet the highest.
     rank: u64,
-    admission: Admission,
+    admission: AdmittedSerial,
 }
 
 /// The admitted serial numbers of a port, in their order, which stay the same from `begin` on; for each of them the key of
 /// its unit's record, if it is active, and whether it is disabled. Contracts see a finite map.
 #[derive(Drop)]
 pub struct AdmissionIndex {
-    places: Vec<Place>,
+    places: Vec<IndexPlace>,
 }
 
 impl Model for AdmissionIndex {
     ghost use Rattle.std.specs.FinMap as map;
     ghost use Rattle.gp_ploam.specs.Serials.{coded_serial};
-    ghost use Rattle.gp_table.specs.contracts.admission_index.Admission as admission;
+    ghost use Rattle.gp_table.specs.contracts.admission_index.AdmittedSerial as admission;
     ghost use Rattle.gp_table.specs.Index.{Admissions, IsRising, admissions_of};
 
     ghost Value = { Admissions };
@@ -63,7 +63,7 @@ fn rank_of(serial: &Serial) -> u64
 }
 
 /// Where the place with this rank is, or where it would go.
-fn search(places: &[Place], rank: u64) -> Result<usize, usize>
+fn search(places: &[IndexPlace], rank: u64) -> Result<usize, usize>
     requires { IsRising places.now }
     ensures found { IfOk result (IsPlaceOf places.now rank) }
     ensures absent { IfErr result (IsGapFor places.now rank) }
@@ -90,7 +90,7 @@ fn search(places: &[Place], rank: u64) -> Result<usize, usize>
 }
 
 /// Makes every place one that is not disabled.
-fn enable_each(places: &mut [Place])
+fn enable_each(places: &mut [IndexPlace])
     ensures { places.new ≡ list_map enabled_place places.old }
 {
     for place in places.iter_mut() {
@@ -124,18 +124,18 @@ impl AdmissionIndex {
         ensures { IfOk result (λ _. self.new ≡ admitting self.old serial.now) }
     {
         let rank = rank_of(serial);
-        let admission = Admission {
+        let admission = AdmittedSerial {
             key: None,
             disabled: false,
         };
         if let Err(at) = search(self.places.as_slice(), rank) {
-            self.places.insert(at, Place { rank, admission })?;
+            self.places.insert(at, IndexPlace { rank, admission })?;
         }
         Ok(())
     }
 
     /// What the index has for a serial number; None where it isn't admitted.
-    pub fn get(&self, serial: &Serial) -> Option<Admission>
+    pub fn get(&self, serial: &Serial) -> Option<AdmittedSerial>
         ensures { result ≡ map.get self.now serial.now }
     {
         let places = self.places.as_slice();

@@ -51,7 +51,7 @@ impl Model for UnitTable {
     ghost use Rattle.gp_ploam.specs.Serials.{serial_cmp, coded_serial};
     ghost use Rattle.gp_unit.specs.contracts.row.Row as row;
     ghost use Rattle.gp_table.specs.Index.{keys_of};
-    ghost use Rattle.gp_table.specs.Table.{IsKept, units_of};
+    ghost use Rattle.gp_table.specs.Table.{IsKeptTable, units_of};
     ghost use Rattle.gp_table.specs.Units.{Units};
 
     ghost Value = { Units };
@@ -60,7 +60,7 @@ impl Model for UnitTable {
 
     ghost view = { λ t. units_of t.records.slots t.admissions };
 
-    ghost invariant = { λ t. IsKept t.records.slots t.records.capacity (keys_of t.admissions) t.onus.items t.ranging t.operating };
+    ghost invariant = { λ t. IsKeptTable t.records.slots t.records.capacity (keys_of t.admissions) t.onus.items t.ranging t.operating };
 }
 
 /// The row in the record with this key, if there is a key.

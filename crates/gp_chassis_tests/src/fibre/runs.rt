@@ -21,6 +21,10 @@ pub(super) enum Run {
     LostBursts,
     /// A burst whose round trip has more than a frame comes a frame later.
     DistantUnit,
+    /// A burst whose round trip has a bit time less than a frame comes in the frame of its grant, and one with a whole
+    /// frame in the next.
+    UnderAFrame,
+    WholeFrame,
     /// Both answer each grant; the second is heard where the first was, or when its window is closed.
     OneSerialNumberTwice,
     /// A unit that is not admitted is refused beside one that is found.
@@ -63,6 +67,18 @@ pub(super) const NEAR: UnitPlan = UnitPlan {
 const FAR: UnitPlan = UnitPlan {
     serial: A,
     delay: 200_000,
+    random: 0,
+};
+
+const UNDER_A_FRAME: UnitPlan = UnitPlan {
+    serial: A,
+    delay: 155_519,
+    random: 0,
+};
+
+const WHOLE_FRAME: UnitPlan = UnitPlan {
+    serial: A,
+    delay: 155_520,
     random: 0,
 };
 
@@ -140,10 +156,20 @@ pub(super) const POPUP_AND_TIMERS: [Plan; 4] = [
     },
 ];
 
-pub(super) const UNITS_AND_STEPS: [Plan; 7] = [
+pub(super) const UNITS_AND_STEPS: [Plan; 9] = [
     Plan {
         run: Run::DistantUnit,
         units: [FAR, FAR],
+        ..NO_LOSS
+    },
+    Plan {
+        run: Run::UnderAFrame,
+        units: [UNDER_A_FRAME, UNDER_A_FRAME],
+        ..NO_LOSS
+    },
+    Plan {
+        run: Run::WholeFrame,
+        units: [WHOLE_FRAME, WHOLE_FRAME],
         ..NO_LOSS
     },
     Plan {
@@ -212,13 +238,17 @@ const BYTES: Act = Act::Step(WorldStep::Bytes {
 const A_FRAME_OF_A_RUN: Act = Act::Run(1);
 
 /// What is done in each run, in this order.
-pub(super) const ACTS: [(Run, Act); 51] = [
+pub(super) const ACTS: [(Run, Act); 55] = [
     (Run::LostCopies, SEARCH),
     (Run::LostCopies, Act::Run(13)),
     (Run::LostBursts, SEARCH),
     (Run::LostBursts, Act::Run(13)),
     (Run::DistantUnit, SEARCH),
     (Run::DistantUnit, Act::Run(11)),
+    (Run::UnderAFrame, SEARCH),
+    (Run::UnderAFrame, Act::Run(5)),
+    (Run::WholeFrame, SEARCH),
+    (Run::WholeFrame, Act::Run(6)),
     (Run::OneSerialNumberTwice, SEARCH),
     (Run::OneSerialNumberTwice, Act::Run(14)),
     (Run::NotAdmitted, SEARCH),
@@ -328,7 +358,7 @@ const FAR_RANGED: Told = Told::Replied(Reply::Ranged {
 });
 
 /// What the entries of each run have, by their places.
-pub(super) const TOLD: [(Run, usize, Told); 52] = [
+pub(super) const TOLD: [(Run, usize, Told); 59] = [
     (Run::LostCopies, 6, FOUND),
     (Run::LostCopies, 10, SEARCHES),
     (Run::LostCopies, 11, Told::Replied(Reply::Again(0))),
@@ -344,6 +374,13 @@ pub(super) const TOLD: [(Run, usize, Told); 52] = [
     (Run::DistantUnit, 11, RANGES),
     (Run::DistantUnit, 13, FAR_RANGED),
     (Run::DistantUnit, 14, Told::Ended),
+    (Run::UnderAFrame, 5, SEARCHES),
+    (Run::UnderAFrame, 6, FOUND),
+    (Run::UnderAFrame, 7, Told::Ended),
+    (Run::WholeFrame, 5, SEARCHES),
+    (Run::WholeFrame, 6, Told::Replied(Reply::Ticked)),
+    (Run::WholeFrame, 7, FOUND),
+    (Run::WholeFrame, 8, Told::Ended),
     (Run::OneSerialNumberTwice, 6, FOUND),
     (Run::OneSerialNumberTwice, 8, REPEATS),
     (Run::OneSerialNumberTwice, 11, RANGES),

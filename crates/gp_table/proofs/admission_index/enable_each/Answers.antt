@@ -1,7 +1,7 @@
 use Rattle.std.proofs.Common.{◌≡◌, ◌<◌, ◌≢◌, length, refl, sym, ◌∙◌, arith, get_or, get_or-set_other, get_or-set_same, below_more}
 use Rattle.std.proofs.Math.ListN.{set}
 use Rattle.std.proofs.Math.Seq.{map-set_same}
-use Rattle.gp_table.specs.declared.admission_index.Place.{Place}
+use Rattle.gp_table.specs.declared.admission_index.IndexPlace.{IndexPlace}
 use Rattle.gp_table.specs.Index.{blank_place, enabled_place}
 use Rattle.gp_table.proofs.Places.{all_enabled}
 use Rattle.gp_table.proofs.admission_index.enable_each.Goals as goal
@@ -10,7 +10,7 @@ pub loop-place-preserved : goal.loop-place-preserved
 loop-place-preserved c =
     let ps = c.loop-place.places in
     let i = c.loop-place.place-index in
-    let new : Place = enabled_place (get_or ps i blank_place) in
+    let new : IndexPlace = enabled_place (get_or ps i blank_place) in
     let within : i < length ps = omega arith in
     record {
       same = map-set_same enabled_place ps i new blank_place refl ∙ c.loop-place.invariant.same;

@@ -1,6 +1,6 @@
 use Rattle.std.proofs.Common.{None, sym, ap, ◌∙◌}
 use Rattle.std.proofs.lemmas.List.{get_or_default}
-use Rattle.gp_table.specs.declared.admission_index.Place.{Place}
+use Rattle.gp_table.specs.declared.admission_index.IndexPlace.{IndexPlace}
 use Rattle.gp_table.specs.Index.{IsPlaceOf, blank_place, key_in, with_key}
 use Rattle.gp_table.proofs.Admissions.{changed_absent}
 use Rattle.gp_table.proofs.Places.{changed_found, found_admission, found_none}
@@ -11,7 +11,7 @@ returns-in-Ok-clause-key c =
     let at : IsPlaceOf c.self.inside.places.items c.rank_of.result c.in-Ok.at = rw c.as_slice.ensures.value at c.in-Ok.ensures.found in
     let read = c.index.ensures ∙ get_or_default c.self.inside.places.items c.in-Ok.at c.index.result.now blank_place at.within in
     rw (← c.self.view_is, ← c.rank_of.ensures.serial)
-    (ap (λ (p : Place). p.admission.key) read ∙ sym (ap key_in (found_admission c.self.inside.places.items c.rank_of.result c.in-Ok.at c.self.invariant at)))
+    (ap (λ (p : IndexPlace). p.admission.key) read ∙ sym (ap key_in (found_admission c.self.inside.places.items c.rank_of.result c.in-Ok.at c.self.invariant at)))
 
 pub returns-in-Ok-clause-rest : goal.returns-in-Ok-clause-rest
 returns-in-Ok-clause-rest c =
