@@ -1,6 +1,6 @@
 //! The activation machine of one port after G.984.3, clause 10: its plain types in `src/`, its states, steps
-//! and runs in `specs/`, and those laws of single steps that the code of a port needs (`one_step`), and of `==` (`config`, `equal_replies`). The other
-//! laws, and those of whole runs, stand in `gp_laws`.
+//! and runs in `specs/`, and those laws of single steps that the code of a port needs (`one_step`), of `==` (`config`,
+//! `equal_replies`) and of the limits (`config`). The other laws, and those of whole runs, stand in `gp_laws`.
 //!
 //! Where to make which change, in `specs/`:
 //! - limits of a configuration, of how many ports there may be and of what their journals keep: `Config`; a refusal's number and name: `Refusals`, and `src/refusal.rt`.
@@ -25,7 +25,7 @@ pub use admitted::{Admitted, is_among};
 pub use answer::Answer;
 pub use config::{
     MAX_CYCLES, MAX_JOURNAL_LIMIT, MAX_PORTS, MAX_SEARCH_PERIOD, MAX_UNITS, PortConfig,
-    compares_configs,
+    compares_configs, configs_are_limited,
 };
 pub use entry::{Entry, Receipt};
 pub use equal_replies::compares_replies;

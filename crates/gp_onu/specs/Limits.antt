@@ -1,5 +1,5 @@
--- How many simulated units there may be, how late each may answer, and how long a frame is (the frame is G.984.3's, clause 8,
--- the random delay its clause 9; the rest is this profile's own rule).
+-- How many simulated units there may be, how late each may answer, and how long a frame is (the frame is G.984.3's,
+-- clause 8, the random delay its clause 9; the rest is this profile's own rule).
 use Rattle.std.specs.Prelude.{ℕ}
 
 -- the bit times of a frame of 125 microseconds upstream, at 1.24416 Gbit/s

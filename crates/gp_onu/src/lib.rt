@@ -6,8 +6,8 @@
 //!   `specs/Frames.antt` has many frames, the count to the end of a state, and the limits that every unit keeps.
 //! - `laws.rt`: the laws that a code heard twice is as one heard once, and that a unit has only what it heard (`specs/Told.antt`).
 //! - `specs/Noticing.antt`: which messages and grants a unit surely passes over.
-//! - `limits.rt`, `specs/Limits.antt`: how many simulated units there may be, and how late each may answer; `gp_fibre` and
-//!   `gp_script` hold them to it.
+//! - `limits.rt`, `specs/Limits.antt`: how many simulated units there may be, and how late each may answer; `gp_fibre`
+//!   and `gp_script` hold them to it.
 //!
 //! A new rule is a line of `unit_table` and a method; another limit is a constant of `limits.rt` and a number of
 //! `specs/Limits.antt`.

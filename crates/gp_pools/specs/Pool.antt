@@ -92,11 +92,13 @@ pub record IsKeptPool (pool : Pool) (out end : ℕ) : Type 0 where
 
 -- the pool with these leased numbers settled: exactly these are leased no more, and are settled
 abbrev pub pool_with_all_settled : Pool → set.FinSet nat_cmp → Pool
-pool_with_all_settled pool numbers = record pool { leased = set.difference pool.leased numbers; settled = set.union pool.settled numbers }
+pool_with_all_settled pool numbers =
+    record pool { leased = set.difference pool.leased numbers; settled = set.union pool.settled numbers }
 
 -- the pool with these settled numbers leased again: exactly these are settled no more, and are leased
 abbrev pub pool_with_all_leased_again : Pool → set.FinSet nat_cmp → Pool
-pool_with_all_leased_again pool numbers = record pool { leased = set.union pool.leased numbers; settled = set.difference pool.settled numbers }
+pool_with_all_leased_again pool numbers =
+    record pool { leased = set.union pool.leased numbers; settled = set.difference pool.settled numbers }
 
 -- the pool with these leased numbers given back: exactly these are out no more
 abbrev pub pool_without_all : Pool → set.FinSet nat_cmp → Pool

@@ -182,7 +182,8 @@ impl<const FIRST: u16, const WORDS: usize> NumberPool<FIRST, WORDS> {
         requires settled { EachIndex (filled slots.now) (λ k. IsSettled self.old (number_at (filled slots.now) k)) }
         ensures pool { self.new ≡ pool_with_all_leased_again self.old (numbers_in slots.now) }
         ensures leased { EachIndex (filled slots.now) (λ k. IsLeased self.new (number_at (filled slots.now) k)) }
-        ensures own { EachIndex (filled slots.now) (λ k. (self.old.first ≤ number_at (filled slots.now) k) × (number_at (filled slots.now) k ≤ self.old.last)) }
+        ensures own { EachIndex (filled slots.now) (λ k.
+            (self.old.first ≤ number_at (filled slots.now) k) × (number_at (filled slots.now) k ≤ self.old.last)) }
     {
         for slot in slots {
             let Some((number, _)) = slot else {
