@@ -1,5 +1,5 @@
 -- A chassis on one thread: what each call leaves of it.
-use Rattle.std.proofs.Common.{◌≡◌, ◌<◌, ◌≤◌, ◌+◌, ◌-◌, ◌==◌, ◌&&◌, ℕ, Bool, true, false, List, [], ◌∷◌, length, map, set, get_or, refl, sym, ap, subst, ◌∙◌, arith, length-set, IsTrue}
+use Rattle.std.proofs.Common.{◌≡◌, ◌<◌, ◌≤◌, ◌+◌, ◌-◌, ◌==◌, ◌&&◌, ℕ, Bool, true, false, List, [], ◌∷◌, length, map, replicate, set, get_or, refl, sym, ap, subst, ◌∙◌, arith, length-set, IsTrue}
 use Rattle.std.specs.Prelude.{Option, Some, slice_get, slice_set, slice_index, sum_by, All, if◌then◌else◌, nat_lt, option_map, ◌↔◌}
 use Rattle.std.specs.FinMap.{len-empty}
 use Rattle.std.proofs.lemmas.List.{map-set, set-set, set-get_or, length-replicate}
@@ -26,7 +26,7 @@ use Rattle.gp_laws.proofs.WholeRuns.{every_state}
 use Rattle.gp_journal.specs.declared.piece.Piece.{Piece}
 use Rattle.gp_journal.proofs.Runs.{Replays-opened}
 use Rattle.gp_chassis.specs.Desk.{DeskState, DeskStands, HasRoom, opened, Serves, Cuts}
-use Rattle.gp_chassis.specs.World.{ChassisWorld, Port, PortMoves, hand, taken, given, ChassisStep, ChassisRun, IsBalanced, HoldsApart, units_of}
+use Rattle.gp_chassis.specs.World.{ChassisWorld, Port, PortMoves, hand, taken, given, ChassisStep, ChassisRun, IsBalanced, HoldsApart, units_of, world_opened}
 use Rattle.gp_chassis.specs.Core.{CoreState, Stands, CoreServes, CoreCuts, CoreApplies, GrantsFrom, GrantsTurn, world_of, with_licences, lent, moves_of, core_opened, IsFullAt, JoinsAt}
 use Rattle.gp_chassis.proofs.Worlds.{move_keeps, taken_ports, set_same, apart_reached}
 
@@ -125,15 +125,22 @@ full_core s p q d b l is at tells =
 
 -- ---- a journal is cut
 
-pub cut_stands : (old new : CoreState) (p : ℕ) (piece : Piece) → Stands old → CoreCuts old new p piece → Stands new
-cut_stands old new p piece s h =
+-- no port moves
+pub cut_world : (old new : CoreState) (p : ℕ) (piece : Piece) → CoreCuts old new p piece → world_of new ≡ world_of old
+cut_world old new p piece h =
     let f : DeskState → PortState = λ d. d.state in
     let ports : map f (set old.desks p h.next) ≡ map f old.desks =
     map-set f old.desks p h.next ∙ ap (λ (d : DeskState). set (map f old.desks) p d.state) h.cuts.desk
     ∙ sym (map-set f old.desks p h.desk) ∙ ap (map f) (set_back old.desks p h.desk h.is) in
+    ap world_of h.core ∙ ap (λ (xs : List PortState). record { ports = xs; free = old.free; hands = old.hands }) ports
+
+pub cut_stands : (old new : CoreState) (p : ℕ) (piece : Piece) → Stands old → CoreCuts old new p piece → Stands new
+cut_stands old new p piece s h =
+    let cut : CoreState = record old { desks = set old.desks p h.next } in
+    let world : world_of cut ≡ world_of old = ap world_of (sym h.core) ∙ cut_world old new p piece h in
     subst Stands (sym h.core) (record {
       desks = All-set DeskStands old.desks p h.next h.cuts.stands s.desks;
-      balance = subst (λ (xs : List PortState). IsBalanced old.licences (record { ports = xs; free = old.free; hands = old.hands })) (sym ports) s.balance;
+      balance = subst (λ (w : ChassisWorld). IsBalanced old.licences w) (sym world) s.balance;
       hands_are = s.hands_are;
     })
 
@@ -168,6 +175,14 @@ cut_joins old new p piece h =
 
 opened_desks : (limit : ℕ) (cs : List PortConfig) → All (λ (c : PortConfig). IsTrue (is_within_limits c)) cs → All DeskStands (map (opened limit) cs)
 opened_desks limit cs h = All-map DeskStands (opened limit) cs (λ k d l. record { replays = Replays-opened (get_or cs k d) (h k d l); reached = ([], refl) })
+
+opened_ports : (limit : ℕ) (cs : List PortConfig) → map (λ (d : DeskState). d.state) (map (opened limit) cs) ≡ map opening_of cs
+opened_ports limit [] = refl
+opened_ports limit (c ∷ cs) = ap (λ (ports : List PortState). opening_of c ∷ ports) (opened_ports limit cs)
+
+-- its world is the one that is opened
+pub opened_world : (cs : List PortConfig) (licences limit : ℕ) → world_of (core_opened cs licences limit) ≡ world_opened cs licences
+opened_world cs licences limit = ap (λ (ports : List PortState). record { ports = ports; free = licences; hands = replicate 64 0 }) (opened_ports limit cs)
 
 opened_units : (limit : ℕ) (cs : List PortConfig) → sum_by rows_of (map (λ (d : DeskState). d.state) (map (opened limit) cs)) ≡ 0
 opened_units limit [] = refl

@@ -1,7 +1,6 @@
 -- A desk that serves one event more.
 use Rattle.std.proofs.Common.{◌≡◌, ◌≤◌, ◌+◌, ℕ, List, [], ◌∷◌, ◌++◌, length, sym, ap, subst, ◌∙◌, length-append}
 use Rattle.std.specs.Prelude.{Option}
-use Rattle.gp_licence.specs.declared.ledger_parts.TheConstants.{MAX_LICENCES}
 use Rattle.gp_machine.specs.declared.config.PortConfig.{PortConfig}
 use Rattle.gp_machine.specs.declared.answer.Answer.{Answer}
 use Rattle.gp_machine.specs.declared.event.Event.{Event}
@@ -31,11 +30,11 @@ wish_counted purse rest left p next event wished answer r grants =
     subst (λ (n : ℕ). GrantsWish purse p event wished (record { answer = answer; purse = n; state = next })) (sym r) grants
 
 -- what holds of a desk holds of it after a step more
-pub stepped_desk : (d : DeskState) (e : Entry) (next : PortState) → DeskStands d → e.purse_in ≤ MAX_LICENCES → IsStep d.state e next → DeskStands (desk_after d e next)
-stepped_desk d e next h few step =
+pub stepped_desk : (d : DeskState) (e : Entry) (next : PortState) → DeskStands d → IsStep d.state e next → DeskStands (desk_after d e next)
+stepped_desk d e next h step =
     let config : next.config ≡ d.state.config = step_config d.state next e step in
     let c : PortConfig = d.state.config in
-    let replays : Replays c d.base (d.entries ++ e ∷ []) next = Replays-push c d.base d.state next d.entries e h.replays few step in
+    let replays : Replays c d.base (d.entries ++ e ∷ []) next = Replays-push c d.base d.state next d.entries e h.replays step in
     let reached : IsReached c next = (h.reached.0 ++ e ∷ [], Run-push (opening_of c) d.state next h.reached.0 e h.reached.1 step) in
     record {
       replays = subst (λ (x : PortConfig). Replays x d.base (d.entries ++ e ∷ []) next) (sym config) replays;

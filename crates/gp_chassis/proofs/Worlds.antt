@@ -2,17 +2,15 @@
 use Rattle.std.proofs.Common.{◌≡◌, ◌≢◌, ◌<◌, ◌≤◌, ◌+◌, ◌-◌, ◌==◌, ◌&&◌, ℕ, Bool, true, false, List, [], ◌∷◌, length, map, get_or, set, refl, sym, ap, subst, ◌∙◌, arith, inl, inr, length-set}
 use Rattle.std.specs.Prelude.{Option, Some, All, slice_get, slice_set, sum_by, if◌then◌else◌, nat_lt, option_map}
 use Rattle.std.proofs.lemmas.List.{length-map, get_or-set_same, get_or-set_other}
-use Rattle.std.proofs.lemmas.List.Sums.{sum_by-cons, sum_by-set, get_or-le-sum_by}
+use Rattle.std.proofs.lemmas.List.Sums.{sum_by-cons, sum_by-set}
 use Rattle.std.proofs.lemmas.List.Folds.{sum_by-replicate}
-use Rattle.std.proofs.lemmas.List.Elements.{All-set, All-map, All-append, All-push}
+use Rattle.std.proofs.lemmas.List.Elements.{All-set, All-map}
 use Rattle.std.proofs.lemmas.Option.{slice_get-map, slice_get-get_or, slice_get_within, slice_get_past, get_or_from_slice_get}
 use Rattle.std.proofs.lemmas.Bool.{cases_lt}
 use Rattle.std.proofs.lemmas.Bool.Decides.{nat_tests, eqb_tells}
 use Rattle.std.specs.FinMap.{len-empty}
 use Rattle.gp_ploam.specs.Serials.{serial_cmp}
 use Rattle.gp_unit.specs.declared.row.Row.{Row}
-use Rattle.gp_licence.specs.declared.ledger_parts.TheConstants.{MAX_LICENCES}
-use Rattle.gp_journal.specs.Replays.{IsWithinBook}
 use Rattle.gp_machine.specs.Config.{is_within_limits}
 use Rattle.gp_machine.specs.declared.config.PortConfig.{PortConfig}
 use Rattle.gp_machine.specs.declared.entry.Entry.{Entry}
@@ -201,37 +199,14 @@ opened_balance cs licences =
 opened_at : (cs : List PortConfig) (port : ℕ) (c : PortConfig) → slice_get cs port ≡ Some c → slice_get (map opening_of cs) port ≡ Some (opening_of c)
 opened_at cs port c is = slice_get-map opening_of cs port ∙ ap (option_map opening_of) is
 
-All-one : {X : Type 0} (P : X → Type 0) (x : X) → P x → All P (x ∷ [])
-All-one P x h = All-push P [] x (λ k d l. absurd (omega (arith, l))) h
-
--- what an actor has in hand is at most all licences
-hand_within : (licences a : ℕ) (w : ChassisWorld) → a < length w.hands → IsBalanced licences w → hand w a ≤ licences
-hand_within licences a w l h = let held = get_or-le-sum_by (λ (n : ℕ). n) w.hands a 0 l in omega (arith, held, h)
-
-move_within : (port licences : ℕ) (m : Move) (w v : ChassisWorld) → licences ≤ MAX_LICENCES → IsBalanced licences w → ChassisStep m w v → All IsWithinBook (entry_of port m)
-move_within port licences (Take a) w v few h s = λ k d l. absurd (omega (arith, l))
-move_within port licences (Give a) w v few h s = λ k d l. absurd (omega (arith, l))
-move_within port licences (Port a at e) w v few h s =
-    let held = hand_within licences a w s.0 h in
-    let purse = s.1.purse in
-    let low : e.purse_in ≤ MAX_LICENCES = omega (arith, held, purse, few) in
-    elim (at == port) as (λ (t : Bool). All IsWithinBook (if t then e ∷ [] else [])) [ true ↦ All-one IsWithinBook e low | false ↦ λ k d l. absurd (omega (arith, l)) ]
-
-purses_within : (port licences : ℕ) (ms : List Move) (w v : ChassisWorld) → licences ≤ MAX_LICENCES → All IsSound w.ports → IsBalanced licences w → ChassisRun ms w v → All IsWithinBook (entries_of port ms)
-purses_within port licences [] w v few sound h run = λ k d l. absurd (omega (arith, l))
-purses_within port licences (m ∷ ms) w v few sound h run =
-    All-append IsWithinBook (entry_of port m) (entries_of port ms) (move_within port licences m w run.0 few h run.1)
-    (purses_within port licences ms run.0 v few (move_sound m w run.0 sound run.1) (move_keeps licences m w run.0 sound run.1 h) run.2)
-
 pub every_run_holds : EveryRunHolds
-every_run_holds cs licences ms v within few run =
+every_run_holds cs licences ms v within run =
     let w : ChassisWorld = world_opened cs licences in
     let balance : IsBalanced licences v = balance_lasts licences ms w v (opened_sound cs) (opened_balance cs licences) run in
     record {
       replay = λ port c q is stands. record {
         within = subst (λ (x : PortConfig). is_within_limits x ≡ true) (get_or_from_slice_get cs port c c is) (within port c (slice_get_within cs port c is));
         configured = refl;
-        purses = purses_within port licences ms w v few (opened_sound cs) (opened_balance cs licences) run;
         run = ports_replay ms w v port (opening_of c) q run (opened_at cs port c is) stands;
       };
       apart = λ port d l. apart_at port d l;

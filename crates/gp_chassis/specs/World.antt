@@ -8,7 +8,6 @@ use Rattle.gp_machine.specs.State.{PortState, opening_of, rows_of}
 use Rattle.gp_machine.specs.Sound.{IsSound}
 use Rattle.gp_machine.specs.Run.{IsStep, Run}
 use Rattle.gp_machine.specs.Config.{is_within_limits}
-use Rattle.gp_licence.specs.Limits.{max_licences}
 use Rattle.gp_journal.specs.Replays.{Replays}
 use Rattle.gp_laws.specs.Numbers.{HasOnuId, HasAllocId}
 
@@ -139,6 +138,5 @@ abbrev pub EveryRunHolds : Type 0
 EveryRunHolds =
     (configs : List PortConfig) (licences : ℕ) (moves : List Move) (after : ChassisWorld)
     → All (λ config. is_within_limits config ≡ true) configs
-    → licences ≤ max_licences
     → ChassisRun moves (world_opened configs licences) after
     → HoldsInEveryRun configs licences moves after

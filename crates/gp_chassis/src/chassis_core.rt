@@ -3,7 +3,7 @@ ghost use Rattle.std.specs.Option.{ForSome};
 ghost use Rattle.gp_ploam.specs.Down.{IsProperDown};
 ghost use Rattle.gp_chassis.specs.Desk.{opened};
 ghost use Rattle.gp_chassis.specs.Limits.{IsWithin};
-ghost use Rattle.gp_chassis.specs.World.{Take, Port, Give, ChassisStep, ChassisRun, HoldsApart, hand, taken, given, units_of, actors};
+ghost use Rattle.gp_chassis.specs.World.{Take, Port, Give, ChassisStep, ChassisRun, HoldsApart, hand, taken, given, units_of, actors, world_opened};
 ghost use Rattle.gp_chassis.specs.Core.{Stands, CoreServes, CoreCuts, CoreApplies, JoinsAt, IsBurst, world_of, core_opened, with_licences, lent, IsFullAt, moves_of, GrantsFrom, GrantsTurn};
 
 use crate::config::ChassisConfig;
@@ -62,6 +62,7 @@ impl<L: Ledger> ChassisCore<L> {
         requires name { blank.name ≡ L.name }
         requires parts { (blank.parts ≡ L.parts) × (L.parts ≡ MAX_LICENCES) }
         ensures ok { IfOk result (λ core. core ≡ core_opened config.now.ports.items config.now.licences config.now.journal_limit) }
+        ensures world { IfOk result (λ core. world_of core ≡ world_opened config.now.ports.items config.now.licences) }
         ensures limit { IsWithin config.now → result ≡ Err OpenFault.Limit → ⊥ }
         ensures outside { (IsWithin config.now → ⊥) → result ≡ Err OpenFault.Limit }
     {
@@ -89,6 +90,7 @@ impl<L: Ledger> ChassisCore<L> {
         ensures apart { All HoldsApart (world_of self.now).ports }
         ensures few { units_of (world_of self.now) ≤ self.now.licences }
     {
+        // The invariant is known once a field is looked at.
         let _ = &self.book;
     }
 
@@ -226,6 +228,7 @@ impl<L: Ledger> ChassisCore<L> {
     pub fn cut(&mut self, alloc: Global, port: u8) -> Result<Piece, CoreFault>
         ensures ok { IfOk result (λ piece. CoreCuts self.old self.new port piece) }
         ensures joins { IfOk result (λ piece. JoinsAt self.new port piece) }
+        ensures world { world_of self.new ≡ world_of self.old }
         ensures err { OnErr result (self.new ≡ self.old) }
         ensures no_port { (result ≡ Err CoreFault.NoPort) ↔ (length self.old.desks ≤ port) }
         ensures only { IfErr result (λ fault. (fault ≡ CoreFault.NoActor → ⊥) × (fault ≡ CoreFault.JournalFull → ⊥)) }

@@ -1,15 +1,13 @@
 -- Runs made longer, and what entries tell of a port that was followed through them.
 use Rattle.std.proofs.Common.{◌≡◌, ◌+◌, ◌<◌, ◌≤◌, ℕ, List, [], ◌∷◌, ◌++◌, length, take, drop, get_or, true, refl, sym, ap, ◌∙◌, subst, arith}
 use Rattle.std.proofs.lemmas.List.{take_more, take-append-drop}
-use Rattle.std.proofs.lemmas.List.Elements.{All-append, All-push, All-more}
-use Rattle.std.specs.Prelude.{Option, None, Some, All}
-use Rattle.gp_licence.specs.declared.ledger_parts.TheConstants.{MAX_LICENCES}
+use Rattle.std.specs.Prelude.{Option, None, Some}
 use Rattle.gp_machine.specs.declared.config.PortConfig.{PortConfig}
 use Rattle.gp_machine.specs.declared.entry.Entry.{Entry}
 use Rattle.gp_machine.specs.Config.{is_within_limits}
 use Rattle.gp_machine.specs.State.{PortState, opening_of}
 use Rattle.gp_machine.specs.Run.{IsStep, Run}
-use Rattle.gp_journal.specs.Replays.{IsWithinBook, LeadsTo, Replays, start_of}
+use Rattle.gp_journal.specs.Replays.{LeadsTo, Replays, start_of}
 use Rattle.gp_journal.proofs.Configs.{run_config}
 
 -- ---- runs
@@ -71,21 +69,11 @@ LeadsTo-stops first mid last entries i entry l is h refuted run =
     let parts = Run-split first prefix.0 (take i entries) (entry ∷ []) more in
     refuted parts.2.0 (subst (λ (port : PortState). IsStep port entry parts.2.0) (h.alone parts.0 parts.1) parts.2.1)
 
--- no more licences than a book can have are those of one entry more
-pub purses_more : (entries : List Entry) (i : ℕ) (entry : Entry) → i < length entries → entry ≡ get_or entries i entry → All IsWithinBook (take i entries) → entry.purse_in ≤ MAX_LICENCES → All IsWithinBook (take (i + 1) entries)
-purses_more entries i entry l is h few = All-more IsWithinBook entries i entry l h (subst IsWithinBook is few)
-
--- nor are those of an entry that has more
-pub purses_stop : (entries : List Entry) (i : ℕ) (entry : Entry) → i < length entries → entry ≡ get_or entries i entry → MAX_LICENCES < entry.purse_in → All IsWithinBook entries → ⊥
-purses_stop entries i entry l is many all =
-    let few : IsWithinBook entry = subst IsWithinBook (sym is) (all i entry l) in
-    omega (arith, few, many)
-
 -- ---- what a journal tells
 
 -- a journal of no entries
 pub Replays-none : (config : PortConfig) (base : Option PortState) → is_within_limits config ≡ true → (start_of config base).config ≡ config → Replays config base [] (start_of config base)
-Replays-none config base within configured = record { within = within; configured = configured; purses = λ k d l. absurd (omega (arith, l)); run = refl }
+Replays-none config base within configured = record { within = within; configured = configured; run = refl }
 
 -- that of a port that was just opened
 pub Replays-opened : (config : PortConfig) → is_within_limits config ≡ true → Replays config None [] (opening_of config)
@@ -104,25 +92,23 @@ pub Replays-append : (config : PortConfig) (base : Option PortState) (mid last :
 Replays-append config base mid last xs ys h k = record {
   within = h.within;
   configured = h.configured;
-  purses = All-append IsWithinBook xs ys h.purses k.purses;
   run = Run-append (start_of config base) mid last xs ys h.run k.run;
 }
 
 -- an entry more
-pub Replays-push : (config : PortConfig) (base : Option PortState) (mid last : PortState) (entries : List Entry) (entry : Entry) → Replays config base entries mid → entry.purse_in ≤ MAX_LICENCES → IsStep mid entry last
+pub Replays-push : (config : PortConfig) (base : Option PortState) (mid last : PortState) (entries : List Entry) (entry : Entry) → Replays config base entries mid → IsStep mid entry last
     → Replays config base (entries ++ entry ∷ []) last
-Replays-push config base mid last entries entry h purse step = record {
+Replays-push config base mid last entries entry h step = record {
   within = h.within;
   configured = h.configured;
-  purses = All-push IsWithinBook entries entry h.purses purse;
   run = Run-push (start_of config base) mid last entries entry h.run step;
 }
 
 -- a port that was followed through the entries stands where they lead, and where they lead there it stands
 pub Replays-followed : (config : PortConfig) (base : Option PortState) (entries : List Entry) (followed last : PortState)
-    → is_within_limits config ≡ true → (start_of config base).config ≡ config → All IsWithinBook entries → LeadsTo (start_of config base) entries followed
+    → is_within_limits config ≡ true → (start_of config base).config ≡ config → LeadsTo (start_of config base) entries followed
     → (followed ≡ last → Replays config base entries last) × (Replays config base entries last → followed ≡ last)
-Replays-followed config base entries followed last within configured purses leads = (
-  λ same. record { within = within; configured = configured; purses = purses; run = subst (λ (port : PortState). Run (start_of config base) entries port) same leads.run },
+Replays-followed config base entries followed last within configured leads = (
+  λ same. record { within = within; configured = configured; run = subst (λ (port : PortState). Run (start_of config base) entries port) same leads.run },
   λ h. sym (leads.alone last h.run),
 )

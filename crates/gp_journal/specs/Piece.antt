@@ -20,11 +20,21 @@ pub record Joins (piece : Piece) (first : ℕ) (from : PortState) : Type 0 where
 abbrev pub IsRunOfPiece : PortConfig → Piece → Type 0
 IsRunOfPiece config piece = Replays config piece.from piece.entries piece.to
 
--- the pieces follow one another, from the first number and base to the last ones
-abbrev pub JoinUp : ℕ → Option PortState → List Piece → ℕ → Option PortState → Type 0
-JoinUp first base [] last end = (first ≡ last) × (base ≡ end)
-JoinUp first base (piece ∷ pieces) last end =
-    (piece.first ≡ first) × (piece.from ≡ base) × JoinUp (piece.first + length piece.entries) (Some piece.to) pieces last end
+-- what begins with this number and after this state follows the piece; what begins at the opening of a port follows none
+abbrev pub Follows : Piece → ℕ → Option PortState → Type 0
+Follows piece first None = ⊥
+Follows piece first (Some from) = Joins piece first from
+
+-- each of the pieces follows the one before it, and what begins with this number and after this state the last one
+abbrev pub FollowOn : Piece → List Piece → ℕ → Option PortState → Type 0
+FollowOn piece [] first from = Follows piece first from
+FollowOn piece (next ∷ pieces) first from = Follows piece next.first next.from × FollowOn next pieces first from
+
+-- the first piece begins at the opening of a port, each of the others follows the one before it, and what begins with this number
+-- and after this state the last one; where there are no pieces it begins at the opening itself
+abbrev pub JoinUp : List Piece → ℕ → Option PortState → Type 0
+JoinUp [] first from = (first ≡ 0) × (from ≡ None)
+JoinUp (piece ∷ pieces) first from = (piece.first ≡ 0) × (piece.from ≡ None) × FollowOn piece pieces first from
 
 -- each piece is a run of this configuration
 abbrev pub AreRunsOfPieces : PortConfig → List Piece → Type 0
@@ -41,5 +51,5 @@ all_entries (piece ∷ pieces) = piece.entries ++ all_entries pieces
 abbrev pub PiecesAreOneRun : Type 0
 PiecesAreOneRun =
     (config : PortConfig) (pieces : List Piece) (first : ℕ) (base : Option PortState) (entries : List Entry) (last : PortState)
-    → JoinUp 0 None pieces first base → AreRunsOfPieces config pieces → Replays config base entries last
+    → JoinUp pieces first base → AreRunsOfPieces config pieces → Replays config base entries last
     → Replays config None (all_entries pieces ++ entries) last × (length (all_entries pieces) ≡ first)

@@ -1,6 +1,5 @@
 -- When entries tell how a port came to stand where it stands (this profile's own rule).
-use Rattle.std.specs.Prelude.{◌≡◌, ◌≤◌, true, List, Option, None, Some, All}
-use Rattle.gp_licence.specs.Limits.{max_licences}
+use Rattle.std.specs.Prelude.{◌≡◌, true, List, Option, None, Some}
 use Rattle.gp_machine.specs.declared.config.PortConfig.{PortConfig}
 use Rattle.gp_machine.specs.declared.entry.Entry.{Entry}
 use Rattle.gp_machine.specs.Config.{is_within_limits}
@@ -12,16 +11,11 @@ abbrev pub start_of : PortConfig → Option PortState → PortState
 start_of config None = opening_of config
 start_of config (Some base) = base
 
--- no more licences were handed in with the entry than a book can have
-abbrev pub IsWithinBook : Entry → Type 0
-IsWithinBook entry = entry.purse_in ≤ max_licences
-
--- the configuration is within its limits and is that of the state before the first entry, no entry has more licences than a
--- book can have, and the entries are a run from that state to the last
+-- the configuration is within its limits and is that of the state before the first entry, and the entries are a run from that
+-- state to the last
 pub record Replays (config : PortConfig) (base : Option PortState) (entries : List Entry) (last : PortState) : Type 0 where
   pub within : is_within_limits config ≡ true
   pub configured : (start_of config base).config ≡ config
-  pub purses : All IsWithinBook entries
   pub run : Run (start_of config base) entries last
 
 -- the entries are a run from the first state to the last, and to no other

@@ -146,6 +146,7 @@ impl Journal {
 }
 
 /// Appends an item where there is room for it.
+// Generic: the proof then needs not look into an entry, which has no proof at `push_reserved` itself.
 fn push_within<T: Copy>(items: &mut Vec<T>, item: T)
     requires { vec_len items.old < vec_capacity items.old }
     ensures items { items.new.items ≡ items.old.items ++ item ∷ [] }

@@ -1,12 +1,11 @@
-ghost use Rattle.std.specs.Prelude.{◌≡◌, ◌≤◌, ◌↔◌, false, true, All, IfOk, IfSome, IfNone, IsTrue};
+ghost use Rattle.std.specs.Prelude.{◌≡◌, ◌↔◌, false, true, IfOk, IfSome, IfNone, IsTrue};
 ghost use Rattle.gp_machine.specs.Config.{is_within_limits};
 ghost use Rattle.gp_machine.specs.State.{PortState};
 ghost use Rattle.gp_machine.specs.Run.{Run};
-ghost use Rattle.gp_journal.specs.Replays.{IsWithinBook, LeadsTo, Replays, start_of};
+ghost use Rattle.gp_journal.specs.Replays.{LeadsTo, Replays, start_of};
 
 use super::fault::JournalFault;
 use super::journal::Journal;
-use gp_licence::MAX_LICENCES;
 use gp_machine::{Entry, PortConfig, compares_configs};
 use gp_port::{OpenFault, PortCore, PortFollower};
 use std::alloc::Global;
@@ -14,7 +13,7 @@ use std::sync::ledger::Ledger;
 
 /// Tells whether the journal is that of a port with this configuration that stands as `core` does: the configuration is within its
 /// limits, and the entries that are kept are steps of the machine from the journal's base to this state, with the numbers that they
-/// name. Memory is taken for a port that follows them.
+/// name and whatever licences they tell of. Memory is taken for a port that follows them.
 pub fn replays<L: Ledger>(
     alloc: Global,
     config: &PortConfig,
@@ -64,11 +63,11 @@ fn begin_follower(
 
 /// Makes the steps that the entries tell of, and tells whether there are such steps.
 fn follow_all(follower: &mut PortFollower, entries: &[Entry]) -> bool
-    ensures followed { IsTrue result → All IsWithinBook entries.now × LeadsTo follower.old entries.now follower.new }
-    ensures refused { (last : PortState) → result ≡ false → All IsWithinBook entries.now → Run follower.old entries.now last → ⊥ }
+    ensures followed { IsTrue result → LeadsTo follower.old entries.now follower.new }
+    ensures refused { (last : PortState) → result ≡ false → Run follower.old entries.now last → ⊥ }
 {
     for entry in entries {
-        if entry.purse_in > MAX_LICENCES || !follower.follow(entry) {
+        if !follower.follow(entry) {
             return false;
         }
     }

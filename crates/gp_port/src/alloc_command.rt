@@ -18,10 +18,10 @@ impl PortMachine {
     /// Carries out the command alloc; the Alloc-ID is the wished one, where that is free.
     pub(super) fn command_alloc(
         &mut self,
-        purse: u32,
+        purse: u64,
         serial: Serial,
         wished: Option<u16>,
-    ) -> (Answer, u32)
+    ) -> (Answer, u64)
         requires sound { IsSound self.old }
         requires last { self.old.config.alloc_last ≤ last_alloc_id }
         ensures free { MayPick self.old (command_response self.old (command.Alloc serial)) (number_in result.0.reply) }
@@ -38,7 +38,7 @@ impl PortMachine {
     }
 
     /// Gives an active unit a further Alloc-ID.
-    fn alloc(&mut self, purse: u32, serial: Serial, row: Row, wished: Option<u16>) -> (Answer, u32)
+    fn alloc(&mut self, purse: u64, serial: Serial, row: Row, wished: Option<u16>) -> (Answer, u64)
         requires sound { IsSound self.old }
         requires last { self.old.config.alloc_last ≤ last_alloc_id }
         requires has { HasRow self.old.rows serial row }
@@ -74,10 +74,10 @@ impl PortMachine {
     /// Carries out the command dealloc.
     pub(super) fn command_dealloc(
         &mut self,
-        purse: u32,
+        purse: u64,
         serial: Serial,
         alloc: u16,
-    ) -> (Answer, u32)
+    ) -> (Answer, u64)
         requires sound { IsSound self.old }
         requires last { self.old.config.alloc_last ≤ last_alloc_id }
         ensures free { MayPick self.old (command_response self.old (command.Dealloc serial alloc)) (number_in result.0.reply) }
@@ -93,7 +93,7 @@ impl PortMachine {
     }
 
     /// Takes a further Alloc-ID back from an active unit.
-    fn dealloc(&mut self, purse: u32, serial: Serial, alloc: u16, row: Row) -> (Answer, u32)
+    fn dealloc(&mut self, purse: u64, serial: Serial, alloc: u16, row: Row) -> (Answer, u64)
         requires sound { IsSound self.old }
         requires last { self.old.config.alloc_last ≤ last_alloc_id }
         requires has { HasRow self.old.rows serial row }

@@ -1,6 +1,5 @@
-ghost use Rattle.std.specs.Prelude.{◌≡◌, ◌+◌, ◌≤◌, None, Some, length};
+ghost use Rattle.std.specs.Prelude.{◌≡◌, ◌+◌, ◌<◌, ◌≤◌, ◌^◌, None, Some, length};
 ghost use Rattle.gp_ploam.specs.OnuIds.{onu_ids};
-ghost use Rattle.gp_licence.specs.declared.ledger_parts.TheConstants.{MAX_LICENCES};
 ghost use Rattle.gp_volley.specs.Copies.{copies_each, max_copies};
 ghost use Rattle.gp_ranging.specs.declared.grant.Grant.TheVariants as grant;
 ghost use Rattle.gp_machine.specs.declared.event.Event.TheVariants as event;
@@ -25,14 +24,14 @@ impl PortMachine {
     #[inline(never)]
     pub(super) fn burst(
         &mut self,
-        purse: u32,
+        purse: u64,
         at: u32,
         bytes: &[u8; 13],
         wished: Option<u16>,
-    ) -> (Answer, u32)
+    ) -> (Answer, u64)
         requires sound { IsSound self.old }
         requires units { self.old.config.max_units ≤ onu_ids }
-        requires purse { purse ≤ MAX_LICENCES }
+        requires purse { purse < 2 ^ 32 }
         ensures step { Step purse self.old (event.Burst at bytes.now) (step_result_of result self.new) }
         ensures wished { GrantsWish purse self.old (event.Burst at bytes.now) wished (step_result_of result self.new) }
     {
@@ -45,14 +44,14 @@ impl PortMachine {
     /// Hears a burst that is read as this message, or whose check octet is wrong.
     fn receive(
         &mut self,
-        purse: u32,
+        purse: u64,
         at: u32,
         heard: Option<Up>,
         wished: Option<u16>,
-    ) -> (BurstAnswer, u32)
+    ) -> (BurstAnswer, u64)
         requires sound { IsSound self.old }
         requires units { self.old.config.max_units ≤ onu_ids }
-        requires purse { purse ≤ MAX_LICENCES }
+        requires purse { purse < 2 ^ 32 }
         ensures free { MayPick self.old (burst_response purse self.old at heard) (number_given result.0) }
         ensures wished { PicksWished self.old (burst_response purse self.old at heard) wished (number_given result.0) }
         ensures outcome { burst_result_of result self.new ≡ step_result_with purse self.old None (burst_response purse self.old at heard) (number_given result.0) }
@@ -72,7 +71,7 @@ impl PortMachine {
     }
 
     /// Hears a message in the window of a ranging unit: octet 1 has to be its ONU-ID.
-    fn in_range(&mut self, purse: u32, at: u32, onu: u8, message: Up) -> (BurstAnswer, u32)
+    fn in_range(&mut self, purse: u64, at: u32, onu: u8, message: Up) -> (BurstAnswer, u64)
         requires sound { IsSound self.old }
         ensures free { MayPick self.old (message_response purse self.old at (grant.Range onu) message) (number_given result.0) }
         ensures outcome { burst_result_of result self.new ≡ step_result_with purse self.old None (message_response purse self.old at (grant.Range onu) message) (number_given result.0) }
@@ -89,9 +88,9 @@ impl PortMachine {
     }
 
     /// Hears a message in the window of an operating unit: octet 1 has to be its ONU-ID.
-    fn in_poll(&mut self, purse: u32, at: u32, onu: u8, message: Up) -> (BurstAnswer, u32)
+    fn in_poll(&mut self, purse: u64, at: u32, onu: u8, message: Up) -> (BurstAnswer, u64)
         requires sound { IsSound self.old }
-        requires purse { purse ≤ MAX_LICENCES }
+        requires purse { purse < 2 ^ 32 }
         requires room { length self.old.owed + copies_each ≤ max_copies }
         requires asked { Operates self.old.rows onu }
         ensures free { MayPick self.old (message_response purse self.old at (grant.Poll onu) message) (number_given result.0) }

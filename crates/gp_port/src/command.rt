@@ -1,6 +1,5 @@
-ghost use Rattle.std.specs.Prelude.{◌≡◌, ◌≤◌, None};
+ghost use Rattle.std.specs.Prelude.{◌≡◌, ◌<◌, ◌≤◌, ◌^◌, None};
 ghost use Rattle.gp_ploam.specs.OnuIds.{onu_ids};
-ghost use Rattle.gp_licence.specs.declared.ledger_parts.TheConstants.{MAX_LICENCES};
 ghost use Rattle.gp_pools.specs.Limits.{last_alloc_id};
 ghost use Rattle.gp_machine.specs.declared.event.Command.TheVariants as command;
 ghost use Rattle.gp_machine.specs.declared.reply.Reply.TheVariants as reply;
@@ -21,14 +20,14 @@ impl PortMachine {
     #[inline(never)]
     pub(super) fn command(
         &mut self,
-        purse: u32,
+        purse: u64,
         command: Command,
         wished: Option<u16>,
-    ) -> (Answer, u32)
+    ) -> (Answer, u64)
         requires sound { IsSound self.old }
         requires units { self.old.config.max_units ≤ onu_ids }
         requires last { self.old.config.alloc_last ≤ last_alloc_id }
-        requires purse { purse ≤ MAX_LICENCES }
+        requires purse { purse < 2 ^ 32 }
         ensures free { MayPick self.old (command_response self.old command) (number_in result.0.reply) }
         ensures wished { PicksWished self.old (command_response self.old command) wished (number_in result.0.reply) }
         ensures outcome { step_result_of result self.new ≡ step_result_with purse self.old None (command_response self.old command) (number_in result.0.reply) }
@@ -48,7 +47,7 @@ impl PortMachine {
     }
 
     /// Carries out the command search.
-    fn command_search(&mut self, purse: u32) -> (Answer, u32)
+    fn command_search(&mut self, purse: u64) -> (Answer, u64)
         ensures free { MayPick self.old (command_response self.old command.Search) (number_in result.0.reply) }
         ensures outcome { step_result_of result self.new ≡ step_result_with purse self.old None (command_response self.old command.Search) (number_in result.0.reply) }
     {
@@ -60,7 +59,7 @@ impl PortMachine {
     }
 
     /// Carries out the command enable all.
-    fn command_enable_all(&mut self, purse: u32) -> (Answer, u32)
+    fn command_enable_all(&mut self, purse: u64) -> (Answer, u64)
         requires sound { IsSound self.old }
         ensures free { MayPick self.old (command_response self.old command.EnableAll) (number_in result.0.reply) }
         ensures outcome { step_result_of result self.new ≡ step_result_with purse self.old None (command_response self.old command.EnableAll) (number_in result.0.reply) }
@@ -74,7 +73,7 @@ impl PortMachine {
     }
 
     /// Carries out the command popup to all units.
-    fn command_popup_all(&mut self, purse: u32) -> (Answer, u32)
+    fn command_popup_all(&mut self, purse: u64) -> (Answer, u64)
         requires sound { IsSound self.old }
         requires units { self.old.config.max_units ≤ onu_ids }
         ensures free { MayPick self.old (command_response self.old command.PopupAll) (number_in result.0.reply) }
@@ -89,7 +88,7 @@ impl PortMachine {
     }
 
     /// Carries out the command show.
-    fn command_show(&mut self, purse: u32, serial: Serial) -> (Answer, u32)
+    fn command_show(&mut self, purse: u64, serial: Serial) -> (Answer, u64)
         ensures free { MayPick self.old (command_response self.old (command.Show serial)) (number_in result.0.reply) }
         ensures outcome { step_result_of result self.new ≡ step_result_with purse self.old None (command_response self.old (command.Show serial)) (number_in result.0.reply) }
     {

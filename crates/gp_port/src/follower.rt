@@ -1,4 +1,4 @@
-ghost use Rattle.std.specs.Prelude.{◌≡◌, ◌≤◌, IfOk, IsErrOf, IsTrue, false, ◌↔◌};
+ghost use Rattle.std.specs.Prelude.{◌≡◌, IfOk, IsErrOf, IsTrue, false, ◌↔◌};
 ghost use Rattle.gp_machine.specs.Config.{is_within_limits};
 ghost use Rattle.gp_machine.specs.State.{opening_of, PortState};
 ghost use Rattle.gp_machine.specs.Run.{IsStep};
@@ -10,7 +10,6 @@ use super::image::{ImageFault, PortImage};
 use super::open::OpenFault;
 use super::port_core::PortCore;
 use super::port_machine::PortMachine;
-use gp_licence::MAX_LICENCES;
 use gp_machine::{Answer, Entry, PortConfig, Reply, sound_step};
 use std::alloc::Global;
 use std::marker::Model;
@@ -54,7 +53,7 @@ impl PortFollower {
     pub fn resume(alloc: Global, image: &PortImage) -> Result<PortFollower, ImageFault>
         ensures { IfOk result (λ port. port ≡ image.now) }
     {
-        image.is_steady();
+        image.stands();
         let machine = image.reopen(alloc)?;
         Ok(PortFollower { machine })
     }
@@ -62,14 +61,13 @@ impl PortFollower {
     /// Makes the step that the entry tells of, and tells whether there is such a step. After a step that there isn't, what the
     /// port knows is not told. It takes no memory.
     pub fn follow(&mut self, entry: &Entry) -> bool
-        requires purse { entry.now.purse_in ≤ MAX_LICENCES }
         ensures made { IsTrue result → IsStep self.old entry.now self.new }
         ensures refused { (after : PortState) → result ≡ false → IsStep self.old entry.now after → ⊥ }
         ensures alone { (after : PortState) → IsStep self.old entry.now after → after ≡ self.new }
     {
         sound_step();
         let wished = number_in(&entry.answer.reply);
-        let (answer, left) = self.machine.step(entry.purse_in, entry.event, wished);
+        let (answer, left) = self.machine.step(u64::from(entry.purse_in), entry.event, wished);
         same_outcome(answer, left, entry)
     }
 
@@ -99,8 +97,8 @@ fn number_in(reply: &Reply) -> Option<u16>
 }
 
 /// Tells whether a step ended as the entry tells.
-fn same_outcome(answer: Answer, left: u32, entry: &Entry) -> bool
+fn same_outcome(answer: Answer, left: u64, entry: &Entry) -> bool
     ensures { IsTrue result ↔ ((answer ≡ entry.now.answer) × (left ≡ entry.now.purse_out)) }
 {
-    same_answer(answer, entry.answer) && left == entry.purse_out
+    same_answer(answer, entry.answer) && left == u64::from(entry.purse_out)
 }

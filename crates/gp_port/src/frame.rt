@@ -1,5 +1,4 @@
-ghost use Rattle.std.specs.Prelude.{◌≡◌, ℕ, ◌+◌, ◌-◌, ◌≤◌, None, Some, length, map};
-ghost use Rattle.gp_licence.specs.declared.ledger_parts.TheConstants.{MAX_LICENCES};
+ghost use Rattle.std.specs.Prelude.{◌≡◌, ℕ, ◌+◌, ◌-◌, ◌<◌, ◌≤◌, ◌^◌, None, Some, length, map};
 ghost use Rattle.gp_volley.specs.Copies.{copies_each, first_of, max_copies};
 ghost use Rattle.gp_machine.specs.Config.{max_search_period};
 ghost use Rattle.gp_machine.specs.declared.event.Event.TheVariants as event;
@@ -7,7 +6,7 @@ ghost use Rattle.gp_machine.specs.Sound.{IsSound};
 ghost use Rattle.gp_machine.specs.Step.{Step};
 ghost use Rattle.gp_ploam.specs.declared.message.Down.TheVariants as down;
 ghost use Rattle.gp_ploam.specs.Down.{IsProperDown};
-ghost use Rattle.gp_unit.specs.Rows.{alarm_polled, row_unranged, was_seen};
+ghost use Rattle.gp_unit.specs.Rows.{alarm_polled, row_unranged};
 ghost use Rattle.gp_unit.specs.Sound.{IsSoundRow};
 ghost use Rattle.gp_machine.specs.State.{HasRow};
 ghost use Rattle.gp_machine.specs.Responses.{MayPick, step_result_with};
@@ -22,7 +21,7 @@ use super::answers::{FrameAnswer, ticked};
 use super::port_machine::PortMachine;
 use gp_alarms::{Alarm, AlarmKind, Outcome};
 use gp_common::{Common, Decision, decide};
-use gp_machine::{Answer, Phase, Row};
+use gp_machine::{Answer, Row};
 use gp_ploam::{Down, Serial};
 use gp_ranging::Grant;
 
@@ -30,9 +29,9 @@ impl PortMachine {
     /// Makes a frame: cooling, timer and sending, then the open window, or a decision.
     // Kept out of line, so that `step` is small and does not carry the locals of this call.
     #[inline(never)]
-    pub(super) fn frame(&mut self, purse: u32) -> (Answer, u32)
+    pub(super) fn frame(&mut self, purse: u64) -> (Answer, u64)
         requires sound { IsSound self.old }
-        requires purse { purse ≤ MAX_LICENCES }
+        requires purse { purse < 2 ^ 32 }
         requires period { self.old.config.search_period ≤ max_search_period }
         ensures { Step purse self.old event.Frame (step_result_of result self.new) }
     {
@@ -54,9 +53,9 @@ impl PortMachine {
     }
 
     /// Makes a frame, where these are the least ranging unit and the one that is polled next.
-    fn frame_by(&mut self, purse: u32, ranging: Option<u8>, next: Option<u8>) -> (FrameAnswer, u32)
+    fn frame_by(&mut self, purse: u64, ranging: Option<u8>, next: Option<u8>) -> (FrameAnswer, u64)
         requires sound { IsSound self.old }
-        requires purse { purse ≤ MAX_LICENCES }
+        requires purse { purse < 2 ^ 32 }
         requires period { self.old.config.search_period ≤ max_search_period }
         ensures free { MayPick (state_begun self.old) (frame_response self.old ranging next) 0 }
         ensures outcome { frame_result_of result self.new ≡ step_result_with purse (state_begun self.old) (first_of self.old.owed) (frame_response self.old ranging next) 0 }
@@ -112,14 +111,14 @@ impl PortMachine {
     /// Takes a frame off the open window, which closes with its last.
     fn window_frame(
         &mut self,
-        purse: u32,
+        purse: u64,
         sent: Option<Down>,
         grant: Grant,
         seen: bool,
         left: u8,
-    ) -> (FrameAnswer, u32)
+    ) -> (FrameAnswer, u64)
         requires sound { IsSound self.old }
-        requires purse { purse ≤ MAX_LICENCES }
+        requires purse { purse < 2 ^ 32 }
         requires window { self.old.window ≡ Some (record { grant = grant; left = left; seen = seen }) }
         ensures free { MayPick self.old (window_response self.old (record { grant = grant; left = left; seen = seen })) 0 }
         ensures outcome { frame_result_of result self.new ≡ step_result_with purse self.old sent (window_response self.old (record { grant = grant; left = left; seen = seen })) 0 }
@@ -153,11 +152,11 @@ impl PortMachine {
     /// Does what follows from a decision.
     pub(super) fn decided(
         &mut self,
-        purse: u32,
+        purse: u64,
         sent: Option<Down>,
         common: Common,
         decision: Decision,
-    ) -> (FrameAnswer, u32)
+    ) -> (FrameAnswer, u64)
         requires idle { length self.old.owed + copies_each ≤ max_copies }
         ensures free { MayPick self.old (decided_response self.old (common, decision)) 0 }
         ensures outcome { frame_result_of result self.new ≡ step_result_with purse self.old sent (decided_response self.old (common, decision)) 0 }
@@ -186,14 +185,14 @@ impl PortMachine {
     /// Closes a ranging window without a result.
     pub(super) fn unranged(
         &mut self,
-        purse: u32,
+        purse: u64,
         sent: Option<Down>,
         serial: Serial,
         row: Row,
         heard: bool,
-    ) -> (FrameAnswer, u32)
+    ) -> (FrameAnswer, u64)
         requires fits { IsSoundRow self.old.config.alloc_last row }
-        requires purse { purse ≤ MAX_LICENCES }
+        requires purse { purse < 2 ^ 32 }
         requires has { HasRow self.old.rows serial row }
         requires room { length self.old.owed + copies_each ≤ max_copies }
         ensures free { MayPick self.old (unranged_response serial row heard (row_unranged row heard row.phase)) 0 }
@@ -209,7 +208,7 @@ impl PortMachine {
             None => {
                 self.remove_unit(&serial, onu);
                 self.owe(Down::Deactivate { onu });
-                let alarm = suf(was_seen(row.phase) || heard, serial);
+                let alarm = suf(row.phase.was_seen() || heard, serial);
                 (ticked(sent, alarm), purse + 1)
             }
         }
@@ -218,14 +217,14 @@ impl PortMachine {
     /// Closes a poll window with its last frame.
     pub(super) fn unpolled(
         &mut self,
-        purse: u32,
+        purse: u64,
         sent: Option<Down>,
         serial: Serial,
         row: Row,
         heard: bool,
-    ) -> (FrameAnswer, u32)
+    ) -> (FrameAnswer, u64)
         requires fits { IsSoundRow self.old.config.alloc_last row }
-        requires purse { purse ≤ MAX_LICENCES }
+        requires purse { purse < 2 ^ 32 }
         requires has { HasRow self.old.rows serial row }
         requires room { length self.old.owed + copies_each ≤ max_copies }
         ensures free { MayPick self.old (unpolled_response serial row (poll_ended heard) (alarm_polled row (poll_ended heard))) 0 }
@@ -277,14 +276,4 @@ fn overhead_with(burst: [u8; 10]) -> Down
     ensures proper { IsProperDown result }
 {
     Down::UpstreamOverhead { burst }
-}
-
-/// Tells whether anything was heard of a unit while it was ranging.
-fn was_seen(phase: Phase) -> bool
-    ensures { result ≡ was_seen phase }
-{
-    match phase {
-        Phase::Ranging { seen, .. } => seen,
-        Phase::Operating { .. } => false,
-    }
 }

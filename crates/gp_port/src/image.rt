@@ -1,4 +1,9 @@
-ghost use Rattle.std.specs.Prelude.{◌≡◌, IfOk, IsTrue, ◌↔◌, true};
+ghost use Rattle.std.specs.Prelude.{◌≡◌, ◌≢◌, IfNone, IfOk, IfSome, IsTrue, MatchOption, None, Some, slice_get, ◌↔◌, true};
+ghost use Rattle.std.specs.FinMap as map;
+ghost use Rattle.std.specs.FinSet as set;
+ghost use Rattle.gp_ploam.specs.declared.message.Serial.{Serial};
+ghost use Rattle.gp_unit.specs.declared.row.Row.{Row};
+ghost use Rattle.gp_machine.specs.State.{HasRow, rows_of, unit_with};
 ghost use Rattle.gp_machine.specs.Config.{is_within_limits};
 ghost use Rattle.gp_machine.specs.Sound.{IsSound};
 ghost use Rattle.gp_port.specs.Parts.{IsSteady};
@@ -10,7 +15,8 @@ use super::comparing::{
 };
 use super::port_machine::PortMachine;
 use gp_common::Common;
-use gp_machine::PortConfig;
+use gp_machine::{PortConfig, Row, finds_unit_with};
+use gp_ploam::{ONU_IDS, Serial};
 use gp_ranging::WindowImage;
 use gp_table::ActiveUnits;
 use gp_volley::{OwedImage, QueueFault};
@@ -102,10 +108,99 @@ impl PortImage {
     }
 
     /// States that a port can be in this state: its configuration is within the limits, and it is sound.
-    pub fn is_steady(&self)
+    pub fn stands(&self)
         ensures { IsSteady self.now }
     {
+        // The invariant is known once a field is looked at.
         let _ = &self.config;
+    }
+
+    /// Tells how many units were active, at most `max_units` of the config.
+    pub fn rows(&self) -> usize
+        ensures { result ≡ rows_of self.now }
+    {
+        self.units.len()
+    }
+
+    /// Gives what the port knew of the unit with this serial number, if it was active.
+    pub fn row_of(&self, serial: &Serial) -> Option<Row>
+        ensures { result ≡ map.get self.now.rows serial.now }
+    {
+        self.units.row_of(serial)
+    }
+
+    /// Gives the unit that had this ONU-ID, with what the port knew of it. Each active unit had one of 0 to 253, so these give
+    /// all of them, one after the other.
+    pub fn unit_with(&self, onu: u8) -> Option<(Serial, Row)>
+        ensures unit { result ≡ unit_with self.now.rows onu }
+        ensures none { IfNone result ((serial : Serial) (row : Row) → HasRow self.now.rows serial row → row.onu ≢ onu) }
+        ensures some { IfSome result (λ unit. HasRow self.now.rows unit.0 unit.1 × (unit.1.onu ≡ onu)) }
+    {
+        finds_unit_with();
+        match self.units.holder(onu) {
+            Some(unit) => Some((unit.serial, unit.row)),
+            None => None,
+        }
+    }
+
+    /// Tells whether the serial number was disabled. Those that were are admitted.
+    pub fn is_disabled(&self, serial: &Serial) -> bool
+        ensures { result ≡ set.contains self.now.disabled serial.now }
+    {
+        self.units.is_disabled(serial)
+    }
+
+    /// Tells what the port did for all units together.
+    pub fn common(&self) -> Common
+        ensures { result ≡ self.now.common }
+    {
+        self.common
+    }
+
+    /// Tells whether a search was wanted.
+    pub fn is_wanted(&self) -> bool
+        ensures { result ≡ self.now.wanted }
+    {
+        self.wanted
+    }
+
+    /// Tells how many frames went by in standby since a search was last wanted by itself.
+    pub fn timer(&self) -> u32
+        ensures { result ≡ self.now.timer }
+    {
+        self.timer
+    }
+
+    /// Gives where the window stood, if one was open.
+    pub fn window(&self) -> Option<&WindowImage>
+        ensures { MatchOption result (self.now.window ≡ None) (λ window. self.now.window ≡ Some window.now) }
+    {
+        self.window.as_ref()
+    }
+
+    /// Gives the copies of messages that were still to be sent, in order.
+    pub fn owed(&self) -> &OwedImage
+        ensures { result.now ≡ self.now.owed }
+    {
+        &self.owed
+    }
+
+    /// Tells the ONU-ID that was polled last, if one was.
+    pub fn polled(&self) -> Option<u8>
+        ensures { result ≡ self.now.polled }
+    {
+        self.polled
+    }
+
+    /// Tells for how many frames more an ONU-ID, 0 to 253, was not to be given to another unit; None above 253.
+    pub fn frames_left(&self, onu: u8) -> Option<u16>
+        ensures { result ≡ slice_get self.now.cooling onu }
+    {
+        self.stands();
+        if onu >= ONU_IDS {
+            return None;
+        }
+        Some(self.units.frames_left(onu))
     }
 
     /// Tells whether both images are of one state.

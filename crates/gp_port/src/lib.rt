@@ -35,9 +35,15 @@ mod unit_changes;
 mod unit_command;
 
 pub use follower::PortFollower;
+pub use gp_alarms::{Alarm, AlarmKind};
+pub use gp_common::Common;
 pub use gp_machine::{
     Admitted, Answer, Command, Entry, Event, Phase, PortConfig, Receipt, Refusal, Reply, Row,
 };
+pub use gp_ploam::{Down, Mask, PloamFault, Serial};
+pub use gp_ranging::{Grant, WindowImage};
+pub use gp_unit::RowView;
+pub use gp_volley::OwedImage;
 pub use image::{ImageFault, PortImage};
 pub use octets::burst_of;
 pub use open::OpenFault;

@@ -1,5 +1,4 @@
-ghost use Rattle.std.specs.Prelude.{◌≡◌, ◌+◌, ◌≤◌, None, Some, false, length};
-ghost use Rattle.gp_licence.specs.declared.ledger_parts.TheConstants.{MAX_LICENCES};
+ghost use Rattle.std.specs.Prelude.{◌≡◌, ◌+◌, ◌<◌, ◌≤◌, ◌^◌, None, Some, false, length};
 ghost use Rattle.gp_volley.specs.Copies.{copies_each, max_copies};
 ghost use Rattle.gp_alarms.specs.declared.poll.Outcome.TheVariants as poll;
 ghost use Rattle.gp_unit.specs.Rows.{alarm_polled, is_ranging};
@@ -19,13 +18,13 @@ impl PortMachine {
     /// Hears a message from the operating unit that is asked.
     pub(super) fn operating(
         &mut self,
-        purse: u32,
+        purse: u64,
         serial: Serial,
         row: Row,
         message: Up,
-    ) -> (BurstAnswer, u32)
+    ) -> (BurstAnswer, u64)
         requires sound { IsSound self.old }
-        requires purse { purse ≤ MAX_LICENCES }
+        requires purse { purse < 2 ^ 32 }
         requires has { HasRow self.old.rows serial row }
         requires room { length self.old.owed + copies_each ≤ max_copies }
         requires operating { is_ranging row.phase ≡ false }
@@ -48,9 +47,9 @@ impl PortMachine {
     }
 
     /// Hears an Acknowledge of an Assign_Alloc-ID; with nothing pending it is a message like any other.
-    fn acknowledged(&mut self, purse: u32, serial: Serial, row: Row) -> (BurstAnswer, u32)
+    fn acknowledged(&mut self, purse: u64, serial: Serial, row: Row) -> (BurstAnswer, u64)
         requires sound { IsSound self.old }
-        requires purse { purse ≤ MAX_LICENCES }
+        requires purse { purse < 2 ^ 32 }
         requires has { HasRow self.old.rows serial row }
         requires room { length self.old.owed + copies_each ≤ max_copies }
         requires operating { is_ranging row.phase ≡ false }
@@ -66,9 +65,9 @@ impl PortMachine {
     }
 
     /// Hears any other message of the operating unit that is asked; with an alarm the unit is removed.
-    fn alive(&mut self, purse: u32, serial: Serial, row: Row) -> (BurstAnswer, u32)
+    fn alive(&mut self, purse: u64, serial: Serial, row: Row) -> (BurstAnswer, u64)
         requires sound { IsSound self.old }
-        requires purse { purse ≤ MAX_LICENCES }
+        requires purse { purse < 2 ^ 32 }
         requires has { HasRow self.old.rows serial row }
         requires room { length self.old.owed + copies_each ≤ max_copies }
         ensures free { MayPick self.old (alive_response serial row (alarm_polled row poll.Good)) (number_given result.0) }

@@ -109,8 +109,8 @@ impl<L: Ledger> PortCore<L> {
         step_keeps_licences();
         step_sends_in_order();
         refusals_change_nothing();
-        let (answer, left) = self.machine.step(purse.count(), event, wished);
-        let rest = share_out(purse, &mut self.held, left);
+        let (answer, left) = self.machine.step(u64::from(purse.count()), event, wished);
+        let rest = share_out(purse, &mut self.held, left as u32);
         (answer, rest)
     }
 

@@ -1,10 +1,9 @@
-ghost use Rattle.std.specs.Prelude.{◌≡◌, ℕ, ◌+◌, ◌<◌, ◌≤◌, IfOk, IfSome, None, Some, is_some, length, true, false, IsErrOf, ◌↔◌};
+ghost use Rattle.std.specs.Prelude.{◌≡◌, ℕ, ◌+◌, ◌<◌, ◌≤◌, ◌^◌, IfOk, IfSome, None, Some, is_some, length, true, false, IsErrOf, ◌↔◌};
 ghost use Rattle.std.specs.FinMap as map;
 ghost use Rattle.std.specs.FinSet as set;
 ghost use Rattle.std.specs.List.{list_any};
 ghost use Rattle.std.specs.Option.{ForSome};
 ghost use Rattle.gp_ploam.specs.OnuIds.{onu_ids};
-ghost use Rattle.gp_licence.specs.declared.ledger_parts.TheConstants.{MAX_LICENCES};
 ghost use Rattle.gp_volley.specs.Copies.{max_copies};
 ghost use Rattle.gp_ploam.specs.Down.{IsProperDown};
 ghost use Rattle.gp_ploam.specs.Serials.{is_among};
@@ -153,17 +152,18 @@ impl PortMachine {
         owed.close();
     }
 
-    /// Makes one step of the machine with so many licences at hand; a number that it hands out is the wished one, where that
-    /// is free. It takes no memory.
-    pub fn step(&mut self, purse: u32, event: Event, wished: Option<u16>) -> (Answer, u32)
+    /// Makes one step of the machine with so many licences at hand, which leaves room for one more; a number that it hands out
+    /// is the wished one, where that is free. It takes no memory.
+    pub fn step(&mut self, purse: u64, event: Event, wished: Option<u16>) -> (Answer, u64)
         requires limits { is_within_limits self.old.config ≡ true }
         requires sound { IsSound self.old }
-        requires purse { purse ≤ MAX_LICENCES }
+        requires purse { purse < 2 ^ 32 }
         ensures step { Step purse self.old event (step_result_of result self.new) }
         ensures wished { GrantsWish purse self.old event wished (step_result_of result self.new) }
         ensures proper { ForSome result.0.sent IsProperDown }
     {
         one_outcome();
+        // The invariant is known once a field is looked at.
         let _ = &self.config;
         match event {
             Event::Frame => self.frame(purse),

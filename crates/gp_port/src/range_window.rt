@@ -17,12 +17,12 @@ impl PortMachine {
     /// Hears a message from the ranging unit that is asked, after a round-trip delay in bit times.
     pub(super) fn ranging(
         &mut self,
-        purse: u32,
+        purse: u64,
         at: u32,
         serial: Serial,
         row: Row,
         message: Up,
-    ) -> (BurstAnswer, u32)
+    ) -> (BurstAnswer, u64)
         requires sound { IsSound self.old }
         requires has { HasRow self.old.rows serial row }
         ensures free { MayPick self.old (ranging_response self.old at serial row message) (number_given result.0) }
@@ -48,7 +48,7 @@ impl PortMachine {
     }
 
     /// Hears the serial number of the unit that is asked.
-    fn measured(&mut self, purse: u32, at: u32, serial: Serial, row: Row) -> (BurstAnswer, u32)
+    fn measured(&mut self, purse: u64, at: u32, serial: Serial, row: Row) -> (BurstAnswer, u64)
         requires sound { IsSound self.old }
         requires has { HasRow self.old.rows serial row }
         ensures free { MayPick self.old (measured_response self.old serial row (equalization_delay self.old.config.teqd at)) (number_given result.0) }

@@ -1,8 +1,7 @@
-ghost use Rattle.std.specs.Prelude.{◌≡◌, ◌≤◌, None, true};
+ghost use Rattle.std.specs.Prelude.{◌≡◌, ◌<◌, ◌≤◌, ◌^◌, None, true};
 ghost use Rattle.std.specs.FinMap as map;
 ghost use Rattle.std.specs.FinSet as set;
 ghost use Rattle.gp_ploam.specs.OnuIds.{onu_ids};
-ghost use Rattle.gp_licence.specs.declared.ledger_parts.TheConstants.{MAX_LICENCES};
 ghost use Rattle.gp_ploam.specs.Serials.{is_among};
 ghost use Rattle.gp_unit.specs.declared.row.Row.{Row};
 ghost use Rattle.gp_machine.specs.State.{HasRow};
@@ -21,7 +20,7 @@ use gp_table::Entry;
 
 impl PortMachine {
     /// Refuses a burst: the window has seen it, and nothing else changes.
-    pub(super) fn refuse(&mut self, purse: u32, refusal: Refusal) -> (BurstAnswer, u32)
+    pub(super) fn refuse(&mut self, purse: u64, refusal: Refusal) -> (BurstAnswer, u64)
         ensures free { MayPick self.old (refuses_burst refusal) (number_given result.0) }
         ensures outcome { burst_result_of result self.new ≡ step_result_with purse self.old None (refuses_burst refusal) (number_given result.0) }
     {
@@ -32,13 +31,13 @@ impl PortMachine {
     /// Hears a message in a search window. A new unit gets the wished ONU-ID, where that is free.
     pub(super) fn search(
         &mut self,
-        purse: u32,
+        purse: u64,
         message: Up,
         wished: Option<u16>,
-    ) -> (BurstAnswer, u32)
+    ) -> (BurstAnswer, u64)
         requires sound { IsSound self.old }
         requires units { self.old.config.max_units ≤ onu_ids }
-        requires purse { purse ≤ MAX_LICENCES }
+        requires purse { purse < 2 ^ 32 }
         ensures free { MayPick self.old (search_response purse self.old message) (number_given result.0) }
         ensures wished { PicksWished self.old (search_response purse self.old message) wished (number_given result.0) }
         ensures outcome { burst_result_of result self.new ≡ step_result_with purse self.old None (search_response purse self.old message) (number_given result.0) }
@@ -58,14 +57,14 @@ impl PortMachine {
     /// Hears an admitted unit.
     fn admitted(
         &mut self,
-        purse: u32,
+        purse: u64,
         serial: Serial,
         known: Entry,
         wished: Option<u16>,
-    ) -> (BurstAnswer, u32)
+    ) -> (BurstAnswer, u64)
         requires sound { IsSound self.old }
         requires units { self.old.config.max_units ≤ onu_ids }
-        requires purse { purse ≤ MAX_LICENCES }
+        requires purse { purse < 2 ^ 32 }
         requires admitted { is_among serial self.old.config.admitted ≡ true }
         requires disabled { known.disabled ≡ set.contains self.old.disabled serial }
         requires row { known.row ≡ map.get self.old.rows serial }
@@ -86,7 +85,7 @@ impl PortMachine {
     }
 
     /// Hears an admitted unit that is not active.
-    fn newcomer(&mut self, purse: u32, serial: Serial, wished: Option<u16>) -> (BurstAnswer, u32)
+    fn newcomer(&mut self, purse: u64, serial: Serial, wished: Option<u16>) -> (BurstAnswer, u64)
         requires sound { IsSound self.old }
         requires units { self.old.config.max_units ≤ onu_ids }
         requires admitted { is_among serial self.old.config.admitted ≡ true }
@@ -110,9 +109,9 @@ impl PortMachine {
     }
 
     /// Hears a unit that is active already: an operating one is removed.
-    fn active(&mut self, purse: u32, serial: Serial, row: Row) -> (BurstAnswer, u32)
+    fn active(&mut self, purse: u64, serial: Serial, row: Row) -> (BurstAnswer, u64)
         requires sound { IsSound self.old }
-        requires purse { purse ≤ MAX_LICENCES }
+        requires purse { purse < 2 ^ 32 }
         requires has { HasRow self.old.rows serial row }
         ensures free { MayPick self.old (active_response self.old serial row.onu row.phase) (number_given result.0) }
         ensures outcome { burst_result_of result self.new ≡ step_result_with purse self.old None (active_response self.old serial row.onu row.phase) (number_given result.0) }
@@ -132,7 +131,7 @@ impl PortMachine {
     }
 
     /// Begins anew with a ranging unit and its own ONU-ID, which it is told again, but where it is still to be told it.
-    fn again(&mut self, purse: u32, serial: Serial, row: Row) -> (BurstAnswer, u32)
+    fn again(&mut self, purse: u64, serial: Serial, row: Row) -> (BurstAnswer, u64)
         requires sound { IsSound self.old }
         requires has { HasRow self.old.rows serial row }
         ensures free { MayPick self.old (again_response self.old serial row.onu) (number_given result.0) }

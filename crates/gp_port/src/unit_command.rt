@@ -1,6 +1,5 @@
-ghost use Rattle.std.specs.Prelude.{◌≡◌, ◌≤◌, None};
+ghost use Rattle.std.specs.Prelude.{◌≡◌, ◌<◌, ◌^◌, None};
 ghost use Rattle.std.specs.FinMap as map;
-ghost use Rattle.gp_licence.specs.declared.ledger_parts.TheConstants.{MAX_LICENCES};
 ghost use Rattle.gp_machine.specs.declared.event.Command.TheVariants as command;
 ghost use Rattle.gp_machine.specs.State.{HasRow};
 ghost use Rattle.gp_machine.specs.Sound.{IsSound};
@@ -16,9 +15,9 @@ use gp_ploam::{Down, Serial};
 
 impl PortMachine {
     /// Carries out the command deactivate.
-    pub(super) fn command_deactivate(&mut self, purse: u32, serial: Serial) -> (Answer, u32)
+    pub(super) fn command_deactivate(&mut self, purse: u64, serial: Serial) -> (Answer, u64)
         requires sound { IsSound self.old }
-        requires purse { purse ≤ MAX_LICENCES }
+        requires purse { purse < 2 ^ 32 }
         ensures free { MayPick self.old (command_response self.old (command.Deactivate serial)) (number_in result.0.reply) }
         ensures outcome { step_result_of result self.new ≡ step_result_with purse self.old None (command_response self.old (command.Deactivate serial)) (number_in result.0.reply) }
     {
@@ -32,9 +31,9 @@ impl PortMachine {
     }
 
     /// Removes the unit.
-    fn deactivate(&mut self, purse: u32, serial: Serial, row: Row) -> (Answer, u32)
+    fn deactivate(&mut self, purse: u64, serial: Serial, row: Row) -> (Answer, u64)
         requires sound { IsSound self.old }
-        requires purse { purse ≤ MAX_LICENCES }
+        requires purse { purse < 2 ^ 32 }
         requires has { HasRow self.old.rows serial row }
         ensures free { MayPick self.old (deactivate_response self.old serial row) (number_in result.0.reply) }
         ensures outcome { step_result_of result self.new ≡ step_result_with purse self.old None (deactivate_response self.old serial row) (number_in result.0.reply) }
@@ -49,9 +48,9 @@ impl PortMachine {
     }
 
     /// Carries out the command disable.
-    pub(super) fn command_disable(&mut self, purse: u32, serial: Serial) -> (Answer, u32)
+    pub(super) fn command_disable(&mut self, purse: u64, serial: Serial) -> (Answer, u64)
         requires sound { IsSound self.old }
-        requires purse { purse ≤ MAX_LICENCES }
+        requires purse { purse < 2 ^ 32 }
         ensures free { MayPick self.old (command_response self.old (command.Disable serial)) (number_in result.0.reply) }
         ensures outcome { step_result_of result self.new ≡ step_result_with purse self.old None (command_response self.old (command.Disable serial)) (number_in result.0.reply) }
     {
@@ -74,7 +73,7 @@ impl PortMachine {
     }
 
     /// Carries out the command enable.
-    pub(super) fn command_enable(&mut self, purse: u32, serial: Serial) -> (Answer, u32)
+    pub(super) fn command_enable(&mut self, purse: u64, serial: Serial) -> (Answer, u64)
         requires sound { IsSound self.old }
         ensures free { MayPick self.old (command_response self.old (command.Enable serial)) (number_in result.0.reply) }
         ensures outcome { step_result_of result self.new ≡ step_result_with purse self.old None (command_response self.old (command.Enable serial)) (number_in result.0.reply) }
@@ -91,7 +90,7 @@ impl PortMachine {
     }
 
     /// Carries out the command popup.
-    pub(super) fn command_popup(&mut self, purse: u32, serial: Serial) -> (Answer, u32)
+    pub(super) fn command_popup(&mut self, purse: u64, serial: Serial) -> (Answer, u64)
         requires sound { IsSound self.old }
         ensures free { MayPick self.old (command_response self.old (command.Popup serial)) (number_in result.0.reply) }
         ensures outcome { step_result_of result self.new ≡ step_result_with purse self.old None (command_response self.old (command.Popup serial)) (number_in result.0.reply) }
@@ -106,7 +105,7 @@ impl PortMachine {
     }
 
     /// Tells an operating unit to leave the POPUP state.
-    fn popup(&mut self, purse: u32, row: Row) -> (Answer, u32)
+    fn popup(&mut self, purse: u64, row: Row) -> (Answer, u64)
         requires sound { IsSound self.old }
         ensures free { MayPick self.old (popup_response self.old row) (number_in result.0.reply) }
         ensures outcome { step_result_of result self.new ≡ step_result_with purse self.old None (popup_response self.old row) (number_in result.0.reply) }

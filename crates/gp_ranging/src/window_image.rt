@@ -1,4 +1,5 @@
-ghost use Rattle.std.specs.Prelude.{◌≡◌, IsTrue, ◌↔◌};
+ghost use Rattle.std.specs.Prelude.{◌≡◌, ◌≤◌, IsTrue, ◌↔◌};
+ghost use Rattle.gp_ranging.specs.Window.{window_frames};
 
 use super::grant::Grant;
 use super::window::Window;
@@ -24,6 +25,29 @@ impl Model for WindowImage {
 }
 
 impl WindowImage {
+    /// Tells who was asked.
+    pub fn grant(&self) -> Grant
+        ensures { result ≡ self.now.grant }
+    {
+        self.grant
+    }
+
+    /// Tells how many frames the window was still open, 1 to 3.
+    pub fn left(&self) -> u8
+        ensures left { result ≡ self.now.left }
+        ensures open { 1 ≤ result }
+        ensures at_most { result ≤ window_frames }
+    {
+        self.left
+    }
+
+    /// Tells whether anything was seen in the window that did not close it.
+    pub fn seen(&self) -> bool
+        ensures { result ≡ self.now.seen }
+    {
+        self.seen
+    }
+
     /// Makes a second image of the same window.
     pub fn copy(&self) -> WindowImage
         ensures { result ≡ self.now }

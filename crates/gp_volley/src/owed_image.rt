@@ -1,8 +1,9 @@
-ghost use Rattle.std.specs.Prelude.{◌≡◌, ◌↔◌, IfOk, IsTrue};
+ghost use Rattle.std.specs.Prelude.{◌≡◌, ◌≤◌, ◌↔◌, IfOk, IsTrue, length, slice_get};
+ghost use Rattle.gp_volley.specs.Copies.{max_copies};
 ghost use Rattle.gp_volley.specs.Images.{volley_in};
 
 use super::queue::{MAX_MESSAGES, QueueFault, VolleyQueue};
-use super::volley::Volley;
+use super::volley::{COPIES, Volley};
 use gp_ploam::Down;
 use std::alloc::{AllocError, Global};
 use std::collections::VecDeque;
@@ -53,6 +54,36 @@ fn is_same(one: VolleyImage, other: VolleyImage) -> bool
 }
 
 impl OwedImage {
+    /// Counts the copies, 0 to 192.
+    pub fn len_copies(&self) -> usize
+        ensures len { result ≡ length self.now }
+        ensures room { result ≤ max_copies }
+    {
+        if self.volleys.len() == 0 {
+            return 0;
+        }
+        usize::from(self.volleys[0].left) + usize::from(COPIES) * (self.volleys.len() - 1)
+    }
+
+    /// Gives the copy with `i` others before it, if there are so many.
+    pub fn copy_at(&self, i: usize) -> Option<Down>
+        ensures { result ≡ slice_get self.now i }
+    {
+        if self.volleys.len() == 0 {
+            return None;
+        }
+        let first = self.volleys[0];
+        let left = usize::from(first.left);
+        if i < left {
+            return Some(first.message);
+        }
+        let at = 1 + (i - left) / usize::from(COPIES);
+        if at >= self.volleys.len() {
+            return None;
+        }
+        Some(self.volleys[at].message)
+    }
+
     /// Makes a second image of the same copies.
     pub fn try_clone(&self, alloc: Global) -> Result<OwedImage, AllocError>
         ensures { IfOk result (λ image. image ≡ self.now) }

@@ -1,6 +1,6 @@
 use Rattle.std.proofs.Common.{rules, ◌<◌, length, slice_set}
 use Rattle.gp_chassis.specs.Core.{CoreState, CoreCuts}
-use Rattle.gp_chassis.proofs.Cores.{cut_stands, cut_core, cut_joins}
+use Rattle.gp_chassis.proofs.Cores.{cut_stands, cut_core, cut_joins, cut_world}
 use Rattle.gp_chassis.proofs.chassis_core.ChassisCore.cut.Goals as goal
 
 pub invariant_of-self-2 : goal.invariant_of-self-2
@@ -21,3 +21,6 @@ returns-clause-ok g c =
 
 pub returns-clause-joins : goal.returns-clause-joins
 returns-clause-joins g c = cut_joins _ _ _ _ (returns-clause-ok g c)
+
+pub returns-clause-world : goal.returns-clause-world
+returns-clause-world g c = cut_world _ _ _ _ (returns-clause-ok g c)

@@ -1,7 +1,9 @@
-use Rattle.std.proofs.Common.{◌≡◌, true, sym, ap, subst, ◌∙◌}
+use Rattle.std.proofs.Common.{◌≡◌, ℕ, true, sym, ap, subst, ◌∙◌}
 use Rattle.std.proofs.lemmas.Bool.{false≢true}
 use Rattle.gp_machine.specs.Changes.{StepResult, step_result_of}
 use Rattle.gp_machine.specs.Config.{is_within_limits}
+use Rattle.gp_machine.specs.Step.{Step}
+use Rattle.gp_port.specs.Numbers.{GrantsWish}
 use Rattle.gp_port.proofs.Cores.{same_config}
 use Rattle.gp_port.proofs.Following.{followed, is_made}
 use Rattle.gp_port.proofs.follower.PortFollower.follow.Goals as goal
@@ -10,27 +12,34 @@ pub invariant_of-self : goal.invariant_of-self
 invariant_of-self c =
     let o = step_result_of c.step-answer.result c.step-answer.new.self in
     let step = c.step-answer.ensures.step in
+    let purse = c.from.result in
     let entry = c.args.entry.now in
     record {
-      limits = subst (λ config. is_within_limits config ≡ true) (sym (same_config entry.purse_in c.self.inside.machine entry.event o step)) c.self.invariant.limits;
-      sound = c.sound_step.ensures entry.purse_in c.self.inside.machine entry.event o c.self.invariant.sound step;
+      limits = subst (λ config. is_within_limits config ≡ true) (sym (same_config purse c.self.inside.machine entry.event o step)) c.self.invariant.limits;
+      sound = c.sound_step.ensures purse c.self.inside.machine entry.event o c.self.invariant.sound step;
     }
 
 pub returns-clause-made : goal.returns-clause-made
 returns-clause-made c =
+    let o = step_result_of c.step-answer.result c.step-answer.new.self in
+    let step = subst (λ (n : ℕ). Step n c.self.inside.machine c.args.entry.now.event o) c.from.ensures c.step-answer.ensures.step in
     rw (← c.self.view_is)
-    (λ yes. let same = c.same_outcome.ensures.0 yes in is_made c.self.inside.machine c.step-answer.new.self c.args.entry.now c.step-answer.result.0 c.step-answer.result.1 c.step-answer.ensures.step same.0 same.1)
+    (λ yes. let same = c.same_outcome.ensures.0 yes in is_made c.self.inside.machine c.step-answer.new.self c.args.entry.now c.step-answer.result.0 c.step-answer.result.1 step same.0 same.1)
 
 pub returns-clause-refused : goal.returns-clause-refused
 returns-clause-refused c =
+    let o = step_result_of c.step-answer.result c.step-answer.new.self in
+    let wished = subst (λ (n : ℕ). GrantsWish n c.self.inside.machine c.args.entry.now.event c.number_in-wished.result o) c.from.ensures c.step-answer.ensures.wished in
     rw (← c.self.view_is)
     (λ after denied step.
-    let same = followed c.self.inside.machine c.step-answer.new.self after c.args.entry.now c.number_in-wished.result c.step-answer.result.0 c.step-answer.result.1 c.number_in-wished.ensures c.step-answer.ensures.wished step in
+    let same = followed c.self.inside.machine c.step-answer.new.self after c.args.entry.now c.number_in-wished.result c.step-answer.result.0 c.step-answer.result.1 c.number_in-wished.ensures wished step in
     false≢true (sym denied ∙ c.same_outcome.ensures.1 (ap (λ (o : StepResult). o.answer) same, ap (λ (o : StepResult). o.purse) same)))
 
 pub returns-clause-alone : goal.returns-clause-alone
 returns-clause-alone c =
+    let o = step_result_of c.step-answer.result c.step-answer.new.self in
+    let wished = subst (λ (n : ℕ). GrantsWish n c.self.inside.machine c.args.entry.now.event c.number_in-wished.result o) c.from.ensures c.step-answer.ensures.wished in
     rw (← c.self.view_is)
     (λ after step.
     sym (ap (λ (o : StepResult). o.state)
-    (followed c.self.inside.machine c.step-answer.new.self after c.args.entry.now c.number_in-wished.result c.step-answer.result.0 c.step-answer.result.1 c.number_in-wished.ensures c.step-answer.ensures.wished step)))
+    (followed c.self.inside.machine c.step-answer.new.self after c.args.entry.now c.number_in-wished.result c.step-answer.result.0 c.step-answer.result.1 c.number_in-wished.ensures wished step)))
