@@ -1,39 +1,18 @@
-use Rattle.std.proofs.Common.{◌≡◌, ◌<◌, ◌≤◌, ◌+◌, ◌==◌, ℕ, Bool, List, [], ◌∷◌, length, map, refl, sym, ap, subst, ◌∙◌, arith, inl, inr}
-use Rattle.std.specs.Prelude.{All, Some, slice_get, slice_index_or, IsTrue, filter, cond, option_map, ◌↔◌}
+use Rattle.std.proofs.Common.{◌≡◌, ◌<◌, ◌≤◌, ◌+◌, ℕ, Bool, List, length, map, sym, ap, subst, ◌∙◌, arith, inl, inr}
+use Rattle.std.specs.Prelude.{All, Some, slice_get, IsTrue, option_map, ◌↔◌}
 use Rattle.std.proofs.lemmas.List.{get_or-map, length-map}
-use Rattle.std.proofs.lemmas.List.Elements.{All-map, All-head, All-tail}
+use Rattle.std.proofs.lemmas.List.Elements.{All-map}
 use Rattle.std.proofs.lemmas.Bool.{cases_lt}
 use Rattle.std.proofs.lemmas.Option.{slice_get_within, slice_get-map}
-use Rattle.std.proofs.lemmas.Bool.Decides.{eqb_tells}
 use Rattle.gp_journal.specs.Kept.{History, entry_in}
 use Rattle.gp_machine.specs.declared.entry.Receipt.{Receipt}
 use Rattle.gp_accounts.proofs.Marks.{some_same}
-use Rattle.gp_accounts.specs.Accounted.{IsNamed, IsOnceIn, times_named, numbers_on, IsRising, Rises, RisesBelow, IsOnce, Accounted}
+use Rattle.gp_accounts.specs.Accounted.{IsNamed, IsOnceIn, times_named, Rises, IsOnce, Accounted}
 
 pub all_unmap : {W : Type 0} (f : W → List Receipt) (P : List Receipt → Type 0) (ws : List W) → All P (map f ws) → All (λ w. P (f w)) ws
 all_unmap f P ws h k d l = subst P (get_or-map f ws k d (f d) l) (h k (f d) (rw (length-map ws f) l))
 
--- past the last history there is no receipt
-no_numbers : (js : List History) (port : ℕ) (rs : List Receipt) → length js ≤ port → All (IsNamed js) rs → numbers_on port rs ≡ []
-no_numbers js port [] l h = refl
-no_numbers js port (r ∷ rs) l h =
-    let rest : numbers_on port rs ≡ [] = no_numbers js port rs l (All-tail (IsNamed js) r rs h) in
-    let here : IsNamed js r = All-head (IsNamed js) r rs h in
-    elim (eqb_tells r.port port) [
-      | inl e ↦
-          let within : r.port < length js = slice_get_within _ _ _ here.of in
-          let same = e.1 in
-          absurd (omega (arith, within, same, l))
-      | inr e ↦ ap (λ (b : Bool). map (λ (r : Receipt). r.number) (cond b (r ∷ filter (λ (r : Receipt). r.port == port) rs) (filter (λ (r : Receipt). r.port == port) rs))) e.0 ∙ rest
-    ]
-
-rises_all : (js : List History) (ports : ℕ) (rs : List Receipt) → ports ≡ length js → All (IsNamed js) rs → RisesBelow ports rs → Rises rs
-rises_all js ports rs is named below port =
-    elim (cases_lt port ports) [
-      | inr past ↦ subst IsRising (sym (no_numbers js port rs (rw (sym is) past) named)) (record { steps = λ k l. absurd (omega (arith, l)) })
-      | inl here ↦ below.rises port here
-    ]
-
+-- past the last history there is none that has entries
 once_all : (js : List History) (ws : List (List Receipt)) (ports : ℕ) → ports ≡ length js → ((port : ℕ) → port < ports → IsOnce js ws port) → (port : ℕ) → IsOnce js ws port
 once_all js ws ports is once port =
     elim (cases_lt port ports) [
@@ -41,16 +20,13 @@ once_all js ws ports is once port =
       | inl here ↦ once port here
     ]
 
-pub accounted_if : {W : Type 0} (f : W → List Receipt) (js : List History) (ws : List W) (ports : ℕ) → ports ≡ length js → All (λ w. All (IsNamed js) (f w)) ws → All (λ w. RisesBelow ports (f w)) ws
+pub accounted_if : {W : Type 0} (f : W → List Receipt) (js : List History) (ws : List W) (ports : ℕ) → ports ≡ length js → All (λ w. All (IsNamed js) (f w)) ws → All (λ w. Rises (f w)) ws
     → ((port : ℕ) → port < ports → IsOnce js (map f ws) port) → Accounted js (map f ws)
-accounted_if f js ws ports is named below once = record {
+accounted_if f js ws ports is named rising once = record {
   named = All-map (All (IsNamed js)) f ws named;
-  rising = All-map Rises f ws (λ k d l. rises_all js ports (f (slice_index_or ws k d)) is (named k d l) (below k d l));
+  rising = All-map Rises f ws rising;
   once = once_all js (map f ws) ports is once;
 }
-
-pub below_if : {W : Type 0} (f : W → List Receipt) (js : List History) (ws : List W) (ports : ℕ) → Accounted js (map f ws) → All (λ w. RisesBelow ports (f w)) ws
-below_if f js ws ports h k d l = record { rises = λ port p. all_unmap f Rises ws h.rising k d l port }
 
 -- a test of the port's history tells whether the receipt is named
 pub named_tells : {J : Type 0} (f : J → History) (js : List J) (r : Receipt) (b : Bool) (j : J) → slice_get js r.port ≡ Some j → (IsTrue b ↔ (entry_in (f j) r.number ≡ Some r.entry)) → (IsTrue b ↔ IsNamed (map f js) r)

@@ -25,10 +25,6 @@ pub record IsRising (numbers : List ℕ) : Type 0 where
 abbrev pub Rises : List Receipt → Type 0
 Rises receipts = (port : ℕ) → IsRising (numbers_on port receipts)
 
--- a worker's numbers on each port below this one rise
-pub record RisesBelow (ports : ℕ) (receipts : List Receipt) : Type 0 where
-  pub rises : (port : ℕ) → port < ports → IsRising (numbers_on port receipts)
-
 -- how many receipts of all workers are of this port and have this number
 abbrev pub times_named : List (List Receipt) → ℕ → ℕ → ℕ
 times_named workers port number = sum_by (count_by (names port number)) workers

@@ -5,7 +5,7 @@
 //!   receipts are such; other types become so by an `impl`.
 //! - `naming.rt`: whether each receipt names an entry. `rising.rt`: whether numbers rise. `marking.rt`: whether each entry is named
 //!   once, by a mark for each.
-//! - `reconciling.rt`: `reconcile`, the three together. `fault.rt`: why a chassis does not close.
+//! - `reconciling.rt`: `reconcile`, the three together; it takes its memory before it compares. `fault.rt`: why a chassis does not close.
 //! - `comparing.rt`: whether two entries are equal.
 //!
 //! `specs/Accounted.antt` is the whole meaning. A changed rule is changed there and in the file of its test.

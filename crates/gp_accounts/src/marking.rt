@@ -6,62 +6,87 @@ use super::told::Told;
 use gp_machine::Receipt;
 use std::alloc::{AllocError, Global};
 
-/// Tells whether each entry of each port is named by one receipt.
-pub(super) fn each_once<J: Recorded, W: Told>(
-    alloc: Global,
-    ports: u8,
-    journals: &[J],
-    workers: &[W],
-) -> Result<bool, AllocError>
-    requires ports { ports ≡ length journals.now }
-    requires named { All (λ w. All (IsNamed (map J.history journals.now)) (W.told w)) workers.now }
-    ensures { IfOk result (λ b. IsTrue b ↔ ((port : ℕ) → port < ports → IsOnce (map J.history journals.now) (map W.told workers.now) port)) }
+/// Takes memory for a mark of each entry of the longest of these.
+pub(super) fn blank_marks<J: Recorded>(alloc: Global, journals: &[J]) -> Result<Vec<u8>, AllocError>
+    ensures { IfOk result (λ marks. All (λ j. length (J.history j).entries ≤ length marks.items) journals.now) }
 {
-    for port in 0..ports {
-        if !once_in(alloc, port, journals, workers)? {
-            return Ok(false);
+    vec![in alloc; 0u8; longest(journals)]
+}
+
+/// Counts the entries of the longest of these.
+fn longest<J: Recorded>(journals: &[J]) -> usize
+    ensures { All (λ j. length (J.history j).entries ≤ result) journals.now }
+{
+    let mut most = 0;
+    for journal in journals {
+        let count = journal.count();
+        if count > most {
+            most = count;
         }
     }
-    Ok(true)
+    most
+}
+
+/// Tells whether each entry of each port is named by one receipt. There is a mark for each entry of a port.
+pub(super) fn each_once<J: Recorded, W: Told>(
+    marks: &mut [u8],
+    journals: &[J],
+    workers: &[W],
+) -> bool
+    requires room { All (λ j. length (J.history j).entries ≤ length marks.old) journals.now }
+    requires named { All (λ w. All (IsNamed (map J.history journals.now)) (W.told w)) workers.now }
+    ensures { IsTrue result ↔ ((port : ℕ) → port < length journals.now → IsOnce (map J.history journals.now) (map W.told workers.now) port) }
+{
+    for port in 0..journals.len() {
+        if !once_in(marks, port, journals, workers) {
+            return false;
+        }
+    }
+    true
 }
 
 fn once_in<J: Recorded, W: Told>(
-    alloc: Global,
-    port: u8,
+    marks: &mut [u8],
+    port: usize,
     journals: &[J],
     workers: &[W],
-) -> Result<bool, AllocError>
+) -> bool
     requires port { port < length journals.now }
+    requires room { All (λ j. length (J.history j).entries ≤ length marks.old) journals.now }
     requires named { All (λ w. All (IsNamed (map J.history journals.now)) (W.told w)) workers.now }
-    ensures { IfOk result (λ b. IsTrue b ↔ IsOnce (map J.history journals.now) (map W.told workers.now) port) }
+    ensures { IsTrue result ↔ IsOnce (map J.history journals.now) (map W.told workers.now) port }
 {
-    let journal = &journals[usize::from(port)];
-    let once = once_on(alloc, port, journal.first(), journal.count(), workers)?;
-    Ok(once)
+    let journal = &journals[port];
+    let first = journal.first();
+    let count = journal.count();
+    once_on(&mut marks[..count], port, first, workers)
 }
 
-/// Tells whether each of so many entries of a port, from the first one on, is named by one receipt.
-fn once_on<W: Told>(
-    alloc: Global,
-    port: u8,
-    first: u64,
-    count: usize,
-    workers: &[W],
-) -> Result<bool, AllocError>
-    requires { All (λ w. All (λ r. r.port ≡ port → (first ≤ r.number) × (r.number < first + count)) (W.told w)) workers.now }
-    ensures { IfOk result (λ b. IsTrue b ↔ ((k : ℕ) → k < count → times_named (map W.told workers.now) port (first + k) ≡ 1)) }
+/// Tells whether each of as many entries of a port as there are marks, from the first one on, is named by one receipt.
+fn once_on<W: Told>(marks: &mut [u8], port: usize, first: u64, workers: &[W]) -> bool
+    requires { All (λ w. All (λ r. r.port ≡ port → (first ≤ r.number) × (r.number < first + length marks.old)) (W.told w)) workers.now }
+    ensures { IsTrue result ↔ ((k : ℕ) → k < length marks.old → times_named (map W.told workers.now) port (first + k) ≡ 1) }
 {
-    let mut marks = vec![in alloc; 0u8; count]?;
+    wipe(marks);
     for worker in workers {
-        if !mark(port, first, worker.receipts(), &mut marks) {
-            return Ok(false);
+        if !mark(port, first, worker.receipts(), marks) {
+            return false;
         }
     }
-    Ok(all_ones(marks.as_slice()))
+    all_ones(marks)
+}
+
+/// Makes every mark 0.
+fn wipe(marks: &mut [u8])
+    ensures { (k : ℕ) → k < length marks.old → slice_index marks.new k ≡ 0 }
+{
+    for mark in marks.iter_mut() {
+        *mark = 0;
+    }
 }
 
 /// Counts the receipts that name each entry of a port. It stops at an entry that is named twice.
-fn mark(port: u8, first: u64, receipts: &[Receipt], marks: &mut [u8]) -> bool
+fn mark(port: usize, first: u64, receipts: &[Receipt], marks: &mut [u8]) -> bool
     requires in_range { All (λ r. r.port ≡ port → (first ≤ r.number) × (r.number < first + length marks.old)) receipts.now }
     requires once { All (λ m. m ≤ 1) marks.old }
     ensures marked { IsTrue result → (k : ℕ) → k < length marks.old → slice_index marks.new k ≡ slice_index marks.old k + count_by (names port (first + k)) receipts.now }
@@ -69,7 +94,7 @@ fn mark(port: u8, first: u64, receipts: &[Receipt], marks: &mut [u8]) -> bool
     ensures twice { result ≡ false → ((k : ℕ) × (k < length marks.old) × (1 < slice_index marks.old k + count_by (names port (first + k)) receipts.now)) }
 {
     for receipt in receipts {
-        if receipt.port == port {
+        if usize::from(receipt.port) == port {
             let at = (receipt.number - first) as usize;
             if marks[at] != 0 {
                 return false;

@@ -1,62 +1,45 @@
-ghost use Rattle.std.specs.Prelude.{◌≡◌, ◌↔◌, All, IsTrue, IfOk};
-ghost use Rattle.gp_accounts.specs.Accounted.{numbers_on, IsRising, RisesBelow};
+ghost use Rattle.std.specs.Prelude.{◌≡◌, ℕ, ◌<◌, ◌↔◌, All, IsTrue, Some};
+ghost use Rattle.gp_accounts.specs.Accounted.{Rises};
 
 use super::told::Told;
 use gp_machine::Receipt;
-use std::alloc::{AllocError, Global};
 
-/// Tells whether each worker's numbers rise on each port below `ports`.
-pub(super) fn each_rises<W: Told>(
-    alloc: Global,
-    ports: u8,
-    workers: &[W],
-) -> Result<bool, AllocError>
-    ensures { IfOk result (λ b. IsTrue b ↔ All (λ w. RisesBelow ports (W.told w)) workers.now) }
+/// How many ports a receipt can name.
+const PORTS: usize = 256;
+
+/// Tells whether each worker's numbers rise on each port.
+pub(super) fn each_rises<W: Told>(workers: &[W]) -> bool
+    ensures { IsTrue result ↔ All (λ w. Rises (W.told w)) workers.now }
 {
     for worker in workers {
-        if !all_rise(alloc, ports, worker.receipts())? {
-            return Ok(false);
-        }
-    }
-    Ok(true)
-}
-
-fn all_rise(alloc: Global, ports: u8, receipts: &[Receipt]) -> Result<bool, AllocError>
-    ensures { IfOk result (λ b. IsTrue b ↔ RisesBelow ports receipts.now) }
-{
-    for port in 0..ports {
-        if !rises_on(alloc, port, receipts)? {
-            return Ok(false);
-        }
-    }
-    Ok(true)
-}
-
-/// Tells whether the numbers on one port rise.
-fn rises_on(alloc: Global, port: u8, receipts: &[Receipt]) -> Result<bool, AllocError>
-    ensures { IfOk result (λ b. IsTrue b ↔ IsRising (numbers_on port receipts.now)) }
-{
-    let numbers = collect_numbers(alloc, port, receipts)?;
-    Ok(is_rising(numbers.as_slice()))
-}
-
-fn collect_numbers(alloc: Global, port: u8, receipts: &[Receipt]) -> Result<Vec<u64>, AllocError>
-    ensures { IfOk result (λ v. v.items ≡ numbers_on port receipts.now) }
-{
-    receipts
-        .iter()
-        .filter(|receipt| receipt.port == port)
-        .map(|receipt| receipt.number)
-        .collect(alloc)
-}
-
-fn is_rising(numbers: &[u64]) -> bool
-    ensures { IsTrue result ↔ IsRising numbers.now }
-{
-    for i in 1..numbers.len() {
-        if numbers[i] <= numbers[i - 1] {
+        if !rises(worker.receipts()) {
             return false;
         }
     }
     true
+}
+
+/// Tells whether the numbers rise on each port, by the last number of each.
+fn rises(receipts: &[Receipt]) -> bool
+    ensures { IsTrue result ↔ Rises receipts.now }
+{
+    let mut last: [Option<u64>; PORTS] = [None; PORTS];
+    for receipt in receipts {
+        let port = usize::from(receipt.port);
+        if !is_above(last[port], receipt.number) {
+            return false;
+        }
+        last[port] = Some(receipt.number);
+    }
+    true
+}
+
+/// Tells whether a number is greater than the last one, where there is one.
+fn is_above(last: Option<u64>, number: u64) -> bool
+    ensures { IsTrue result ↔ ((before : ℕ) → last ≡ Some before → before < number) }
+{
+    match last {
+        Some(last) => last < number,
+        None => true,
+    }
 }

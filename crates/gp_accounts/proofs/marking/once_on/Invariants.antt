@@ -4,7 +4,6 @@ use Rattle.gp_accounts.proofs.marking.once_on.Given as goal
 
 abbrev pub invariant-loop-worker : goal.invariant-loop-worker
 invariant-loop-worker g l = record {
-  len : length l.marks.items ≡ l.count;
-  once : All (λ (m : ℕ). m ≤ 1) l.marks.items;
-  marked : (k : ℕ) → k < l.count → slice_index l.marks.items k ≡ times_named (map g.W.Told.told (take l.worker-index l.workers)) l.port (l.first + k);
+  once : All (λ (m : ℕ). m ≤ 1) l.marks;
+  marked : (k : ℕ) → k < length l.initial.marks → slice_index l.marks k ≡ times_named (map g.W.Told.told (take l.worker-index l.workers)) l.port (l.first + k);
 }
