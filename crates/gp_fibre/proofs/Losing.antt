@@ -14,7 +14,7 @@ use Rattle.gp_machine.specs.Messages.{three_times}
 use Rattle.gp_laws.specs.Removals.{TakesOnuId, TellsItsOnuId, EachStepAdds}
 use Rattle.gp_machine.specs.Run.{entry_outcome}
 use Rattle.gp_fibre.specs.World.{FibreWorld, opening_world}
-use Rattle.gp_fibre.specs.Told.{HasOrLoses, AllHaveOrLose, sent_and_owed}
+use Rattle.gp_fibre.specs.Told.{sent_and_owed}
 use Rattle.gp_onu.specs.declared.stage.Stage.{Stage}
 use Rattle.gp_onu.specs.declared.stage.Stage.TheVariants.{Initial, Standby, SerialNumber, Ranging, Operation, Popup, EmergencyStop}
 use Rattle.gp_onu.specs.Stage.{onu_id_of}
@@ -45,6 +45,18 @@ takes_left ms more s n (inr h) = inr (Contains-append_left ms more (down.Disable
 takes_right : (ms more : List Down) (s : Serial) (n : ℕ) → TakesOnuId more s n → TakesOnuId (ms ++ more) s n
 takes_right ms more s n (inl h) = inl (Contains-append_right ms more (down.Deactivate n) h)
 takes_right ms more s n (inr h) = inr (Contains-append_right ms more (down.DisableSerial s) h)
+
+-- ---- who has an ONU-ID
+
+-- a unit that is told an ONU-ID has it by the table, or one of the later messages takes it from it
+abbrev HasOrLoses : Rows → Down → List Down → Type 0
+HasOrLoses rows (down.AssignOnu onu serial) later = HasOnuId rows serial onu ⊎ TakesOnuId later serial onu
+HasOrLoses rows other later = Unit {0}
+
+-- so it is for each of these messages
+abbrev AllHaveOrLose : Rows → List Down → Type 0
+AllHaveOrLose rows [] = Unit {0}
+AllHaveOrLose rows (message ∷ later) = HasOrLoses rows message later × AllHaveOrLose rows later
 
 -- ---- a step
 

@@ -1,4 +1,4 @@
-ghost use Rattle.std.specs.Prelude.{◌≡◌, ◌+◌, ◌<◌, ◌≤◌, ◌↔◌, Some, None, All, false, IfErr, IfOk, IsErrOf, OnErr, OnOk, length};
+ghost use Rattle.std.specs.Prelude.{◌≡◌, ◌+◌, ◌<◌, ◌≤◌, ◌↔◌, ◌⊎◌, Some, None, All, false, IfErr, IfOk, IsErrOf, OnErr, OnOk, length};
 ghost use Rattle.std.specs.List.{list_all};
 ghost use Rattle.std.specs.Option.{ForSome};
 ghost use Rattle.gp_fibre.specs.World as spec;
@@ -69,6 +69,7 @@ impl<L: Ledger> World<L> {
         requires parts { (blank.parts ≡ L.parts) × (L.parts ≡ MAX_LICENCES) }
         ensures begun { IfOk result (λ world. world ≡ opening_state config.now licences plans.now) }
         ensures limit { IsErrOf result WorldFault.Limit ↔ (spec.is_world_within_limits config.now licences plans.now ≡ false) }
+        ensures only { IfErr result (λ fault. (fault ≡ WorldFault.Limit) ⊎ (fault ≡ WorldFault.OutOfMemory)) }
     {
         if !is_within_limits(config, licences, plans) {
             return Err(WorldFault::Limit);
