@@ -67,7 +67,9 @@ impl PortFollower {
     {
         sound_step();
         let wished = number_in(&entry.answer.reply);
-        let (answer, left) = self.machine.step(u64::from(entry.purse_in), entry.event, wished);
+        let (answer, left) = self
+            .machine
+            .step(u64::from(entry.purse_in), entry.event, wished);
         same_outcome(answer, left, entry)
     }
 
