@@ -1,7 +1,7 @@
 //! The line of a code.
 ghost use Rattle.std.specs.Prelude.{◌≡◌, ◌≢◌, ◌↔◌, ℕ, List, [], OnOk, OnErr, IfOk, IfErr, IsErr, Err, true, false};
 ghost use Rattle.std.specs.String.{string_bytes};
-ghost use Rattle.gp_stream.specs.Sink.{Takes, TakesPrefix, gathered_of, has_flushed, has_stopped, sink_state};
+ghost use Rattle.gp_stream.specs.Sink.{Takes, TakesPrefix};
 ghost use Rattle.gp_decode.specs.declared.fault.LineFault.{LineFault as AnyFault};
 ghost use Rattle.gp_decode.specs.Line.{HasLineFault, IsOfText, LacksLine, LacksLineOfCode, Says, SaysCode};
 
@@ -9,7 +9,7 @@ use super::code::code_in;
 use super::fault::LineFault;
 use super::message::{DownText, UpText};
 use gp_ploam::{Mask, decode_down, decode_up};
-use gp_stream::{Sink, WriteStopped};
+use gp_stream::Sink;
 use std::alloc::Global;
 use std::io::Write;
 
@@ -25,34 +25,22 @@ pub fn decode_line<W: Write>(
     mask: Mask,
     sink: &mut Sink<W>,
 ) -> Result<(), LineFault>
-    ensures ok { OnOk result ((line : List ℕ) × Says upstream mask text.now line × Takes (sink_state W.contents sink.old) (sink_state W.contents sink.new) line) }
-    ensures written { OnOk result (gathered_of sink.new ≡ []) }
-    ensures flushed { has_flushed sink.old ≡ true → OnOk result (has_flushed sink.new ≡ true) }
-    ensures finished { OnOk result (has_stopped sink.new ≡ false) }
+    ensures ok { OnOk result ((line : List ℕ) × Says upstream mask text.now line × Takes sink.old sink.new line) }
+    ensures written { OnOk result (sink.new.gathered ≡ []) }
+    ensures flushed { sink.old.flushed ≡ true → OnOk result (sink.new.flushed ≡ true) }
+    ensures finished { OnOk result (sink.new.stopped ≡ false) }
 
     // Memory and the writer aside, the text alone decides, by its first fault.
     ensures fault { (fault : AnyFault) → IsOfText fault → (result ≡ Err fault) ↔ HasLineFault mask text.now fault }
 
-    ensures write { result ≡ Err LineFault.Write → has_stopped sink.new ≡ true }
-    ensures prefix { result ≡ Err LineFault.Write → (line : List ℕ) × Says upstream mask text.now line × TakesPrefix (sink_state W.contents sink.old) (sink_state W.contents sink.new) line }
+    ensures write { result ≡ Err LineFault.Write → sink.new.stopped ≡ true }
+    ensures prefix { result ≡ Err LineFault.Write
+        → (line : List ℕ) × Says upstream mask text.now line × TakesPrefix sink.old sink.new line }
     ensures kept { IfErr result (λ fault. fault ≢ LineFault.Write → sink.new ≡ sink.old) }
 {
     let line = line_for(alloc, text, upstream, mask)?;
-    write_line(sink, line.as_bytes())?;
+    sink.write_whole(line.as_bytes())?;
     Ok(())
-}
-
-/// Hands in the line, and writes out all that the sink gathers.
-fn write_line<W: Write>(sink: &mut Sink<W>, line: &[u8]) -> Result<(), WriteStopped>
-    ensures ok { OnOk result (Takes (sink_state W.contents sink.old) (sink_state W.contents sink.new) line.now) }
-    ensures written { OnOk result (gathered_of sink.new ≡ []) }
-    ensures flushed { has_flushed sink.old ≡ true → OnOk result (has_flushed sink.new ≡ true) }
-    ensures prefix { OnErr result (TakesPrefix (sink_state W.contents sink.old) (sink_state W.contents sink.new) line.now) }
-    ensures finished { OnOk result (has_stopped sink.new ≡ false) }
-    ensures stopped { OnErr result (has_stopped sink.new ≡ true) }
-{
-    sink.put(line)?;
-    sink.finish()
 }
 
 /// Makes the line of the message that a text is the code of.

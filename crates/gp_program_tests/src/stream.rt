@@ -29,6 +29,25 @@ impl Read for SlowReader<'_> {
     }
 }
 
+/// Gives so many octets, one a read.
+#[derive(Drop)]
+struct OctetReader {
+    left: usize,
+}
+
+impl Read for OctetReader {
+    fn read(&mut self, buffer: &mut [u8]) -> io::Result<usize> {
+        match buffer.first_mut() {
+            Some(place) if self.left > 0 => {
+                *place = 7;
+                self.left -= 1;
+                Ok(1)
+            }
+            _ => Ok(0),
+        }
+    }
+}
+
 /// Takes one octet a write, and once it took so many it fails, or takes nothing.
 #[derive(Drop)]
 struct ShortWriter {
@@ -100,6 +119,28 @@ fn longest_input(rt: HostRuntime) {
     ] {
         let mut source = Source::new(io::repeat(7).take(octets));
         assert_eq!(rt; read(rt.alloc(), &mut source, b"\x07\x07"), wanted);
+    }
+}
+
+// The first input is too long after 1,048,577 reads of an octet. That leaves 1,048,575, the last of which finds the end, or
+// none where an octet more comes; an endless source has no bound.
+#[test]
+fn bound_of_reads(rt: HostRuntime) {
+    let too_long = Err(SourceFault::TooLong);
+    for (octets, endless, wanted) in [
+        (2_097_151, false, Ok((1_048_574, true))),
+        (2_097_152, false, Err(SourceFault::Read)),
+        (2_097_152, true, Ok((1_048_575, true))),
+    ] {
+        let reader = OctetReader { left: octets };
+        let mut source = if endless {
+            Source::endless(reader)
+        } else {
+            Source::new(reader)
+        };
+        let first = read(rt.alloc(), &mut source, b"");
+        let second = read(rt.alloc(), &mut source, b"\x07");
+        assert_eq!(rt; (first, second), (too_long, wanted), "{octets} {endless}");
     }
 }
 

@@ -1,4 +1,4 @@
-pub mod SinkLemmas
+pub mod PlayLemmas
 pub mod RunLemmas
 pub mod TurnLemmas
 pub mod RoomLemmas

@@ -2,14 +2,11 @@
 use Rattle.std.proofs.Common.{◌≡◌, ℕ, ◌+◌, ◌<◌, ◌≤◌, ◌^◌, List, [], ◌∷◌, All, length, subst, arith, slice_get, slice_set, Some}
 use Rattle.std.proofs.lemmas.List.Elements.{All-get_or, All-map, All-set, All-weaker}
 use Rattle.std.proofs.lemmas.Option.{get_or_from_slice_get, slice_get_within}
-use Rattle.gp_ploam.specs.declared.check.Mask.{Mask}
 use Rattle.gp_machine.specs.declared.config.PortConfig.{PortConfig}
 use Rattle.gp_machine.specs.declared.entry.Receipt.{Receipt}
-use Rattle.gp_stream.specs.Sink.{SinkState}
 use Rattle.gp_replay.specs.declared.turn.Turn.{Turn}
 use Rattle.gp_replay.specs.Chassis.{HasRoom, PlayState, opened_play}
-use Rattle.gp_replay.specs.Play.{AreNumbered}
-use Rattle.gp_replay.specs.Writing.{WritesTurns}
+use Rattle.gp_replay.specs.Play.{AreNumbered, TakesTurns}
 use Rattle.gp_replay.proofs.RunLemmas.{as_many}
 
 -- each of these numbers can be followed by so many more
@@ -41,11 +38,11 @@ leave_after_all count (r ∷ rs) old new numbers room =
     leave_after (length rs + count) r.number r.port old numbers.0 (leave_fewer (1 + (length rs + count)) (length (r ∷ rs) + count) old (omega arith) room)
     )
 
-pub room_left : (count many : ℕ) (mask : Mask) (old new : PlayState) (turns : List Turn) (x y : SinkState)
-    → WritesTurns mask old turns new x y → length turns + count ≤ many → HasRoom many old → HasRoom count new
-room_left count many mask old new turns x y w le room =
-    let each = as_many old new turns w.receipts w.taken in
-    leave_after_all count w.receipts old.next new.next w.taken.numbers (leave_fewer (length w.receipts + count) many old.next (omega (arith, each, le)) room)
+pub room_left : (count many : ℕ) (old new : PlayState) (turns : List Turn) (receipts : List Receipt)
+    → TakesTurns old turns receipts new → length turns + count ≤ many → HasRoom many old → HasRoom count new
+room_left count many old new turns receipts taken le room =
+    let each = as_many old new turns receipts taken in
+    leave_after_all count receipts old.next new.next taken.numbers (leave_fewer (length receipts + count) many old.next (omega (arith, each, le)) room)
 
 -- on a chassis that was just opened no entry has a number
 pub opening_room : (count : ℕ) (ports : List PortConfig) (licences : ℕ) → count < 2 ^ 64 → HasRoom count (opened_play ports licences)

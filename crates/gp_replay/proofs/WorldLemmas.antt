@@ -1,5 +1,5 @@
--- What happens to a fibre in parts, one after the other, with what is handed to a sink of it.
-use Rattle.std.proofs.Common.{◌≡◌, ℕ, ◌+◌, ◌<◌, ◌≤◌, List, [], ◌∷◌, ◌++◌, length, take, drop, get_or, Option, None, Some, Result, Ok, Err, IfErr, IsErrAnd, OnErr, subst, refl, sym, ap, ◌∙◌, inl, inr, append_assoc, arith}
+-- What happens to a fibre in parts, one after the other.
+use Rattle.std.proofs.Common.{◌≡◌, ℕ, ◌+◌, ◌<◌, ◌≤◌, List, [], ◌∷◌, ◌++◌, length, take, drop, get_or, Option, None, Some, subst, refl, sym, ap, ◌∙◌, inl, inr, append_assoc, arith}
 use Rattle.std.specs.Option.{option_to_list}
 use Rattle.std.proofs.lemmas.Grind.{flat_map-append}
 use Rattle.std.proofs.lemmas.List.{append-nil, length-append, length-take-le, take_more, take-append-drop}
@@ -14,20 +14,10 @@ use Rattle.gp_script.specs.declared.script.ScriptEvent.TheVariants as events
 use Rattle.gp_script.specs.Lose.{LossesView}
 use Rattle.gp_stream.specs.Sink.{SinkState, Takes, TakesPrefix}
 use Rattle.gp_trace.specs.Text.{line_of, trace_text}
-use Rattle.gp_replay.specs.declared.fault.PlayFault.{PlayFault}
-use Rattle.gp_replay.specs.declared.fault.PlayFault.TheVariants as faults
 use Rattle.gp_replay.specs.WorldPlay.{TakesStep, WorldTakes, WorldTakesAll, receipt_with, receipts_from}
-use Rattle.gp_replay.specs.WorldWriting.{FibrePlay, Happening, LeavesBy, MayTakeStep, TakesNothing, TakesSomeFrames, WorldTakesPart, WorldTakesPrefix, Writes, WritesPrefixOf}
-use Rattle.gp_replay.proofs.SinkLemmas.{takes_nothing, takes_more, takes_prefix_after}
-
--- what is left by the error that a result is told to be
-pub if_told : {T E : Type 0} (P : E → Type 0) (r : Result T E) (e : E) → IsErrAnd r (λ x. x ≡ e) → P e → IfErr r P
-if_told P (Ok x) e told p = absurd told
-if_told P (Err x) e told p = subst P (sym told) p
-
-pub on_err : {T E P : Type 0} (r : Result T E) → P → OnErr r P
-on_err (Ok x) p = tt
-on_err (Err e) p = p
+use Rattle.gp_replay.specs.WorldWriting.{FibrePlay, MayTakeStep, Numbered, TakesNothing, TakesSomeFrames, WorldHappening, WorldTakesPart, WorldTakesPrefix}
+use Rattle.gp_stream.proofs.SinkLemmas.{takes_more, takes_prefix_after}
+use Rattle.gp_replay.proofs.PlayLemmas.{Joins}
 
 -- ---- texts
 
@@ -48,7 +38,7 @@ text_one : (mask : Mask) (n : ℕ) (x : Entry) → trace_text mask (receipts_fro
 text_one mask n x = append-nil (line_of mask (receipt_with n x))
 
 -- a prefix of some bytes is one of those and more
-prefix_of_more : (x y : SinkState) (few more : List ℕ) → TakesPrefix x y few → TakesPrefix x y (few ++ more)
+prefix_of_more : {W : Type 0} (x y : SinkState W) (few more : List ℕ) → TakesPrefix x y few → TakesPrefix x y (few ++ more)
 prefix_of_more x y few more p = record {
   written = p.written;
   unwritten = p.unwritten ++ more;
@@ -58,7 +48,7 @@ prefix_of_more x y few more p = record {
 
 -- ---- entries that are written
 
-pub entries_more : (mask : Mask) (n m i : ℕ) (es : List Entry) (d : Entry) (x y z : SinkState) → i < length es → m ≡ n + i → d ≡ get_or es i d
+pub entries_more : {W : Type 0} (mask : Mask) (n m i : ℕ) (es : List Entry) (d : Entry) (x y z : SinkState W) → i < length es → m ≡ n + i → d ≡ get_or es i d
     → Takes x y (trace_text mask (receipts_from n (take i es))) → Takes y z (line_of mask (receipt_with m d))
     → Takes x z (trace_text mask (receipts_from n (take (i + 1) es)))
 entries_more mask n m i es d x y z h e is p told =
@@ -69,7 +59,7 @@ entries_more mask n m i es d x y z h e is p told =
     let last : Takes y z (trace_text mask (receipts_from m one)) = subst (λ (l : List ℕ). Takes y z l) (sym (text_one mask m (get_or es i d))) q in
     subst (λ (l : List ℕ). Takes x z l) text (takes_more x y z _ _ p last)
 
-pub entries_stop : (mask : Mask) (n m i : ℕ) (es : List Entry) (d : Entry) (x y z : SinkState) → i < length es → m ≡ n + i → d ≡ get_or es i d
+pub entries_stop : {W : Type 0} (mask : Mask) (n m i : ℕ) (es : List Entry) (d : Entry) (x y z : SinkState W) → i < length es → m ≡ n + i → d ≡ get_or es i d
     → Takes x y (trace_text mask (receipts_from n (take i es))) → TakesPrefix y z (line_of mask (receipt_with m d))
     → TakesPrefix x z (trace_text mask (receipts_from n es))
 entries_stop mask n m i es d x y z h e is p told =
@@ -86,109 +76,90 @@ entries_stop mask n m i es d x y z h e is p told =
 -- ---- what happens in parts
 
 -- one after the other is the whole
-abbrev pub Joins : Happening → Happening → Happening → Type 0
-Joins T U V = (a b c : WorldState) (es fs : List Entry) → T a es b → U b fs c → V a (es ++ fs) c
+abbrev pub WorldJoins : WorldHappening → WorldHappening → WorldHappening → Type 0
+WorldJoins T U V = (a b c : WorldState) (es fs : List Entry) → T a es b → U b fs c → V a (es ++ fs) c
 
-pub writes_none : (mask : Mask) (T : Happening) (old : FibrePlay) (x : SinkState) → T old.world [] old.world → Writes mask T old old x x
-writes_none mask T old x h = record { entries = []; happened = h; next = omega arith; lines = takes_nothing x }
-
-pub writes_on : (mask : Mask) (T U V : Happening) → Joins T U V → (old mid new : FibrePlay) (x y z : SinkState)
-    → Writes mask T old mid x y → Writes mask U mid new y z → Writes mask V old new x z
-writes_on mask T U V joins old mid new x y z p q = record {
+-- so it is of the receipts
+pub numbered_join : (T U V : WorldHappening) → WorldJoins T U V → Joins (Numbered T) (Numbered U) (Numbered V)
+numbered_join T U V joins a b c rs ss p q = record {
   entries = p.entries ++ q.entries;
-  happened = joins old.world mid.world new.world p.entries q.entries p.happened q.happened;
+  happened = joins a.world b.world c.world p.entries q.entries p.happened q.happened;
   next = omega (arith, p.next, q.next, length-append p.entries q.entries);
-  lines = subst (λ (l : List ℕ). Takes x z l) (text_append mask old.next mid.next p.entries q.entries p.next) (takes_more x y z _ _ p.lines q.lines);
+  receipts_are =
+      ap (λ (l : List Receipt). l ++ ss) p.receipts_are
+      ∙ ap (λ (l : List Receipt). receipts_from a.next p.entries ++ l) (q.receipts_are ∙ ap (λ (k : ℕ). receipts_from k q.entries) p.next)
+      ∙ sym (receipts_append a.next p.entries q.entries);
 }
 
-prefix_on : (mask : Mask) (T U V : Happening) → Joins T U V → (old mid : FibrePlay) (x y z : SinkState)
-    → Writes mask T old mid x y → WritesPrefixOf mask U mid y z → WritesPrefixOf mask V old x z
-prefix_on mask T U V joins old mid x y z p q = record {
-  entries = p.entries ++ q.entries;
-  end = q.end;
-  happened = joins old.world mid.world q.end p.entries q.entries p.happened q.happened;
-  lines = subst (λ (l : List ℕ). TakesPrefix x z l) (text_append mask old.next mid.next p.entries q.entries p.next) (takes_prefix_after x y z _ _ p.lines q.lines);
-}
-
-pub leaves_on : (mask : Mask) (T U V : Happening) → Joins T U V → (old mid : FibrePlay) (x y z : SinkState)
-    → Writes mask T old mid x y → (fault : PlayFault) → LeavesBy fault mask U mid y z → LeavesBy fault mask V old x z
-leaves_on mask T U V joins old mid x y z p faults.OutOfMemory q = (q.0, writes_on mask T U V joins old mid q.0 x y z p q.1)
-leaves_on mask T U V joins old mid x y z p faults.Write q = prefix_on mask T U V joins old mid x y z p q
+-- nothing happens
+pub numbered_none : (T : WorldHappening) (a : FibrePlay) → T a.world [] a.world → Numbered T a [] a
+numbered_none T a h = record { entries = []; happened = h; next = omega arith; receipts_are = refl }
 
 -- ---- a step
 
-pub step_writes : (mask : Mask) (step : WorldStep) (given : Option Entry) (entry : Entry) (old mid new : FibrePlay) (x y : SinkState) → StepsTo old.world step given mid.world → given ≡ Some entry
-    → mid.next ≡ old.next → new.world ≡ mid.world → new.next ≡ mid.next + 1 → Takes x y (line_of mask (receipt_with mid.next entry)) → Writes mask (TakesStep step) old new x y
-step_writes mask step given entry old mid new x y steps is next world more lines = record {
+pub step_happens : (step : WorldStep) (given : Option Entry) (entry : Entry) (old mid new : FibrePlay) → StepsTo old.world step given mid.world
+    → given ≡ Some entry → mid.next ≡ old.next → new.world ≡ mid.world → new.next ≡ mid.next + 1
+    → Numbered (TakesStep step) old (receipt_with mid.next entry ∷ []) new
+step_happens step given entry old mid new steps is next world more = record {
   entries = entry ∷ [];
   happened = subst (λ (w : WorldState). TakesStep step old.world (entry ∷ []) w) (sym world) (given, steps, ap (λ (g : Option Entry). option_to_list g) (sym is));
   next = more ∙ ap (λ (n : ℕ). n + 1) next;
-  lines = subst (λ (l : List ℕ). Takes x y l) (sym (text_one mask old.next entry)) (subst (λ (n : ℕ). Takes x y (line_of mask (receipt_with n entry))) next lines);
+  receipts_are = ap (λ (n : ℕ). receipt_with n entry ∷ []) next;
 }
 
-pub step_silent : (mask : Mask) (step : WorldStep) (given : Option Entry) (old new : FibrePlay) (x : SinkState) → StepsTo old.world step given new.world → given ≡ None → new.next ≡ old.next
-    → Writes mask (TakesStep step) old new x x
-step_silent mask step given old new x steps is next = record {
+pub step_may : (step : WorldStep) (old new : FibrePlay) (rs : List Receipt) → Numbered (TakesStep step) old rs new → Numbered (MayTakeStep step) old rs new
+step_may step old new rs n = record { entries = n.entries; happened = inr n.happened; next = n.next; receipts_are = n.receipts_are }
+
+pub step_silent : (step : WorldStep) (given : Option Entry) (old new : FibrePlay) → StepsTo old.world step given new.world → given ≡ None
+    → new.next ≡ old.next → Numbered (TakesStep step) old [] new
+step_silent step given old new steps is next = record {
   entries = [];
   happened = (given, steps, ap (λ (g : Option Entry). option_to_list g) (sym is));
   next = omega (arith, next);
-  lines = takes_nothing x;
+  receipts_are = refl;
 }
-
-pub step_prefix : (mask : Mask) (step : WorldStep) (given : Option Entry) (entry : Entry) (old mid : FibrePlay) (x y : SinkState) → StepsTo old.world step given mid.world → given ≡ Some entry
-    → mid.next ≡ old.next → TakesPrefix x y (line_of mask (receipt_with mid.next entry)) → WritesPrefixOf mask (MayTakeStep step) old x y
-step_prefix mask step given entry old mid x y steps is next lines = record {
-  entries = entry ∷ [];
-  end = mid.world;
-  happened = inr (given, steps, ap (λ (g : Option Entry). option_to_list g) (sym is));
-  lines = subst (λ (l : List ℕ). TakesPrefix x y l) (sym (text_one mask old.next entry)) (subst (λ (n : ℕ). TakesPrefix x y (line_of mask (receipt_with n entry))) next lines);
-}
-
-pub no_step : (mask : Mask) (step : WorldStep) (old : FibrePlay) (x : SinkState) → LeavesBy faults.OutOfMemory mask (MayTakeStep step) old x x
-no_step mask step old x = (old, writes_none mask (MayTakeStep step) old x (inl (refl, refl)))
 
 -- ---- frames
 
 pub frames_join : (losses : LossesView) (count more total : ℕ) → count + more ≡ total
-    → Joins (FramesRun losses.copies losses.bursts count) (FramesRun losses.copies losses.bursts more) (FramesRun losses.copies losses.bursts total)
+    → WorldJoins (FramesRun losses.copies losses.bursts count) (FramesRun losses.copies losses.bursts more) (FramesRun losses.copies losses.bursts total)
 frames_join losses count more total e a b c es fs p q =
     subst (λ (n : ℕ). FramesRun losses.copies losses.bursts n a (es ++ fs) c) e
     ((frames_in_parts losses.copies losses.bursts count more a c (es ++ fs)).1 (b, es, fs, p, q, refl))
 
 pub some_frames_join : (losses : LossesView) (count more total : ℕ) → count + more ≤ total
-    → Joins (FramesRun losses.copies losses.bursts count) (TakesSomeFrames losses more) (TakesSomeFrames losses total)
+    → WorldJoins (FramesRun losses.copies losses.bursts count) (TakesSomeFrames losses more) (TakesSomeFrames losses total)
 some_frames_join losses count more total e a b c es fs p q =
     (count + q.0, let few = q.1 in omega arith, frames_join losses count q.0 (count + q.0) refl a b c es fs p q.2)
 
-pub no_frames : (mask : Mask) (losses : LossesView) (count : ℕ) (old : FibrePlay) (x : SinkState) → LeavesBy faults.OutOfMemory mask (TakesSomeFrames losses count) old x x
-no_frames mask losses count old x = (old, writes_none mask (TakesSomeFrames losses count) old x (0, omega arith, (refl, refl)))
+pub no_frames : (losses : LossesView) (count : ℕ) (a : FibrePlay) → count ≡ 0 → Numbered (FramesRun losses.copies losses.bursts count) a [] a
+no_frames losses count a none =
+    numbered_none (FramesRun losses.copies losses.bursts count) a
+    (subst (λ (n : ℕ). FramesRun losses.copies losses.bursts n a.world [] a.world) (sym none) (refl, refl))
 
-pub writes_no_frames : (mask : Mask) (losses : LossesView) (count : ℕ) (old : FibrePlay) (x : SinkState) → count ≡ 0 → Writes mask (FramesRun losses.copies losses.bursts count) old old x x
-writes_no_frames mask losses count old x none =
-    writes_none mask (FramesRun losses.copies losses.bursts count) old x (subst (λ (n : ℕ). FramesRun losses.copies losses.bursts n old.world [] old.world) (sym none) (refl, refl))
-
-pub frames_write : (mask : Mask) (losses : LossesView) (count : ℕ) (entries : List Entry) (old mid new : FibrePlay) (x y : SinkState) → FramesRun losses.copies losses.bursts count old.world entries mid.world
-    → mid.next ≡ old.next → new.world ≡ mid.world → new.next ≡ mid.next + length entries → Takes x y (trace_text mask (receipts_from mid.next entries))
-    → Writes mask (FramesRun losses.copies losses.bursts count) old new x y
-frames_write mask losses count entries old mid new x y run next world more lines = record {
+pub frames_happen : (losses : LossesView) (count : ℕ) (entries : List Entry) (old mid new : FibrePlay)
+    → FramesRun losses.copies losses.bursts count old.world entries mid.world → mid.next ≡ old.next → new.world ≡ mid.world
+    → new.next ≡ mid.next + length entries → Numbered (FramesRun losses.copies losses.bursts count) old (receipts_from mid.next entries) new
+frames_happen losses count entries old mid new run next world more = record {
   entries = entries;
   happened = subst (λ (w : WorldState). FramesRun losses.copies losses.bursts count old.world entries w) (sym world) run;
   next = more ∙ ap (λ (n : ℕ). n + length entries) next;
-  lines = subst (λ (n : ℕ). Takes x y (trace_text mask (receipts_from n entries))) next lines;
+  receipts_are = ap (λ (n : ℕ). receipts_from n entries) next;
 }
 
-pub frames_prefix : (mask : Mask) (losses : LossesView) (count : ℕ) (entries : List Entry) (old mid : FibrePlay) (x y : SinkState) → FramesRun losses.copies losses.bursts count old.world entries mid.world
-    → mid.next ≡ old.next → TakesPrefix x y (trace_text mask (receipts_from mid.next entries)) → WritesPrefixOf mask (TakesSomeFrames losses count) old x y
-frames_prefix mask losses count entries old mid x y run next lines = record {
+pub some_frames_happen : (losses : LossesView) (count : ℕ) (entries : List Entry) (old mid : FibrePlay)
+    → FramesRun losses.copies losses.bursts count old.world entries mid.world → mid.next ≡ old.next
+    → Numbered (TakesSomeFrames losses count) old (receipts_from mid.next entries) (record { world = mid.world; next = mid.next + length entries })
+some_frames_happen losses count entries old mid run next = record {
   entries = entries;
-  end = mid.world;
   happened = (count, omega arith, run);
-  lines = subst (λ (n : ℕ). TakesPrefix x y (trace_text mask (receipts_from n entries))) next lines;
+  next = ap (λ (n : ℕ). n + length entries) next;
+  receipts_are = ap (λ (n : ℕ). receipts_from n entries) next;
 }
 
 -- ---- events
 
-takes_append : (losses : LossesView) (us vs : List ScriptEvent) → Joins (WorldTakesAll losses us) (WorldTakesAll losses vs) (WorldTakesAll losses (us ++ vs))
+takes_append : (losses : LossesView) (us vs : List ScriptEvent) → WorldJoins (WorldTakesAll losses us) (WorldTakesAll losses vs) (WorldTakesAll losses (us ++ vs))
 takes_append losses [] vs a b c es fs p q =
     subst (λ (l : List Entry). WorldTakesAll losses vs a (l ++ fs) c) (sym p.1) (subst (λ (w : WorldState). WorldTakesAll losses vs w fs c) p.0 q)
 takes_append losses (u ∷ us) vs a b c es fs p q = (
@@ -205,7 +176,7 @@ takes_one losses e a b es p = (b, es, [], p, (refl, refl), sym (append-nil es))
 
 -- one more event
 pub event_joins : (losses : LossesView) (all : List ScriptEvent) (i : ℕ) (d : ScriptEvent) → i < length all
-    → Joins (WorldTakesAll losses (take i all)) (WorldTakes losses (get_or all i d)) (WorldTakesAll losses (take (i + 1) all))
+    → WorldJoins (WorldTakesAll losses (take i all)) (WorldTakes losses (get_or all i d)) (WorldTakesAll losses (take (i + 1) all))
 event_joins losses all i d h a b c es fs p q =
     subst (λ (l : List ScriptEvent). WorldTakesAll losses l a (es ++ fs) c) (sym (take_more all i d h))
     (takes_append losses (take i all) (get_or all i d ∷ []) a b c es fs p (takes_one losses (get_or all i d) b c fs q))
@@ -217,7 +188,7 @@ events_split all i d h =
 
 -- events, and then a part of the next
 part_joins : (losses : LossesView) (all whole more : List ScriptEvent) (e : ScriptEvent) → all ≡ whole ++ e ∷ more
-    → Joins (WorldTakesAll losses whole) (WorldTakesPart losses e) (WorldTakesPrefix losses all)
+    → WorldJoins (WorldTakesAll losses whole) (WorldTakesPart losses e) (WorldTakesPrefix losses all)
 part_joins losses all whole more e split a b c es fs p q = of_event e split q
   where
     nothing : TakesNothing b fs c → WorldTakesPrefix losses all a (es ++ fs) c
@@ -250,7 +221,7 @@ part_joins losses all whole more e split a b c es fs p q = of_event e split q
     of_event (events.Light unit lit) s (inr t) = all_of (events.Light unit lit) s t
 
 pub event_part_joins : (losses : LossesView) (all : List ScriptEvent) (i : ℕ) (d : ScriptEvent) → i < length all
-    → Joins (WorldTakesAll losses (take i all)) (WorldTakesPart losses (get_or all i d)) (WorldTakesPrefix losses all)
+    → WorldJoins (WorldTakesAll losses (take i all)) (WorldTakesPart losses (get_or all i d)) (WorldTakesPrefix losses all)
 event_part_joins losses all i d h = part_joins losses all (take i all) (drop (i + 1) all) (get_or all i d) (events_split all i d h)
 
 -- all events are a prefix of them

@@ -1,8 +1,8 @@
--- A whole play on a fibre: what its script has to be for it, and what is written of it.
-use Rattle.std.proofs.Common.{◌≡◌, ℕ, suc, ◌≤◌, ◌&&◌, Bool, true, List, [], ◌∷◌, ◌++◌, All, IsTrue, length, get_or, map, Result, Err, IfErr, IsErrAnd, subst, refl, sym, ap, ◌∙◌, arith}
+-- A whole play on a fibre: what its script has to be for it.
+use Rattle.std.proofs.Common.{◌≡◌, ℕ, suc, ◌<◌, ◌≤◌, ◌&&◌, Bool, true, List, [], ◌∷◌, All, IsTrue, length, get_or, map, Result, subst, refl, sym, ap, ◌∙◌, arith}
 use Rattle.std.specs.List.{list_all}
 use Rattle.std.proofs.lemmas.Bool.{le-leb}
-use Rattle.std.proofs.lemmas.List.{append-nil, length-map}
+use Rattle.std.proofs.lemmas.List.{length-map}
 use Rattle.gp_licence.specs.declared.ledger_parts.TheConstants.{MAX_LICENCES}
 use Rattle.gp_ploam.specs.declared.check.Mask.{Mask}
 use Rattle.gp_machine.specs.declared.config.PortConfig.{PortConfig}
@@ -20,26 +20,28 @@ use Rattle.gp_script.specs.Playable.{IsPlayable}
 use Rattle.gp_script.specs.Script.{ScriptView}
 use Rattle.gp_script.specs.Unit.{is_unit_within_limits}
 use Rattle.gp_script.specs.View.{NamesOneOf}
-use Rattle.gp_stream.specs.Sink.{SinkState, Takes, TakesPrefix}
-use Rattle.gp_trace.specs.Text.{trace_text}
+use Rattle.gp_stream.specs.Sink.{SinkState}
 use Rattle.gp_replay.specs.declared.fault.PlayFault.{PlayFault}
-use Rattle.gp_replay.specs.declared.fault.PlayFault.TheVariants as faults
-use Rattle.gp_replay.specs.WorldPlay.{WorldPlays, WorldTakesAll, opening_fibre, plan_of, receipts_from}
-use Rattle.gp_replay.specs.WorldWriting.{FibrePlay, LeavesBy, LeavesWorldLines, LeavesWorldPrefix, MayTakeStep, WorldTakesPart, WorldTakesPrefix, Writes, WritesPrefixOf, WritesWorld}
-use Rattle.gp_replay.proofs.SinkLemmas.{takes_more, takes_prefix_after}
+use Rattle.gp_replay.specs.WorldPlay.{TakesStep, WorldPlays, WorldTakes, WorldTakesAll, opening_fibre, plan_of, receipts_from}
+use Rattle.gp_replay.specs.WorldWriting.{FibrePlay, MayTakeStep, Numbered, WorldTakesPart, WorldTakesPrefix}
+use Rattle.gp_replay.specs.ScriptPlay.{ByFibre, SomeByFibre}
+use Rattle.gp_replay.specs.Writing.{PlaysOn}
+use Rattle.gp_replay.proofs.ScriptPlayLemmas.{StandsFor}
 use Rattle.gp_replay.proofs.WorldLemmas.{all_are_prefix}
 use Rattle.gp_replay.proofs.WorldRunLemmas.{world_runs}
 
 -- ---- one event
 
--- what is left of a step is what is left of an event that stands for it
-pub step_left : (mask : Mask) (losses : LossesView) (event : ScriptEvent) (step : WorldStep) (e : ScriptEvent) (s : WorldStep) (old : FibrePlay) (x y : SinkState) (r : Result (Unit {0}) PlayFault)
-    → event ≡ e → step ≡ s
-    → (IfErr r (λ fault. LeavesBy fault mask (MayTakeStep s) old x y) → IfErr r (λ fault. LeavesBy fault mask (WorldTakesPart losses e) old x y))
-    → IfErr r (λ fault. LeavesBy fault mask (MayTakeStep step) old x y) → IfErr r (λ fault. LeavesBy fault mask (WorldTakesPart losses event) old x y)
-step_left mask losses event step e s old x y r is is_step turn left =
-    subst (λ (o : ScriptEvent). IfErr r (λ fault. LeavesBy fault mask (WorldTakesPart losses o) old x y)) (sym is)
-    (turn (subst (λ (o : WorldStep). IfErr r (λ fault. LeavesBy fault mask (MayTakeStep o) old x y)) is_step left))
+-- a step that is played is an event that stands for it
+pub step_plays : {W : Type 0} (mask : Mask) (losses : LossesView) (event : ScriptEvent) (step : WorldStep) (e : ScriptEvent) (s : WorldStep) (old new : FibrePlay)
+    (x y : SinkState W) (r : Result (Unit {0}) PlayFault) → event ≡ e → step ≡ s
+    → (PlaysOn mask (Numbered (TakesStep s)) (Numbered (MayTakeStep s)) old new x y r
+    → PlaysOn mask (Numbered (WorldTakes losses e)) (Numbered (WorldTakesPart losses e)) old new x y r)
+    → PlaysOn mask (Numbered (TakesStep step)) (Numbered (MayTakeStep step)) old new x y r
+    → PlaysOn mask (Numbered (WorldTakes losses event)) (Numbered (WorldTakesPart losses event)) old new x y r
+step_plays mask losses event step e s old new x y r is is_step turn p =
+    subst (λ (o : ScriptEvent). PlaysOn mask (Numbered (WorldTakes losses o)) (Numbered (WorldTakesPart losses o)) old new x y r) (sym is)
+    (turn (subst (λ (o : WorldStep). PlaysOn mask (Numbered (TakesStep o)) (Numbered (MayTakeStep o)) old new x y r) is_step p))
 
 -- ---- what a script has to be
 
@@ -74,69 +76,25 @@ pub names_one : (script : ScriptView) (ports units : ℕ) → IsPlayable script 
 names_one script ports units playable one many =
     subst (λ (n : ℕ). All (NamesOneOf n units) script.events) one (subst (λ (n : ℕ). All (NamesOneOf (length script.ports) n) script.events) (sym many) playable.events)
 
--- ---- what is written
+-- ---- what happens from the opening of its fibre on
 
-pub told_fault : {T : Type 0} (r : Result T PlayFault) (f e : PlayFault) → IsErrAnd r (λ x. x ≡ f) → r ≡ Err e → f ≡ e
-told_fault r f e told is = sym (subst (λ (q : _). IsErrAnd q (λ x. x ≡ f)) is told)
-
-world_prefix : (script : ScriptView) (config : PortConfig) (player : FibrePlay) (x y : SinkState) → script.ports ≡ config ∷ [] → player.world ≡ opening_fibre script config → player.next ≡ 0
-    → WritesPrefixOf script.mask (WorldTakesPrefix script.losses script.events) player x y → LeavesWorldPrefix script x y
-world_prefix script config player x y port world next w =
-    let happened = subst (λ (o : WorldState). WorldTakesPrefix script.losses script.events o w.entries w.end) world w.happened in
-    record {
-      receipts = receipts_from 0 w.entries;
-      plays = record { config = config; one_port = port; done = happened.0; prefix = happened.1; entries = w.entries; end = w.end; takes = happened.2; receipts_are = refl };
-      written = subst (λ (n : ℕ). TakesPrefix x y (trace_text script.mask (receipts_from n w.entries))) next w.lines;
-    }
-
-world_lines : (script : ScriptView) (config : PortConfig) (player new : FibrePlay) (x y : SinkState) → script.ports ≡ config ∷ [] → player.world ≡ opening_fibre script config → player.next ≡ 0
-    → Writes script.mask (WorldTakesPrefix script.losses script.events) player new x y → LeavesWorldLines script x y
-world_lines script config player new x y port world next w =
-    let happened = subst (λ (o : WorldState). WorldTakesPrefix script.losses script.events o w.entries new.world) world w.happened in
-    record {
-      receipts = receipts_from 0 w.entries;
-      plays = record { config = config; one_port = port; done = happened.0; prefix = happened.1; entries = w.entries; end = new.world; takes = happened.2; receipts_are = refl };
-      lines = subst (λ (n : ℕ). Takes x y (trace_text script.mask (receipts_from n w.entries))) next w.lines;
-    }
-
-pub world_stopped : (script : ScriptView) (config : PortConfig) (player : FibrePlay) (x y : SinkState) (f : PlayFault) → f ≡ faults.Write → script.ports ≡ config ∷ []
-    → player.world ≡ opening_fibre script config → player.next ≡ 0 → LeavesBy f script.mask (WorldTakesPrefix script.losses script.events) player x y → LeavesWorldPrefix script x y
-world_stopped script config player x y f is port world next left =
-    world_prefix script config player x y port world next (subst (λ (o : PlayFault). LeavesBy o script.mask (WorldTakesPrefix script.losses script.events) player x y) is left)
-
-pub world_refused : (script : ScriptView) (config : PortConfig) (player : FibrePlay) (x y : SinkState) (f : PlayFault) → f ≡ faults.OutOfMemory → script.ports ≡ config ∷ []
-    → player.world ≡ opening_fibre script config → player.next ≡ 0 → LeavesBy f script.mask (WorldTakesPrefix script.losses script.events) player x y → LeavesWorldLines script x y
-world_refused script config player x y f is port world next left =
-    let some = subst (λ (o : PlayFault). LeavesBy o script.mask (WorldTakesPrefix script.losses script.events) player x y) is left in
-    world_lines script config player some.0 x y port world next some.1
-
--- all of the script, and a prefix of what was gathered of it
-pub world_unfinished : (script : ScriptView) (config : PortConfig) (player end : FibrePlay) (x y z : SinkState) → script.ports ≡ config ∷ []
-    → player.world ≡ opening_fibre script config → player.next ≡ 0 → Writes script.mask (WorldTakesAll script.losses script.events) player end x y → TakesPrefix y z [] → LeavesWorldPrefix script x z
-world_unfinished script config player end x y z port world next w stop =
-    world_prefix script config player x z port world next
-    (record {
-      entries = w.entries;
-      end = end.world;
-      happened = all_are_prefix script.losses script.events player.world end.world w.entries w.happened;
-      lines = subst (λ (l : List ℕ). TakesPrefix x z l) (append-nil (trace_text script.mask (receipts_from player.next w.entries))) (takes_prefix_after x y z _ _ w.lines stop);
-    })
-
--- all of the script, and all that was gathered of it
-pub world_written : (script : ScriptView) (config : PortConfig) (player end : FibrePlay) (x y z : SinkState) → script.ports ≡ config ∷ []
-    → player.world ≡ opening_fibre script config → player.next ≡ 0 → Writes script.mask (WorldTakesAll script.losses script.events) player end x y → Takes y z [] → z.gathered ≡ [] → WritesWorld script x z
-world_written script config player end x y z port world next w rest finished =
-    let lines = subst (λ (n : ℕ). Takes x y (trace_text script.mask (receipts_from n w.entries))) next w.lines in
-    let receipts = receipts_from 0 w.entries in
-    let all = takes_more x y z _ _ lines rest in
-    let text : x.gathered ++ trace_text script.mask receipts ≡ all.written =
-    ap (λ (l : List ℕ). x.gathered ++ l) (sym (append-nil (trace_text script.mask receipts))) ∙ all.rest ∙ ap (λ (l : List ℕ). all.written ++ l) finished ∙ append-nil all.written in
-    let takes = subst (λ (o : WorldState). WorldTakesAll script.losses script.events o w.entries end.world) world w.happened in
-    let plays : WorldPlays script receipts = record { config = config; one_port = port; entries = w.entries; end = end.world; takes = takes; receipts_are = refl } in
-    record {
-      receipts = receipts;
-      plays = plays;
-      runs = world_runs frames_are_runs runs_in_parts port_runs script receipts plays;
-      written = rw text all.appended;
-      finished = finished;
-    }
+pub world_stands : (script : ScriptView) (config : PortConfig) (player : FibrePlay) → 0 < length script.units → script.ports ≡ config ∷ []
+    → player.world ≡ opening_fibre script config → player.next ≡ 0
+    → StandsFor script player (Numbered (WorldTakesAll script.losses script.events)) (Numbered (WorldTakesPrefix script.losses script.events))
+world_stands script config player some port world next = record {
+  all = λ rs end n.
+      let takes = subst (λ (o : WorldState). WorldTakesAll script.losses script.events o n.entries end.world) world n.happened in
+      let told = n.receipts_are ∙ ap (λ (k : ℕ). receipts_from k n.entries) next in
+      let plays : WorldPlays script rs = record { config = config; one_port = port; entries = n.entries; end = end.world; takes = takes; receipts_are = told } in
+      (ByFibre some plays, world_runs frames_are_runs runs_in_parts port_runs script rs plays);
+  some = λ rs end n.
+      let happened = subst (λ (o : WorldState). WorldTakesPrefix script.losses script.events o n.entries end.world) world n.happened in
+      let told = n.receipts_are ∙ ap (λ (k : ℕ). receipts_from k n.entries) next in
+      SomeByFibre some (record { config = config; one_port = port; done = happened.0; prefix = happened.1; entries = n.entries; end = end.world; takes = happened.2; receipts_are = told });
+  is_part = λ rs end n. record {
+    entries = n.entries;
+    happened = all_are_prefix script.losses script.events player.world end.world n.entries n.happened;
+    next = n.next;
+    receipts_are = n.receipts_are;
+  };
+}

@@ -10,6 +10,7 @@ use Rattle.std.proofs.lemmas.List.Filters.{length-filter_both}
 use Rattle.gp_ploam.specs.declared.message.Down.{Down}
 use Rattle.gp_ranging.specs.declared.grant.Grant.{Grant}
 use Rattle.gp_machine.specs.declared.entry.Entry.{Entry}
+use Rattle.gp_machine.specs.declared.entry.Receipt.{Receipt}
 use Rattle.gp_fibre.specs.declared.flight.Flight.{Flight}
 use Rattle.gp_fibre.specs.declared.fault.WorldFault.{WorldFault}
 use Rattle.gp_fibre.specs.declared.fault.WorldFault.TheVariants.{OutOfMemory}
@@ -20,13 +21,11 @@ use Rattle.gp_fibre.specs.World.{FibreUnit, FibreWorld}
 use Rattle.gp_fibre.specs.Step.{FibreInput, Whole, PortPart, UnitsPart, FibreStep, UnitChanges, unit_granted, burst_answered}
 use Rattle.gp_fibre.specs.Run.{FibreRun}
 use Rattle.gp_fibre.specs.Schedule.{WorldState, FrameRuns, FramesRun, StopsShort, arrivals, deliveries, grants_given, inputs_of_copy, inputs_of_grant, is_due, is_lost, flights_after, flights_of}
-use Rattle.gp_ploam.specs.declared.check.Mask.{Mask}
 use Rattle.gp_script.specs.declared.script.ScriptEvent.{ScriptEvent}
 use Rattle.gp_script.specs.declared.script.ScriptEvent.TheVariants as events
 use Rattle.gp_script.specs.Lose.{LossesView}
-use Rattle.gp_stream.specs.Sink.{SinkState}
 use Rattle.gp_replay.specs.WorldPlay.{TakesStep, WorldTakes}
-use Rattle.gp_replay.specs.WorldWriting.{FibrePlay, HasFibreRoom, Writes, count_of, max_entries_each}
+use Rattle.gp_replay.specs.WorldWriting.{FibrePlay, HasFibreRoom, Numbered, count_of, max_entries_each}
 
 length-flights_of : (frame number : ℕ) (bs : List SentBurst) → length (flights_of frame number bs) ≡ length bs
 length-flights_of frame number [] = refl
@@ -240,10 +239,10 @@ room_after count many rest old new entries come next le room =
     let e = come.frames in
     record { frames = omega arith; numbers = omega arith; few = let same = come.units_same in omega arith }
 
-pub room_after_frames : (mask : Mask) (lc lb : List ℕ) (count many rest : ℕ) (old new : FibrePlay) (x y : SinkState) → Writes mask (FramesRun lc lb count) old new x y → count + rest ≤ many
-    → HasFibreRoom many old → HasFibreRoom rest new
-room_after_frames mask lc lb count many rest old new x y w le room =
-    room_after count many rest old new (length w.entries) (frames_come lc lb count old.world new.world w.entries w.happened) w.next le room
+pub room_after_frames : (lc lb : List ℕ) (count many rest : ℕ) (old new : FibrePlay) (rs : List Receipt) → Numbered (FramesRun lc lb count) old rs new
+    → count + rest ≤ many → HasFibreRoom many old → HasFibreRoom rest new
+room_after_frames lc lb count many rest old new rs n le room =
+    room_after count many rest old new (length n.entries) (frames_come lc lb count old.world new.world n.entries n.happened) n.next le room
 
 -- an event of the script
 step_comes : (step : WorldStep) (old new : WorldState) (entries : List Entry) → TakesStep step old entries new → new.frames ≡ old.frames → new.flights ≡ old.flights → FewComes old new (length entries) 1
@@ -261,11 +260,11 @@ event_comes losses (events.Command port command) old new entries t = step_comes 
 event_comes losses (events.Light unit true) old new entries t = step_comes (steps.Light unit) old new entries t t.1.frames t.1.flights
 event_comes losses (events.Light unit false) old new entries t = step_comes (steps.Dark unit) old new entries t t.1.frames t.1.flights
 
-pub units_after_event : (mask : Mask) (losses : LossesView) (event : ScriptEvent) (old new : FibrePlay) (x y : SinkState) → Writes mask (WorldTakes losses event) old new x y
+pub units_after_event : (losses : LossesView) (event : ScriptEvent) (old new : FibrePlay) (rs : List Receipt) → Numbered (WorldTakes losses event) old rs new
     → length new.world.fibre.units ≡ length old.world.fibre.units
-units_after_event mask losses event old new x y w = (event_comes losses event old.world new.world w.entries w.happened).units_same
+units_after_event losses event old new rs n = (event_comes losses event old.world new.world n.entries n.happened).units_same
 
-pub room_after_event : (mask : Mask) (losses : LossesView) (event : ScriptEvent) (many rest : ℕ) (old new : FibrePlay) (x y : SinkState) → Writes mask (WorldTakes losses event) old new x y
-    → count_of event + rest ≤ many → HasFibreRoom many old → HasFibreRoom rest new
-room_after_event mask losses event many rest old new x y w le room =
-    room_after (count_of event) many rest old new (length w.entries) (event_comes losses event old.world new.world w.entries w.happened) w.next le room
+pub room_after_event : (losses : LossesView) (event : ScriptEvent) (many rest : ℕ) (old new : FibrePlay) (rs : List Receipt)
+    → Numbered (WorldTakes losses event) old rs new → count_of event + rest ≤ many → HasFibreRoom many old → HasFibreRoom rest new
+room_after_event losses event many rest old new rs n le room =
+    room_after (count_of event) many rest old new (length n.entries) (event_comes losses event old.world new.world n.entries n.happened) n.next le room

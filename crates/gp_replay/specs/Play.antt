@@ -53,6 +53,17 @@ pub record TakesTurns (old : PlayState) (turns : List Turn) (receipts : List Rec
   pub run : ChassisRun (all_moves receipts) old.world new.world
   pub numbers : AreNumbered old.next receipts new.next
 
+-- these turns are taken
+abbrev pub TakesAllTurns : List Turn → PlayState → List Receipt → PlayState → Type 0
+TakesAllTurns turns old receipts new = TakesTurns old turns receipts new
+
+-- some of these turns are taken, from the first on
+pub record TakesSomeTurns (turns : List Turn) (old : PlayState) (receipts : List Receipt) (new : PlayState) : Type 0 where
+  pub done : List Turn
+  pub left : List Turn
+  pub split : turns ≡ done ++ left
+  pub taken : TakesTurns old done receipts new
+
 -- the receipts are those of the turns of the script's events, taken on the chassis that the script opens
 pub record ChassisPlays (script : ScriptView) (receipts : List Receipt) : Type 0 where
   pub end : PlayState
@@ -60,8 +71,5 @@ pub record ChassisPlays (script : ScriptView) (receipts : List Receipt) : Type 0
 
 -- the receipts are those of some of these turns, from the first on
 pub record ChassisPlaysPrefix (script : ScriptView) (receipts : List Receipt) : Type 0 where
-  pub taken : List Turn
-  pub left : List Turn
-  pub split : all_turns script.events ≡ taken ++ left
   pub end : PlayState
-  pub turns : TakesTurns (opening_play script) taken receipts end
+  pub turns : TakesSomeTurns (all_turns script.events) (opening_play script) receipts end

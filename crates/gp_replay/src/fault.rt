@@ -35,25 +35,25 @@ impl From<WriteStopped> for PlayFault {
 #[derive(Clone, Copy, Debug, PartialEq, Eq, Error)]
 pub enum RunFault {
     /// A read failed, or the input took too many reads.
-    #[error("read")]
+    #[error("a read failed, or the input took too many reads")]
     Read,
     /// The input has more than 1,048,576 bytes.
-    #[error("too long")]
+    #[error("the input is too long")]
     TooLong,
     /// The input is no script.
-    #[error("script {0}")]
+    #[error("the input is no script: {0}")]
     Script(ScriptFault),
     /// Out of memory for the input, the script, the ports or a line.
-    #[error("memory")]
+    #[error("out of memory")]
     OutOfMemory,
     /// A write failed or took nothing, or a flush failed.
-    #[error("write")]
+    #[error("a write failed or took nothing")]
     Write,
     /// What several threads were told does not agree, or a thread was not started. A replay never answers it.
-    #[error("mismatch")]
+    #[error("a thread was not started, or what the threads were told does not agree")]
     Mismatch,
     /// The journal of a port keeps as many entries as it may. A replay, which cuts it then, never answers it.
-    #[error("journal full")]
+    #[error("the journal of a port is full")]
     JournalFull,
 }
 

@@ -14,6 +14,7 @@
 //! `play_event` and `play_world_event` here.
 #![tactic(auto)]
 
+mod end_play;
 mod fault;
 mod laws;
 mod line_buffer;

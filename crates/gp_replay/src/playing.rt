@@ -1,9 +1,8 @@
-ghost use Rattle.std.specs.Prelude.{◌≡◌, ◌<◌, ◌≤◌, ◌*◌, ◌^◌, ◌||◌, [], ◌∷◌, All, OnOk, IfErr, false, true, length, replicate};
+ghost use Rattle.std.specs.Prelude.{◌≡◌, ◌<◌, ◌≤◌, ◌*◌, ◌^◌, [], ◌∷◌, All, length, replicate};
 ghost use Rattle.gp_script.specs.View.{NamesPort};
-ghost use Rattle.gp_stream.specs.Sink.{sink_state, has_flushed, has_stopped, writer_of};
 ghost use Rattle.gp_replay.specs.Chassis.{HasRoom};
-ghost use Rattle.gp_replay.specs.Play.{all_turns, frame_turn, turns_of};
-ghost use Rattle.gp_replay.specs.Writing.{LeftBy, WritesTurns, is_write};
+ghost use Rattle.gp_replay.specs.Play.{TakesAllTurns, TakesSomeTurns, all_turns, frame_turn, turns_of};
+ghost use Rattle.gp_replay.specs.Writing.{PlaysOn};
 
 use super::fault::PlayFault;
 use super::line_buffer::LineBuffer;
@@ -26,11 +25,8 @@ fn play_turn<L: Ledger, W: Write>(
 ) -> Result<(), PlayFault>
     requires port { turn.port < length player.old.next }
     requires room { HasRoom 1 player.old }
-    ensures ok { OnOk result (WritesTurns mask player.old (turn ∷ []) player.new (sink_state W.contents sink.old) (sink_state W.contents sink.new)) }
-    ensures err { IfErr result (λ fault. LeftBy fault mask player.old (turn ∷ []) (sink_state W.contents sink.old) (sink_state W.contents sink.new)) }
-    ensures stopped { has_stopped sink.new ≡ (has_stopped sink.old || is_write result) }
-    ensures refused { has_stopped sink.old ≡ true → writer_of sink.new ≡ writer_of sink.old }
-    ensures flushed { has_flushed sink.old ≡ true → is_write result ≡ false → has_flushed sink.new ≡ true }
+    ensures plays { let turns = turn ∷ [] in
+        PlaysOn mask (TakesAllTurns turns) (TakesSomeTurns turns) player.old player.new sink.old sink.new result }
     ensures ports { length player.new.next ≡ length player.old.next }
 {
     let receipt = player.take_turn(turn)?;
@@ -50,11 +46,8 @@ fn play_frames<L: Ledger, W: Write>(
 ) -> Result<(), PlayFault>
     requires port { port < length player.old.next }
     requires room { HasRoom count player.old }
-    ensures ok { OnOk result (WritesTurns mask player.old (replicate count (frame_turn port)) player.new (sink_state W.contents sink.old) (sink_state W.contents sink.new)) }
-    ensures err { IfErr result (λ fault. LeftBy fault mask player.old (replicate count (frame_turn port)) (sink_state W.contents sink.old) (sink_state W.contents sink.new)) }
-    ensures stopped { has_stopped sink.new ≡ (has_stopped sink.old || is_write result) }
-    ensures refused { has_stopped sink.old ≡ true → writer_of sink.new ≡ writer_of sink.old }
-    ensures flushed { has_flushed sink.old ≡ true → is_write result ≡ false → has_flushed sink.new ≡ true }
+    ensures plays { let turns = replicate count (frame_turn port) in
+        PlaysOn mask (TakesAllTurns turns) (TakesSomeTurns turns) player.old player.new sink.old sink.new result }
     ensures ports { length player.new.next ≡ length player.old.next }
 {
     let frame = Turn {
@@ -77,11 +70,8 @@ fn play_event<L: Ledger, W: Write>(
 ) -> Result<(), PlayFault>
     requires port { NamesPort (length player.old.next) event.now }
     requires room { HasRoom (2 ^ 32) player.old }
-    ensures ok { OnOk result (WritesTurns mask player.old (turns_of event.now) player.new (sink_state W.contents sink.old) (sink_state W.contents sink.new)) }
-    ensures err { IfErr result (λ fault. LeftBy fault mask player.old (turns_of event.now) (sink_state W.contents sink.old) (sink_state W.contents sink.new)) }
-    ensures stopped { has_stopped sink.new ≡ (has_stopped sink.old || is_write result) }
-    ensures refused { has_stopped sink.old ≡ true → writer_of sink.new ≡ writer_of sink.old }
-    ensures flushed { has_flushed sink.old ≡ true → is_write result ≡ false → has_flushed sink.new ≡ true }
+    ensures plays { let turns = turns_of event.now in
+        PlaysOn mask (TakesAllTurns turns) (TakesSomeTurns turns) player.old player.new sink.old sink.new result }
     ensures ports { length player.new.next ≡ length player.old.next }
     ensures few { length (turns_of event.now) ≤ 2 ^ 32 }
 {
@@ -111,11 +101,8 @@ pub(crate) fn play_events<L: Ledger, W: Write>(
 ) -> Result<(), PlayFault>
     requires ports { All (NamesPort (length player.old.next)) events.now }
     requires room { HasRoom (length events.now * 2 ^ 32) player.old }
-    ensures ok { OnOk result (WritesTurns mask player.old (all_turns events.now) player.new (sink_state W.contents sink.old) (sink_state W.contents sink.new)) }
-    ensures err { IfErr result (λ fault. LeftBy fault mask player.old (all_turns events.now) (sink_state W.contents sink.old) (sink_state W.contents sink.new)) }
-    ensures stopped { has_stopped sink.new ≡ (has_stopped sink.old || is_write result) }
-    ensures refused { has_stopped sink.old ≡ true → writer_of sink.new ≡ writer_of sink.old }
-    ensures flushed { has_flushed sink.old ≡ true → is_write result ≡ false → has_flushed sink.new ≡ true }
+    ensures { let turns = all_turns events.now in
+        PlaysOn mask (TakesAllTurns turns) (TakesSomeTurns turns) player.old player.new sink.old sink.new result }
 {
     'events: for event in events {
         play_event(player, sink, buffer, mask, event)?;

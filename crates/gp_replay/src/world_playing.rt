@@ -1,14 +1,14 @@
-ghost use Rattle.std.specs.Prelude.{◌≡◌, ◌⊎◌, ◌+◌, ◌<◌, ◌≤◌, ◌*◌, ◌^◌, ◌||◌, None, Some, [], ◌∷◌, All, Err, IfErr, IsErr, OnErr, OnOk, false, true, is_err, length};
-ghost use Rattle.std.specs.Option.{ForSome};
+ghost use Rattle.std.specs.Prelude.{◌≡◌, ◌+◌, ◌<◌, ◌≤◌, ◌*◌, ◌^◌, None, All, OnOk, length};
 ghost use Rattle.gp_fibre.specs.Schedule.{FramesRun, IsProperEntry, step_fault};
 ghost use Rattle.gp_script.specs.Playable.{IsPlayable};
 ghost use Rattle.gp_script.specs.View.{NamesOneOf, script_view};
-ghost use Rattle.gp_stream.specs.Sink.{sink_state, has_flushed, has_stopped, writer_of, Takes, TakesPrefix};
+ghost use Rattle.gp_stream.specs.Sink.{Gives};
 ghost use Rattle.gp_trace.specs.Text.{line_of, trace_text};
 ghost use Rattle.gp_replay.specs.WorldPlay.{TakesStep, WorldTakes, WorldTakesAll, receipt_with, receipts_from};
-ghost use Rattle.gp_replay.specs.WorldWriting.{HasFibreRoom, LeavesBy, LeavesWorldLines, LeavesWorldPrefix, MayTakeStep, TakesSomeFrames, WorldTakesPart, WorldTakesPrefix, Writes, WritesWorld, count_of, losses_of};
-ghost use Rattle.gp_replay.specs.Writing.{is_write};
+ghost use Rattle.gp_replay.specs.WorldWriting.{HasFibreRoom, MayTakeStep, Numbered, TakesSomeFrames, WorldTakesPart, WorldTakesPrefix, count_of, losses_of};
+ghost use Rattle.gp_replay.specs.Writing.{HandsIn, PlaysOn, PlaysScript};
 
+use super::end_play::end_play;
 use super::fault::PlayFault;
 use super::line_buffer::LineBuffer;
 use super::world_player::WorldPlayer;
@@ -36,11 +36,7 @@ fn write_entry<L: Ledger, W: Write>(
 ) -> Result<(), WriteStopped>
     requires proper { IsProperEntry entry }
     requires room { player.old.next + 1 < 2 ^ 64 }
-    ensures ok { OnOk result (Takes (sink_state W.contents sink.old) (sink_state W.contents sink.new) (line_of mask (receipt_with player.old.next entry))) }
-    ensures err { OnErr result (TakesPrefix (sink_state W.contents sink.old) (sink_state W.contents sink.new) (line_of mask (receipt_with player.old.next entry))) }
-    ensures stopped { has_stopped sink.new ≡ (has_stopped sink.old || is_err result) }
-    ensures refused { has_stopped sink.old ≡ true → writer_of sink.new ≡ writer_of sink.old }
-    ensures flushed { has_flushed sink.old ≡ true → OnOk result (has_flushed sink.new ≡ true) }
+    ensures gives { Gives sink.old sink.new (line_of mask (receipt_with player.old.next entry)) result }
     ensures world { player.new.world ≡ player.old.world }
     ensures next { player.new.next ≡ player.old.next + 1 }
 {
@@ -59,11 +55,7 @@ fn write_entries<L: Ledger, W: Write>(
 ) -> Result<(), WriteStopped>
     requires proper { All IsProperEntry entries.now }
     requires room { player.old.next + length entries.now < 2 ^ 64 }
-    ensures ok { OnOk result (Takes (sink_state W.contents sink.old) (sink_state W.contents sink.new) (trace_text mask (receipts_from player.old.next entries.now))) }
-    ensures err { OnErr result (TakesPrefix (sink_state W.contents sink.old) (sink_state W.contents sink.new) (trace_text mask (receipts_from player.old.next entries.now))) }
-    ensures stopped { has_stopped sink.new ≡ (has_stopped sink.old || is_err result) }
-    ensures refused { has_stopped sink.old ≡ true → writer_of sink.new ≡ writer_of sink.old }
-    ensures flushed { has_flushed sink.old ≡ true → OnOk result (has_flushed sink.new ≡ true) }
+    ensures hands { HandsIn sink.old sink.new (trace_text mask (receipts_from player.old.next entries.now)) result }
     ensures world { player.new.world ≡ player.old.world }
     ensures next { OnOk result (player.new.next ≡ player.old.next + length entries.now) }
 {
@@ -83,11 +75,8 @@ fn play_step<L: Ledger, W: Write>(
 ) -> Result<(), PlayFault>
     requires possible { step_fault player.old.world step ≡ None }
     requires room { HasFibreRoom 1 player.old }
-    ensures ok { OnOk result (Writes mask (TakesStep step) player.old player.new (sink_state W.contents sink.old) (sink_state W.contents sink.new)) }
-    ensures err { IfErr result (λ fault. LeavesBy fault mask (MayTakeStep step) player.old (sink_state W.contents sink.old) (sink_state W.contents sink.new)) }
-    ensures stopped { has_stopped sink.new ≡ (has_stopped sink.old || is_write result) }
-    ensures refused { has_stopped sink.old ≡ true → writer_of sink.new ≡ writer_of sink.old }
-    ensures flushed { has_flushed sink.old ≡ true → is_write result ≡ false → has_flushed sink.new ≡ true }
+    ensures { PlaysOn mask (Numbered (TakesStep step)) (Numbered (MayTakeStep step))
+        player.old player.new sink.old sink.new result }
 {
     let given = player.take_step(step)?;
     if let Some(entry) = given {
@@ -106,11 +95,9 @@ fn play_few_frames<L: Ledger, W: Write>(
     frames: u32,
 ) -> Result<(), PlayFault>
     requires room { HasFibreRoom frames player.old }
-    ensures ok { OnOk result (Writes mask (FramesRun loss.now.copies.items loss.now.bursts.items frames) player.old player.new (sink_state W.contents sink.old) (sink_state W.contents sink.new)) }
-    ensures err { IfErr result (λ fault. LeavesBy fault mask (TakesSomeFrames (losses_of loss.now) frames) player.old (sink_state W.contents sink.old) (sink_state W.contents sink.new)) }
-    ensures stopped { has_stopped sink.new ≡ (has_stopped sink.old || is_write result) }
-    ensures refused { has_stopped sink.old ≡ true → writer_of sink.new ≡ writer_of sink.old }
-    ensures flushed { has_flushed sink.old ≡ true → is_write result ≡ false → has_flushed sink.new ≡ true }
+    ensures { let losses = losses_of loss.now in
+        PlaysOn mask (Numbered (FramesRun losses.copies losses.bursts frames)) (Numbered (TakesSomeFrames losses frames))
+        player.old player.new sink.old sink.new result }
 {
     let entries = player.run_frames(frames, loss)?;
     write_entries(player, sink, buffer, mask, entries.as_slice())?;
@@ -127,11 +114,9 @@ fn play_frames<L: Ledger, W: Write>(
     frames: u32,
 ) -> Result<(), PlayFault>
     requires room { HasFibreRoom frames player.old }
-    ensures ok { OnOk result (Writes mask (FramesRun loss.now.copies.items loss.now.bursts.items frames) player.old player.new (sink_state W.contents sink.old) (sink_state W.contents sink.new)) }
-    ensures err { IfErr result (λ fault. LeavesBy fault mask (TakesSomeFrames (losses_of loss.now) frames) player.old (sink_state W.contents sink.old) (sink_state W.contents sink.new)) }
-    ensures stopped { has_stopped sink.new ≡ (has_stopped sink.old || is_write result) }
-    ensures refused { has_stopped sink.old ≡ true → writer_of sink.new ≡ writer_of sink.old }
-    ensures flushed { has_flushed sink.old ≡ true → is_write result ≡ false → has_flushed sink.new ≡ true }
+    ensures { let losses = losses_of loss.now in
+        PlaysOn mask (Numbered (FramesRun losses.copies losses.bursts frames)) (Numbered (TakesSomeFrames losses frames))
+        player.old player.new sink.old sink.new result }
 {
     let mut left = frames;
     while left > 0 {
@@ -153,11 +138,9 @@ fn play_world_event<L: Ledger, W: Write>(
 ) -> Result<(), PlayFault>
     requires names { NamesOneOf 1 (length player.old.world.fibre.units) event.now }
     requires room { HasFibreRoom (2 ^ 32) player.old }
-    ensures ok { OnOk result (Writes mask (WorldTakes (losses_of loss.now) event.now) player.old player.new (sink_state W.contents sink.old) (sink_state W.contents sink.new)) }
-    ensures err { IfErr result (λ fault. LeavesBy fault mask (WorldTakesPart (losses_of loss.now) event.now) player.old (sink_state W.contents sink.old) (sink_state W.contents sink.new)) }
-    ensures stopped { has_stopped sink.new ≡ (has_stopped sink.old || is_write result) }
-    ensures refused { has_stopped sink.old ≡ true → writer_of sink.new ≡ writer_of sink.old }
-    ensures flushed { has_flushed sink.old ≡ true → is_write result ≡ false → has_flushed sink.new ≡ true }
+    ensures plays { let losses = losses_of loss.now in
+        PlaysOn mask (Numbered (WorldTakes losses event.now)) (Numbered (WorldTakesPart losses event.now))
+        player.old player.new sink.old sink.new result }
     ensures few { count_of event.now ≤ 2 ^ 32 }
 {
     let step = match *event {
@@ -183,11 +166,9 @@ fn play_world_events<L: Ledger, W: Write>(
 ) -> Result<(), PlayFault>
     requires names { All (NamesOneOf 1 (length player.old.world.fibre.units)) events.now }
     requires room { HasFibreRoom (length events.now * 2 ^ 32) player.old }
-    ensures ok { OnOk result (Writes mask (WorldTakesAll (losses_of loss.now) events.now) player.old player.new (sink_state W.contents sink.old) (sink_state W.contents sink.new)) }
-    ensures err { IfErr result (λ fault. LeavesBy fault mask (WorldTakesPrefix (losses_of loss.now) events.now) player.old (sink_state W.contents sink.old) (sink_state W.contents sink.new)) }
-    ensures stopped { has_stopped sink.new ≡ (has_stopped sink.old || is_write result) }
-    ensures refused { has_stopped sink.old ≡ true → writer_of sink.new ≡ writer_of sink.old }
-    ensures flushed { has_flushed sink.old ≡ true → is_write result ≡ false → has_flushed sink.new ≡ true }
+    ensures { let losses = losses_of loss.now in
+        PlaysOn mask (Numbered (WorldTakesAll losses events.now)) (Numbered (WorldTakesPrefix losses events.now))
+        player.old player.new sink.old sink.new result }
 {
     'events: for event in events {
         play_world_event(player, sink, buffer, mask, loss, event)?;
@@ -208,14 +189,7 @@ pub(crate) fn play_world<L: Ledger, W: Write>(
     requires parts { (blank.parts ≡ L.parts) × (L.parts ≡ MAX_LICENCES) }
     requires playable { IsPlayable (script_view script) }
     requires units { 0 < length script.units.items }
-    ensures ok { OnOk result (WritesWorld (script_view script) (sink_state W.contents sink.old) (sink_state W.contents sink.new)) }
-    ensures finished { OnOk result (has_stopped sink.new ≡ false) }
-    ensures flushed { has_flushed sink.old ≡ true → is_write result ≡ false → has_flushed sink.new ≡ true }
-    ensures prefix { result ≡ Err PlayFault.Write → LeavesWorldPrefix (script_view script) (sink_state W.contents sink.old) (sink_state W.contents sink.new) }
-    ensures write { result ≡ Err PlayFault.Write → has_stopped sink.new ≡ true }
-    ensures memory { result ≡ Err PlayFault.OutOfMemory → (sink.new ≡ sink.old) ⊎ LeavesWorldLines (script_view script) (sink_state W.contents sink.old) (sink_state W.contents sink.new) }
-    ensures goes { result ≡ Err PlayFault.OutOfMemory → has_stopped sink.new ≡ has_stopped sink.old }
-    ensures refused { has_stopped sink.old ≡ true → IsErr result × (writer_of sink.new ≡ writer_of sink.old) }
+    ensures { PlaysScript (script_view script) sink.old sink.new result }
 {
     let Script {
         licences,
@@ -239,7 +213,5 @@ pub(crate) fn play_world<L: Ledger, W: Write>(
         events.as_slice(),
     );
     player.close();
-    outcome?;
-    sink.finish()?;
-    Ok(())
+    end_play(sink, outcome)
 }

@@ -1,3 +1,3 @@
 pub mod PlanLemmas
 pub mod TotalsLemmas
-pub mod SinkLemmas
+pub mod OutcomeLemmas

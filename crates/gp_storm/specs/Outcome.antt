@@ -1,28 +1,32 @@
--- How the storm of a script may end (this profile's own rule).
-use Rattle.std.specs.Prelude.{ℕ, List, Ok}
-use Rattle.gp_stream.specs.Source.{SourceState}
+-- What the storm of a script leaves (this profile's own rule).
+use Rattle.std.specs.Prelude.{◌≡◌, ℕ, true, false, List, [], Ok, Err}
 use Rattle.gp_stream.specs.Sink.{SinkState, Takes, TakesPrefix}
-use Rattle.gp_script.specs.Script.{ScriptView, storm_script_of}
-use Rattle.gp_replay.specs.Outcome.{ReadsBy}
+use Rattle.gp_script.specs.Script.{ScriptView}
+use Rattle.gp_replay.specs.declared.fault.RunFault.TheVariants as runs
+use Rattle.gp_replay.specs.Outcome.{RunAnswer}
 use Rattle.gp_storm.specs.Totals.{IsTotalsOf}
 
--- the input says a script for a storm
-pub record ReadsStorm (before after : SourceState) : Type 0 where
-  pub script : ScriptView
-  pub input : ReadsBy storm_script_of before after (Ok script)
-
--- the input says a script for a storm, and the totals of a chassis of its ports were handed to the sink
-pub record WritesTotals (before after : SourceState) (old new : SinkState) : Type 0 where
-  pub script : ScriptView
-  pub input : ReadsBy storm_script_of before after (Ok script)
+-- the totals of a chassis of the script's ports were handed to the sink, and all that it had is written out
+pub record WritesTotals {W : Type 0} (script : ScriptView) (old new : SinkState W) : Type 0 where
   pub text : List ℕ
   pub totals : IsTotalsOf script text
   pub written : Takes old new text
+  pub finished : new.gathered ≡ []
+  pub unstopped : new.stopped ≡ false
 
--- the same, and the writer got no more than a prefix of what was gathered before and of these totals
-pub record LeavesTotalsPrefix (before after : SourceState) (old new : SinkState) : Type 0 where
-  pub script : ScriptView
-  pub input : ReadsBy storm_script_of before after (Ok script)
+-- the writer got no more than a prefix of what was gathered before and of such totals
+pub record LeavesTotalsPrefix {W : Type 0} (script : ScriptView) (old new : SinkState W) : Type 0 where
   pub text : List ℕ
   pub totals : IsTotalsOf script text
   pub written : TakesPrefix old new text
+  pub stopped : new.stopped ≡ true
+
+-- what a storm leaves of a script that it has read: its totals; or, where a write failed, a prefix of them; else nothing is
+-- written
+abbrev pub LeavesStorm : {W : Type 0} → SinkState W → SinkState W → RunAnswer → ScriptView → Type 0
+LeavesStorm old new (Ok value) script = WritesTotals script old new
+LeavesStorm old new (Err runs.Write) script = LeavesTotalsPrefix script old new
+LeavesStorm old new (Err runs.OutOfMemory) script = new ≡ old
+LeavesStorm old new (Err runs.Mismatch) script = new ≡ old
+LeavesStorm old new (Err runs.JournalFull) script = new ≡ old
+LeavesStorm old new (Err _) script = ⊥

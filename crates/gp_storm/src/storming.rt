@@ -1,14 +1,11 @@
-ghost use Rattle.std.specs.Prelude.{◌≡◌, ◌≢◌, ◌+◌, ◌<◌, ◌≤◌, ◌⊎◌, ◌↔◌, ℕ, List, [], IfOk, IfErr, IsErr, OnErr, OnOk, Err, true, false, length};
+ghost use Rattle.std.specs.Prelude.{◌≡◌, ◌+◌, IfErr, IfOk};
 ghost use Rattle.std.specs.String.{string_bytes};
-ghost use Rattle.gp_script.specs.declared.fault.ScriptFault.{ScriptFault as AnyScriptFault};
 ghost use Rattle.gp_script.specs.Playable.{IsPlayable};
 ghost use Rattle.gp_script.specs.Script.{storm_script_of};
 ghost use Rattle.gp_script.specs.View.{script_view};
-ghost use Rattle.gp_stream.specs.Source.{has_failed, reads_left, source_state, ReadsTooMuch, WasReadable};
-ghost use Rattle.gp_stream.specs.Sink.{gathered_of, sink_state, has_flushed, has_stopped, writer_of, Takes, TakesPrefix};
-ghost use Rattle.gp_replay.specs.Outcome.{ReadsBy};
+ghost use Rattle.gp_replay.specs.Outcome.{RunEnds, RunReads, RunWrites};
 ghost use Rattle.gp_storm.specs.Faults.{IsOfStorm};
-ghost use Rattle.gp_storm.specs.Outcome.{LeavesTotalsPrefix, ReadsStorm, WritesTotals};
+ghost use Rattle.gp_storm.specs.Outcome.{LeavesStorm};
 ghost use Rattle.gp_storm.specs.Totals.{IsTotalsOf, totals_text};
 
 use super::engine::storm;
@@ -17,7 +14,7 @@ use gp_chassis::ChassisConfig;
 use gp_licence::MAX_LICENCES;
 use gp_replay::RunFault;
 use gp_script::Script;
-use gp_stream::{MAX_BYTES, Sink, Source, WriteStopped};
+use gp_stream::{Sink, Source};
 use gp_workers::{Closed, Totals};
 use std::alloc::{AllocError, Global};
 use std::io::{Read, Write};
@@ -69,20 +66,6 @@ fn storm_of<L: Ledger + Send + Sync, R: Threads + Wait + Sync>(
     Ok(text_of(alloc, &closed)?)
 }
 
-/// Hands in the text, and writes out all that the sink gathers.
-fn write_text<W: Write>(sink: &mut Sink<W>, text: &[u8]) -> Result<(), WriteStopped>
-    ensures ok { OnOk result (Takes (sink_state W.contents sink.old) (sink_state W.contents sink.new) text.now) }
-    ensures written { OnOk result (gathered_of sink.new ≡ []) }
-    ensures flushed { has_flushed sink.old ≡ true → OnOk result (has_flushed sink.new ≡ true) }
-    ensures prefix { OnErr result (TakesPrefix (sink_state W.contents sink.old) (sink_state W.contents sink.new) text.now) }
-    ensures finished { OnOk result (has_stopped sink.new ≡ false) }
-    ensures stopped { OnErr result (has_stopped sink.new ≡ true) }
-    ensures refused { has_stopped sink.old ≡ true → IsErr result × (writer_of sink.new ≡ writer_of sink.old) }
-{
-    sink.put(text)?;
-    sink.finish()
-}
-
 /// Reads a script to the end of the source, runs its bursts, frames and commands at once, by a feeder and a reader for each
 /// port, a clock and an operator, each in a thread, and writes the totals of the chassis that was closed then: five lines,
 /// `frames`, `bursts`, `commands`, `entries` and `licences`, each with its number.
@@ -100,41 +83,14 @@ pub fn run_storm<R: Threads + Wait + Sync, S: Read, W: Write>(
     source: &mut Source<S>,
     sink: &mut Sink<W>,
 ) -> Result<(), RunFault>
-    ensures ok { OnOk result (WritesTotals (source_state S.remaining source.old) (source_state S.remaining source.new) (sink_state W.contents sink.old) (sink_state W.contents sink.new)) }
-    ensures written { OnOk result (gathered_of sink.new ≡ []) }
-    ensures finished { OnOk result (has_stopped sink.new ≡ false) }
-    ensures flushed { has_flushed sink.old ≡ true → OnOk result (has_flushed sink.new ≡ true) }
-
-    // When each fault comes.
-    ensures read { result ≡ Err RunFault.Read → let now = source_state S.remaining source.new in (now.has_failed ≡ true) ⊎ (now.reads_left ≡ 0) }
-    ensures too_long { result ≡ Err RunFault.TooLong → ReadsTooMuch MAX_BYTES (source_state S.remaining source.old) (source_state S.remaining source.new) }
-    ensures script { (fault : AnyScriptFault) → result ≡ Err (RunFault.Script fault) → ReadsBy storm_script_of (source_state S.remaining source.old) (source_state S.remaining source.new) (Err fault) }
-    ensures journal_full { result ≡ Err RunFault.JournalFull → ReadsStorm (source_state S.remaining source.old) (source_state S.remaining source.new) }
-    ensures mismatch { result ≡ Err RunFault.Mismatch → ReadsStorm (source_state S.remaining source.old) (source_state S.remaining source.new) }
-    ensures write { result ≡ Err RunFault.Write → has_stopped sink.new ≡ true }
-
-    // Each read but the last gives a byte, so the bound of reads is met only by a source of which
-    // `MAX_BYTES` reads or fewer are left.
-    ensures reads { reads_left source.old ≤ reads_left source.new + MAX_BYTES + 1 }
-    ensures refused { has_failed source.old ≡ true → (result ≡ Err RunFault.Read) × (source.new ≡ source.old) }
-    ensures stopped { has_stopped sink.old ≡ true → IsErr result × (writer_of sink.new ≡ writer_of sink.old) }
-
-    // A failed read is always answered, and of a known input, memory aside, its length and its first
-    // fault are.
-    ensures failed { let now = source_state S.remaining source.new in now.has_failed ≡ true → result ≡ Err RunFault.Read }
-    ensures long { (input : List ℕ) → WasReadable (source_state S.remaining source.old) (source_state S.remaining source.new) input
-        → result ≢ Err RunFault.OutOfMemory → (MAX_BYTES < length input) ↔ (result ≡ Err RunFault.TooLong) }
-    ensures faulty { (input : List ℕ) (fault : AnyScriptFault) → WasReadable (source_state S.remaining source.old) (source_state S.remaining source.new) input
-        → result ≢ Err RunFault.OutOfMemory → length input ≤ MAX_BYTES → (storm_script_of input ≡ Err fault) ↔ (result ≡ Err (RunFault.Script fault)) }
-
-    // What a fault leaves written: nothing, but where the writer took no more.
-    ensures untouched { IfErr result (λ fault. fault ≢ RunFault.Write → sink.new ≡ sink.old) }
-    ensures prefix { result ≡ Err RunFault.Write → LeavesTotalsPrefix (source_state S.remaining source.old) (source_state S.remaining source.new) (sink_state W.contents sink.old) (sink_state W.contents sink.new) }
+    ensures ends { RunEnds storm_script_of (LeavesStorm sink.old sink.new) source.old source.new sink.old sink.new result }
+    ensures reads { RunReads storm_script_of source.old source.new result }
+    ensures writes { RunWrites sink.old sink.new result }
 {
     let bytes = gp_stream::read_all(alloc, source)?;
     let script = gp_script::read_storm_script(alloc, bytes.as_slice())?;
     let blank = Blank::new(u64::from(MAX_LICENCES));
     let text = storm_of::<Brand, R>(rt, alloc, blank, script)?;
-    write_text(sink, text.as_bytes())?;
+    sink.write_whole(text.as_bytes())?;
     Ok(())
 }

@@ -14,13 +14,13 @@ known_prefix input bytes None p = absurd p
 known_prefix input bytes (Some ys) p = omega (arith, ap length p, length-append bytes ys)
 
 -- the whole input is the known one
-pub reads_known : (old new : SourceState) (bytes input : List ℕ) → ReadsWhole old new bytes → old.remaining ≡ Some input → bytes ≡ input
+pub reads_known : {R : Type 0} (old new : SourceState R) (bytes input : List ℕ) → ReadsWhole old new bytes → old.remaining ≡ Some input → bytes ≡ input
 reads_known old new bytes input p e =
     let consumed = subst (λ known. Consumes known new.remaining bytes) e p.consumed in
     known_all input bytes new.remaining consumed p.end
 
 -- a known input of which too much came is too long
-pub too_long_known : (limit : ℕ) (old new : SourceState) (input : List ℕ) → ReadsTooMuch limit old new → old.remaining ≡ Some input → limit < length input
+pub too_long_known : {R : Type 0} (limit : ℕ) (old new : SourceState R) (input : List ℕ) → ReadsTooMuch limit old new → old.remaining ≡ Some input → limit < length input
 too_long_known limit old new input p e =
     let consumed = subst (λ known. Consumes known new.remaining p.bytes) e p.consumed in
     omega (arith, p.more, known_prefix input p.bytes new.remaining consumed)

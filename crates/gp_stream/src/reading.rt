@@ -1,5 +1,5 @@
-ghost use Rattle.std.specs.Prelude.{◌≡◌, ◌≢◌, ◌<◌, ◌≤◌, ◌+◌, ◌⊎◌, ◌↔◌, Err, IfOk, List, ℕ, length, vec_len, true, false};
-ghost use Rattle.gp_stream.specs.Source.{has_failed, reads_left, source_state, ReadsWhole, ReadsSome, ReadsTooMuch, WasReadable};
+ghost use Rattle.std.specs.Prelude.{◌≡◌};
+ghost use Rattle.gp_stream.specs.Source.{ReadsAll};
 ghost use Rattle.gp_stream.specs.declared.reading.SourceFault.TheVariants.{OutOfMemory};
 
 use crate::source::Source;
@@ -41,23 +41,7 @@ impl From<AllocError> for SourceFault {
 /// [`MAX_BYTES`] bytes have come. Of a source with a failed read nothing more is read, and `Read` is
 /// answered.
 pub fn read_all<R: Read>(alloc: Global, source: &mut Source<R>) -> Result<Vec<u8>, SourceFault>
-    ensures whole { IfOk result (λ bytes. ReadsWhole (source_state R.remaining source.old) (source_state R.remaining source.new) bytes.items) }
-    ensures short { IfOk result (λ bytes. vec_len bytes ≤ MAX_BYTES) }
-    ensures memory { result ≡ Err SourceFault.OutOfMemory → ReadsSome MAX_BYTES (source_state R.remaining source.old) (source_state R.remaining source.new) }
-    ensures too_long { result ≡ Err SourceFault.TooLong → ReadsTooMuch MAX_BYTES (source_state R.remaining source.old) (source_state R.remaining source.new) }
-
-    // A failed read is always answered, and only it and the bound of reads are.
-    ensures read { result ≡ Err SourceFault.Read → let now = source_state R.remaining source.new in (now.has_failed ≡ true) ⊎ (now.reads_left ≡ 0) }
-    ensures failed { let now = source_state R.remaining source.new in now.has_failed ≡ true → result ≡ Err SourceFault.Read }
-    ensures refused { has_failed source.old ≡ true → (result ≡ Err SourceFault.Read) × (source.new ≡ source.old) }
-
-    // Each read but the last gives a byte, so the bound of reads is met only by a source of which
-    // `MAX_BYTES` reads or fewer are left.
-    ensures reads { reads_left source.old ≤ reads_left source.new + MAX_BYTES + 1 }
-
-    // Of a known input, memory aside, the length alone decides.
-    ensures exact { (input : List ℕ) → WasReadable (source_state R.remaining source.old) (source_state R.remaining source.new) input
-        → result ≢ Err SourceFault.OutOfMemory → (MAX_BYTES < length input) ↔ (result ≡ Err SourceFault.TooLong) }
+    ensures { ReadsAll source.old source.new result }
 {
     let mut bytes = Vec::new(alloc);
     let mut block = [0u8; BLOCK_BYTES];

@@ -1,10 +1,12 @@
 ghost use Rattle.std.specs.Prelude.{◌≡◌, ◌+◌, ◌<◌, ◌≤◌, ◌||◌, [], IfOk, OnOk, OnErr, IsOk, IsErr, IsTrue, ℕ, false, true, length, take, is_err};
 ghost use Rattle.std.specs.Io.KnownBytes.{Appends};
 ghost use Rattle.gp_stream.specs.Watched.{inner_of, is_flushed, is_stopped};
+ghost use Rattle.gp_stream.specs.Sink.{Gives, Puts, Finishes, WritesWhole};
 
 use crate::watched::Watched;
 use std::alloc::{AllocError, Global};
 use std::io::Write;
+use std::marker::Model;
 use thiserror::Error;
 
 /// How many bytes a sink gathers before it writes them.
@@ -20,16 +22,34 @@ pub struct WriteStopped;
 ///
 /// What is gathered when the sink goes is lost: call [`Sink::finish`] first.
 #[derive(Drop)]
-pub struct Sink<W> {
+pub struct Sink<W: Write> {
     writer: Watched<W>,
     gathered: Vec<u8>,
+}
+
+impl<W: Write> Model for Sink<W> {
+    ghost use Rattle.std.specs.Prelude.{vec_capacity};
+    ghost use Rattle.gp_stream.specs.Sink.{SinkState};
+    ghost use Rattle.gp_stream.specs.Watched.{inner_of, is_flushed, is_stopped};
+
+    ghost Value = { SinkState W };
+
+    ghost view = { λ s. record {
+      writer = inner_of s.writer;
+      held = W.contents (inner_of s.writer);
+      gathered = s.gathered.items;
+      stopped = is_stopped s.writer;
+      flushed = is_flushed s.writer;
+      room = vec_capacity s.gathered;
+    } };
 }
 
 /// Writes all the bytes, in as many writes as it takes. Where one fails or takes nothing, those
 /// before it stand and none comes after it.
 fn write_all<W: Write>(writer: &mut Watched<W>, bytes: &[u8]) -> Result<(), WriteStopped>
     ensures ok { OnOk result (Appends (W.contents (inner_of writer.old)) (W.contents (inner_of writer.new)) bytes.now) }
-    ensures err { OnErr result ((count : ℕ) × Appends (W.contents (inner_of writer.old)) (W.contents (inner_of writer.new)) (take count bytes.now)) }
+    ensures err { OnErr result ((count : ℕ)
+        × Appends (W.contents (inner_of writer.old)) (W.contents (inner_of writer.new)) (take count bytes.now)) }
     ensures stopped { is_stopped writer.new ≡ (is_stopped writer.old || is_err result) }
     ensures refused { IsTrue (is_stopped writer.old) → IsErr result × (writer.new ≡ writer.old) }
     ensures idle { is_stopped writer.old ≡ false → bytes.now ≡ [] → IsOk result × (writer.new ≡ writer.old) }
@@ -50,7 +70,8 @@ fn write_all<W: Write>(writer: &mut Watched<W>, bytes: &[u8]) -> Result<(), Writ
 /// Writes all the bytes and flushes the writer behind them, if there are any.
 fn write_out<W: Write>(writer: &mut Watched<W>, bytes: &[u8]) -> Result<(), WriteStopped>
     ensures ok { OnOk result (Appends (W.contents (inner_of writer.old)) (W.contents (inner_of writer.new)) bytes.now) }
-    ensures err { OnErr result ((count : ℕ) × Appends (W.contents (inner_of writer.old)) (W.contents (inner_of writer.new)) (take count bytes.now)) }
+    ensures err { OnErr result ((count : ℕ)
+        × Appends (W.contents (inner_of writer.old)) (W.contents (inner_of writer.new)) (take count bytes.now)) }
     ensures stopped { is_stopped writer.new ≡ (is_stopped writer.old || is_err result) }
     ensures refused { IsTrue (is_stopped writer.old) → IsErr result × (writer.new ≡ writer.old) }
     ensures idle { is_stopped writer.old ≡ false → bytes.now ≡ [] → IsOk result × (writer.new ≡ writer.old) }
@@ -64,17 +85,18 @@ fn write_out<W: Write>(writer: &mut Watched<W>, bytes: &[u8]) -> Result<(), Writ
 }
 
 impl<W: Write> Sink<W> {
-    ghost use Rattle.gp_stream.specs.Sink.{writer_of, gathered_of, has_stopped, has_flushed, room_of, sink_state, Takes, TakesPrefix};
-
     /// Makes a sink with room for [`GATHERED_BYTES`] bytes.
     pub fn new(alloc: Global, inner: W) -> Result<Self, AllocError>
     where
         W: Drop,
-        ensures writer { IfOk result (λ sink. writer_of sink ≡ inner) }
-        ensures gathered { IfOk result (λ sink. gathered_of sink ≡ []) }
-        ensures stopped { IfOk result (λ sink. has_stopped sink ≡ false) }
-        ensures flushed { IfOk result (λ sink. has_flushed sink ≡ true) }
-        ensures room { IfOk result (λ sink. room_of sink ≡ GATHERED_BYTES) }
+        ensures { IfOk result (λ sink. sink ≡ record {
+          writer = inner;
+          held = W.contents inner;
+          gathered = [];
+          stopped = false;
+          flushed = true;
+          room = GATHERED_BYTES;
+        }) }
     {
         let gathered = Vec::with_capacity(alloc, GATHERED_BYTES)?;
         let writer = Watched::new(inner);
@@ -83,7 +105,7 @@ impl<W: Write> Sink<W> {
 
     /// Returns the writer below. What is gathered is lost.
     pub fn into_inner(self) -> W
-        ensures { result ≡ writer_of self }
+        ensures { result ≡ self.writer }
     {
         let Sink { writer, .. } = self;
         writer.into_inner()
@@ -92,14 +114,7 @@ impl<W: Write> Sink<W> {
     /// Writes out what is gathered, if anything is, and flushes the writer behind it. Once a write
     /// failed or took nothing, or a flush failed, nothing more is written.
     pub fn finish(&mut self) -> Result<(), WriteStopped>
-        ensures ok { OnOk result (Takes (sink_state W.contents self.old) (sink_state W.contents self.new) []) }
-        ensures empty { OnOk result (gathered_of self.new ≡ []) }
-        ensures err { OnErr result (TakesPrefix (sink_state W.contents self.old) (sink_state W.contents self.new) []) }
-        ensures stopped { has_stopped self.new ≡ (has_stopped self.old || is_err result) }
-        ensures refused { IsTrue (has_stopped self.old) → IsErr result × (writer_of self.new ≡ writer_of self.old) }
-        ensures idle { has_stopped self.old ≡ false → gathered_of self.old ≡ [] → IsOk result × (writer_of self.new ≡ writer_of self.old) }
-        ensures flushed { has_flushed self.old ≡ true → OnOk result (has_flushed self.new ≡ true) }
-        ensures room { room_of self.old ≤ room_of self.new }
+        ensures { Finishes self.old self.new result }
     {
         write_out(&mut self.writer, self.gathered.as_slice())?;
         self.gathered.clear();
@@ -110,16 +125,7 @@ impl<W: Write> Sink<W> {
     /// else what was gathered goes out first. Once a write failed or took nothing, or a flush failed,
     /// nothing more is written.
     pub fn put(&mut self, bytes: &[u8]) -> Result<(), WriteStopped>
-        ensures ok { OnOk result (Takes (sink_state W.contents self.old) (sink_state W.contents self.new) bytes.now) }
-        ensures err { OnErr result (TakesPrefix (sink_state W.contents self.old) (sink_state W.contents self.new) bytes.now) }
-        ensures stopped { has_stopped self.new ≡ (has_stopped self.old || is_err result) }
-        ensures refused { IsTrue (has_stopped self.old) → IsErr result × (writer_of self.new ≡ writer_of self.old) }
-        ensures fits { has_stopped self.old ≡ false → length (gathered_of self.old) + length bytes.now ≤ room_of self.old
-            → IsOk result × (writer_of self.new ≡ writer_of self.old) }
-        ensures gathers { has_stopped self.old ≡ false → room_of self.old < length (gathered_of self.old) + length bytes.now → length bytes.now ≤ room_of self.old
-            → OnOk result (gathered_of self.new ≡ bytes.now) }
-        ensures flushed { has_flushed self.old ≡ true → OnOk result (has_flushed self.new ≡ true) }
-        ensures room { room_of self.old ≤ room_of self.new }
+        ensures { Puts self.old self.new bytes.now result }
     {
         if self.writer.is_stopped() {
             return Err(WriteStopped);
@@ -131,16 +137,21 @@ impl<W: Write> Sink<W> {
         Ok(())
     }
 
+    /// Hands in bytes, and writes out all that is gathered then. Once a write failed or took nothing,
+    /// or a flush failed, nothing more is written.
+    pub fn write_whole(&mut self, bytes: &[u8]) -> Result<(), WriteStopped>
+        ensures { WritesWhole self.old self.new bytes.now result }
+    {
+        self.put(bytes)?;
+        self.finish()
+    }
+
     /// Writes out what is gathered, and then gathers the bytes, or writes them too where there is
     /// never room for so many.
     fn put_behind(&mut self, bytes: &[u8]) -> Result<(), WriteStopped>
-        requires { has_stopped self.old ≡ false }
-        ensures ok { OnOk result (Takes (sink_state W.contents self.old) (sink_state W.contents self.new) bytes.now) }
-        ensures err { OnErr result (TakesPrefix (sink_state W.contents self.old) (sink_state W.contents self.new) bytes.now) }
-        ensures stopped { has_stopped self.new ≡ is_err result }
-        ensures gathers { length bytes.now ≤ room_of self.old → OnOk result (gathered_of self.new ≡ bytes.now) }
-        ensures flushed { has_flushed self.old ≡ true → OnOk result (has_flushed self.new ≡ true) }
-        ensures room { room_of self.old ≤ room_of self.new }
+        requires { self.old.stopped ≡ false }
+        ensures gives { Gives self.old self.new bytes.now result }
+        ensures gathers { length bytes.now ≤ self.old.room → OnOk result (self.new.gathered ≡ bytes.now) }
     {
         self.finish()?;
         if bytes.len() > self.gathered.capacity() {

@@ -1,29 +1,38 @@
-ghost use Rattle.std.specs.Prelude.{◌≡◌, ◌+◌, ◌<◌, ◌||◌, ◌↔◌, IsTrue, is_err, false};
-ghost use Rattle.std.specs.Io.KnownBytes.{ReadConsumes};
-ghost use Rattle.std.specs.Io.{ReadsAtMost};
+ghost use Rattle.std.specs.Prelude.{◌≡◌, ◌<◌, ◌↔◌, IsTrue, false};
+ghost use Rattle.gp_stream.specs.Source.{Reads, max_reads};
 
 use std::io;
 use std::io::Read;
+use std::marker::Model;
 
-/// The most reads that are made of one source.
-pub const MAX_READS: u32 = 2_097_152;
+/// The most reads that are made of one source, unless it is endless.
+pub const MAX_READS: u64 = 2_097_152;
 
 /// A reader that counts its reads down and remembers whether one failed.
 #[derive(Drop)]
-pub struct Source<R> {
+pub struct Source<R: Read> {
     inner: R,
-    left: u32,
+    left: u64,
     failed: bool,
 }
 
-impl<R: Read> Source<R> {
-    ghost use Rattle.gp_stream.specs.Source.{reader_of, reads_left, has_failed};
+impl<R: Read> Model for Source<R> {
+    ghost use Rattle.gp_stream.specs.Source.{SourceState};
 
-    /// Makes a source of which nothing was read.
+    ghost Value = { SourceState R };
+
+    ghost view = { λ s. record {
+      reader = s.inner;
+      remaining = R.remaining s.inner;
+      left = s.left;
+      failed = s.failed;
+    } };
+}
+
+impl<R: Read> Source<R> {
+    /// Makes a source of which nothing was read, for [`MAX_READS`] reads.
     pub fn new(inner: R) -> Self
-        ensures reader { reader_of result ≡ inner }
-        ensures left { reads_left result ≡ MAX_READS }
-        ensures failed { has_failed result ≡ false }
+        ensures { result ≡ record { reader = inner; remaining = R.remaining inner; left = max_reads; failed = false } }
     {
         Source {
             inner,
@@ -32,20 +41,28 @@ impl<R: Read> Source<R> {
         }
     }
 
+    /// Makes a source of which nothing was read, for as many reads as there are.
+    pub fn endless(inner: R) -> Self
+        ensures { result ≡ record { reader = inner; remaining = R.remaining inner; left = u64.MAX; failed = false } }
+    {
+        Source {
+            inner,
+            left: u64::MAX,
+            failed: false,
+        }
+    }
+
     /// Tells whether a read may still be made: none failed, and the bound of reads is not met.
     pub(crate) fn can_read(&self) -> bool
-        ensures { IsTrue result ↔ ((0 < reads_left self.now) × (has_failed self.now ≡ false)) }
+        ensures { IsTrue result ↔ ((0 < self.now.left) × (self.now.failed ≡ false)) }
     {
         self.left > 0 && !self.failed
     }
 
     /// Makes one read of those that are left.
     pub(crate) fn read(&mut self, buffer: &mut [u8]) -> io::Result<usize>
-        requires { 0 < reads_left self.old }
-        ensures bound { ReadsAtMost result buffer.new }
-        ensures bytes { ReadConsumes (R.remaining (reader_of self.old)) (R.remaining (reader_of self.new)) result buffer.new }
-        ensures counted { reads_left self.new + 1 ≡ reads_left self.old }
-        ensures failed { has_failed self.new ≡ (has_failed self.old || is_err result) }
+        requires { 0 < self.old.left }
+        ensures { Reads self.old self.new buffer.new result }
     {
         self.left -= 1;
         let outcome = self.inner.read(buffer);

@@ -46,9 +46,9 @@ fn report<R: Eprint>(rt: &R, told: (&'static str, u8)) -> u8
 
 /// Plays the script that a reader gives, to standard output.
 fn replay_from<R: AllocGlobal + Print, S: Read + Drop>(rt: &R, reader: S) -> Result<(), RunFault>
-    ensures ok { OnOk result ((script : ScriptView) × IsReadBy script_of (S.remaining reader) (Ok script)) }
-    ensures script { (fault : ScriptFault) → result ≡ Err (RunFault.Script fault) → IsReadBy script_of (S.remaining reader) (Err fault) }
-    ensures too_long { result ≡ Err RunFault.TooLong → IsTooLong (S.remaining reader) }
+    ensures ok { OnOk result ((script : ScriptView) × IsReadBy script_of reader (S.remaining reader) (Ok script)) }
+    ensures script { (fault : ScriptFault) → result ≡ Err (RunFault.Script fault) → IsReadBy script_of reader (S.remaining reader) (Err fault) }
+    ensures too_long { result ≡ Err RunFault.TooLong → IsTooLong reader (S.remaining reader) }
     ensures mismatch { result ≢ Err RunFault.Mismatch }
     ensures journal_full { result ≢ Err RunFault.JournalFull }
 {
@@ -79,9 +79,9 @@ fn storm_from<R: AllocGlobal + Print + Threads + Wait + Sync, S: Read + Drop>(
     rt: &R,
     reader: S,
 ) -> Result<(), RunFault>
-    ensures ok { OnOk result ((script : ScriptView) × IsReadBy storm_script_of (S.remaining reader) (Ok script)) }
-    ensures script { (fault : ScriptFault) → result ≡ Err (RunFault.Script fault) → IsReadBy storm_script_of (S.remaining reader) (Err fault) }
-    ensures too_long { result ≡ Err RunFault.TooLong → IsTooLong (S.remaining reader) }
+    ensures ok { OnOk result ((script : ScriptView) × IsReadBy storm_script_of reader (S.remaining reader) (Ok script)) }
+    ensures script { (fault : ScriptFault) → result ≡ Err (RunFault.Script fault) → IsReadBy storm_script_of reader (S.remaining reader) (Err fault) }
+    ensures too_long { result ≡ Err RunFault.TooLong → IsTooLong reader (S.remaining reader) }
 {
     let mut source = Source::new(reader);
     let mut sink = Sink::new(rt.alloc(), io::writer(rt))?;

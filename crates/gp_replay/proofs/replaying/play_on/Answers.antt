@@ -1,6 +1,7 @@
 use Rattle.std.proofs.Common.{arith, ◌*◌, ◌^◌, ◌<◌, ◌≤◌, length}
-use Rattle.gp_replay.proofs.TurnLemmas.{prefix_of_all, writes_script}
+use Rattle.gp_script.specs.View.{script_view}
 use Rattle.gp_replay.proofs.RoomLemmas.{opening_room}
+use Rattle.gp_replay.proofs.ScriptPlayLemmas.{chassis_stands, play_ends, play_refused}
 use Rattle.gp_replay.proofs.replaying.play_on.Goals as goal
 
 pub play_events-outcome-requires-clause-room : goal.play_events-outcome-requires-clause-room
@@ -9,12 +10,14 @@ play_events-outcome-requires-clause-room g c =
     let within : length c.args.script.events.items * 2 ^ 32 < 2 ^ 64 = omega (arith, few) in
     rw (c.in_ok-player.ensures, c.as_slice.ensures.value) (opening_room _ c.args.script.ports.items c.args.script.licences within)
 
-pub returns-in_err-finish-clause-prefix : goal.returns-in_err-finish-clause-prefix
-returns-in_err-finish-clause-prefix g c =
-    let played = rw (c.in_ok-player.ensures, c.as_slice.ensures.value) at c.in_ok-outcome.ensures.ok in
-    λ write. prefix_of_all _ _ _ _ _ _ _ played c.in_err-finish.ensures.err
+pub returns-in_err-buffer : goal.returns-in_err-buffer
+returns-in_err-buffer g c = play_refused (script_view c.args.script) c.args.sink.now _ c.from_residual.ensures.1
 
-pub returns-clause-ok : goal.returns-clause-ok
-returns-clause-ok g c =
-    let played = rw (c.in_ok-player.ensures, c.as_slice.ensures.value) at c.in_ok-outcome.ensures.ok in
-    writes_script c.each_port_runs.ensures _ _ _ _ _ c.requires.no_units played c.in_ok-finish.ensures.ok c.in_ok-finish.ensures.empty
+pub returns-in_err-player : goal.returns-in_err-player
+returns-in_err-player g c = play_refused (script_view c.args.script) c.args.sink.now _ c.from_residual-in_err-player.ensures.1
+
+pub returns : goal.returns
+returns g c =
+    let played = rw (c.in_ok-player.ensures, c.as_slice.ensures.value) at c.play_events-outcome.ensures in
+    play_ends (script_view c.args.script) _ _ _ c.play_events-outcome.new.player c.args.sink.now c.play_events-outcome.new.sink _ c.play_events-outcome.result _
+    (chassis_stands c.each_port_runs.ensures (script_view c.args.script) c.requires.no_units) played c.end_play.ensures

@@ -1,5 +1,9 @@
-use Rattle.gp_replay.specs.WorldWriting.{losses_of}
-use Rattle.gp_replay.proofs.WorldLemmas.{if_told, frames_prefix, frames_write, no_frames}
+use Rattle.std.proofs.Common.{◌+◌, length, arith, refl}
+use Rattle.gp_fibre.specs.Schedule.{FramesRun}
+use Rattle.gp_replay.specs.WorldPlay.{receipts_from}
+use Rattle.gp_replay.specs.WorldWriting.{Numbered, TakesSomeFrames, losses_of}
+use Rattle.gp_replay.proofs.PlayLemmas.{plays_lines, stops_at_first, stops_in_lines}
+use Rattle.gp_replay.proofs.WorldLemmas.{frames_happen, numbered_none, some_frames_happen}
 use Rattle.gp_replay.proofs.WorldRoomLemmas.{entries_fit}
 use Rattle.gp_replay.proofs.world_playing.play_few_frames.Goals as goal
 
@@ -9,16 +13,29 @@ write_entries-requires-clause-room g c =
     (entries_fit c.args.loss.now.copies.items c.args.loss.now.bursts.items c.args.frames c.run_frames.new.self.next c.args.player.now c.run_frames.new.self.world c.in_ok-entries.entries.items c.in_ok-entries.ensures.next
     c.requires.room c.in_ok-entries.ensures.ran)
 
-pub returns-in_err-entries-clause-err : goal.returns-in_err-entries-clause-err
-returns-in_err-entries-clause-err g c = if_told _ _ _ c.from_residual.ensures.1 (no_frames c.args.mask (losses_of c.args.loss.now) c.args.frames c.args.player.now _)
+pub returns-in_err-entries : goal.returns-in_err-entries
+returns-in_err-entries g c =
+    let losses = losses_of c.args.loss.now in
+    stops_at_first c.args.mask (Numbered (FramesRun losses.copies losses.bursts c.args.frames)) (Numbered (TakesSomeFrames losses c.args.frames)) c.args.player.now _ c.args.sink.now _
+    (numbered_none (TakesSomeFrames losses c.args.frames) c.args.player.now (0, omega arith, (refl, refl))) c.from_residual.ensures.1
 
-pub returns-in_err-write_entries-clause-err : goal.returns-in_err-write_entries-clause-err
-returns-in_err-write_entries-clause-err g c =
-    if_told _ _ _ c.from_residual-in_err-write_entries.ensures.1
-    (frames_prefix c.args.mask (losses_of c.args.loss.now) c.args.frames c.in_ok-entries.entries.items c.args.player.now c.run_frames.new.self _ _ c.in_ok-entries.ensures.ran c.in_ok-entries.ensures.next
-    (rw c.as_slice.ensures.value at c.in_err-write_entries.ensures.err))
+pub returns-in_err-write_entries : goal.returns-in_err-write_entries
+returns-in_err-write_entries g c =
+    let losses = losses_of c.args.loss.now in
+    let mid = c.run_frames.new.self in
+    let entries = c.in_ok-entries.entries.items in
+    stops_in_lines c.args.mask (Numbered (FramesRun losses.copies losses.bursts c.args.frames)) (Numbered (TakesSomeFrames losses c.args.frames)) c.args.player.now
+    (record { world = mid.world; next = mid.next + length entries }) _ (receipts_from mid.next entries) _ _ _ _
+    (some_frames_happen losses c.args.frames entries c.args.player.now mid c.in_ok-entries.ensures.ran c.in_ok-entries.ensures.next)
+    (rw c.as_slice.ensures.value at c.in_err-write_entries.ensures.hands) c.from_residual-in_err-write_entries.ensures.1
 
-pub returns-clause-ok : goal.returns-clause-ok
-returns-clause-ok g c =
-    frames_write c.args.mask (losses_of c.args.loss.now) c.args.frames c.in_ok-entries.entries.items c.args.player.now c.run_frames.new.self c.write_entries.new.player _ _ c.in_ok-entries.ensures.ran
-    c.in_ok-entries.ensures.next c.in_ok-write_entries.ensures.world (rw c.as_slice.ensures.value at c.in_ok-write_entries.ensures.next) (rw c.as_slice.ensures.value at c.in_ok-write_entries.ensures.ok)
+pub returns : goal.returns
+returns g c =
+    let losses = losses_of c.args.loss.now in
+    let mid = c.run_frames.new.self in
+    let entries = c.in_ok-entries.entries.items in
+    plays_lines c.args.mask (Numbered (FramesRun losses.copies losses.bursts c.args.frames)) (Numbered (TakesSomeFrames losses c.args.frames)) c.args.player.now
+    c.write_entries.new.player (receipts_from mid.next entries) _ _ _ _
+    (frames_happen losses c.args.frames entries c.args.player.now mid c.write_entries.new.player c.in_ok-entries.ensures.ran c.in_ok-entries.ensures.next c.in_ok-write_entries.ensures.world
+    (rw c.as_slice.ensures.value at c.in_ok-write_entries.ensures.next))
+    (rw c.as_slice.ensures.value at c.in_ok-write_entries.ensures.hands)

@@ -1,0 +1,30 @@
+-- What a run found in its input, from how it ended.
+use Rattle.std.proofs.Common.{◌≡◌, ℕ, List, Option, Result, Ok, Err, OnOk, subst}
+use Rattle.gp_script.specs.declared.fault.ScriptFault.{ScriptFault}
+use Rattle.gp_script.specs.Script.{ScriptView}
+use Rattle.gp_stream.specs.Source.{SourceState, ReadsTooMuch, max_bytes}
+use Rattle.gp_stream.specs.Sink.{SinkState}
+use Rattle.gp_replay.specs.declared.fault.RunFault.TheVariants as runs
+use Rattle.gp_replay.specs.Outcome.{ReadsBy, RunAnswer, RunEnds}
+use Rattle.oltctl.specs.Replays.{IsReadBy, IsTooLong, unread}
+
+pub found_script : {R W : Type 0} (says_of : List ℕ → Result ScriptView ScriptFault) (leaves : RunAnswer → ScriptView → Type 0) (reader : R)
+    (remaining : Option (List ℕ)) (before after : SourceState R) (old new : SinkState W) (r : RunAnswer) → before ≡ unread reader remaining
+    → RunEnds says_of leaves before after old new r → OnOk r ((script : ScriptView) × IsReadBy says_of reader remaining (Ok script))
+found_script {R = R} says_of leaves reader remaining before after old new (Ok v) is p =
+    (p.script, after, subst (λ (s : SourceState R). ReadsBy says_of s after (Ok p.script)) is p.input)
+found_script says_of leaves reader remaining before after old new (Err f) is p = tt
+
+pub found_fault : {R W : Type 0} (says_of : List ℕ → Result ScriptView ScriptFault) (leaves : RunAnswer → ScriptView → Type 0) (reader : R)
+    (remaining : Option (List ℕ)) (before after : SourceState R) (old new : SinkState W) (r : RunAnswer) → before ≡ unread reader remaining
+    → RunEnds says_of leaves before after old new r → (fault : ScriptFault) → r ≡ Err (runs.Script fault) → IsReadBy says_of reader remaining (Err fault)
+found_fault {R = R} says_of leaves reader remaining before after old new r is p fault told =
+    let q = subst (λ (o : RunAnswer). RunEnds says_of leaves before after old new o) told p in
+    (after, subst (λ (s : SourceState R). ReadsBy says_of s after (Err fault)) is q.0)
+
+pub found_long : {R W : Type 0} (says_of : List ℕ → Result ScriptView ScriptFault) (leaves : RunAnswer → ScriptView → Type 0) (reader : R)
+    (remaining : Option (List ℕ)) (before after : SourceState R) (old new : SinkState W) (r : RunAnswer) → before ≡ unread reader remaining
+    → RunEnds says_of leaves before after old new r → r ≡ Err runs.TooLong → IsTooLong reader remaining
+found_long {R = R} says_of leaves reader remaining before after old new r is p told =
+    let q = subst (λ (o : RunAnswer). RunEnds says_of leaves before after old new o) told p in
+    (after, subst (λ (s : SourceState R). ReadsTooMuch max_bytes s after) is q.0)
