@@ -3,10 +3,10 @@ use Rattle.std.proofs.Common.{inl, inr, ◌||◌, ℕ, true, false, List, [], �
 use Rattle.std.proofs.KnownBytes.{Appends-nil}
 use Rattle.gp_flow.specs.declared.fault.LineFault.{LineFault}
 use Rattle.gp_flow.specs.declared.fault.LineFault.TheVariants.{Write, OutOfMemory, Full}
-use Rattle.gp_flow.specs.declared.sink.WriteStopped.{WriteStopped}
-use Rattle.gp_flow.specs.Sink.{SinkState, Puts, Finishes, TakesPrefix}
+use Rattle.gp_stream.specs.declared.sink.WriteStopped.{WriteStopped}
+use Rattle.gp_stream.specs.Sink.{SinkState, Puts, Finishes, TakesPrefix}
 use Rattle.gp_flow.specs.Lines.{Speech, DoesAll, Answers, AnswersAll}
-use Rattle.gp_flow.proofs.SinkLemmas.{takes_nothing, takes_more, takes_prefix_after}
+use Rattle.gp_stream.proofs.SinkLemmas.{takes_nothing, takes_more, takes_prefix_after}
 
 -- lines, and then lines
 pub does_more : {S : Type 0} (does : Speech S) (old mid new : S) (xs ys : List (Option (List ℕ))) (said more : List ℕ)

@@ -8,9 +8,9 @@ use Rattle.gp_flow.specs.declared.fault.LineFault.{LineFault}
 use Rattle.gp_flow.specs.declared.fault.LineFault.TheVariants.{Write, OutOfMemory, Full}
 use Rattle.gp_flow.specs.declared.lines.LinesEnd.TheVariants.{Over}
 use Rattle.gp_flow.specs.declared.fault.LinesFault.TheVariants.{Read, Line}
-use Rattle.gp_flow.specs.declared.sink.WriteStopped.{WriteStopped}
-use Rattle.gp_flow.specs.Sink.{SinkState, KeepsNothing, Takes, TakesPrefix, Finishes}
-use Rattle.gp_flow.specs.Source.{SourceState}
+use Rattle.gp_stream.specs.declared.sink.WriteStopped.{WriteStopped}
+use Rattle.gp_stream.specs.Sink.{SinkState, KeepsNothing, Takes, TakesPrefix, Finishes}
+use Rattle.gp_stream.specs.Source.{SourceState}
 use Rattle.gp_flow.specs.Lines.{Speech, DoesAll, AnswersAll, handed, lines_of, Serves, ServesAll, ServesEnded, ServesTo, end_of_input, tells_stopped, tells_write}
 use Rattle.gp_flow.specs.declared.lines.LinesEnd.{LinesEnd}
 use Rattle.gp_flow.specs.Lines.{with_feeds}

@@ -8,8 +8,8 @@ use Rattle.gp_flow.specs.declared.lines.LinesEnd.{LinesEnd}
 use Rattle.gp_flow.specs.declared.lines.LinesEnd.TheVariants.{Whole, Open, Over}
 use Rattle.std.specs.List.{flat_map}
 use Rattle.gp_flow.specs.declared.fault.LinesFault.TheVariants.{Read, Line}
-use Rattle.gp_flow.specs.Sink.{SinkState, KeepsNothing, Takes, TakesPrefix}
-use Rattle.gp_flow.specs.Source.{SourceState, ReadsWhole}
+use Rattle.gp_stream.specs.Sink.{SinkState, KeepsNothing, Takes, TakesPrefix}
+use Rattle.gp_stream.specs.Source.{SourceState, ReadsWhole}
 
 -- an octet at the head of the first of these lines, if there is one
 abbrev pub onto_first : ℕ → List (List ℕ) → List (List ℕ)

@@ -2,7 +2,7 @@ ghost use Rattle.std.specs.Prelude.{◌≡◌};
 ghost use Rattle.gp_flow.specs.declared.fault.LineFault.TheVariants.{Write, OutOfMemory};
 ghost use Rattle.gp_flow.specs.declared.fault.LinesFault.TheVariants.{Line};
 
-use crate::sink::WriteStopped;
+use gp_stream::WriteStopped;
 use std::alloc::AllocError;
 use thiserror::Error;
 

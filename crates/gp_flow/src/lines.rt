@@ -1,12 +1,12 @@
 ghost use Rattle.std.specs.Prelude.{◌≡◌, ◌<◌, [], true};
-ghost use Rattle.gp_flow.specs.Sink.{KeepsNothing};
-ghost use Rattle.gp_flow.specs.Source.{Reads};
+ghost use Rattle.gp_stream.specs.Sink.{KeepsNothing};
+ghost use Rattle.gp_stream.specs.Source.{Reads};
 ghost use Rattle.gp_flow.specs.Lines.{Serves, end_of_input};
 
 use crate::fault::LinesFault;
 use crate::open_line::OpenLine;
-use crate::sink::Sink;
-use crate::source::Source;
+use gp_stream::Sink;
+use gp_stream::Source;
 use crate::work::LineWork;
 use std::alloc::Global;
 use std::io;

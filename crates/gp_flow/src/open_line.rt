@@ -1,10 +1,10 @@
 ghost use Rattle.std.specs.Prelude.{◌≡◌, ◌<◌, ◌↔◌, [], ◌∷◌, true, IfOk, IsTrue, OnOk, length};
 ghost use Rattle.gp_flow.specs.Lines.{AnswersAll, handed};
-ghost use Rattle.gp_flow.specs.Sink.{KeepsNothing};
+ghost use Rattle.gp_stream.specs.Sink.{KeepsNothing};
 ghost use Rattle.gp_flow.specs.OpenLine.{kept, fed_lines, fed_text, last_line};
 
 use crate::fault::LineFault;
-use crate::sink::Sink;
+use gp_stream::Sink;
 use crate::work::LineWork;
 use std::alloc::{AllocError, Global};
 use std::io::Write;

@@ -1,5 +1,5 @@
 use crate::fault::LineFault;
-use crate::sink::Sink;
+use gp_stream::Sink;
 use std::io::Write;
 
 /// What is done with the lines of an input.

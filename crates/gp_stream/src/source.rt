@@ -53,14 +53,14 @@ impl<R: Read> Source<R> {
     }
 
     /// Tells whether a read may still be made: none failed, and the bound of reads is not met.
-    pub(crate) fn can_read(&self) -> bool
+    pub fn can_read(&self) -> bool
         ensures { IsTrue result ↔ ((0 < self.now.left) × (self.now.failed ≡ false)) }
     {
         self.left > 0 && !self.failed
     }
 
     /// Makes one read of those that are left.
-    pub(crate) fn read(&mut self, buffer: &mut [u8]) -> io::Result<usize>
+    pub fn read(&mut self, buffer: &mut [u8]) -> io::Result<usize>
         requires { 0 < self.old.left }
         ensures { Reads self.old self.new buffer.new result }
     {

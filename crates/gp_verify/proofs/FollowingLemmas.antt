@@ -1,6 +1,6 @@
 -- Lines that are handed to a verifier.
 use Rattle.std.proofs.Common.{◌≡◌, ℕ, ◌+◌, List, Option, None, Some, Err}
-use Rattle.gp_flow.specs.Sink.{SinkState}
+use Rattle.gp_stream.specs.Sink.{SinkState}
 use Rattle.gp_flow.specs.Lines.{Answers, Speech}
 use Rattle.gp_flow.proofs.AnswerLemmas.{no_memory, no_room}
 use Rattle.gp_verify.specs.declared.fault.LineRefusal.{LineRefusal}

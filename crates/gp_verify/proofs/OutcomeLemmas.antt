@@ -8,8 +8,8 @@ use Rattle.gp_flow.specs.declared.lines.LinesEnd.TheVariants.{Whole, Open, Over}
 use Rattle.gp_flow.specs.declared.fault.LinesFault.{LinesFault}
 use Rattle.gp_flow.specs.declared.fault.LinesFault.TheVariants as faults
 use Rattle.gp_flow.specs.Lines.{DoesAll, Serves, ServesTo, ended_lines, handed, lines_of, with_feeds}
-use Rattle.gp_flow.specs.Sink.{SinkState}
-use Rattle.gp_flow.specs.Source.{SourceState, ReadsWhole}
+use Rattle.gp_stream.specs.Sink.{SinkState}
+use Rattle.gp_stream.specs.Source.{SourceState, ReadsWhole}
 use Rattle.gp_flow.proofs.LineLemmas.{ended_first, handed_none, handed_whole, lines_fed}
 use Rattle.gp_ploam.specs.declared.check.Mask.{Mask}
 use Rattle.gp_replay.specs.Chassis.{PlayState}

@@ -6,7 +6,7 @@ use Rattle.gp_flow.specs.declared.fault.LinesFault.TheVariants as faults
 use Rattle.gp_flow.specs.declared.lines.LinesEnd.{LinesEnd}
 use Rattle.gp_flow.specs.declared.lines.LinesEnd.TheVariants.{Whole, Open, Over}
 use Rattle.gp_flow.specs.Lines.{lines_of}
-use Rattle.gp_flow.specs.Source.{SourceState, ReadsWhole}
+use Rattle.gp_stream.specs.Source.{SourceState, ReadsWhole}
 use Rattle.gp_ploam.specs.declared.check.Mask.{Mask}
 use Rattle.gp_machine.specs.declared.entry.Receipt.{Receipt}
 use Rattle.gp_replay.specs.Chassis.{PlayState}

@@ -1,5 +1,6 @@
 use super::verifier::Verifier;
-use gp_flow::{LineFault, LineWork, Sink};
+use gp_flow::{LineFault, LineWork};
+use gp_stream::Sink;
 use std::io::Write;
 use std::sync::ledger::Ledger;
 
