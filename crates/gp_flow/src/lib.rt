@@ -3,7 +3,7 @@
 //! - `lines.rt`: `run_lines`, which reads an input piece by piece. Whenever it asks for more, all answers are out.
 //! - `work.rt`: `LineWork`, what is done with lines; `fault.rt`: why a line, or a whole input, was not answered.
 //! - `open_line.rt`: the line of which octets came, and no line feed yet.
-//! - `sink.rt`, `source.rt`, `watched.rt`: what is written to and read from.
+//! - What is written to and read from is `gp_stream`'s.
 //!
 //! Where to make which change: what the lines of an input are stands in `specs/Lines.antt`, and how serving them may end
 //! in `Serves` there. A new way to work with lines is an `impl` of `LineWork`, which says by `says` what it answers and by
