@@ -7,7 +7,7 @@ use Rattle.gp_machine.specs.declared.entry.Receipt.{Receipt}
 use Rattle.gp_workers.specs.declared.reader.RingItem.{RingItem}
 use Rattle.gp_workers.specs.declared.reader.RingItem.TheVariants.{Burst, End}
 use Rattle.gp_workers.specs.Asked.{asked_of, Extends, ExtendsBy, bursts_on}
-use Rattle.gp_workers.specs.Ring.{Midway, up_to_end}
+use Rattle.gp_workers.specs.Ring.{GrowsByBursts, Midway, up_to_end}
 use Rattle.gp_workers.proofs.Asks.{extends_none, extends_push}
 
 pub prefix_self : {X : Type 0} (xs : List X) → IsPrefix xs xs
@@ -69,3 +69,17 @@ midway_fault old now new port bursts rest ahead h same =
     ap (λ w. take (length (bursts_on port h.served)) (bursts_on port w)) h.split ∙ ap (take (length (bursts_on port h.served))) (bursts_append port h.served h.left)
     ∙ take_at (bursts_on port h.served) (bursts_on port h.left) (length (bursts_on port h.served)) refl in
     record { count = length (bursts_on port h.served); prefix = record { more = h.sofar.more; grown = same ∙ h.sofar.grown; asked = h.sofar.asked ∙ sym prefix } }
+
+-- ---- whichever bursts they are
+
+pub grows_by_none : (old : List Receipt) (port : ℕ) → GrowsByBursts old old port
+grows_by_none old port = record { served = []; grown = extends_none old }
+
+pub grows_by_one : (old now new : List Receipt) (port at : ℕ) (bytes : List ℕ) (r : Receipt) → GrowsByBursts old now port → new ≡ now ++ r ∷ [] → asked_of r ≡ (port, Came at bytes) → GrowsByBursts old new port
+grows_by_one old now new port at bytes r h push is = record {
+  served = h.served ++ (at, bytes) ∷ [];
+  grown = subst (λ w. Extends old new w) (sym (bursts_push port h.served (at, bytes))) (extends_push old now new (bursts_on port h.served) r (port, Came at bytes) h.grown push is);
+}
+
+pub grows_no_more : (old now new : List Receipt) (port : ℕ) → GrowsByBursts old now port → new ≡ now → GrowsByBursts old new port
+grows_no_more old now new port h same = subst (λ (w : List Receipt). GrowsByBursts old w port) (sym same) h

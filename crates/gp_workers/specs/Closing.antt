@@ -1,13 +1,16 @@
 -- What a chassis with threads leaves when it is closed or cut (this profile's own rule).
-use Rattle.std.specs.Prelude.{ℕ, ◌≡◌, List, [], ◌∷◌, map, sum_by}
+use Rattle.std.specs.Prelude.{ℕ, ◌≡◌, ◌+◌, List, [], ◌∷◌, map, sum_by}
 use Rattle.std.specs.List.{AllZip}
 use Rattle.gp_machine.specs.declared.config.PortConfig.{PortConfig}
+use Rattle.gp_machine.specs.declared.entry.Receipt.{Receipt}
 use Rattle.gp_machine.specs.State.{PortState, rows_of}
 use Rattle.gp_journal.specs.Kept.{Kept}
 use Rattle.gp_journal.specs.Replays.{Replays}
 use Rattle.gp_journal.specs.declared.piece.Piece.{Piece}
 use Rattle.gp_journal.specs.Piece.{IsRunOfPiece}
-use Rattle.gp_chassis.specs.Desk.{DeskState, DeskStands, piece_of}
+use Rattle.gp_accounts.specs.Accounted.{Accounted}
+use Rattle.gp_chassis.specs.Desk.{DeskState, DeskStands, history_of_desk, piece_of}
+use Rattle.gp_workers.specs.Chassis.{ChassisState, WorkerState}
 use Rattle.gp_workers.specs.declared.totals.Totals.{Totals}
 use Rattle.gp_workers.specs.Totals.{AreTotals}
 
@@ -36,6 +39,21 @@ pub record CutEnding (configs : List PortConfig) (pieces : List Piece) (totals :
 -- how many units are active on the desk's port
 abbrev pub desk_rows : DeskState → ℕ
 desk_rows desk = rows_of desk.state
+
+-- a chassis with these configurations and so many licences
+abbrev pub chassis_of : List PortConfig → ℕ → ChassisState
+chassis_of configs licences = record { configs = configs; licences = licences }
+
+-- the receipts of each worker
+abbrev pub receipts_of : List WorkerState → List (List Receipt)
+receipts_of workers = map (λ (worker : WorkerState). worker.receipts) workers
+
+-- the workers' receipts tell of the desks' entries, each desk has the configuration of its port, and the licences that are free and
+-- those of the active units are all that there are
+pub record AddsUp (chassis : ChassisState) (desks : List DeskState) (free : ℕ) (workers : List WorkerState) : Type 0 where
+  pub accounted : Accounted (map history_of_desk desks) (receipts_of workers)
+  pub configured : map (λ (desk : DeskState). desk.state.config) desks ≡ chassis.configs
+  pub balance : free + sum_by desk_rows desks ≡ chassis.licences
 
 -- the journal is what the desk kept
 pub record IsJournalOf (desk : DeskState) (journal : Kept) : Type 0 where

@@ -14,6 +14,11 @@ in_ring burst = Burst burst.0 burst.1
 abbrev pub up_to_end : List (ℕ × List ℕ) → List RingItem → List RingItem
 up_to_end bursts rest = map in_ring bursts ++ End ∷ rest
 
+-- the receipts grew by those of bursts on this port, whichever they are
+pub record GrowsByBursts (old new : List Receipt) (port : ℕ) : Type 0 where
+  pub served : List (ℕ × List ℕ)
+  pub grown : Extends old new (bursts_on port served)
+
 -- some of the bursts are served, and the others are known to be ahead in the ring
 pub record Midway (old now : List Receipt) (port : ℕ) (bursts : List (ℕ × List ℕ)) (rest ahead : List RingItem) : Type 0 where
   pub served : List (ℕ × List ℕ)

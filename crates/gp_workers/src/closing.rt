@@ -1,10 +1,10 @@
-ghost use Rattle.std.specs.Prelude.{◌≡◌, ◌+◌, ◌≤◌, [], length, map, sum_by, All, IfOk, IfErr, OnOk, vec_len, vec_capacity};
+ghost use Rattle.std.specs.Prelude.{◌≡◌, ◌≤◌, [], length, map, All, Err, IfOk, IfErr, OnOk, vec_len, vec_capacity};
 ghost use Rattle.gp_journal.specs.Kept.{history_of};
 ghost use Rattle.gp_journal.specs.Piece.{history_of_piece};
 ghost use Rattle.gp_accounts.specs.Accounted.{Accounted};
 ghost use Rattle.gp_chassis.specs.Desk.{history_of_desk};
 ghost use Rattle.gp_machine.specs.Config.{max_ports};
-ghost use Rattle.gp_workers.specs.Closing.{Ending, CutEnding, desk_rows};
+ghost use Rattle.gp_workers.specs.Closing.{AddsUp, CutEnding, Ending, chassis_of};
 
 use super::chassis::{Chassis, Stock};
 use super::desks::{are_configured, close_all, cut_all, images_of, rows_in};
@@ -80,16 +80,9 @@ impl<G: Gate<L>, L: Ledger> Chassis<G, L> {
         ensures chassis { IfErr result (λ refused. refused.chassis ≡ self) }
         ensures workers { IfErr result (λ refused. refused.workers.items ≡ workers.items) }
     {
-        let opened = match self.opened(alloc, workers) {
-            Ok(opened) => opened,
-            Err(refused) => return Err(refused),
-        };
-        let Ok(journals) = Vec::with_capacity(alloc, opened.desks.len()) else {
-            return Err(opened.refused(CloseFault::OutOfMemory));
-        };
-        match opened.check(alloc) {
-            Ok(()) => Ok(opened.closed(journals)),
-            Err(fault) => Err(opened.refused(fault)),
+        match self.opened(alloc, workers) {
+            Ok(opened) => opened.close(alloc),
+            Err(refused) => Err(refused),
         }
     }
 
@@ -107,22 +100,9 @@ impl<G: Gate<L>, L: Ledger> Chassis<G, L> {
         ensures chassis { IfErr result (λ refused. refused.chassis ≡ self) }
         ensures workers { IfErr result (λ refused. refused.workers.items ≡ workers.items) }
     {
-        let opened = match self.opened(alloc, workers) {
-            Ok(opened) => opened,
-            Err(refused) => return Err(refused),
-        };
-        let Ok(pieces) = Vec::with_capacity(alloc, opened.desks.len()) else {
-            return Err(opened.refused(CloseFault::OutOfMemory));
-        };
-        let Ok(bases) = images_of(alloc, opened.desks.as_slice()) else {
-            return Err(opened.refused(CloseFault::OutOfMemory));
-        };
-        let Ok(ends) = images_of(alloc, opened.desks.as_slice()) else {
-            return Err(opened.refused(CloseFault::OutOfMemory));
-        };
-        match opened.check(alloc) {
-            Ok(()) => Ok(opened.cut(pieces, bases, ends)),
-            Err(fault) => Err(opened.refused(fault)),
+        match self.opened(alloc, workers) {
+            Ok(opened) => opened.cut(alloc),
+            Err(refused) => Err(refused),
         }
     }
 
@@ -135,6 +115,7 @@ impl<G: Gate<L>, L: Ledger> Chassis<G, L> {
         ensures ok { IfOk result (λ opened. (opened.configs.items ≡ self.configs) × (opened.licences ≡ self.licences) × (opened.workers.items ≡ workers.items)) }
         ensures chassis { IfErr result (λ refused. refused.chassis ≡ self) }
         ensures workers { IfErr result (λ refused. refused.workers.items ≡ workers.items) }
+        ensures fault { IfErr result (λ refused. refused.fault ≡ CloseFault.Mismatch → ⊥) }
     {
         let Chassis {
             gate,
@@ -144,42 +125,34 @@ impl<G: Gate<L>, L: Ledger> Chassis<G, L> {
             licences,
         } = self;
         let stock = stock.into_inner();
-        if workers.len() != usize::from(stock.workers) {
-            let chassis = Chassis {
-                gate,
-                configs,
-                ports,
-                stock: Mutex::new(stock),
-                licences,
-            };
-            return Err(CloseRefused {
-                fault: CloseFault::WorkerMissing,
-                chassis,
-                workers,
-            });
-        }
-        let Ok(desks) = Vec::with_capacity(alloc, ports.len()) else {
-            let chassis = Chassis {
-                gate,
-                configs,
-                ports,
-                stock: Mutex::new(stock),
-                licences,
-            };
-            return Err(CloseRefused {
-                fault: CloseFault::OutOfMemory,
-                chassis,
-                workers,
-            });
+        let fault = if workers.len() != usize::from(stock.workers) {
+            CloseFault::WorkerMissing
+        } else {
+            match Vec::with_capacity(alloc, ports.len()) {
+                Ok(desks) => {
+                    let (ports, desks) = take_out(ports, desks);
+                    return Ok(Opened {
+                        gate,
+                        configs,
+                        ports,
+                        desks,
+                        stock,
+                        licences,
+                        workers,
+                    });
+                }
+                Err(_) => CloseFault::OutOfMemory,
+            }
         };
-        let (ports, desks) = take_out(ports, desks);
-        Ok(Opened {
-            gate,
-            configs,
-            ports,
-            desks,
-            stock,
-            licences,
+        Err(CloseRefused {
+            fault,
+            chassis: Chassis {
+                gate,
+                configs,
+                ports,
+                stock: Mutex::new(stock),
+                licences,
+            },
             workers,
         })
     }
@@ -188,11 +161,59 @@ impl<G: Gate<L>, L: Ledger> Chassis<G, L> {
 impl<G: Gate<L>, L: Ledger> NeverDropped for Opened<G, L> {}
 
 impl<G: Gate<L>, L: Ledger> Opened<G, L> {
+    /// Ends all, where it adds up.
+    fn close(self, alloc: Global) -> Result<Closed, CloseRefused<G, L>>
+        ensures ending { IfOk result (λ closed. Ending self.configs.items closed.journals.items closed.totals) }
+        ensures accounted { IfOk result (λ closed. Accounted (map history_of closed.journals.items) (map (λ worker. worker.receipts) self.workers.items)) }
+        ensures licences { IfOk result (λ closed. closed.licences ≡ self.licences) }
+        ensures chassis { IfErr result (λ refused. (refused.chassis.configs ≡ self.configs.items) × (refused.chassis.licences ≡ self.licences)) }
+        ensures workers { IfErr result (λ refused. refused.workers.items ≡ self.workers.items) }
+        ensures missing { IfErr result (λ refused. refused.fault ≡ CloseFault.WorkerMissing → ⊥) }
+        ensures mismatch { IfErr result (λ refused. refused.fault ≡ CloseFault.Mismatch
+            → AddsUp (chassis_of self.configs.items self.licences) self.desks.items self.stock.book.free self.workers.items → ⊥) }
+    {
+        let Ok(journals) = Vec::with_capacity(alloc, self.desks.len()) else {
+            return Err(self.refused(CloseFault::OutOfMemory));
+        };
+        match self.check(alloc) {
+            Ok(()) => Ok(self.closed(journals)),
+            Err(fault) => Err(self.refused(fault)),
+        }
+    }
+
+    /// Cuts all journals, where it adds up.
+    fn cut(self, alloc: Global) -> Result<(Chassis<G, L>, Vec<Worker<L>>, Cut), CloseRefused<G, L>>
+        ensures ending { IfOk result (λ done. CutEnding self.configs.items done.2.pieces.items done.2.totals) }
+        ensures accounted { IfOk result (λ done. Accounted (map history_of_piece done.2.pieces.items) (map (λ worker. worker.receipts) self.workers.items)) }
+        ensures goes_on { IfOk result (λ done. (done.0.configs ≡ self.configs.items) × (done.0.licences ≡ self.licences)) }
+        ensures forgotten { IfOk result (λ done. All (λ worker. worker.receipts ≡ []) done.1.items × (length done.1.items ≡ length self.workers.items)) }
+        ensures chassis { IfErr result (λ refused. (refused.chassis.configs ≡ self.configs.items) × (refused.chassis.licences ≡ self.licences)) }
+        ensures workers { IfErr result (λ refused. refused.workers.items ≡ self.workers.items) }
+        ensures missing { IfErr result (λ refused. refused.fault ≡ CloseFault.WorkerMissing → ⊥) }
+        ensures mismatch { IfErr result (λ refused. refused.fault ≡ CloseFault.Mismatch
+            → AddsUp (chassis_of self.configs.items self.licences) self.desks.items self.stock.book.free self.workers.items → ⊥) }
+    {
+        let Ok(pieces) = Vec::with_capacity(alloc, self.desks.len()) else {
+            return Err(self.refused(CloseFault::OutOfMemory));
+        };
+        let Ok(bases) = images_of(alloc, self.desks.as_slice()) else {
+            return Err(self.refused(CloseFault::OutOfMemory));
+        };
+        let Ok(ends) = images_of(alloc, self.desks.as_slice()) else {
+            return Err(self.refused(CloseFault::OutOfMemory));
+        };
+        match self.check(alloc) {
+            Ok(()) => Ok(self.cut_with(pieces, bases, ends)),
+            Err(fault) => Err(self.refused(fault)),
+        }
+    }
+
     /// Tells whether all adds up: the receipts of the workers, the configurations and the licences.
     fn check(&self, alloc: Global) -> Result<(), CloseFault>
-        ensures accounted { OnOk result (Accounted (map history_of_desk self.now.desks.items) (map (λ worker. worker.receipts) self.now.workers.items)) }
-        ensures configured { OnOk result (map (λ desk. desk.state.config) self.now.desks.items ≡ self.now.configs.items) }
-        ensures balance { OnOk result (self.now.stock.book.free + sum_by desk_rows self.now.desks.items ≡ self.now.licences) }
+        ensures ok { OnOk result (AddsUp (chassis_of self.now.configs.items self.now.licences) self.now.desks.items self.now.stock.book.free self.now.workers.items) }
+        ensures mismatch { result ≡ Err CloseFault.Mismatch
+            → AddsUp (chassis_of self.now.configs.items self.now.licences) self.now.desks.items self.now.stock.book.free self.now.workers.items → ⊥ }
+        ensures missing { result ≡ Err CloseFault.WorkerMissing → ⊥ }
     {
         reconcile(alloc, self.desks.as_slice(), self.workers.as_slice())?;
         if !are_configured(self.configs.as_slice(), self.desks.as_slice()) {
@@ -207,6 +228,7 @@ impl<G: Gate<L>, L: Ledger> Opened<G, L> {
 
     /// Puts all back as it was.
     fn refused(self, fault: CloseFault) -> CloseRefused<G, L>
+        ensures fault { result.fault ≡ fault }
         ensures configs { result.chassis.configs ≡ self.configs.items }
         ensures licences { result.chassis.licences ≡ self.licences }
         ensures workers { result.workers.items ≡ self.workers.items }
@@ -238,8 +260,7 @@ impl<G: Gate<L>, L: Ledger> Opened<G, L> {
     fn closed(self, journals: Vec<Journal>) -> Closed
         requires empty { journals.items ≡ [] }
         requires room { vec_len self.desks ≤ vec_capacity journals }
-        requires configured { map (λ desk. desk.state.config) self.desks.items ≡ self.configs.items }
-        requires balance { self.stock.book.free + sum_by desk_rows self.desks.items ≡ self.licences }
+        requires adds_up { AddsUp (chassis_of self.configs.items self.licences) self.desks.items self.stock.book.free self.workers.items }
         ensures ending { Ending self.configs.items result.journals.items result.totals }
         ensures histories { map history_of_desk self.desks.items ≡ map history_of result.journals.items }
         ensures licences { result.licences ≡ self.licences }
@@ -266,7 +287,7 @@ impl<G: Gate<L>, L: Ledger> Opened<G, L> {
     }
 
     /// Cuts all journals, with two images of where each port stands, and has the workers forget their receipts.
-    fn cut(
+    fn cut_with(
         self,
         pieces: Vec<Piece>,
         bases: Vec<PortImage>,
@@ -276,7 +297,7 @@ impl<G: Gate<L>, L: Ledger> Opened<G, L> {
         requires room { vec_len self.desks ≤ vec_capacity pieces }
         requires bases { bases.items ≡ map (λ desk. desk.state) self.desks.items }
         requires ends { ends.items ≡ map (λ desk. desk.state) self.desks.items }
-        requires configured { map (λ desk. desk.state.config) self.desks.items ≡ self.configs.items }
+        requires adds_up { AddsUp (chassis_of self.configs.items self.licences) self.desks.items self.stock.book.free self.workers.items }
         ensures ending { CutEnding self.configs.items result.2.pieces.items result.2.totals }
         ensures histories { map history_of_desk self.desks.items ≡ map history_of_piece result.2.pieces.items }
         ensures chassis { (result.0.configs ≡ self.configs.items) × (result.0.licences ≡ self.licences) }

@@ -1,5 +1,5 @@
 //! What a chassis asks of its desks, and does with them, when it is closed or cut.
-ghost use Rattle.std.specs.Prelude.{◌≡◌, ◌<◌, ◌≤◌, ◌+◌, ◌∷◌, [], length, map, sum_by, vec_len, vec_capacity, IfOk, IfErr, IsTrue};
+ghost use Rattle.std.specs.Prelude.{◌≡◌, ◌<◌, ◌≤◌, ◌+◌, ◌∷◌, ◌↔◌, [], length, map, sum_by, vec_len, vec_capacity, IfOk, IfErr, IsTrue};
 ghost use Rattle.gp_ploam.specs.OnuIds.{onu_ids};
 ghost use Rattle.gp_licence.specs.declared.ledger_parts.TheConstants.{MAX_LICENCES};
 ghost use Rattle.gp_machine.specs.Config.{max_ports};
@@ -54,7 +54,7 @@ pub(crate) fn rows_in<L: Ledger>(desks: &[Unlocked<L>]) -> u32
 /// Tells whether each desk has the configuration of its port.
 pub(crate) fn are_configured<L: Ledger>(configs: &[PortConfig], desks: &[Unlocked<L>]) -> bool
     requires { length configs.now ≡ length desks.now }
-    ensures { IsTrue result → map (λ desk. desk.state.config) desks.now ≡ configs.now }
+    ensures { IsTrue result ↔ (map (λ desk. desk.state.config) desks.now ≡ configs.now) }
 {
     compares_configs();
     for port in 0..desks.len() {

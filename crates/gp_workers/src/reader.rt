@@ -2,7 +2,7 @@ ghost use Rattle.std.specs.Prelude.{◌≡◌, ◌+◌, ◌++◌, ◌∷◌, [],
 ghost use mathlib.Core.List.{IsPrefix};
 ghost use Rattle.rtrb.specs.Ring.{received, known_items};
 ghost use Rattle.gp_workers.specs.Asked.{Extends, ExtendsBy, bursts_on};
-ghost use Rattle.gp_workers.specs.Ring.{up_to_end};
+ghost use Rattle.gp_workers.specs.Ring.{GrowsByBursts, up_to_end};
 
 use super::ports::Ports;
 use super::worker::Worker;
@@ -55,6 +55,7 @@ pub fn reader_loop<P: Ports<L>, L: Ledger, R: Wait>(
     consumer: Consumer<RingItem>,
 ) -> Result<u64, ApplyFault>
     ensures ok { (bursts : List (ℕ × List ℕ)) (rest : List _) → known_items consumer ≡ up_to_end bursts rest → OnOk result (Extends worker.old.receipts worker.new.receipts (bursts_on port bursts)) }
+    ensures kind { GrowsByBursts worker.old.receipts worker.new.receipts port }
     ensures count { IfOk result (λ count. length worker.old.receipts + count ≡ length worker.new.receipts) }
     ensures err { (bursts : List (ℕ × List ℕ)) (rest : List _) → known_items consumer ≡ up_to_end bursts rest → OnErr result (ExtendsBy worker.old.receipts worker.new.receipts (bursts_on port bursts)) }
 {
