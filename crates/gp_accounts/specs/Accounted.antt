@@ -15,7 +15,8 @@ names port number receipt = (receipt.port == port) && (receipt.number == number)
 
 -- the numbers of the receipts of a port, in order
 abbrev pub numbers_on : ℕ → List Receipt → List ℕ
-numbers_on port receipts = map (λ receipt. receipt.number) (filter (λ (receipt : Receipt). receipt.port == port) receipts)
+numbers_on port receipts =
+    map (λ receipt. receipt.number) (filter (λ (receipt : Receipt). receipt.port == port) receipts)
 
 -- each number is greater than the one before it
 pub record IsRising (numbers : List ℕ) : Type 0 where
@@ -37,7 +38,8 @@ pub record IsOnceIn (history : History) (workers : List (List Receipt)) (port : 
 pub record IsOnce (histories : List History) (workers : List (List Receipt)) (port : ℕ) : Type 0 where
   pub in_history : (history : History) → slice_get histories port ≡ Some history → IsOnceIn history workers port
 
--- each receipt names an entry, the numbers of each worker rise on each port, and each entry is named by just one receipt
+-- each receipt names an entry, the numbers of each worker rise on each port, and each entry is named by just one
+-- receipt
 pub record Accounted (histories : List History) (workers : List (List Receipt)) : Type 0 where
   pub named : All (All (IsNamed histories)) workers
   pub rising : All Rises workers

@@ -35,7 +35,9 @@ pub(super) fn each_once<J: Recorded, W: Told>(
 ) -> bool
     requires room { All (λ j. length (J.history j).entries ≤ length marks.old) journals.now }
     requires named { All (λ w. All (IsNamed (map J.history journals.now)) (W.told w)) workers.now }
-    ensures { IsTrue result ↔ ((port : ℕ) → port < length journals.now → IsOnce (map J.history journals.now) (map W.told workers.now) port) }
+    ensures { IsTrue result
+        ↔ ((port : ℕ) → port < length journals.now
+        → IsOnce (map J.history journals.now) (map W.told workers.now) port) }
 {
     for port in 0..journals.len() {
         if !once_in(marks, port, journals, workers) {
@@ -64,8 +66,10 @@ fn once_in<J: Recorded, W: Told>(
 
 /// Tells whether each of as many entries of a port as there are marks, from the first one on, is named by one receipt.
 fn once_on<W: Told>(marks: &mut [u8], port: usize, first: u64, workers: &[W]) -> bool
-    requires { All (λ w. All (λ r. r.port ≡ port → (first ≤ r.number) × (r.number < first + length marks.old)) (W.told w)) workers.now }
-    ensures { IsTrue result ↔ ((k : ℕ) → k < length marks.old → times_named (map W.told workers.now) port (first + k) ≡ 1) }
+    requires { All (λ w. All (λ r. r.port ≡ port → (first ≤ r.number) × (r.number < first + length marks.old))
+        (W.told w)) workers.now }
+    ensures { IsTrue result
+        ↔ ((k : ℕ) → k < length marks.old → times_named (map W.told workers.now) port (first + k) ≡ 1) }
 {
     wipe(marks);
     for worker in workers {
@@ -87,11 +91,15 @@ fn wipe(marks: &mut [u8])
 
 /// Counts the receipts that name each entry of a port. It stops at an entry that is named twice.
 fn mark(port: usize, first: u64, receipts: &[Receipt], marks: &mut [u8]) -> bool
-    requires in_range { All (λ r. r.port ≡ port → (first ≤ r.number) × (r.number < first + length marks.old)) receipts.now }
+    requires in_range { All (λ r. r.port ≡ port
+        → (first ≤ r.number) × (r.number < first + length marks.old)) receipts.now }
     requires once { All (λ m. m ≤ 1) marks.old }
-    ensures marked { IsTrue result → (k : ℕ) → k < length marks.old → slice_index marks.new k ≡ slice_index marks.old k + count_by (names port (first + k)) receipts.now }
+    ensures marked { IsTrue result → (k : ℕ) → k < length marks.old
+        → slice_index marks.new k ≡ slice_index marks.old k + count_by (names port (first + k)) receipts.now }
     ensures once { IsTrue result → All (λ m. m ≤ 1) marks.new }
-    ensures twice { result ≡ false → ((k : ℕ) × (k < length marks.old) × (1 < slice_index marks.old k + count_by (names port (first + k)) receipts.now)) }
+    ensures twice { result ≡ false
+        → ((k : ℕ) × (k < length marks.old)
+        × (1 < slice_index marks.old k + count_by (names port (first + k)) receipts.now)) }
 {
     for receipt in receipts {
         if usize::from(receipt.port) == port {

@@ -9,16 +9,18 @@ use super::rising::each_rises;
 use super::told::Told;
 use std::alloc::Global;
 
-/// Tells whether the receipts of all workers and the journals of all ports tell of the same steps: each receipt names an entry, each
-/// worker's numbers on a port rise, and each entry is named by one receipt. The memory for the check is taken before anything is
-/// compared: `OutOfMemory` where the allocator refused it, else `Mismatch` where they do not.
+/// Tells whether the receipts of all workers and the journals of all ports tell of the same steps: each receipt names
+/// an entry, each worker's numbers on a port rise, and each entry is named by one receipt. The memory for the check
+/// is taken before anything is compared: `OutOfMemory` where the allocator refused it, else `Mismatch` where they do
+/// not.
 pub fn reconcile<J: Recorded, W: Told>(
     alloc: Global,
     journals: &[J],
     workers: &[W],
 ) -> Result<(), CloseFault>
     ensures accounted { OnOk result (Accounted (map J.history journals.now) (map W.told workers.now)) }
-    ensures mismatch { result ≡ Err CloseFault.Mismatch → Accounted (map J.history journals.now) (map W.told workers.now) → ⊥ }
+    ensures mismatch { result ≡ Err CloseFault.Mismatch
+        → Accounted (map J.history journals.now) (map W.told workers.now) → ⊥ }
     ensures ended { result ≡ Err CloseFault.WorkerMissing → ⊥ }
 {
     let Ok(mut marks) = blank_marks(alloc, journals) else {

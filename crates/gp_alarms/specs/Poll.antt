@@ -1,6 +1,6 @@
 -- What the end of a poll window does to the counts of its unit, and which alarm they give. LOS at four and LOAM at
--- three are G.984.3, clause 11; the count for LOA, what ends a count, and the order of the alarms are this profile's own
--- rule.
+-- three are G.984.3, clause 11; the count for LOA, what ends a count, and the order of the alarms are this profile's
+-- own rule.
 use Rattle.std.specs.Prelude.{ℕ, ◌+◌, ◌<◌, ◌==◌, if◌then◌else◌, Bool, Option, None, Some}
 use Rattle.gp_alarms.specs.declared.alarm.AlarmKind.{AlarmKind}
 use Rattle.gp_alarms.specs.declared.alarm.AlarmKind.TheVariants.{Los, Loam, Loa}

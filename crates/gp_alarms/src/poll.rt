@@ -9,7 +9,8 @@ const DARK_LIMIT: u8 = 4;
 /// How many garbled poll windows with no message of the unit between give LOAM (three: G.984.3, clause 11).
 const GARBLED_LIMIT: u8 = 3;
 
-/// How many poll windows without an Acknowledge of a pending Alloc-ID, dark ones too, give LOA (this profile's own rule).
+/// How many poll windows without an Acknowledge of a pending Alloc-ID, dark ones too, give LOA (this profile's own
+/// rule).
 const WAITING_LIMIT: u8 = 3;
 
 /// What was counted of the poll windows of an operating unit. LOS at four and LOAM at three are

@@ -20,7 +20,8 @@ pub record CoreState : Type 0 where
 
 -- where its ports stand, and where its licences are
 abbrev pub world_of : CoreState → ChassisWorld
-world_of core = record { ports = map (λ (desk : DeskState). desk.state) core.desks; free = core.free; hands = core.hands }
+world_of core =
+    record { ports = map (λ (desk : DeskState). desk.state) core.desks; free = core.free; hands = core.hands }
 
 -- what holds of every chassis on one thread
 pub record Stands (core : CoreState) : Type 0 where
@@ -32,7 +33,8 @@ pub record Stands (core : CoreState) : Type 0 where
 
 -- a chassis that was just opened
 abbrev pub core_opened : List PortConfig → ℕ → ℕ → CoreState
-core_opened configs licences limit = record { desks = map (opened limit) configs; free = licences; hands = replicate actors 0; licences = licences }
+core_opened configs licences limit =
+    record { desks = map (opened limit) configs; free = licences; hands = replicate actors 0; licences = licences }
 
 -- the same desks, and licences as in this world
 abbrev pub with_licences : CoreState → ChassisWorld → CoreState
@@ -79,8 +81,8 @@ pub record IsFullAt (core : CoreState) (port : ℕ) : Type 0 where
   pub is : slice_get core.desks port ≡ Some desk
   pub full : HasRoom desk → ⊥
 
--- of the steps that the port may make with what the actor has in hand, the one that hands out the wished number, or none, is
--- the one that is made
+-- of the steps that the port may make with what the actor has in hand, the one that hands out the wished number, or
+-- none, is the one that is made
 abbrev pub GrantsFrom : CoreState → CoreState → ℕ → ℕ → Event → Option ℕ → Entry → Type 0
 GrantsFrom old new actor port event wished entry =
     (desk next : DeskState)
@@ -88,8 +90,8 @@ GrantsFrom old new actor port event wished entry =
     → slice_get new.desks port ≡ Some next
     → GrantsWish (hand (world_of old) actor) desk.state event wished (entry_outcome entry next.state)
 
--- of the turns that actor 0 may take with this event at the port, the one that hands out the wished number, or none, is the
--- one that is taken: no other may be taken then
+-- of the turns that actor 0 may take with this event at the port, the one that hands out the wished number, or none,
+-- is the one that is taken: no other may be taken then
 abbrev pub GrantsTurn : ChassisWorld → ChassisWorld → ℕ → Event → Option ℕ → Entry → Type 0
 GrantsTurn world after port event wished entry =
     (other : Entry) (end : ChassisWorld)

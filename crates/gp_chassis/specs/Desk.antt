@@ -15,8 +15,8 @@ use Rattle.gp_journal.specs.Kept.{History}
 use Rattle.gp_journal.specs.Replays.{Replays}
 use Rattle.gp_chassis.specs.Limits.{IsJournalLimit}
 
--- a port with its journal: how many entries the journal may keep, the number of the first entry that it keeps, the state
--- before that entry (None: the port was just opened), the entries, and where the port stands
+-- a port with its journal: how many entries the journal may keep, the number of the first entry that it keeps, the
+-- state before that entry (None: the port was just opened), the entries, and where the port stands
 pub record DeskState : Type 0 where
   pub limit : ℕ
   pub first : ℕ

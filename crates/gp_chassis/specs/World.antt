@@ -36,7 +36,9 @@ hand world actor = slice_index world.hands actor
 -- where the actor's hands are empty and a licence is free, one moves into them; else nothing changes
 abbrev pub taken : ℕ → ChassisWorld → ChassisWorld
 taken actor world =
-    if (hand world actor == 0) && nat_lt 0 world.free then record world { free = world.free - 1; hands = slice_set world.hands actor 1 } else world
+    if (hand world actor == 0)
+    && nat_lt 0 world.free then record world { free = world.free - 1; hands = slice_set world.hands actor 1 }
+    else world
 
 -- all that the actor has in hand is free again
 abbrev pub given : ℕ → ChassisWorld → ChassisWorld
@@ -44,8 +46,8 @@ given actor world = record world { free = world.free + hand world actor; hands =
 
 -- ---- steps and runs
 
--- one port makes the step of the entry with what the actor has in hand, and what it leaves is then in hand; no other port
--- and no other hands change
+-- one port makes the step of the entry with what the actor has in hand, and what it leaves is then in hand; no other
+-- port and no other hands change
 pub record PortMoves (actor port : ℕ) (entry : Entry) (world after : ChassisWorld) : Type 0 where
   pub stood : PortState
   pub next : PortState
@@ -53,7 +55,8 @@ pub record PortMoves (actor port : ℕ) (entry : Entry) (world after : ChassisWo
   pub is : slice_get world.ports port ≡ Some stood
   pub purse : entry.purse_in ≡ hand world actor
   pub step : IsStep stood entry next
-  pub world_is : after ≡ record world { ports = slice_set world.ports port next; hands = slice_set world.hands actor entry.purse_out }
+  pub world_is : after ≡ record world
+      { ports = slice_set world.ports port next; hands = slice_set world.hands actor entry.purse_out }
 
 -- an actor of this chassis moves
 abbrev pub ChassisStep : Move → ChassisWorld → ChassisWorld → Type 0
@@ -64,7 +67,8 @@ ChassisStep (Give actor) world after = (actor < length world.hands) × (after �
 -- the actors move one after another, in any order
 abbrev pub ChassisRun : List Move → ChassisWorld → ChassisWorld → Type 0
 ChassisRun [] world after = after ≡ world
-ChassisRun (move ∷ moves) world after = (next : ChassisWorld) × ChassisStep move world next × ChassisRun moves next after
+ChassisRun (move ∷ moves) world after =
+    (next : ChassisWorld) × ChassisStep move world next × ChassisRun moves next after
 
 -- the world as it is opened: each port is just opened, all licences are free, and nobody has any in hand
 abbrev pub world_opened : List PortConfig → ℕ → ChassisWorld
@@ -93,7 +97,9 @@ BalanceLasts =
 
 -- every port is sound after any moves, if every port was sound before them
 abbrev pub SoundnessLasts : Type 0
-SoundnessLasts = (moves : List Move) (world after : ChassisWorld) → All IsSound world.ports → ChassisRun moves world after → All IsSound after.ports
+SoundnessLasts =
+    (moves : List Move) (world after : ChassisWorld) → All IsSound world.ports → ChassisRun moves world after
+    → All IsSound after.ports
 
 -- the entries of the steps that a port makes among these moves, in order
 abbrev pub entry_of : ℕ → Move → List Entry
@@ -116,15 +122,21 @@ PortsReplay =
 
 -- no two active units of the port hold one ONU-ID or one Alloc-ID, and a disabled serial number holds neither
 pub record HoldsApart (port : PortState) : Type 0 where
-  pub onu : (serial other : Serial) (number : ℕ) → HasOnuId port.rows serial number → HasOnuId port.rows other number → serial ≡ other
-  pub alloc : (serial other : Serial) (number : ℕ) → HasAllocId port.rows serial number → HasAllocId port.rows other number → serial ≡ other
-  pub disabled_onu : (serial : Serial) (number : ℕ) → contains port.disabled serial ≡ true → HasOnuId port.rows serial number → ⊥
-  pub disabled_alloc : (serial : Serial) (number : ℕ) → contains port.disabled serial ≡ true → HasAllocId port.rows serial number → ⊥
+  pub onu : (serial other : Serial) (number : ℕ) → HasOnuId port.rows serial number → HasOnuId port.rows other number
+      → serial ≡ other
+  pub alloc : (serial other : Serial) (number : ℕ) → HasAllocId port.rows serial number
+      → HasAllocId port.rows other number → serial ≡ other
+  pub disabled_onu : (serial : Serial) (number : ℕ) → contains port.disabled serial ≡ true
+      → HasOnuId port.rows serial number → ⊥
+  pub disabled_alloc : (serial : Serial) (number : ℕ) → contains port.disabled serial ≡ true
+      → HasAllocId port.rows serial number → ⊥
 
 -- what holds after any moves from the opening of a chassis with these ports and so many licences
-pub record HoldsInEveryRun (configs : List PortConfig) (licences : ℕ) (moves : List Move) (after : ChassisWorld) : Type 0 where
+pub record HoldsInEveryRun
+    (configs : List PortConfig) (licences : ℕ) (moves : List Move) (after : ChassisWorld) : Type 0 where
   -- each port's entries tell how it came from its opening to where it stands
-  pub replay : (port : ℕ) (config : PortConfig) (stands : PortState) → slice_get configs port ≡ Some config → slice_get after.ports port ≡ Some stands
+  pub replay : (port : ℕ) (config : PortConfig) (stands : PortState) → slice_get configs port ≡ Some config
+      → slice_get after.ports port ≡ Some stands
       → Replays config None (entries_of port moves) stands
   -- on each port no two active units share a number, and a disabled serial number holds none
   pub apart : All HoldsApart after.ports

@@ -12,8 +12,8 @@ use gp_ploam::Serial;
 use gp_serial::{AdmissionList, AdmitFault};
 use std::alloc::Global;
 
-/// Tells whether no serial number is admitted twice on these ports. Without memory for a list of them it compares each with all
-/// others.
+/// Tells whether no serial number is admitted twice on these ports. Without memory for a list of them it compares
+/// each with all others.
 pub(crate) fn admits_each_once(alloc: Global, ports: &[PortConfig]) -> bool
     requires { length ports.now ≤ 256 }
     ensures { result ≡ is_distinct (all_admitted ports.now) }
@@ -83,7 +83,9 @@ fn are_apart(serials: &[Serial], ports: &[PortConfig]) -> bool
 
 /// Tells whether the serial number is one of the others, or is admitted on one of the ports.
 fn is_again(serial: &Serial, others: &[Serial], ports: &[PortConfig]) -> bool
-    ensures { result ≡ (spec.is_among serial.now others.now || list_any (λ (port : Configured). spec.is_among serial.now port.admitted) ports.now) }
+    ensures { result ≡
+        (spec.is_among serial.now others.now
+        || list_any (λ (port : Configured). spec.is_among serial.now port.admitted) ports.now) }
 {
     is_among(serial, others) || is_admitted(serial, ports)
 }

@@ -19,8 +19,8 @@ use std::alloc::Global;
 use std::marker::Model;
 use std::sync::ledger::{Blank, Ledger};
 
-/// Up to sixteen ports with their journals, the book of their licences, and the hands of 64 actors, numbered from 0. Ports are
-/// numbered from 0 too. Contracts see all of it.
+/// Up to sixteen ports with their journals, the book of their licences, and the hands of 64 actors, numbered from 0.
+/// Ports are numbered from 0 too. Contracts see all of it.
 ///
 /// There is no `Drop`: a chassis ends by `close`.
 pub struct ChassisCore<L: Ledger> {
@@ -42,16 +42,24 @@ impl<L: Ledger> Model for ChassisCore<L> {
 
     ghost Value = { CoreState };
 
-    ghost coded = { Prim.hlevel (codes, map.code {R = serial_cmp} coded_serial row.the_row.coded, set.code {R = serial_cmp} coded_serial, entry.the_row.coded) };
+    ghost coded = { Prim.hlevel (
+      codes,
+      map.code {R = serial_cmp} coded_serial row.the_row.coded,
+      set.code {R = serial_cmp} coded_serial,
+      entry.the_row.coded,
+    ) };
 
-    ghost view = { λ c. record { desks = c.desks.items; free = c.book.free; hands = c.hands.items; licences = c.book.total } };
+    ghost view = { λ c. record
+        { desks = c.desks.items; free = c.book.free; hands = c.hands.items; licences = c.book.total } };
 
-    ghost invariant = { λ c. Stands (record { desks = c.desks.items; free = c.book.free; hands = c.hands.items; licences = c.book.total }) };
+    ghost invariant = { λ c. Stands
+        (record { desks = c.desks.items; free = c.book.free; hands = c.hands.items; licences = c.book.total }) };
 }
 
 impl<L: Ledger> ChassisCore<L> {
-    /// Opens a chassis: each port with no units, in standby, all licences free, and all hands empty. `OpenFault::Limit` where the
-    /// configuration is outside its limits or admits a serial number twice, on one port or on two; else `OutOfMemory`.
+    /// Opens a chassis: each port with no units, in standby, all licences free, and all hands empty.
+    /// `OpenFault::Limit` where the configuration is outside its limits or admits a serial number twice, on one port
+    /// or on two; else `OutOfMemory`.
     ///
     /// `blank` is a new ledger of `MAX_LICENCES` parts, made by `Blank::new`, and `L` its name.
     pub fn begin(
@@ -61,7 +69,8 @@ impl<L: Ledger> ChassisCore<L> {
     ) -> Result<ChassisCore<L>, OpenFault>
         requires name { blank.name ≡ L.name }
         requires parts { (blank.parts ≡ L.parts) × (L.parts ≡ MAX_LICENCES) }
-        ensures ok { IfOk result (λ core. core ≡ core_opened config.now.ports.items config.now.licences config.now.journal_limit) }
+        ensures ok { IfOk result
+            (λ core. core ≡ core_opened config.now.ports.items config.now.licences config.now.journal_limit) }
         ensures world { IfOk result (λ core. world_of core ≡ world_opened config.now.ports.items config.now.licences) }
         ensures limit { IsWithin config.now → result ≡ Err OpenFault.Limit → ⊥ }
         ensures outside { (IsWithin config.now → ⊥) → result ≡ Err OpenFault.Limit }
@@ -82,9 +91,10 @@ impl<L: Ledger> ChassisCore<L> {
         Ok(ChassisCore { desks, book, hands })
     }
 
-    /// States what holds of a chassis whatever was called: each port came to where it stands by the entries that its journal
-    /// keeps, no two active units of a port share an ONU-ID or an Alloc-ID and a disabled serial number holds none, each licence
-    /// is free, in an actor's hands or with an active unit, and so there are no more active units than licences.
+    /// States what holds of a chassis whatever was called: each port came to where it stands by the entries that its
+    /// journal keeps, no two active units of a port share an ONU-ID or an Alloc-ID and a disabled serial number holds
+    /// none, each licence is free, in an actor's hands or with an active unit, and so there are no more active units
+    /// than licences.
     pub fn stands(&self)
         ensures all { Stands self.now }
         ensures apart { All HoldsApart (world_of self.now).ports }
@@ -103,7 +113,8 @@ impl<L: Ledger> ChassisCore<L> {
 
     /// Gives the port with this number and its journal, if it is there.
     pub fn desk(&self, port: u8) -> Option<&PortDesk<L>>
-        ensures { MatchOption result (slice_get self.now.desks port ≡ None) (λ desk. slice_get self.now.desks port ≡ Some desk.now) }
+        ensures { MatchOption result (slice_get self.now.desks port ≡ None)
+            (λ desk. slice_get self.now.desks port ≡ Some desk.now) }
     {
         if usize::from(port) >= self.desks.len() {
             return None;
@@ -118,8 +129,8 @@ impl<L: Ledger> ChassisCore<L> {
         self.book.free()
     }
 
-    /// Takes one licence into the actor's hands, if they are empty and one is free, and tells how many are then in them. The only
-    /// fault is `NoActor`. It takes no memory.
+    /// Takes one licence into the actor's hands, if they are empty and one is free, and tells how many are then in
+    /// them. The only fault is `NoActor`. It takes no memory.
     pub fn take(&mut self, actor: u8) -> Result<u32, CoreFault>
         ensures ok { OnOk result (self.new ≡ with_licences self.old (taken actor (world_of self.old))) }
         ensures step { OnOk result (ChassisStep (Take actor) (world_of self.old) (world_of self.new)) }
@@ -136,15 +147,18 @@ impl<L: Ledger> ChassisCore<L> {
         Ok(self.hands[actor].count())
     }
 
-    /// Makes one step of a port with all that is in the actor's hands, and records it; what the port leaves is then in them.
+    /// Makes one step of a port with all that is in the actor's hands, and records it; what the port leaves is then
+    /// in them.
     pub fn step(&mut self, actor: u8, port: u8, event: Event) -> Result<Receipt, CoreFault>
         ensures ok { IfOk result (λ receipt. CoreServes self.old self.new actor port event receipt) }
-        ensures step { IfOk result (λ receipt. ChassisStep (Port actor port receipt.entry) (world_of self.old) (world_of self.new)) }
+        ensures step { IfOk result
+            (λ receipt. ChassisStep (Port actor port receipt.entry) (world_of self.old) (world_of self.new)) }
         ensures proper { IfOk result (λ receipt. ForSome receipt.entry.answer.sent IsProperDown) }
         ensures err { OnErr result (self.new ≡ self.old) }
         ensures no_actor { (result ≡ Err CoreFault.NoActor) ↔ (actors ≤ actor) }
         ensures no_port { (result ≡ Err CoreFault.NoPort) ↔ ((actor < actors) × (length self.old.desks ≤ port)) }
-        ensures full { (actor < actors) → port < length self.old.desks → IfErr result (λ fault. (fault ≡ CoreFault.JournalFull) ↔ IsFullAt self.old port) }
+        ensures full { (actor < actors) → port < length self.old.desks
+            → IfErr result (λ fault. (fault ≡ CoreFault.JournalFull) ↔ IsFullAt self.old port) }
     {
         let actor = usize::from(actor);
         if actor >= self.hands.len() {
@@ -172,16 +186,18 @@ impl<L: Ledger> ChassisCore<L> {
         Ok(())
     }
 
-    /// Serves an event as actor 0: takes a licence for a burst, makes the port's step, and gives back what it leaves. A burst is
-    /// handed no licence only where none is free.
+    /// Serves an event as actor 0: takes a licence for a burst, makes the port's step, and gives back what it leaves.
+    /// A burst is handed no licence only where none is free.
     pub fn apply(&mut self, port: u8, event: Event) -> Result<Receipt, CoreFault>
         ensures ok { IfOk result (λ receipt. CoreApplies self.old self.new port event receipt) }
-        ensures run { IfOk result (λ receipt. ChassisRun (moves_of event port receipt.entry) (world_of self.old) (world_of self.new)) }
+        ensures run { IfOk result
+            (λ receipt. ChassisRun (moves_of event port receipt.entry) (world_of self.old) (world_of self.new)) }
         ensures purse { IfOk result (λ receipt. IsBurst event → receipt.entry.purse_in ≡ 0 → self.old.free ≡ 0) }
         ensures proper { IfOk result (λ receipt. ForSome receipt.entry.answer.sent IsProperDown) }
         ensures err { OnErr result (self.new ≡ self.old) }
         ensures no_port { (result ≡ Err CoreFault.NoPort) ↔ (length self.old.desks ≤ port) }
-        ensures full { port < length self.old.desks → IfErr result (λ fault. (fault ≡ CoreFault.JournalFull) ↔ IsFullAt self.old port) }
+        ensures full { port < length self.old.desks
+            → IfErr result (λ fault. (fault ≡ CoreFault.JournalFull) ↔ IsFullAt self.old port) }
         ensures some_actor { result ≡ Err CoreFault.NoActor → ⊥ }
     {
         self.apply_wishing(port, event, None)
@@ -195,14 +211,17 @@ impl<L: Ledger> ChassisCore<L> {
         wished: Option<u16>,
     ) -> Result<Receipt, CoreFault>
         ensures ok { IfOk result (λ receipt. CoreApplies self.old self.new port event receipt) }
-        ensures run { IfOk result (λ receipt. ChassisRun (moves_of event port receipt.entry) (world_of self.old) (world_of self.new)) }
+        ensures run { IfOk result
+            (λ receipt. ChassisRun (moves_of event port receipt.entry) (world_of self.old) (world_of self.new)) }
         ensures purse { IfOk result (λ receipt. IsBurst event → receipt.entry.purse_in ≡ 0 → self.old.free ≡ 0) }
         ensures proper { IfOk result (λ receipt. ForSome receipt.entry.answer.sent IsProperDown) }
         ensures err { OnErr result (self.new ≡ self.old) }
         ensures no_port { (result ≡ Err CoreFault.NoPort) ↔ (length self.old.desks ≤ port) }
-        ensures full { port < length self.old.desks → IfErr result (λ fault. (fault ≡ CoreFault.JournalFull) ↔ IsFullAt self.old port) }
+        ensures full { port < length self.old.desks
+            → IfErr result (λ fault. (fault ≡ CoreFault.JournalFull) ↔ IsFullAt self.old port) }
         ensures some_actor { result ≡ Err CoreFault.NoActor → ⊥ }
-        ensures wished { IfOk result (λ receipt. GrantsTurn (world_of self.old) (world_of self.new) port event wished receipt.entry) }
+        ensures wished { IfOk result
+            (λ receipt. GrantsTurn (world_of self.old) (world_of self.new) port event wished receipt.entry) }
     {
         if usize::from(port) >= self.desks.len() {
             return Err(CoreFault::NoPort);
@@ -223,8 +242,8 @@ impl<L: Ledger> ChassisCore<L> {
         }
     }
 
-    /// Hands out what a port's journal keeps, and begins it anew after that: the next entry has the next number. The faults are
-    /// `NoPort` and `OutOfMemory`.
+    /// Hands out what a port's journal keeps, and begins it anew after that: the next entry has the next number. The
+    /// faults are `NoPort` and `OutOfMemory`.
     pub fn cut(&mut self, alloc: Global, port: u8) -> Result<Piece, CoreFault>
         ensures ok { IfOk result (λ piece. CoreCuts self.old self.new port piece) }
         ensures joins { IfOk result (λ piece. JoinsAt self.new port piece) }
@@ -283,7 +302,8 @@ impl<L: Ledger> ChassisCore<L> {
         }
     }
 
-    /// Has the desk of a port serve an event with all that is in the actor's hands, and hand out the wished number where it can.
+    /// Has the desk of a port serve an event with all that is in the actor's hands, and hand out the wished number
+    /// where it can.
     fn serve_from(
         &mut self,
         actor: usize,
@@ -315,7 +335,8 @@ impl<L: Ledger> ChassisCore<L> {
     }
 }
 
-/// Opens a desk for each configuration. Where there is no memory, the book ends, with the desks that were opened so far.
+/// Opens a desk for each configuration. Where there is no memory, the book ends, with the desks that were opened so
+/// far.
 fn open_desks<L: Ledger>(
     alloc: Global,
     configs: &[PortConfig],

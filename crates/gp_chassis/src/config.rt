@@ -18,8 +18,8 @@ pub struct ChassisConfig {
 }
 
 impl ChassisConfig {
-    /// Tells whether each number is in its range, and no serial number is admitted twice, on one port or on two. Memory is taken
-    /// for a list of the serial numbers; without it the answer takes longer.
+    /// Tells whether each number is in its range, and no serial number is admitted twice, on one port or on two.
+    /// Memory is taken for a list of the serial numbers; without it the answer takes longer.
     pub fn is_within(&self, alloc: Global) -> bool
         ensures { IsTrue result ↔ IsWithin self.now }
     {

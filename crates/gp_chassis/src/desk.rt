@@ -15,7 +15,8 @@ use std::alloc::Global;
 use std::marker::Model;
 use std::sync::ledger::Ledger;
 
-/// A port with its journal. Contracts see how many entries the journal may keep, what it keeps, and where the port stands.
+/// A port with its journal. Contracts see how many entries the journal may keep, what it keeps, and where the port
+/// stands.
 ///
 /// The entries that are kept always tell how the port came to stand where it stands. There is no `Drop`: a desk ends by
 /// `close`.
@@ -40,9 +41,20 @@ impl<L: Ledger> Model for PortDesk<L> {
 
     ghost Value = { DeskState };
 
-    ghost coded = { Prim.hlevel (codes, map.code {R = serial_cmp} coded_serial row.the_row.coded, set.code {R = serial_cmp} coded_serial, entry.the_row.coded) };
+    ghost coded = { Prim.hlevel (
+      codes,
+      map.code {R = serial_cmp} coded_serial row.the_row.coded,
+      set.code {R = serial_cmp} coded_serial,
+      entry.the_row.coded,
+    ) };
 
-    ghost view = { λ d. record { limit = d.limit; first = d.journal.first; base = d.journal.base; entries = d.journal.entries; state = d.core } };
+    ghost view = { λ d. record {
+      limit = d.limit;
+      first = d.journal.first;
+      base = d.journal.base;
+      entries = d.journal.entries;
+      state = d.core;
+    } };
 
     ghost invariant = { λ d. DeskStands (record { limit = d.limit; first = d.journal.first; base = d.journal.base; entries = d.journal.entries; state = d.core })
         × (length d.journal.entries ≤ d.limit)
@@ -78,9 +90,9 @@ impl<L: Ledger> PortDesk<L> {
         self.journal.entries().len() < self.limit as usize && self.journal.len() < u64::MAX
     }
 
-    /// Makes one step of the port with these licences at hand, and records it. `port` is the number that the receipt has.
-    /// What the port leaves of the licences is given back, and all of them where there is a fault: `JournalFull`, else
-    /// `OutOfMemory`.
+    /// Makes one step of the port with these licences at hand, and records it. `port` is the number that the receipt
+    /// has. What the port leaves of the licences is given back, and all of them where there is a fault:
+    /// `JournalFull`, else `OutOfMemory`.
     // Inlined, so that the receipt is made where the caller wants it.
     #[inline(always)]
     pub fn serve(
@@ -110,7 +122,8 @@ impl<L: Ledger> PortDesk<L> {
         ensures err { IfErr result (λ fault. (fault.1 ≡ purse) × (self.new ≡ self.old)) }
         ensures full { IfErr result (λ fault. (fault.0 ≡ ApplyFault.JournalFull) ↔ (HasRoom self.old → ⊥)) }
         ensures some_port { IfErr result (λ fault. fault.0 ≡ ApplyFault.NoPort → ⊥) }
-        ensures wished { IfOk result (λ served. GrantsWish purse self.old.state event wished (entry_outcome served.0.entry self.new.state)) }
+        ensures wished { IfOk result
+            (λ served. GrantsWish purse self.old.state event wished (entry_outcome served.0.entry self.new.state)) }
     {
         if !self.has_room() {
             return Err((ApplyFault::JournalFull, purse));
@@ -130,8 +143,8 @@ impl<L: Ledger> PortDesk<L> {
         Ok((receipt, rest))
     }
 
-    /// Hands out what the journal keeps, and begins it anew after that: the next entry has the next number. Memory is taken
-    /// for two images of the port; without it nothing changes.
+    /// Hands out what the journal keeps, and begins it anew after that: the next entry has the next number. Memory is
+    /// taken for two images of the port; without it nothing changes.
     pub fn cut(&mut self, alloc: Global) -> Result<Piece, ImageFault>
         ensures ok { IfOk result (λ piece. Cuts self.old self.new piece) }
         ensures err { OnErr result (self.new ≡ self.old) }
@@ -141,8 +154,8 @@ impl<L: Ledger> PortDesk<L> {
         Ok(self.cut_at(base, to))
     }
 
-    /// Hands out what the journal keeps, and begins it anew after that, with two images of where the port stands. It takes no
-    /// memory.
+    /// Hands out what the journal keeps, and begins it anew after that, with two images of where the port stands. It
+    /// takes no memory.
     pub fn cut_at(&mut self, base: PortImage, to: PortImage) -> Piece
         requires base { base ≡ self.old.state }
         requires to { to ≡ self.old.state }
@@ -197,7 +210,8 @@ impl<L: Ledger> PortDesk<L> {
 fn record(journal: &mut Journal, port: u8, entry: Entry) -> Receipt
     requires room { 0 < journal.old.room }
     requires count { journal.old.first + length journal.old.entries + 1 < 2 ^ 64 }
-    ensures receipt { result ≡ record { port = port; number = journal.old.first + length journal.old.entries; entry = entry } }
+    ensures receipt { result ≡ record
+        { port = port; number = journal.old.first + length journal.old.entries; entry = entry } }
     ensures first { journal.new.first ≡ journal.old.first }
     ensures base { journal.new.base ≡ journal.old.base }
     ensures entries { journal.new.entries ≡ journal.old.entries ++ entry ∷ [] }

@@ -1,5 +1,5 @@
-//! What no clause says: which receipts are reconciled with the journal of a port, by worked rows, and what becomes of it where
-//! memory is refused.
+//! What no clause says: which receipts are reconciled with the journal of a port, by worked rows, and what becomes of
+//! it where memory is refused.
 use super::units::{SEARCH, record};
 use gp_accounts::{CloseFault, reconcile};
 use gp_journal::{Journal, JournalFault};
@@ -30,8 +30,8 @@ fn receipt(number: u64, altered: bool) -> Receipt {
     }
 }
 
-/// A worked row: two receipts, each by the entry's number and whether it is altered; how many of them the first worker was told, from
-/// which one on the second was, and whether that is what the journal has.
+/// A worked row: two receipts, each by the entry's number and whether it is altered; how many of them the first
+/// worker was told, from which one on the second was, and whether that is what the journal has.
 type Row = (
     &'static str,
     [(u64, bool); 2],
@@ -78,8 +78,8 @@ fn part_of(alloc: Global, receipts: &[Receipt], from: usize, to: usize) -> Optio
     receipts[from..to].to_vec(alloc).ok()
 }
 
-/// Reconciles what two workers were told with the journal, with so many tries at most where memory is refused. There is no answer
-/// where it is refused before.
+/// Reconciles what two workers were told with the journal, with so many tries at most where memory is refused. There
+/// is no answer where it is refused before.
 fn reconciled(alloc: Global, row: &Row, tries: u8) -> Option<Result<(), CloseFault>> {
     let journals = [journal(alloc).ok()?];
     let named = row.1;

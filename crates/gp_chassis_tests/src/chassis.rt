@@ -1,5 +1,5 @@
-//! What no clause says: worked runs of a chassis, what it may be opened with, and that memory suffices or is told. `lines.rt` plays
-//! a chassis by lines.
+//! What no clause says: worked runs of a chassis, what it may be opened with, and that memory suffices or is told.
+//! `lines.rt` plays a chassis by lines.
 ghost use Rattle.std.specs.Prelude.{◌≡◌};
 
 mod lines;
@@ -73,8 +73,8 @@ const LAST_LICENCE: &[Line] = &[
     (1, Call::Hear(1, 3), NO_LICENCE),
 ];
 
-/// Five windows of a search find 254 units, 63 in each of the first four: with a 64th more than 189 copies would be owed. They
-/// take all licences and all ONU-IDs.
+/// Five windows of a search find 254 units, 63 in each of the first four: with a 64th more than 189 copies would be
+/// owed. They take all licences and all ONU-IDs.
 const FULL_CHASSIS: &[Line] = &[
     (1, Call::Apply(0, SEARCH), SEARCHING),
     (1, Call::Apply(1, SEARCH), SEARCHING),
@@ -199,7 +199,8 @@ const FULL_QUEUE: &[Line] = &[
     (1, Call::Owed(0), Ok((None, None, 192, 0))),
 ];
 
-/// Each call that takes memory: a journal that is cut takes some for its next entry. The unit 1 is found with a licence in hand.
+/// Each call that takes memory: a journal that is cut takes some for its next entry. The unit 1 is found with a
+/// licence in hand.
 const EACH_CALL: &[Line] = &[
     (1, Call::Apply(0, SEARCH), SEARCHING),
     (4, Call::Apply(0, Event::Frame), TICKED),
@@ -218,8 +219,8 @@ const EACH_CALL: &[Line] = &[
     (1, Call::Free, Ok((None, None, 0, 0))),
 ];
 
-/// A chassis and what it is asked: its licences, how many entries its journals keep, how many windows a search has, and the units
-/// that each port admits, so many from this one on.
+/// A chassis and what it is asked: its licences, how many entries its journals keep, how many windows a search has,
+/// and the units that each port admits, so many from this one on.
 type Run = (
     &'static str,
     (u32, u32, u8),

@@ -1,5 +1,5 @@
-//! What no clause says: that a desk opens and serves with ample memory, and where memory is refused stands as before, and its licences
-//! come back.
+//! What no clause says: that a desk opens and serves with ample memory, and where memory is refused stands as before,
+//! and its licences come back.
 ghost use Rattle.std.specs.Prelude.{◌≡◌};
 
 use super::units::{A_RANGED, A_SEARCHED, SEARCH, Said, port_of, spoken};
@@ -17,7 +17,8 @@ type Answer = (Result<(u64, Said), ApplyFault>, u32);
 /// An event, so many times, and what is answered the first time. Each further receipt has the next number.
 type Line = (u8, Event, Answer);
 
-/// A is found and ranged, with one licence at hand for each burst. Then the journal has the sixteen entries that it may keep.
+/// A is found and ranged, with one licence at hand for each burst. Then the journal has the sixteen entries that it
+/// may keep.
 const ONE_UNIT: &[Line] = &[
     (1, SEARCH, (Ok((0, Said::Searching)), 0)),
     (5, Event::Frame, (Ok((1, Said::Ticked)), 0)),
@@ -29,8 +30,8 @@ const ONE_UNIT: &[Line] = &[
     (1, A_RANGED, (Err(ApplyFault::JournalFull), 1)),
 ];
 
-/// How many entries a desk has and keeps, how many units are active and how many copies owed on its port, and how many licences are
-/// free.
+/// How many entries a desk has and keeps, how many units are active and how many copies owed on its port, and how
+/// many licences are free.
 fn stands<L: Ledger>(
     desk: &PortDesk<L>,
     book: &LicenceBook<L>,
@@ -62,7 +63,8 @@ fn serve<L: Ledger>(desk: &mut PortDesk<L>, book: &mut LicenceBook<L>, event: Ev
     (answer, back)
 }
 
-/// The same, and again where memory is refused and there is a try left. There is no answer where the refusal changed anything.
+/// The same, and again where memory is refused and there is a try left. There is no answer where the refusal changed
+/// anything.
 fn serve_at_last<L: Ledger>(
     desk: &mut PortDesk<L>,
     book: &mut LicenceBook<L>,
@@ -100,8 +102,8 @@ fn play<L: Ledger>(desk: &mut PortDesk<L>, book: &mut LicenceBook<L>, tries: u8)
     None
 }
 
-/// Opens a desk, plays the lines with so many tries at most where memory is refused, and closes it: the place of the first line that is
-/// answered otherwise, how many entries the journal has, and how many of two licences come back.
+/// Opens a desk, plays the lines with so many tries at most where memory is refused, and closes it: the place of the
+/// first line that is answered otherwise, how many entries the journal has, and how many of two licences come back.
 fn outcome_of<L: Ledger>(
     alloc: Global,
     blank: Blank,

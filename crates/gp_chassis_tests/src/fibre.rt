@@ -244,8 +244,8 @@ fn limit_with(alloc: Global, cycles: u8, licences: u32, plans: &[UnitPlan]) -> O
     }
 }
 
-/// The most licences and units are begun with; one more of each is not, nor are no search windows, nor a unit that is too far
-/// away or answers too late.
+/// The most licences and units are begun with; one more of each is not, nor are no search windows, nor a unit that is
+/// too far away or answers too late.
 #[test]
 fn limits(rt: HostRuntime) {
     let alloc = rt.alloc();
@@ -320,7 +320,8 @@ fn reply_at_last<L: Ledger>(
     }
 }
 
-/// The last reply in a world with one unit, or the first fault. There is no answer where memory for the world is refused.
+/// The last reply in a world with one unit, or the first fault. There is no answer where memory for the world is
+/// refused.
 fn outcome_of<L: Ledger>(
     alloc: Global,
     blank: Blank,

@@ -29,11 +29,12 @@ const EVENTS: [Event; 14] = [
     Event::Frame,
 ];
 
-/// A worked row: with which ONU-ID A is recorded as found, with which one later, by how many frames a freed ONU-ID rests, and
-/// whether the journal tells where the port stands. The port gives A the ONU-ID 0.
+/// A worked row: with which ONU-ID A is recorded as found, with which one later, by how many frames a freed ONU-ID
+/// rests, and whether the journal tells where the port stands. The port gives A the ONU-ID 0.
 type Row = (u8, u8, u16, bool);
 
-/// An answer that nothing else says is told from the others; another ONU-ID throughout is told where it could not be A's.
+/// An answer that nothing else says is told from the others; another ONU-ID throughout is told where it could not be
+/// A's.
 const ROWS: [Row; 4] = [
     (0, 0, 800, true),
     (1, 0, 800, false),
@@ -105,7 +106,8 @@ fn tells<L: Ledger>(
     }
 }
 
-/// Whether the journal of A's port tells where the port stands. There is no answer where memory for the port is refused.
+/// Whether the journal of A's port tells where the port stands. There is no answer where memory for the port is
+/// refused.
 fn outcome_of<L: Ledger>(
     alloc: Global,
     blank: Blank,

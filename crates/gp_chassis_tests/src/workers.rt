@@ -1,5 +1,5 @@
-//! What no clause says: worked runs of a chassis with workers, ports whose locks are held at once, threads over rings, and that
-//! memory suffices or is told.
+//! What no clause says: worked runs of a chassis with workers, ports whose locks are held at once, threads over
+//! rings, and that memory suffices or is told.
 mod accounts;
 mod journals;
 mod loops;
@@ -14,8 +14,8 @@ use std::alloc::Global;
 use std::sync::Wait;
 use std::sync::ledger::Ledger;
 
-/// A worker has a port serve an event so many times, and the port answers so each time: the worker, how many times, the port, the
-/// event and the answer.
+/// A worker has a port serve an event so many times, and the port answers so each time: the worker, how many times,
+/// the port, the event and the answer.
 type Line = (usize, u8, u8, Event, Result<Said, ApplyFault>);
 
 /// A begins to operate on port 0, which has seen nothing yet.
@@ -60,8 +60,8 @@ fn serve<G: Gate<L>, L: Ledger, R: Wait>(
     answer
 }
 
-/// Plays lines, with so many tries of each call at most where memory is refused, and gives the place of the first line that is
-/// answered otherwise.
+/// Plays lines, with so many tries of each call at most where memory is refused, and gives the place of the first
+/// line that is answered otherwise.
 fn play<G: Gate<L>, L: Ledger, R: Wait>(
     rt: &R,
     chassis: &Chassis<G, L>,
@@ -128,7 +128,8 @@ fn end<G: Gate<L>, L: Ledger, R: Wait>(rt: &R, refused: CloseRefused<G, L>) -> C
     fault
 }
 
-/// Closes a chassis, with a second try where memory may be refused. Where it does not close it ends all the same, with its workers.
+/// Closes a chassis, with a second try where memory may be refused. Where it does not close it ends all the same,
+/// with its workers.
 fn close<G: Gate<L>, L: Ledger, R: Wait>(
     rt: &R,
     alloc: Global,

@@ -26,7 +26,8 @@ IsReasonFor common wanted ranging next_poll cycles (next, Ask (Range onu)) =
 IsReasonFor common wanted ranging next_poll cycles (next, Ask (Poll onu)) =
     (common ≡ Standby) × (wanted ≡ false) × (ranging ≡ None) × (next_poll ≡ Some onu) × (next ≡ Standby)
 IsReasonFor common wanted ranging next_poll cycles (next, Nothing) =
-    HasNoSearchLeft common × (common ≡ Standby → (wanted ≡ false) × (next_poll ≡ None)) × (ranging ≡ None) × (next ≡ Standby)
+    HasNoSearchLeft common × (common ≡ Standby → (wanted ≡ false) × (next_poll ≡ None)) × (ranging ≡ None)
+    × (next ≡ Standby)
 
 -- each decision has its reason
 abbrev pub EachDecisionHasItsReason : Type 0

@@ -1,4 +1,5 @@
--- What the hexadecimal digits of a code are decoded to, and what is wrong with a text that they aren't (this profile's own rule).
+-- What the hexadecimal digits of a code are decoded to, and what is wrong with a text that they aren't (this
+-- profile's own rule).
 use Rattle.std.specs.Prelude.{◌≡◌, ◌≢◌, ℕ, ◌%◌, Bool, true, false, List, ◌++◌, length, codes, ◌⊎◌, Ok}
 use Rattle.std.specs.List.{list_all}
 use Rattle.hex.specs.Hex.{decode_of, is_hex_digit}
@@ -34,7 +35,8 @@ abbrev pub HasLineFault : Mask → List ℕ → LineFault → Type 0
 HasLineFault mask text fault.Length =
     (length text % 2 ≡ 1) ⊎ ((length text % 2 ≡ 0) × (list_all is_hex_digit text ≡ true) × (length text ≢ 26))
 HasLineFault mask text fault.Digit = (length text % 2 ≡ 0) × (list_all is_hex_digit text ≡ false)
-HasLineFault mask text fault.Crc = (code : List ℕ) × (decode_of text ≡ Ok code) × (length code ≡ 13) × HasWrongCheck mask code
+HasLineFault mask text fault.Crc =
+    (code : List ℕ) × (decode_of text ≡ Ok code) × (length code ≡ 13) × HasWrongCheck mask code
 HasLineFault mask text fault.OutOfMemory = ⊥
 HasLineFault mask text fault.Write = ⊥
 

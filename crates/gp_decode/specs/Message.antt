@@ -15,7 +15,8 @@ keep_text false = codes "back"
 
 -- a message that this profile has no name for: its identifier, its octet 1, and octets 3 to 12
 abbrev pub other_text : ℕ → ℕ → List ℕ → List ℕ
-other_text id octet1 body = codes "Other " ++ decimal id ++ codes " " ++ decimal octet1 ++ codes " " ++ encode_lower body
+other_text id octet1 body =
+    codes "Other " ++ decimal id ++ codes " " ++ decimal octet1 ++ codes " " ++ encode_lower body
 
 -- a message of the line terminal
 abbrev pub down_text : Down → List ℕ
@@ -35,7 +36,8 @@ down_text (down.Other id octet1 body) = other_text id octet1 body
 -- a message of a unit; the copy in an Acknowledge is left out
 abbrev pub up_text : Up → List ℕ
 up_text (up.SerialNumber onu serial random flags) =
-    codes "Serial_Number_ONU " ++ decimal onu ++ codes " " ++ text_of_serial serial ++ codes " " ++ decimal random ++ codes " " ++ decimal flags
+    codes "Serial_Number_ONU " ++ decimal onu ++ codes " " ++ text_of_serial serial ++ codes " " ++ decimal random
+    ++ codes " " ++ decimal flags
 up_text (up.DyingGasp onu) = codes "Dying_Gasp " ++ decimal onu
 up_text (up.NoMessage onu) = codes "No_message " ++ decimal onu
 up_text (up.Acknowledge onu id copy) = codes "Acknowledge " ++ decimal onu ++ codes " " ++ decimal id

@@ -5,9 +5,9 @@
 //! - `message.rt`: a message as its name and its fields.
 //! - `fault.rt`: what may be wrong with a text, and the line and the exit status of a program that meets it.
 //!
-//! Where to make which change: the words for a message stand in `message.rt` and `specs/Message.antt`; what is wrong with
-//! a text, and in which order, in `code.rt` and `specs/Line.antt`; a line on standard error or an exit status in `fault.rt`
-//! and `specs/Faults.antt`.
+//! Where to make which change: the words for a message stand in `message.rt` and `specs/Message.antt`; what is wrong
+//! with a text, and in which order, in `code.rt` and `specs/Line.antt`; a line on standard error or an exit status in
+//! `fault.rt` and `specs/Faults.antt`.
 #![tactic(auto)]
 
 mod code;

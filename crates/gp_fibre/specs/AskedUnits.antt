@@ -49,7 +49,8 @@ AsksNobody places = (asked : Grant) (place : ℕ) → is_in_set places asked pla
 abbrev pub updated : AskedPlaces → AskedBy → (FinSet nat_cmp → FinSet nat_cmp) → AskedPlaces
 updated places Nothing change = places
 updated places Search change = record places { searched = change places.searched }
-updated places (OnuId onu) change = record places { by_onu_id = slice_set places.by_onu_id onu (change (slice_index_or places.by_onu_id onu empty)) }
+updated places (OnuId onu) change =
+    record places { by_onu_id = slice_set places.by_onu_id onu (change (slice_index_or places.by_onu_id onu empty)) }
 
 -- these grants, if any, have a set
 abbrev pub HasSet : AskedPlaces → AskedBy → Type 0

@@ -28,7 +28,9 @@ RunsInParts =
 
 -- the entries of a run are a run of the port
 abbrev pub PortRuns : Type 0
-PortRuns = (old new : FibreWorld) (inputs : List FibreInput) (entries : List Entry) → FibreRun old inputs entries new → Run old.port entries new.port
+PortRuns =
+    (old new : FibreWorld) (inputs : List FibreInput) (entries : List Entry) → FibreRun old inputs entries new
+    → Run old.port entries new.port
 
 -- the free licences and those of the port's units are as many after a run from a sound port as before
 abbrev pub KeepsLicences : Type 0
@@ -38,9 +40,9 @@ KeepsLicences =
     → FibreRun old inputs entries new
     → new.free + rows_of new.port ≡ old.free + rows_of old.port
 
--- in every world that is reached each unit was sent what it has: in O4, O5 and O6 Assign_ONU-ID of its ONU-ID to its serial
--- number, in O5 and O6 its equalization delay in a Ranging_Time to its ONU-ID, and in O7 Disable_Serial_Number of its serial
--- number
+-- in every world that is reached each unit was sent what it has: in O4, O5 and O6 Assign_ONU-ID of its ONU-ID to its
+-- serial number, in O5 and O6 its equalization delay in a Ranging_Time to its ONU-ID, and in O7 Disable_Serial_Number
+-- of its serial number
 abbrev pub UnitsAreTold : Type 0
 UnitsAreTold =
     (config : PortConfig) (licences : ℕ) (plans : List UnitPlan) (world : FibreWorld)
@@ -51,13 +53,14 @@ UnitsAreTold =
 -- number, the row of that serial number has it, or a message after that takes it
 abbrev pub AssignedStayOrAreTold : Type 0
 AssignedStayOrAreTold =
-    (config : PortConfig) (licences : ℕ) (plans : List UnitPlan) (world : FibreWorld) (earlier later : List Down) (serial : Serial) (onu : ℕ)
+    (config : PortConfig) (licences : ℕ) (plans : List UnitPlan) (world : FibreWorld) (earlier later : List Down)
+    (serial : Serial) (onu : ℕ)
     → IsReachedWorld config licences plans world
     → sent_and_owed world ≡ earlier ++ AssignOnu onu serial ∷ later
     → HasOnuId world.port.rows serial onu ⊎ TakesOnuId later serial onu
 
--- in every world that is reached, a unit that has an ONU-ID has it by the table too, or a message that takes it was sent or is
--- owed
+-- in every world that is reached, a unit that has an ONU-ID has it by the table too, or a message that takes it was
+-- sent or is owed
 abbrev pub UnitsHaveOrLose : Type 0
 UnitsHaveOrLose =
     (config : PortConfig) (licences : ℕ) (plans : List UnitPlan) (world : FibreWorld) (unit : FibreUnit) (onu : ℕ)
@@ -87,10 +90,12 @@ FramesAreRuns =
 abbrev pub FramesRunTwice : List ℕ → List ℕ → ℕ → ℕ → WorldState → List Entry → WorldState → Type 0
 FramesRunTwice lost_copies lost_bursts count more old entries new =
     (mid : WorldState) × (first : List Entry) × (rest : List Entry)
-    × FramesRun lost_copies lost_bursts count old first mid × FramesRun lost_copies lost_bursts more mid rest new × (entries ≡ first ++ rest)
+    × FramesRun lost_copies lost_bursts count old first mid × FramesRun lost_copies lost_bursts more mid rest new
+    × (entries ≡ first ++ rest)
 
 -- so many frames, and then more, are the first of them, and from where those end the others
 abbrev pub FramesRunInParts : Type 0
 FramesRunInParts =
     (lost_copies lost_bursts : List ℕ) (count more : ℕ) (old new : WorldState) (entries : List Entry)
-    → FramesRun lost_copies lost_bursts (count + more) old entries new ↔ FramesRunTwice lost_copies lost_bursts count more old entries new
+    → FramesRun lost_copies lost_bursts (count + more) old entries new
+    ↔ FramesRunTwice lost_copies lost_bursts count more old entries new

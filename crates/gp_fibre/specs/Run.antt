@@ -7,7 +7,8 @@ use Rattle.gp_fibre.specs.declared.unit_plan.UnitPlan.{UnitPlan}
 use Rattle.gp_fibre.specs.World.{FibreWorld, opening_world}
 use Rattle.gp_fibre.specs.Step.{FibreInput, FibreStep}
 
--- the inputs lead one after the other from the old world to the new one, and these are the entries that they give, in order
+-- the inputs lead one after the other from the old world to the new one, and these are the entries that they give, in
+-- order
 abbrev pub FibreRun : FibreWorld → List FibreInput → List Entry → FibreWorld → Type 0
 FibreRun old [] entries new = (new ≡ old) × (entries ≡ [])
 FibreRun old (input ∷ inputs) entries new =
@@ -17,4 +18,5 @@ FibreRun old (input ∷ inputs) entries new =
 -- a run leads from the beginning of a world with this configuration, these licences and these units to this world
 abbrev pub IsReachedWorld : PortConfig → ℕ → List UnitPlan → FibreWorld → Type 0
 IsReachedWorld config licences plans world =
-    (inputs : List FibreInput) × (entries : List Entry) × FibreRun (opening_world config licences plans) inputs entries world
+    (inputs : List FibreInput) × (entries : List Entry)
+    × FibreRun (opening_world config licences plans) inputs entries world

@@ -1,5 +1,5 @@
--- The frames of a run (this profile's own rule): a copy that is sent reaches every unit, a grant every unit, and an answer
--- the port after its round trip.
+-- The frames of a run (this profile's own rule): a copy that is sent reaches every unit, a grant every unit, and an
+-- answer the port after its round trip.
 use Rattle.std.specs.Prelude.{◌≡◌, ℕ, zero, suc, ◌+◌, ◌/◌, ◌<◌, ◌==◌, ◌&&◌, nat_lt, Bool, not, if◌then◌else◌, List, [], ◌∷◌, ◌++◌, drop, length, map, ◌⊎◌, Option, None, Some}
 use Rattle.std.specs.List.{filter, list_any, range_with_len}
 use Rattle.std.specs.Option.{ForSome}
@@ -32,7 +32,8 @@ pub record WorldState : Type 0 where
 
 -- a world that has just begun
 abbrev pub opening_state : PortConfig → ℕ → List UnitPlan → WorldState
-opening_state config licences plans = record { fibre = opening_world config licences plans; licences = licences; frames = 0; flights = [] }
+opening_state config licences plans =
+    record { fibre = opening_world config licences plans; licences = licences; frames = 0; flights = [] }
 
 -- ---- a step
 
@@ -49,9 +50,11 @@ abbrev pub step_fault : WorldState → WorldStep → Option WorldFault
 step_fault world steps.Frame = if nat_lt world.frames MAX_FRAMES then None else Some Limit
 step_fault world (steps.Command command) = None
 step_fault world (steps.Deliver copy unit) =
-    if nat_lt copy (length world.fibre.copies) then (if nat_lt unit (length world.fibre.units) then None else Some NoUnit) else Some NoCopy
+    if nat_lt copy (length world.fibre.copies)
+    then (if nat_lt unit (length world.fibre.units) then None else Some NoUnit) else Some NoCopy
 step_fault world (steps.Give grant unit) =
-    if nat_lt unit (length world.fibre.units) then (if nat_lt grant (length world.fibre.grants) then None else Some NoGrant) else Some NoUnit
+    if nat_lt unit (length world.fibre.units)
+    then (if nat_lt grant (length world.fibre.grants) then None else Some NoGrant) else Some NoUnit
 step_fault world (steps.Arrive burst) = if nat_lt burst (length world.fibre.bursts) then None else Some NoBurst
 step_fault world (steps.Bytes at bytes) = None
 step_fault world (steps.Light unit) = if nat_lt unit (length world.fibre.units) then None else Some NoUnit
@@ -59,7 +62,8 @@ step_fault world (steps.Dark unit) = if nat_lt unit (length world.fibre.units) t
 
 -- the fault is what stands in the way of the step, or, where nothing does, that there is no memory
 abbrev pub IsFaultOf : WorldState → WorldStep → WorldFault → Type 0
-IsFaultOf world step fault = (step_fault world step ≡ Some fault) ⊎ ((step_fault world step ≡ None) × (fault ≡ OutOfMemory))
+IsFaultOf world step fault =
+    (step_fault world step ≡ Some fault) ⊎ ((step_fault world step ≡ None) × (fault ≡ OutOfMemory))
 
 -- how many frames there were after a step
 abbrev pub frames_after_step : ℕ → WorldStep → ℕ
@@ -115,28 +119,34 @@ abbrev pub inputs_of_grant : ℕ → ℕ → Option Grant → List FibreInput
 inputs_of_grant grant units None = []
 inputs_of_grant grant units (Some issued) = grants_given grant units
 
--- bursts that were answered in this frame, numbered from this number on: each comes after its whole round trip, which is
--- so many whole frames
+-- bursts that were answered in this frame, numbered from this number on: each comes after its whole round trip, which
+-- is so many whole frames
 abbrev pub flights_of : ℕ → ℕ → List SentBurst → List Flight
 flights_of frame number [] = []
-flights_of frame number (burst ∷ bursts) = record { number = number; due = frame + burst.at / frame_bit_times } ∷ flights_of frame (number + 1) bursts
+flights_of frame number (burst ∷ bursts) =
+    record { number = number; due = frame + burst.at / frame_bit_times } ∷ flights_of frame (number + 1) bursts
 
 -- the bursts that come in this frame, but for those that are lost
 abbrev pub arrivals : List ℕ → ℕ → List Flight → List FibreInput
-arrivals lost frame flights = map (λ f. Whole (steps.Arrive f.number)) (filter (λ f. is_due frame f && not (is_lost lost f.number)) flights)
+arrivals lost frame flights =
+    map (λ f. Whole (steps.Arrive f.number)) (filter (λ f. is_due frame f && not (is_lost lost f.number)) flights)
 
--- a frame of a run that loses these copies and bursts: the port's part, what follows from what it sends, what follows from
--- what it grants, the bursts that come in this frame, and the units' part
-pub record FrameRuns (lost_copies lost_bursts : List ℕ) (old : WorldState) (entries : List Entry) (new : WorldState) : Type 0 where
+-- a frame of a run that loses these copies and bursts: the port's part, what follows from what it sends, what follows
+-- from what it grants, the bursts that come in this frame, and the units' part
+pub record FrameRuns
+    (lost_copies lost_bursts : List ℕ) (old : WorldState) (entries : List Entry) (new : WorldState) : Type 0 where
   pub entry : Entry
   pub more : List Entry
   pub sent : FibreWorld
   pub answered : FibreWorld
   pub arrived : FibreWorld
   pub port : FibreStep old.fibre PortPart (Some entry) sent
-  pub reaches : FibreRun sent (inputs_of_copy lost_copies (length old.fibre.copies) (length old.fibre.units) entry.answer.sent ++ inputs_of_grant (length old.fibre.grants) (length old.fibre.units) entry.answer.grant) [] answered
+  pub reaches : FibreRun sent
+      (inputs_of_copy lost_copies (length old.fibre.copies) (length old.fibre.units) entry.answer.sent
+      ++ inputs_of_grant (length old.fibre.grants) (length old.fibre.units) entry.answer.grant) [] answered
   pub flights : List Flight
-  pub in_flight : flights ≡ old.flights ++ flights_of old.frames (length old.fibre.bursts) (drop (length old.fibre.bursts) answered.bursts)
+  pub in_flight : flights ≡ old.flights
+      ++ flights_of old.frames (length old.fibre.bursts) (drop (length old.fibre.bursts) answered.bursts)
   pub arrives : FibreRun answered (arrivals lost_bursts old.frames flights) more arrived
   pub entries_are : entries ≡ entry ∷ more
   pub ends : new.fibre ≡ world_after_frame arrived
@@ -149,7 +159,8 @@ abbrev pub FramesRun : List ℕ → List ℕ → ℕ → WorldState → List Ent
 FramesRun lost_copies lost_bursts zero old entries new = (new ≡ old) × (entries ≡ [])
 FramesRun lost_copies lost_bursts (suc count) old entries new =
     (mid : WorldState) × (first : List Entry) × (rest : List Entry)
-    × FrameRuns lost_copies lost_bursts old first mid × FramesRun lost_copies lost_bursts count mid rest new × (entries ≡ first ++ rest)
+    × FrameRuns lost_copies lost_bursts old first mid × FramesRun lost_copies lost_bursts count mid rest new
+    × (entries ≡ first ++ rest)
 
 -- ---- what a run may end in
 
@@ -158,7 +169,9 @@ abbrev pub IsRunFault : WorldState → WorldFault → Type 0
 IsRunFault world fault = (fault ≡ OutOfMemory) ⊎ ((fault ≡ Limit) × (world.frames ≡ MAX_FRAMES))
 
 -- a run that was to have so many frames ended after fewer, which stand
-pub record StopsShort (lost_copies lost_bursts : List ℕ) (frames : ℕ) (old : WorldState) (fault : WorldFault) (new : WorldState) : Type 0 where
+pub record StopsShort
+    (lost_copies lost_bursts : List ℕ) (frames : ℕ) (old : WorldState) (fault : WorldFault) (new : WorldState)
+    : Type 0 where
   pub count : ℕ
   pub entries : List Entry
   pub fewer : count < frames
@@ -166,7 +179,8 @@ pub record StopsShort (lost_copies lost_bursts : List ℕ) (frames : ℕ) (old :
   pub why : IsRunFault new fault
 
 -- the entries of a frame were put behind those that there were
-pub record PutsFrame (lost_copies lost_bursts : List ℕ) (old : WorldState) (before after : List Entry) (new : WorldState) : Type 0 where
+pub record PutsFrame
+    (lost_copies lost_bursts : List ℕ) (old : WorldState) (before after : List Entry) (new : WorldState) : Type 0 where
   pub more : List Entry
   pub runs : FrameRuns lost_copies lost_bursts old more new
   pub after_is : after ≡ before ++ more

@@ -63,14 +63,16 @@ burst_with at octets = record { at = at; bytes = octets }
 -- the burst that it answers with, if it does
 abbrev pub burst_answered : Grant → FibreUnit → Option SentBurst
 burst_answered grant unit =
-    option_map (λ octets. burst_with unit.delay octets) (option_map (λ m. code_of_up m (mask_value unit.state.mask)) (answer_to unit.state (Granted grant unit.random)))
+    option_map (λ octets. burst_with unit.delay octets)
+    (option_map (λ m. code_of_up m (mask_value unit.state.mask)) (answer_to unit.state (Granted grant unit.random)))
 
 -- each unit's frame
 abbrev pub world_after_frame : FibreWorld → FibreWorld
 world_after_frame world = record world { units = map (unit_taking Frame) world.units }
 
 -- of these units the one at this place changes
-pub record ChangesAt (old : List FibreUnit) (place : ℕ) (change : FibreUnit → FibreUnit) (new : List FibreUnit) : Type 0 where
+pub record ChangesAt
+    (old : List FibreUnit) (place : ℕ) (change : FibreUnit → FibreUnit) (new : List FibreUnit) : Type 0 where
   pub unit : FibreUnit
   pub there : slice_get old place ≡ Some unit
   pub after : new ≡ slice_set old place (change unit)
@@ -91,15 +93,20 @@ pub record UnitAnswers (old : FibreWorld) (place : ℕ) (grant : Grant) (new : F
 -- the input may lead from the old world to the new one, and gives this entry, if it is an event of the port
 abbrev pub FibreStep : FibreWorld → FibreInput → Option Entry → FibreWorld → Type 0
 FibreStep old (Whole steps.Frame) given new =
-    (entry : Entry) × (mid : FibreWorld) × (given ≡ Some entry) × PortTakes old event.Frame entry mid × (new ≡ world_after_frame mid)
-FibreStep old (Whole (steps.Command command)) given new = (entry : Entry) × (given ≡ Some entry) × PortTakes old (event.Command command) entry new
+    (entry : Entry) × (mid : FibreWorld) × (given ≡ Some entry) × PortTakes old event.Frame entry mid
+    × (new ≡ world_after_frame mid)
+FibreStep old (Whole (steps.Command command)) given new =
+    (entry : Entry) × (given ≡ Some entry) × PortTakes old (event.Command command) entry new
 FibreStep old (Whole (steps.Deliver copy unit)) given new =
-    (message : Down) × (given ≡ None) × (slice_get old.copies copy ≡ Some message) × UnitChanges old unit (unit_hearing message) new
+    (message : Down) × (given ≡ None) × (slice_get old.copies copy ≡ Some message)
+    × UnitChanges old unit (unit_hearing message) new
 FibreStep old (Whole (steps.Give grant unit)) given new =
     (granted : Grant) × (given ≡ None) × (slice_get old.grants grant ≡ Some granted) × UnitAnswers old unit granted new
 FibreStep old (Whole (steps.Arrive burst)) given new =
-    (entry : Entry) × (arrived : SentBurst) × (given ≡ Some entry) × (slice_get old.bursts burst ≡ Some arrived) × PortTakes old (event.Burst arrived.at arrived.bytes) entry new
-FibreStep old (Whole (steps.Bytes at bytes)) given new = (entry : Entry) × (given ≡ Some entry) × PortTakes old (event.Burst at bytes) entry new
+    (entry : Entry) × (arrived : SentBurst) × (given ≡ Some entry) × (slice_get old.bursts burst ≡ Some arrived)
+    × PortTakes old (event.Burst arrived.at arrived.bytes) entry new
+FibreStep old (Whole (steps.Bytes at bytes)) given new =
+    (entry : Entry) × (given ≡ Some entry) × PortTakes old (event.Burst at bytes) entry new
 FibreStep old (Whole (steps.Light unit)) given new = (given ≡ None) × UnitChanges old unit (unit_taking Light) new
 FibreStep old (Whole (steps.Dark unit)) given new = (given ≡ None) × UnitChanges old unit (unit_taking Dark) new
 FibreStep old PortPart given new = (entry : Entry) × (given ≡ Some entry) × PortTakes old event.Frame entry new

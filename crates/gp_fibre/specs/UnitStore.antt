@@ -1,5 +1,5 @@
--- What the units of a world stand for (this profile's own rule): a unit is brought up to date only where something other
--- than a frame happens to it, and in the frame that ends its state.
+-- What the units of a world stand for (this profile's own rule): a unit is brought up to date only where something
+-- other than a frame happens to it, and in the frame that ends its state.
 use Rattle.std.specs.Prelude.{◌≡◌, ℕ, ◌+◌, ◌-◌, ◌≤◌, ◌<◌, ◌==◌, if◌then◌else◌, Bool, true, false, List, Option, None, Some, All, length, map, slice_get}
 use Rattle.std.specs.Option.{ForSome, option_map}
 use Rattle.std.specs.FinMap.{get, insert, remove}
@@ -28,7 +28,8 @@ pub record UnitStoreState : Type 0 where
   pub frames : ℕ
 
 -- of these units the one at this place takes a grant, and answers so
-pub record Answers (old : List FibreUnit) (place : ℕ) (grant : Grant) (answer : Option SentBurst) (new : List FibreUnit) : Type 0 where
+pub record Answers
+    (old : List FibreUnit) (place : ℕ) (grant : Grant) (answer : Option SentBurst) (new : List FibreUnit) : Type 0 where
   pub units : ChangesAt old place (unit_granted grant) new
   pub answered : answer ≡ burst_answered grant units.unit
 
@@ -43,7 +44,8 @@ is_asked_at units grant place = from (slice_get units place) where
 abbrev pub IsNextAsked : List FibreUnit → Grant → ℕ → Option ℕ → Type 0
 IsNextAsked units grant first None = (place : ℕ) → first ≤ place → is_asked_at units grant place ≡ false
 IsNextAsked units grant first (Some next) =
-    (first ≤ next) × (is_asked_at units grant next ≡ true) × ((place : ℕ) → first ≤ place → place < next → is_asked_at units grant place ≡ false)
+    (first ≤ next) × (is_asked_at units grant next ≡ true)
+    × ((place : ℕ) → first ≤ place → place < next → is_asked_at units grant place ≡ false)
 
 -- the ONU-ID that a message is meant for, if it is meant for the units that have one
 abbrev pub onu_id_meant : Down → Option ℕ
@@ -53,7 +55,8 @@ onu_id_meant (down.Deactivate onu) = if onu == broadcast_onu then None else Some
 onu_id_meant (down.Popup onu) = if onu == broadcast_onu then None else Some onu
 onu_id_meant _ = None
 
--- the first place from this one on whose unit has this ONU-ID, as a poll of it asks it; where there is no ONU-ID, the very first
+-- the first place from this one on whose unit has this ONU-ID, as a poll of it asks it; where there is no ONU-ID, the
+-- very first
 abbrev pub IsNextOf : List FibreUnit → Option ℕ → ℕ → Option ℕ → Type 0
 IsNextOf units (Some onu) first next = IsNextAsked units (Poll onu) first next
 IsNextOf units None first None = length units ≤ first
@@ -63,7 +66,12 @@ IsNextOf units None first (Some next) = (next ≡ first) × (next < length units
 
 -- the unit that a stored unit stands for after so many frames: it has had those since it was brought up to date
 abbrev pub unit_at : ℕ → StoredUnit → FibreUnit
-unit_at frames stored = record { state = unit_after_frames (frames - stored.brought) stored.unit; delay = stored.delay; random = stored.random }
+unit_at frames stored =
+    record {
+      state = unit_after_frames (frames - stored.brought) stored.unit;
+      delay = stored.delay;
+      random = stored.random;
+    }
 
 -- the units that the stored units stand for
 abbrev pub units_at : ℕ → List StoredUnit → List FibreUnit
@@ -92,8 +100,8 @@ abbrev pub with_timer : Timers → ℕ → Option ℕ → Timers
 with_timer timers name None = record timers { frames = remove timers.frames name }
 with_timer timers name (Some due) = record timers { frames = insert timers.frames name due }
 
--- what is true of a stored unit after so many frames: its unit reads under this mask, its round trip has at most four frames,
--- its random delay has twelve bits, it was brought up to date, and its state ends only after this many frames
+-- what is true of a stored unit after so many frames: its unit reads under this mask, its round trip has at most four
+-- frames, its random delay has twelve bits, it was brought up to date, and its state ends only after this many frames
 pub record IsStoredUnit (mask : Mask) (frames least : ℕ) (stored : StoredUnit) : Type 0 where
   pub mask_is : stored.unit.mask ≡ mask
   pub delay : stored.delay ≤ max_delay
@@ -101,8 +109,10 @@ pub record IsStoredUnit (mask : Mask) (frames least : ℕ) (stored : StoredUnit)
   pub brought : stored.brought ≤ frames
   pub ahead : ForSome (due_of stored) (λ due. least ≤ due)
 
--- what is true of the stored units and their timers: each stored unit has a timer for the frame that ends its unit's state
-pub record IsUnitStore (mask : Mask) (frames least : ℕ) (stored_units : List StoredUnit) (timers : Timers) : Type 0 where
+-- what is true of the stored units and their timers: each stored unit has a timer for the frame that ends its unit's
+-- state
+pub record IsUnitStore
+    (mask : Mask) (frames least : ℕ) (stored_units : List StoredUnit) (timers : Timers) : Type 0 where
   pub each : All (IsStoredUnit mask frames least) stored_units
   pub names : timers.names ≡ length stored_units
   pub set : (name : ℕ) → get timers.frames name ≡ due_at stored_units name
@@ -111,4 +121,5 @@ pub record IsUnitStore (mask : Mask) (frames least : ℕ) (stored_units : List S
 
 -- each grant asks exactly the places of the units that it asks as they were stored
 abbrev pub AreIndexed : List StoredUnit → AskedPlaces → Type 0
-AreIndexed stored_units asked = (grant : Grant) (place : ℕ) → is_in_set asked grant place ≡ asks (asked_by_at stored_units place) grant
+AreIndexed stored_units asked =
+    (grant : Grant) (place : ℕ) → is_in_set asked grant place ≡ asks (asked_by_at stored_units place) grant

@@ -20,8 +20,8 @@ pub record FibreUnit : Type 0 where
   pub delay : ℕ
   pub random : ℕ
 
--- the port, the licences that nobody holds, the units by their places, and all copies, grants and bursts that were sent,
--- by their numbers
+-- the port, the licences that nobody holds, the units by their places, and all copies, grants and bursts that were
+-- sent, by their numbers
 pub record FibreWorld : Type 0 where
   pub port : PortState
   pub free : ℕ
@@ -42,7 +42,14 @@ planned_unit mask plan =
 -- a world that has just begun: its port was just opened, all licences are free, and nothing was sent
 abbrev pub opening_world : PortConfig → ℕ → List UnitPlan → FibreWorld
 opening_world config licences plans =
-    record { port = opening_of config; free = licences; units = map (planned_unit config.mask) plans; copies = []; grants = []; bursts = [] }
+    record {
+      port = opening_of config;
+      free = licences;
+      units = map (planned_unit config.mask) plans;
+      copies = [];
+      grants = [];
+      bursts = [];
+    }
 
 -- a round trip of at most four frames, and a random delay of twelve bits
 abbrev pub is_plan_within_limits : UnitPlan → Bool
@@ -51,4 +58,5 @@ is_plan_within_limits plan = nat_le plan.delay max_delay && nat_le plan.random m
 -- all numbers that a world begins with are in their ranges
 abbrev pub is_world_within_limits : PortConfig → ℕ → List UnitPlan → Bool
 is_world_within_limits config licences plans =
-    is_within_limits config && nat_le licences max_licences && nat_le (length plans) max_simulated_units && list_all is_plan_within_limits plans
+    is_within_limits config && nat_le licences max_licences && nat_le (length plans) max_simulated_units
+    && list_all is_plan_within_limits plans

@@ -16,8 +16,8 @@ const WORDS: usize = 16;
 /// How many values the octet of an ONU-ID has.
 const ONU_IDS: usize = 256;
 
-/// Which units each grant asks, as sets of their places, so that a grant need not go through all units. After `begin` it takes
-/// no memory.
+/// Which units each grant asks, as sets of their places, so that a grant need not go through all units. After `begin`
+/// it takes no memory.
 #[derive(Drop)]
 pub struct AskedUnits {
     /// The units in O3, which serial number requests ask.
@@ -73,7 +73,9 @@ impl AskedUnits {
     pub(super) fn change(&mut self, place: usize, before: AskedBy, after: AskedBy)
         requires place { place < MAX_SIMULATED_UNITS }
         requires before { (grant : Grant) → is_in_set self.old grant place ≡ asks before grant }
-        ensures { (grant : Grant) (other : ℕ) → is_in_set self.new grant other ≡ (if other == place then asks after grant else is_in_set self.old grant other) }
+        ensures { (grant : Grant) (other : ℕ)
+            → is_in_set self.new grant other
+            ≡ (if other == place then asks after grant else is_in_set self.old grant other) }
     {
         if before == after {
             return;

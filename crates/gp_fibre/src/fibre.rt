@@ -42,7 +42,8 @@ impl<L: Ledger> Model for Fibre<L> {
 
     ghost Value = { FibreStand };
 
-    ghost coded = { Prim.hlevel (codes, map.code {R = serial_cmp} coded_serial row.the_row.coded, set.code {R = serial_cmp} coded_serial) };
+    ghost coded = { Prim.hlevel
+        (codes, map.code {R = serial_cmp} coded_serial row.the_row.coded, set.code {R = serial_cmp} coded_serial) };
 
     ghost view = { λ f. record {
       world = record { port = f.core; free = f.book.free; units = f.store.units; copies = f.copies.items; grants = f.grants.items; bursts = f.bursts.items };
@@ -77,8 +78,8 @@ impl<L: Ledger> Fibre<L> {
         }
     }
 
-    /// Makes room for what so many events of the port may send and grant, and for so many bursts. It fails only where there
-    /// is no memory.
+    /// Makes room for what so many events of the port may send and grant, and for so many bursts. It fails only where
+    /// there is no memory.
     pub fn reserve(&mut self, events: usize, bursts: usize) -> Result<(), AllocError>
         ensures world { self.new.world ≡ self.old.world }
         ensures total { self.new.total ≡ self.old.total }
@@ -242,7 +243,8 @@ impl<L: Ledger> Fibre<L> {
     /// Ends a frame of each unit.
     pub fn end_frame(&mut self)
         requires { self.old.frames < MAX_FRAMES }
-        ensures { self.new ≡ record self.old { world = world_after_frame self.old.world; frames = self.old.frames + 1 } }
+        ensures { self.new
+            ≡ record self.old { world = world_after_frame self.old.world; frames = self.old.frames + 1 } }
     {
         self.store.frame();
     }

@@ -9,8 +9,8 @@ use std::marker::Model;
 /// In how many frames a burst may come: in the one in which it is answered, or one of the four after that.
 const FRAMES_IN_REACH: usize = 5;
 
-/// The bursts that were answered in runs and are still to come, by their numbers. For each frame in reach a flag tells whether
-/// one may come in it, so that a frame in which none comes costs one look.
+/// The bursts that were answered in runs and are still to come, by their numbers. For each frame in reach a flag
+/// tells whether one may come in it, so that a frame in which none comes costs one look.
 #[derive(Drop)]
 pub struct Flights {
     pub(super) list: Vec<Flight>,

@@ -25,16 +25,16 @@ pub fn units_are_told()
     gp_onu::knows_what_it_hears();
 }
 
-/// States that each unit that was assigned an ONU-ID has it in the port's table, or was sent or is owed later that it is
-/// taken from it.
+/// States that each unit that was assigned an ONU-ID has it in the port's table, or was sent or is owed later that it
+/// is taken from it.
 pub fn assigned_units_stay_or_are_told()
     ensures { AssignedStayOrAreTold }
 {
     gp_laws::each_step_adds_messages();
 }
 
-/// States that a unit that has an ONU-ID which the port's table does not give it was sent or is owed that it is taken from
-/// it; and that of two units that have one ONU-ID at most one has it by the table.
+/// States that a unit that has an ONU-ID which the port's table does not give it was sent or is owed that it is taken
+/// from it; and that of two units that have one ONU-ID at most one has it by the table.
 pub fn lost_units_are_told()
     ensures units { UnitsHaveOrLose }
     ensures one { OneHasIt }

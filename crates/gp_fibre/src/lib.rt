@@ -1,7 +1,8 @@
-//! A fibre: one port, its licences, and the simulated units that it reaches. Copies, grants and bursts reach them in any
-//! order, late, twice or never.
+//! A fibre: one port, its licences, and the simulated units that it reaches. Copies, grants and bursts reach them in
+//! any order, late, twice or never.
 //!
-//! - `world.rt`: `World`, with its steps (`world_step.rt`), its faults (`fault.rt`) and what it begins with (`unit_plan.rt`).
+//! - `world.rt`: `World`, with its steps (`world_step.rt`), its faults (`fault.rt`) and what it begins with
+//!   (`unit_plan.rt`).
 //! - `running.rt`: the parts of a frame of `World::run`, which may lose copies and bursts (`loss_plan.rt`).
 //! - `fibre.rt`: the port, the book of its licences, the units, and all that was sent (`sent_burst.rt`).
 //! - `unit_store.rt`, `stored_unit.rt`: the units, each brought up to date only where it has to be.

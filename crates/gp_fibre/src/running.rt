@@ -1,5 +1,5 @@
-//! The parts of a frame of `World::run`, in their order: the port's frame, the copy, the grant, the bursts that come, and the
-//! frame of each unit.
+//! The parts of a frame of `World::run`, in their order: the port's frame, the copy, the grant, the bursts that come,
+//! and the frame of each unit.
 ghost use Rattle.std.specs.Prelude.{◌≡◌, ◌+◌, ◌-◌, ◌*◌, ◌<◌, ◌≤◌, ◌++◌, ◌∷◌, [], All, Some, drop, length, slice_get, vec_capacity, vec_len};
 ghost use Rattle.std.specs.Option.{ForSome};
 ghost use Rattle.gp_ploam.specs.Down.{IsProperDown};
@@ -28,8 +28,8 @@ fn is_lost(lost: &[u64], number: u64) -> bool
     lost.iter().any(|other| *other == number)
 }
 
-/// Lets a copy reach each unit, one after the other. Those without the ONU-ID that it is meant for are the same after it, so they
-/// are passed over.
+/// Lets a copy reach each unit, one after the other. Those without the ONU-ID that it is meant for are the same after
+/// it, so they are passed over.
 fn deliver_all<L: Ledger>(fibre: &mut Fibre<L>, copy: u64, message: &Down)
     requires sent { slice_get fibre.old.world.copies copy ≡ Some message.now }
     requires proper { IsProperDown message.now }
@@ -72,7 +72,8 @@ fn give<L: Ledger>(
     flights.add(Flight { number, due });
 }
 
-/// Lets a grant reach each unit, one after the other. Those that it doesn't ask are the same after it, so they are passed over.
+/// Lets a grant reach each unit, one after the other. Those that it doesn't ask are the same after it, so they are
+/// passed over.
 fn give_all<L: Ledger>(
     fibre: &mut Fibre<L>,
     flights: &mut Flights,
@@ -101,7 +102,8 @@ fn give_all<L: Ledger>(
 pub(super) fn pass_on<L: Ledger>(fibre: &mut Fibre<L>, copy: u64, sent: Option<Down>, lost: &[u64])
     requires sent { ForSome sent (λ message. slice_get fibre.old.world.copies copy ≡ Some message) }
     requires proper { ForSome sent IsProperDown }
-    ensures taken { UnitsTake fibre.old.world (spec.inputs_of_copy lost.now copy (length fibre.old.world.units) sent) fibre.new.world }
+    ensures taken { UnitsTake fibre.old.world
+        (spec.inputs_of_copy lost.now copy (length fibre.old.world.units) sent) fibre.new.world }
     ensures bursts { fibre.new.world.bursts ≡ fibre.old.world.bursts }
     ensures rest { fibre.new ≡ record fibre.old { world = fibre.new.world } }
 {
@@ -127,7 +129,8 @@ pub(super) fn give_on<L: Ledger>(
     requires flights { length fibre.old.world.units ≤ flights.old.room }
     requires frame { frame < MAX_FRAMES }
     requires reach { AreInReach frame flights.old.flights }
-    ensures taken { UnitsTake fibre.old.world (spec.inputs_of_grant grant (length fibre.old.world.units) issued) fibre.new.world }
+    ensures taken { UnitsTake fibre.old.world
+        (spec.inputs_of_grant grant (length fibre.old.world.units) issued) fibre.new.world }
     ensures rest { fibre.new ≡ record fibre.old { world = fibre.new.world; bursts_room = fibre.new.bursts_room } }
     ensures comes { Comes frame fibre.old.world flights.old.flights fibre.new.world flights.new.flights }
     ensures reach { AreInReach frame flights.new.flights }
@@ -151,7 +154,8 @@ fn arrive_all<L: Ledger>(
     requires entries { vec_len entries.old + length flights.now ≤ vec_capacity entries.old }
     requires numbers { All (λ f. f.number < length fibre.old.world.bursts) flights.now }
     requires proper { All IsProperEntry entries.old.items }
-    ensures puts { PortPuts fibre.old.world (spec.arrivals lost.now frame flights.now) entries.old.items entries.new.items fibre.new.world }
+    ensures puts { PortPuts fibre.old.world
+        (spec.arrivals lost.now frame flights.now) entries.old.items entries.new.items fibre.new.world }
     ensures total { fibre.new.total ≡ fibre.old.total }
     ensures frames { fibre.new.frames ≡ fibre.old.frames }
     ensures proper { All IsProperEntry entries.new.items }
@@ -174,7 +178,8 @@ fn arrive<L: Ledger>(
     requires entries { vec_len entries.old < vec_capacity entries.old }
     requires number { flight.number < length fibre.old.world.bursts }
     requires proper { All IsProperEntry entries.old.items }
-    ensures puts { PortPuts fibre.old.world (spec.arrivals lost.now frame (flight ∷ [])) entries.old.items entries.new.items fibre.new.world }
+    ensures puts { PortPuts fibre.old.world
+        (spec.arrivals lost.now frame (flight ∷ [])) entries.old.items entries.new.items fibre.new.world }
     ensures total { fibre.new.total ≡ fibre.old.total }
     ensures frames { fibre.new.frames ≡ fibre.old.frames }
     ensures copies_room { fibre.old.copies_room ≤ fibre.new.copies_room + 1 }
@@ -193,8 +198,8 @@ fn arrive<L: Ledger>(
     entries.push_reserved(fibre.take(Event::Burst { at, bytes }));
 }
 
-/// Gives the port the bursts that come in this frame, but for those that are lost, and takes them away from those that are to
-/// come. Where none comes, it walks over none.
+/// Gives the port the bursts that come in this frame, but for those that are lost, and takes them away from those
+/// that are to come. Where none comes, it walks over none.
 fn land<L: Ledger>(
     fibre: &mut Fibre<L>,
     flights: &mut Flights,
@@ -208,7 +213,8 @@ fn land<L: Ledger>(
     requires numbers { All (λ f. f.number < length fibre.old.world.bursts) flights.old.flights }
     requires reach { AreInReach frame flights.old.flights }
     requires proper { All IsProperEntry entries.old.items }
-    ensures puts { PortPuts fibre.old.world (spec.arrivals lost.now frame flights.old.flights) entries.old.items entries.new.items fibre.new.world }
+    ensures puts { PortPuts fibre.old.world
+        (spec.arrivals lost.now frame flights.old.flights) entries.old.items entries.new.items fibre.new.world }
     ensures left { flights.new.flights ≡ spec.flights_after frame flights.old.flights }
     ensures total { fibre.new.total ≡ fibre.old.total }
     ensures frames { fibre.new.frames ≡ fibre.old.frames }
@@ -273,7 +279,8 @@ pub(super) fn play_frame<L: Ledger>(
     requires flights { length fibre.old.world.units ≤ flights.old.room }
     requires entries { vec_len entries.old + events_of fibre.old flights.old ≤ vec_capacity entries.old }
     requires proper { All IsProperEntry entries.old.items }
-    ensures puts { spec.PutsFrame loss.now.copies.items loss.now.bursts.items (world_state fibre.old flights.old) entries.old.items entries.new.items (world_state fibre.new flights.new) }
+    ensures puts { spec.PutsFrame loss.now.copies.items loss.now.bursts.items
+        (world_state fibre.old flights.old) entries.old.items entries.new.items (world_state fibre.new flights.new) }
     ensures numbers { All (λ f. f.number < length fibre.new.world.bursts) flights.new.flights }
     ensures reach { AreInReach fibre.new.frames flights.new.flights }
     ensures proper { All IsProperEntry entries.new.items }

@@ -50,7 +50,8 @@ impl StoredUnit {
     pub(super) fn bring(&mut self, frames: u64)
         requires brought { self.old.brought ≤ frames }
         requires ahead { ForSome (due_of self.old) (λ due. frames < due) }
-        ensures { self.new ≡ record self.old { unit = unit_after_frames (frames - self.old.brought) self.old.unit; brought = frames } }
+        ensures { self.new
+            ≡ record self.old { unit = unit_after_frames (frames - self.old.brought) self.old.unit; brought = frames } }
     {
         catch_up(&mut self.unit, frames - self.brought);
         self.brought = frames;
@@ -60,7 +61,8 @@ impl StoredUnit {
     pub(super) fn pass(&mut self, frames: u64)
         requires brought { self.old.brought ≤ frames }
         requires now { due_of self.old ≡ Some frames }
-        ensures { self.new ≡ record self.old { unit = unit_after_frames (frames - self.old.brought) self.old.unit; brought = frames } }
+        ensures { self.new
+            ≡ record self.old { unit = unit_after_frames (frames - self.old.brought) self.old.unit; brought = frames } }
     {
         end_state(&mut self.unit);
         self.brought = frames;

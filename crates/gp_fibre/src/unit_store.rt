@@ -23,9 +23,9 @@ use std::marker::Model;
 
 /// The units of a world, by their places. Contracts see them as they are after the frames that they have had.
 ///
-/// A unit is brought up to date only where something other than a frame happens to it, and in the frame that ends its state.
-/// So a frame costs nothing but for the units whose states it ends: a wheel has a timer for each unit whose state will end by
-/// itself. An index tells which units a grant asks.
+/// A unit is brought up to date only where something other than a frame happens to it, and in the frame that ends its
+/// state. So a frame costs nothing but for the units whose states it ends: a wheel has a timer for each unit whose
+/// state will end by itself. An index tells which units a grant asks.
 #[derive(Drop)]
 pub struct UnitStore {
     mask: Mask,
@@ -43,7 +43,8 @@ impl Model for UnitStore {
 
     ghost view = { λ f. record { units = units_at f.frames f.stored_units.items; frames = f.frames } };
 
-    ghost invariant = { λ f. IsUnitStore f.mask f.frames (f.frames + 1) f.stored_units.items f.timers × AreIndexed f.stored_units.items f.asked };
+    ghost invariant = { λ f. IsUnitStore f.mask f.frames (f.frames + 1) f.stored_units.items f.timers
+        × AreIndexed f.stored_units.items f.asked };
 }
 
 impl UnitStore {
@@ -153,8 +154,8 @@ impl UnitStore {
         self.asked.next(grant, from)
     }
 
-    /// Finds the first place from `from` on whose unit a message may be meant for. Of a message for one ONU-ID that is the first
-    /// unit that has it, found without going through the units; of any other, the very first.
+    /// Finds the first place from `from` on whose unit a message may be meant for. Of a message for one ONU-ID that
+    /// is the first unit that has it, found without going through the units; of any other, the very first.
     pub fn next_meant(&self, message: &Down, from: u16) -> Option<u16>
         ensures next { IsNextOf self.now.units (spec.onu_id_meant message.now) from result }
         ensures few { IfSome result (λ place. place < MAX_SIMULATED_UNITS) }
@@ -252,7 +253,8 @@ fn renew_timer(timers: &mut Wheel, place: usize, before: Option<u64>, after: Opt
     requires few { place < MAX_SIMULATED_UNITS }
     requires before { get timers.old.frames place ≡ before }
     ensures names { timers.new.names ≡ timers.old.names }
-    ensures frames { (name : ℕ) → get timers.new.frames name ≡ (if name == place then after else get timers.old.frames name) }
+    ensures frames { (name : ℕ)
+        → get timers.new.frames name ≡ (if name == place then after else get timers.old.frames name) }
 {
     if before == after {
         return;

@@ -24,8 +24,8 @@ use std::sync::ledger::{Blank, Ledger};
 /// The most frames that a world counts, 2^63 (this profile's own rule).
 pub const MAX_FRAMES: u64 = 9_223_372_036_854_775_808;
 
-/// One port, its licences, and the simulated units that it reaches. Contracts see all that was sent, and each unit as it is
-/// after the frames so far.
+/// One port, its licences, and the simulated units that it reaches. Contracts see all that was sent, and each unit as
+/// it is after the frames so far.
 ///
 /// It has no `Drop`: it is ended by `close`, which gathers its licences.
 pub struct World<L: Ledger> {
@@ -45,17 +45,21 @@ impl<L: Ledger> Model for World<L> {
 
     ghost Value = { WorldState };
 
-    ghost coded = { Prim.hlevel (codes, map.code {R = serial_cmp} coded_serial row.the_row.coded, set.code {R = serial_cmp} coded_serial) };
+    ghost coded = { Prim.hlevel
+        (codes, map.code {R = serial_cmp} coded_serial row.the_row.coded, set.code {R = serial_cmp} coded_serial) };
 
-    ghost view = { λ w. record { fibre = w.fibre.world; licences = w.fibre.total; frames = w.fibre.frames; flights = w.flights.flights } };
+    ghost view = { λ w. record
+        { fibre = w.fibre.world; licences = w.fibre.total; frames = w.fibre.frames; flights = w.flights.flights } };
 
-    ghost invariant = { λ w. All (λ f. f.number < length w.fibre.world.bursts) w.flights.flights × AreInReach w.fibre.frames w.flights.flights };
+    ghost invariant = { λ w. All (λ f. f.number < length w.fibre.world.bursts) w.flights.flights
+        × AreInReach w.fibre.frames w.flights.flights };
 }
 
 impl<L: Ledger> World<L> {
-    /// Begins a world with a port that was just opened, all licences free, and the units, each lit. A number outside its
-    /// range is `Limit`: those of the configuration, at most `MAX_LICENCES` licences, at most `MAX_SIMULATED_UNITS` units,
-    /// each with a delay of at most `MAX_DELAY` bit times and a random delay of at most `MAX_RANDOM_DELAY`.
+    /// Begins a world with a port that was just opened, all licences free, and the units, each lit. A number outside
+    /// its range is `Limit`: those of the configuration, at most `MAX_LICENCES` licences, at most
+    /// `MAX_SIMULATED_UNITS` units, each with a delay of at most `MAX_DELAY` bit times and a random delay of at most
+    /// `MAX_RANDOM_DELAY`.
     ///
     /// `blank` is a new ledger of `MAX_LICENCES` parts, made by `Blank::new`, and `L` its name.
     pub fn begin(
@@ -68,7 +72,8 @@ impl<L: Ledger> World<L> {
         requires name { blank.name ≡ L.name }
         requires parts { (blank.parts ≡ L.parts) × (L.parts ≡ MAX_LICENCES) }
         ensures begun { IfOk result (λ world. world ≡ opening_state config.now licences plans.now) }
-        ensures limit { IsErrOf result WorldFault.Limit ↔ (spec.is_world_within_limits config.now licences plans.now ≡ false) }
+        ensures limit { IsErrOf result WorldFault.Limit
+            ↔ (spec.is_world_within_limits config.now licences plans.now ≡ false) }
         ensures only { IfErr result (λ fault. (fault ≡ WorldFault.Limit) ⊎ (fault ≡ WorldFault.OutOfMemory)) }
     {
         if !is_within_limits(config, licences, plans) {
@@ -85,9 +90,10 @@ impl<L: Ledger> World<L> {
         }
     }
 
-    /// Makes one step, and gives the entry of the port, where the step is an event of it. A burst takes a licence first,
-    /// where one is free, and gives back what it does not use. All memory is taken first, so that after a fault nothing has
-    /// changed. The fault is the first that applies in the order of `WorldFault`; `Limit` is a frame after 2^63 of them.
+    /// Makes one step, and gives the entry of the port, where the step is an event of it. A burst takes a licence
+    /// first, where one is free, and gives back what it does not use. All memory is taken first, so that after a
+    /// fault nothing has changed. The fault is the first that applies in the order of `WorldFault`; `Limit` is a
+    /// frame after 2^63 of them.
     pub fn step(&mut self, step: WorldStep) -> Result<Option<Entry>, WorldFault>
         ensures made { IfOk result (λ given. StepsTo self.old step given self.new) }
         ensures possible { OnOk result (step_fault self.old step ≡ None) }
@@ -224,19 +230,21 @@ impl<L: Ledger> World<L> {
         }
     }
 
-    /// Makes so many frames, each with all that follows from it: the port's frame; the copy that it sends reaches each unit,
-    /// in order; its grant each unit, in order; each answer reaches the port after as many whole frames as its round trip
-    /// has; and the frame of each unit. The copies and bursts of the loss plan reach nobody. It answers the entries of the
-    /// port, in order. After a fault, which is `OutOfMemory` or, after 2^63 frames, `Limit`, the whole frames before it
-    /// stand.
+    /// Makes so many frames, each with all that follows from it: the port's frame; the copy that it sends reaches
+    /// each unit, in order; its grant each unit, in order; each answer reaches the port after as many whole frames as
+    /// its round trip has; and the frame of each unit. The copies and bursts of the loss plan reach nobody. It
+    /// answers the entries of the port, in order. After a fault, which is `OutOfMemory` or, after 2^63 frames,
+    /// `Limit`, the whole frames before it stand.
     pub fn run(
         &mut self,
         alloc: Global,
         frames: u32,
         loss: &LossPlan,
     ) -> Result<Vec<Entry>, WorldFault>
-        ensures runs { IfOk result (λ entries. FramesRun loss.now.copies.items loss.now.bursts.items frames self.old entries.items self.new) }
-        ensures stops { IfErr result (λ fault. StopsShort loss.now.copies.items loss.now.bursts.items frames self.old fault self.new) }
+        ensures runs { IfOk result
+            (λ entries. FramesRun loss.now.copies.items loss.now.bursts.items frames self.old entries.items self.new) }
+        ensures stops { IfErr result
+            (λ fault. StopsShort loss.now.copies.items loss.now.bursts.items frames self.old fault self.new) }
         ensures proper { IfOk result (λ entries. All IsProperEntry entries.items) }
     {
         let mut entries = Vec::new(alloc);
@@ -251,7 +259,9 @@ impl<L: Ledger> World<L> {
     /// Makes a frame of a run. All memory is taken first.
     fn run_frame(&mut self, entries: &mut Vec<Entry>, loss: &LossPlan) -> Result<(), WorldFault>
         requires proper { All IsProperEntry entries.old.items }
-        ensures runs { OnOk result (PutsFrame loss.now.copies.items loss.now.bursts.items self.old entries.old.items entries.new.items self.new) }
+        ensures runs { OnOk result
+            (PutsFrame loss.now.copies.items loss.now.bursts.items self.old entries.old.items entries.new.items
+            self.new) }
         ensures unchanged { OnErr result (self.new ≡ self.old) }
         ensures fault { IfErr result (λ fault. IsRunFault self.old fault) }
         ensures proper { OnOk result (All IsProperEntry entries.new.items) }

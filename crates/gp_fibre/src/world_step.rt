@@ -1,7 +1,7 @@
 use gp_machine::Command;
 
-/// What may happen on a fibre. Copies, grants and bursts are numbered from 0 in the order in which they were sent, units by
-/// their places from 0; each may reach whom it may reach at any time, and any number of times.
+/// What may happen on a fibre. Copies, grants and bursts are numbered from 0 in the order in which they were sent,
+/// units by their places from 0; each may reach whom it may reach at any time, and any number of times.
 #[derive(Clone, Copy, Debug, PartialEq, Eq)]
 pub enum WorldStep {
     /// A frame of the port, and then of each unit.

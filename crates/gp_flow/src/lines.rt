@@ -5,9 +5,8 @@ ghost use Rattle.gp_flow.specs.Lines.{Serves, end_of_input};
 
 use crate::fault::LinesFault;
 use crate::open_line::OpenLine;
-use gp_stream::Sink;
-use gp_stream::Source;
 use crate::work::LineWork;
+use gp_stream::{Sink, Source};
 use std::alloc::Global;
 use std::io;
 use std::io::{Read, Write};

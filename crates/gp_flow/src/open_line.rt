@@ -4,8 +4,8 @@ ghost use Rattle.gp_stream.specs.Sink.{KeepsNothing};
 ghost use Rattle.gp_flow.specs.OpenLine.{kept, fed_lines, fed_text, last_line};
 
 use crate::fault::LineFault;
-use gp_stream::Sink;
 use crate::work::LineWork;
+use gp_stream::Sink;
 use std::alloc::{AllocError, Global};
 use std::io::Write;
 use std::marker::Model;

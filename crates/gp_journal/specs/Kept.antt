@@ -10,10 +10,11 @@ pub record History : Type 0 where
 
 -- the entry with this number, if it is among them
 abbrev pub entry_in : History → ℕ → Option Entry
-entry_in history number = if nat_lt number history.first then None else slice_get history.entries (number - history.first)
+entry_in history number =
+    if nat_lt number history.first then None else slice_get history.entries (number - history.first)
 
--- a journal: the number of the first entry that it keeps, the state before that entry (None: the port was just opened), the
--- entries that it keeps, and for how many more it has room
+-- a journal: the number of the first entry that it keeps, the state before that entry (None: the port was just
+-- opened), the entries that it keeps, and for how many more it has room
 pub record Kept : Type 0 where
   pub first : ℕ
   pub base : Option PortState

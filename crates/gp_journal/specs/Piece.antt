@@ -20,7 +20,8 @@ pub record Joins (piece : Piece) (first : ℕ) (from : PortState) : Type 0 where
 abbrev pub IsRunOfPiece : PortConfig → Piece → Type 0
 IsRunOfPiece config piece = Replays config piece.from piece.entries piece.to
 
--- what begins with this number and after this state follows the piece; what begins at the opening of a port follows none
+-- what begins with this number and after this state follows the piece; what begins at the opening of a port follows
+-- none
 abbrev pub Follows : Piece → ℕ → Option PortState → Type 0
 Follows piece first None = ⊥
 Follows piece first (Some from) = Joins piece first from
@@ -30,8 +31,8 @@ abbrev pub FollowOn : Piece → List Piece → ℕ → Option PortState → Type
 FollowOn piece [] first from = Follows piece first from
 FollowOn piece (next ∷ pieces) first from = Follows piece next.first next.from × FollowOn next pieces first from
 
--- the first piece begins at the opening of a port, each of the others follows the one before it, and what begins with this number
--- and after this state the last one; where there are no pieces it begins at the opening itself
+-- the first piece begins at the opening of a port, each of the others follows the one before it, and what begins with
+-- this number and after this state the last one; where there are no pieces it begins at the opening itself
 abbrev pub JoinUp : List Piece → ℕ → Option PortState → Type 0
 JoinUp [] first from = (first ≡ 0) × (from ≡ None)
 JoinUp (piece ∷ pieces) first from = (piece.first ≡ 0) × (piece.from ≡ None) × FollowOn piece pieces first from
@@ -46,10 +47,11 @@ abbrev pub all_entries : List Piece → List Entry
 all_entries [] = []
 all_entries (piece ∷ pieces) = piece.entries ++ all_entries pieces
 
--- pieces that follow one another from the opening of a port up to where a journal begins are, with the entries that the journal
--- keeps, one run from the opening, and the journal's first number counts their entries
+-- pieces that follow one another from the opening of a port up to where a journal begins are, with the entries that
+-- the journal keeps, one run from the opening, and the journal's first number counts their entries
 abbrev pub PiecesAreOneRun : Type 0
 PiecesAreOneRun =
-    (config : PortConfig) (pieces : List Piece) (first : ℕ) (base : Option PortState) (entries : List Entry) (last : PortState)
+    (config : PortConfig) (pieces : List Piece) (first : ℕ) (base : Option PortState) (entries : List Entry)
+    (last : PortState)
     → JoinUp pieces first base → AreRunsOfPieces config pieces → Replays config base entries last
     → Replays config None (all_entries pieces ++ entries) last × (length (all_entries pieces) ≡ first)

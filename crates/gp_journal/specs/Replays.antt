@@ -11,9 +11,10 @@ abbrev pub start_of : PortConfig → Option PortState → PortState
 start_of config None = opening_of config
 start_of config (Some base) = base
 
--- the configuration is within its limits and is that of the state before the first entry, and the entries are a run from that
--- state to the last
-pub record Replays (config : PortConfig) (base : Option PortState) (entries : List Entry) (last : PortState) : Type 0 where
+-- the configuration is within its limits and is that of the state before the first entry, and the entries are a run
+-- from that state to the last
+pub record Replays
+    (config : PortConfig) (base : Option PortState) (entries : List Entry) (last : PortState) : Type 0 where
   pub within : is_within_limits config ≡ true
   pub configured : (start_of config base).config ≡ config
   pub run : Run (start_of config base) entries last

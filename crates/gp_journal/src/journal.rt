@@ -10,8 +10,9 @@ use std::alloc::Global;
 use std::marker::Model;
 use std::mem;
 
-/// The entries of one port since its journal was last cut. Their numbers count from the opening of the port. Contracts see the
-/// number of the first entry that is kept, the state before it, the entries, and for how many more there is room.
+/// The entries of one port since its journal was last cut. Their numbers count from the opening of the port.
+/// Contracts see the number of the first entry that is kept, the state before it, the entries, and for how many more
+/// there is room.
 #[derive(Drop)]
 pub struct Journal {
     first: u64,
@@ -31,9 +32,19 @@ impl Model for Journal {
 
     ghost Value = { Kept };
 
-    ghost coded = { Prim.hlevel (codes, map.code {R = serial_cmp} coded_serial row.the_row.coded, set.code {R = serial_cmp} coded_serial, entry.the_row.coded) };
+    ghost coded = { Prim.hlevel (
+      codes,
+      map.code {R = serial_cmp} coded_serial row.the_row.coded,
+      set.code {R = serial_cmp} coded_serial,
+      entry.the_row.coded,
+    ) };
 
-    ghost view = { λ j. record { first = j.first; base = j.base; entries = j.entries.items; room = vec_capacity j.entries - vec_len j.entries } };
+    ghost view = { λ j. record {
+      first = j.first;
+      base = j.base;
+      entries = j.entries.items;
+      room = vec_capacity j.entries - vec_len j.entries;
+    } };
 
     ghost invariant = { λ j. j.first + vec_len j.entries < 2 ^ 64 };
 }
@@ -52,8 +63,8 @@ impl Journal {
         }
     }
 
-    /// Makes room for one entry more. Where there is none yet, the room doubles; what is recorded stays, also where the allocator
-    /// refuses.
+    /// Makes room for one entry more. Where there is none yet, the room doubles; what is recorded stays, also where
+    /// the allocator refuses.
     pub fn reserve_one(&mut self) -> Result<(), JournalFault>
         ensures first { self.new.first ≡ self.old.first }
         ensures base { self.new.base ≡ self.old.base }
@@ -120,8 +131,8 @@ impl Journal {
         self.entries.as_slice()
     }
 
-    /// Hands out the entries that are kept, and begins anew after them. Both images are of the state in which these entries end.
-    /// It takes no memory.
+    /// Hands out the entries that are kept, and begins anew after them. Both images are of the state in which these
+    /// entries end. It takes no memory.
     pub fn cut(&mut self, base: PortImage, to: PortImage) -> Piece
         ensures first { result.first ≡ self.old.first }
         ensures from { result.from ≡ self.old.base }

@@ -1,16 +1,18 @@
 //! What a port was asked and what it answered, in order, with numbers that count from its opening.
 //!
 //! - `journal.rt`: `Journal`, the entries since it was last cut, and the state before them.
-//! - `entries.rt`: `Entries`, entries as plain data. `piece.rt`: `Piece`, what is cut from a journal, and the law that pieces which
-//!   follow one another are one run.
+//! - `entries.rt`: `Entries`, entries as plain data. `piece.rt`: `Piece`, what is cut from a journal, and the law
+//!   that pieces which follow one another are one run.
 //! - `replaying.rt`: `replays`, whether a journal tells how a port came to stand where it stands.
 //! - `fault.rt`: the one reason for which a call fails.
 //!
-//! `specs/Kept.antt` is what contracts see of a journal, `specs/Replays.antt` what it tells of a port, `specs/Piece.antt` how pieces
-//! join. `proofs/Runs.antt` has what crates above need of `Replays`: an empty record, one step more, two records in a row.
+//! `specs/Kept.antt` is what contracts see of a journal, `specs/Replays.antt` what it tells of a port,
+//! `specs/Piece.antt` how pieces join. `proofs/Runs.antt` has what crates above need of `Replays`: an empty record,
+//! one step more, two records in a row.
 //!
-//! Where to make which change: what an entry keeps is `Entry` of `gp_machine`; how entries are followed is `PortFollower` of
-//! `gp_port`; what else a record of a port has to keep to is `Replays`, and its test `begin_follower` or `follow_all`.
+//! Where to make which change: what an entry keeps is `Entry` of `gp_machine`; how entries are followed is
+//! `PortFollower` of `gp_port`; what else a record of a port has to keep to is `Replays`, and its test
+//! `begin_follower` or `follow_all`.
 #![tactic(auto)]
 
 mod entries;

@@ -51,8 +51,8 @@ impl Piece {
     }
 }
 
-/// Pieces that follow one another from the opening of a port up to where its journal begins are, with the entries of the journal,
-/// one run from the opening.
+/// Pieces that follow one another from the opening of a port up to where its journal begins are, with the entries of
+/// the journal, one run from the opening.
 pub fn pieces_are_one_run()
     ensures { PiecesAreOneRun }
 {}

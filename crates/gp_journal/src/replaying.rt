@@ -11,9 +11,10 @@ use gp_port::{OpenFault, PortCore, PortFollower};
 use std::alloc::Global;
 use std::sync::ledger::Ledger;
 
-/// Tells whether the journal is that of a port with this configuration that stands as `core` does: the configuration is within its
-/// limits, and the entries that are kept are steps of the machine from the journal's base to this state, with the numbers that they
-/// name and whatever licences they tell of. Memory is taken for a port that follows them.
+/// Tells whether the journal is that of a port with this configuration that stands as `core` does: the configuration
+/// is within its limits, and the entries that are kept are steps of the machine from the journal's base to this
+/// state, with the numbers that they name and whatever licences they tell of. Memory is taken for a port that follows
+/// them.
 pub fn replays<L: Ledger>(
     alloc: Global,
     config: &PortConfig,
@@ -39,8 +40,13 @@ fn begin_follower(
     config: &PortConfig,
     journal: &Journal,
 ) -> Result<Option<PortFollower>, JournalFault>
-    ensures some { IfOk result (λ begun. IfSome begun (λ follower. (is_within_limits config.now ≡ true) × (follower ≡ start_of config.now journal.now.base) × (follower.config ≡ config.now))) }
-    ensures none { IfOk result (λ begun. IfNone begun (is_within_limits config.now ≡ true → (start_of config.now journal.now.base).config ≡ config.now → ⊥)) }
+    ensures some { IfOk result
+        (λ begun. IfSome begun
+        (λ follower. (is_within_limits config.now ≡ true) × (follower ≡ start_of config.now journal.now.base)
+        × (follower.config ≡ config.now))) }
+    ensures none { IfOk result
+        (λ begun. IfNone begun
+        (is_within_limits config.now ≡ true → (start_of config.now journal.now.base).config ≡ config.now → ⊥)) }
 {
     compares_configs();
     match journal.base() {

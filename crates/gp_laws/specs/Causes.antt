@@ -22,7 +22,8 @@ use Rattle.gp_machine.specs.Step.{Step, Hears}
 -- of these causes, the first that holds refuses with this
 abbrev pub IsFirstCause : List (Bool × Refusal) → Refusal → Type 0
 IsFirstCause [] refusal = ⊥
-IsFirstCause ((holds, cause) ∷ causes) refusal = ((holds ≡ true) × (cause ≡ refusal)) ⊎ ((holds ≡ false) × IsFirstCause causes refusal)
+IsFirstCause ((holds, cause) ∷ causes) refusal =
+    ((holds ≡ true) × (cause ≡ refusal)) ⊎ ((holds ≡ false) × IsFirstCause causes refusal)
 
 -- none of these causes holds
 abbrev pub NoCauseHolds : List (Bool × Refusal) → Type 0
@@ -31,7 +32,8 @@ NoCauseHolds ((holds, cause) ∷ causes) = (holds ≡ false) × NoCauseHolds cau
 
 -- of each list of causes one is the first that holds, or none holds
 abbrev pub HasFirstCauseOrNone : Type 0
-HasFirstCauseOrNone = (causes : List (Bool × Refusal)) → ((refusal : Refusal) × IsFirstCause causes refusal) ⊎ NoCauseHolds causes
+HasFirstCauseOrNone =
+    (causes : List (Bool × Refusal)) → ((refusal : Refusal) × IsFirstCause causes refusal) ⊎ NoCauseHolds causes
 
 -- the first cause that holds refuses
 abbrev pub RefusesForFirstCause : Type 0
@@ -43,12 +45,13 @@ RefusesForFirstCause =
 -- with no cause that holds nothing is refused
 abbrev pub RefusesForNoOtherReason : Type 0
 RefusesForNoOtherReason =
-    (refuse : Refusal → Response) (causes : List (Bool × Refusal)) (response : Response) → NoCauseHolds causes → unless refuse causes response ≡ response
+    (refuse : Refusal → Response) (causes : List (Bool × Refusal)) (response : Response) → NoCauseHolds causes
+    → unless refuse causes response ≡ response
 
 -- ---- a unit that asks for an ONU-ID
 
--- the burst asks for an ONU-ID: in a search window a serial number is heard from a unit without an ONU-ID, which is admitted,
--- not disabled, and not active yet
+-- the burst asks for an ONU-ID: in a search window a serial number is heard from a unit without an ONU-ID, which is
+-- admitted, not disabled, and not active yet
 pub record AsksForOnuId (port : PortState) (event : Event) : Type 0 where
   pub round_trip : ℕ
   pub bytes : List ℕ
@@ -76,9 +79,11 @@ abbrev pub RefusesForWantOfLicence : Type 0
 RefusesForWantOfLicence =
     (licences : ℕ) (port : PortState) (event : Event) (outcome : StepResult)
     → Step licences port event outcome
-    → (outcome.answer.reply ≡ Refused NoLicence) ↔ (AsksForOnuId port event × ((onu : ℕ) × IsFree port onu) × (licences ≡ 0))
+    → (outcome.answer.reply ≡ Refused NoLicence)
+    ↔ (AsksForOnuId port event × ((onu : ℕ) × IsFree port onu) × (licences ≡ 0))
 
--- a unit that asks for an ONU-ID gets one, where one is free, a licence is in the purse, and there is room for the message
+-- a unit that asks for an ONU-ID gets one, where one is free, a licence is in the purse, and there is room for the
+-- message
 abbrev pub FindsWhoAsks : Type 0
 FindsWhoAsks =
     (licences : ℕ) (port : PortState) (event : Event) (outcome : StepResult)

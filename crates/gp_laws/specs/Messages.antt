@@ -1,5 +1,5 @@
--- The messages of whole runs: what is sent, and what is still owed, is what the steps owe (G.984.3, clauses 9 and 10; that the
--- three copies go out in a row, behind all that is owed, is this profile's own rule).
+-- The messages of whole runs: what is sent, and what is still owed, is what the steps owe (G.984.3, clauses 9 and 10;
+-- that the three copies go out in a row, behind all that is owed, is this profile's own rule).
 use Rattle.std.specs.Prelude.{◌≡◌, ◌^◌, ◌<◌, ◌≤◌, List, ◌++◌, length, take, drop, All}
 use Rattle.gp_pools.specs.Limits.{last_alloc_id}
 use Rattle.gp_ploam.specs.declared.message.Down.{Down}
@@ -13,10 +13,12 @@ use Rattle.gp_laws.specs.Quarantine.{frames_in}
 
 -- each run has a list of the messages that its steps owe; it may be empty
 abbrev pub EveryRunHasOwedMessages : Type 0
-EveryRunHasOwedMessages = (port last : PortState) (entries : List Entry) → Run port entries last → (messages : List Down) × RunOwing port entries messages last
+EveryRunHasOwedMessages =
+    (port last : PortState) (entries : List Entry) → Run port entries last
+    → (messages : List Down) × RunOwing port entries messages last
 
--- in every run from an opening, where nothing is owed, the copies sent, and after them those still owed, are the messages
--- that the steps owe, in order, each three times: SendsWhatWasOwedFirst, below, at an opening
+-- in every run from an opening, where nothing is owed, the copies sent, and after them those still owed, are the
+-- messages that the steps owe, in order, each three times: SendsWhatWasOwedFirst, below, at an opening
 abbrev pub SendsEachThreeTimes : Type 0
 SendsEachThreeTimes =
     (config : PortConfig) (last : PortState) (entries : List Entry) (messages : List Down)
@@ -48,8 +50,8 @@ SendsAllOwed =
     → length port.owed ≤ frames_in entries
     → (more : List Down) × (sent_in entries ≡ port.owed ++ more) × (three_times messages ≡ more ++ last.owed)
 
--- what the types of a configuration say of what it puts into messages, and that its Alloc-IDs have twelve bits: ten octets of
--- Upstream_Overhead, delays of 32 bits, and serial numbers of eight octets
+-- what the types of a configuration say of what it puts into messages, and that its Alloc-IDs have twelve bits: ten
+-- octets of Upstream_Overhead, delays of 32 bits, and serial numbers of eight octets
 pub record IsTypedConfig (config : PortConfig) : Type 0 where
   pub overhead : length config.overhead ≡ 10
   pub delay : config.teqd < 2 ^ 32

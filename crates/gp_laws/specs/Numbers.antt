@@ -1,5 +1,5 @@
--- Who holds which numbers (G.984.3, clauses 9 and 10; that a disabled serial number holds none, and which further Alloc-IDs
--- there are, is this profile's own rule).
+-- Who holds which numbers (G.984.3, clauses 9 and 10; that a disabled serial number holds none, and which further
+-- Alloc-IDs there are, is this profile's own rule).
 use Rattle.std.specs.Prelude.{◌≡◌, ℕ, ◌⊎◌, true}
 use Rattle.std.specs.FinSet.{contains}
 use Rattle.gp_ploam.specs.declared.message.Serial.{Serial}

@@ -31,7 +31,8 @@ pub record Frees (port : PortState) (entry : Entry) (after : PortState) (serial 
 -- quarantine has begin between the two, at the least
 abbrev pub FreedOnuIdsRest : Type 0
 FreedOnuIdsRest =
-    (config : PortConfig) (port mid last after : PortState) (freeing giving : Entry) (entries : List Entry) (serial : Serial) (onu : ℕ)
+    (config : PortConfig) (port mid last after : PortState) (freeing giving : Entry) (entries : List Entry)
+    (serial : Serial) (onu : ℕ)
     → IsReached config port
     → Frees port freeing mid serial onu
     → Run mid entries last
@@ -40,8 +41,8 @@ FreedOnuIdsRest =
     → config.quarantine ≤ frames_in entries
 
 -- where a step of a run from an opening frees an ONU-ID, and no later step gives it to a new unit: it is free again
--- once as many frames have begun as the quarantine has, and not before, as long as there is room for a further unit. The
--- step that frees it is not counted, also where it is itself a frame
+-- once as many frames have begun as the quarantine has, and not before, as long as there is room for a further unit.
+-- The step that frees it is not counted, also where it is itself a frame
 abbrev pub FreedOnuIdsAreFreeAgain : Type 0
 FreedOnuIdsAreFreeAgain =
     (config : PortConfig) (port mid last : PortState) (freeing : Entry) (entries : List Entry)

@@ -1,5 +1,5 @@
--- What a step puts behind all that was sent and is still owed, and with which message a unit loses its ONU-ID (G.984.3, clause
--- 10; that each removal owes one of two messages is this profile's own rule).
+-- What a step puts behind all that was sent and is still owed, and with which message a unit loses its ONU-ID
+-- (G.984.3, clause 10; that each removal owes one of two messages is this profile's own rule).
 use Rattle.std.specs.Prelude.{◌≡◌, ℕ, List, ◌∷◌, ◌++◌, ◌⊎◌, All, Contains}
 use Rattle.std.specs.Option.{option_to_list}
 use Rattle.gp_ploam.specs.declared.message.Serial.{Serial}
@@ -32,18 +32,21 @@ pub record Adds (port : PortState) (outcome : StepResult) (messages : List Down)
   -- each Assign_ONU-ID among them tells a unit the ONU-ID that it has after the step
   pub told : All (TellsItsOnuId outcome.state) messages
   -- each unit keeps its ONU-ID, or one of them takes it
-  pub kept : (serial : Serial) (onu : ℕ) → HasOnuId port.rows serial onu → HasOnuId outcome.state.rows serial onu ⊎ TakesOnuId messages serial onu
+  pub kept : (serial : Serial) (onu : ℕ) → HasOnuId port.rows serial onu
+      → HasOnuId outcome.state.rows serial onu ⊎ TakesOnuId messages serial onu
 
 -- each step owes such messages
 abbrev pub EachStepAdds : Type 0
 EachStepAdds =
-    (licences : ℕ) (port : PortState) (event : Event) (outcome : StepResult) → Step licences port event outcome → (messages : List Down) × Adds port outcome messages
+    (licences : ℕ) (port : PortState) (event : Event) (outcome : StepResult) → Step licences port event outcome
+    → (messages : List Down) × Adds port outcome messages
 
--- in every run from an opening, of the copies sent and after them those owed: where an ONU-ID is assigned to a serial number,
--- the unit with that serial number has it, or a message after that takes it
+-- in every run from an opening, of the copies sent and after them those owed: where an ONU-ID is assigned to a serial
+-- number, the unit with that serial number has it, or a message after that takes it
 abbrev pub AssignedStayOrAreTold : Type 0
 AssignedStayOrAreTold =
-    (config : PortConfig) (last : PortState) (entries : List Entry) (earlier later : List Down) (serial : Serial) (onu : ℕ)
+    (config : PortConfig) (last : PortState) (entries : List Entry) (earlier later : List Down) (serial : Serial)
+    (onu : ℕ)
     → Run (opening_of config) entries last
     → sent_in entries ++ last.owed ≡ earlier ++ AssignOnu onu serial ∷ later
     → HasOnuId last.rows serial onu ⊎ TakesOnuId later serial onu

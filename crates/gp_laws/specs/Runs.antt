@@ -10,7 +10,8 @@ use Rattle.gp_machine.specs.Run.{Run, IsReached}
 -- a run of two lists of entries is a run of the first, and from where that ends a run of the second
 abbrev pub RunsInParts : Type 0
 RunsInParts =
-    (port last : PortState) (entries more : List Entry) → Run port (entries ++ more) last ↔ ((mid : PortState) × Run port entries mid × Run mid more last)
+    (port last : PortState) (entries more : List Entry)
+    → Run port (entries ++ more) last ↔ ((mid : PortState) × Run port entries mid × Run mid more last)
 
 -- given the state in which a run begins, its entries determine the one in which it ends
 abbrev pub RunsEndAlike : Type 0
@@ -55,8 +56,9 @@ licences_in entries = sum_by (λ entry. entry.purse_in) entries
 abbrev pub licences_out : List Entry → ℕ
 licences_out entries = sum_by (λ entry. entry.purse_out) entries
 
--- a run from a sound state neither makes nor loses a licence: those handed in and those of the units at its start are as
--- many as those handed back and those of the units at its end
+-- a run from a sound state neither makes nor loses a licence: those handed in and those of the units at its start are
+-- as many as those handed back and those of the units at its end
 abbrev pub RunsKeepLicences : Type 0
 RunsKeepLicences =
-    (port last : PortState) (entries : List Entry) → IsSound port → Run port entries last → licences_in entries + rows_of port ≡ licences_out entries + rows_of last
+    (port last : PortState) (entries : List Entry) → IsSound port → Run port entries last
+    → licences_in entries + rows_of port ≡ licences_out entries + rows_of last

@@ -1,4 +1,5 @@
--- What may happen in one step: the choice that a port has, and that it has an answer to each event (this profile's own rule).
+-- What may happen in one step: the choice that a port has, and that it has an answer to each event (this profile's
+-- own rule).
 use Rattle.std.specs.Prelude.{◌≡◌, ℕ, ◌<◌, length, All}
 use Rattle.gp_machine.specs.declared.event.Event.{Event}
 use Rattle.gp_machine.specs.declared.event.Event.TheVariants.{Frame, Burst, Command}
@@ -15,7 +16,9 @@ MayPickAnyFree =
     → IsSound port
     → Step licences port event outcome
     → outcome.answer.reply ≡ Found onu
-    → IsFree port onu × (IsFree port other → (another : StepResult) × Step licences port event another × (another.answer.reply ≡ Found other))
+    → IsFree port onu
+    × (IsFree port other
+    → (another : StepResult) × Step licences port event another × (another.answer.reply ≡ Found other))
 
 -- and so it is with a further Alloc-ID
 abbrev pub MayPickAnyFreeAlloc : Type 0
@@ -24,7 +27,9 @@ MayPickAnyFreeAlloc =
     → IsSound port
     → Step licences port event outcome
     → outcome.answer.reply ≡ Allocated alloc
-    → IsFreeAlloc port alloc × (IsFreeAlloc port other → (another : StepResult) × Step licences port event another × (another.answer.reply ≡ Allocated other))
+    → IsFreeAlloc port alloc
+    × (IsFreeAlloc port other
+    → (another : StepResult) × Step licences port event another × (another.answer.reply ≡ Allocated other))
 
 -- what its type says of an event: a burst has thirteen octets
 abbrev pub IsTypedEvent : Event → Type 0
@@ -34,4 +39,6 @@ IsTypedEvent (Command command) = Unit {0}
 
 -- in every sound state each event has a step, whatever licences are at hand
 abbrev pub EveryEventHasStep : Type 0
-EveryEventHasStep = (licences : ℕ) (port : PortState) (event : Event) → IsSound port → IsTypedEvent event → (outcome : StepResult) × Step licences port event outcome
+EveryEventHasStep =
+    (licences : ℕ) (port : PortState) (event : Event) → IsSound port → IsTypedEvent event
+    → (outcome : StepResult) × Step licences port event outcome

@@ -29,7 +29,8 @@ impl<L: Ledger> Model for LicenceBook<L> {
     ghost view = { λ b. record { free = b.free; total = b.total } };
 
     // The book keeps the parts of the ledger that stand for no licence, too.
-    ghost invariant = { λ b. (b.parts + b.total ≡ max_licences + b.free) × (b.free ≤ b.total) × (b.total ≤ max_licences) };
+    ghost invariant = { λ b. (b.parts + b.total ≡ max_licences + b.free) × (b.free ≤ b.total)
+        × (b.total ≤ max_licences) };
 }
 
 impl<L: Ledger> LicenceBook<L> {

@@ -28,7 +28,8 @@ impl<L: Ledger> Model for Licences<L> {
 
     ghost view = { λ l. l.count };
 
-    ghost invariant = { λ l. IfSome l.parts (λ p. p ≡ l.count) × IfNone l.parts (l.count ≡ 0) × (l.count ≤ max_licences) };
+    ghost invariant = { λ l. IfSome l.parts (λ p. p ≡ l.count) × IfNone l.parts (l.count ≡ 0)
+        × (l.count ≤ max_licences) };
 }
 
 impl<L: Ledger> Licences<L> {

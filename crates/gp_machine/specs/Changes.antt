@@ -1,5 +1,5 @@
--- What an event changes: the changes, what each of them does to the state of a port and to the licences in the purse (this
--- profile's own rule).
+-- What an event changes: the changes, what each of them does to the state of a port and to the licences in the purse
+-- (this profile's own rule).
 use Rattle.std.specs.Prelude.{ℕ, ◌+◌, ◌-◌, ◌==◌, Bool, true, false, if◌then◌else◌, List, [], ◌∷◌, ◌++◌, set, Option, None, Some, option_map}
 use Rattle.std.specs.FinMap.{insert, remove}
 use Rattle.std.specs.FinSet as finset
@@ -93,7 +93,8 @@ abbrev pub window_without : Option WindowState → ℕ → Option WindowState
 window_without None onu = None
 window_without (Some window) onu = if asks_unit window.grant onu then None else Some window
 
--- the unit with this ONU-ID is removed: it has no row, a window that asks it is closed uncounted, and its ONU-ID is cooling
+-- the unit with this ONU-ID is removed: it has no row, a window that asks it is closed uncounted, and its ONU-ID is
+-- cooling
 abbrev pub state_without : PortState → Serial → ℕ → PortState
 state_without port serial onu =
     record port {
@@ -116,7 +117,8 @@ window_unpolled (Some window) = if is_poll window.grant then None else Some wind
 -- every operating unit ranges anew, and keeps its Alloc-IDs; an open poll window is closed uncounted
 abbrev pub state_popped_up : PortState → PortState
 state_popped_up port =
-    record port { rows = rows_mapped (λ row. row_popped_up row row.phase) port.rows; window = window_unpolled port.window }
+    record port
+    { rows = rows_mapped (λ row. row_popped_up row row.phase) port.rows; window = window_unpolled port.window }
 
 -- the state after one change
 abbrev pub state_after_change : PortState → Change → PortState

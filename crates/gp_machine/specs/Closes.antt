@@ -23,16 +23,18 @@ ticks alarm changes = Responds Ticked None alarm changes
 abbrev pub suf_alarm : Bool → Serial → Option Alarm
 suf_alarm heard serial = if heard then Some (record { kind = Suf; serial = serial }) else None
 
--- a ranging window closed without a result, in which something was heard or not: the unit ranges again, with this row, or is
--- removed, with SUF if anything was heard of it
+-- a ranging window closed without a result, in which something was heard or not: the unit ranges again, with this
+-- row, or is removed, with SUF if anything was heard of it
 abbrev pub unranged_response : Serial → Row → Bool → Option Row → Response
 unranged_response serial row heard (Some again) = ticks None (ClosesWindow ∷ SetsRow serial again ∷ [])
-unranged_response serial row heard None = ticks (suf_alarm (was_seen row.phase || heard) serial) (ClosesWindow ∷ removal serial row.onu)
+unranged_response serial row heard None =
+    ticks (suf_alarm (was_seen row.phase || heard) serial) (ClosesWindow ∷ removal serial row.onu)
 
 -- a poll window closed, in which something was heard or not: with an alarm the unit is removed
 abbrev pub unpolled_response : Serial → Row → poll.Outcome → Option AlarmKind → Response
 unpolled_response serial row ended None = ticks None (ClosesWindow ∷ SetsRow serial (row_polled row ended) ∷ [])
-unpolled_response serial row ended (Some kind) = ticks (Some (record { kind = kind; serial = serial })) (ClosesWindow ∷ removal serial row.onu)
+unpolled_response serial row ended (Some kind) =
+    ticks (Some (record { kind = kind; serial = serial })) (ClosesWindow ∷ removal serial row.onu)
 
 -- how a poll window ends that closes with its last frame
 abbrev pub poll_ended : Bool → poll.Outcome
@@ -41,8 +43,10 @@ poll_ended false = Dark
 
 -- the window of a grant closes with its last frame, by the unit that it asks
 abbrev pub close_response : Bool → Grant → Option (Serial × Row) → Response
-close_response heard (Range onu) (Some (serial, row)) = unranged_response serial row heard (row_unranged row heard row.phase)
-close_response heard (Poll onu) (Some (serial, row)) = unpolled_response serial row (poll_ended heard) (alarm_polled row (poll_ended heard))
+close_response heard (Range onu) (Some (serial, row)) =
+    unranged_response serial row heard (row_unranged row heard row.phase)
+close_response heard (Poll onu) (Some (serial, row)) =
+    unpolled_response serial row (poll_ended heard) (alarm_polled row (poll_ended heard))
 close_response heard _ _ = ticks None (ClosesWindow ∷ [])
 
 -- the unit that a grant asks

@@ -21,7 +21,9 @@ use Rattle.gp_machine.specs.SearchWindow.{refuses_burst, if_room}
 abbrev pub measured_response : PortState → Serial → Row → Option ℕ → Response
 measured_response port serial row None = replies (TooFar row.onu) (MarksSeen ∷ [])
 measured_response port serial row (Some eqd) =
-    if_room port (replies (Ranged row.onu eqd) (ClosesWindow ∷ SetsRow serial (row_measured row eqd) ∷ Owes (RangingTime row.onu eqd) ∷ []))
+    if_room port
+    (replies (Ranged row.onu eqd)
+    (ClosesWindow ∷ SetsRow serial (row_measured row eqd) ∷ Owes (RangingTime row.onu eqd) ∷ []))
 
 -- why a message is none of the unit that is asked: by what it says
 abbrev pub stranger_causes : Bool → List (Bool × Refusal)
@@ -30,6 +32,7 @@ stranger_causes own = (not own, WrongWindow) ∷ []
 -- a message from the ranging unit that is asked, after a round-trip delay
 abbrev pub ranging_response : PortState → ℕ → Serial → Row → Up → Response
 ranging_response port round_trip serial row (SerialNumber octet1 told random flags) =
-    unless refuses_burst (stranger_causes (same_serial told serial)) (measured_response port serial row (equalization_delay port.config.teqd round_trip))
+    unless refuses_burst (stranger_causes (same_serial told serial))
+    (measured_response port serial row (equalization_delay port.config.teqd round_trip))
 ranging_response port round_trip serial row (DyingGasp octet1) = alarms (Gasp row.onu) Dg serial (MarksSeen ∷ [])
 ranging_response port round_trip serial row _ = replies (StillRanging row.onu) (MarksSeen ∷ [])

@@ -1,5 +1,5 @@
--- What a port does with an event, as the tables of the machine say it: what it answers, and what changes (this profile's own
--- rule).
+-- What a port does with an event, as the tables of the machine say it: what it answers, and what changes (this
+-- profile's own rule).
 use Rattle.std.specs.Prelude.{ℕ, ◌+◌, nat_le, Bool, true, if◌then◌else◌, not, List, [], ◌∷◌, length, Option, None, Some}
 use Rattle.gp_volley.specs.Copies.{copies_each}
 use Rattle.gp_ploam.specs.declared.message.Serial.{Serial}
@@ -21,8 +21,8 @@ use Rattle.gp_machine.specs.Changes.{Change, state_after, purse_after, StepResul
 
 -- ---- what the tables say
 
--- what the port does with an event: it replies, grants and raises this, and makes these changes, or it gives a free number,
--- whichever it picks
+-- what the port does with an event: it replies, grants and raises this, and makes these changes, or it gives a free
+-- number, whichever it picks
 pub data Response : Type 0 where
   Responds : (reply : Reply) (grant : Option Grant) (alarm : Option Alarm) (changes : List Change) → Response
   -- a new unit gets a free ONU-ID
@@ -63,16 +63,19 @@ bare_answer reply = record { reply = reply; sent = None; grant = None; alarm = N
 
 -- the answer to what is done, with the number that was picked; it sends this
 abbrev pub answer_with : Option Down → Response → ℕ → Answer
-answer_with sent (Responds reply grant alarm changes) picked = record { reply = reply; sent = sent; grant = grant; alarm = alarm }
+answer_with sent (Responds reply grant alarm changes) picked =
+    record { reply = reply; sent = sent; grant = grant; alarm = alarm }
 answer_with sent (GivesOnu serial) picked = record { reply = Found picked; sent = sent; grant = None; alarm = None }
-answer_with sent (GivesAlloc serial row) picked = record { reply = Allocated picked; sent = sent; grant = None; alarm = None }
+answer_with sent (GivesAlloc serial row) picked =
+    record { reply = Allocated picked; sent = sent; grant = None; alarm = None }
 
--- what changes, with the number that was picked: a new unit has this ONU-ID and begins to range, or an active one has this
--- Alloc-ID to acknowledge; it is told so
+-- what changes, with the number that was picked: a new unit has this ONU-ID and begins to range, or an active one has
+-- this Alloc-ID to acknowledge; it is told so
 abbrev pub changes_with : Response → ℕ → List Change
 changes_with (Responds reply grant alarm changes) picked = changes
 changes_with (GivesOnu serial) picked = AddsUnit serial (new_row picked) ∷ Owes (AssignOnu picked serial) ∷ []
-changes_with (GivesAlloc serial row) picked = SetsRow serial (row_with_alloc row picked) ∷ Owes (AssignAlloc row.onu picked true) ∷ []
+changes_with (GivesAlloc serial row) picked =
+    SetsRow serial (row_with_alloc row picked) ∷ Owes (AssignAlloc row.onu picked true) ∷ []
 
 -- the number may be picked: it is free
 abbrev pub MayPick : PortState → Response → ℕ → Type 0
@@ -83,4 +86,8 @@ MayPick port (GivesAlloc serial row) picked = IsFreeAlloc port picked
 -- what comes of it
 abbrev pub step_result_with : ℕ → PortState → Option Down → Response → ℕ → StepResult
 step_result_with licences port sent response picked =
-    record { answer = answer_with sent response picked; purse = purse_after licences (changes_with response picked); state = state_after port (changes_with response picked) }
+    record {
+      answer = answer_with sent response picked;
+      purse = purse_after licences (changes_with response picked);
+      state = state_after port (changes_with response picked);
+    }

@@ -1,4 +1,5 @@
--- A burst in a search window (G.984.3, clause 10). What is refused, and the order of the causes, is this profile's own rule.
+-- A burst in a search window (G.984.3, clause 10). What is refused, and the order of the causes, is this profile's
+-- own rule.
 use Rattle.std.specs.Prelude.{ℕ, ◌==◌, ◌&&◌, not, Bool, false, if◌then◌else◌, List, [], ◌∷◌, Option, None, Some}
 use Rattle.std.specs.List.{list_any}
 use Rattle.std.specs.FinMap.{get}
@@ -55,7 +56,8 @@ again_response port serial onu =
 -- a unit that is active already, by its phase: an operating one is removed
 abbrev pub active_response : PortState → Serial → ℕ → Phase → Response
 active_response port serial onu (Ranging attempts seen) = again_response port serial onu
-active_response port serial onu (Operating eqd dark garbled) = if_room port (replies (Restarted onu) (removal serial onu))
+active_response port serial onu (Operating eqd dark garbled) =
+    if_room port (replies (Restarted onu) (removal serial onu))
 
 -- an admitted unit that is not disabled, by the row that it has
 abbrev pub enabled_response : ℕ → PortState → Serial → Option Row → Response
@@ -65,13 +67,16 @@ enabled_response licences port serial (Some row) = active_response port serial r
 -- an admitted unit
 abbrev pub admitted_response : ℕ → PortState → Serial → Response
 admitted_response licences port serial =
-    if finset.contains port.disabled serial then alarms DisabledSeen Df serial [] else enabled_response licences port serial (get port.rows serial)
+    if finset.contains port.disabled serial then alarms DisabledSeen Df serial []
+    else enabled_response licences port serial (get port.rows serial)
 
 -- why a serial number is not heard in a search window: it has to be from an admitted unit without an ONU-ID
 abbrev pub search_causes : PortState → ℕ → Serial → List (Bool × Refusal)
-search_causes port octet1 serial = (not (octet1 == 255), WrongWindow) ∷ (not (is_among serial port.config.admitted), NotAdmitted) ∷ []
+search_causes port octet1 serial =
+    (not (octet1 == 255), WrongWindow) ∷ (not (is_among serial port.config.admitted), NotAdmitted) ∷ []
 
 -- a message in a search window: it has to be a serial number
 abbrev pub search_response : ℕ → PortState → Up → Response
-search_response licences port (SerialNumber octet1 serial random flags) = unless refuses_burst (search_causes port octet1 serial) (admitted_response licences port serial)
+search_response licences port (SerialNumber octet1 serial random flags) =
+    unless refuses_burst (search_causes port octet1 serial) (admitted_response licences port serial)
 search_response licences port _ = refuses_burst WrongWindow

@@ -3,7 +3,8 @@
 //! `equal_replies`) and of the limits (`config`). The other laws, and those of whole runs, stand in `gp_laws`.
 //!
 //! Where to make which change, in `specs/`:
-//! - limits of a configuration, of how many ports there may be and of what their journals keep: `Config`; a refusal's number and name: `Refusals`, and `src/refusal.rt`.
+//! - limits of a configuration, of how many ports there may be and of what their journals keep: `Config`; a refusal's
+//!   number and name: `Refusals`, and `src/refusal.rt`.
 //! - what a port knows, and which numbers are free: `State`; what holds in every state: `Sound`.
 //! - what may change in one go, and what each change does: `Changes`; what a line of a table says: `Responses`.
 //! - the tables: `Frame`, with `Closes` for the end of a window; `Burst`, with `SearchWindow`, `RangeWindow` and

@@ -9,8 +9,8 @@ pub fn heard_twice()
         unit_after (unit_after unit (Hears code message)) (Hears code message) ≡ unit_after unit (Hears code message) }
 {}
 
-/// States that a unit has an ONU-ID or an equalization delay, or is disabled, only where it heard so, and that it knows of no
-/// other messages than those that it heard.
+/// States that a unit has an ONU-ID or an equalization delay, or is disabled, only where it heard so, and that it
+/// knows of no other messages than those that it heard.
 pub fn knows_what_it_hears()
     ensures step { KnowsWhatItHears }
     ensures stays { StaysTold }

@@ -4,7 +4,8 @@
 //! - `stage.rt`: a state with exactly what the unit has in it. `specs/Stage.antt` reads it.
 //! - `unit.rt`: `Unit`, one small method for each message and each grant. `specs/Table.antt` is the unit table;
 //!   `specs/Frames.antt` has many frames, the count to the end of a state, and the limits that every unit keeps.
-//! - `laws.rt`: the laws that a code heard twice is as one heard once, and that a unit has only what it heard (`specs/Told.antt`).
+//! - `laws.rt`: the laws that a code heard twice is as one heard once, and that a unit has only what it heard
+//!   (`specs/Told.antt`).
 //! - `specs/Noticing.antt`: which messages and grants a unit surely passes over.
 //! - `limits.rt`, `specs/Limits.antt`: how many simulated units there may be, and how late each may answer; `gp_fibre`
 //!   and `gp_script` hold them to it.

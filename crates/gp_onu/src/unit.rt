@@ -149,8 +149,8 @@ impl Unit {
         self.stage = self.stage.with_more_frames(frames);
     }
 
-    /// Tells whether a message is meant for the unit as it stands. One that isn't changes nothing, after frames that don't end
-    /// the unit's state either.
+    /// Tells whether a message is meant for the unit as it stands. One that isn't changes nothing, after frames that
+    /// don't end the unit's state either.
     pub fn may_notice(&self, message: &Down) -> bool
         ensures value { result ≡ is_meant message.now self.now }
         ensures passed { result ≡ false → PassesOver self.now message.now }
@@ -173,7 +173,8 @@ impl Unit {
 
     /// Lets the unit hear a code. One with a wrong check octet changes nothing.
     pub fn hear(&mut self, code: &[u8; 13])
-        ensures read { (m : Down) → ReadsDown code.now (mask_value self.old.mask) m → self.new ≡ unit_after self.old (Hears code.now m) }
+        ensures read { (m : Down) → ReadsDown code.now (mask_value self.old.mask) m
+            → self.new ≡ unit_after self.old (Hears code.now m) }
         ensures unread { ¬ HasRightCheck code.now (mask_value self.old.mask) → self.new ≡ self.old }
     {
         if !self.lit {
@@ -285,7 +286,8 @@ impl Unit {
 
     fn handle_alloc(&mut self, onu: u8, prefix: [u8; 9])
         requires { IsTrue self.old.lit }
-        ensures { (code : List ℕ) (alloc : ℕ) (keep : Bool) → prefix ≡ take 9 code → self.new ≡ unit_after self.old (Hears code (Down.AssignAlloc onu alloc keep)) }
+        ensures { (code : List ℕ) (alloc : ℕ) (keep : Bool) → prefix ≡ take 9 code
+            → self.new ≡ unit_after self.old (Hears code (Down.AssignAlloc onu alloc keep)) }
     {
         match self.stage {
             Stage::Operation { onu: own, eqd, .. } if own == onu => {
@@ -322,8 +324,8 @@ impl Unit {
         }
     }
 
-    /// Tells whether a grant asks the unit as it stands. One that doesn't has no answer, after frames that don't end the unit's
-    /// state either.
+    /// Tells whether a grant asks the unit as it stands. One that doesn't has no answer, after frames that don't end
+    /// the unit's state either.
     pub fn may_answer(&self, grant: Grant) -> bool
         ensures value { result ≡ is_asked grant self.now }
         ensures unanswered { result ≡ false → LeavesUnanswered self.now grant }
@@ -334,11 +336,12 @@ impl Unit {
         }
     }
 
-    /// Gives the code of the unit's answer to a grant, if it answers. `random`, at most `MAX_RANDOM_DELAY`, is its random
-    /// delay under a serial number request, in units of 32 bytes; other grants don't look at it.
+    /// Gives the code of the unit's answer to a grant, if it answers. `random`, at most `MAX_RANDOM_DELAY`, is its
+    /// random delay under a serial number request, in units of 32 bytes; other grants don't look at it.
     pub fn grant(&mut self, grant: Grant, random: u16) -> Option<[u8; 13]>
         requires { random ≤ max_random_delay }
-        ensures answer { result ≡ option_map (λ m. code_of_up m (mask_value self.old.mask)) (answer_to self.old (Granted grant random)) }
+        ensures answer { result ≡ option_map (λ m. code_of_up m (mask_value self.old.mask))
+            (answer_to self.old (Granted grant random)) }
         ensures after { self.new ≡ unit_after self.old (Granted grant random) }
     {
         if !self.lit {

@@ -18,7 +18,9 @@ pub record Quarantine : Type 0 where
 
 -- a quarantine is stored as its two parts
 abbrev pub quarantine_code : Coded Quarantine
-quarantine_code = code_by (ℕ × FramesLeft) (coded× coded_ℕ (map.code coded_ℕ coded_ℕ)) (λ q. (q.frames, q.cooling)) (λ p. record { frames = p.0; cooling = p.1 }) (λ _. refl)
+quarantine_code =
+    code_by (ℕ × FramesLeft) (coded× coded_ℕ (map.code coded_ℕ coded_ℕ)) (λ q. (q.frames, q.cooling))
+    (λ p. record { frames = p.0; cooling = p.1 }) (λ _. refl)
 
 -- the entries with a frame less each, without those whose last it was
 abbrev pub entries_after_frame : List (ℕ × ℕ) → List (ℕ × ℕ)
@@ -35,7 +37,8 @@ fresh_quarantine frames = record { frames = frames; cooling = map.empty }
 
 -- a number begins to cool, unless there is no quarantine
 abbrev pub quarantine_with : Quarantine → ℕ → Quarantine
-quarantine_with q number = record q { cooling = if nat_le q.frames 0 then q.cooling else map.insert q.cooling number q.frames }
+quarantine_with q number =
+    record q { cooling = if nat_le q.frames 0 then q.cooling else map.insert q.cooling number q.frames }
 
 -- a frame goes by
 abbrev pub quarantine_after_frame : Quarantine → Quarantine
@@ -51,9 +54,11 @@ left_at leaves now number = (slice_index leaves number + 65536 - now) % 65536
 unfoldable pub cooling_in : ℕ → set.FinSet nat_cmp → List ℕ → ℕ → FramesLeft
 cooling_in zero members leaves now = map.empty
 cooling_in (suc n) members leaves now =
-    if set.contains members n then map.insert (cooling_in n members leaves now) n (left_at leaves now n) else cooling_in n members leaves now
+    if set.contains members n then map.insert (cooling_in n members leaves now) n (left_at leaves now n)
+    else cooling_in n members leaves now
 
--- what each quarantine keeps: members are ONU-IDs with 1 to `frames` frames left, and none leaves before `wait` more frames
+-- what each quarantine keeps: members are ONU-IDs with 1 to `frames` frames left, and none leaves before `wait` more
+-- frames
 pub record IsCool (frames : ℕ) (members : set.FinSet nat_cmp) (leaves : List ℕ) (now wait : ℕ) : Type 0 where
   pub short : frames ≤ max_quarantine
   pub low : (number : ℕ) → IsTrue (set.contains members number) → number ≤ last_onu

@@ -1,5 +1,5 @@
--- The limits of the numbers that a port gives to its units: an Alloc-ID has twelve bits, and those up to 255 are default ones
--- (G.984.3, clauses 8 and 9); the quarantine is this profile's own rule.
+-- The limits of the numbers that a port gives to its units: an Alloc-ID has twelve bits, and those up to 255 are
+-- default ones (G.984.3, clauses 8 and 9); the quarantine is this profile's own rule.
 use Rattle.std.specs.Prelude.{ℕ}
 
 -- the first Alloc-ID that is no default one

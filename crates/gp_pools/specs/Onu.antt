@@ -13,7 +13,9 @@ pub record OnuPool : Type 0 where
 
 -- it is stored as its two parts
 abbrev pub onu_pool_code : Coded OnuPool
-onu_pool_code = code_by (Pool × Quarantine) (coded× pool_code quarantine_code) (λ o. (o.pool, o.quarantine)) (λ p. record { pool = p.0; quarantine = p.1 }) (λ _. refl)
+onu_pool_code =
+    code_by (Pool × Quarantine) (coded× pool_code quarantine_code) (λ o. (o.pool, o.quarantine))
+    (λ p. record { pool = p.0; quarantine = p.1 }) (λ _. refl)
 
 -- nothing is out and nothing cools
 abbrev pub fresh_onu_pool : ℕ → ℕ → OnuPool
@@ -45,7 +47,8 @@ onus_with_lease ids number = record ids { pool = pool_with_lease ids.pool number
 
 -- one leased number given back, which begins to cool
 abbrev pub onus_without_lease : OnuPool → ℕ → OnuPool
-onus_without_lease ids number = record { pool = pool_without_lease ids.pool number; quarantine = quarantine_with ids.quarantine number }
+onus_without_lease ids number =
+    record { pool = pool_without_lease ids.pool number; quarantine = quarantine_with ids.quarantine number }
 
 -- one leased number settled
 abbrev pub onus_with_settled : OnuPool → ℕ → OnuPool

@@ -6,7 +6,8 @@ use Rattle.std.specs.Ordering.{nat_cmp}
 use Rattle.std.specs.FinSet as set
 use Rattle.gp_numbers.specs.Numbers.{IsIn}
 
--- its numbers go from `first` to `last`; those that are leased and those that are settled are out, at most `limit` in all
+-- its numbers go from `first` to `last`; those that are leased and those that are settled are out, at most `limit` in
+-- all
 pub record Pool : Type 0 where
   pub first : ℕ
   pub last : ℕ
@@ -24,7 +25,8 @@ pool_code = code_by (ℕ × (ℕ × (ℕ × (set.FinSet nat_cmp × set.FinSet na
 
 -- the pool of these parts
 abbrev pub pool_of : ℕ → ℕ → ℕ → set.FinSet nat_cmp → set.FinSet nat_cmp → Pool
-pool_of first last limit leased settled = record { first = first; last = last; limit = limit; leased = leased; settled = settled }
+pool_of first last limit leased settled =
+    record { first = first; last = last; limit = limit; leased = leased; settled = settled }
 
 -- a pool with none of its numbers out
 abbrev pub fresh_pool : ℕ → ℕ → ℕ → Pool
@@ -68,14 +70,16 @@ pool_without_lease pool number = record pool { leased = set.remove pool.leased n
 
 -- the pool with one leased number settled
 abbrev pub pool_with_settled : Pool → ℕ → Pool
-pool_with_settled pool number = record pool { leased = set.remove pool.leased number; settled = set.insert pool.settled number }
+pool_with_settled pool number =
+    record pool { leased = set.remove pool.leased number; settled = set.insert pool.settled number }
 
 -- the pool with one settled number leased again
 abbrev pub pool_with_lease_again : Pool → ℕ → Pool
-pool_with_lease_again pool number = record pool { leased = set.insert pool.leased number; settled = set.remove pool.settled number }
+pool_with_lease_again pool number =
+    record pool { leased = set.insert pool.leased number; settled = set.remove pool.settled number }
 
--- what every pool keeps: no number is both leased and settled, only the pool's own numbers are out, and at most its limit
--- are out; the limit is no more than it has numbers
+-- what every pool keeps: no number is both leased and settled, only the pool's own numbers are out, and at most its
+-- limit are out; the limit is no more than it has numbers
 pub record IsSound (pool : Pool) : Type 0 where
   pub apart : (number : ℕ) → IsLeased pool number → IsSettled pool number → ⊥
   pub leased : (number : ℕ) → IsLeased pool number → (pool.first ≤ number) × (number ≤ pool.last)

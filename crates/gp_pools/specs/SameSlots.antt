@@ -32,18 +32,23 @@ both false b p q = p
 below_rising : (k : ℕ) (es : List Entry) → ((i : ℕ) → i < length es → k < number_at es i) → T (below_all nat_cmp k es)
 below_rising k [] h = tt
 below_rising k (e ∷ es) h =
-    subst (λ r. T (is_lt r && below_all nat_cmp k es)) (sym (less k e.0 (h 0 (omega arith)))) (below_rising k es (λ i within. h (suc i) (omega arith)))
+    subst (λ r. T (is_lt r && below_all nat_cmp k es)) (sym (less k e.0 (h 0 (omega arith))))
+    (below_rising k es (λ i within. h (suc i) (omega arith)))
 
 pub sorted_rising : (es : List Entry) → IsRising es → T (fin.is_sorted nat_cmp es)
 sorted_rising [] h = tt
 sorted_rising (e ∷ es) h =
-    both _ _ (below_rising e.0 es (λ i within. h.rising 0 (suc i) (omega arith) (omega arith))) (sorted_rising es (rising_tail e es h))
+    both _ _ (below_rising e.0 es (λ i within. h.rising 0 (suc i) (omega arith) (omega arith)))
+    (sorted_rising es (rising_tail e es h))
 
 pub entries-allocs_of : (es : List Entry) → IsRising es → fin.entries (allocs_of es) ≡ es
 entries-allocs_of es h =
     let sorted = sorted_rising es h in
-    let same : allocs_of es ≡ fin.from_sorted es = fin.same_map nat_cmp_total fin.nat_cmp-IsAntisymmetric (allocs_of es) (fin.from_sorted es) (λ q. fin.get-from_entries nat_cmp_total es q ∙ sym (fin.get-from_sorted nat_cmp es q sorted)) in
+    let same : allocs_of es
+    ≡ fin.from_sorted es = fin.same_map nat_cmp_total fin.nat_cmp-IsAntisymmetric (allocs_of es) (fin.from_sorted es)
+    (λ q. fin.get-from_entries nat_cmp_total es q ∙ sym (fin.get-from_sorted nat_cmp es q sorted)) in
     ap fin.entries same ∙ fin.entries-from_sorted nat_cmp es sorted
 
-pub same_slots : (slots : List (Option Entry)) → AreSlots slots → slots_of (fin.entries (allocs_of (filled slots))) ≡ slots
+pub same_slots : (slots : List (Option Entry)) → AreSlots slots
+    → slots_of (fin.entries (allocs_of (filled slots))) ≡ slots
 same_slots slots h = ap slots_of (entries-allocs_of (filled slots) h.rising) ∙ h.first

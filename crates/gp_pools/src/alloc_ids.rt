@@ -59,7 +59,8 @@ impl Model for AllocIds {
 
     ghost view = { λ ids. ids.pool };
 
-    ghost invariant = { λ ids. (ids.pool.first ≡ first_alloc_id) × (ids.pool.last ≤ last_alloc_id) × (ids.pool.limit ≡ ids.pool.last + 1 - first_alloc_id) };
+    ghost invariant = { λ ids. (ids.pool.first ≡ first_alloc_id) × (ids.pool.last ≤ last_alloc_id)
+        × (ids.pool.limit ≡ ids.pool.last + 1 - first_alloc_id) };
 }
 
 impl AllocIds {
@@ -111,8 +112,8 @@ impl AllocIds {
         self.pool.is_free(number)
     }
 
-    /// Settles an Alloc-ID that is leased from this pool: it stays out, and the plain number stands for it until it is leased
-    /// again.
+    /// Settles an Alloc-ID that is leased from this pool: it stays out, and the plain number stands for it until it
+    /// is leased again.
     pub fn settle(&mut self, lease: AllocLease) -> u16
         requires { IsLeased self.old lease }
         ensures number { result ≡ lease }

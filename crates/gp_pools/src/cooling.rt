@@ -134,12 +134,17 @@ fn sooner(wait: u16, left: u16) -> u16
 
 /// Takes out the members that have no frame left, and answers how many the next one has, or 0 where none stays.
 fn let_out(members: &mut NumberSet<0, 4>, leaves: &[u16; OCTETS], now: u16) -> u16
-    ensures stays { (number : ℕ) → IsTrue (set.contains members.old number) → left_at leaves.now now number ≢ 0 → IsTrue (set.contains members.new number) }
+    ensures stays { (number : ℕ) → IsTrue (set.contains members.old number) → left_at leaves.now now number ≢ 0
+        → IsTrue (set.contains members.new number) }
     ensures were { (number : ℕ) → IsTrue (set.contains members.new number) → IsTrue (set.contains members.old number) }
-    ensures left { (number : ℕ) → number ≤ last_onu → IsTrue (set.contains members.new number) → left_at leaves.now now number ≢ 0 }
-    ensures later { (number : ℕ) → number ≤ last_onu → IsTrue (set.contains members.new number) → result ≤ left_at leaves.now now number }
+    ensures left { (number : ℕ) → number ≤ last_onu → IsTrue (set.contains members.new number)
+        → left_at leaves.now now number ≢ 0 }
+    ensures later { (number : ℕ) → number ≤ last_onu → IsTrue (set.contains members.new number)
+        → result ≤ left_at leaves.now now number }
     ensures awaited { (number : ℕ) → number ≤ last_onu → IsTrue (set.contains members.new number) → 1 ≤ result }
-    ensures soon { (most : ℕ) → ((number : ℕ) → number ≤ last_onu → IsTrue (set.contains members.old number) → left_at leaves.now now number ≤ most) → result ≤ most }
+    ensures soon { (most : ℕ)
+        → ((number : ℕ) → number ≤ last_onu → IsTrue (set.contains members.old number)
+        → left_at leaves.now now number ≤ most) → result ≤ most }
 {
     let mut wait = 0;
     'numbers: for number in 0..u16::from(ONU_IDS) {

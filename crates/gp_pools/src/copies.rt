@@ -5,8 +5,8 @@ use super::alloc_ids::AllocIds;
 use super::onu_ids::OnuIds;
 
 impl OnuIds {
-    /// Makes a second pool with the same ONU-IDs out and cooling. The leases stay those of the first: of the second, only
-    /// settled numbers may be leased again.
+    /// Makes a second pool with the same ONU-IDs out and cooling. The leases stay those of the first: of the second,
+    /// only settled numbers may be leased again.
     pub fn copy(&self) -> OnuIds
         ensures { result ≡ self.now }
     {

@@ -91,7 +91,8 @@ impl<const FIRST: u16, const WORDS: usize> NumberPool<FIRST, WORDS> {
 
     /// Finds the least number that is not out and not barred, where one more may be out.
     pub fn least_free(&self, barred: &NumberSet<FIRST, WORDS>) -> Option<u16>
-        ensures none { IfNone result ((number : ℕ) → IsFree self.now number → set.contains barred.now number ≡ false → HasRoom self.now → ⊥) }
+        ensures none { IfNone result
+            ((number : ℕ) → IsFree self.now number → set.contains barred.now number ≡ false → HasRoom self.now → ⊥) }
         ensures free { IfSome result (IsFree self.now) }
         ensures unbarred { IfSome result (λ number. set.contains barred.now number ≡ false) }
         ensures room { IfSome result (λ _. HasRoom self.now) }

@@ -58,7 +58,8 @@ impl Model for OnuIds {
 
     ghost view = { λ ids. record { pool = ids.pool; quarantine = ids.cooling } };
 
-    ghost invariant = { λ ids. (ids.pool.first ≡ 0) × (ids.pool.last ≡ last_onu) × IsApart (record { pool = ids.pool; quarantine = ids.cooling }) };
+    ghost invariant = { λ ids. (ids.pool.first ≡ 0) × (ids.pool.last ≡ last_onu)
+        × IsApart (record { pool = ids.pool; quarantine = ids.cooling }) };
 }
 
 impl OnuIds {
@@ -123,8 +124,8 @@ impl OnuIds {
         self.cooling.members().contains(u16::from(number))
     }
 
-    /// Tells whether the ONU-ID is one that a unit may get, 0 to 253, is not out and does not cool. `take` may be None all the
-    /// same, where as many as may be are out.
+    /// Tells whether the ONU-ID is one that a unit may get, 0 to 253, is not out and does not cool. `take` may be
+    /// None all the same, where as many as may be are out.
     pub fn is_free(&self, number: u8) -> bool
         ensures free { IsTrue result ↔ IsFreeOnu self.now number }
         ensures sound { IsSound self.now.pool }

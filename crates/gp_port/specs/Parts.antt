@@ -17,7 +17,8 @@ use Rattle.gp_machine.specs.State.{PortState, IsLeastRanging, IsNextPoll, rows_o
 use Rattle.gp_machine.specs.Sound.{IsSound}
 
 -- the state of a port, part by part
-abbrev pub state_with : PortConfig → ActiveState → Common → Bool → ℕ → Option WindowState → List Down → Option ℕ → PortState
+abbrev pub state_with : PortConfig → ActiveState → Common → Bool → ℕ → Option WindowState → List Down → Option ℕ
+    → PortState
 state_with config units common wanted timer window owed polled =
     record {
       config = config;
@@ -39,13 +40,14 @@ pub record IsConfigured (config : PortConfig) (units : ActiveState) : Type 0 whe
   pub alloc_last : units.alloc_last ≡ config.alloc_last
   pub quarantine : units.quarantine ≡ config.quarantine
 
--- what is true of the parts of each port: the unit table is that of its configuration, and each copy that is owed has a code
+-- what is true of the parts of each port: the unit table is that of its configuration, and each copy that is owed has
+-- a code
 pub record IsAssembled (config : PortConfig) (units : ActiveState) (owed : List Down) : Type 0 where
   pub configured : IsConfigured config units
   pub proper : All IsProperDown owed
 
--- what is true of each port with these licences: its configuration is within the limits, it is sound, and it holds one licence
--- for each active unit
+-- what is true of each port with these licences: its configuration is within the limits, it is sound, and it holds
+-- one licence for each active unit
 pub record IsKept (port : PortState) (held : ℕ) : Type 0 where
   pub limits : is_within_limits port.config ≡ true
   pub sound : IsSound port
@@ -63,7 +65,8 @@ pub record KnowSameUnits (units other : ActiveState) : Type 0 where
   pub disabled : units.disabled ≡ other.disabled
   pub cooling : units.cooling ≡ other.cooling
 
--- what is true of each port that follows a history or is kept as an image: its configuration is within the limits, and it is sound
+-- what is true of each port that follows a history or is kept as an image: its configuration is within the limits,
+-- and it is sound
 pub record IsSteady (port : PortState) : Type 0 where
   pub limits : is_within_limits port.config ≡ true
   pub sound : IsSound port
@@ -74,4 +77,5 @@ decides port = is_none port.window && is_none (first_of port.owed)
 
 -- where a frame of this port decides, these are the least ranging unit and the one that is polled next
 abbrev pub AreCandidates : PortState → Option ℕ × Option ℕ → Type 0
-AreCandidates port found = decides port ≡ true → IsLeastRanging port.rows found.0 × IsNextPoll port.rows port.polled found.1
+AreCandidates port found =
+    decides port ≡ true → IsLeastRanging port.rows found.0 × IsNextPoll port.rows port.polled found.1

@@ -25,8 +25,11 @@ impl PortMachine {
         requires sound { IsSound self.old }
         requires last { self.old.config.alloc_last ≤ last_alloc_id }
         ensures free { MayPick self.old (command_response self.old (command.Alloc serial)) (number_in result.0.reply) }
-        ensures wished { PicksWished self.old (command_response self.old (command.Alloc serial)) wished (number_in result.0.reply) }
-        ensures outcome { step_result_of result self.new ≡ step_result_with purse self.old None (command_response self.old (command.Alloc serial)) (number_in result.0.reply) }
+        ensures wished { PicksWished self.old (command_response self.old (command.Alloc serial)) wished
+            (number_in result.0.reply) }
+        ensures outcome { step_result_of result self.new
+            ≡ step_result_with purse self.old None (command_response self.old (command.Alloc serial))
+            (number_in result.0.reply) }
     {
         let Some(known) = self.look_up(&serial) else {
             return (refused(Refusal::NotAdmitted), purse);
@@ -44,7 +47,8 @@ impl PortMachine {
         requires has { HasRow self.old.rows serial row }
         ensures free { MayPick self.old (alloc_response self.old serial row) (number_in result.0.reply) }
         ensures wished { PicksWished self.old (alloc_response self.old serial row) wished (number_in result.0.reply) }
-        ensures outcome { step_result_of result self.new ≡ step_result_with purse self.old None (alloc_response self.old serial row) (number_in result.0.reply) }
+        ensures outcome { step_result_of result self.new
+            ≡ step_result_with purse self.old None (alloc_response self.old serial row) (number_in result.0.reply) }
     {
         if row.phase.is_ranging() {
             return (refused(Refusal::NotOperating), purse);
@@ -80,8 +84,11 @@ impl PortMachine {
     ) -> (Answer, u64)
         requires sound { IsSound self.old }
         requires last { self.old.config.alloc_last ≤ last_alloc_id }
-        ensures free { MayPick self.old (command_response self.old (command.Dealloc serial alloc)) (number_in result.0.reply) }
-        ensures outcome { step_result_of result self.new ≡ step_result_with purse self.old None (command_response self.old (command.Dealloc serial alloc)) (number_in result.0.reply) }
+        ensures free { MayPick self.old (command_response self.old (command.Dealloc serial alloc))
+            (number_in result.0.reply) }
+        ensures outcome { step_result_of result self.new
+            ≡ step_result_with purse self.old None (command_response self.old (command.Dealloc serial alloc))
+            (number_in result.0.reply) }
     {
         let Some(known) = self.look_up(&serial) else {
             return (refused(Refusal::NotAdmitted), purse);
@@ -98,7 +105,9 @@ impl PortMachine {
         requires last { self.old.config.alloc_last ≤ last_alloc_id }
         requires has { HasRow self.old.rows serial row }
         ensures free { MayPick self.old (dealloc_response self.old serial alloc row) (number_in result.0.reply) }
-        ensures outcome { step_result_of result self.new ≡ step_result_with purse self.old None (dealloc_response self.old serial alloc row) (number_in result.0.reply) }
+        ensures outcome { step_result_of result self.new
+            ≡ step_result_with purse self.old None (dealloc_response self.old serial alloc row)
+            (number_in result.0.reply) }
     {
         if row.phase.is_ranging() {
             return (refused(Refusal::NotOperating), purse);

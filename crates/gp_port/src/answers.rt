@@ -6,7 +6,8 @@ use gp_machine::{Answer, Refusal, Reply};
 use gp_ploam::{Down, Serial};
 use gp_ranging::Grant;
 
-/// What a frame gives. An `Answer` has room for a whole row, which no frame gives, so it is made of this once, at the end.
+/// What a frame gives. An `Answer` has room for a whole row, which no frame gives, so it is made of this once, at the
+/// end.
 #[derive(Clone, Copy)]
 pub(super) struct FrameAnswer {
     pub(super) sent: Option<Down>,

@@ -54,7 +54,8 @@ impl PortMachine {
         requires purse { purse < 2 ^ 32 }
         ensures free { MayPick self.old (burst_response purse self.old at heard) (number_given result.0) }
         ensures wished { PicksWished self.old (burst_response purse self.old at heard) wished (number_given result.0) }
-        ensures outcome { burst_result_of result self.new ≡ step_result_with purse self.old None (burst_response purse self.old at heard) (number_given result.0) }
+        ensures outcome { burst_result_of result self.new
+            ≡ step_result_with purse self.old None (burst_response purse self.old at heard) (number_given result.0) }
     {
         let Some(window) = &self.window else {
             return self.refuse(purse, Refusal::Stray);
@@ -73,8 +74,11 @@ impl PortMachine {
     /// Hears a message in the window of a ranging unit: octet 1 has to be its ONU-ID.
     fn in_range(&mut self, purse: u64, at: u32, onu: u8, message: Up) -> (BurstAnswer, u64)
         requires sound { IsSound self.old }
-        ensures free { MayPick self.old (message_response purse self.old at (grant.Range onu) message) (number_given result.0) }
-        ensures outcome { burst_result_of result self.new ≡ step_result_with purse self.old None (message_response purse self.old at (grant.Range onu) message) (number_given result.0) }
+        ensures free { MayPick self.old (message_response purse self.old at (grant.Range onu) message)
+            (number_given result.0) }
+        ensures outcome { burst_result_of result self.new
+            ≡ step_result_with purse self.old None (message_response purse self.old at (grant.Range onu) message)
+            (number_given result.0) }
     {
         match self.unit_with(onu) {
             Some((serial, row)) => {
@@ -93,8 +97,11 @@ impl PortMachine {
         requires purse { purse < 2 ^ 32 }
         requires room { length self.old.owed + copies_each ≤ max_copies }
         requires asked { Operates self.old.rows onu }
-        ensures free { MayPick self.old (message_response purse self.old at (grant.Poll onu) message) (number_given result.0) }
-        ensures outcome { burst_result_of result self.new ≡ step_result_with purse self.old None (message_response purse self.old at (grant.Poll onu) message) (number_given result.0) }
+        ensures free { MayPick self.old (message_response purse self.old at (grant.Poll onu) message)
+            (number_given result.0) }
+        ensures outcome { burst_result_of result self.new
+            ≡ step_result_with purse self.old None (message_response purse self.old at (grant.Poll onu) message)
+            (number_given result.0) }
     {
         match self.unit_with(onu) {
             Some((serial, row)) => {

@@ -30,7 +30,8 @@ impl PortMachine {
         requires purse { purse < 2 ^ 32 }
         ensures free { MayPick self.old (command_response self.old command) (number_in result.0.reply) }
         ensures wished { PicksWished self.old (command_response self.old command) wished (number_in result.0.reply) }
-        ensures outcome { step_result_of result self.new ≡ step_result_with purse self.old None (command_response self.old command) (number_in result.0.reply) }
+        ensures outcome { step_result_of result self.new
+            ≡ step_result_with purse self.old None (command_response self.old command) (number_in result.0.reply) }
     {
         match command {
             Command::Search => self.command_search(purse),
@@ -49,7 +50,9 @@ impl PortMachine {
     /// Carries out the command search.
     fn command_search(&mut self, purse: u64) -> (Answer, u64)
         ensures free { MayPick self.old (command_response self.old command.Search) (number_in result.0.reply) }
-        ensures outcome { step_result_of result self.new ≡ step_result_with purse self.old None (command_response self.old command.Search) (number_in result.0.reply) }
+        ensures outcome { step_result_of result self.new
+            ≡ step_result_with purse self.old None (command_response self.old command.Search)
+            (number_in result.0.reply) }
     {
         if self.wanted || matches!(self.common, Common::Acquisition(_)) {
             return (refused(Refusal::AlreadySearching), purse);
@@ -62,7 +65,9 @@ impl PortMachine {
     fn command_enable_all(&mut self, purse: u64) -> (Answer, u64)
         requires sound { IsSound self.old }
         ensures free { MayPick self.old (command_response self.old command.EnableAll) (number_in result.0.reply) }
-        ensures outcome { step_result_of result self.new ≡ step_result_with purse self.old None (command_response self.old command.EnableAll) (number_in result.0.reply) }
+        ensures outcome { step_result_of result self.new
+            ≡ step_result_with purse self.old None (command_response self.old command.EnableAll)
+            (number_in result.0.reply) }
     {
         if !self.has_room() {
             return (refused(Refusal::Busy), purse);
@@ -77,7 +82,9 @@ impl PortMachine {
         requires sound { IsSound self.old }
         requires units { self.old.config.max_units ≤ onu_ids }
         ensures free { MayPick self.old (command_response self.old command.PopupAll) (number_in result.0.reply) }
-        ensures outcome { step_result_of result self.new ≡ step_result_with purse self.old None (command_response self.old command.PopupAll) (number_in result.0.reply) }
+        ensures outcome { step_result_of result self.new
+            ≡ step_result_with purse self.old None (command_response self.old command.PopupAll)
+            (number_in result.0.reply) }
     {
         if !self.has_room() {
             return (refused(Refusal::Busy), purse);
@@ -90,7 +97,9 @@ impl PortMachine {
     /// Carries out the command show.
     fn command_show(&mut self, purse: u64, serial: Serial) -> (Answer, u64)
         ensures free { MayPick self.old (command_response self.old (command.Show serial)) (number_in result.0.reply) }
-        ensures outcome { step_result_of result self.new ≡ step_result_with purse self.old None (command_response self.old (command.Show serial)) (number_in result.0.reply) }
+        ensures outcome { step_result_of result self.new
+            ≡ step_result_with purse self.old None (command_response self.old (command.Show serial))
+            (number_in result.0.reply) }
     {
         let Some(known) = self.look_up(&serial) else {
             return (refused(Refusal::NotAdmitted), purse);

@@ -117,7 +117,9 @@ pub(super) fn same_window(one: &Option<WindowImage>, other: &Option<WindowImage>
 
 /// Tells whether the same is known of a serial number.
 fn same_unit(units: &ActiveUnits, other: &ActiveUnits, serial: &Serial) -> bool
-    ensures { IsTrue result ↔ ((map.get units.now.rows serial.now ≡ map.get other.now.rows serial.now) × (set.contains units.now.disabled serial.now ≡ set.contains other.now.disabled serial.now)) }
+    ensures { IsTrue result
+        ↔ ((map.get units.now.rows serial.now ≡ map.get other.now.rows serial.now)
+        × (set.contains units.now.disabled serial.now ≡ set.contains other.now.disabled serial.now)) }
 {
     same_row(units.row_of(serial), other.row_of(serial))
         && units.is_disabled(serial) == other.is_disabled(serial)
@@ -137,8 +139,8 @@ fn same_cooling(units: &ActiveUnits, other: &ActiveUnits) -> bool
     true
 }
 
-/// Tells whether both tables have the same units, disabled serial numbers and cooling ONU-IDs, where both admit these serial
-/// numbers. It looks each of them up in both.
+/// Tells whether both tables have the same units, disabled serial numbers and cooling ONU-IDs, where both admit these
+/// serial numbers. It looks each of them up in both.
 pub(super) fn same_units(admitted: &[Serial], units: &ActiveUnits, other: &ActiveUnits) -> bool
     requires one { AreListed admitted.now units.now }
     requires other { AreListed admitted.now other.now }

@@ -15,8 +15,8 @@ use std::alloc::Global;
 use std::marker::Model;
 use std::sync::ledger::Ledger;
 
-/// A port without licences, which follows the entries of a history: it hands out the numbers that they name. It is ended by
-/// `close`.
+/// A port without licences, which follows the entries of a history: it hands out the numbers that they name. It is
+/// ended by `close`.
 pub struct PortFollower {
     machine: PortMachine,
 }
@@ -32,7 +32,8 @@ impl Model for PortFollower {
 
     ghost Value = { PortState };
 
-    ghost coded = { Prim.hlevel (codes, map.code {R = serial_cmp} coded_serial row.the_row.coded, set.code {R = serial_cmp} coded_serial) };
+    ghost coded = { Prim.hlevel
+        (codes, map.code {R = serial_cmp} coded_serial row.the_row.coded, set.code {R = serial_cmp} coded_serial) };
 
     ghost view = { λ f. f.machine };
 
@@ -58,8 +59,8 @@ impl PortFollower {
         Ok(PortFollower { machine })
     }
 
-    /// Makes the step that the entry tells of, and tells whether there is such a step. After a step that there isn't, what the
-    /// port knows is not told. It takes no memory.
+    /// Makes the step that the entry tells of, and tells whether there is such a step. After a step that there isn't,
+    /// what the port knows is not told. It takes no memory.
     pub fn follow(&mut self, entry: &Entry) -> bool
         ensures made { IsTrue result → IsStep self.old entry.now self.new }
         ensures refused { (after : PortState) → result ≡ false → IsStep self.old entry.now after → ⊥ }

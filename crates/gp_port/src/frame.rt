@@ -58,7 +58,9 @@ impl PortMachine {
         requires purse { purse < 2 ^ 32 }
         requires period { self.old.config.search_period ≤ max_search_period }
         ensures free { MayPick (state_begun self.old) (frame_response self.old ranging next) 0 }
-        ensures outcome { frame_result_of result self.new ≡ step_result_with purse (state_begun self.old) (first_of self.old.owed) (frame_response self.old ranging next) 0 }
+        ensures outcome { frame_result_of result self.new
+            ≡ step_result_with purse (state_begun self.old) (first_of self.old.owed)
+            (frame_response self.old ranging next) 0 }
     {
         let quiet = self.owed.len_copies() == 0;
         let sent = self.begin_frame();
@@ -120,8 +122,11 @@ impl PortMachine {
         requires sound { IsSound self.old }
         requires purse { purse < 2 ^ 32 }
         requires window { self.old.window ≡ Some (record { grant = grant; left = left; seen = seen }) }
-        ensures free { MayPick self.old (window_response self.old (record { grant = grant; left = left; seen = seen })) 0 }
-        ensures outcome { frame_result_of result self.new ≡ step_result_with purse self.old sent (window_response self.old (record { grant = grant; left = left; seen = seen })) 0 }
+        ensures free { MayPick self.old
+            (window_response self.old (record { grant = grant; left = left; seen = seen })) 0 }
+        ensures outcome { frame_result_of result self.new
+            ≡ step_result_with purse self.old sent
+            (window_response self.old (record { grant = grant; left = left; seen = seen })) 0 }
     {
         if left > 1 {
             self.count_down();
@@ -159,7 +164,8 @@ impl PortMachine {
     ) -> (FrameAnswer, u64)
         requires idle { length self.old.owed + copies_each ≤ max_copies }
         ensures free { MayPick self.old (decided_response self.old (common, decision)) 0 }
-        ensures outcome { frame_result_of result self.new ≡ step_result_with purse self.old sent (decided_response self.old (common, decision)) 0 }
+        ensures outcome { frame_result_of result self.new
+            ≡ step_result_with purse self.old sent (decided_response self.old (common, decision)) 0 }
     {
         self.enter(common);
         match decision {
@@ -196,7 +202,9 @@ impl PortMachine {
         requires has { HasRow self.old.rows serial row }
         requires room { length self.old.owed + copies_each ≤ max_copies }
         ensures free { MayPick self.old (unranged_response serial row heard (row_unranged row heard row.phase)) 0 }
-        ensures outcome { frame_result_of result self.new ≡ step_result_with purse self.old sent (unranged_response serial row heard (row_unranged row heard row.phase)) 0 }
+        ensures outcome { frame_result_of result self.new
+            ≡ step_result_with purse self.old sent
+            (unranged_response serial row heard (row_unranged row heard row.phase)) 0 }
     {
         let onu = row.onu;
         self.close_window();
@@ -227,8 +235,11 @@ impl PortMachine {
         requires purse { purse < 2 ^ 32 }
         requires has { HasRow self.old.rows serial row }
         requires room { length self.old.owed + copies_each ≤ max_copies }
-        ensures free { MayPick self.old (unpolled_response serial row (poll_ended heard) (alarm_polled row (poll_ended heard))) 0 }
-        ensures outcome { frame_result_of result self.new ≡ step_result_with purse self.old sent (unpolled_response serial row (poll_ended heard) (alarm_polled row (poll_ended heard))) 0 }
+        ensures free { MayPick self.old
+            (unpolled_response serial row (poll_ended heard) (alarm_polled row (poll_ended heard))) 0 }
+        ensures outcome { frame_result_of result self.new
+            ≡ step_result_with purse self.old sent
+            (unpolled_response serial row (poll_ended heard) (alarm_polled row (poll_ended heard))) 0 }
     {
         let onu = row.onu;
         let (counts, alarm) = row.count_poll(ended(heard));

@@ -48,8 +48,8 @@ impl From<QueueFault> for ImageFault {
     }
 }
 
-/// All that a port knew when the image was made, with its configuration. It is made of a port alone, so it is always a state
-/// that a port can be in: sound, with a configuration within the limits.
+/// All that a port knew when the image was made, with its configuration. It is made of a port alone, so it is always
+/// a state that a port can be in: sound, with a configuration within the limits.
 #[derive(Drop)]
 pub struct PortImage {
     pub(super) config: PortConfig,
@@ -73,11 +73,13 @@ impl Model for PortImage {
 
     ghost Value = { PortState };
 
-    ghost coded = { Prim.hlevel (codes, map.code {R = serial_cmp} coded_serial row.the_row.coded, set.code {R = serial_cmp} coded_serial) };
+    ghost coded = { Prim.hlevel
+        (codes, map.code {R = serial_cmp} coded_serial row.the_row.coded, set.code {R = serial_cmp} coded_serial) };
 
     ghost view = { λ c. state_with c.config c.units c.common c.wanted c.timer c.window c.owed c.polled };
 
-    ghost invariant = { λ c. IsAssembled c.config c.units c.owed × IsSteady (state_with c.config c.units c.common c.wanted c.timer c.window c.owed c.polled) };
+    ghost invariant = { λ c. IsAssembled c.config c.units c.owed
+        × IsSteady (state_with c.config c.units c.common c.wanted c.timer c.window c.owed c.polled) };
 }
 
 impl PortImage {
@@ -129,8 +131,8 @@ impl PortImage {
         self.units.row_of(serial)
     }
 
-    /// Gives the unit that had this ONU-ID, with what the port knew of it. Each active unit had one of 0 to 253, so these give
-    /// all of them, one after the other.
+    /// Gives the unit that had this ONU-ID, with what the port knew of it. Each active unit had one of 0 to 253, so
+    /// these give all of them, one after the other.
     pub fn unit_with(&self, onu: u8) -> Option<(Serial, Row)>
         ensures unit { result ≡ unit_with self.now.rows onu }
         ensures none { IfNone result ((serial : Serial) (row : Row) → HasRow self.now.rows serial row → row.onu ≢ onu) }
@@ -224,7 +226,8 @@ impl PortImage {
 
     /// Tells what the port knew besides its units, its window and the copies that it owed.
     pub(super) fn marks(&self) -> Marks
-        ensures { result ≡ record { common = self.now.common; wanted = self.now.wanted; timer = self.now.timer; polled = self.now.polled } }
+        ensures { result ≡ record
+            { common = self.now.common; wanted = self.now.wanted; timer = self.now.timer; polled = self.now.polled } }
     {
         Marks {
             common: self.common,
@@ -319,7 +322,8 @@ impl PortMachine {
 
     /// Tells what the port knows besides its units, its window and the copies that it owes.
     fn marks(&self) -> Marks
-        ensures { result ≡ record { common = self.now.common; wanted = self.now.wanted; timer = self.now.timer; polled = self.now.polled } }
+        ensures { result ≡ record
+            { common = self.now.common; wanted = self.now.wanted; timer = self.now.timer; polled = self.now.polled } }
     {
         Marks {
             common: self.common,

@@ -5,14 +5,15 @@
 //! - `frame.rt`, `burst.rt`, `search_window.rt`, `range_window.rt`, `poll_window.rt`, `command.rt`, `unit_command.rt`,
 //!   `alloc_command.rt`: a method for each table of `gp_machine`, whose clause is that table.
 //! - `answers.rt`: what a frame and a burst give, small enough to hand up; an `Answer` is made of it once.
-//! - `port_core.rt`: `PortCore`, a `PortMachine` with one licence for each active unit. Its `step` carries the promises.
-//! - `image.rt`: `PortImage`, what a port knows as plain data, and the machine made of it again; `comparing.rt`: when two ports
-//!   know the same.
+//! - `port_core.rt`: `PortCore`, a `PortMachine` with one licence for each active unit. Its `step` carries the
+//!   promises.
+//! - `image.rt`: `PortImage`, what a port knows as plain data, and the machine made of it again; `comparing.rt`: when
+//!   two ports know the same.
 //! - `follower.rt`: `PortFollower`, a `PortMachine` without licences that follows the entries of a history.
 //! - `octets.rt`: octets of any length as a burst. `open.rt`: why a port is not opened.
 //!
-//! A changed rule is changed in its table in `gp_machine` and in the method of the same name here; another representation
-//! of the units, in `gp_table`.
+//! A changed rule is changed in its table in `gp_machine` and in the method of the same name here; another
+//! representation of the units, in `gp_table`.
 #![tactic(auto)]
 
 mod alloc_command;

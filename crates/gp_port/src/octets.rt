@@ -4,9 +4,9 @@ ghost use Rattle.gp_machine.specs.declared.event.Event.TheVariants as event;
 use gp_machine::Event;
 use gp_ploam::PloamFault;
 
-/// Makes the event of a burst of these octets, which arrives after this whole round-trip delay in bit times. `Length` where
-/// there are not thirteen octets, and no other fault: a wrong check octet is heard by the port, as Garbled. It takes no
-/// memory.
+/// Makes the event of a burst of these octets, which arrives after this whole round-trip delay in bit times. `Length`
+/// where there are not thirteen octets, and no other fault: a wrong check octet is heard by the port, as Garbled. It
+/// takes no memory.
 pub fn burst_of(at: u32, bytes: &[u8]) -> Result<Event, PloamFault>
     ensures burst { IfOk result (λ made. made ≡ event.Burst at bytes.now) }
     ensures length { IsErrOf result PloamFault.Length ↔ (length bytes.now ≢ 13) }

@@ -29,7 +29,8 @@ impl PortMachine {
         requires room { length self.old.owed + copies_each ≤ max_copies }
         requires operating { is_ranging row.phase ≡ false }
         ensures free { MayPick self.old (operating_response serial row message) (number_given result.0) }
-        ensures outcome { burst_result_of result self.new ≡ step_result_with purse self.old None (operating_response serial row message) (number_given result.0) }
+        ensures outcome { burst_result_of result self.new
+            ≡ step_result_with purse self.old None (operating_response serial row message) (number_given result.0) }
     {
         match message {
             Up::Acknowledge { id, .. } if id == ASSIGN_ALLOC_ID => {
@@ -54,7 +55,9 @@ impl PortMachine {
         requires room { length self.old.owed + copies_each ≤ max_copies }
         requires operating { is_ranging row.phase ≡ false }
         ensures free { MayPick self.old (acknowledged_response serial row row.pending) (number_given result.0) }
-        ensures outcome { burst_result_of result self.new ≡ step_result_with purse self.old None (acknowledged_response serial row row.pending) (number_given result.0) }
+        ensures outcome { burst_result_of result self.new
+            ≡ step_result_with purse self.old None (acknowledged_response serial row row.pending)
+            (number_given result.0) }
     {
         let Some(alloc) = row.pending else {
             return self.alive(purse, serial, row);
@@ -70,8 +73,11 @@ impl PortMachine {
         requires purse { purse < 2 ^ 32 }
         requires has { HasRow self.old.rows serial row }
         requires room { length self.old.owed + copies_each ≤ max_copies }
-        ensures free { MayPick self.old (alive_response serial row (alarm_polled row poll.Good)) (number_given result.0) }
-        ensures outcome { burst_result_of result self.new ≡ step_result_with purse self.old None (alive_response serial row (alarm_polled row poll.Good)) (number_given result.0) }
+        ensures free { MayPick self.old (alive_response serial row (alarm_polled row poll.Good))
+            (number_given result.0) }
+        ensures outcome { burst_result_of result self.new
+            ≡ step_result_with purse self.old None (alive_response serial row (alarm_polled row poll.Good))
+            (number_given result.0) }
     {
         let onu = row.onu;
         let (counts, alarm) = row.count_poll(Outcome::Good);

@@ -52,7 +52,8 @@ impl<L: Ledger> Model for PortCore<L> {
 
     ghost Value = { PortState };
 
-    ghost coded = { Prim.hlevel (codes, map.code {R = serial_cmp} coded_serial row.the_row.coded, set.code {R = serial_cmp} coded_serial) };
+    ghost coded = { Prim.hlevel
+        (codes, map.code {R = serial_cmp} coded_serial row.the_row.coded, set.code {R = serial_cmp} coded_serial) };
 
     ghost view = { λ c. c.machine };
 
@@ -74,16 +75,21 @@ impl<L: Ledger> PortCore<L> {
     }
 
     /// Makes one step of the machine with these licences at hand: a new unit takes one of them, and a unit that is
-    /// removed gives its one back. What is left of them is given back. It takes no memory. Which of the free numbers a new
-    /// unit or a command gets is not promised. A burst's delay and an equalization delay in the answer are in bit times.
+    /// removed gives its one back. What is left of them is given back. It takes no memory. Which of the free numbers
+    /// a new unit or a command gets is not promised. A burst's delay and an equalization delay in the answer are in
+    /// bit times.
     // Inlined, so that the answer is copied to where the caller wants it.
     #[inline(always)]
     pub fn step(&mut self, purse: Licences<L>, event: Event) -> (Answer, Licences<L>)
         ensures step { Step purse self.old event (step_result_of result self.new) }
         ensures sound { IsSound self.new }
         ensures licences { result.1 + rows_of self.new ≡ purse + rows_of self.old }
-        ensures sends { (messages : List Down) × StepOwing purse self.old event (step_result_of result self.new) messages × (option_to_list result.0.sent ++ self.new.owed ≡ self.old.owed ++ three_times messages) }
-        ensures refused { (refusal : Refusal) → result.0.reply ≡ Refused refusal → step_result_of result self.new ≡ record { answer = bare_answer (Refused refusal); purse = purse; state = state_refused self.old event } }
+        ensures sends { (messages : List Down)
+            × StepOwing purse self.old event (step_result_of result self.new) messages
+            × (option_to_list result.0.sent ++ self.new.owed ≡ self.old.owed ++ three_times messages) }
+        ensures refused { (refusal : Refusal) → result.0.reply ≡ Refused refusal
+            → step_result_of result self.new
+            ≡ record { answer = bare_answer (Refused refusal); purse = purse; state = state_refused self.old event } }
         ensures proper { ForSome result.0.sent IsProperDown }
     {
         self.step_wishing(purse, event, None)
@@ -100,8 +106,12 @@ impl<L: Ledger> PortCore<L> {
         ensures step { Step purse self.old event (step_result_of result self.new) }
         ensures sound { IsSound self.new }
         ensures licences { result.1 + rows_of self.new ≡ purse + rows_of self.old }
-        ensures sends { (messages : List Down) × StepOwing purse self.old event (step_result_of result self.new) messages × (option_to_list result.0.sent ++ self.new.owed ≡ self.old.owed ++ three_times messages) }
-        ensures refused { (refusal : Refusal) → result.0.reply ≡ Refused refusal → step_result_of result self.new ≡ record { answer = bare_answer (Refused refusal); purse = purse; state = state_refused self.old event } }
+        ensures sends { (messages : List Down)
+            × StepOwing purse self.old event (step_result_of result self.new) messages
+            × (option_to_list result.0.sent ++ self.new.owed ≡ self.old.owed ++ three_times messages) }
+        ensures refused { (refusal : Refusal) → result.0.reply ≡ Refused refusal
+            → step_result_of result self.new
+            ≡ record { answer = bare_answer (Refused refusal); purse = purse; state = state_refused self.old event } }
         ensures proper { ForSome result.0.sent IsProperDown }
         ensures wished { GrantsWish purse self.old event wished (step_result_of result self.new) }
     {

@@ -29,8 +29,8 @@ use gp_volley::{COPIES, MAX_COPIES_WITH_ROOM, VolleyQueue};
 use std::alloc::Global;
 use std::marker::Model;
 
-/// The activation machine of one port without its licences: each call is told how many licences are at hand, and tells how
-/// many are left. Contracts see the state of the machine; nothing is said of its soundness here.
+/// The activation machine of one port without its licences: each call is told how many licences are at hand, and
+/// tells how many are left. Contracts see the state of the machine; nothing is said of its soundness here.
 pub struct PortMachine {
     pub(super) config: PortConfig,
     pub(super) units: ActiveUnits,
@@ -53,7 +53,8 @@ impl Model for PortMachine {
 
     ghost Value = { PortState };
 
-    ghost coded = { Prim.hlevel (codes, map.code {R = serial_cmp} coded_serial row.the_row.coded, set.code {R = serial_cmp} coded_serial) };
+    ghost coded = { Prim.hlevel
+        (codes, map.code {R = serial_cmp} coded_serial row.the_row.coded, set.code {R = serial_cmp} coded_serial) };
 
     ghost view = { λ c. state_with c.config c.units c.common c.wanted c.timer c.window c.owed c.polled };
 
@@ -61,8 +62,8 @@ impl Model for PortMachine {
 }
 
 impl PortMachine {
-    /// Opens a port with no units, in standby. All the memory that it ever needs is taken here: for a copy of the config,
-    /// 254 units and 64 messages. `OpenFault` says when it is not opened.
+    /// Opens a port with no units, in standby. All the memory that it ever needs is taken here: for a copy of the
+    /// config, 254 units and 64 messages. `OpenFault` says when it is not opened.
     pub fn begin(alloc: Global, config: &PortConfig) -> Result<PortMachine, OpenFault>
         ensures opening { IfOk result (λ port. port ≡ opening_of config.now) }
         ensures within { IfOk result (λ _. is_within_limits config.now ≡ true) }
@@ -152,8 +153,8 @@ impl PortMachine {
         owed.close();
     }
 
-    /// Makes one step of the machine with so many licences at hand, which leaves room for one more; a number that it hands out
-    /// is the wished one, where that is free. It takes no memory.
+    /// Makes one step of the machine with so many licences at hand, which leaves room for one more; a number that it
+    /// hands out is the wished one, where that is free. It takes no memory.
     pub fn step(&mut self, purse: u64, event: Event, wished: Option<u16>) -> (Answer, u64)
         requires limits { is_within_limits self.old.config ≡ true }
         requires sound { IsSound self.old }
@@ -228,17 +229,20 @@ impl PortMachine {
     pub(super) fn free_onu(&self, wished: Option<u16>) -> Option<u8>
         ensures told { is_some result ≡ has_free_onu self.now }
         ensures free { IfSome result (IsFree self.now) }
-        ensures wished { IfSome result (λ onu. (number : ℕ) → wished ≡ Some number → IsFree self.now number → onu ≡ number) }
+        ensures wished { IfSome result
+            (λ onu. (number : ℕ) → wished ≡ Some number → IsFree self.now number → onu ≡ number) }
     {
         tells_free_numbers();
         self.units.free_onu(octet_of(wished))
     }
 
-    /// Finds a further Alloc-ID for a unit: the wished one where it is free, else any free one. None where none is free.
+    /// Finds a further Alloc-ID for a unit: the wished one where it is free, else any free one. None where none is
+    /// free.
     pub(super) fn free_alloc(&self, wished: Option<u16>) -> Option<u16>
         ensures told { is_some result ≡ has_free_alloc self.now }
         ensures free { IfSome result (IsFreeAlloc self.now) }
-        ensures wished { IfSome result (λ alloc. (number : ℕ) → wished ≡ Some number → IsFreeAlloc self.now number → alloc ≡ number) }
+        ensures wished { IfSome result
+            (λ alloc. (number : ℕ) → wished ≡ Some number → IsFreeAlloc self.now number → alloc ≡ number) }
     {
         tells_free_numbers();
         self.units.free_alloc(wished)

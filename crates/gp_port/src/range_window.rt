@@ -26,7 +26,9 @@ impl PortMachine {
         requires sound { IsSound self.old }
         requires has { HasRow self.old.rows serial row }
         ensures free { MayPick self.old (ranging_response self.old at serial row message) (number_given result.0) }
-        ensures outcome { burst_result_of result self.new ≡ step_result_with purse self.old None (ranging_response self.old at serial row message) (number_given result.0) }
+        ensures outcome { burst_result_of result self.new
+            ≡ step_result_with purse self.old None (ranging_response self.old at serial row message)
+            (number_given result.0) }
     {
         let onu = row.onu;
         match message {
@@ -51,8 +53,13 @@ impl PortMachine {
     fn measured(&mut self, purse: u64, at: u32, serial: Serial, row: Row) -> (BurstAnswer, u64)
         requires sound { IsSound self.old }
         requires has { HasRow self.old.rows serial row }
-        ensures free { MayPick self.old (measured_response self.old serial row (equalization_delay self.old.config.teqd at)) (number_given result.0) }
-        ensures outcome { burst_result_of result self.new ≡ step_result_with purse self.old None (measured_response self.old serial row (equalization_delay self.old.config.teqd at)) (number_given result.0) }
+        ensures free { MayPick self.old
+            (measured_response self.old serial row (equalization_delay self.old.config.teqd at))
+            (number_given result.0) }
+        ensures outcome { burst_result_of result self.new
+            ≡ step_result_with purse self.old None
+            (measured_response self.old serial row (equalization_delay self.old.config.teqd at))
+            (number_given result.0) }
     {
         let onu = row.onu;
         let Some(eqd) = equalize(self.config.teqd, at) else {

@@ -22,7 +22,8 @@ impl PortMachine {
     /// Refuses a burst: the window has seen it, and nothing else changes.
     pub(super) fn refuse(&mut self, purse: u64, refusal: Refusal) -> (BurstAnswer, u64)
         ensures free { MayPick self.old (refuses_burst refusal) (number_given result.0) }
-        ensures outcome { burst_result_of result self.new ≡ step_result_with purse self.old None (refuses_burst refusal) (number_given result.0) }
+        ensures outcome { burst_result_of result self.new
+            ≡ step_result_with purse self.old None (refuses_burst refusal) (number_given result.0) }
     {
         self.mark_seen();
         (replies(BurstReply::Refused(refusal)), purse)
@@ -40,7 +41,8 @@ impl PortMachine {
         requires purse { purse < 2 ^ 32 }
         ensures free { MayPick self.old (search_response purse self.old message) (number_given result.0) }
         ensures wished { PicksWished self.old (search_response purse self.old message) wished (number_given result.0) }
-        ensures outcome { burst_result_of result self.new ≡ step_result_with purse self.old None (search_response purse self.old message) (number_given result.0) }
+        ensures outcome { burst_result_of result self.new
+            ≡ step_result_with purse self.old None (search_response purse self.old message) (number_given result.0) }
     {
         let Up::SerialNumber { onu, serial, .. } = message else {
             return self.refuse(purse, Refusal::WrongWindow);
@@ -70,7 +72,8 @@ impl PortMachine {
         requires row { known.row ≡ map.get self.old.rows serial }
         ensures free { MayPick self.old (admitted_response purse self.old serial) (number_given result.0) }
         ensures wished { PicksWished self.old (admitted_response purse self.old serial) wished (number_given result.0) }
-        ensures outcome { burst_result_of result self.new ≡ step_result_with purse self.old None (admitted_response purse self.old serial) (number_given result.0) }
+        ensures outcome { burst_result_of result self.new
+            ≡ step_result_with purse self.old None (admitted_response purse self.old serial) (number_given result.0) }
     {
         if known.disabled {
             return (
@@ -92,7 +95,8 @@ impl PortMachine {
         requires unknown { map.get self.old.rows serial ≡ None }
         ensures free { MayPick self.old (newcomer_response purse self.old serial) (number_given result.0) }
         ensures wished { PicksWished self.old (newcomer_response purse self.old serial) wished (number_given result.0) }
-        ensures outcome { burst_result_of result self.new ≡ step_result_with purse self.old None (newcomer_response purse self.old serial) (number_given result.0) }
+        ensures outcome { burst_result_of result self.new
+            ≡ step_result_with purse self.old None (newcomer_response purse self.old serial) (number_given result.0) }
     {
         let Some(onu) = self.free_onu(wished) else {
             return self.refuse(purse, Refusal::NoId);
@@ -114,7 +118,9 @@ impl PortMachine {
         requires purse { purse < 2 ^ 32 }
         requires has { HasRow self.old.rows serial row }
         ensures free { MayPick self.old (active_response self.old serial row.onu row.phase) (number_given result.0) }
-        ensures outcome { burst_result_of result self.new ≡ step_result_with purse self.old None (active_response self.old serial row.onu row.phase) (number_given result.0) }
+        ensures outcome { burst_result_of result self.new
+            ≡ step_result_with purse self.old None (active_response self.old serial row.onu row.phase)
+            (number_given result.0) }
     {
         let onu = row.onu;
         match row.phase {
@@ -135,7 +141,8 @@ impl PortMachine {
         requires sound { IsSound self.old }
         requires has { HasRow self.old.rows serial row }
         ensures free { MayPick self.old (again_response self.old serial row.onu) (number_given result.0) }
-        ensures outcome { burst_result_of result self.new ≡ step_result_with purse self.old None (again_response self.old serial row.onu) (number_given result.0) }
+        ensures outcome { burst_result_of result self.new
+            ≡ step_result_with purse self.old None (again_response self.old serial row.onu) (number_given result.0) }
     {
         let onu = row.onu;
         if self.owes_assign(onu, serial) {

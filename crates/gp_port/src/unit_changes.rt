@@ -89,7 +89,8 @@ impl PortMachine {
 
     /// Removes the unit with this ONU-ID: a window that asks it closes, its Alloc-IDs are free, and its ONU-ID cools.
     pub(super) fn remove_unit(&mut self, serial: &Serial, onu: u8)
-        requires { (row : Row) × HasRow self.old.rows serial.now row × (row.onu ≡ onu) × IsSoundRow self.old.config.alloc_last row }
+        requires { (row : Row) × HasRow self.old.rows serial.now row × (row.onu ≡ onu)
+            × IsSoundRow self.old.config.alloc_last row }
         ensures { self.new ≡ spec.state_without self.old serial.now onu }
     {
         self.units.remove(serial);

@@ -18,8 +18,11 @@ impl PortMachine {
     pub(super) fn command_deactivate(&mut self, purse: u64, serial: Serial) -> (Answer, u64)
         requires sound { IsSound self.old }
         requires purse { purse < 2 ^ 32 }
-        ensures free { MayPick self.old (command_response self.old (command.Deactivate serial)) (number_in result.0.reply) }
-        ensures outcome { step_result_of result self.new ≡ step_result_with purse self.old None (command_response self.old (command.Deactivate serial)) (number_in result.0.reply) }
+        ensures free { MayPick self.old (command_response self.old (command.Deactivate serial))
+            (number_in result.0.reply) }
+        ensures outcome { step_result_of result self.new
+            ≡ step_result_with purse self.old None (command_response self.old (command.Deactivate serial))
+            (number_in result.0.reply) }
     {
         let Some(known) = self.look_up(&serial) else {
             return (refused(Refusal::NotAdmitted), purse);
@@ -36,7 +39,9 @@ impl PortMachine {
         requires purse { purse < 2 ^ 32 }
         requires has { HasRow self.old.rows serial row }
         ensures free { MayPick self.old (deactivate_response self.old serial row) (number_in result.0.reply) }
-        ensures outcome { step_result_of result self.new ≡ step_result_with purse self.old None (deactivate_response self.old serial row) (number_in result.0.reply) }
+        ensures outcome { step_result_of result self.new
+            ≡ step_result_with purse self.old None (deactivate_response self.old serial row)
+            (number_in result.0.reply) }
     {
         if !self.has_room() {
             return (refused(Refusal::Busy), purse);
@@ -51,8 +56,11 @@ impl PortMachine {
     pub(super) fn command_disable(&mut self, purse: u64, serial: Serial) -> (Answer, u64)
         requires sound { IsSound self.old }
         requires purse { purse < 2 ^ 32 }
-        ensures free { MayPick self.old (command_response self.old (command.Disable serial)) (number_in result.0.reply) }
-        ensures outcome { step_result_of result self.new ≡ step_result_with purse self.old None (command_response self.old (command.Disable serial)) (number_in result.0.reply) }
+        ensures free { MayPick self.old (command_response self.old (command.Disable serial))
+            (number_in result.0.reply) }
+        ensures outcome { step_result_of result self.new
+            ≡ step_result_with purse self.old None (command_response self.old (command.Disable serial))
+            (number_in result.0.reply) }
     {
         let Some(known) = self.look_up(&serial) else {
             return (refused(Refusal::NotAdmitted), purse);
@@ -76,7 +84,9 @@ impl PortMachine {
     pub(super) fn command_enable(&mut self, purse: u64, serial: Serial) -> (Answer, u64)
         requires sound { IsSound self.old }
         ensures free { MayPick self.old (command_response self.old (command.Enable serial)) (number_in result.0.reply) }
-        ensures outcome { step_result_of result self.new ≡ step_result_with purse self.old None (command_response self.old (command.Enable serial)) (number_in result.0.reply) }
+        ensures outcome { step_result_of result self.new
+            ≡ step_result_with purse self.old None (command_response self.old (command.Enable serial))
+            (number_in result.0.reply) }
     {
         if self.look_up(&serial).is_none() {
             return (refused(Refusal::NotAdmitted), purse);
@@ -93,7 +103,9 @@ impl PortMachine {
     pub(super) fn command_popup(&mut self, purse: u64, serial: Serial) -> (Answer, u64)
         requires sound { IsSound self.old }
         ensures free { MayPick self.old (command_response self.old (command.Popup serial)) (number_in result.0.reply) }
-        ensures outcome { step_result_of result self.new ≡ step_result_with purse self.old None (command_response self.old (command.Popup serial)) (number_in result.0.reply) }
+        ensures outcome { step_result_of result self.new
+            ≡ step_result_with purse self.old None (command_response self.old (command.Popup serial))
+            (number_in result.0.reply) }
     {
         let Some(known) = self.look_up(&serial) else {
             return (refused(Refusal::NotAdmitted), purse);
@@ -108,7 +120,8 @@ impl PortMachine {
     fn popup(&mut self, purse: u64, row: Row) -> (Answer, u64)
         requires sound { IsSound self.old }
         ensures free { MayPick self.old (popup_response self.old row) (number_in result.0.reply) }
-        ensures outcome { step_result_of result self.new ≡ step_result_with purse self.old None (popup_response self.old row) (number_in result.0.reply) }
+        ensures outcome { step_result_of result self.new
+            ≡ step_result_with purse self.old None (popup_response self.old row) (number_in result.0.reply) }
     {
         if row.phase.is_ranging() {
             return (refused(Refusal::NotOperating), purse);

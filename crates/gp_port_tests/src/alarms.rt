@@ -7,8 +7,8 @@ use std::process::Abort;
 /// Dark, garbled and waiting windows.
 type Counts = [u8; 3];
 
-/// Poll windows that end so one after the other, with an Alloc-ID pending or not: what was counted before them and after, and
-/// the first alarm, with the number of windows that had ended by then.
+/// Poll windows that end so one after the other, with an Alloc-ID pending or not: what was counted before them and
+/// after, and the first alarm, with the number of windows that had ended by then.
 type Row = (
     Counts,
     &'static [Outcome],

@@ -5,8 +5,8 @@ use gp_licence::{LicenceBook, Licences, MAX_LICENCES};
 use std::marker::Brand;
 use std::sync::ledger::{Blank, Ledger};
 
-/// Takes three licences of two, one after the other, and gives one back: how many were held after the first and the second,
-/// how many came third, how many are free in the end, and how many the book had when it was closed.
+/// Takes three licences of two, one after the other, and gives one back: how many were held after the first and the
+/// second, how many came third, how many are free in the end, and how many the book had when it was closed.
 fn take_and_give_two<L: Ledger>(blank: Blank) -> [u32; 5]
     requires name { blank.name ≡ L.name }
     requires parts { (blank.parts ≡ L.parts) × (L.parts ≡ MAX_LICENCES) }

@@ -88,7 +88,8 @@ fn under_coset(plain: [u8; 13]) -> [u8; 13] {
     coset
 }
 
-/// Tells whether a proper message has this code under either mask, is read from it, and isn't read under the wrong mask.
+/// Tells whether a proper message has this code under either mask, is read from it, and isn't read under the wrong
+/// mask.
 fn told_of(number: u128, message: &Down) -> [bool; 5] {
     if !is_proper(message) {
         return [false; 5];

@@ -61,8 +61,8 @@ fn each_onu_id_in_turn(rt: HostRuntime) {
     assert_eq!(rt; (wrong, next), (None, None));
 }
 
-/// Settles the Alloc-IDs up to an end, each after it was passed through, and gives the first number that didn't come in its
-/// turn.
+/// Settles the Alloc-IDs up to an end, each after it was passed through, and gives the first number that didn't come
+/// in its turn.
 fn first_alloc_id_out_of_turn(ids: &mut AllocIds, end: u16) -> Option<u16> {
     for number in 256..end {
         let come = (
@@ -90,7 +90,8 @@ fn each_alloc_id_in_turn(rt: HostRuntime) {
     }
 }
 
-/// Tells what becomes of the ONU-ID 0, which A gave back: B gets a number, the frames pass in which 0 cools, and C gets a number.
+/// Tells what becomes of the ONU-ID 0, which A gave back: B gets a number, the frames pass in which 0 cools, and C
+/// gets a number.
 fn after_a_gave_0_back(quarantine: u16) -> (Option<u8>, u16, Option<u8>)
     requires { quarantine ≤ 8000 }
 {

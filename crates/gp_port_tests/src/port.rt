@@ -1,6 +1,6 @@
-//! What no clause says: a port used by hand, its fault texts, memory that is refused, and octets of each length. `lines.rt` plays
-//! a port by lines, which are in `parts.rt`; `worked.rt` and `images.rt` play runs so. More worked runs stand as scripts with their traces in
-//! `olt_examples`.
+//! What no clause says: a port used by hand, its fault texts, memory that is refused, and octets of each length.
+//! `lines.rt` plays a port by lines, which are in `parts.rt`; `worked.rt` and `images.rt` play runs so. More worked
+//! runs stand as scripts with their traces in `olt_examples`.
 ghost use Rattle.std.specs.Prelude.{◌≡◌};
 
 mod images;

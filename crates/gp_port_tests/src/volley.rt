@@ -22,8 +22,8 @@ struct Ends {
     owes: [bool; 2],
 }
 
-/// Looks at both ends of a queue that owed 189 copies and is filled: the last ones, and then the first ones after one message
-/// and a copy were sent.
+/// Looks at both ends of a queue that owed 189 copies and is filled: the last ones, and then the first ones after one
+/// message and a copy were sent.
 fn ends_of(queue: &mut VolleyQueue) -> Ends {
     if queue.len_copies() == 189 {
         queue.owe(Down::NoMessage);

@@ -164,8 +164,8 @@ fn decoded(
     Ok((outcome, sink.into_inner()))
 }
 
-/// Where an allocation was made to fail it is told, and nothing is written; else each line is as it should be. What the test
-/// takes for itself may be refused too, and then nothing was decoded.
+/// Where an allocation was made to fail it is told, and nothing is written; else each line is as it should be. What
+/// the test takes for itself may be refused too, and then nothing was decoded.
 #[test]
 fn memory_short_or_ample(rt: HostRuntime) {
     for (text, upstream, mask, line) in LINES {

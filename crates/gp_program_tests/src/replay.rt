@@ -243,8 +243,8 @@ fn scripts(rt: HostRuntime) {
     }
 }
 
-/// Where an allocation was made to fail it is told, and the lines that were done by then are written; else each trace is as it
-/// should be. What the test takes for itself may be refused too, and then nothing was replayed.
+/// Where an allocation was made to fail it is told, and the lines that were done by then are written; else each trace
+/// is as it should be. What the test takes for itself may be refused too, and then nothing was replayed.
 #[test]
 fn memory_short_or_ample(rt: HostRuntime) {
     for row in &SCRIPTS[..4] {
@@ -339,12 +339,21 @@ fn a_second_read_that_fails(rt: HostRuntime) {
 #[test]
 fn texts_of_faults(rt: HostRuntime) -> Result<(), AllocError> {
     for (fault, wanted) in [
-        (RunFault::Read, "a read failed, or the input took too many reads"),
+        (
+            RunFault::Read,
+            "a read failed, or the input took too many reads",
+        ),
         (RunFault::TooLong, "the input is too long"),
-        (RunFault::Script(ScriptFault::Hex), "the input is no script: 5 hex"),
+        (
+            RunFault::Script(ScriptFault::Hex),
+            "the input is no script: 5 hex",
+        ),
         (RunFault::OutOfMemory, "out of memory"),
         (RunFault::Write, "a write failed or took nothing"),
-        (RunFault::Mismatch, "a thread was not started, or what the threads were told does not agree"),
+        (
+            RunFault::Mismatch,
+            "a thread was not started, or what the threads were told does not agree",
+        ),
         (RunFault::JournalFull, "the journal of a port is full"),
     ] {
         assert!(rt; format!(in rt.alloc(); "{fault}")?.as_str() == wanted);

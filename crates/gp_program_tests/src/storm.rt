@@ -176,8 +176,8 @@ fn storm_totals(rt: HostRuntime) {
     }
 }
 
-/// Where an allocation was made to fail it is told, or that a thread was not started, and nothing is written. What the test takes
-/// for itself may be refused too, and then there was no storm.
+/// Where an allocation was made to fail it is told, or that a thread was not started, and nothing is written. What
+/// the test takes for itself may be refused too, and then there was no storm.
 #[test]
 fn memory_short_or_ample(rt: HostRuntime) {
     let Ok((outcome, written)) = storm_of(&rt, rt.alloc(), TWO_PORTS.as_bytes()) else {

@@ -89,8 +89,8 @@ fn read<R: Read>(
     Ok((bytes.len(), bytes.starts_with(start)))
 }
 
-// The eight octets take eight reads, the end one more; a tenth read is made by another call alone. A source with a failed read gives
-// nothing more.
+// The eight octets take eight reads, the end one more; a tenth read is made by another call alone. A source with a
+// failed read gives nothing more.
 #[test]
 fn each_read_fails_in_turn(rt: HostRuntime) {
     for fails_at in 0..12 {
@@ -122,8 +122,8 @@ fn longest_input(rt: HostRuntime) {
     }
 }
 
-// The first input is too long after 1,048,577 reads of an octet. That leaves 1,048,575, the last of which finds the end, or
-// none where an octet more comes; an endless source has no bound.
+// The first input is too long after 1,048,577 reads of an octet. That leaves 1,048,575, the last of which finds the
+// end, or none where an octet more comes; an endless source has no bound.
 #[test]
 fn bound_of_reads(rt: HostRuntime) {
     let too_long = Err(SourceFault::TooLong);

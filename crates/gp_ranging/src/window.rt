@@ -92,7 +92,8 @@ impl Window {
 
     /// Counts a frame that goes by. The window ends with its third.
     pub fn tick(self) -> Ticked
-        ensures { MatchOption (window_after_frame self) (result ≡ Ticked.Ended self.grant self.seen) (λ next. result ≡ Ticked.Still next) }
+        ensures { MatchOption (window_after_frame self) (result ≡ Ticked.Ended self.grant self.seen)
+            (λ next. result ≡ Ticked.Still next) }
     {
         let Window { grant, left, seen } = self;
         if left > 1 {

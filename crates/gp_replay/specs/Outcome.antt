@@ -1,5 +1,5 @@
--- How a run of a script may end: a replay, or another run that reads a script and writes what came of it (this profile's
--- own rule).
+-- How a run of a script may end: a replay, or another run that reads a script and writes what came of it (this
+-- profile's own rule).
 use Rattle.std.specs.Prelude.{◌≡◌, ◌≢◌, ℕ, ◌+◌, ◌<◌, ◌≤◌, ◌⊎◌, ◌↔◌, true, false, List, Result, Ok, Err, IsErr, length}
 use Rattle.gp_stream.specs.Source.{SourceState, ReadsTooMuch, ReadsWhole, WasReadable, max_bytes}
 use Rattle.gp_stream.specs.Sink.{SinkState}
@@ -9,8 +9,8 @@ use Rattle.gp_replay.specs.declared.fault.RunFault.{RunFault}
 use Rattle.gp_replay.specs.declared.fault.RunFault.TheVariants as runs
 use Rattle.gp_replay.specs.Writing.{LeavesScriptLines, LeavesScriptPrefix, WritesScript}
 
--- the input was read to its end without a failed read, it is not too long, and this is what it says: a script, or its first
--- fault; which bytes came is said of a reader that tells its bytes
+-- the input was read to its end without a failed read, it is not too long, and this is what it says: a script, or its
+-- first fault; which bytes came is said of a reader that tells its bytes
 pub record ReadsBy {R : Type 0} (says_of : List ℕ → Result ScriptView ScriptFault) (before after : SourceState R)
     (answer : Result ScriptView ScriptFault) : Type 0 where
   pub bytes : List ℕ
@@ -35,18 +35,22 @@ abbrev pub RunEnds : {R W : Type 0} → (List ℕ → Result ScriptView ScriptFa
 RunEnds says_of leaves before after old new (Ok value) = OfScript says_of before after (leaves (Ok value))
 RunEnds says_of leaves before after old new (Err runs.Read) = ((after.failed ≡ true) ⊎ (after.left ≡ 0)) × (new ≡ old)
 RunEnds says_of leaves before after old new (Err runs.TooLong) = ReadsTooMuch max_bytes before after × (new ≡ old)
-RunEnds says_of leaves before after old new (Err (runs.Script fault)) = ReadsBy says_of before after (Err fault) × (new ≡ old)
+RunEnds says_of leaves before after old new (Err (runs.Script fault)) =
+    ReadsBy says_of before after (Err fault) × (new ≡ old)
 RunEnds says_of leaves before after old new (Err runs.OutOfMemory) =
     (new ≡ old) ⊎ OfScript says_of before after (leaves (Err runs.OutOfMemory))
 RunEnds says_of leaves before after old new (Err runs.Write) = OfScript says_of before after (leaves (Err runs.Write))
-RunEnds says_of leaves before after old new (Err runs.Mismatch) = OfScript says_of before after (leaves (Err runs.Mismatch))
-RunEnds says_of leaves before after old new (Err runs.JournalFull) = OfScript says_of before after (leaves (Err runs.JournalFull))
+RunEnds says_of leaves before after old new (Err runs.Mismatch) =
+    OfScript says_of before after (leaves (Err runs.Mismatch))
+RunEnds says_of leaves before after old new (Err runs.JournalFull) =
+    OfScript says_of before after (leaves (Err runs.JournalFull))
 
--- what a replay leaves of a script that it has read: the whole trace; or, where memory was refused in the midst, the lines of
--- a part, or a prefix of them where they could not be written; or, where a write failed, a prefix
+-- what a replay leaves of a script that it has read: the whole trace; or, where memory was refused in the midst, the
+-- lines of a part, or a prefix of them where they could not be written; or, where a write failed, a prefix
 abbrev pub LeavesReplay : {W : Type 0} → SinkState W → SinkState W → RunAnswer → ScriptView → Type 0
 LeavesReplay old new (Ok value) script = WritesScript script old new
-LeavesReplay old new (Err runs.OutOfMemory) script = LeavesScriptLines script old new ⊎ LeavesScriptPrefix script old new
+LeavesReplay old new (Err runs.OutOfMemory) script =
+    LeavesScriptLines script old new ⊎ LeavesScriptPrefix script old new
 LeavesReplay old new (Err runs.Write) script = LeavesScriptPrefix script old new
 LeavesReplay old new (Err _) script = ⊥
 

@@ -1,5 +1,5 @@
--- What it means to play a script without simulated units: one actor serves the script's events on a chassis, one after another, in their order (this
--- profile's own rule).
+-- What it means to play a script without simulated units: one actor serves the script's events on a chassis, one
+-- after another, in their order (this profile's own rule).
 use Rattle.std.specs.Prelude.{◌≡◌, ℕ, ◌+◌, List, [], ◌∷◌, ◌++◌, Some, map, replicate, slice_get, slice_set}
 use Rattle.std.specs.List.{flat_map}
 use Rattle.gp_machine.specs.declared.event.Event.TheVariants.{Frame, Burst, Command}
@@ -16,7 +16,8 @@ use Rattle.gp_replay.specs.Chassis.{PlayState, opening_play}
 abbrev pub frame_turn : ℕ → Turn
 frame_turn port = record { port = port; event = Frame }
 
--- the turns that an event of a script stands for: so many frames are a turn each, and light, which comes with units, is none
+-- the turns that an event of a script stands for: so many frames are a turn each, and light, which comes with units,
+-- is none
 abbrev pub turns_of : ScriptEvent → List Turn
 turns_of (events.Frames port count) = replicate count (frame_turn port)
 turns_of (events.Burst port at bytes) = record { port = port; event = Burst at bytes } ∷ []
@@ -44,10 +45,11 @@ all_moves receipts = flat_map moves_told receipts
 abbrev pub AreNumbered : List ℕ → List Receipt → List ℕ → Type 0
 AreNumbered old [] new = new ≡ old
 AreNumbered old (receipt ∷ receipts) new =
-    (slice_get old receipt.port ≡ Some receipt.number) × AreNumbered (slice_set old receipt.port (receipt.number + 1)) receipts new
+    (slice_get old receipt.port ≡ Some receipt.number)
+    × AreNumbered (slice_set old receipt.port (receipt.number + 1)) receipts new
 
--- the turns are taken one after the other: the receipts tell of these turns, what the actor does in them is a run of the
--- chassis, and the entries are numbered on each port
+-- the turns are taken one after the other: the receipts tell of these turns, what the actor does in them is a run of
+-- the chassis, and the entries are numbered on each port
 pub record TakesTurns (old : PlayState) (turns : List Turn) (receipts : List Receipt) (new : PlayState) : Type 0 where
   pub told : map turn_of receipts ≡ turns
   pub run : ChassisRun (all_moves receipts) old.world new.world
@@ -58,7 +60,8 @@ abbrev pub TakesAllTurns : List Turn → PlayState → List Receipt → PlayStat
 TakesAllTurns turns old receipts new = TakesTurns old turns receipts new
 
 -- some of these turns are taken, from the first on
-pub record TakesSomeTurns (turns : List Turn) (old : PlayState) (receipts : List Receipt) (new : PlayState) : Type 0 where
+pub record TakesSomeTurns
+    (turns : List Turn) (old : PlayState) (receipts : List Receipt) (new : PlayState) : Type 0 where
   pub done : List Turn
   pub left : List Turn
   pub split : turns ≡ done ++ left

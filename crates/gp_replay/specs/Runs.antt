@@ -19,8 +19,8 @@ abbrev pub IsNumberedFrom : ℕ → List Receipt → Type 0
 IsNumberedFrom n [] = Unit {0}
 IsNumberedFrom n (r ∷ rs) = (r.number ≡ n) × IsNumberedFrom (n + 1) rs
 
--- on each of these ports the entries are a run of the activation machine, from the opening of the port's configuration to
--- the state at its end, and they are numbered from 0
+-- on each of these ports the entries are a run of the activation machine, from the opening of the port's
+-- configuration to the state at its end, and they are numbered from 0
 abbrev pub PortsRun : List PortConfig → List Receipt → List PortState → Type 0
 PortsRun ports receipts ends =
     (port : ℕ) (config : PortConfig) → slice_get ports port ≡ Some config

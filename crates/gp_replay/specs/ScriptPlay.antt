@@ -1,5 +1,5 @@
--- What it means to play a script (this profile's own rule): on a chassis of its ports, or, where it has simulated units, on
--- the fibre of its one port.
+-- What it means to play a script (this profile's own rule): on a chassis of its ports, or, where it has simulated
+-- units, on the fibre of its one port.
 use Rattle.std.specs.Prelude.{◌≡◌, ℕ, ◌<◌, List, [], length}
 use Rattle.gp_machine.specs.declared.entry.Receipt.{Receipt}
 use Rattle.gp_machine.specs.State.{PortState}
@@ -8,8 +8,8 @@ use Rattle.gp_replay.specs.Chassis.{total_licences}
 use Rattle.gp_replay.specs.Play.{ChassisPlays, ChassisPlaysPrefix}
 use Rattle.gp_replay.specs.WorldPlay.{WorldPlays, WorldPlaysPrefix, ends_of_world, licences_of_world}
 
--- the receipts are those of the whole script: without units its ports stand on a chassis, and with units its one port on
--- their fibre
+-- the receipts are those of the whole script: without units its ports stand on a chassis, and with units its one port
+-- on their fibre
 pub data Plays (script : ScriptView) (receipts : List Receipt) : Type 0 where
   ByChassis : script.units ≡ [] → ChassisPlays script receipts → Plays script receipts
   ByFibre : 0 < length script.units → WorldPlays script receipts → Plays script receipts

@@ -22,7 +22,8 @@ use Rattle.gp_script.specs.Script.{ScriptView}
 abbrev pub plan_of : ScriptUnit → UnitPlan
 plan_of unit = record { serial = unit.serial; delay = unit.delay; random = unit.random }
 
--- the fibre of a script whose port has this configuration, before the first event: its units are lit, and all licences free
+-- the fibre of a script whose port has this configuration, before the first event: its units are lit, and all
+-- licences free
 abbrev pub opening_fibre : ScriptView → PortConfig → WorldState
 opening_fibre script config = opening_state config script.licences (map plan_of script.units)
 
@@ -37,10 +38,11 @@ light_step unit false = steps.Dark unit
 abbrev pub TakesStep : WorldStep → WorldState → List Entry → WorldState → Type 0
 TakesStep step old entries new = (given : Option Entry) × StepsTo old step given new × (entries ≡ option_to_list given)
 
--- the fibre takes an event of a script: so many frames, each with all that follows from it but for what is lost; a burst of
--- thirteen octets; a command; or light that comes or goes at a unit, which gives no entry
+-- the fibre takes an event of a script: so many frames, each with all that follows from it but for what is lost; a
+-- burst of thirteen octets; a command; or light that comes or goes at a unit, which gives no entry
 abbrev pub WorldTakes : LossesView → ScriptEvent → WorldState → List Entry → WorldState → Type 0
-WorldTakes losses (events.Frames port count) old entries new = FramesRun losses.copies losses.bursts count old entries new
+WorldTakes losses (events.Frames port count) old entries new =
+    FramesRun losses.copies losses.bursts count old entries new
 WorldTakes losses (events.Burst port at bytes) old entries new = TakesStep (steps.Bytes at bytes) old entries new
 WorldTakes losses (events.Command port command) old entries new = TakesStep (steps.Command command) old entries new
 WorldTakes losses (events.Light unit lit) old entries new = TakesStep (light_step unit lit) old entries new

@@ -27,7 +27,8 @@ abbrev pub WorldHappening : Type 1
 WorldHappening = WorldState → List Entry → WorldState → Type 0
 
 -- this happened to the fibre of a play, and the receipts are those of its entries, numbered on
-pub record Numbered (happens : WorldHappening) (old : FibrePlay) (receipts : List Receipt) (new : FibrePlay) : Type 0 where
+pub record Numbered
+    (happens : WorldHappening) (old : FibrePlay) (receipts : List Receipt) (new : FibrePlay) : Type 0 where
   pub entries : List Entry
   pub happened : happens old.world entries new.world
   pub next : new.next ≡ old.next + length entries
@@ -43,25 +44,29 @@ MayTakeStep step old entries new = TakesNothing old entries new ⊎ TakesStep st
 
 -- some of so many frames are made, or all
 abbrev pub TakesSomeFrames : LossesView → ℕ → WorldHappening
-TakesSomeFrames losses count old entries new = (made : ℕ) × (made ≤ count) × FramesRun losses.copies losses.bursts made old entries new
+TakesSomeFrames losses count old entries new =
+    (made : ℕ) × (made ≤ count) × FramesRun losses.copies losses.bursts made old entries new
 
 -- an event is taken, or nothing happens, or of its frames some are made
 abbrev pub WorldTakesPart : LossesView → ScriptEvent → WorldHappening
 WorldTakesPart losses (events.Frames port count) old entries new = TakesSomeFrames losses count old entries new
 WorldTakesPart losses (events.Burst port at bytes) old entries new = MayTakeStep (steps.Bytes at bytes) old entries new
-WorldTakesPart losses (events.Command port command) old entries new = MayTakeStep (steps.Command command) old entries new
+WorldTakesPart losses (events.Command port command) old entries new =
+    MayTakeStep (steps.Command command) old entries new
 WorldTakesPart losses (events.Light unit lit) old entries new = MayTakeStep (light_step unit lit) old entries new
 
 -- a prefix of the events is taken
 abbrev pub WorldTakesPrefix : LossesView → List ScriptEvent → WorldHappening
-WorldTakesPrefix losses all old entries new = (done : List ScriptEvent) × IsPrefix done all × WorldTakesAll losses done old entries new
+WorldTakesPrefix losses all old entries new =
+    (done : List ScriptEvent) × IsPrefix done all × WorldTakesAll losses done old entries new
 
--- how many entries each frame adds at most: one for the frame, and one for each burst that comes of it; each unit sends two
--- in a frame at most
+-- how many entries each frame adds at most: one for the frame, and one for each burst that comes of it; each unit
+-- sends two in a frame at most
 abbrev pub max_entries_each : ℕ
 max_entries_each = 1 + 2 * max_simulated_units
 
--- there is room for so many more frames and other events: the fibre can count them, and the port can number their entries
+-- there is room for so many more frames and other events: the fibre can count them, and the port can number their
+-- entries
 pub record HasFibreRoom (count : ℕ) (play : FibrePlay) : Type 0 where
   pub frames : play.world.frames + count ≤ MAX_FRAMES
   pub numbers : play.next + length play.world.flights + max_entries_each * count < 2 ^ 64

@@ -32,13 +32,15 @@ abbrev pub Happening : Type 0 → Type 1
 Happening S = S → List Receipt → S → Type 0
 
 -- this happened, and the lines of the receipts were handed to the sink
-pub record Writes {S W : Type 0} (mask : Mask) (happens : Happening S) (old new : S) (before after : SinkState W) : Type 0 where
+pub record Writes
+    {S W : Type 0} (mask : Mask) (happens : Happening S) (old new : S) (before after : SinkState W) : Type 0 where
   pub receipts : List Receipt
   pub happened : happens old receipts new
   pub lines : Takes before after (trace_text mask receipts)
 
 -- this happened, and the writer got a prefix of what was gathered and of the lines of the receipts
-pub record WritesPrefix {S W : Type 0} (mask : Mask) (happens : Happening S) (old : S) (before after : SinkState W) : Type 0 where
+pub record WritesPrefix
+    {S W : Type 0} (mask : Mask) (happens : Happening S) (old : S) (before after : SinkState W) : Type 0 where
   pub receipts : List Receipt
   pub end : S
   pub happened : happens old receipts end
@@ -56,7 +58,8 @@ is_write (Err faults.OutOfMemory) = false
 is_write (Err faults.Write) = true
 
 -- something is played and its lines are handed in, with this answer; what a fault leaves of it is a part
-pub record PlaysOn {S W T : Type 0} (mask : Mask) (happens part : Happening S) (old new : S) (before after : SinkState W)
+pub record PlaysOn {S W T : Type 0} (mask : Mask) (happens part : Happening S) (old new : S)
+    (before after : SinkState W)
     (answer : Result T PlayFault) : Type 0 where
   pub ok : OnOk answer (Writes mask happens old new before after)
   pub fault : IfErr answer (λ fault. LeavesBy fault mask part old before after)
@@ -69,7 +72,8 @@ pub record PlaysOn {S W T : Type 0} (mask : Mask) (happens part : Happening S) (
 
 -- how the end of a play leaves the sink: what is gathered is written out, also where memory was refused, which is told
 -- even if that write fails; after a failed write nothing more is written
-abbrev pub EndsPlay : {W : Type 0} → SinkState W → SinkState W → Result (Unit {0}) PlayFault → Result (Unit {0}) PlayFault → Type 0
+abbrev pub EndsPlay : {W : Type 0} → SinkState W → SinkState W → Result (Unit {0}) PlayFault
+    → Result (Unit {0}) PlayFault → Type 0
 EndsPlay before after (Ok value) answer = Finishes before after answer × IfErr answer (λ fault. fault ≡ faults.Write)
 EndsPlay before after (Err faults.OutOfMemory) answer =
     (answer ≡ Err faults.OutOfMemory) × (written : Result (Unit {0}) WriteStopped) × Finishes before after written
@@ -87,16 +91,16 @@ pub record WritesScript {W : Type 0} (script : ScriptView) (before after : SinkS
   pub finished : after.gathered ≡ []
   pub unstopped : after.stopped ≡ false
 
--- a part of the script was played, from its first event on, and the writer got no more than a prefix of what was gathered
--- before and of the lines of its entries
+-- a part of the script was played, from its first event on, and the writer got no more than a prefix of what was
+-- gathered before and of the lines of its entries
 pub record LeavesScriptPrefix {W : Type 0} (script : ScriptView) (before after : SinkState W) : Type 0 where
   pub receipts : List Receipt
   pub plays : PlaysPrefix script receipts
   pub written : TakesPrefix before after (trace_text script.mask receipts)
   pub stopped : after.stopped ≡ true
 
--- a part of the script was played, from its first event on, and the writer got all of what was gathered before and of the
--- lines of its entries
+-- a part of the script was played, from its first event on, and the writer got all of what was gathered before and of
+-- the lines of its entries
 pub record LeavesScriptLines {W : Type 0} (script : ScriptView) (before after : SinkState W) : Type 0 where
   pub receipts : List Receipt
   pub plays : PlaysPrefix script receipts
@@ -112,7 +116,8 @@ LeavesScript faults.OutOfMemory script before after =
 LeavesScript faults.Write script before after = LeavesScriptPrefix script before after
 
 -- a script is played and its trace is written, with this answer
-pub record PlaysScript {W T : Type 0} (script : ScriptView) (before after : SinkState W) (answer : Result T PlayFault) : Type 0 where
+pub record PlaysScript
+    {W T : Type 0} (script : ScriptView) (before after : SinkState W) (answer : Result T PlayFault) : Type 0 where
   pub ok : OnOk answer (WritesScript script before after)
   pub fault : IfErr answer (λ fault. LeavesScript fault script before after)
   -- to a stopped sink nothing is written

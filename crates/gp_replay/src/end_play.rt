@@ -5,8 +5,8 @@ use super::fault::PlayFault;
 use gp_stream::Sink;
 use std::io::Write;
 
-/// Writes out what a play has handed in, also where memory was refused in its midst: that takes none, and memory is told
-/// then even if the write fails.
+/// Writes out what a play has handed in, also where memory was refused in its midst: that takes none, and memory is
+/// told then even if the write fails.
 pub(crate) fn end_play<W: Write>(
     sink: &mut Sink<W>,
     played: Result<(), PlayFault>,

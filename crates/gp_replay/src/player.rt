@@ -16,11 +16,12 @@ use std::alloc::{AllocError, Global};
 use std::marker::Model;
 use std::sync::ledger::{Blank, Ledger};
 
-/// How many entries the journal of a port keeps at most while a script is played, whatever the script's own limit is: so the
-/// memory of a replay doesn't grow with its trace.
+/// How many entries the journal of a port keeps at most while a script is played, whatever the script's own limit is:
+/// so the memory of a replay doesn't grow with its trace.
 pub const MAX_KEPT: u32 = 4096;
 
-/// The chassis that a script is played on, by one actor. Contracts see its world, and the number of each port's next entry.
+/// The chassis that a script is played on, by one actor. Contracts see its world, and the number of each port's next
+/// entry.
 ///
 /// It has no `Drop`: its licences are gathered by `close`.
 pub struct Player<L: Ledger> {
@@ -39,7 +40,8 @@ impl<L: Ledger> Model for Player<L> {
 
     ghost Value = { PlayState };
 
-    ghost coded = { Prim.hlevel (codes, map.code {R = serial_cmp} coded_serial row.the_row.coded, set.code {R = serial_cmp} coded_serial) };
+    ghost coded = { Prim.hlevel
+        (codes, map.code {R = serial_cmp} coded_serial row.the_row.coded, set.code {R = serial_cmp} coded_serial) };
 
     ghost view = { λ p. play_of p.chassis };
 
@@ -66,8 +68,8 @@ impl<L: Ledger> Player<L> {
         }
     }
 
-    /// Takes one event to its port. A burst takes one licence where one is free, and gives back what it does not use. Where
-    /// the port's journal is full it is cut first, and what it kept is let go.
+    /// Takes one event to its port. A burst takes one licence where one is free, and gives back what it does not use.
+    /// Where the port's journal is full it is cut first, and what it kept is let go.
     ///
     /// An error is answered where memory for the journal was refused; no turn is then taken.
     pub fn take_turn(&mut self, turn: Turn) -> Result<Receipt, AllocError>
@@ -93,7 +95,8 @@ impl<L: Ledger> Player<L> {
         ensures proper { IfOk result (λ receipt. ForSome receipt.entry.answer.sent IsProperDown) }
         ensures refused { OnErr result (self.new ≡ self.old) }
         ensures ports { length self.new.next ≡ length self.old.next }
-        ensures wished { IfOk result (λ receipt. GrantsTurn self.old.world self.new.world turn.port turn.event wished receipt.entry) }
+        ensures wished { IfOk result
+            (λ receipt. GrantsTurn self.old.world self.new.world turn.port turn.event wished receipt.entry) }
     {
         match serve(&mut self.chassis, turn, wished) {
             Ok(receipt) => Ok(receipt),
@@ -135,14 +138,17 @@ fn serve<L: Ledger>(
 ) -> Result<Receipt, CoreFault>
     requires few { All KeepsFew chassis.old.desks }
     requires port { turn.port < length chassis.old.desks }
-    ensures taken { IfOk result (λ receipt. TakesTurns (play_of chassis.old) (turn ∷ []) (receipt ∷ []) (play_of chassis.new)) }
+    ensures taken { IfOk result
+        (λ receipt. TakesTurns (play_of chassis.old) (turn ∷ []) (receipt ∷ []) (play_of chassis.new)) }
     ensures proper { IfOk result (λ receipt. ForSome receipt.entry.answer.sent IsProperDown) }
     ensures few { All KeepsFew chassis.new.desks }
     ensures refused { OnErr result (chassis.new ≡ chassis.old) }
     ensures full { result ≡ Err CoreFault.JournalFull → IsFullAt chassis.old turn.port }
     ensures some_port { result ≢ Err CoreFault.NoPort }
     ensures some_actor { result ≢ Err CoreFault.NoActor }
-    ensures wished { IfOk result (λ receipt. GrantsTurn (play_of chassis.old).world (play_of chassis.new).world turn.port turn.event wished receipt.entry) }
+    ensures wished { IfOk result
+        (λ receipt. GrantsTurn (play_of chassis.old).world
+        (play_of chassis.new).world turn.port turn.event wished receipt.entry) }
 {
     chassis.apply_wishing(turn.port, turn.event, wished)
 }
@@ -156,11 +162,14 @@ fn serve_with_room<L: Ledger>(
     requires few { All KeepsFew chassis.old.desks }
     requires port { turn.port < length chassis.old.desks }
     requires room { IsFullAt chassis.old turn.port → ⊥ }
-    ensures taken { IfOk result (λ receipt. TakesTurns (play_of chassis.old) (turn ∷ []) (receipt ∷ []) (play_of chassis.new)) }
+    ensures taken { IfOk result
+        (λ receipt. TakesTurns (play_of chassis.old) (turn ∷ []) (receipt ∷ []) (play_of chassis.new)) }
     ensures proper { IfOk result (λ receipt. ForSome receipt.entry.answer.sent IsProperDown) }
     ensures few { All KeepsFew chassis.new.desks }
     ensures refused { OnErr result (chassis.new ≡ chassis.old) }
-    ensures wished { IfOk result (λ receipt. GrantsTurn (play_of chassis.old).world (play_of chassis.new).world turn.port turn.event wished receipt.entry) }
+    ensures wished { IfOk result
+        (λ receipt. GrantsTurn (play_of chassis.old).world
+        (play_of chassis.new).world turn.port turn.event wished receipt.entry) }
 {
     match serve(chassis, turn, wished) {
         Ok(receipt) => Ok(receipt),

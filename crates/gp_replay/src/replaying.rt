@@ -56,8 +56,8 @@ fn play_on<L: Ledger, W: Write>(
     end_play(sink, outcome)
 }
 
-/// Plays a script on a ledger of its own, which is the blank: on a chassis, or, where it has simulated units, on the fibre
-/// of its one port.
+/// Plays a script on a ledger of its own, which is the blank: on a chassis, or, where it has simulated units, on the
+/// fibre of its one port.
 fn play_script<L: Ledger, W: Write>(
     alloc: Global,
     blank: Blank,

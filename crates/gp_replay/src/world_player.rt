@@ -33,7 +33,8 @@ impl<L: Ledger> Model for WorldPlayer<L> {
 
     ghost Value = { FibrePlay };
 
-    ghost coded = { Prim.hlevel (codes, map.code {R = serial_cmp} coded_serial row.the_row.coded, set.code {R = serial_cmp} coded_serial) };
+    ghost coded = { Prim.hlevel
+        (codes, map.code {R = serial_cmp} coded_serial row.the_row.coded, set.code {R = serial_cmp} coded_serial) };
 
     ghost view = { λ p. record { world = p.world; next = p.next } };
 }
@@ -50,7 +51,8 @@ impl<L: Ledger> WorldPlayer<L> {
         requires name { blank.name ≡ L.name }
         requires parts { (blank.parts ≡ L.parts) × (L.parts ≡ MAX_LICENCES) }
         requires limits { is_world_within_limits config.now licences (map plan_of units.now) ≡ true }
-        ensures world { IfOk result (λ player. player.world ≡ opening_state config.now licences (map plan_of units.now)) }
+        ensures world { IfOk result
+            (λ player. player.world ≡ opening_state config.now licences (map plan_of units.now)) }
         ensures next { IfOk result (λ player. player.next ≡ 0) }
     {
         let plans = plans_of(alloc, units)?;
@@ -65,15 +67,17 @@ impl<L: Ledger> WorldPlayer<L> {
         }
     }
 
-    /// Makes so many frames of a run, and gives the entries of the port, in order. An error is answered where memory was
-    /// refused; some of the frames are then made.
+    /// Makes so many frames of a run, and gives the entries of the port, in order. An error is answered where memory
+    /// was refused; some of the frames are then made.
     pub(crate) fn run_frames(
         &mut self,
         frames: u32,
         loss: &LossPlan,
     ) -> Result<Vec<Entry>, AllocError>
         requires room { HasFibreRoom frames self.old }
-        ensures ran { IfOk result (λ entries. FramesRun loss.now.copies.items loss.now.bursts.items frames self.old.world entries.items self.new.world) }
+        ensures ran { IfOk result
+            (λ entries. FramesRun loss.now.copies.items loss.now.bursts.items frames self.old.world entries.items
+            self.new.world) }
         ensures proper { IfOk result (λ entries. All IsProperEntry entries.items) }
         ensures next { self.new.next ≡ self.old.next }
     {

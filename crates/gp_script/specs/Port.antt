@@ -18,7 +18,9 @@ use Rattle.gp_script.specs.Values.{in_range_or, count_in, serial_of, octets_of}
 
 -- the keys of a port table
 abbrev pub port_names : List (List ℕ)
-port_names = codes "teqd" ∷ codes "max_units" ∷ codes "alloc_last" ∷ codes "cycles" ∷ codes "search_period" ∷ codes "quarantine" ∷ codes "overhead" ∷ codes "admit" ∷ []
+port_names =
+    codes "teqd" ∷ codes "max_units" ∷ codes "alloc_last" ∷ codes "cycles" ∷ codes "search_period" ∷ codes "quarantine"
+    ∷ codes "overhead" ∷ codes "admit" ∷ []
 
 -- what stands at the keys of a port table, each of its type and in no range yet
 pub record PortShape : Type 0 where
@@ -52,7 +54,16 @@ port_shape members = do
   overhead ← text_at (codes "overhead") members
   admit ← list_at (codes "admit") members
   _ ← needs fault.Shape (are_texts admit)
-  Ok (record { teqd = teqd; max_units = max_units; alloc_last = alloc_last; cycles = cycles; search_period = search_period; quarantine = quarantine; overhead = overhead; admit = admit })
+  Ok (record {
+    teqd = teqd;
+    max_units = max_units;
+    alloc_last = alloc_last;
+    cycles = cycles;
+    search_period = search_period;
+    quarantine = quarantine;
+    overhead = overhead;
+    admit = admit;
+  })
 
 -- the serial numbers that are admitted on these ports, port by port
 abbrev pub all_admitted : List PortConfig → List Serial
@@ -99,7 +110,17 @@ port_of mask before members = do
   overhead ← overhead_of shape.overhead
   _ ← count_in 0 max_on_a_port shape.admit
   admitted ← serials_from before [] shape.admit
-  Ok (record { mask = mask; teqd = teqd; overhead = overhead; max_units = max_units; alloc_last = alloc_last; cycles = cycles; search_period = search_period; quarantine = quarantine; admitted = admitted })
+  Ok (record {
+    mask = mask;
+    teqd = teqd;
+    overhead = overhead;
+    max_units = max_units;
+    alloc_last = alloc_last;
+    cycles = cycles;
+    search_period = search_period;
+    quarantine = quarantine;
+    admitted = admitted;
+  })
 
 -- the configurations of the port tables, behind those before them
 unfoldable pub ports_from : Mask → List PortConfig → Items → Result (List PortConfig) ScriptFault

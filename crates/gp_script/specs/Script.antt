@@ -43,14 +43,18 @@ pub record TopShape : Type 0 where
 
 -- the keys of the top
 abbrev pub top_names : List (List ℕ)
-top_names = codes "licences" ∷ codes "mask" ∷ codes "journal_limit" ∷ codes "port" ∷ codes "unit" ∷ codes "lose" ∷ codes "event" ∷ []
+top_names =
+    codes "licences" ∷ codes "mask" ∷ codes "journal_limit" ∷ codes "port" ∷ codes "unit" ∷ codes "lose" ∷ codes "event"
+    ∷ []
 
--- units stand on the fibre of one port, where units may stand at all, and only beside units is there anything that could be lost
+-- units stand on the fibre of one port, where units may stand at all, and only beside units is there anything that
+-- could be lost
 abbrev pub fit_together : Bool → Items → Items → Items → Bool
-fit_together may_have_units ports units losses = if is_empty units then is_empty losses else may_have_units && nat_le (item_count ports) 1
+fit_together may_have_units ports units losses =
+    if is_empty units then is_empty losses else may_have_units && nat_le (item_count ports) 1
 
--- the top by its shape: the keys that it may have, each value of its type, nothing but tables in `port`, `unit`, `lose` and
--- `event`, and no tables that don't fit together, with units or without any
+-- the top by its shape: the keys that it may have, each value of its type, nothing but tables in `port`, `unit`,
+-- `lose` and `event`, and no tables that don't fit together, with units or without any
 unfoldable pub top_shape : Bool → Members → Result TopShape ScriptFault
 top_shape may_have_units members = do
   _ ← needs fault.Shape (has_only top_names members)
@@ -66,7 +70,15 @@ top_shape may_have_units members = do
   _ ← needs fault.Shape (are_tables losses)
   _ ← needs fault.Shape (are_tables events)
   _ ← needs fault.Shape (fit_together may_have_units ports units losses)
-  Ok (record { licences = licences; mask = mask; journal_limit = journal_limit; ports = ports; units = units; losses = losses; events = events })
+  Ok (record {
+    licences = licences;
+    mask = mask;
+    journal_limit = journal_limit;
+    ports = ports;
+    units = units;
+    losses = losses;
+    events = events;
+  })
 
 -- what a script says
 pub record ScriptView : Type 0 where
@@ -99,7 +111,15 @@ script_of_table may_have_units members = do
   units ← units_from [] shape.units
   losses ← losses_from no_losses shape.losses
   events ← events_of count unit_count mask shape.events
-  Ok (record { licences = licences; mask = mask; journal_limit = journal_limit; ports = ports; units = units; losses = losses; events = events })
+  Ok (record {
+    licences = licences;
+    mask = mask;
+    journal_limit = journal_limit;
+    ports = ports;
+    units = units;
+    losses = losses;
+    events = events;
+  })
 
 -- the text that bytes are
 abbrev pub text_of : List ℕ → Result (List ℕ) ScriptFault

@@ -53,7 +53,8 @@ struct TopKeys<'a> {
 /// Tells whether units stand beside one port at most, where they may stand at all, and what is lost beside units alone.
 #[tactic(auto, using(crate::proofs::ItemsLemmas::item_count_view))]
 fn fit_together(may_have_units: bool, ports: &[Value], units: &[Value], losses: &[Value]) -> bool
-    ensures value { result ≡ tables_fit may_have_units (items_view ports.now) (items_view units.now) (items_view losses.now) }
+    ensures value { result ≡ tables_fit may_have_units (items_view ports.now) (items_view units.now)
+        (items_view losses.now) }
     ensures one_port { IsTrue result → 0 < length units.now → length ports.now ≤ 1 }
     ensures no_units { may_have_units ≡ false → IsTrue result → (units.now ≡ []) × (losses.now ≡ []) }
 {
@@ -103,7 +104,8 @@ fn top_keys(may_have_units: bool, table: &Table) -> Result<TopKeys<'_>, ScriptFa
 fn read_table(alloc: Global, may_have_units: bool, table: &Table) -> Result<Script, ScriptError>
     ensures value { Gives script_view result (script_of_table may_have_units (table_view table.now)) }
     ensures playable { IfOk result (λ s. IsPlayable (script_view s)) }
-    ensures no_units { may_have_units ≡ false → IfOk result (λ s. (s.units.items ≡ []) × (losses_view s.losses ≡ no_losses)) }
+    ensures no_units { may_have_units ≡ false
+        → IfOk result (λ s. (s.units.items ≡ []) × (losses_view s.losses ≡ no_losses)) }
 {
     let shape = top_keys(may_have_units, table)?;
     let licences = in_range(0..=MAX_LICENCES, shape.licences)?;
@@ -158,7 +160,8 @@ fn read_bytes(alloc: Global, may_have_units: bool, bytes: &[u8]) -> Result<Scrip
     ensures value { Gives script_view result (script_of_bytes may_have_units bytes.now) }
     ensures memory_only_of_utf8 { result ≡ Err ScriptError.OutOfMemory → IsTrue (is_utf8 bytes.now) }
     ensures playable { IfOk result (λ s. IsPlayable (script_view s)) }
-    ensures no_units { may_have_units ≡ false → IfOk result (λ s. (s.units.items ≡ []) × (losses_view s.losses ≡ no_losses)) }
+    ensures no_units { may_have_units ≡ false
+        → IfOk result (λ s. (s.units.items ≡ []) × (losses_view s.losses ≡ no_losses)) }
 {
     let text = read_text(bytes)?;
     let table = parse_table(alloc, text)?;

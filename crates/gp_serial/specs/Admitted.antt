@@ -1,4 +1,5 @@
--- The serial numbers that are admitted: a map from each to its port, and to whether it is disabled (this profile's own rule).
+-- The serial numbers that are admitted: a map from each to its port, and to whether it is disabled (this profile's
+-- own rule).
 use Rattle.std.specs.Prelude.{◌≡◌, ℕ, ◌==◌, ◌<◌, ◌≤◌, false, List, slice_index, count_by}
 use Rattle.std.specs.FinMap.{FinMap, values}
 use Rattle.gp_ploam.specs.Serials.{serial_cmp}

@@ -5,8 +5,8 @@ use Rattle.gp_replay.specs.declared.fault.RunFault.TheVariants as runs
 use Rattle.gp_storm.specs.declared.fault.StormFault.{StormFault}
 use Rattle.gp_storm.specs.declared.fault.StormFault.TheVariants as storms
 
--- of a script that was read, the limits are kept and each event names a port, so where a storm tells otherwise its threads were
--- told something else
+-- of a script that was read, the limits are kept and each event names a port, so where a storm tells otherwise its
+-- threads were told something else
 abbrev pub fault_of_storm : StormFault → RunFault
 fault_of_storm storms.Limit = runs.Mismatch
 fault_of_storm storms.NoPort = runs.Mismatch

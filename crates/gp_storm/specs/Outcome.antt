@@ -21,8 +21,8 @@ pub record LeavesTotalsPrefix {W : Type 0} (script : ScriptView) (old new : Sink
   pub written : TakesPrefix old new text
   pub stopped : new.stopped ≡ true
 
--- what a storm leaves of a script that it has read: its totals; or, where a write failed, a prefix of them; else nothing is
--- written
+-- what a storm leaves of a script that it has read: its totals; or, where a write failed, a prefix of them; else
+-- nothing is written
 abbrev pub LeavesStorm : {W : Type 0} → SinkState W → SinkState W → RunAnswer → ScriptView → Type 0
 LeavesStorm old new (Ok value) script = WritesTotals script old new
 LeavesStorm old new (Err runs.Write) script = LeavesTotalsPrefix script old new

@@ -12,11 +12,14 @@ entries_in journals = sum_by length (map (λ (journal : Kept). journal.entries) 
 -- the five lines: what the journals tell of, how many entries they keep, and how many licences came back
 abbrev pub totals_text : Totals → ℕ → ℕ → List ℕ
 totals_text totals entries licences =
-    codes "frames " ++ (decimal totals.frames ++ (codes "\nbursts " ++ (decimal totals.bursts ++ (codes "\ncommands " ++ (decimal totals.commands ++ (codes "\nentries "
+    codes "frames "
+    ++ (decimal totals.frames
+    ++ (codes "\nbursts "
+    ++ (decimal totals.bursts ++ (codes "\ncommands " ++ (decimal totals.commands ++ (codes "\nentries "
     ++ (decimal entries ++ (codes "\nlicences " ++ (decimal licences ++ codes "\n")))))))))
 
--- a chassis with the ports and the licences of the script was closed: its journals are runs of the ports' configurations, and the
--- text is that of what they add up to, with all the licences
+-- a chassis with the ports and the licences of the script was closed: its journals are runs of the ports'
+-- configurations, and the text is that of what they add up to, with all the licences
 pub record IsTotalsOf (script : ScriptView) (text : List ℕ) : Type 0 where
   pub journals : List Kept
   pub totals : Totals

@@ -17,7 +17,8 @@ use std::sync::Wait;
 use std::sync::ledger::{Blank, Ledger};
 use std::thread::Threads;
 
-/// Runs the plan over a new chassis of this configuration, and gives what the chassis leaves. `StormFault` says when there is none.
+/// Runs the plan over a new chassis of this configuration, and gives what the chassis leaves. `StormFault` says when
+/// there is none.
 ///
 /// `blank` is a new ledger of `MAX_LICENCES` parts, made by `Blank::new`, and `L` its name.
 pub fn storm<L: Ledger + Send + Sync, R: Threads + Wait + Sync>(

@@ -4,8 +4,8 @@ use gp_chassis::ApplyFault;
 use gp_replay::RunFault;
 use thiserror::Error;
 
-/// Why a storm has no totals. Of several threads' faults the operator's is told, else that of the first reader by port, else the
-/// clock's.
+/// Why a storm has no totals. Of several threads' faults the operator's is told, else that of the first reader by
+/// port, else the clock's.
 #[derive(Clone, Copy, Debug, PartialEq, Eq, Error)]
 pub enum StormFault {
     /// The configuration is outside its limits.

@@ -1,5 +1,5 @@
-//! A storm: the bursts, frames and commands of several ports at once, by threads. Each port has one feeder and one reader with a
-//! ring between them; one clock has the frames of all ports served, and one operator the commands.
+//! A storm: the bursts, frames and commands of several ports at once, by threads. Each port has one feeder and one
+//! reader with a ring between them; one clock has the frames of all ports served, and one operator the commands.
 //!
 //! - `storming.rt`: `run_storm`, from the bytes of a script to those of its totals.
 //! - `plan.rt`: `Plan`, what a storm does, and `plan_of` a script. `fault.rt`: `StormFault`, why it has no totals.
@@ -7,9 +7,9 @@
 //! - `slot.rt`: where a thread takes its worker, and puts it back.
 //! - `threads.rt`: the threads of one storm. `engine.rt`: `storm`, a chassis from its opening to its close.
 //!
-//! What a thread does is a loop of `gp_workers`; another kind of thread is one more loop there, and a line in `threads.rt`. What is
-//! planned for whom stands in `specs/Plan.antt`, what is written in `specs/Totals.antt`, and how a storm may end in
-//! `specs/Outcome.antt`; a further total is a line there and in `storming.rt`.
+//! What a thread does is a loop of `gp_workers`; another kind of thread is one more loop there, and a line in
+//! `threads.rt`. What is planned for whom stands in `specs/Plan.antt`, what is written in `specs/Totals.antt`, and
+//! how a storm may end in `specs/Outcome.antt`; a further total is a line there and in `storming.rt`.
 #![tactic(auto)]
 
 mod engine;

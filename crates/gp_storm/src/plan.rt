@@ -40,7 +40,8 @@ impl Plan {
     fn add(&mut self, event: &ScriptEvent) -> Result<(), AllocError>
         requires { (units : ℕ) × NamesOneOf (length self.old.bursts.items) units event.now }
         ensures ports { length self.new.bursts.items ≡ length self.old.bursts.items }
-        ensures bursts { OnOk result ((port : ℕ) → bursts_at port self.new ≡ bursts_at port self.old ++ burst_of port event.now) }
+        ensures bursts { OnOk result
+            ((port : ℕ) → bursts_at port self.new ≡ bursts_at port self.old ++ burst_of port event.now) }
         ensures frames { OnOk result (self.new.frames.items ≡ self.old.frames.items ++ frames_of event.now) }
         ensures commands { OnOk result (self.new.commands.items ≡ self.old.commands.items ++ command_of event.now) }
     {
@@ -56,7 +57,8 @@ impl Plan {
     }
 }
 
-/// Plans the storm of a script: the bursts of each port, the frames of all ports and the commands, each in the order of the script.
+/// Plans the storm of a script: the bursts of each port, the frames of all ports and the commands, each in the order
+/// of the script.
 pub fn plan_of(alloc: Global, script: &Script) -> Result<Plan, AllocError>
     requires { IsPlayable (script_view script.now) }
     ensures { IfOk result (IsPlanOf (script_view script.now)) }

@@ -66,24 +66,27 @@ fn storm_of<L: Ledger + Send + Sync, R: Threads + Wait + Sync>(
     Ok(text_of(alloc, &closed)?)
 }
 
-/// Reads a script to the end of the source, runs its bursts, frames and commands at once, by a feeder and a reader for each
-/// port, a clock and an operator, each in a thread, and writes the totals of the chassis that was closed then: five lines,
-/// `frames`, `bursts`, `commands`, `entries` and `licences`, each with its number.
+/// Reads a script to the end of the source, runs its bursts, frames and commands at once, by a feeder and a reader
+/// for each port, a clock and an operator, each in a thread, and writes the totals of the chassis that was closed
+/// then: five lines, `frames`, `bursts`, `commands`, `entries` and `licences`, each with its number.
 ///
-/// Nothing is written before all threads are joined and the chassis is closed. `JournalFull` is answered where a port has more
-/// entries than its journal may keep, which is not cut. Of several threads' faults the operator's is told, else that of the
-/// first reader by port, else the clock's. `Mismatch` is answered where a thread was not started, for whatever cause, or where the
-/// chassis does not close; of a script that was read its limits and its ports never are the cause, and no clause says so.
+/// Nothing is written before all threads are joined and the chassis is closed. `JournalFull` is answered where a port
+/// has more entries than its journal may keep, which is not cut. Of several threads' faults the operator's is told,
+/// else that of the first reader by port, else the clock's. `Mismatch` is answered where a thread was not started,
+/// for whatever cause, or where the chassis does not close; of a script that was read its limits and its ports never
+/// are the cause, and no clause says so.
 ///
-/// What the sink gathered before goes out first. Of a source with a failed read nothing is read, and `Read` is answered. To a
-/// sink that has stopped nothing is written; any other fault still comes first, and else `Write` is answered.
+/// What the sink gathered before goes out first. Of a source with a failed read nothing is read, and `Read` is
+/// answered. To a sink that has stopped nothing is written; any other fault still comes first, and else `Write` is
+/// answered.
 pub fn run_storm<R: Threads + Wait + Sync, S: Read, W: Write>(
     rt: &R,
     alloc: Global,
     source: &mut Source<S>,
     sink: &mut Sink<W>,
 ) -> Result<(), RunFault>
-    ensures ends { RunEnds storm_script_of (LeavesStorm sink.old sink.new) source.old source.new sink.old sink.new result }
+    ensures ends { RunEnds storm_script_of
+        (LeavesStorm sink.old sink.new) source.old source.new sink.old sink.new result }
     ensures reads { RunReads storm_script_of source.old source.new result }
     ensures writes { RunWrites sink.old sink.new result }
 {

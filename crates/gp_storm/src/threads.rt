@@ -123,8 +123,9 @@ fn first_fault(
     }
 }
 
-/// Runs the plan's threads to their ends: a feeder and a reader for each port, and the clock; the operator runs in this thread. A
-/// thread that is not started is a mismatch; then the ends of its ring are dropped, so that none waits for it.
+/// Runs the plan's threads to their ends: a feeder and a reader for each port, and the clock; the operator runs in
+/// this thread. A thread that is not started is a mismatch; then the ends of its ring are dropped, so that none waits
+/// for it.
 pub(crate) fn run<L: Ledger + Send + Sync, R: Threads + Wait + Sync>(
     rt: &R,
     alloc: Global,

@@ -6,8 +6,8 @@ use Rattle.std.specs.Io.KnownBytes.{Appends}
 pub record SinkState (W : Type 0) : Type 0 where
   -- the writer below
   pub writer : W
-  -- what the writer holds. A writer that doesn't tell its bytes (standard output) has None here; then nothing below says
-  -- what it got
+  -- what the writer holds. A writer that doesn't tell its bytes (standard output) has None here; then nothing below
+  -- says what it got
   pub held : Option (List ℕ)
   -- what was handed in and is not yet written
   pub gathered : List ℕ

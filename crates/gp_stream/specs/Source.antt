@@ -18,8 +18,8 @@ max_reads = 2097152
 pub record SourceState (R : Type 0) : Type 0 where
   -- the reader below
   pub reader : R
-  -- the bytes still to come. A reader that doesn't tell its bytes (a file, standard input) has None here; then nothing below
-  -- says which bytes came
+  -- the bytes still to come. A reader that doesn't tell its bytes (a file, standard input) has None here; then
+  -- nothing below says which bytes came
   pub remaining : Option (List ℕ)
   -- how many reads may still be made
   pub left : ℕ

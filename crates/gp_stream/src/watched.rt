@@ -48,7 +48,8 @@ impl<W: Write> Watched<W> {
     /// Makes one write, if there is anything to write.
     pub(crate) fn write(&mut self, bytes: &[u8]) -> io::Result<usize>
         ensures bound { WritesAtMost result bytes.now }
-        ensures bytes { WriteAppends (W.contents (inner_of self.old)) (W.contents (inner_of self.new)) result bytes.now }
+        ensures bytes { WriteAppends (W.contents (inner_of self.old))
+            (W.contents (inner_of self.new)) result bytes.now }
         ensures stopped { is_stopped self.new ≡ (is_stopped self.old || took_nothing bytes.now result) }
         ensures flushed { bytes.now ≢ [] → is_flushed self.new ≡ false }
     {

@@ -1,5 +1,6 @@
--- The active units of a port together with the numbers that they have, and those that are free (the ONU-IDs are G.984.3's,
--- clause 9; the further Alloc-IDs from 256 on are its clause 8; the quarantine is this profile's own rule).
+-- The active units of a port together with the numbers that they have, and those that are free (the ONU-IDs are
+-- G.984.3's, clause 9; the further Alloc-IDs from 256 on are its clause 8; the quarantine is this profile's own
+-- rule).
 use Rattle.std.specs.Prelude.{◌≡◌, ◌≢◌, ℕ, ◌<◌, ◌≤◌, ◌==◌, Bool, true, false, List, map, replicate, get_or, set, Option, None, Some, if◌then◌else◌}
 use Rattle.std.specs.List.{range_with_len}
 use Rattle.std.specs.FinMap as finmap
@@ -17,9 +18,9 @@ use Rattle.gp_table.specs.declared.unit_table.Entry.{Entry}
 use Rattle.gp_table.specs.Rows.{Rows, HasRow}
 use Rattle.gp_table.specs.Units.{Units}
 
--- the admitted serial numbers, from the serial number of each active unit to its row, and the disabled serial numbers; how
--- many units may be active, the greatest Alloc-ID, for how many frames a freed ONU-ID is given to no other unit, and for each
--- ONU-ID, from 0 on, how many of these frames are left
+-- the admitted serial numbers, from the serial number of each active unit to its row, and the disabled serial
+-- numbers; how many units may be active, the greatest Alloc-ID, for how many frames a freed ONU-ID is given to no
+-- other unit, and for each ONU-ID, from 0 on, how many of these frames are left
 pub record ActiveState : Type 0 where
   pub admitted : finset.FinSet serial_cmp
   pub rows : Rows
@@ -51,7 +52,8 @@ entry_of_active units serial =
 
 -- ---- free numbers
 
--- a new unit may get this ONU-ID: it is at most 253, there is room for a further unit, no unit has it, and it is not cooling
+-- a new unit may get this ONU-ID: it is at most 253, there is room for a further unit, no unit has it, and it is not
+-- cooling
 pub record IsFreeOnuId (units : ActiveState) (onu : ℕ) : Type 0 where
   pub low : onu < onu_ids
   pub room : finmap.len units.rows < units.max_units
@@ -129,8 +131,8 @@ pub record AreNumbersOf (rows : Rows) (has : ℕ → Row → Bool) (settled : �
   pub each_owned : (number : ℕ) → settled number ≡ true → IsNumberOf rows has number
   pub alone : (number : ℕ) (one other : IsNumberOf rows has number) → one.serial ≡ other.serial
 
--- what every table with its pools keeps: between calls nothing is leased, and the settled numbers are those of the rows; no
--- number that is settled cools, and each that cools has frames left
+-- what every table with its pools keeps: between calls nothing is leased, and the settled numbers are those of the
+-- rows; no number that is settled cools, and each that cools has frames left
 pub record AreTogether (rows : Rows) (onus : OnuPool) (allocs : Pool) : Type 0 where
   pub onus_leased : (onu : ℕ) → finset.contains onus.pool.leased onu ≡ false
   pub allocs_leased : (alloc : ℕ) → finset.contains allocs.leased alloc ≡ false

@@ -32,7 +32,9 @@ key_or_zero (Some key) = key
 
 -- from the serial number of each active unit to the key of its record
 unfoldable pub keys_of : Admissions → FinMap serial_cmp ℕ
-keys_of index = map_values (λ admission. key_or_zero admission.key) (retain_keys index (λ serial. is_some (key_in (get index serial))))
+keys_of index =
+    map_values (λ admission. key_or_zero admission.key)
+    (retain_keys index (λ serial. is_some (key_in (get index serial))))
 
 -- the admitted serial numbers
 unfoldable pub admitted_of : Admissions → set.FinSet serial_cmp

@@ -1,5 +1,5 @@
--- How the unit table is kept: a slab of records, an index by serial number, one by ONU-ID, and the sets of the ranging and
--- the operating ONU-IDs (this profile's own rule). No public clause cites this module.
+-- How the unit table is kept: a slab of records, an index by serial number, one by ONU-ID, and the sets of the
+-- ranging and the operating ONU-IDs (this profile's own rule). No public clause cites this module.
 use Rattle.std.specs.Prelude.{◌≡◌, ℕ, ◌≤◌, Bool, true, false, IsTrue, List, length, Option, None, Some, is_some, count_by, slice_index_or}
 use Rattle.std.specs.Ordering.{nat_cmp}
 use Rattle.std.specs.FinMap as map
@@ -34,7 +34,8 @@ rows_of slots serials = map_values (λ key. row_in (slot_at slots key)) serials
 
 -- what the table stands for
 abbrev pub units_of : Slots → Admissions → Units
-units_of slots index = record { admitted = admitted_of index; rows = rows_of slots (keys_of index); disabled = disabled_of index }
+units_of slots index =
+    record { admitted = admitted_of index; rows = rows_of slots (keys_of index); disabled = disabled_of index }
 
 -- the key that the index by ONU-ID has
 abbrev pub key_of_onu : List (Option ℕ) → ℕ → Option ℕ
@@ -61,7 +62,9 @@ pub record IsSetOf (onus : set.FinSet nat_cmp) (rows : Rows) (ranging : Bool) : 
   pub of_set : (onu : ℕ) → IsTrue (set.contains onus onu) → IsInPhase rows ranging onu
 
 -- what every unit table keeps: the indexes name the same records, no record stands beside them, and there is room
-pub record IsKeptTable (slots : Slots) (capacity : ℕ) (serials : map.FinMap serial_cmp ℕ) (onus : List (Option ℕ)) (ranging operating : set.FinSet nat_cmp) : Type 0 where
+pub record IsKeptTable
+    (slots : Slots) (capacity : ℕ) (serials : map.FinMap serial_cmp ℕ) (onus : List (Option ℕ))
+    (ranging operating : set.FinSet nat_cmp) : Type 0 where
   pub room : onu_ids ≤ capacity
   pub counted : count_by is_some slots ≡ map.len serials
   pub places : length onus ≡ onu_ids

@@ -36,8 +36,8 @@ pub struct NumberLimits {
     pub quarantine: u16,
 }
 
-/// The active units of a port with the numbers that they have. Between calls no number is leased: each that a unit has is
-/// settled in its pool, and no other is. After `begin` it takes no memory.
+/// The active units of a port with the numbers that they have. Between calls no number is leased: each that a unit
+/// has is settled in its pool, and no other is. After `begin` it takes no memory.
 #[derive(Drop)]
 pub struct ActiveUnits {
     table: UnitTable,
@@ -55,7 +55,8 @@ impl Model for ActiveUnits {
 
     ghost Value = { ActiveState };
 
-    ghost coded = { Prim.hlevel (codes, map.code {R = serial_cmp} coded_serial row.the_row.coded, set.code {R = serial_cmp} coded_serial) };
+    ghost coded = { Prim.hlevel
+        (codes, map.code {R = serial_cmp} coded_serial row.the_row.coded, set.code {R = serial_cmp} coded_serial) };
 
     ghost view = { λ a. active_of a.table a.onus a.allocs };
 
@@ -72,7 +73,8 @@ impl ActiveUnits {
         requires units { limits.max_units ≤ onu_ids }
         requires allocs { limits.alloc_last ≤ last_alloc_id }
         requires frames { limits.quarantine ≤ max_quarantine }
-        ensures { IfOk result (λ units. units ≡ no_active_units admitted.now limits.max_units limits.alloc_last limits.quarantine) }
+        ensures { IfOk result
+            (λ units. units ≡ no_active_units admitted.now limits.max_units limits.alloc_last limits.quarantine) }
     {
         let table = UnitTable::begin(alloc, admitted)?;
         Ok(ActiveUnits {
@@ -82,7 +84,8 @@ impl ActiveUnits {
         })
     }
 
-    /// Makes a second table of the same units, with the same numbers free and cooling. Fails only where there is no memory.
+    /// Makes a second table of the same units, with the same numbers free and cooling. Fails only where there is no
+    /// memory.
     pub fn try_clone(&self, alloc: Global) -> Result<ActiveUnits, AllocError>
         ensures { IfOk result (λ units. units ≡ self.now) }
     {
@@ -132,7 +135,8 @@ impl ActiveUnits {
     /// Tells the record of the unit with this ONU-ID.
     pub fn holder(&self, onu: u8) -> Option<&Record>
         ensures none { IfNone result ((serial : Serial) → HasOnuId self.now.rows serial onu → ⊥) }
-        ensures some { IfSome result (λ unit. (unit.now.row.onu ≡ onu) × HasRow self.now.rows unit.now.serial (row_of unit.now)) }
+        ensures some { IfSome result
+            (λ unit. (unit.now.row.onu ≡ onu) × HasRow self.now.rows unit.now.serial (row_of unit.now)) }
     {
         self.table.holder(onu)
     }
@@ -151,8 +155,8 @@ impl ActiveUnits {
         self.table.next_poll(last)
     }
 
-    /// Tells an ONU-ID that a new unit may get: the wished one where it is free, else the least; None exactly where there
-    /// is none.
+    /// Tells an ONU-ID that a new unit may get: the wished one where it is free, else the least; None exactly where
+    /// there is none.
     pub fn free_onu(&self, wished: Option<u8>) -> Option<u8>
         ensures none { IfNone result ((onu : ℕ) → IsFreeOnuId self.now onu → ⊥) }
         ensures free { IfSome result (IsFreeOnuId self.now) }
@@ -177,8 +181,8 @@ impl ActiveUnits {
         }
     }
 
-    /// Tells a further Alloc-ID that a unit may get: the wished one where it is free, else the least; None exactly where
-    /// there is none.
+    /// Tells a further Alloc-ID that a unit may get: the wished one where it is free, else the least; None exactly
+    /// where there is none.
     pub fn free_alloc(&self, wished: Option<u16>) -> Option<u16>
         ensures none { IfNone result ((alloc : ℕ) → IsFreeAllocId self.now alloc → ⊥) }
         ensures free { IfSome result (IsFreeAllocId self.now) }
@@ -245,13 +249,15 @@ impl ActiveUnits {
         self.set_row(unit.serial, unit.row.releasing(alloc));
     }
 
-    /// Counts a poll window that ended with the unit's Acknowledge of the pending Alloc-ID. One that it gave back is free.
+    /// Counts a poll window that ended with the unit's Acknowledge of the pending Alloc-ID. One that it gave back is
+    /// free.
     pub fn acknowledge(&mut self, unit: Record)
         requires active { HasRow self.old.rows unit.serial unit.row }
         requires sound { IsSoundRow self.old.alloc_last unit.row }
         requires operating { is_ranging unit.row.phase ≡ false }
         requires pending { IsSome unit.row.pending }
-        ensures { ForSome unit.row.pending (λ alloc. self.new ≡ with_row self.old unit.serial (row_acknowledged (row_polled unit.row Acked) alloc)) }
+        ensures { ForSome unit.row.pending
+            (λ alloc. self.new ≡ with_row self.old unit.serial (row_acknowledged (row_polled unit.row Acked) alloc)) }
     {
         let (acked, freed) = operating(unit.wake(&mut self.onus, &mut self.allocs)).acked();
         let unit = acked.settle(&mut self.onus, &mut self.allocs);

@@ -25,8 +25,8 @@ struct IndexPlace {
     admission: AdmittedSerial,
 }
 
-/// The admitted serial numbers of a port, in their order, which stay the same from `begin` on; for each of them the key of
-/// its unit's record, if it is active, and whether it is disabled. Contracts see a finite map.
+/// The admitted serial numbers of a port, in their order, which stay the same from `begin` on; for each of them the
+/// key of its unit's record, if it is active, and whether it is disabled. Contracts see a finite map.
 #[derive(Drop)]
 pub struct AdmissionIndex {
     places: Vec<IndexPlace>,

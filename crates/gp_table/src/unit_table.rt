@@ -33,7 +33,8 @@ pub struct Entry {
 }
 
 /// The admitted serial numbers of a port, which stay the same from `begin` on, with the units that are active and the
-/// serial numbers that are disabled. A unit is found by its serial number or its ONU-ID. After `begin` it takes no memory.
+/// serial numbers that are disabled. A unit is found by its serial number or its ONU-ID. After `begin` it takes no
+/// memory.
 #[derive(Drop)]
 pub struct UnitTable {
     records: Slab<Record>,
@@ -56,11 +57,13 @@ impl Model for UnitTable {
 
     ghost Value = { Units };
 
-    ghost coded = { Prim.hlevel (codes, map.code {R = serial_cmp} coded_serial row.the_row.coded, set.code {R = serial_cmp} coded_serial) };
+    ghost coded = { Prim.hlevel
+        (codes, map.code {R = serial_cmp} coded_serial row.the_row.coded, set.code {R = serial_cmp} coded_serial) };
 
     ghost view = { λ t. units_of t.records.slots t.admissions };
 
-    ghost invariant = { λ t. IsKeptTable t.records.slots t.records.capacity (keys_of t.admissions) t.onus.items t.ranging t.operating };
+    ghost invariant = { λ t. IsKeptTable t.records.slots t.records.capacity
+        (keys_of t.admissions) t.onus.items t.ranging t.operating };
 }
 
 /// The row in the record with this key, if there is a key.
@@ -77,7 +80,8 @@ fn row_at(records: &Slab<Record>, key: Option<usize>) -> Option<Row>
 /// Notes whether the unit with this ONU-ID is ranging or operating.
 fn mark(ranging: &mut NumberSet<0, 4>, operating: &mut NumberSet<0, 4>, onu: u8, ranges: bool)
     ensures ranging { ranging.new ≡ (if ranges then set.insert ranging.old onu else set.remove ranging.old onu) }
-    ensures operating { operating.new ≡ (if ranges then set.remove operating.old onu else set.insert operating.old onu) }
+    ensures operating { operating.new
+        ≡ (if ranges then set.remove operating.old onu else set.insert operating.old onu) }
 {
     let onu = u16::from(onu);
     if ranges {
@@ -90,8 +94,8 @@ fn mark(ranging: &mut NumberSet<0, 4>, operating: &mut NumberSet<0, 4>, onu: u8,
 }
 
 impl UnitTable {
-    /// A table that admits these serial numbers, with no units, and with room for as many as there are ONU-IDs. Fails only
-    /// where there is no memory.
+    /// A table that admits these serial numbers, with no units, and with room for as many as there are ONU-IDs. Fails
+    /// only where there is no memory.
     pub fn begin(alloc: Global, admitted: &[Serial]) -> Result<UnitTable, AllocError>
         ensures { IfOk result (λ table. table ≡ no_units admitted.now) }
     {
@@ -174,7 +178,8 @@ impl UnitTable {
     /// The record of the unit with this ONU-ID.
     pub fn holder(&self, onu: u8) -> Option<&Record>
         ensures none { IfNone result ((serial : Serial) → HasOnuId self.now.rows serial onu → ⊥) }
-        ensures some { IfSome result (λ unit. (unit.now.row.onu ≡ onu) × HasRow self.now.rows unit.now.serial (row_of unit.now)) }
+        ensures some { IfSome result
+            (λ unit. (unit.now.row.onu ≡ onu) × HasRow self.now.rows unit.now.serial (row_of unit.now)) }
     {
         let onus = self.onus.as_slice();
         let place = usize::from(onu);
@@ -226,10 +231,12 @@ impl UnitTable {
         }
     }
 
-    /// Puts these counts in the place of a unit's. All else of the unit stays as it is, and no set of ONU-IDs is touched.
+    /// Puts these counts in the place of a unit's. All else of the unit stays as it is, and no set of ONU-IDs is
+    /// touched.
     pub fn set_counts(&mut self, unit: Record, counts: PollCounts)
         requires { HasRow self.old.rows unit.serial (row_of unit) }
-        ensures { self.new ≡ record self.old { rows = map.insert self.old.rows unit.serial (row_counted unit.row counts) } }
+        ensures { self.new
+            ≡ record self.old { rows = map.insert self.old.rows unit.serial (row_counted unit.row counts) } }
     {
         match self.onus[usize::from(unit.row.onu)] {
             Some(key) => self.records[key].row.set_counts(counts),

@@ -21,8 +21,8 @@ earlier_of (Some a) (Some b) = Some (if is_earlier b a then b else a)
 abbrev pub timer_at : List (Option Timer) → ℕ → Option Timer
 timer_at nodes place = slice_index_or nodes place None
 
--- the places from `names` on are the leaves, one for each name, with the timer of that name; each place below them, from 1
--- on, has the earlier of the timers at twice its number and the place after that
+-- the places from `names` on are the leaves, one for each name, with the timer of that name; each place below them,
+-- from 1 on, has the earlier of the timers at twice its number and the place after that
 pub record IsTournament (names : ℕ) (nodes : List (Option Timer)) : Type 0 where
   pub few : names < 2 ^ 16
   pub size : length nodes ≡ 2 * names

@@ -88,7 +88,8 @@ impl Wheel {
     pub fn due(&mut self, frame: u64) -> Option<u16>
         ensures none { IsNone result ↔ NoneIsDue self.old.frames frame }
         ensures first { IfSome result (IsFirstDue self.old.frames frame) }
-        ensures taken { IfSome result (λ name. self.new ≡ record self.old { frames = map.remove self.old.frames name }) }
+        ensures taken { IfSome result
+            (λ name. self.new ≡ record self.old { frames = map.remove self.old.frames name }) }
         ensures kept { IfNone result (self.new ≡ self.old) }
     {
         let first = winner(&self.nodes)?;
@@ -103,7 +104,8 @@ impl Wheel {
     fn write(&mut self, name: u16, timer: Option<Timer>)
         requires in_range { name < self.old.names }
         requires named { ForSome timer (λ t. t.name ≡ name) }
-        ensures set { IfSome timer (λ t. self.new ≡ record self.old { frames = map.insert self.old.frames name t.frame }) }
+        ensures set { IfSome timer
+            (λ t. self.new ≡ record self.old { frames = map.insert self.old.frames name t.frame }) }
         ensures cleared { IfNone timer (self.new ≡ record self.old { frames = map.remove self.old.frames name }) }
     {
         rewrite(&mut self.nodes, name, timer);

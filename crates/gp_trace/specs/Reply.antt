@@ -41,14 +41,17 @@ abbrev pub allocs_text : List (ℕ × Bool) → List ℕ
 allocs_text [] = codes "-"
 allocs_text (alloc ∷ allocs) = listed (alloc ∷ allocs)
 
--- how far the activation of a unit has gone: its ranging windows without a result, or its equalization delay in bit times
+-- how far the activation of a unit has gone: its ranging windows without a result, or its equalization delay in bit
+-- times
 abbrev pub phase_text : Phase → List ℕ
 phase_text (Ranging attempts seen) = numbered (codes "ranging") attempts
 phase_text (Operating eqd dark garbled) = numbered (codes "operating") eqd
 
 -- what a port knows of a unit; its Alloc-IDs rise
 abbrev pub row_text : Row → List ℕ
-row_text row = numbered (codes "unit") row.onu ++ codes " " ++ phase_text row.phase ++ codes " allocs " ++ allocs_text (entries row.allocs)
+row_text row =
+    numbered (codes "unit") row.onu ++ codes " " ++ phase_text row.phase ++ codes " allocs "
+    ++ allocs_text (entries row.allocs)
 
 -- what the port replied
 abbrev pub reply_text : Reply → List ℕ

@@ -62,12 +62,14 @@ alarm_text (Some alarm) = of_unit (codes " alarm " ++ alarm_name alarm.kind) ala
 
 -- what the port gave for an event: its reply, and what was sent, granted and raised, where there is something
 abbrev pub answer_text : Mask → Answer → List ℕ
-answer_text mask answer = reply_text answer.reply ++ sent_text mask answer.sent ++ grant_text answer.grant ++ alarm_text answer.alarm
+answer_text mask answer =
+    reply_text answer.reply ++ sent_text mask answer.sent ++ grant_text answer.grant ++ alarm_text answer.alarm
 
 -- the line of an entry: its port, its number on that port, what happened, and what the port gave for it
 unfoldable pub line_of : Mask → Receipt → List ℕ
 line_of mask r =
-    decimal r.port ++ codes " " ++ decimal r.number ++ codes " " ++ event_text r.entry.event ++ codes " = " ++ answer_text mask r.entry.answer ++ codes "\n"
+    decimal r.port ++ codes " " ++ decimal r.number ++ codes " " ++ event_text r.entry.event ++ codes " = "
+    ++ answer_text mask r.entry.answer ++ codes "\n"
 
 -- the lines of the entries, in their order
 abbrev pub trace_text : Mask → List Receipt → List ℕ

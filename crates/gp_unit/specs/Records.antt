@@ -22,4 +22,11 @@ blank_row = record { onu = 0; allocs = empty; pending = None; waiting = 0; phase
 
 -- a row as plain data: its further Alloc-IDs stand in rising order in eight places
 abbrev pub view_of : Row → RowView
-view_of row = record { onu = row.onu; allocs = slots_of (entries row.allocs); pending = row.pending; waiting = row.waiting; phase = row.phase }
+view_of row =
+    record {
+      onu = row.onu;
+      allocs = slots_of (entries row.allocs);
+      pending = row.pending;
+      waiting = row.waiting;
+      phase = row.phase;
+    }

@@ -50,7 +50,8 @@ new_row onu = record { onu = onu; allocs = empty; pending = None; waiting = 0; p
 
 -- a ranging window closed without a result: the unit is still ranging, or None where it was the second
 abbrev pub row_unranged : Row → Bool → Phase → Option Row
-row_unranged row heard (Ranging attempts seen) = if attempts == 1 then None else Some (record row { phase = Ranging (attempts + 1) (seen || heard) })
+row_unranged row heard (Ranging attempts seen) =
+    if attempts == 1 then None else Some (record row { phase = Ranging (attempts + 1) (seen || heard) })
 row_unranged row heard (Operating eqd dark garbled) = Some row
 
 -- whether anything was heard of a unit while it was ranging
@@ -107,7 +108,8 @@ allocs_left allocs alloc _ = allocs
 
 -- the unit acknowledged the pending one: it holds it, or has given it back
 abbrev pub row_acknowledged : Row → ℕ → Row
-row_acknowledged row alloc = record row { allocs = allocs_left row.allocs alloc (get row.allocs alloc); pending = None; waiting = 0 }
+row_acknowledged row alloc =
+    record row { allocs = allocs_left row.allocs alloc (get row.allocs alloc); pending = None; waiting = 0 }
 
 -- ---- POPUP
 

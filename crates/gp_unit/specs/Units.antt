@@ -1,5 +1,5 @@
--- The typed units: a record of which the numbers are leased, and what is left of a unit that is no more (G.984.3, clause
--- 10). What becomes of its row stands in Rows.
+-- The typed units: a record of which the numbers are leased, and what is left of a unit that is no more (G.984.3,
+-- clause 10). What becomes of its row stands in Rows.
 use Rattle.std.specs.Prelude.{◌≡◌, ℕ, ◌≤◌, Bool, true, Option, None, Some, refl}
 use Rattle.std.specs.Coded.{Coded, code_by, coded×, coded_ℕ, coded_bool, coded_option}
 use Rattle.std.specs.FinMap as map
@@ -25,7 +25,9 @@ pub record RetiredState : Type 0 where
 
 -- it is stored as pairs of its parts
 abbrev pub retired_code : Coded RetiredState
-retired_code = code_by (Serial × (Option ℕ × AllocMap)) (coded× coded_serial (coded× (coded_option coded_ℕ) (map.code coded_ℕ coded_bool)))
+retired_code =
+    code_by (Serial × (Option ℕ × AllocMap))
+    (coded× coded_serial (coded× (coded_option coded_ℕ) (map.code coded_ℕ coded_bool)))
     (λ r. (r.serial, (r.onu, r.allocs))) (λ p. record { serial = p.0; onu = p.1.0; allocs = p.1.1 }) (λ _. refl)
 
 -- a unit that is no more, with all its numbers

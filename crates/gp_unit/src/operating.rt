@@ -19,8 +19,8 @@ use gp_linear::NeverDropped;
 use gp_pools::{AllocIds, AllocLease, OnuIds};
 use std::marker::Model;
 
-/// A unit that has its equalization delay and is polled. It is no `Drop`: each call hands on what it holds. Contracts see
-/// its record.
+/// A unit that has its equalization delay and is polled. It is no `Drop`: each call hands on what it holds. Contracts
+/// see its record.
 pub struct Operating {
     pub(super) unit: Leased,
 }
@@ -55,7 +55,9 @@ impl NeverDropped for PollClosed {}
 impl Operating {
     /// Counts a poll window of the unit that ended so: at the limit of a count the unit is lost.
     pub fn poll_closed(self, outcome: Outcome) -> PollClosed
-        ensures { MatchOption (alarm_polled self.row outcome) (result ≡ PollClosed.Still (record_of self.serial (row_polled self.row outcome))) (λ alarm. result ≡ PollClosed.Lost (retired self) alarm) }
+        ensures { MatchOption (alarm_polled self.row outcome)
+            (result ≡ PollClosed.Still (record_of self.serial (row_polled self.row outcome)))
+            (λ alarm. result ≡ PollClosed.Lost (retired self) alarm) }
     {
         let Operating { unit } = self;
         match unit.unit().row.polled(outcome) {
@@ -117,8 +119,10 @@ impl Operating {
     /// leaving is handed out.
     pub fn acked(self) -> (Operating, Option<AllocLease>)
         requires pending { IsSome self.row.pending }
-        ensures unit { ForSome self.row.pending (λ alloc. result.0 ≡ record_of self.serial (row_acknowledged (row_polled self.row Acked) alloc)) }
-        ensures freed { ForSome self.row.pending (λ alloc. result.1 ≡ freed_alloc alloc (map.get self.row.allocs alloc)) }
+        ensures unit { ForSome self.row.pending
+            (λ alloc. result.0 ≡ record_of self.serial (row_acknowledged (row_polled self.row Acked) alloc)) }
+        ensures freed { ForSome self.row.pending
+            (λ alloc. result.1 ≡ freed_alloc alloc (map.get self.row.allocs alloc)) }
     {
         let Operating { unit } = self;
         let Leased {

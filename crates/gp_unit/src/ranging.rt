@@ -17,8 +17,8 @@ use gp_pools::{AllocIds, AllocLeases, OnuIds, OnuLease};
 use gp_ranging::equalize;
 use std::marker::Model;
 
-/// A unit that has an ONU-ID and whose delay is still to be measured. It is no `Drop`: each call hands on what it holds.
-/// Contracts see its record.
+/// A unit that has an ONU-ID and whose delay is still to be measured. It is no `Drop`: each call hands on what it
+/// holds. Contracts see its record.
 pub struct Ranging {
     pub(super) unit: Leased,
 }
@@ -66,10 +66,12 @@ impl Ranging {
         }
     }
 
-    /// Ends the ranging with the unit's round-trip delay, in bit times: it operates, unless it is farther away than `teqd`
-    /// allows, and then it is handed back as it was.
+    /// Ends the ranging with the unit's round-trip delay, in bit times: it operates, unless it is farther away than
+    /// `teqd` allows, and then it is handed back as it was.
     pub fn measured(self, teqd: u32, rtd: u32) -> Result<Operating, Ranging>
-        ensures { MatchResult result (λ unit. (rtd ≤ teqd) × (unit ≡ record_of self.serial (row_measured self.row (teqd - rtd)))) (λ unit. (teqd < rtd) × (unit ≡ self)) }
+        ensures { MatchResult result
+            (λ unit. (rtd ≤ teqd) × (unit ≡ record_of self.serial (row_measured self.row (teqd - rtd))))
+            (λ unit. (teqd < rtd) × (unit ≡ self)) }
     {
         let Some(eqd) = equalize(teqd, rtd) else {
             return Err(self);
@@ -81,10 +83,12 @@ impl Ranging {
         })
     }
 
-    /// Counts a ranging window that closed without a result, in which something was heard or not. After the second the unit
-    /// is no more.
+    /// Counts a ranging window that closed without a result, in which something was heard or not. After the second
+    /// the unit is no more.
     pub fn window_closed(self, seen: bool) -> RangingClosed
-        ensures { MatchOption (row_unranged self.row seen self.row.phase) (result ≡ RangingClosed.Failed (retired self) (was_seen self.row.phase || seen)) (λ row. result ≡ RangingClosed.Still (record_of self.serial row)) }
+        ensures { MatchOption (row_unranged self.row seen self.row.phase)
+            (result ≡ RangingClosed.Failed (retired self) (was_seen self.row.phase || seen))
+            (λ row. result ≡ RangingClosed.Still (record_of self.serial row)) }
     {
         let Ranging { unit } = self;
         let row = unit.unit().row;

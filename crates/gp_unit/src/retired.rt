@@ -36,8 +36,8 @@ impl Retired {
         self.serial
     }
 
-    /// Gives the unit's numbers back to the pools that they were leased from. The ONU-ID, where it is among them, begins to
-    /// cool; after `Ranging::restart` there are Alloc-IDs alone.
+    /// Gives the unit's numbers back to the pools that they were leased from. The ONU-ID, where it is among them,
+    /// begins to cool; after `Ranging::restart` there are Alloc-IDs alone.
     pub fn give_up(self, onus: &mut OnuIds, alloc_ids: &mut AllocIds)
         requires onu { ForSome self.onu (IsLeased onus.old.pool) }
         requires allocs { AreLeased alloc_ids.old self.allocs }

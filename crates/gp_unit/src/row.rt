@@ -91,7 +91,8 @@ impl Row {
         self.allocs.get(alloc) == Some(false)
     }
 
-    /// Counts a ranging window that closed without a result: None where it was the second. `heard`: something came in it.
+    /// Counts a ranging window that closed without a result: None where it was the second. `heard`: something came in
+    /// it.
     pub fn unranged(self, heard: bool) -> Option<Row>
         requires { IsCounted self.phase }
         ensures { result ≡ row_unranged self heard self.phase }
@@ -218,8 +219,8 @@ impl Row {
         }
     }
 
-    /// Makes an operating unit range anew (POPUP to all units); it keeps its Alloc-IDs and what is pending. A ranging unit
-    /// stays as it is.
+    /// Makes an operating unit range anew (POPUP to all units); it keeps its Alloc-IDs and what is pending. A ranging
+    /// unit stays as it is.
     pub fn popped_up(self) -> Row
         ensures { result ≡ row_popped_up self self.phase }
     {

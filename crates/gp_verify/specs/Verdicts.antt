@@ -27,8 +27,8 @@ pub record NamesNoPort (old : PlayState) (text : List ℕ) : Type 0 where
   pub parts : PartsOf text
   pub past : length old.next ≤ parts.port
 
--- what the machine says in a line's place: the line of the entry that it makes for the line's event, with the number that the
--- line's answer names, where it hands out one and that one is free
+-- what the machine says in a line's place: the line of the entry that it makes for the line's event, with the number
+-- that the line's answer names, where it hands out one and that one is free
 pub record SaysInstead (mask : Mask) (old : PlayState) (port : ℕ) (event : Event) (answer said : List ℕ) : Type 0 where
   pub receipt : Receipt
   pub end : PlayState
@@ -51,8 +51,9 @@ pub record IsNoStep (mask : Mask) (old : PlayState) (text said : List ℕ) : Typ
   pub number : slice_get old.next parts.port ≡ Some parts.number
   pub says : SaysInstead mask old parts.port parts.event parts.answer said
 
--- a line that follows tells of a turn, and of no other, and leaves the play that the turn leaves; any other line tells of no
--- turn that may be taken there, for one of four reasons. `said` is what the machine says in the place of such a line.
+-- a line that follows tells of a turn, and of no other, and leaves the play that the turn leaves; any other line
+-- tells of no turn that may be taken there, for one of four reasons. `said` is what the machine says in the place of
+-- such a line.
 abbrev pub Judges : Verdict → Mask → PlayState → List ℕ → PlayState → List ℕ → Type 0
 Judges verdict.Follows mask old text new said = TellsAlone mask old text new
 Judges verdict.NotALine mask old text new said = TellsNothing mask old text × (PartsOf text → ⊥)
@@ -65,8 +66,8 @@ Judges verdict.TooLong mask old text new said = ⊥
 abbrev pub most_lines : ℕ
 most_lines = 18446744073709551615
 
--- where a verification stands: the mask of the codes, the play that the lines so far tell of, how many lines were judged, the
--- line that the machine said last, and the verdict that ended it
+-- where a verification stands: the mask of the codes, the play that the lines so far tell of, how many lines were
+-- judged, the line that the machine said last, and the verdict that ended it
 pub record VerifyState : Type 0 where
   pub mask : Mask
   pub play : PlayState

@@ -20,7 +20,8 @@ fn is_line_of(line: &[u8], text: &[u8]) -> bool
     }
 }
 
-/// Takes the turn that a line tells of, with the number that its answer names, and tells whether the line is that turn's.
+/// Takes the turn that a line tells of, with the number that its answer names, and tells whether the line is that
+/// turn's.
 fn judge_turn<L: Ledger>(
     player: &mut Player<L>,
     buffer: &mut LineBuffer,

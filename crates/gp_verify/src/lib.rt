@@ -1,13 +1,14 @@
 //! Whether a text is the trace of some run of the machine, with any free ONU-IDs and Alloc-IDs.
 //!
 //! - `running.rt`: `run_verify`, from the bytes of a text to whether it is a trace.
-//! - `verifier.rt`: `Verifier`, which is given the lines of a text one after another; `following.rt`: as what serves lines.
+//! - `verifier.rt`: `Verifier`, which is given the lines of a text one after another; `following.rt`: as what serves
+//!   lines.
 //! - `judging.rt`: takes the turn that a line tells of, and tells whether the line is that turn's.
 //! - `laws.rt`: what lines and the whole text have to do with each other.
 //! - `verdict.rt`: what is said of a line. `fault.rt`: why a line was not judged, and how a verification ends.
 //!
-//! Where to make which change: what it means that a text is a trace stands in `specs/Tells.antt`, what a verdict means in
-//! `specs/Verdicts.antt`, and how a verification may end in `specs/Outcome.antt`.
+//! Where to make which change: what it means that a text is a trace stands in `specs/Tells.antt`, what a verdict
+//! means in `specs/Verdicts.antt`, and how a verification may end in `specs/Outcome.antt`.
 #![tactic(auto)]
 
 mod fault;

@@ -10,8 +10,8 @@ use std::alloc::Global;
 use std::io::{Read, Write};
 use std::sync::ledger::Ledger;
 
-/// Tells whether a text is the trace of some run, from where the verifier stands, and how many lines it has. It is read to
-/// its end, or to the first line that can't be, and a little further.
+/// Tells whether a text is the trace of some run, from where the verifier stands, and how many lines it has. It is
+/// read to its end, or to the first line that can't be, and a little further.
 ///
 /// The sink is what the finding may be written to behind it; nothing is written here.
 pub fn run_verify<L: Ledger, R: Read, W: Write>(

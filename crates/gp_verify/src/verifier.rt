@@ -16,8 +16,9 @@ use std::alloc::{AllocError, Global};
 use std::marker::Model;
 use std::sync::ledger::{Blank, Ledger};
 
-/// Tells of the lines of a text, one after another, whether they are the trace of some run. The first line that is not ends
-/// it. Contracts see the play that the lines so far tell of, how many lines were judged, and what the machine said last.
+/// Tells of the lines of a text, one after another, whether they are the trace of some run. The first line that is
+/// not ends it. Contracts see the play that the lines so far tell of, how many lines were judged, and what the
+/// machine said last.
 ///
 /// It has no `Drop`: its licences are gathered by `close`.
 pub struct Verifier<L: Ledger> {
@@ -52,8 +53,8 @@ impl<L: Ledger> Model for Verifier<L> {
 }
 
 impl<L: Ledger> Verifier<L> {
-    /// Opens the chassis, before the first line. `blank` is a new ledger of `MAX_LICENCES` parts, made by `Blank::new`, and
-    /// `L` its name.
+    /// Opens the chassis, before the first line. `blank` is a new ledger of `MAX_LICENCES` parts, made by
+    /// `Blank::new`, and `L` its name.
     pub fn begin(
         alloc: Global,
         blank: Blank,
@@ -77,8 +78,8 @@ impl<L: Ledger> Verifier<L> {
         })
     }
 
-    /// Judges the next line, without its line feed. A verdict other than `Follows` ends it: that verdict is then given for
-    /// every further line.
+    /// Judges the next line, without its line feed. A verdict other than `Follows` ends it: that verdict is then
+    /// given for every further line.
     ///
     /// `OutOfMemory` is answered where memory for the journal was refused; the line may then be given again. `Full` is
     /// answered where `u64::MAX` lines were judged before.
@@ -139,7 +140,8 @@ impl<L: Ledger> Verifier<L> {
         self.lines
     }
 
-    /// The line that the machine said last, with its line feed: after `WrongNumber` and `NotAStep` that in the line's place.
+    /// The line that the machine said last, with its line feed: after `WrongNumber` and `NotAStep` that in the line's
+    /// place.
     pub fn said(&self) -> &[u8]
         ensures { result.now ≡ self.now.said }
     {

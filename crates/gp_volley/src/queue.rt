@@ -63,7 +63,8 @@ impl Model for VolleyQueue {
 
     ghost view = { λ q. copies_of q.volleys.items };
 
-    ghost invariant = { λ q. IsInOrder q.volleys.items × (length q.volleys.items ≤ max_messages) × (max_messages ≤ deque_capacity q.volleys) };
+    ghost invariant = { λ q. IsInOrder q.volleys.items × (length q.volleys.items ≤ max_messages)
+        × (max_messages ≤ deque_capacity q.volleys) };
 }
 
 impl VolleyQueue {

@@ -23,16 +23,19 @@ AreRunsTo (config ∷ configs) (journal ∷ journals) (end ∷ ends) =
     Replays config journal.base journal.entries end × AreRunsTo configs journals ends
 AreRunsTo _ _ _ = ⊥
 
--- the journals are runs of the configurations, and the totals count their entries and the units that are active at their ends
+-- the journals are runs of the configurations, and the totals count their entries and the units that are active at
+-- their ends
 pub record Ending (configs : List PortConfig) (journals : List Kept) (totals : Totals) : Type 0 where
   pub ends : List PortState
   pub runs : AreRunsTo configs journals ends
   pub counted : AreTotals totals (map (λ (journal : Kept). journal.entries) journals) (sum_by rows_of ends)
 
--- the pieces are runs of the configurations, and the totals count their entries and the units that are active at their ends
+-- the pieces are runs of the configurations, and the totals count their entries and the units that are active at
+-- their ends
 pub record CutEnding (configs : List PortConfig) (pieces : List Piece) (totals : Totals) : Type 0 where
   pub runs : AllZip IsRunOfPiece configs pieces
-  pub counted : AreTotals totals (map (λ (piece : Piece). piece.entries) pieces) (sum_by (λ (piece : Piece). rows_of piece.to) pieces)
+  pub counted : AreTotals totals (map (λ (piece : Piece). piece.entries) pieces)
+      (sum_by (λ (piece : Piece). rows_of piece.to) pieces)
 
 -- ---- how it comes from the desks
 
@@ -48,9 +51,10 @@ chassis_of configs licences = record { configs = configs; licences = licences }
 abbrev pub receipts_of : List WorkerState → List (List Receipt)
 receipts_of workers = map (λ (worker : WorkerState). worker.receipts) workers
 
--- the workers' receipts tell of the desks' entries, each desk has the configuration of its port, and the licences that are free and
--- those of the active units are all that there are
-pub record AddsUp (chassis : ChassisState) (desks : List DeskState) (free : ℕ) (workers : List WorkerState) : Type 0 where
+-- the workers' receipts tell of the desks' entries, each desk has the configuration of its port, and the licences
+-- that are free and those of the active units are all that there are
+pub record AddsUp
+    (chassis : ChassisState) (desks : List DeskState) (free : ℕ) (workers : List WorkerState) : Type 0 where
   pub accounted : Accounted (map history_of_desk desks) (receipts_of workers)
   pub configured : map (λ (desk : DeskState). desk.state.config) desks ≡ chassis.configs
   pub balance : free + sum_by desk_rows desks ≡ chassis.licences

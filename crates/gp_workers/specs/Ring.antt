@@ -20,7 +20,8 @@ pub record GrowsByBursts (old new : List Receipt) (port : ℕ) : Type 0 where
   pub grown : Extends old new (bursts_on port served)
 
 -- some of the bursts are served, and the others are known to be ahead in the ring
-pub record Midway (old now : List Receipt) (port : ℕ) (bursts : List (ℕ × List ℕ)) (rest ahead : List RingItem) : Type 0 where
+pub record Midway
+    (old now : List Receipt) (port : ℕ) (bursts : List (ℕ × List ℕ)) (rest ahead : List RingItem) : Type 0 where
   pub served : List (ℕ × List ℕ)
   pub left : List (ℕ × List ℕ)
   pub split : bursts ≡ served ++ left

@@ -31,8 +31,8 @@ pub(crate) struct Stock<L: Ledger> {
     ghost few: { workers ≤ MAX_WORKERS },
 }
 
-/// Up to sixteen ports, each with its journal under a lock of its own, and one stock of licences under another lock. Any number
-/// of threads may share it. Contracts see what each port was opened with, and how many licences there are.
+/// Up to sixteen ports, each with its journal under a lock of its own, and one stock of licences under another lock.
+/// Any number of threads may share it. Contracts see what each port was opened with, and how many licences there are.
 ///
 /// No call holds two of the locks at once. There is no `Drop`: a chassis ends by `close` or `discard`.
 pub struct Chassis<G: Gate<L>, L: Ledger> {
@@ -58,8 +58,9 @@ impl<G: Gate<L>, L: Ledger> Model for Chassis<G, L> {
 }
 
 impl<G: Gate<L>, L: Ledger> Chassis<G, L> {
-    /// Opens a chassis: each port with no units, in standby, and all licences free. `OpenFault::Limit` where the configuration is
-    /// outside its limits or admits a serial number twice, on one port or on two; else `OutOfMemory`.
+    /// Opens a chassis: each port with no units, in standby, and all licences free. `OpenFault::Limit` where the
+    /// configuration is outside its limits or admits a serial number twice, on one port or on two; else
+    /// `OutOfMemory`.
     ///
     /// `blank` is a new ledger of `MAX_LICENCES` parts, made by `Blank::new`, and `L` its name.
     pub fn begin(
@@ -106,9 +107,10 @@ impl<G: Gate<L>, L: Ledger> Chassis<G, L> {
         Ok(Worker::new(alloc))
     }
 
-    /// Has a port serve an event, and gives the worker the receipt. For a burst a licence is taken first, if one is free, and what
-    /// the port leaves is given back; so with threads a burst can find none while another worker holds one that it gives back.
-    /// `ApplyFault` says when the event is not served; then no port, no journal and no worker changes.
+    /// Has a port serve an event, and gives the worker the receipt. For a burst a licence is taken first, if one is
+    /// free, and what the port leaves is given back; so with threads a burst can find none while another worker holds
+    /// one that it gives back. `ApplyFault` says when the event is not served; then no port, no journal and no worker
+    /// changes.
     pub fn apply<R: Wait>(
         &self,
         rt: &R,
@@ -173,7 +175,8 @@ impl<G: Gate<L>, L: Ledger> Chassis<G, L> {
         event: Event,
     ) -> Result<(Receipt, Licences<L>), (ApplyFault, Licences<L>)>
         requires { port < length self.now.configs }
-        ensures receipt { IfOk result (λ served. (served.0.port ≡ port) × (served.0.entry.event ≡ event) × (served.0.entry.purse_in ≡ purse)) }
+        ensures receipt { IfOk result
+            (λ served. (served.0.port ≡ port) × (served.0.entry.event ≡ event) × (served.0.entry.purse_in ≡ purse)) }
         ensures step { IfOk result (λ served. IsSomeStep served.0.entry) }
         ensures proper { IfOk result (λ served. ForSome served.0.entry.answer.sent IsProperDown) }
         ensures room { OnOk result (0 < worker.new.room) }
@@ -191,8 +194,8 @@ impl<G: Gate<L>, L: Ledger> Chassis<G, L> {
         serve_soundly(&mut desk, port, purse, event)
     }
 
-    /// Ends the chassis with all that its journals keep, whatever its workers were told, and tells how many licences came back:
-    /// all that it was opened with.
+    /// Ends the chassis with all that its journals keep, whatever its workers were told, and tells how many licences
+    /// came back: all that it was opened with.
     pub fn discard<R: Wait>(self, rt: &R) -> u32
         ensures { result ≡ self.licences }
     {
@@ -221,7 +224,8 @@ fn serve_soundly<L: Ledger>(
     purse: Licences<L>,
     event: Event,
 ) -> Result<(Receipt, Licences<L>), (ApplyFault, Licences<L>)>
-    ensures receipt { IfOk result (λ served. (served.0.port ≡ port) × (served.0.entry.event ≡ event) × (served.0.entry.purse_in ≡ purse)) }
+    ensures receipt { IfOk result
+        (λ served. (served.0.port ≡ port) × (served.0.entry.event ≡ event) × (served.0.entry.purse_in ≡ purse)) }
     ensures step { IfOk result (λ served. IsSomeStep served.0.entry) }
     ensures proper { IfOk result (λ served. ForSome served.0.entry.answer.sent IsProperDown) }
     ensures err { IfErr result (λ fault. fault.0 ≡ ApplyFault.NoPort → ⊥) }

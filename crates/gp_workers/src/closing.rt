@@ -70,12 +70,15 @@ struct Opened<G: Gate<L>, L: Ledger> {
 }
 
 impl<G: Gate<L>, L: Ledger> Chassis<G, L> {
-    /// Ends the chassis with all its workers, where their receipts and its journals tell of the same steps. It is handed back with
-    /// the workers where it is not ended: `WorkerMissing`, else `OutOfMemory`, else `Mismatch`. It is also a mismatch where a desk
-    /// has another configuration than its port was opened with, or where a licence is missing.
+    /// Ends the chassis with all its workers, where their receipts and its journals tell of the same steps. It is
+    /// handed back with the workers where it is not ended: `WorkerMissing`, else `OutOfMemory`, else `Mismatch`. It
+    /// is also a mismatch where a desk has another configuration than its port was opened with, or where a licence is
+    /// missing.
     pub fn close(self, alloc: Global, workers: Vec<Worker<L>>) -> Result<Closed, CloseRefused<G, L>>
         ensures ending { IfOk result (λ closed. Ending self.configs closed.journals.items closed.totals) }
-        ensures accounted { IfOk result (λ closed. Accounted (map history_of closed.journals.items) (map (λ worker. worker.receipts) workers.items)) }
+        ensures accounted { IfOk result
+            (λ closed. Accounted (map history_of closed.journals.items)
+            (map (λ worker. worker.receipts) workers.items)) }
         ensures licences { IfOk result (λ closed. closed.licences ≡ self.licences) }
         ensures chassis { IfErr result (λ refused. refused.chassis ≡ self) }
         ensures workers { IfErr result (λ refused. refused.workers.items ≡ workers.items) }
@@ -86,17 +89,20 @@ impl<G: Gate<L>, L: Ledger> Chassis<G, L> {
         }
     }
 
-    /// Hands out what all journals keep, and begins them anew after that, and has the workers forget their receipts, where `close`
-    /// would end the chassis. It is handed back as it was where `close` would not.
+    /// Hands out what all journals keep, and begins them anew after that, and has the workers forget their receipts,
+    /// where `close` would end the chassis. It is handed back as it was where `close` would not.
     pub fn cut(
         self,
         alloc: Global,
         workers: Vec<Worker<L>>,
     ) -> Result<(Chassis<G, L>, Vec<Worker<L>>, Cut), CloseRefused<G, L>>
         ensures ending { IfOk result (λ done. CutEnding self.configs done.2.pieces.items done.2.totals) }
-        ensures accounted { IfOk result (λ done. Accounted (map history_of_piece done.2.pieces.items) (map (λ worker. worker.receipts) workers.items)) }
+        ensures accounted { IfOk result
+            (λ done. Accounted (map history_of_piece done.2.pieces.items)
+            (map (λ worker. worker.receipts) workers.items)) }
         ensures goes_on { IfOk result (λ done. done.0 ≡ self) }
-        ensures forgotten { IfOk result (λ done. All (λ worker. worker.receipts ≡ []) done.1.items × (length done.1.items ≡ length workers.items)) }
+        ensures forgotten { IfOk result
+            (λ done. All (λ worker. worker.receipts ≡ []) done.1.items × (length done.1.items ≡ length workers.items)) }
         ensures chassis { IfErr result (λ refused. refused.chassis ≡ self) }
         ensures workers { IfErr result (λ refused. refused.workers.items ≡ workers.items) }
     {
@@ -112,7 +118,9 @@ impl<G: Gate<L>, L: Ledger> Chassis<G, L> {
         alloc: Global,
         workers: Vec<Worker<L>>,
     ) -> Result<Opened<G, L>, CloseRefused<G, L>>
-        ensures ok { IfOk result (λ opened. (opened.configs.items ≡ self.configs) × (opened.licences ≡ self.licences) × (opened.workers.items ≡ workers.items)) }
+        ensures ok { IfOk result
+            (λ opened. (opened.configs.items ≡ self.configs) × (opened.licences ≡ self.licences)
+            × (opened.workers.items ≡ workers.items)) }
         ensures chassis { IfErr result (λ refused. refused.chassis ≡ self) }
         ensures workers { IfErr result (λ refused. refused.workers.items ≡ workers.items) }
         ensures fault { IfErr result (λ refused. refused.fault ≡ CloseFault.Mismatch → ⊥) }
@@ -164,13 +172,18 @@ impl<G: Gate<L>, L: Ledger> Opened<G, L> {
     /// Ends all, where it adds up.
     fn close(self, alloc: Global) -> Result<Closed, CloseRefused<G, L>>
         ensures ending { IfOk result (λ closed. Ending self.configs.items closed.journals.items closed.totals) }
-        ensures accounted { IfOk result (λ closed. Accounted (map history_of closed.journals.items) (map (λ worker. worker.receipts) self.workers.items)) }
+        ensures accounted { IfOk result
+            (λ closed. Accounted (map history_of closed.journals.items)
+            (map (λ worker. worker.receipts) self.workers.items)) }
         ensures licences { IfOk result (λ closed. closed.licences ≡ self.licences) }
-        ensures chassis { IfErr result (λ refused. (refused.chassis.configs ≡ self.configs.items) × (refused.chassis.licences ≡ self.licences)) }
+        ensures chassis { IfErr result
+            (λ refused. (refused.chassis.configs ≡ self.configs.items) × (refused.chassis.licences ≡ self.licences)) }
         ensures workers { IfErr result (λ refused. refused.workers.items ≡ self.workers.items) }
         ensures missing { IfErr result (λ refused. refused.fault ≡ CloseFault.WorkerMissing → ⊥) }
         ensures mismatch { IfErr result (λ refused. refused.fault ≡ CloseFault.Mismatch
-            → AddsUp (chassis_of self.configs.items self.licences) self.desks.items self.stock.book.free self.workers.items → ⊥) }
+            → AddsUp
+            (chassis_of self.configs.items self.licences) self.desks.items self.stock.book.free self.workers.items
+            → ⊥) }
     {
         let Ok(journals) = Vec::with_capacity(alloc, self.desks.len()) else {
             return Err(self.refused(CloseFault::OutOfMemory));
@@ -184,14 +197,22 @@ impl<G: Gate<L>, L: Ledger> Opened<G, L> {
     /// Cuts all journals, where it adds up.
     fn cut(self, alloc: Global) -> Result<(Chassis<G, L>, Vec<Worker<L>>, Cut), CloseRefused<G, L>>
         ensures ending { IfOk result (λ done. CutEnding self.configs.items done.2.pieces.items done.2.totals) }
-        ensures accounted { IfOk result (λ done. Accounted (map history_of_piece done.2.pieces.items) (map (λ worker. worker.receipts) self.workers.items)) }
-        ensures goes_on { IfOk result (λ done. (done.0.configs ≡ self.configs.items) × (done.0.licences ≡ self.licences)) }
-        ensures forgotten { IfOk result (λ done. All (λ worker. worker.receipts ≡ []) done.1.items × (length done.1.items ≡ length self.workers.items)) }
-        ensures chassis { IfErr result (λ refused. (refused.chassis.configs ≡ self.configs.items) × (refused.chassis.licences ≡ self.licences)) }
+        ensures accounted { IfOk result
+            (λ done. Accounted (map history_of_piece done.2.pieces.items)
+            (map (λ worker. worker.receipts) self.workers.items)) }
+        ensures goes_on { IfOk result
+            (λ done. (done.0.configs ≡ self.configs.items) × (done.0.licences ≡ self.licences)) }
+        ensures forgotten { IfOk result
+            (λ done. All (λ worker. worker.receipts ≡ []) done.1.items
+            × (length done.1.items ≡ length self.workers.items)) }
+        ensures chassis { IfErr result
+            (λ refused. (refused.chassis.configs ≡ self.configs.items) × (refused.chassis.licences ≡ self.licences)) }
         ensures workers { IfErr result (λ refused. refused.workers.items ≡ self.workers.items) }
         ensures missing { IfErr result (λ refused. refused.fault ≡ CloseFault.WorkerMissing → ⊥) }
         ensures mismatch { IfErr result (λ refused. refused.fault ≡ CloseFault.Mismatch
-            → AddsUp (chassis_of self.configs.items self.licences) self.desks.items self.stock.book.free self.workers.items → ⊥) }
+            → AddsUp
+            (chassis_of self.configs.items self.licences) self.desks.items self.stock.book.free self.workers.items
+            → ⊥) }
     {
         let Ok(pieces) = Vec::with_capacity(alloc, self.desks.len()) else {
             return Err(self.refused(CloseFault::OutOfMemory));
@@ -210,9 +231,13 @@ impl<G: Gate<L>, L: Ledger> Opened<G, L> {
 
     /// Tells whether all adds up: the receipts of the workers, the configurations and the licences.
     fn check(&self, alloc: Global) -> Result<(), CloseFault>
-        ensures ok { OnOk result (AddsUp (chassis_of self.now.configs.items self.now.licences) self.now.desks.items self.now.stock.book.free self.now.workers.items) }
+        ensures ok { OnOk result
+            (AddsUp (chassis_of self.now.configs.items self.now.licences) self.now.desks.items self.now.stock.book.free
+            self.now.workers.items) }
         ensures mismatch { result ≡ Err CloseFault.Mismatch
-            → AddsUp (chassis_of self.now.configs.items self.now.licences) self.now.desks.items self.now.stock.book.free self.now.workers.items → ⊥ }
+            → AddsUp
+            (chassis_of self.now.configs.items self.now.licences) self.now.desks.items self.now.stock.book.free
+            self.now.workers.items → ⊥ }
         ensures missing { result ≡ Err CloseFault.WorkerMissing → ⊥ }
     {
         reconcile(alloc, self.desks.as_slice(), self.workers.as_slice())?;
@@ -260,7 +285,8 @@ impl<G: Gate<L>, L: Ledger> Opened<G, L> {
     fn closed(self, journals: Vec<Journal>) -> Closed
         requires empty { journals.items ≡ [] }
         requires room { vec_len self.desks ≤ vec_capacity journals }
-        requires adds_up { AddsUp (chassis_of self.configs.items self.licences) self.desks.items self.stock.book.free self.workers.items }
+        requires adds_up { AddsUp (chassis_of self.configs.items self.licences) self.desks.items self.stock.book.free
+            self.workers.items }
         ensures ending { Ending self.configs.items result.journals.items result.totals }
         ensures histories { map history_of_desk self.desks.items ≡ map history_of result.journals.items }
         ensures licences { result.licences ≡ self.licences }
@@ -297,11 +323,13 @@ impl<G: Gate<L>, L: Ledger> Opened<G, L> {
         requires room { vec_len self.desks ≤ vec_capacity pieces }
         requires bases { bases.items ≡ map (λ desk. desk.state) self.desks.items }
         requires ends { ends.items ≡ map (λ desk. desk.state) self.desks.items }
-        requires adds_up { AddsUp (chassis_of self.configs.items self.licences) self.desks.items self.stock.book.free self.workers.items }
+        requires adds_up { AddsUp (chassis_of self.configs.items self.licences) self.desks.items self.stock.book.free
+            self.workers.items }
         ensures ending { CutEnding self.configs.items result.2.pieces.items result.2.totals }
         ensures histories { map history_of_desk self.desks.items ≡ map history_of_piece result.2.pieces.items }
         ensures chassis { (result.0.configs ≡ self.configs.items) × (result.0.licences ≡ self.licences) }
-        ensures forgotten { All (λ worker. worker.receipts ≡ []) result.1.items × (length result.1.items ≡ length self.workers.items) }
+        ensures forgotten { All (λ worker. worker.receipts ≡ []) result.1.items
+            × (length result.1.items ≡ length self.workers.items) }
     {
         let Opened {
             gate,

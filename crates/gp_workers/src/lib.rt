@@ -1,21 +1,23 @@
-//! A chassis that any number of threads share: up to sixteen ports, each under a lock of its own, and one stock of licences under
-//! another lock, with up to 64 workers. No call holds two of the locks at once.
+//! A chassis that any number of threads share: up to sixteen ports, each under a lock of its own, and one stock of
+//! licences under another lock, with up to 64 workers. No call holds two of the locks at once.
 //!
-//! - `chassis.rt`: `Chassis`: it is opened, makes workers, has a port serve an event, and is discarded. `opening.rt`: how its ports
-//!   are opened and how they end.
-//! - `worker.rt`: `Worker`, with the receipts of what it had served. `fault.rt`: why none is made. `gate.rt`: `Gate`, which looks at
-//!   a chassis while it runs, for tests.
-//! - `closing.rt`: how a chassis is closed or cut: the receipts of its workers and its journals have to tell of the same steps.
-//!   `unlocked.rt`: a desk out of its lock. `desks.rt`: what all desks are asked, and how they end. `totals.rt`: what journals add
-//!   up to.
-//! - `ports.rt`: `Ports`, what has ports serve events. `loops.rt`, `reader.rt`: what the threads over it run: an operator, a clock,
-//!   and a reader for each port.
+//! - `chassis.rt`: `Chassis`: it is opened, makes workers, has a port serve an event, and is discarded. `opening.rt`:
+//!   how its ports are opened and how they end.
+//! - `worker.rt`: `Worker`, with the receipts of what it had served. `fault.rt`: why none is made. `gate.rt`: `Gate`,
+//!   which looks at a chassis while it runs, for tests.
+//! - `closing.rt`: how a chassis is closed or cut: the receipts of its workers and its journals have to tell of the
+//!   same steps. `unlocked.rt`: a desk out of its lock. `desks.rt`: what all desks are asked, and how they end.
+//!   `totals.rt`: what journals add up to.
+//! - `ports.rt`: `Ports`, what has ports serve events. `loops.rt`, `reader.rt`: what the threads over it run: an
+//!   operator, a clock, and a reader for each port.
 //!
-//! `specs/Chassis.antt` is what contracts see of a chassis and its workers, `specs/Closing.antt` what it leaves, `specs/Totals.antt`
-//! what is counted, `specs/Asked.antt` how receipts grow by what was asked, and `specs/Ring.antt` what a reader finds.
+//! `specs/Chassis.antt` is what contracts see of a chassis and its workers, `specs/Closing.antt` what it leaves,
+//! `specs/Totals.antt` what is counted, `specs/Asked.antt` how receipts grow by what was asked, and `specs/Ring.antt`
+//! what a reader finds.
 //!
-//! What happens under a port's lock is `PortDesk::serve` of `gp_chassis`, and nothing else: a changed step is changed below it. When
-//! receipts and journals agree is `gp_accounts`. A further count is a field of `Totals` and a line in `specs/Totals.antt`.
+//! What happens under a port's lock is `PortDesk::serve` of `gp_chassis`, and nothing else: a changed step is changed
+//! below it. When receipts and journals agree is `gp_accounts`. A further count is a field of `Totals` and a line in
+//! `specs/Totals.antt`.
 #![tactic(auto)]
 
 mod chassis;

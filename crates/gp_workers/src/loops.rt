@@ -48,8 +48,8 @@ fn frames<P: Ports<L>, L: Ledger, R: Wait>(
     Ok(())
 }
 
-/// Has the frames of each pair of a port and a count served, pair after pair, and tells how many there were. It ends at the first
-/// fault.
+/// Has the frames of each pair of a port and a count served, pair after pair, and tells how many there were. It ends
+/// at the first fault.
 pub fn clock_loop<P: Ports<L>, L: Ledger, R: Wait>(
     rt: &R,
     ports: &P,

@@ -9,8 +9,8 @@ use std::alloc::{AllocError, Global};
 use std::sync::Mutex;
 use std::sync::ledger::Ledger;
 
-/// Opens a port for each configuration, under a lock of its own. Where there is no memory, the book ends, with the ports that
-/// were opened so far.
+/// Opens a port for each configuration, under a lock of its own. Where there is no memory, the book ends, with the
+/// ports that were opened so far.
 pub(crate) fn open_ports<L: Ledger>(
     alloc: Global,
     configs: &[PortConfig],

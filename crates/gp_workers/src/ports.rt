@@ -10,7 +10,8 @@ use std::sync::ledger::Ledger;
 
 /// What has ports serve events.
 pub trait Ports<L: Ledger> {
-    /// Has a port serve an event, and gives the worker the receipt; the worker's receipts stay as they are where it is not served.
+    /// Has a port serve an event, and gives the worker the receipt; the worker's receipts stay as they are where it
+    /// is not served.
     fn apply<R: Wait>(
         &self,
         rt: &R,

@@ -45,8 +45,8 @@ fn drain<R: Wait>(rt: &R, consumer: &mut Consumer<RingItem>) {
     }
 }
 
-/// Has a port serve the bursts of a ring, in order, up to its end, and tells how many there were. After a fault the items up to the
-/// end are dropped, so that whoever puts them there is not kept waiting.
+/// Has a port serve the bursts of a ring, in order, up to its end, and tells how many there were. After a fault the
+/// items up to the end are dropped, so that whoever puts them there is not kept waiting.
 pub fn reader_loop<P: Ports<L>, L: Ledger, R: Wait>(
     rt: &R,
     ports: &P,
@@ -54,10 +54,12 @@ pub fn reader_loop<P: Ports<L>, L: Ledger, R: Wait>(
     port: u8,
     consumer: Consumer<RingItem>,
 ) -> Result<u64, ApplyFault>
-    ensures ok { (bursts : List (ℕ × List ℕ)) (rest : List _) → known_items consumer ≡ up_to_end bursts rest → OnOk result (Extends worker.old.receipts worker.new.receipts (bursts_on port bursts)) }
+    ensures ok { (bursts : List (ℕ × List ℕ)) (rest : List _) → known_items consumer ≡ up_to_end bursts rest
+        → OnOk result (Extends worker.old.receipts worker.new.receipts (bursts_on port bursts)) }
     ensures kind { GrowsByBursts worker.old.receipts worker.new.receipts port }
     ensures count { IfOk result (λ count. length worker.old.receipts + count ≡ length worker.new.receipts) }
-    ensures err { (bursts : List (ℕ × List ℕ)) (rest : List _) → known_items consumer ≡ up_to_end bursts rest → OnErr result (ExtendsBy worker.old.receipts worker.new.receipts (bursts_on port bursts)) }
+    ensures err { (bursts : List (ℕ × List ℕ)) (rest : List _) → known_items consumer ≡ up_to_end bursts rest
+        → OnErr result (ExtendsBy worker.old.receipts worker.new.receipts (bursts_on port bursts)) }
 {
     let mut consumer = consumer;
     let start = worker.receipts().len();

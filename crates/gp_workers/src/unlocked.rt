@@ -26,7 +26,12 @@ impl<L: Ledger> Model for Unlocked<L> {
 
     ghost Value = { DeskState };
 
-    ghost coded = { Prim.hlevel (codes, map.code {R = serial_cmp} coded_serial row.the_row.coded, set.code {R = serial_cmp} coded_serial, entry.the_row.coded) };
+    ghost coded = { Prim.hlevel (
+      codes,
+      map.code {R = serial_cmp} coded_serial row.the_row.coded,
+      set.code {R = serial_cmp} coded_serial,
+      entry.the_row.coded,
+    ) };
 
     ghost view = { λ u. u.desk };
 }

@@ -44,7 +44,8 @@ pub(crate) fn measure_chassis<L: Ledger, R: AllocGlobal + Print + Eprint + Clock
     result
 }
 
-/// Measures so many rounds, each of as many frames as the journal keeps. It is cut after each round, which is not in the time.
+/// Measures so many rounds, each of as many frames as the journal keeps. It is cut after each round, which is not in
+/// the time.
 fn measure_rounds<L: Ledger, R: AllocGlobal + Print + Eprint + Clock>(
     rt: &R,
     core: &mut ChassisCore<L>,

@@ -40,8 +40,8 @@ fn encode_delays(measured: &mut Measured) {
     }
 }
 
-/// Decodes what each unit answers to a ranging request and to a poll, twice each. Octet 1 counts, with one for a code that is
-/// right.
+/// Decodes what each unit answers to a ranging request and to a poll, twice each. Octet 1 counts, with one for a code
+/// that is right.
 fn decode_answers(measured: &mut Measured, units: &[Unit]) {
     for _ in 0..2 {
         for unit in units {

@@ -1,11 +1,11 @@
-//! `olt_bench ROUNDS`: makes messages, and the steps of a port, of a chassis and of a world, many times over. What they answered
-//! goes to standard output, the same on every run; how long they took goes to standard error. What is made ready beforehand is
-//! not in that time.
+//! `olt_bench ROUNDS`: makes messages, and the steps of a port, of a chassis and of a world, many times over. What
+//! they answered goes to standard output, the same on every run; how long they took goes to standard error. What is
+//! made ready beforehand is not in that time.
 //!
-//! `codec.rt` has the codes of messages. `port.rt` has a port with licences and what is measured of it, `units.rt` what its units
-//! send. `chassis.rt` has a port in a chassis, with its journal, `threads.rt` the ports of a chassis that threads share, and
-//! `world.rt` a port with its simulated units on a fibre. `config.rt` is what they are opened with, `measured.rt` what is told of
-//! each part.
+//! `codec.rt` has the codes of messages. `port.rt` has a port with licences and what is measured of it, `units.rt`
+//! what its units send. `chassis.rt` has a port in a chassis, with its journal, `threads.rt` the ports of a chassis
+//! that threads share, and `world.rt` a port with its simulated units on a fibre. `config.rt` is what they are opened
+//! with, `measured.rt` what is told of each part.
 #![tactic(auto)]
 
 mod chassis;

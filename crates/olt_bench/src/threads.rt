@@ -16,7 +16,8 @@ use std::thread::Threads;
 use std::time::Instant;
 use std::{io, thread};
 
-/// How many frames each thread has served in a round: as many entries a journal keeps then, and as many receipts a worker.
+/// How many frames each thread has served in a round: as many entries a journal keeps then, and as many receipts a
+/// worker.
 const FRAMES: u32 = 16_384;
 
 /// A chassis with a worker for each of its ports.
@@ -132,8 +133,8 @@ fn measure_round<L: Ledger + Send + Sync, R: AllocGlobal + Clock + Threads + Wai
     }
 }
 
-/// Has each worker's frames served in a thread of its own, and adds up what the workers were told. That the threads are started
-/// and joined is in the time.
+/// Has each worker's frames served in a thread of its own, and adds up what the workers were told. That the threads
+/// are started and joined is in the time.
 fn serve<L: Ledger + Send + Sync, R: Clock + Threads + Wait + Sync>(
     rt: &R,
     chassis: &Chassis<NoGate, L>,

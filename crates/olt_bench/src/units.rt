@@ -2,8 +2,8 @@ use super::config::serial_of;
 use gp_ploam::{BROADCAST_ONU, Mask, Serial, Up, encode_up};
 use std::alloc::{AllocError, Global};
 
-/// What a unit answers to each grant, encoded beforehand. It takes the unit's place among the units for its ONU-ID: a port
-/// that has freed none gives them in this order.
+/// What a unit answers to each grant, encoded beforehand. It takes the unit's place among the units for its ONU-ID: a
+/// port that has freed none gives them in this order.
 #[derive(Clone, Copy, Drop)]
 pub(crate) struct Unit {
     pub(crate) serial: Serial,

@@ -26,8 +26,8 @@ const MAX_ADMITTED: usize = 512;
 /// How many units may be active.
 const LICENCES: u32 = 254;
 
-/// By how many bit times a unit is farther away than the one before it, so that the answer of each of 1,024 units comes in the
-/// frame that asks it.
+/// By how many bit times a unit is farther away than the one before it, so that the answer of each of 1,024 units
+/// comes in the frame that asks it.
 const DISTANCE: u32 = 151;
 
 /// Plans so many units, with different serial numbers and delays.
@@ -88,8 +88,9 @@ fn measure_round<L: Ledger, R: AllocGlobal + Clock>(
     result
 }
 
-/// Has the units found and ranged, and then runs the frames that are measured: the port asks its operating units in turn, and
-/// hears their answers. The search and the ranging are not in the time; what a run gives is, and the memory that it takes.
+/// Has the units found and ranged, and then runs the frames that are measured: the port asks its operating units in
+/// turn, and hears their answers. The search and the ranging are not in the time; what a run gives is, and the memory
+/// that it takes.
 fn play<L: Ledger, R: AllocGlobal + Clock>(
     rt: &R,
     world: &mut World<L>,

@@ -197,8 +197,8 @@ fn in_poll(speaker: Speaker, octet1: u8, id: u8) -> Reply {
     }
 }
 
-/// Says what is to come of a burst with this reply: nothing is sent or granted; only a unit that is found gets a row, of the two
-/// licences, and only it and one that is ranged have a message owed to them.
+/// Says what is to come of a burst with this reply: nothing is sent or granted; only a unit that is found gets a row,
+/// of the two licences, and only it and one that is ranged have a message owed to them.
 fn outcome_of(window: Window, reply: Reply) -> Outcome {
     let found = matches!(&reply, Reply::Found(_));
     let told = found || matches!(&reply, Reply::Ranged { .. });
@@ -294,8 +294,8 @@ fn attack<L: Ledger, R: AllocGlobal + Print>(
     heard.tell(rt, window, speaker)
 }
 
-/// A code of A's serial number with one bit turned, for each of its 104 bits, and with each other check octet. Each is garbled, and
-/// the right code is still heard behind them.
+/// A code of A's serial number with one bit turned, for each of its 104 bits, and with each other check octet. Each
+/// is garbled, and the right code is still heard behind them.
 fn attack_check_octet<L: Ledger, R: AllocGlobal + Print>(
     rt: &R,
     port: &mut AttackedPort<L>,
@@ -332,13 +332,15 @@ fn attack_check_octet<L: Ledger, R: AllocGlobal + Print>(
 /// Attacks a port in each window with every octet 1. How many bursts get which answer follows from docs/MACHINE.md:
 ///
 /// - With no window open each of the 65,536 is Stray. Under the other mask each is Garbled in any window.
-/// - In a search window the one with identifier 1 and octet 1 = 255 is an answer: the unit is found, or is not admitted. The 65,535
-///   others are in the wrong window.
-/// - In the ranging window of ONU-ID 0 the 65,280 with another octet 1 are in the wrong window. Of the other 256, identifier 1 is the
-///   unit's answer, or in the wrong window where it tells another's serial number; 3 is a gasp; for the 254 others the unit is
-///   still ranging. So 256 are heard from the unit, and 255 from another, with 65,281 in the wrong window.
-/// - In the poll window of ONU-ID 0 the 65,280 with another octet 1 are in the wrong window. The other 256 are heard: 3 is a gasp,
-///   9 an acknowledgement where octet 3 is 10, as in the unit's serial number, and every other one shows that the unit lives.
+/// - In a search window the one with identifier 1 and octet 1 = 255 is an answer: the unit is found, or is not
+///   admitted. The 65,535 others are in the wrong window.
+/// - In the ranging window of ONU-ID 0 the 65,280 with another octet 1 are in the wrong window. Of the other 256,
+///   identifier 1 is the unit's answer, or in the wrong window where it tells another's serial number; 3 is a gasp;
+///   for the 254 others the unit is still ranging. So 256 are heard from the unit, and 255 from another, with 65,281
+///   in the wrong window.
+/// - In the poll window of ONU-ID 0 the 65,280 with another octet 1 are in the wrong window. The other 256 are heard:
+///   3 is a gasp, 9 an acknowledgement where octet 3 is 10, as in the unit's serial number, and every other one shows
+///   that the unit lives.
 fn attack_each_window<L: Ledger, R: AllocGlobal + Print>(
     rt: &R,
     port: &mut AttackedPort<L>,
@@ -349,8 +351,8 @@ fn attack_each_window<L: Ledger, R: AllocGlobal + Print>(
     attack(rt, port, Window::Poll, Speaker::A, 0..=u8::MAX)
 }
 
-/// Attacks it with each serial number and the octets 1 that may be heard, 0 in the windows of ONU-ID 0 and 255 in a search window,
-/// and the one next to each. Of these 512 bursts as many are heard as above.
+/// Attacks it with each serial number and the octets 1 that may be heard, 0 in the windows of ONU-ID 0 and 255 in a
+/// search window, and the one next to each. Of these 512 bursts as many are heard as above.
 pub(crate) fn check<L: Ledger, R: AllocGlobal + Print>(
     rt: &R,
     port: &mut AttackedPort<L>,

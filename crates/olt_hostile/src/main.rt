@@ -1,5 +1,5 @@
-//! `olt_hostile`: uses the library badly, and prints for each table of cases how many came out as they should, and the first
-//! that did not. What the bursts of `bursts.rt` were answered with is printed too.
+//! `olt_hostile`: uses the library badly, and prints for each table of cases how many came out as they should, and
+//! the first that did not. What the bursts of `bursts.rt` were answered with is printed too.
 //!
 //! - `octets.rt`: octets of each length, into whatever reads octets.
 //! - `bursts.rt`: every identifier with every octet 1, in each window of a port; the same through scripts in
@@ -10,8 +10,8 @@
 //!   fault, or two.
 //! - `port.rt`: the port that is attacked. `tally.rt`: how many cases came out right.
 //!
-//! A new case is a line of its table. What a burst or a command has to be answered with is said in docs/MACHINE.md, which fault
-//! a script has in docs/FORMATS.md.
+//! A new case is a line of its table. What a burst or a command has to be answered with is said in docs/MACHINE.md,
+//! which fault a script has in docs/FORMATS.md.
 //!
 //! With the checks of `rt try` it takes some minutes: `rt try --seconds 600`.
 #![tactic(auto)]

@@ -31,8 +31,8 @@ const WRONG_LENGTH: Read = (Err(PloamFault::Length), Err(PloamFault::Length));
 
 const WRONG_CRC: Read = (Err(PloamFault::Crc), Err(PloamFault::Crc));
 
-/// An octet that codes are filled with, and what thirteen of them are read as under the first mask and under the other: after twelve
-/// zeros the check octet is 00 or 55, after twelve octets FF it is 71 or 24.
+/// An octet that codes are filled with, and what thirteen of them are read as under the first mask and under the
+/// other: after twelve zeros the check octet is 00 or 55, after twelve octets FF it is 71 or 24.
 const FILLED: [(u8, Read, Read); 2] = [(0, OTHER, WRONG_CRC), (255, WRONG_CRC, WRONG_CRC)];
 
 /// Tells whether both decoders and a port's burst read octets of a row as their number says.
@@ -54,8 +54,8 @@ fn are_read(row: &(u8, Read, Read), octets: &[u8]) -> bool {
     plain == row.1 && coset == row.2 && burst == Ok(Event::Burst { at: 7, bytes })
 }
 
-/// Tells whether a text of so many zeros, which may end with another letter, is told as its length says, and nothing is written of
-/// one with a fault.
+/// Tells whether a text of so many zeros, which may end with another letter, is told as its length says, and nothing
+/// is written of one with a fault.
 fn is_told(alloc: Global, length: usize, last: &str, upstream: bool) -> io::Result<bool> {
     let text = format!(in alloc; "{}{last}", "0".repeat(alloc, length)?)?;
     let wanted = match (text.len(), last.is_empty()) {

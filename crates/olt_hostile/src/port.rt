@@ -14,8 +14,8 @@ use std::{io, mem};
 /// How many licences the attacked port has.
 const LICENCES: u32 = 2;
 
-/// A unit that is admitted. The first octet of its serial number is the identifier of Assign_Alloc-ID, so that the same octets
-/// 3 to 12 are also those of an Acknowledge of that message.
+/// A unit that is admitted. The first octet of its serial number is the identifier of Assign_Alloc-ID, so that the
+/// same octets 3 to 12 are also those of an Acknowledge of that message.
 pub(crate) const A: Serial = Serial(*b"\x0aBCD\0\0\0\x01");
 
 /// Others that are admitted.

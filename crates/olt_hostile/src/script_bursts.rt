@@ -60,12 +60,13 @@ const ENDS: [&'static str; 8] = [
 
 /// Says how many lines are to have each end, of the 256 identifiers with this octet 1 in each window (docs/MACHINE.md).
 ///
-/// - Nobody's serial number in a search window: 256 in the wrong window; with octet 1 = 255 the one with identifier 1 is not admitted.
-/// - The other admitted unit's serial number in the ranging window of ONU-ID 0: 256 in the wrong window; with octet 1 = 0 only
-///   identifier 1 is, 3 is a gasp, and for the 254 others the unit is still ranging.
+/// - Nobody's serial number in a search window: 256 in the wrong window; with octet 1 = 255 the one with identifier 1
+///   is not admitted.
+/// - The other admitted unit's serial number in the ranging window of ONU-ID 0: 256 in the wrong window; with octet 1
+///   = 0 only identifier 1 is, 3 is a gasp, and for the 254 others the unit is still ranging.
 /// - With no window open: 256 stray.
-/// - In the poll window of ONU-ID 0: 256 in the wrong window; with octet 1 = 0 none is, 3 is a gasp, and the 255 others show that the
-///   unit lives.
+/// - In the poll window of ONU-ID 0: 256 in the wrong window; with octet 1 = 0 none is, 3 is a gasp, and the 255
+///   others show that the unit lives.
 /// - And the unit's own two answers.
 fn counts_of(octet1: u8) -> [usize; 8] {
     match octet1 {
@@ -94,7 +95,8 @@ fn add_bursts(
     Ok(())
 }
 
-/// Writes the script of an octet 1. A burst with octet 1 = 0 closes the poll window, and the next one opens with the frame behind it.
+/// Writes the script of an octet 1. A burst with octet 1 = 0 closes the poll window, and the next one opens with the
+/// frame behind it.
 fn script_of(alloc: Global, octet1: u8) -> Result<String, AllocError> {
     let nobody = *b"ZZZZ\0\0\0\x01\0\0";
     let other = *b"ABCD\0\0\0\x02\0\0";
@@ -123,7 +125,8 @@ fn counts_in(trace: &str) -> [usize; 8] {
     counts
 }
 
-/// Tells whether a replay of every identifier with this octet 1, in each window, has as many lines with each end as it should.
+/// Tells whether a replay of every identifier with this octet 1, in each window, has as many lines with each end as
+/// it should.
 fn is_replayed(alloc: Global, octet1: u8) -> Result<bool, AllocError> {
     let script = script_of(alloc, octet1)?;
     let mut source = Source::new(script.as_bytes());

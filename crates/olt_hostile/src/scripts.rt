@@ -195,7 +195,8 @@ const TOP_KEYS: &[(&'static str, Option<ScriptFault>)] = &[
     ),
 ];
 
-/// Keys of a port: in another order, twice, too long, the greatest and the least numbers, of other types, and two faults.
+/// Keys of a port: in another order, twice, too long, the greatest and the least numbers, of other types, and two
+/// faults.
 const PORT_KEYS: &[(&'static str, Option<ScriptFault>)] = &[
     (
         "admit = [], overhead = \"00000000000000000000\", quarantine = 0, search_period = 0, cycles = 1, alloc_last = 256, max_units = 1, teqd = 0",
@@ -437,7 +438,8 @@ fn check_digits<R: AllocGlobal + Print>(rt: &R) -> io::Result<()> {
     tally.tell(rt, "digits in place of octets")
 }
 
-/// Tells whether so many values, each within the one before it, are read so where each is closed, and aren't where none is.
+/// Tells whether so many values, each within the one before it, are read so where each is closed, and aren't where
+/// none is.
 fn is_nested(
     alloc: Global,
     depth: usize,
@@ -453,7 +455,8 @@ fn is_nested(
     Ok(closed && open)
 }
 
-/// Reads values within values. What is no deeper than sixty is read, and is of a wrong type; what is a hundred deep is refused.
+/// Reads values within values. What is no deeper than sixty is read, and is of a wrong type; what is a hundred deep
+/// is refused.
 fn check_nesting<R: AllocGlobal + Print>(rt: &R) -> io::Result<()> {
     let mut tally = Tally::default();
     for (depth, wanted) in [(1, SHAPE), (60, SHAPE), (100, SYNTAX), (10_000, SYNTAX)] {

@@ -83,8 +83,8 @@ impl Scene {
         }
     }
 
-    /// Gives the lines that lead to the scene in a port that has just been opened: the first two open a search window, four the
-    /// ranging window of A, six have A ranged, seven open its poll window.
+    /// Gives the lines that lead to the scene in a port that has just been opened: the first two open a search
+    /// window, four the ranging window of A, six have A ranged, seven open its poll window.
     pub(crate) fn lines(self) -> &'static [Line] {
         match self {
             Scene::Search(_) => &BEGINNING[..2],
@@ -139,7 +139,8 @@ pub(crate) struct Story {
 }
 
 pub(crate) const STORIES: &[Story] = &[
-    // Two units answer a search with one serial number: it gets one row, one licence and one ONU-ID, and is told of it once.
+    // Two units answer a search with one serial number: it gets one row, one licence and one ONU-ID, and is told of
+    // it once.
     Story {
         name: "two units with one serial number in a search window",
         scene: Scene::Search(1),
@@ -199,7 +200,8 @@ pub(crate) const STORIES: &[Story] = &[
             Line::Stands(2, 12, 0),
         ],
     },
-    // Others speak in a ranging window: with another serial number, or another ONU-ID. The unit is ranged all the same, once.
+    // Others speak in a ranging window: with another serial number, or another ONU-ID. The unit is ranged all the
+    // same, once.
     Story {
         name: "others in a ranging window",
         scene: Scene::Range,
@@ -251,7 +253,8 @@ pub(crate) const STORIES: &[Story] = &[
             Line::Denies(Command::Show(A), Refusal::NotActive),
         ],
     },
-    // Others speak in a poll window. One with the ONU-ID that is asked is taken for the unit, whatever its serial number.
+    // Others speak in a poll window. One with the ONU-ID that is asked is taken for the unit, whatever its serial
+    // number.
     Story {
         name: "others in a poll window",
         scene: Scene::Poll,
@@ -293,7 +296,8 @@ pub(crate) const STORIES: &[Story] = &[
             Line::Stands(1, 0, 1),
         ],
     },
-    // The serial number of an operating unit comes in a search: the unit is removed, and its number kept from others for a while.
+    // The serial number of an operating unit comes in a search: the unit is removed, and its number kept from others
+    // for a while.
     Story {
         name: "the serial number of an operating unit in a search window",
         scene: Scene::Operation,
@@ -348,8 +352,8 @@ pub(crate) const STORIES: &[Story] = &[
             Line::Stands(0, 0, 2),
         ],
     },
-    // Acknowledgements of another unit, and of other messages, free nothing: with the third window without the right one the unit is
-    // removed.
+    // Acknowledgements of another unit, and of other messages, free nothing: with the third window without the right
+    // one the unit is removed.
     Story {
         name: "acknowledgements of another message or unit",
         scene: Scene::Operation,

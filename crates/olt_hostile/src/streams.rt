@@ -135,7 +135,8 @@ fn is_start(taken: &[u8], text: &[u8], count: usize) -> bool {
     taken.len() == count && text.starts_with(taken)
 }
 
-/// Tells whether a replay ends with a fault of reading where it comes to the read that fails, and then reads no more of the source.
+/// Tells whether a replay ends with a fault of reading where it comes to the read that fails, and then reads no more
+/// of the source.
 fn is_read_to(alloc: Global, fails_at: usize, kind: ErrorKind) -> Result<bool, AllocError> {
     let mut source = reader(SCRIPT, fails_at, kind);
     let mut sink = Sink::new(alloc, Vec::new(alloc))?;
@@ -268,8 +269,8 @@ fn check_lines<R: AllocGlobal + Print>(rt: &R) -> io::Result<()> {
     tally.tell(rt, "lines to one octet a write")
 }
 
-/// Reads from and writes to whatever fails. A writer that takes nothing, as a slice that is full, is in the tests of `gp_replay`
-/// and `gp_decode`.
+/// Reads from and writes to whatever fails. A writer that takes nothing, as a slice that is full, is in the tests of
+/// `gp_replay` and `gp_decode`.
 pub(crate) fn check<R: AllocGlobal + Print>(rt: &R) -> io::Result<()> {
     check_reads(rt)?;
     check_writes(rt)?;

@@ -1,5 +1,5 @@
--- The command line: `oltctl replay [FILE]`, `oltctl storm [FILE]` and `oltctl decode [--up] [--mask 0|85] HEX` (this profile's own
--- rule).
+-- The command line: `oltctl replay [FILE]`, `oltctl storm [FILE]` and `oltctl decode [--up] [--mask 0|85] HEX` (this
+-- profile's own rule).
 use Rattle.std.specs.Prelude.{◌≡◌, List, [], ◌∷◌, Option, None, Some, map, true, codes, if◌then◌else◌}
 use Rattle.std.specs.Borrow.{Bor}
 use Rattle.std.specs.Str.{bytes_eq}
@@ -31,7 +31,8 @@ up_rule = record (new_rule (codes "up")) { long = Some (codes "up"); action = So
 -- `--mask`, 0 where it is left out
 abbrev pub mask_rule : MaskNames → Rule
 mask_rule names =
-    record (new_rule (codes "mask")) { long = Some (codes "mask"); value_names = 1; parser = Some (Names names); defaults = codes "0" ∷ [] }
+    record (new_rule (codes "mask"))
+    { long = Some (codes "mask"); value_names = 1; parser = Some (Names names); defaults = codes "0" ∷ [] }
 
 -- HEX, which is required
 abbrev pub code_rule : Rule
@@ -46,10 +47,12 @@ storm_command = with_rule (new_app (codes "storm")) file_rule
 abbrev pub decode_command : MaskNames → App
 decode_command names = with_rule (with_rule (with_rule (new_app (codes "decode")) up_rule) (mask_rule names)) code_rule
 
--- the program as far as it is about scripts: one of its commands has to be named; with no words at all the help is shown
+-- the program as far as it is about scripts: one of its commands has to be named; with no words at all the help is
+-- shown
 abbrev pub script_commands : App
 script_commands =
-    with_subcommand (with_subcommand (on_top (λ s. record s { subcommand_required = true; arg_required_else_help = true })
+    with_subcommand
+    (with_subcommand (on_top (λ s. record s { subcommand_required = true; arg_required_else_help = true })
     (new_app (codes "oltctl"))) replay_command.top) storm_command.top
 
 -- the whole program

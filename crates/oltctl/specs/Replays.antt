@@ -10,7 +10,8 @@ abbrev pub unread : {R : Type 0} → R → Option (List ℕ) → SourceState R
 unread reader remaining = record { reader = reader; remaining = remaining; left = max_reads; failed = false }
 
 -- all that a reader had to give, where it tells its bytes, is read as this, by what bytes say
-abbrev pub IsReadBy : {R : Type 0} → (List ℕ → Result ScriptView ScriptFault) → R → Option (List ℕ) → Result ScriptView ScriptFault
+abbrev pub IsReadBy : {R : Type 0} → (List ℕ → Result ScriptView ScriptFault) → R → Option (List ℕ)
+    → Result ScriptView ScriptFault
     → Type 0
 IsReadBy {R = R} says_of reader remaining answer =
     (after : SourceState R) × ReadsBy says_of (unread reader remaining) after answer

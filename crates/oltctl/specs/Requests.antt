@@ -28,16 +28,19 @@ abbrev pub AsksToDecode : List Row → Request → Type 0
 AsksToDecode rows (Replay file) = ⊥
 AsksToDecode rows (Storm file) = ⊥
 AsksToDecode rows (Decode code upstream mask) =
-    (first_of (codes "code") rows ≡ Some code.now) × IsFlag rows (codes "up") upstream × (mask ≡ mask_named (first_of (codes "mask") rows))
+    (first_of (codes "code") rows ≡ Some code.now) × IsFlag rows (codes "up") upstream
+    × (mask ≡ mask_named (first_of (codes "mask") rows))
 
 -- the subcommand that was parsed, with its rows, asks for this
 abbrev pub Asks : Option (Text × List Row) → Request → Type 0
 Asks None request = ⊥
 Asks (Some (name, rows)) (Replay file) = (name ≡ codes "replay") × AsksToReplay rows (Replay file)
 Asks (Some (name, rows)) (Storm file) = (name ≡ codes "storm") × AsksToStorm rows (Storm file)
-Asks (Some (name, rows)) (Decode code upstream mask) = (name ≡ codes "decode") × AsksToDecode rows (Decode code upstream mask)
+Asks (Some (name, rows)) (Decode code upstream mask) =
+    (name ≡ codes "decode") × AsksToDecode rows (Decode code upstream mask)
 
 -- it asks for nothing that is known: there is none, or another one, or one that has no code to decode
 abbrev pub AsksNothing : Option (Text × List Row) → Type 0
 AsksNothing None = Unit {0}
-AsksNothing (Some (name, rows)) = (name ≢ codes "replay") × (name ≢ codes "storm") × (name ≡ codes "decode" → first_of (codes "code") rows ≡ None)
+AsksNothing (Some (name, rows)) =
+    (name ≢ codes "replay") × (name ≢ codes "storm") × (name ≡ codes "decode" → first_of (codes "code") rows ≡ None)

@@ -27,8 +27,8 @@ abbrev pub IsArgumentsReport : IoErrorKind → List ℕ → ℕ → Type 0
 IsArgumentsReport io_error.OutOfMemory line status = (line ≡ memory_line) × (status ≡ OUT_OF_MEMORY)
 IsArgumentsReport _ line status = (line ≡ arguments_line) × (status ≡ BAD_ARGUMENTS)
 
--- the status where the words were not parsed, by what was the matter; help that was asked for is no mistake, but may not
--- get out
+-- the status where the words were not parsed, by what was the matter; help that was asked for is no mistake, but may
+-- not get out
 abbrev pub IsStatusOf : ErrorKind → ℕ → Type 0
 IsStatusOf error.OutOfMemory status = status ≡ OUT_OF_MEMORY
 IsStatusOf error.DisplayHelp status = (status ≡ SUCCESS) ⊎ (status ≡ NOT_WRITTEN)
@@ -43,7 +43,9 @@ end_status (Err fault) = run_status fault
 -- the status after a replay of a file or of standard input: what they hold no contract can tell, so it is that of some
 -- replay, but not of one with disagreement or with a full journal
 abbrev pub IsPlayed : ℕ → Type 0
-IsPlayed status = (outcome : Result (Unit {0}) RunFault) × (outcome ≢ Err run.Mismatch) × (outcome ≢ Err run.JournalFull) × (status ≡ end_status outcome)
+IsPlayed status =
+    (outcome : Result (Unit {0}) RunFault) × (outcome ≢ Err run.Mismatch) × (outcome ≢ Err run.JournalFull)
+    × (status ≡ end_status outcome)
 
 -- the status after a storm of a file or of standard input, likewise that of some storm
 abbrev pub IsStormed : ℕ → Type 0
@@ -55,13 +57,15 @@ IsSaid code upstream mask status = (status ≡ SUCCESS) × ((line : List ℕ) ×
 
 -- it is the status of a fault, and the code has that fault, where it isn't one of memory or of the output
 abbrev pub IsFaulty : List ℕ → Mask → ℕ → Type 0
-IsFaulty code mask status = (fault : LineFault) × (status ≡ code_status fault) × (IsOfText fault → HasLineFault mask code fault)
+IsFaulty code mask status =
+    (fault : LineFault) × (status ≡ code_status fault) × (IsOfText fault → HasLineFault mask code fault)
 
 -- the status after a code was to be said in words
 pub record IsDecoded (code : List ℕ) (upstream : Bool) (mask : Mask) (status : ℕ) : Type 0 where
   pub ended : IsSaid code upstream mask status ⊎ IsFaulty code mask status
   -- memory aside, a code that has a fault has its status
-  pub faulty : status ≢ OUT_OF_MEMORY → (fault : LineFault) → IsOfText fault → HasLineFault mask code fault → status ≡ code_status fault
+  pub faulty : status ≢ OUT_OF_MEMORY → (fault : LineFault) → IsOfText fault → HasLineFault mask code fault
+      → status ≡ code_status fault
 
 -- the status after what was asked for
 abbrev pub IsServed : Request → ℕ → Type 0
@@ -72,8 +76,11 @@ IsServed (Decode code upstream mask) status = IsDecoded code.now upstream mask s
 -- how a run over the words of a command line may end, with this status
 pub data IsRun (words : List Text) (status : ℕ) : Type 0 where
   -- they are not parsed: memory ran out, or they have a fault, as which asking for help is told
-  refused : (kind : ErrorKind) → (kind ≢ error.OutOfMemory → IsFaultOf words kind) → IsStatusOf kind status → IsRun words status
+  refused : (kind : ErrorKind) → (kind ≢ error.OutOfMemory → IsFaultOf words kind) → IsStatusOf kind status
+      → IsRun words status
   -- they are parsed, and what they ask for is done
-  served : (parsed : ArgMatches) (request : Request) → IsParseOf words parsed → Asks (subcommand_rows_of parsed) request → IsServed request status → IsRun words status
+  served : (parsed : ArgMatches) (request : Request) → IsParseOf words parsed → Asks (subcommand_rows_of parsed) request
+      → IsServed request status → IsRun words status
   -- they are parsed, and ask for nothing that is known
-  idle : (parsed : ArgMatches) → IsParseOf words parsed → AsksNothing (subcommand_rows_of parsed) → status ≡ BAD_ARGUMENTS → IsRun words status
+  idle : (parsed : ArgMatches) → IsParseOf words parsed → AsksNothing (subcommand_rows_of parsed)
+      → status ≡ BAD_ARGUMENTS → IsRun words status

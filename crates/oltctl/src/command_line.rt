@@ -107,7 +107,8 @@ fn command<'a>(alloc: Global) -> Result<Command<'a>, AllocError>
 /// The first word is the program's name.
 pub fn parse<'a>(alloc: Global, words: &'a [String]) -> Result<ArgMatches<'a>, Error>
     ensures parsed { IfOk result (IsParseOf (map string_bytes words.now)) }
-    ensures fault { IfErr result (λ e. kind_of e ≢ ErrorKind.OutOfMemory → IsFaultOf (map string_bytes words.now) (kind_of e)) }
+    ensures fault { IfErr result
+        (λ e. kind_of e ≢ ErrorKind.OutOfMemory → IsFaultOf (map string_bytes words.now) (kind_of e)) }
 {
     command(alloc)?.try_get_matches_from(words)
 }

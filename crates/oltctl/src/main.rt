@@ -1,5 +1,5 @@
-//! `oltctl`: plays a script and writes its trace, runs its events at once by threads and writes the totals, and says in words which
-//! message a code is.
+//! `oltctl`: plays a script and writes its trace, runs its events at once by threads and writes the totals, and says
+//! in words which message a code is.
 #![tactic(auto)]
 
 ghost use Rattle.std.specs.Prelude.{◌≡◌, ◌≢◌, ◌≤◌, ◌↔◌, ℕ, List, Ok, Err, OnOk, map};
@@ -47,7 +47,8 @@ fn report<R: Eprint>(rt: &R, told: (&'static str, u8)) -> u8
 /// Plays the script that a reader gives, to standard output.
 fn replay_from<R: AllocGlobal + Print, S: Read + Drop>(rt: &R, reader: S) -> Result<(), RunFault>
     ensures ok { OnOk result ((script : ScriptView) × IsReadBy script_of reader (S.remaining reader) (Ok script)) }
-    ensures script { (fault : ScriptFault) → result ≡ Err (RunFault.Script fault) → IsReadBy script_of reader (S.remaining reader) (Err fault) }
+    ensures script { (fault : ScriptFault) → result ≡ Err (RunFault.Script fault)
+        → IsReadBy script_of reader (S.remaining reader) (Err fault) }
     ensures too_long { result ≡ Err RunFault.TooLong → IsTooLong reader (S.remaining reader) }
     ensures mismatch { result ≢ Err RunFault.Mismatch }
     ensures journal_full { result ≢ Err RunFault.JournalFull }
@@ -79,8 +80,10 @@ fn storm_from<R: AllocGlobal + Print + Threads + Wait + Sync, S: Read + Drop>(
     rt: &R,
     reader: S,
 ) -> Result<(), RunFault>
-    ensures ok { OnOk result ((script : ScriptView) × IsReadBy storm_script_of reader (S.remaining reader) (Ok script)) }
-    ensures script { (fault : ScriptFault) → result ≡ Err (RunFault.Script fault) → IsReadBy storm_script_of reader (S.remaining reader) (Err fault) }
+    ensures ok { OnOk result
+        ((script : ScriptView) × IsReadBy storm_script_of reader (S.remaining reader) (Ok script)) }
+    ensures script { (fault : ScriptFault) → result ≡ Err (RunFault.Script fault)
+        → IsReadBy storm_script_of reader (S.remaining reader) (Err fault) }
     ensures too_long { result ≡ Err RunFault.TooLong → IsTooLong reader (S.remaining reader) }
 {
     let mut source = Source::new(reader);
@@ -120,7 +123,8 @@ fn decode<R: AllocGlobal + Print>(
     mask: Mask,
 ) -> Result<(), LineFault>
     ensures ok { OnOk result ((line : List ℕ) × Says upstream mask code.now line) }
-    ensures fault { result ≢ Err LineFault.OutOfMemory → (fault : AnyFault) → IsOfText fault → (result ≡ Err fault) ↔ HasLineFault mask code.now fault }
+    ensures fault { result ≢ Err LineFault.OutOfMemory → (fault : AnyFault) → IsOfText fault
+        → (result ≡ Err fault) ↔ HasLineFault mask code.now fault }
 {
     let mut sink = Sink::new(rt.alloc(), io::writer(rt))?;
     decode_line(rt.alloc(), code, upstream, mask, &mut sink)

@@ -1,4 +1,5 @@
-//! A chassis that is played by lines: what it is asked, and what it has to answer. Ports, actors and units go by their numbers.
+//! A chassis that is played by lines: what it is asked, and what it has to answer. Ports, actors and units go by
+//! their numbers.
 use crate::units::{Said, heard, spoken};
 use gp_alarms::AlarmKind;
 use gp_chassis::{ChassisCore, CoreFault};
@@ -33,8 +34,8 @@ pub(super) type Answer = Result<(Option<Said>, Option<AlarmKind>, u64, u64), Cor
 /// A call, so many times, and what is answered each time, with the next ONU-ID each further time where a unit is found.
 pub(super) type Line = (u8, Call, Answer);
 
-/// Plays lines, each call with so many tries at most where memory is refused, and gives the place of the first line that is
-/// answered otherwise.
+/// Plays lines, each call with so many tries at most where memory is refused, and gives the place of the first line
+/// that is answered otherwise.
 pub(super) fn play<L: Ledger>(
     alloc: Global,
     core: &mut ChassisCore<L>,

@@ -42,8 +42,8 @@ pub(super) enum Run {
     EachStep,
     /// The burst of a unit four frames away comes when the search window is closed.
     BeyondTheWindow,
-    /// Two bursts that come in one frame, the first of them answered four frames earlier by the later unit, arrive in the
-    /// order of their numbers.
+    /// Two bursts that come in one frame, the first of them answered four frames earlier by the later unit, arrive in
+    /// the order of their numbers.
     BurstsOfOneFrame,
 }
 
@@ -296,8 +296,8 @@ pub(super) const ACTS: [(Run, Act); 55] = [
     (Run::BurstsOfOneFrame, Act::Run(9)),
 ];
 
-/// What is done in a new world, and the last reply. The first step of a world takes memory, be it a frame, a command or a burst;
-/// so do the first grant that is given, and a frame of a run.
+/// What is done in a new world, and the last reply. The first step of a world takes memory, be it a frame, a command
+/// or a burst; so do the first grant that is given, and a frame of a run.
 pub(super) const SHORT_OF_MEMORY: [(&'static [Act], Option<Reply>); 5] = [
     (&[FRAME], Some(Reply::Ticked)),
     (&[SEARCH], Some(Reply::Searching)),

@@ -54,7 +54,8 @@ const THREE_WORKERS: Totals = Totals {
     units: 1,
 };
 
-/// The second worker asks for an Alloc-ID for A, the third for what the port knows of A; it has port 1 tick, and there is no port 2.
+/// The second worker asks for an Alloc-ID for A, the third for what the port knows of A; it has port 1 tick, and
+/// there is no port 2.
 const TWO_MORE: &[Line] = &[
     (
         1,
@@ -130,8 +131,9 @@ fn reconciled(
     ]
 }
 
-/// What three workers leave: the places of the lines that were answered otherwise, the row that was shown, and why the chassis does not
-/// close without the third; the totals, the lengths of the journals, and how the receipts compare with them.
+/// What three workers leave: the places of the lines that were answered otherwise, the row that was shown, and why
+/// the chassis does not close without the third; the totals, the lengths of the journals, and how the receipts
+/// compare with them.
 type Outcome = (
     ([Option<usize>; 2], Option<RowView>, CloseFault),
     (Totals, [u64; 2], [Result<(), CloseFault>; 2]),

@@ -62,7 +62,8 @@ const FOUND: &[Line] = &[
     (0, 1, 0, B_SEARCHED, Ok(Said::Refused(Refusal::NoLicence))),
 ];
 
-/// What A and B are answered, who speak once each, with one licence. Where memory is refused for A's burst, its licence is back for B.
+/// What A and B are answered, who speak once each, with one licence. Where memory is refused for A's burst, its
+/// licence is back for B.
 const HEARD: [[Result<Said, ApplyFault>; 2]; 2] = [
     [Ok(Said::Found(0)), Ok(Said::Refused(Refusal::NoLicence))],
     [Err(ApplyFault::OutOfMemory), Ok(Said::Found(0))],
@@ -113,8 +114,8 @@ fn cut_without_last<L: Ledger, R: Abort>(
     (fault, chassis, workers)
 }
 
-/// How a piece and the journal after it join: the numbers of the first entries, how many entries each has, and whether the journal goes
-/// on where the piece ends, and an entry earlier.
+/// How a piece and the journal after it join: the numbers of the first entries, how many entries each has, and
+/// whether the journal goes on where the piece ends, and an entry earlier.
 fn joined(cut: &Cut, closed: &Closed) -> Option<((u64, u64), (u64, usize), (bool, bool))> {
     let piece = cut.pieces.as_slice().first()?;
     let journal = closed.journals.as_slice().first()?;
@@ -130,8 +131,9 @@ fn joined(cut: &Cut, closed: &Closed) -> Option<((u64, u64), (u64, usize), (bool
     ))
 }
 
-/// What a cut leaves: the places of the lines before and after it that were answered otherwise, and why it is refused without the last
-/// worker; what it adds up to, what the journals add up to that go on after it, and how the two join.
+/// What a cut leaves: the places of the lines before and after it that were answered otherwise, and why it is refused
+/// without the last worker; what it adds up to, what the journals add up to that go on after it, and how the two
+/// join.
 type Outcome = (
     ([Option<usize>; 2], CloseFault),
     (
@@ -140,8 +142,8 @@ type Outcome = (
     ),
 );
 
-/// Plays lines, cuts, and plays others, with so many tries at most where memory is refused. There is no outcome where the chassis is not
-/// opened.
+/// Plays lines, cuts, and plays others, with so many tries at most where memory is refused. There is no outcome where
+/// the chassis is not opened.
 fn outcome_of<L: Ledger, R: Abort + Wait>(
     rt: &R,
     alloc: Global,
@@ -228,8 +230,8 @@ fn cuts_and_bursts_short_of_memory(rt: HostRuntime) {
     );
 }
 
-/// Has a worker with no receipts hear A and then B on a port with no entries, without a second try, and gives the place of the line
-/// before them that was answered otherwise. There is no answer where the chassis is not opened.
+/// Has a worker with no receipts hear A and then B on a port with no entries, without a second try, and gives the
+/// place of the line before them that was answered otherwise. There is no answer where the chassis is not opened.
 fn heard_of<L: Ledger, R: Abort + Wait>(
     rt: &R,
     alloc: Global,
@@ -306,8 +308,8 @@ fn last_alarm<L: Ledger>(worker: Option<&Worker<L>>) -> Option<Alarm> {
     last
 }
 
-/// Fills the queue of a port, and gives the places of the lines that were answered otherwise, how many copies were owed before and after
-/// A was lost, the alarm of it, and how many such alarms and active units there are at last.
+/// Fills the queue of a port, and gives the places of the lines that were answered otherwise, how many copies were
+/// owed before and after A was lost, the alarm of it, and how many such alarms and active units there are at last.
 fn fill_the_queue<C: Clock + Drop, L: Ledger, R: Wait>(
     rt: &R,
     alloc: Global,

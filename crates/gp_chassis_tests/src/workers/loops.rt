@@ -168,8 +168,8 @@ fn feed_and_read<L: Ledger + Send + Sync, R: Threads + Wait + Sync>(
     )
 }
 
-/// Feeds a ring of two places with so many bursts in one thread, and reads it in another for a port whose journal keeps so many;
-/// gives whether all went into the ring, what the reader answers, and how many bursts the journal has.
+/// Feeds a ring of two places with so many bursts in one thread, and reads it in another for a port whose journal
+/// keeps so many; gives whether all went into the ring, what the reader answers, and how many bursts the journal has.
 fn read_of<L: Ledger + Send + Sync, R: Threads + Wait + Sync>(
     rt: &R,
     alloc: Global,

@@ -19,8 +19,8 @@ const ANSWERED: u64 = 3;
 /// It did so while the lock was kept.
 pub(super) const MET: u64 = 4;
 
-/// Notes how many copies are owed on one port, whose lock is held; once it is armed, it also keeps that lock until another port has
-/// answered, or for `TURNS` turns.
+/// Notes how many copies are owed on one port, whose lock is held; once it is armed, it also keeps that lock until
+/// another port has answered, or for `TURNS` turns.
 #[derive(Drop)]
 pub(super) struct Meeting<C: Clock> {
     pub(super) clock: C,

@@ -44,7 +44,8 @@ fn first_unit(port: u8) -> u16 {
     u16::from(port) * 100 + 1
 }
 
-/// Has one port serve an event while another, whose lock is kept, has begun to serve one; and gives what the meeting has noted.
+/// Has one port serve an event while another, whose lock is kept, has begun to serve one; and gives what the meeting
+/// has noted.
 fn meet<C: Clock + Drop + Send + Sync, L: Ledger + Send + Sync, R: Abort + Threads + Wait + Sync>(
     rt: &R,
     alloc: Global,
@@ -90,8 +91,8 @@ fn meet<C: Clock + Drop + Send + Sync, L: Ledger + Send + Sync, R: Abort + Threa
     ))
 }
 
-/// What is noted where two ports of a new chassis are served at once: how many copies were owed on the first, and whether the other
-/// answered meanwhile.
+/// What is noted where two ports of a new chassis are served at once: how many copies were owed on the first, and
+/// whether the other answered meanwhile.
 fn notes_of<C: Clock + Drop + Send + Sync, R: Abort + Threads + Wait + Sync>(
     rt: &R,
     alloc: Global,
@@ -138,8 +139,8 @@ fn hear_all<L: Ledger, R: Wait>(
     }
 }
 
-/// Opens a search window on each port, has all ports hear their units at once, and gives how many bursts the journals have and how
-/// many units are active.
+/// Opens a search window on each port, has all ports hear their units at once, and gives how many bursts the journals
+/// have and how many units are active.
 fn storm_of<L: Ledger + Send + Sync, R: Threads + Wait + Sync>(
     rt: &R,
     alloc: Global,

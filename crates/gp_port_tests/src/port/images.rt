@@ -44,7 +44,8 @@ fn changes() -> [(Event, Reply); 8] {
     ]
 }
 
-/// Tells whether a port that begins at the image makes the step of the entry, and whether it stands where the port does then.
+/// Tells whether a port that begins at the image makes the step of the entry, and whether it stands where the port
+/// does then.
 fn follows<L: Ledger>(
     alloc: Global,
     image: &PortImage,
@@ -60,9 +61,9 @@ fn follows<L: Ledger>(
     Ok((followed, arrived))
 }
 
-/// Tells of an image and one event after it: whether the port answered so; whether the image stood for the port before the
-/// event and afterwards; whether a port that begins at the image makes the step of the entry, and of the entry with a licence
-/// more left; and whether it stands where the port does after the first of these.
+/// Tells of an image and one event after it: whether the port answered so; whether the image stood for the port
+/// before the event and afterwards; whether a port that begins at the image makes the step of the entry, and of the
+/// entry with a licence more left; and whether it stands where the port does after the first of these.
 fn told_of<L: Ledger>(
     alloc: Global,
     played: &mut Played<L>,
@@ -100,8 +101,8 @@ fn told_otherwise<L: Ledger>(
     Ok(None)
 }
 
-/// Plays a port up to where it has all, and then each event more: the first line that it answers otherwise, and the first event
-/// of which an image tells otherwise.
+/// Plays a port up to where it has all, and then each event more: the first line that it answers otherwise, and the
+/// first event of which an image tells otherwise.
 fn wrong_in_images<L: Ledger>(
     alloc: Global,
     blank: Blank,

@@ -172,7 +172,8 @@ impl<L: Ledger> Played<L> {
         }
     }
 
-    /// Plays the parts, and gives the first one that the port answers otherwise, with the place of the line in its table.
+    /// Plays the parts, and gives the first one that the port answers otherwise, with the place of the line in its
+    /// table.
     pub(super) fn first_wrong(&mut self, parts: &[Part]) -> Wrong {
         for (place, part) in parts.iter().enumerate() {
             let wrong = [
@@ -219,7 +220,8 @@ impl<L: Ledger> Played<L> {
         self.first_wrong_of(&ALL_AT_ONCE, part)
     }
 
-    /// Plays those of the lines that are of this part, and gives the place of the first one that the port answers otherwise.
+    /// Plays those of the lines that are of this part, and gives the place of the first one that the port answers
+    /// otherwise.
     fn first_wrong_of(&mut self, lines: &[(Part, Line)], part: Part) -> Option<usize> {
         for (place, (of, line)) in lines.iter().enumerate() {
             if *of == part && !self.answers(line) {

@@ -343,7 +343,8 @@ pub(super) const COMMANDS: [(Part, Line); 22] = [
 
 /// As many further Alloc-IDs as a unit may have.
 pub(super) const EIGHT_ALLOC_IDS: [(Part, Line); 25] = [
-    // A gets eight further Alloc-IDs, each acknowledged before the next. The ninth is one too many, whatever was acknowledged.
+    // A gets eight further Alloc-IDs, each acknowledged before the next. The ninth is one too many, whatever was
+    // acknowledged.
     (
         Part::EightAllocIds,
         Line::Asked(1, Command::Alloc(A), Reply::Allocated(256)),
@@ -448,8 +449,8 @@ pub(super) const EIGHT_ALLOC_IDS: [(Part, Line); 25] = [
 
 /// A port that has all that an image can have.
 pub(super) const ALL_AT_ONCE: [(Part, Line); 14] = [
-    // A operates, with one Alloc-ID held and one leaving. B is ranging, and its window is open. C is disabled. The ONU-ID that D had
-    // is cooling. Six copies are owed.
+    // A operates, with one Alloc-ID held and one leaving. B is ranging, and its window is open. C is disabled. The
+    // ONU-ID that D had is cooling. Six copies are owed.
     (
         Part::AllAtOnce,
         Line::Asked(1, Command::Alloc(A), Reply::Allocated(256)),

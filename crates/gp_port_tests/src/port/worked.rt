@@ -1,5 +1,5 @@
-//! Worked runs of one port: no step of them takes memory, so they come out the same whatever the allocator refuses after the
-//! port was opened.
+//! Worked runs of one port: no step of them takes memory, so they come out the same whatever the allocator refuses
+//! after the port was opened.
 ghost use Rattle.std.specs.Prelude.{◌≡◌};
 
 use super::lines::{Numbers, Played, USUAL, Wrong};
