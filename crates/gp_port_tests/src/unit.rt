@@ -1,5 +1,5 @@
 //! A unit used by hand: measured, found silent, given an Alloc-ID, and called back.
-ghost use Rattle.std.specs.Prelude.{◌≡◌, None};
+ghost use Rattle.std.specs.Prelude.{◌≡◌, ◌≤◌, None};
 ghost use Rattle.std.specs.FinMap as map;
 ghost use Rattle.gp_pools.specs.Pool.{IsLeased};
 
@@ -145,4 +145,31 @@ fn a_polled_unit_pops_up(rt: HostRuntime) {
         popped_up(Outcome::Gasped),
     ];
     assert!(rt; rows == [Some(Row::ranging(0)); 4]);
+}
+
+/// How many frames after a unit was given up its ONU-ID is free again.
+fn frames_until_free(quarantine: u16) -> Option<u16>
+    requires { quarantine ≤ 8000 }
+{
+    let mut onus = OnuIds::new(1, quarantine);
+    let mut alloc_ids = AllocIds::new(255);
+    let unit = Ranging::begin(SERIAL, onus.take()?);
+    unit.retire().give_up(&mut onus, &mut alloc_ids);
+    for frames in 0..9000u16 {
+        if onus.is_free(0) {
+            return Some(frames);
+        }
+        onus.tick();
+    }
+    None
+}
+
+#[test]
+fn a_unit_that_is_given_up_leaves_its_number_to_cool(rt: HostRuntime) {
+    for quarantine in [0, 1, 800, 8000] {
+        assert!(rt;
+            frames_until_free(quarantine) == Some(quarantine),
+            "{quarantine}"
+        );
+    }
 }

@@ -1,12 +1,12 @@
 //! Images of a port that has all that an image can have.
-ghost use Rattle.std.specs.Prelude.{◌≡◌, ◌≤◌};
+ghost use Rattle.std.specs.Prelude.{◌≡◌};
 
-use super::lines::{A, B_RANGED, C, D, FAR, GARBLED, Played, USUAL, Wrong};
+use super::lines::{A, B, B_RANGED, C, D, FAR, GARBLED, Played, USUAL, Wrong};
 use super::parts::Part;
 use gp_licence::MAX_LICENCES;
-use gp_machine::{Command, Entry, Event, Refusal, Reply};
-use gp_ploam::{Mask, encode_up};
-use gp_port::{ImageFault, OpenFault, PortCore, PortFollower, PortImage};
+use gp_machine::{Command, Entry, Event, Phase, Refusal, Reply};
+use gp_ploam::{Down, Mask, encode_up};
+use gp_port::{Common, Grant, ImageFault, OpenFault, PortCore, PortFollower, PortImage, RowView};
 use std::alloc::Global;
 use std::marker::Brand;
 use std::sync::ledger::{Blank, Ledger};
@@ -51,9 +51,7 @@ fn follows<L: Ledger>(
     image: &PortImage,
     entry: &Entry,
     port: &PortCore<L>,
-) -> Result<(bool, bool), ImageFault>
-    requires { entry.now.purse_in ≤ MAX_LICENCES }
-{
+) -> Result<(bool, bool), ImageFault> {
     let mut follower = PortFollower::resume(alloc, image)?;
     let followed = follower.follow(entry);
     let arrived = follower.stands_as(port);
@@ -115,6 +113,95 @@ fn wrong_in_images<L: Ledger>(
     let told = told_otherwise(alloc, &mut played);
     played.close();
     Ok((wrong, told))
+}
+
+/// What the port knows of A, which operates, holds Alloc-ID 256 and gives 257 back.
+fn row_of_a() -> RowView {
+    let mut allocs = [None; 8];
+    allocs[0] = Some((256, false));
+    allocs[1] = Some((257, true));
+    RowView {
+        onu: 0,
+        allocs,
+        pending: Some(257),
+        waiting: 0,
+        phase: Phase::Operating {
+            eqd: 211_040,
+            dark: 0,
+            garbled: 0,
+        },
+    }
+}
+
+/// What the port knows of B, which is ranging.
+fn row_of_b() -> RowView {
+    RowView {
+        onu: 1,
+        allocs: [None; 8],
+        pending: None,
+        waiting: 0,
+        phase: Phase::Ranging {
+            attempts: 0,
+            seen: false,
+        },
+    }
+}
+
+/// Tells of each part of the image whether it is read as the rules have it, once a garbled burst was seen and a search is wanted.
+fn readings(image: &PortImage) -> [bool; 12] {
+    let unit_with = |onu| image
+        .unit_with(onu)
+        .map(|(serial, row)| (serial, row.view()));
+    let disabled = |serial| image.is_disabled(&serial);
+    let owed = image.owed();
+    [
+        image.rows() == 2,
+        image.row_of(&A).map(|row| row.view()) == Some(row_of_a()),
+        image.row_of(&D).is_none(),
+        (unit_with(0), unit_with(1)) == (Some((A, row_of_a())), Some((B, row_of_b()))),
+        unit_with(2).is_none(),
+        [disabled(A), disabled(B), disabled(C), disabled(D)] == [false, false, true, false],
+        image.common() == Common::Measuring,
+        image.is_wanted() && image.timer() == 0,
+        image
+            .window()
+            .map(|window| (window.grant(), window.left(), window.seen()))
+            == Some((Grant::Range(1), 3, true)),
+        owed.len_copies() == 6
+            && owed.copy_at(2) == Some(Down::Deactivate { onu: 2 })
+            && owed.copy_at(3) == Some(Down::DisableSerial { serial: C })
+            && owed.copy_at(6).is_none(),
+        image.polled() == Some(0),
+        [
+            image.frames_left(1),
+            image.frames_left(2),
+            image.frames_left(254),
+        ] == [Some(0), Some(800), None],
+    ]
+}
+
+/// Plays a port up to where it has all, and reads an image of it.
+fn read_of_all<L: Ledger>(alloc: Global, blank: Blank) -> Result<Option<[bool; 12]>, OpenFault>
+    requires name { blank.name ≡ L.name }
+    requires parts { (blank.parts ≡ L.parts) × (L.parts ≡ MAX_LICENCES) }
+{
+    let mut played = Played::<L>::begin(alloc, blank, USUAL)?;
+    let _ = played.first_wrong(&BEFORE);
+    played.step(GARBLED);
+    played.step(Event::Command(Command::Search));
+    let read = match played.port.image(alloc) {
+        Ok(image) => Some(readings(&image)),
+        Err(ImageFault::OutOfMemory) => None,
+    };
+    played.close();
+    Ok(read)
+}
+
+#[test]
+fn an_image_is_read(rt: HostRuntime) {
+    let blank = Blank::new(u64::from(MAX_LICENCES));
+    let read = read_of_all::<Brand>(rt.alloc(), blank);
+    assert_eq!(rt; read, Ok(Some([true; 12])));
 }
 
 // Run with each allocation refused in turn (`rt try --test --fail-alloc N`).

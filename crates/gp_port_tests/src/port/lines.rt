@@ -153,9 +153,7 @@ impl<L: Ledger> Played<L> {
     }
 
     /// Makes a step, and gives its entry. A burst has a licence at hand, if one is free.
-    pub(super) fn step(&mut self, event: Event) -> Entry
-        ensures { result.purse_in ≤ MAX_LICENCES }
-    {
+    pub(super) fn step(&mut self, event: Event) -> Entry {
         let purse = match event {
             Event::Burst { .. } => self.book.take(),
             _ => Licences::none(),
