@@ -4,9 +4,16 @@ use Rattle.gp_script.specs.declared.fault.ScriptFault.{ScriptFault}
 use Rattle.gp_script.specs.declared.fault.ScriptFault.TheVariants as scripts
 use Rattle.gp_replay.specs.declared.fault.RunFault.{RunFault}
 use Rattle.gp_replay.specs.declared.fault.RunFault.TheVariants as runs
+use Rattle.gp_flow.specs.declared.fault.LineFault.{LineFault as UnansweredLine}
+use Rattle.gp_flow.specs.declared.fault.LineFault.TheVariants as unanswered
+use Rattle.gp_flow.specs.declared.fault.LinesFault.TheVariants as reading
+use Rattle.gp_verify.specs.declared.outcome.VerifyFault.{VerifyFault}
+use Rattle.gp_verify.specs.declared.outcome.VerifyFault.TheVariants as verifies
+use Rattle.gp_verify.specs.declared.verdict.Verdict.{Verdict}
+use Rattle.gp_verify.specs.declared.verdict.Verdict.TheVariants as verdicts
 use Rattle.gp_decode.specs.declared.fault.LineFault.{LineFault}
 use Rattle.gp_decode.specs.declared.fault.LineFault.TheVariants as lines
-use Rattle.gp_report.specs.declared.status.TheConstants.{BAD_INPUT, DISAGREEMENT, JOURNAL_FULL, NOT_WRITTEN, OUT_OF_MEMORY}
+use Rattle.gp_report.specs.declared.status.TheConstants.{BAD_INPUT, DISAGREEMENT, JOURNAL_FULL, NOT_A_RUN, NOT_WRITTEN, OUT_OF_MEMORY}
 
 -- out of memory
 abbrev pub memory_line : List ℕ
@@ -60,3 +67,44 @@ abbrev pub code_status : LineFault → ℕ
 code_status lines.OutOfMemory = OUT_OF_MEMORY
 code_status lines.Write = NOT_WRITTEN
 code_status _ = BAD_INPUT
+
+-- a line of a trace that can't be
+abbrev pub verdict_line : Verdict → List ℕ
+verdict_line verdicts.NotALine = codes "oltctl: no line of a trace"
+verdict_line verdicts.NoPort = codes "oltctl: no such port"
+verdict_line verdicts.WrongNumber = codes "oltctl: not the next number"
+verdict_line verdicts.TooLong = codes "oltctl: line too long"
+verdict_line verdicts.NotAStep = codes "oltctl: not a run"
+verdict_line verdicts.Follows = codes "oltctl: not a run"
+
+-- its exit status
+abbrev pub verdict_status : Verdict → ℕ
+verdict_status verdicts.NotAStep = NOT_A_RUN
+verdict_status verdicts.Follows = NOT_A_RUN
+verdict_status _ = BAD_INPUT
+
+-- a line of a trace that was not judged
+abbrev pub unanswered_line : UnansweredLine → List ℕ
+unanswered_line unanswered.OutOfMemory = memory_line
+unanswered_line unanswered.Write = write_line
+unanswered_line unanswered.Full = codes "oltctl: too many lines"
+
+-- its exit status
+abbrev pub unanswered_status : UnansweredLine → ℕ
+unanswered_status unanswered.OutOfMemory = OUT_OF_MEMORY
+unanswered_status unanswered.Write = NOT_WRITTEN
+unanswered_status unanswered.Full = BAD_INPUT
+
+-- a verification that found no run, without the number of the line
+abbrev pub verify_line : VerifyFault → List ℕ
+verify_line (verifies.Refused line verdict) = verdict_line verdict
+verify_line (verifies.Unended line) = codes "oltctl: no line feed"
+verify_line (verifies.Lines reading.Read) = codes "oltctl: read"
+verify_line (verifies.Lines (reading.Line fault)) = unanswered_line fault
+
+-- its exit status
+abbrev pub verify_status : VerifyFault → ℕ
+verify_status (verifies.Refused line verdict) = verdict_status verdict
+verify_status (verifies.Unended line) = BAD_INPUT
+verify_status (verifies.Lines reading.Read) = BAD_INPUT
+verify_status (verifies.Lines (reading.Line fault)) = unanswered_status fault

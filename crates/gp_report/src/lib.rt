@@ -4,13 +4,17 @@
 //! - `status.rt`: the statuses.
 //!
 //! Where to make which change: a line stands in `report.rt` and `specs/Report.antt`, a status in `status.rt`. Which
-//! faults there are is decided where they arise: `gp_replay` for a replay or a storm, `gp_decode` for a code.
+//! faults there are is decided where they arise: `gp_replay` for a replay or a storm, `gp_verify` for a
+//! verification, `gp_decode` for a code.
 #![tactic(auto)]
 
 mod report;
 mod status;
 
-pub use report::{arguments_report, line_report, memory_report, run_report, write_report};
+pub use report::{
+    arguments_report, line_report, memory_report, run_report, verify_report, write_report,
+};
 pub use status::{
-    BAD_ARGUMENTS, BAD_INPUT, DISAGREEMENT, JOURNAL_FULL, NOT_WRITTEN, OUT_OF_MEMORY, SUCCESS,
+    BAD_ARGUMENTS, BAD_INPUT, DISAGREEMENT, JOURNAL_FULL, NOT_A_RUN, NOT_WRITTEN, OUT_OF_MEMORY,
+    SUCCESS,
 };

@@ -1,13 +1,15 @@
 //! The line on standard error, without its line feed, and the exit status of each fault.
 ghost use Rattle.std.specs.Prelude.{◌≡◌};
-ghost use Rattle.gp_report.specs.Report.{arguments_line, code_line, code_status, memory_line, run_line, run_status, script_line, write_line};
+ghost use Rattle.gp_report.specs.Report.{arguments_line, code_line, code_status, memory_line, run_line, run_status, script_line, unanswered_line, unanswered_status, verdict_line, verdict_status, verify_line, verify_status, write_line};
 
 use crate::status::{
-    BAD_ARGUMENTS, BAD_INPUT, DISAGREEMENT, JOURNAL_FULL, NOT_WRITTEN, OUT_OF_MEMORY,
+    BAD_ARGUMENTS, BAD_INPUT, DISAGREEMENT, JOURNAL_FULL, NOT_A_RUN, NOT_WRITTEN, OUT_OF_MEMORY,
 };
 use gp_decode::LineFault;
+use gp_flow::{LineFault as UnansweredLine, LinesFault};
 use gp_replay::RunFault;
 use gp_script::ScriptFault;
+use gp_verify::{Verdict, VerifyFault};
 
 /// Answers the line and the status of a program that is out of memory.
 pub fn memory_report() -> (&'static str, u8)
@@ -74,5 +76,44 @@ pub fn line_report(fault: &LineFault) -> (&'static str, u8)
         LineFault::Crc => ("oltctl: decode crc", BAD_INPUT),
         LineFault::OutOfMemory => memory_report(),
         LineFault::Write => write_report(),
+    }
+}
+
+/// Answers the line, without the number of the trace's line, and the status of a verification that ended with this fault.
+pub fn verify_report(fault: &VerifyFault) -> (&'static str, u8)
+    ensures line { result.0.now ≡ verify_line fault.now }
+    ensures status { result.1 ≡ verify_status fault.now }
+{
+    match *fault {
+        VerifyFault::Refused { line: _, verdict } => verdict_report(verdict),
+        VerifyFault::Unended { line: _ } => ("oltctl: no line feed", BAD_INPUT),
+        VerifyFault::Lines(LinesFault::Read) => ("oltctl: read", BAD_INPUT),
+        VerifyFault::Lines(LinesFault::Line(line)) => unanswered_report(line),
+    }
+}
+
+/// Answers the line and the status of a verdict that ended a verification.
+fn verdict_report(verdict: Verdict) -> (&'static str, u8)
+    ensures line { result.0.now ≡ verdict_line verdict }
+    ensures status { result.1 ≡ verdict_status verdict }
+{
+    match verdict {
+        Verdict::NotALine => ("oltctl: no line of a trace", BAD_INPUT),
+        Verdict::NoPort => ("oltctl: no such port", BAD_INPUT),
+        Verdict::WrongNumber => ("oltctl: not the next number", BAD_INPUT),
+        Verdict::TooLong => ("oltctl: line too long", BAD_INPUT),
+        Verdict::NotAStep | Verdict::Follows => ("oltctl: not a run", NOT_A_RUN),
+    }
+}
+
+/// Answers the line and the status where a line of a trace was not judged.
+fn unanswered_report(line: UnansweredLine) -> (&'static str, u8)
+    ensures line { result.0.now ≡ unanswered_line line }
+    ensures status { result.1 ≡ unanswered_status line }
+{
+    match line {
+        UnansweredLine::OutOfMemory => memory_report(),
+        UnansweredLine::Write => write_report(),
+        UnansweredLine::Full => ("oltctl: too many lines", BAD_INPUT),
     }
 }

@@ -20,3 +20,6 @@ pub const DISAGREEMENT: u8 = 5;
 
 /// The journal of a port keeps as many entries as it may.
 pub const JOURNAL_FULL: u8 = 6;
+
+/// A text is a trace by its lines, but not of a run of the machine.
+pub const NOT_A_RUN: u8 = 7;

@@ -1,5 +1,6 @@
 //! Whether a text is the trace of some run of the machine, with any free ONU-IDs and Alloc-IDs.
 //!
+//! - `checking.rt`: `verify_script`, from the bytes of a script and of a text to whether it is a trace of the script's chassis.
 //! - `running.rt`: `run_verify`, from the bytes of a text to whether it is a trace.
 //! - `verifier.rt`: `Verifier`, which is given the lines of a text one after another; `following.rt`: as what serves
 //!   lines.
@@ -11,6 +12,7 @@
 //! means in `specs/Verdicts.antt`, and how a verification may end in `specs/Outcome.antt`.
 #![tactic(auto)]
 
+mod checking;
 mod fault;
 mod following;
 mod judging;
@@ -20,9 +22,10 @@ mod running;
 mod verdict;
 mod verifier;
 
+pub use checking::verify_script;
 pub use fault::LineRefusal;
 pub use laws::traces_are_lines;
-pub use outcome::VerifyFault;
+pub use outcome::{CheckFault, VerifyFault};
 pub use running::run_verify;
 pub use verdict::Verdict;
 pub use verifier::Verifier;

@@ -1,4 +1,5 @@
--- The command line: `oltctl replay [FILE]`, `oltctl storm [FILE]` and `oltctl decode [--up] [--mask 0|85] HEX` (this
+-- The command line: `oltctl replay [FILE]`, `oltctl storm [FILE]`, `oltctl verify FILE [TRACE]` and `oltctl decode
+-- [--up] [--mask 0|85] HEX` (this
 -- profile's own rule).
 use Rattle.std.specs.Prelude.{◌≡◌, List, [], ◌∷◌, Option, None, Some, map, true, codes, if◌then◌else◌}
 use Rattle.std.specs.Borrow.{Bor}
@@ -38,11 +39,22 @@ mask_rule names =
 abbrev pub code_rule : Rule
 code_rule = record (new_rule (codes "code")) { value_names = 1; required = true }
 
+-- the script of a verification, which is required
+abbrev pub script_rule : Rule
+script_rule = record (new_rule (codes "script")) { value_names = 1; required = true }
+
+-- TRACE, which may be left out
+abbrev pub trace_rule : Rule
+trace_rule = record (new_rule (codes "trace")) { value_names = 1 }
+
 abbrev pub replay_command : App
 replay_command = with_rule (new_app (codes "replay")) file_rule
 
 abbrev pub storm_command : App
 storm_command = with_rule (new_app (codes "storm")) file_rule
+
+abbrev pub verify_command : App
+verify_command = with_rule (with_rule (new_app (codes "verify")) script_rule) trace_rule
 
 abbrev pub decode_command : MaskNames → App
 decode_command names = with_rule (with_rule (with_rule (new_app (codes "decode")) up_rule) (mask_rule names)) code_rule
@@ -51,9 +63,9 @@ decode_command names = with_rule (with_rule (with_rule (new_app (codes "decode")
 -- shown
 abbrev pub script_commands : App
 script_commands =
-    with_subcommand
-    (with_subcommand (on_top (λ s. record s { subcommand_required = true; arg_required_else_help = true })
-    (new_app (codes "oltctl"))) replay_command.top) storm_command.top
+    with_subcommand (with_subcommand (with_subcommand (on_top (λ s. record s
+      { subcommand_required = true; arg_required_else_help = true })
+    (new_app (codes "oltctl"))) replay_command.top) storm_command.top) verify_command.top
 
 -- the whole program
 abbrev pub oltctl_command : MaskNames → App

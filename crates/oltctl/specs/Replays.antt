@@ -4,6 +4,8 @@ use Rattle.gp_script.specs.declared.fault.ScriptFault.{ScriptFault}
 use Rattle.gp_script.specs.Script.{ScriptView}
 use Rattle.gp_stream.specs.Source.{SourceState, ReadsTooMuch, max_bytes, max_reads}
 use Rattle.gp_replay.specs.Outcome.{ReadsBy}
+use Rattle.gp_verify.specs.declared.outcome.CheckFault.{CheckFault}
+use Rattle.gp_verify.specs.Checking.{ChecksScript}
 
 -- where a source over a reader stands, from which nothing was read yet
 abbrev pub unread : {R : Type 0} → R → Option (List ℕ) → SourceState R
@@ -19,3 +21,14 @@ IsReadBy {R = R} says_of reader remaining answer =
 -- a reader had more to give than a script may have
 abbrev pub IsTooLong : {R : Type 0} → R → Option (List ℕ) → Type 0
 IsTooLong {R = R} reader remaining = (after : SourceState R) × ReadsTooMuch max_bytes (unread reader remaining) after
+
+-- where an endless source over a reader stands, from which nothing was read yet
+abbrev pub unread_endless : {R : Type 0} → R → Option (List ℕ) → SourceState R
+unread_endless reader remaining =
+    record { reader = reader; remaining = remaining; left = 18446744073709551615; failed = false }
+
+-- a trace that one reader had to give was verified against the script that another had to give
+abbrev pub IsCheckedBy : {S T : Type 0} → S → Option (List ℕ) → T → Option (List ℕ) → Result ℕ CheckFault → Type 0
+IsCheckedBy {S = S} {T = T} script of_script trace of_trace answer =
+    (after : SourceState S) × (to : SourceState T)
+    × ChecksScript (unread script of_script) after (unread_endless trace of_trace) to answer

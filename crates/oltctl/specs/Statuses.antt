@@ -9,18 +9,20 @@ use Rattle.gp_decode.specs.declared.fault.LineFault.{LineFault}
 use Rattle.gp_decode.specs.Line.{HasLineFault, IsOfText, Says}
 use Rattle.gp_replay.specs.declared.fault.RunFault.{RunFault}
 use Rattle.gp_replay.specs.declared.fault.RunFault.TheVariants as run
-use Rattle.gp_report.specs.declared.status.TheConstants.{BAD_ARGUMENTS, JOURNAL_FULL, NOT_WRITTEN, OUT_OF_MEMORY, SUCCESS}
-use Rattle.gp_report.specs.Report.{arguments_line, code_status, memory_line, run_status}
+use Rattle.gp_report.specs.declared.status.TheConstants.{BAD_ARGUMENTS, NOT_A_RUN, NOT_WRITTEN, OUT_OF_MEMORY, SUCCESS}
+use Rattle.gp_report.specs.Report.{arguments_line, code_status, memory_line, run_status, verify_status}
+use Rattle.gp_verify.specs.declared.outcome.CheckFault.{CheckFault}
+use Rattle.gp_verify.specs.declared.outcome.CheckFault.TheVariants as check
 use Rattle.clap.specs.Words.{Text, subcommand_rows_of}
 use Rattle.clap.specs.declared.parser.matches.ArgMatches.{ArgMatches}
 use Rattle.oltctl.specs.CommandLine.{IsFaultOf, IsParseOf}
 use Rattle.oltctl.specs.Requests.{Asks, AsksNothing}
 use Rattle.oltctl.specs.declared.request.Request.{Request}
-use Rattle.oltctl.specs.declared.request.Request.TheVariants.{Replay, Storm, Decode}
+use Rattle.oltctl.specs.declared.request.Request.TheVariants.{Replay, Storm, Verify, Decode}
 
 -- no status is greater
 abbrev pub greatest_status : ℕ
-greatest_status = JOURNAL_FULL
+greatest_status = NOT_A_RUN
 
 -- the line on standard error and the status where the words of the command line could not be had
 abbrev pub IsArgumentsReport : IoErrorKind → List ℕ → ℕ → Type 0
@@ -67,10 +69,22 @@ pub record IsDecoded (code : List ℕ) (upstream : Bool) (mask : Mask) (status :
   pub faulty : status ≢ OUT_OF_MEMORY → (fault : LineFault) → IsOfText fault → HasLineFault mask code fault
       → status ≡ code_status fault
 
+-- the status after a verification that ended so: of a trace that is a run its lines are told, which may not get out
+abbrev pub IsVerifyStatus : Result ℕ CheckFault → ℕ → Type 0
+IsVerifyStatus (Ok lines) status = (status ≡ SUCCESS) ⊎ (status ≡ NOT_WRITTEN)
+IsVerifyStatus (Err (check.Script fault)) status = status ≡ run_status fault
+IsVerifyStatus (Err (check.Trace fault)) status = status ≡ verify_status fault
+
+-- the status after a verification of files or of standard input: what they hold no contract can tell, so it is that of
+-- some verification
+abbrev pub IsVerified : ℕ → Type 0
+IsVerified status = (outcome : Result ℕ CheckFault) × IsVerifyStatus outcome status
+
 -- the status after what was asked for
 abbrev pub IsServed : Request → ℕ → Type 0
 IsServed (Replay file) status = IsPlayed status
 IsServed (Storm file) status = IsStormed status
+IsServed (Verify script trace) status = IsVerified status
 IsServed (Decode code upstream mask) status = IsDecoded code.now upstream mask status
 
 -- how a run over the words of a command line may end, with this status

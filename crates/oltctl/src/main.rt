@@ -1,5 +1,5 @@
-//! `oltctl`: plays a script and writes its trace, runs its events at once by threads and writes the totals, and says
-//! in words which message a code is.
+//! `oltctl`: plays a script and writes its trace, runs its events at once by threads and writes the totals, tells
+//! whether a trace is one of a correct line terminal, and says in words which message a code is.
 #![tactic(auto)]
 
 ghost use Rattle.std.specs.Prelude.{◌≡◌, ◌≢◌, ◌≤◌, ◌↔◌, ℕ, List, Ok, Err, OnOk, map};
@@ -10,8 +10,9 @@ ghost use Rattle.gp_decode.specs.declared.fault.LineFault.{LineFault as AnyFault
 ghost use Rattle.gp_decode.specs.Line.{HasLineFault, IsOfText, Says};
 ghost use Rattle.gp_script.specs.declared.fault.ScriptFault.{ScriptFault};
 ghost use Rattle.gp_script.specs.Script.{ScriptView, script_of, storm_script_of};
-ghost use Rattle.oltctl.specs.Replays.{IsReadBy, IsTooLong};
-ghost use Rattle.oltctl.specs.Statuses.{IsArgumentsReport, IsRun, IsServed, IsStatusOf, end_status, greatest_status};
+ghost use Rattle.oltctl.specs.Replays.{IsCheckedBy, IsReadBy, IsTooLong};
+ghost use Rattle.gp_report.specs.Report.{verify_status};
+ghost use Rattle.oltctl.specs.Statuses.{IsArgumentsReport, IsRun, IsServed, IsStatusOf, IsVerifyStatus, end_status, greatest_status};
 
 mod command_line;
 mod request;
@@ -19,13 +20,16 @@ mod request;
 use clap::Error;
 use clap::error::ErrorKind;
 use gp_decode::{LineFault, decode_line};
+use gp_flow::LinesFault;
 use gp_ploam::Mask;
 use gp_replay::{RunFault, run_replay};
 use gp_report::{
-    BAD_ARGUMENTS, SUCCESS, arguments_report, line_report, memory_report, run_report, write_report,
+    BAD_ARGUMENTS, SUCCESS, arguments_report, line_report, memory_report, run_report,
+    verify_report, write_report,
 };
 use gp_storm::run_storm;
 use gp_stream::{Sink, Source};
+use gp_verify::{CheckFault, VerifyFault, verify_script};
 use request::{Request, request_of};
 use std::io;
 use std::io::Read;
@@ -41,6 +45,15 @@ fn report<R: Eprint>(rt: &R, told: (&'static str, u8)) -> u8
 {
     let (line, status) = told;
     let _ = eprintln!(rt; "{line}");
+    status
+}
+
+/// Does the same of a line of a trace, whose number it says too.
+fn report_at<R: Eprint>(rt: &R, told: (&'static str, u8), number: u64) -> u8
+    ensures { result ≡ told.entry.1 }
+{
+    let (line, status) = told;
+    let _ = eprintln!(rt; "{line}, line {number}");
     status
 }
 
@@ -115,6 +128,65 @@ fn end_run<R: Eprint>(rt: &R, outcome: &Result<(), RunFault>) -> u8
     }
 }
 
+/// Verifies the trace that a reader gives against the script that another gives. What the machine says in the place of
+/// a line that can't be goes to standard output.
+fn verify_from<R: AllocGlobal + Print, S: Read + Drop, T: Read + Drop>(
+    rt: &R,
+    script: S,
+    trace: T,
+) -> Result<u64, CheckFault>
+    ensures { IsCheckedBy script (S.remaining script) trace (T.remaining trace) result }
+{
+    let mut script = Source::new(script);
+    let mut trace = Source::endless(trace);
+    let mut sink = Sink::new(rt.alloc(), io::writer(rt))?;
+    verify_script(rt.alloc(), &mut script, &mut trace, &mut sink)
+}
+
+/// Verifies the trace of a file, or of standard input, against the script of a file.
+fn verify<R: AllocGlobal + Files + Print + Input>(
+    rt: &R,
+    script: &str,
+    trace: Option<&str>,
+) -> Result<u64, CheckFault> {
+    let Ok(script) = std::fs::open(rt, script) else {
+        return Err(CheckFault::Script(RunFault::Read));
+    };
+    match trace {
+        None => verify_from(rt, script, rt.reader()),
+        Some(path) => match std::fs::open(rt, path) {
+            Ok(trace) => verify_from(rt, script, trace),
+            Err(_) => Err(CheckFault::Trace(VerifyFault::Lines(LinesFault::Read))),
+        },
+    }
+}
+
+/// Says how a verification of a trace ended, with the number of the line that can't be, and answers the exit status.
+fn end_trace<R: Eprint>(rt: &R, fault: &VerifyFault) -> u8
+    ensures { result ≡ verify_status fault.now }
+{
+    match *fault {
+        VerifyFault::Refused { line, verdict: _ } | VerifyFault::Unended { line } => {
+            report_at(rt, verify_report(fault), line)
+        }
+        VerifyFault::Lines(_) => report(rt, verify_report(fault)),
+    }
+}
+
+/// Says how a verification ended, and answers the exit status.
+fn end_verify<R: Print + Eprint>(rt: &R, outcome: &Result<u64, CheckFault>) -> u8
+    ensures { IsVerifyStatus outcome.now result }
+{
+    match outcome {
+        Ok(lines) => match println!(rt; "{lines} lines, a run") {
+            Ok(()) => SUCCESS,
+            Err(_) => report(rt, write_report()),
+        },
+        Err(CheckFault::Script(fault)) => report(rt, run_report(fault)),
+        Err(CheckFault::Trace(fault)) => end_trace(rt, fault),
+    }
+}
+
 /// Says which message a code is, on standard output.
 fn decode<R: AllocGlobal + Print>(
     rt: &R,
@@ -140,6 +212,7 @@ fn serve<R: AllocGlobal + Files + Print + Eprint + Input + Threads + Wait + Sync
     match request {
         Request::Replay { file } => end_run(rt, &replay(rt, file)),
         Request::Storm { file } => end_run(rt, &storm(rt, file)),
+        Request::Verify { script, trace } => end_verify(rt, &verify(rt, script, trace)),
         Request::Decode {
             code,
             upstream,

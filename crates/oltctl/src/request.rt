@@ -2,7 +2,7 @@
 ghost use Rattle.std.specs.Prelude.{◌≡◌, IfSome, IfNone, None, codes, option_map};
 ghost use Rattle.clap.specs.Words.{first_of, found_of, rows_of, subcommand_rows_of};
 ghost use Rattle.oltctl.specs.CommandLine.{mask_named};
-ghost use Rattle.oltctl.specs.Requests.{Asks, AsksNothing, AsksToDecode, AsksToReplay, AsksToStorm};
+ghost use Rattle.oltctl.specs.Requests.{Asks, AsksNothing, AsksToDecode, AsksToReplay, AsksToStorm, AsksToVerify};
 
 use clap::ArgMatches;
 use gp_ploam::Mask;
@@ -18,6 +18,11 @@ pub enum Request<'a> {
     Storm {
         file: Option<&'a str>,
     },
+    /// Verify this trace, or that of standard input, against the script of this file.
+    Verify {
+        script: &'a str,
+        trace: Option<&'a str>,
+    },
     /// Say which message this code is, in hexadecimal digits: one of a unit where `upstream`, else one of the
     /// line terminal.
     Decode {
@@ -27,7 +32,8 @@ pub enum Request<'a> {
     },
 }
 
-/// Tells what the subcommand of a parsed command line asks for; None where it has none that is known, or no code.
+/// Tells what the subcommand of a parsed command line asks for; None where it has none that is known, or no code
+/// or script.
 pub fn request_of<'a>(matches: &ArgMatches<'a>) -> Option<Request<'a>>
     ensures asks { IfSome result (Asks (subcommand_rows_of matches.now)) }
     ensures nothing { IfNone result (AsksNothing (subcommand_rows_of matches.now)) }
@@ -35,6 +41,7 @@ pub fn request_of<'a>(matches: &ArgMatches<'a>) -> Option<Request<'a>>
     match matches.subcommand()? {
         ("replay", found) => Some(replay_of(found)),
         ("storm", found) => Some(storm_of(found)),
+        ("verify", found) => verify_of(found),
         ("decode", found) => decode_of(found),
         _ => None,
     }
@@ -56,6 +63,17 @@ fn storm_of<'a>(found: &ArgMatches<'a>) -> Request<'a>
     Request::Storm {
         file: found.get_str("file"),
     }
+}
+
+#[tactic(auto, using(crate::proofs::Rows::value_by_rows))]
+fn verify_of<'a>(found: &ArgMatches<'a>) -> Option<Request<'a>>
+    ensures asks { IfSome result (AsksToVerify (rows_of (found_of found.now))) }
+    ensures nothing { IfNone result (first_of (codes "script") (rows_of (found_of found.now)) ≡ None) }
+{
+    Some(Request::Verify {
+        script: found.get_str("script")?,
+        trace: found.get_str("trace"),
+    })
 }
 
 #[tactic(auto, using(crate::proofs::Rows::value_by_rows, crate::proofs::Rows::flag_by_rows))]
