@@ -6,7 +6,7 @@
 //!   which they don't.
 //! - `desk.rt`: a port with its journal, until that is full.
 //! - `chassis.rt`: runs of a chassis, as tables of lines, also where memory is refused. `chassis/lines.rt` plays them.
-//! - `workers.rt`: what the tests with threads share; `workers/accounts.rt`, `workers/journals.rt`,
+//! - `workers.rt`: what the tests with threads share; `workers/accounts.rt`, `workers/journals.rt`, `workers/ports.rt`,
 //!   `workers/loops.rt` and `workers/parallel.rt` are those, and `workers/meeting.rt` has threads meet.
 //! - `texts.rt`: the texts of faults.
 //! - `onu.rt`: a simulated unit by rows of its table.

@@ -5,12 +5,14 @@ mod journals;
 mod loops;
 mod meeting;
 mod parallel;
+mod ports;
 
 use super::units::{A_RANGED, A_SEARCHED, SEARCH, Said, spoken};
 use gp_chassis::ApplyFault;
 use gp_machine::Event;
-use gp_workers::{Chassis, CloseFault, CloseRefused, Closed, Gate, Worker};
+use gp_workers::{Chassis, CloseFault, CloseRefused, Closed, Cut, Gate, NoGate, Worker};
 use std::alloc::Global;
+use std::process::Abort;
 use std::sync::Wait;
 use std::sync::ledger::Ledger;
 
@@ -128,8 +130,7 @@ fn end<G: Gate<L>, L: Ledger, R: Wait>(rt: &R, refused: CloseRefused<G, L>) -> C
     fault
 }
 
-/// Closes a chassis, with a second try where memory may be refused. Where it does not close it ends all the same,
-/// with its workers.
+/// Closes a chassis, with a second try where memory was refused. Where it does not close it ends all the same, with its workers.
 fn close<G: Gate<L>, L: Ledger, R: Wait>(
     rt: &R,
     alloc: Global,
@@ -141,7 +142,7 @@ fn close<G: Gate<L>, L: Ledger, R: Wait>(
         Ok(closed) => return Ok(closed),
         Err(refused) => refused,
     };
-    if tries < 2 {
+    if tries < 2 || refused.fault != CloseFault::OutOfMemory {
         return Err(end(rt, refused));
     }
     let CloseRefused {
@@ -153,4 +154,71 @@ fn close<G: Gate<L>, L: Ledger, R: Wait>(
         Ok(closed) => Ok(closed),
         Err(refused) => Err(end(rt, refused)),
     }
+}
+
+/// Closes a chassis without its last worker, and gives why that is refused, with all as it was.
+fn close_without_last<L: Ledger, R: Abort>(
+    rt: &R,
+    alloc: Global,
+    chassis: Chassis<NoGate, L>,
+    mut workers: Vec<Worker<L>>,
+) -> (CloseFault, Chassis<NoGate, L>, Vec<Worker<L>>) {
+    let last = workers.pop().expect(rt, "a last worker");
+    let refused = match chassis.close(alloc, workers) {
+        Ok(_) => panic!(rt; "closed without its last worker"),
+        Err(refused) => refused,
+    };
+    let CloseRefused {
+        fault,
+        chassis,
+        mut workers,
+    } = refused;
+    add(&mut workers, last);
+    (fault, chassis, workers)
+}
+
+/// Cuts the journals of a chassis, with a second try where memory was refused.
+fn cut<L: Ledger, R: Abort + Wait>(
+    rt: &R,
+    alloc: Global,
+    chassis: Chassis<NoGate, L>,
+    workers: Vec<Worker<L>>,
+    tries: u8,
+) -> (Chassis<NoGate, L>, Vec<Worker<L>>, Cut) {
+    let refused = match chassis.cut(alloc, workers) {
+        Ok(done) => return done,
+        Err(refused) => refused,
+    };
+    assert!(rt; tries > 1);
+    let CloseRefused {
+        fault,
+        chassis,
+        workers,
+    } = refused;
+    assert_eq!(rt; fault, CloseFault::OutOfMemory);
+    match chassis.cut(alloc, workers) {
+        Ok(done) => done,
+        Err(_) => panic!(rt; "not cut"),
+    }
+}
+
+/// Cuts a chassis without its last worker, and gives why that is refused, with all as it was.
+fn cut_without_last<L: Ledger, R: Abort>(
+    rt: &R,
+    alloc: Global,
+    chassis: Chassis<NoGate, L>,
+    mut workers: Vec<Worker<L>>,
+) -> (CloseFault, Chassis<NoGate, L>, Vec<Worker<L>>) {
+    let last = workers.pop().expect(rt, "a last worker");
+    let refused = match chassis.cut(alloc, workers) {
+        Ok(_) => panic!(rt; "cut without its last worker"),
+        Err(refused) => refused,
+    };
+    let CloseRefused {
+        fault,
+        chassis,
+        mut workers,
+    } = refused;
+    add(&mut workers, last);
+    (fault, chassis, workers)
 }

@@ -2,16 +2,14 @@
 ghost use Rattle.std.specs.Prelude.{◌≡◌};
 ghost use Rattle.gp_licence.specs.declared.ledger_parts.TheConstants.{MAX_LICENCES};
 
-use super::{Line, ONE_UNIT, add, close, play, workers_of};
+use super::{Line, ONE_UNIT, close, close_without_last, play, workers_of};
 use crate::units::{A, Said, chassis_of};
 use gp_accounts::reconcile;
 use gp_chassis::{ApplyFault, ChassisConfig};
 use gp_licence::MAX_LICENCES;
 use gp_machine::{Command, Event, FIRST_ALLOC_ID, Receipt, Reply};
 use gp_unit::{Phase, RowView};
-use gp_workers::{
-    Chassis, CloseFault, CloseRefused, Closed, MAX_WORKERS, NoGate, Totals, Worker, WorkerFault,
-};
+use gp_workers::{Chassis, CloseFault, Closed, MAX_WORKERS, NoGate, Totals, Worker, WorkerFault};
 use std::alloc::{AllocError, Global};
 use std::marker::Brand;
 use std::process::Abort;
@@ -87,27 +85,6 @@ fn told_to<L: Ledger>(
         told.push(worker.receipts().to_vec(alloc)?)?;
     }
     Ok(told)
-}
-
-/// Closes a chassis without its last worker, and gives why that is refused, with all as it was.
-fn close_without_last<L: Ledger, R: Abort>(
-    rt: &R,
-    alloc: Global,
-    chassis: Chassis<NoGate, L>,
-    mut workers: Vec<Worker<L>>,
-) -> (CloseFault, Chassis<NoGate, L>, Vec<Worker<L>>) {
-    let last = workers.pop().expect(rt, "a last worker");
-    let refused = match chassis.close(alloc, workers) {
-        Ok(_) => panic!(rt; "closed without its last worker"),
-        Err(refused) => refused,
-    };
-    let CloseRefused {
-        fault,
-        chassis,
-        mut workers,
-    } = refused;
-    add(&mut workers, last);
-    (fault, chassis, workers)
 }
 
 /// Compares the receipts with the journals: as they were told, and with the answer to the second worker altered.

@@ -3,13 +3,13 @@ ghost use Rattle.std.specs.Prelude.{◌≡◌};
 ghost use Rattle.gp_licence.specs.declared.ledger_parts.TheConstants.{MAX_LICENCES};
 
 use super::meeting::{Meeting, Meets};
-use super::{Line, ONE_UNIT, add, close, play, reply, workers_of};
+use super::{Line, ONE_UNIT, close, cut, cut_without_last, play, reply, workers_of};
 use crate::units::{A, A_RANGED, A_SEARCHED, B_SEARCHED, NOTHING, SEARCH, Said, chassis_of};
 use gp_alarms::{Alarm, AlarmKind};
 use gp_chassis::{ApplyFault, ChassisConfig};
 use gp_licence::MAX_LICENCES;
 use gp_machine::{Command, Event, FIRST_ALLOC_ID, Refusal};
-use gp_workers::{Chassis, CloseFault, CloseRefused, Closed, Cut, NoGate, Totals, Worker};
+use gp_workers::{Chassis, CloseFault, Closed, Cut, NoGate, Totals, Worker};
 use std::alloc::Global;
 use std::marker::Brand;
 use std::process::Abort;
@@ -69,53 +69,8 @@ const HEARD: [[Result<Said, ApplyFault>; 2]; 2] = [
     [Err(ApplyFault::OutOfMemory), Ok(Said::Found(0))],
 ];
 
-/// Cuts the journals of a chassis, with a second try where memory may be refused.
-fn cut<L: Ledger, R: Abort + Wait>(
-    rt: &R,
-    alloc: Global,
-    chassis: Chassis<NoGate, L>,
-    workers: Vec<Worker<L>>,
-    tries: u8,
-) -> (Chassis<NoGate, L>, Vec<Worker<L>>, Cut) {
-    let refused = match chassis.cut(alloc, workers) {
-        Ok(done) => return done,
-        Err(refused) => refused,
-    };
-    assert!(rt; tries > 1);
-    let CloseRefused {
-        fault: _,
-        chassis,
-        workers,
-    } = refused;
-    match chassis.cut(alloc, workers) {
-        Ok(done) => done,
-        Err(_) => panic!(rt; "not cut"),
-    }
-}
-
-/// Cuts a chassis without its last worker, and gives why that is refused, with all as it was.
-fn cut_without_last<L: Ledger, R: Abort>(
-    rt: &R,
-    alloc: Global,
-    chassis: Chassis<NoGate, L>,
-    mut workers: Vec<Worker<L>>,
-) -> (CloseFault, Chassis<NoGate, L>, Vec<Worker<L>>) {
-    let last = workers.pop().expect(rt, "a last worker");
-    let refused = match chassis.cut(alloc, workers) {
-        Ok(_) => panic!(rt; "cut without its last worker"),
-        Err(refused) => refused,
-    };
-    let CloseRefused {
-        fault,
-        chassis,
-        mut workers,
-    } = refused;
-    add(&mut workers, last);
-    (fault, chassis, workers)
-}
-
-/// How a piece and the journal after it join: the numbers of the first entries, how many entries each has, and
-/// whether the journal goes on where the piece ends, and an entry earlier.
+/// How a piece and the journal after it join: the numbers of the first entries, how many entries each has, and whether the journal goes
+/// on where the piece ends, and an entry earlier.
 fn joined(cut: &Cut, closed: &Closed) -> Option<((u64, u64), (u64, usize), (bool, bool))> {
     let piece = cut.pieces.as_slice().first()?;
     let journal = closed.journals.as_slice().first()?;
