@@ -1,5 +1,5 @@
 //! `olt_examples`: replays the scripts of `data/`, each of which stands beside its trace, and compares what each
-//! replay writes with that trace.
+//! replay writes with that trace. It ends with status 1 where one is not as in its trace.
 //!
 //! It reads the folder where it runs, so that a new example takes three things: NAME.toml, NAME.trace, and its line in
 //! the crate's file `stdout`.
@@ -45,41 +45,45 @@ fn common_lines(one: &[u8], other: &[u8]) -> usize {
         .count()
 }
 
-/// Says in a line how a replay of the script compares with the trace.
+/// Tells whether a replay of the script is as the trace, and says in a line how it compares with it.
 fn verdict_of(
     alloc: Global,
     name: &str,
     script: &[u8],
     trace: &[u8],
-) -> Result<String, AllocError> {
-    match replayed(alloc, script) {
-        Err(fault) => format!(in alloc; "{name}: {fault}"),
-        Ok(written) => {
-            let lines = common_lines(&written, trace);
-            if written.as_slice() == trace {
-                format!(in alloc; "{name}: {lines} lines, as in its trace")
-            } else {
-                format!(in alloc; "{name}: another line than in its trace after {lines} lines")
-            }
-        }
-    }
+) -> Result<(bool, String), AllocError> {
+    let written = match replayed(alloc, script) {
+        Ok(written) => written,
+        Err(fault) => return Ok((false, format!(in alloc; "{name}: {fault}")?)),
+    };
+    let lines = common_lines(&written, trace);
+    let right = written.as_slice() == trace;
+    let verdict = if right {
+        format!(in alloc; "{name}: {lines} lines, as in its trace")?
+    } else {
+        format!(in alloc; "{name}: another line than in its trace after {lines} lines")?
+    };
+    Ok((right, verdict))
 }
 
-/// Replays each example of the folder, and prints a line on each.
-fn check<R: AllocGlobal + Files + Print + Clone + Drop>(rt: &R) -> io::Result<()> {
+/// Replays each example of the folder, prints a line on each, and tells whether all are as in their traces.
+fn check<R: AllocGlobal + Files + Print + Clone + Drop>(rt: &R) -> io::Result<bool> {
     let alloc = rt.alloc();
+    let mut all_right = true;
     for name in examples(rt)? {
         let script = fs::read(rt, format!(in alloc; "{name}{SCRIPT_ENDING}")?)?;
         let trace = fs::read(rt, format!(in alloc; "{name}.trace")?)?;
-        let verdict = verdict_of(alloc, name.as_str(), &script, &trace)?;
+        let (right, verdict) = verdict_of(alloc, name.as_str(), &script, &trace)?;
         println!(rt; "{verdict}")?;
+        all_right &= right;
     }
-    Ok(())
+    Ok(all_right)
 }
 
 fn main(rt: HostRuntime) -> ExitCode {
     match check(&rt) {
-        Ok(()) => ExitCode::SUCCESS,
+        Ok(true) => ExitCode::SUCCESS,
+        Ok(false) => ExitCode::FAILURE,
         Err(error) => {
             let _ = eprintln!(&rt; "olt_examples: {error}");
             ExitCode::FAILURE

@@ -253,13 +253,13 @@ impl AttackTally {
         Ok(())
     }
 
-    /// Prints what came of it.
+    /// Prints what came of it, and tells whether each case came out as it should.
     fn tell<R: AllocGlobal + Print>(
         &self,
         rt: &R,
         window: Window,
         speaker: Speaker,
-    ) -> io::Result<()> {
+    ) -> io::Result<bool> {
         let Answers {
             stray,
             garbled,
@@ -283,7 +283,7 @@ fn attack<L: Ledger, R: AllocGlobal + Print>(
     window: Window,
     speaker: Speaker,
     octets1: RangeInclusive<u8>,
-) -> io::Result<()> {
+) -> io::Result<bool> {
     let mut heard = AttackTally::default();
     if !open_window(rt.alloc(), port, window)? {
         heard.tally.count("the window does not open", 0, false);
@@ -299,7 +299,7 @@ fn attack<L: Ledger, R: AllocGlobal + Print>(
 fn attack_check_octet<L: Ledger, R: AllocGlobal + Print>(
     rt: &R,
     port: &mut AttackedPort<L>,
-) -> io::Result<()> {
+) -> io::Result<bool> {
     let mut tally = Tally::default();
     let right = open_window(rt.alloc(), port, Window::Search)?;
     tally.count("the window does not open", 0, right);
@@ -344,11 +344,12 @@ fn attack_check_octet<L: Ledger, R: AllocGlobal + Print>(
 fn attack_each_window<L: Ledger, R: AllocGlobal + Print>(
     rt: &R,
     port: &mut AttackedPort<L>,
-) -> io::Result<()> {
-    attack(rt, port, Window::Closed, Speaker::A, 0..=u8::MAX)?;
-    attack(rt, port, Window::Search, Speaker::Stranger, 0..=u8::MAX)?;
-    attack(rt, port, Window::Range, Speaker::B, 0..=u8::MAX)?;
-    attack(rt, port, Window::Poll, Speaker::A, 0..=u8::MAX)
+) -> io::Result<bool> {
+    let mut right = attack(rt, port, Window::Closed, Speaker::A, 0..=u8::MAX)?;
+    right &= attack(rt, port, Window::Search, Speaker::Stranger, 0..=u8::MAX)?;
+    right &= attack(rt, port, Window::Range, Speaker::B, 0..=u8::MAX)?;
+    right &= attack(rt, port, Window::Poll, Speaker::A, 0..=u8::MAX)?;
+    Ok(right)
 }
 
 /// Attacks it with each serial number and the octets 1 that may be heard, 0 in the windows of ONU-ID 0 and 255 in a
@@ -356,8 +357,8 @@ fn attack_each_window<L: Ledger, R: AllocGlobal + Print>(
 pub(crate) fn check<L: Ledger, R: AllocGlobal + Print>(
     rt: &R,
     port: &mut AttackedPort<L>,
-) -> io::Result<()> {
-    attack_each_window(rt, port)?;
+) -> io::Result<bool> {
+    let mut right = attack_each_window(rt, port)?;
     for window in [Window::Closed, Window::Search, Window::Range, Window::Poll] {
         for speaker in [Speaker::A, Speaker::B, Speaker::Stranger, Speaker::Masked] {
             let octets1 = if window == Window::Search {
@@ -365,8 +366,9 @@ pub(crate) fn check<L: Ledger, R: AllocGlobal + Print>(
             } else {
                 0..=1
             };
-            attack(rt, port, window, speaker, octets1)?;
+            right &= attack(rt, port, window, speaker, octets1)?;
         }
     }
-    attack_check_octet(rt, port)
+    right &= attack_check_octet(rt, port)?;
+    Ok(right)
 }

@@ -1,5 +1,5 @@
-//! `olt_hostile`: uses the library badly, and prints for each table of cases how many came out as they should, and
-//! the first that did not. What the bursts of `bursts.rt` were answered with is printed too.
+//! `olt_hostile`: uses the library badly, and prints for each table of cases how many came out as they should, and the first
+//! that did not. What the bursts of `bursts.rt` were answered with is printed too. It ends with status 1 where a case did not.
 //!
 //! - `octets.rt`: octets of each length, into whatever reads octets.
 //! - `bursts.rt`: every identifier with every octet 1, in each window of a port; the same through scripts in
@@ -37,7 +37,7 @@ use std::process::ExitCode;
 use std::sync::ledger::{Blank, Ledger};
 
 /// Attacks ports whose licences are parts of this ledger.
-fn attack_ports<L: Ledger, R: AllocGlobal + Print>(rt: &R, blank: Blank) -> io::Result<()>
+fn attack_ports<L: Ledger, R: AllocGlobal + Print>(rt: &R, blank: Blank) -> io::Result<bool>
     requires name { blank.name ≡ L.name }
     requires parts { (blank.parts ≡ L.parts) × (L.parts ≡ MAX_LICENCES) }
 {
@@ -47,22 +47,29 @@ fn attack_ports<L: Ledger, R: AllocGlobal + Print>(rt: &R, blank: Blank) -> io::
     result
 }
 
-fn attack<L: Ledger, R: AllocGlobal + Print>(rt: &R, port: &mut AttackedPort<L>) -> io::Result<()> {
-    bursts::check(rt, port)?;
-    impersonation::check(rt, port)
+fn attack<L: Ledger, R: AllocGlobal + Print>(
+    rt: &R,
+    port: &mut AttackedPort<L>,
+) -> io::Result<bool> {
+    let mut right = bursts::check(rt, port)?;
+    right &= impersonation::check(rt, port)?;
+    Ok(right)
 }
 
-fn run<R: AllocGlobal + Print>(rt: &R) -> io::Result<()> {
-    octets::check(rt)?;
-    attack_ports::<Brand, R>(rt, Blank::new(u64::from(MAX_LICENCES)))?;
-    script_bursts::check(rt)?;
-    streams::check(rt)?;
-    scripts::check(rt)
+/// Runs all tables, and tells whether each case came out as it should.
+fn run<R: AllocGlobal + Print>(rt: &R) -> io::Result<bool> {
+    let mut right = octets::check(rt)?;
+    right &= attack_ports::<Brand, R>(rt, Blank::new(u64::from(MAX_LICENCES)))?;
+    right &= script_bursts::check(rt)?;
+    right &= streams::check(rt)?;
+    right &= scripts::check(rt)?;
+    Ok(right)
 }
 
 fn main(rt: HostRuntime) -> ExitCode {
     match run(&rt) {
-        Ok(()) => ExitCode::SUCCESS,
+        Ok(true) => ExitCode::SUCCESS,
+        Ok(false) => ExitCode::FAILURE,
         Err(error) => {
             let _ = eprintln!(&rt; "olt_hostile: {error}");
             ExitCode::FAILURE

@@ -76,7 +76,7 @@ fn is_told(alloc: Global, length: usize, last: &str, upstream: bool) -> io::Resu
 }
 
 /// Reads octets of each length up to 64, and texts of each.
-pub(crate) fn check<R: AllocGlobal + Print>(rt: &R) -> io::Result<()> {
+pub(crate) fn check<R: AllocGlobal + Print>(rt: &R) -> io::Result<bool> {
     let mut read = Tally::default();
     let mut told = Tally::default();
     for length in 0..65usize {
@@ -98,6 +98,7 @@ pub(crate) fn check<R: AllocGlobal + Print>(rt: &R) -> io::Result<()> {
             );
         }
     }
-    read.tell(rt, "octets of each length")?;
-    told.tell(rt, "digits of each length")
+    let are_read = read.tell(rt, "octets of each length")?;
+    let are_told = told.tell(rt, "digits of each length")?;
+    Ok(are_read && are_told)
 }

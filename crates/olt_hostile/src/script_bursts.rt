@@ -138,7 +138,7 @@ fn is_replayed(alloc: Global, octet1: u8) -> Result<bool, AllocError> {
 }
 
 /// Replays a script for each octet 1.
-pub(crate) fn check<R: AllocGlobal + Print>(rt: &R) -> io::Result<()> {
+pub(crate) fn check<R: AllocGlobal + Print>(rt: &R) -> io::Result<bool> {
     let mut tally = Tally::default();
     for octet1 in 0..=u8::MAX {
         let right = is_replayed(rt.alloc(), octet1)?;

@@ -395,7 +395,7 @@ fn count_rows(alloc: Global, tally: &mut Tally, table: &Table) -> io::Result<()>
 }
 
 /// Reads each text of these tables.
-fn check_tables<R: AllocGlobal + Print>(rt: &R, title: &str, tables: &[Table]) -> io::Result<()> {
+fn check_tables<R: AllocGlobal + Print>(rt: &R, title: &str, tables: &[Table]) -> io::Result<bool> {
     let mut tally = Tally::default();
     for table in tables {
         count_rows(rt.alloc(), &mut tally, table)?;
@@ -403,7 +403,7 @@ fn check_tables<R: AllocGlobal + Print>(rt: &R, title: &str, tables: &[Table]) -
     tally.tell(rt, title)
 }
 
-fn check_bytes<R: AllocGlobal + Print>(rt: &R) -> io::Result<()> {
+fn check_bytes<R: AllocGlobal + Print>(rt: &R) -> io::Result<bool> {
     let mut tally = Tally::default();
     for (place, (script, wanted)) in BYTES.iter().enumerate() {
         tally.count("script", place, is_read(rt.alloc(), script, *wanted)?);
@@ -425,7 +425,7 @@ fn are_octets(
 }
 
 /// Reads digits of each length in place of thirteen octets, and of ten.
-fn check_digits<R: AllocGlobal + Print>(rt: &R) -> io::Result<()> {
+fn check_digits<R: AllocGlobal + Print>(rt: &R) -> io::Result<bool> {
     let mut tally = Tally::default();
     for length in 0..80usize {
         let before = "licences = 1\nport = [{}]\nevent = [{port = 0, at = 0, burst = \"";
@@ -455,9 +455,8 @@ fn is_nested(
     Ok(closed && open)
 }
 
-/// Reads values within values. What is no deeper than sixty is read, and is of a wrong type; what is a hundred deep
-/// is refused.
-fn check_nesting<R: AllocGlobal + Print>(rt: &R) -> io::Result<()> {
+/// Reads values within values. What is no deeper than sixty is read, and is of a wrong type; what is a hundred deep is refused.
+fn check_nesting<R: AllocGlobal + Print>(rt: &R) -> io::Result<bool> {
     let mut tally = Tally::default();
     for (depth, wanted) in [(1, SHAPE), (60, SHAPE), (100, SYNTAX), (10_000, SYNTAX)] {
         let arrays = is_nested(rt.alloc(), depth, ("[", "]"), wanted)?;
@@ -469,11 +468,12 @@ fn check_nesting<R: AllocGlobal + Print>(rt: &R) -> io::Result<()> {
 }
 
 /// Reads what is no script, or nearly none.
-pub(crate) fn check<R: AllocGlobal + Print>(rt: &R) -> io::Result<()> {
-    check_bytes(rt)?;
-    check_tables(rt, "events at two ports", TWO_PORTS)?;
-    check_tables(rt, "texts in place of a serial number", UNITS)?;
-    check_digits(rt)?;
-    check_nesting(rt)?;
-    check_tables(rt, "keys of tables", KEYS)
+pub(crate) fn check<R: AllocGlobal + Print>(rt: &R) -> io::Result<bool> {
+    let mut right = check_bytes(rt)?;
+    right &= check_tables(rt, "events at two ports", TWO_PORTS)?;
+    right &= check_tables(rt, "texts in place of a serial number", UNITS)?;
+    right &= check_digits(rt)?;
+    right &= check_nesting(rt)?;
+    right &= check_tables(rt, "keys of tables", KEYS)?;
+    Ok(right)
 }

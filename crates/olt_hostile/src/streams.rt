@@ -151,7 +151,7 @@ fn is_read_to(alloc: Global, fails_at: usize, kind: ErrorKind) -> Result<bool, A
 }
 
 /// Has each read fail in turn.
-fn check_reads<R: AllocGlobal + Print>(rt: &R) -> io::Result<()> {
+fn check_reads<R: AllocGlobal + Print>(rt: &R) -> io::Result<bool> {
     let mut tally = Tally::default();
     for fails_at in 0..SCRIPT.len() + 4 {
         let right = is_read_to(rt.alloc(), fails_at, ErrorKind::Other)?;
@@ -179,7 +179,7 @@ fn is_written_to(alloc: Global, room: usize, kind: ErrorKind) -> Result<bool, Al
 }
 
 /// Has each write fail in turn.
-fn check_writes<R: AllocGlobal + Print>(rt: &R) -> io::Result<()> {
+fn check_writes<R: AllocGlobal + Print>(rt: &R) -> io::Result<bool> {
     let mut tally = Tally::default();
     for room in 0..TRACE.len() + 2 {
         let right = is_written_to(rt.alloc(), room, ErrorKind::Other)?;
@@ -202,7 +202,7 @@ fn trace_of_frames(alloc: Global, frames: u32) -> Result<String, AllocError> {
 }
 
 /// A trace that goes out in two pieces: rooms on either side of each, and each flush.
-fn check_pieces<R: AllocGlobal + Print>(rt: &R) -> io::Result<()> {
+fn check_pieces<R: AllocGlobal + Print>(rt: &R) -> io::Result<bool> {
     let alloc = rt.alloc();
     let mut tally = Tally::default();
     let trace = trace_of_frames(alloc, 4000)?;
@@ -260,7 +260,7 @@ fn is_told_to(alloc: Global, room: usize, fails_at: usize) -> Result<bool, Alloc
 }
 
 /// Has each write of a decoded line fail in turn, and its flush.
-fn check_lines<R: AllocGlobal + Print>(rt: &R) -> io::Result<()> {
+fn check_lines<R: AllocGlobal + Print>(rt: &R) -> io::Result<bool> {
     let mut tally = Tally::default();
     for room in 0..LINE.len() + 2 {
         tally.count("octets of room", room, is_told_to(rt.alloc(), room, 0)?);
@@ -269,11 +269,12 @@ fn check_lines<R: AllocGlobal + Print>(rt: &R) -> io::Result<()> {
     tally.tell(rt, "lines to one octet a write")
 }
 
-/// Reads from and writes to whatever fails. A writer that takes nothing, as a slice that is full, is in the tests of
-/// `gp_replay` and `gp_decode`.
-pub(crate) fn check<R: AllocGlobal + Print>(rt: &R) -> io::Result<()> {
-    check_reads(rt)?;
-    check_writes(rt)?;
-    check_pieces(rt)?;
-    check_lines(rt)
+/// Reads from and writes to whatever fails. A writer that takes nothing, as a slice that is full, is in the tests of `gp_replay`
+/// and `gp_decode`.
+pub(crate) fn check<R: AllocGlobal + Print>(rt: &R) -> io::Result<bool> {
+    let mut right = check_reads(rt)?;
+    right &= check_writes(rt)?;
+    right &= check_pieces(rt)?;
+    right &= check_lines(rt)?;
+    Ok(right)
 }

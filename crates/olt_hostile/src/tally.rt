@@ -19,20 +19,21 @@ impl Tally {
         }
     }
 
-    /// Prints what came of a table, in a line.
-    pub(crate) fn tell<R: Print>(&self, rt: &R, table: &str) -> io::Result<()> {
+    /// Prints what came of a table, in a line, and tells whether each case came out as it should.
+    pub(crate) fn tell<R: Print>(&self, rt: &R, table: &str) -> io::Result<bool> {
         let Tally {
             cases,
             right,
             first_wrong,
         } = *self;
         match first_wrong {
-            None => println!(rt; "{table}: {right} of {cases} as they should be"),
+            None => println!(rt; "{table}: {right} of {cases} as they should be")?,
             Some((name, number)) => {
                 println!(rt;
                     "{table}: {right} of {cases} as they should be, the first other one: {name}, {number}"
-                )
+                )?
             }
         }
+        Ok(first_wrong.is_none())
     }
 }
