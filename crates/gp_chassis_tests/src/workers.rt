@@ -130,7 +130,8 @@ fn end<G: Gate<L>, L: Ledger, R: Wait>(rt: &R, refused: CloseRefused<G, L>) -> C
     fault
 }
 
-/// Closes a chassis, with a second try where memory was refused. Where it does not close it ends all the same, with its workers.
+/// Closes a chassis, with a second try where memory was refused. Where it does not close it ends all the same, with
+/// its workers.
 fn close<G: Gate<L>, L: Ledger, R: Wait>(
     rt: &R,
     alloc: Global,

@@ -79,7 +79,8 @@ pub fn line_report(fault: &LineFault) -> (&'static str, u8)
     }
 }
 
-/// Answers the line, without the number of the trace's line, and the status of a verification that ended with this fault.
+/// Answers the line, without the number of the trace's line, and the status of a verification that ended with this
+/// fault.
 pub fn verify_report(fault: &VerifyFault) -> (&'static str, u8)
     ensures line { result.0.now ≡ verify_line fault.now }
     ensures status { result.1 ≡ verify_status fault.now }

@@ -27,10 +27,12 @@ fn say_instead<W: Write>(
     ensures { WritesWhole sink.old sink.new (said_instead found.now said.now) result }
 {
     match found {
-        Err(VerifyFault::Refused {
-            line: _,
-            verdict: Verdict::NotAStep | Verdict::WrongNumber,
-        }) => sink.write_whole(said),
+        Err(
+            VerifyFault::Refused {
+                line: _,
+                verdict: Verdict::NotAStep | Verdict::WrongNumber,
+            },
+        ) => sink.write_whole(said),
         _ => sink.write_whole(b""),
     }
 }
@@ -71,13 +73,13 @@ fn verify_on<L: Ledger, T: Read, W: Write>(
     found
 }
 
-/// Tells whether a text is the trace of some run on the chassis that a script opens, of turns of one actor, with any free
-/// ONU-IDs and Alloc-IDs, and how many lines it has. Of the script its ports, licences and mask count; its events and
-/// units are passed over.
+/// Tells whether a text is the trace of some run on the chassis that a script opens, of turns of one actor, with any
+/// free ONU-IDs and Alloc-IDs, and how many lines it has. Of the script its ports, licences and mask count; its
+/// events and units are passed over.
 ///
 /// Where a line can't be for its answer or its number, the line that the machine says in its place is written to the
-/// sink. The script is read to its end, at most 1,048,576 bytes; the trace without bound, to its end or to the first line
-/// that can't be, and a little further.
+/// sink. The script is read to its end, at most 1,048,576 bytes; the trace without bound, to its end or to the first
+/// line that can't be, and a little further.
 pub fn verify_script<R: Read, T: Read, W: Write>(
     alloc: Global,
     script: &mut Source<R>,

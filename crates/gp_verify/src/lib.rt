@@ -1,6 +1,7 @@
 //! Whether a text is the trace of some run of the machine, with any free ONU-IDs and Alloc-IDs.
 //!
-//! - `checking.rt`: `verify_script`, from the bytes of a script and of a text to whether it is a trace of the script's chassis.
+//! - `checking.rt`: `verify_script`, from the bytes of a script and of a text to whether it is a trace of the
+//!   script's chassis.
 //! - `running.rt`: `run_verify`, from the bytes of a text to whether it is a trace.
 //! - `verifier.rt`: `Verifier`, which is given the lines of a text one after another; `following.rt`: as what serves
 //!   lines.

@@ -1,5 +1,6 @@
-//! `olt_hostile`: uses the library badly, and prints for each table of cases how many came out as they should, and the first
-//! that did not. What the bursts of `bursts.rt` were answered with is printed too. It ends with status 1 where a case did not.
+//! `olt_hostile`: uses the library badly, and prints for each table of cases how many came out as they should, and
+//! the first that did not. What the bursts of `bursts.rt` were answered with is printed too. It ends with status 1
+//! where a case did not.
 //!
 //! - `octets.rt`: octets of each length, into whatever reads octets.
 //! - `bursts.rt`: every identifier with every octet 1, in each window of a port; the same through scripts in

@@ -455,7 +455,8 @@ fn is_nested(
     Ok(closed && open)
 }
 
-/// Reads values within values. What is no deeper than sixty is read, and is of a wrong type; what is a hundred deep is refused.
+/// Reads values within values. What is no deeper than sixty is read, and is of a wrong type; what is a hundred deep
+/// is refused.
 fn check_nesting<R: AllocGlobal + Print>(rt: &R) -> io::Result<bool> {
     let mut tally = Tally::default();
     for (depth, wanted) in [(1, SHAPE), (60, SHAPE), (100, SYNTAX), (10_000, SYNTAX)] {

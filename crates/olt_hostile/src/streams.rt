@@ -269,8 +269,8 @@ fn check_lines<R: AllocGlobal + Print>(rt: &R) -> io::Result<bool> {
     tally.tell(rt, "lines to one octet a write")
 }
 
-/// Reads from and writes to whatever fails. A writer that takes nothing, as a slice that is full, is in the tests of `gp_replay`
-/// and `gp_decode`.
+/// Reads from and writes to whatever fails. A writer that takes nothing, as a slice that is full, is in the tests of
+/// `gp_replay` and `gp_decode`.
 pub(crate) fn check<R: AllocGlobal + Print>(rt: &R) -> io::Result<bool> {
     let mut right = check_reads(rt)?;
     right &= check_writes(rt)?;

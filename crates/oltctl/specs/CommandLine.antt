@@ -64,7 +64,7 @@ decode_command names = with_rule (with_rule (with_rule (new_app (codes "decode")
 abbrev pub script_commands : App
 script_commands =
     with_subcommand (with_subcommand (with_subcommand (on_top (λ s. record s
-      { subcommand_required = true; arg_required_else_help = true })
+    { subcommand_required = true; arg_required_else_help = true })
     (new_app (codes "oltctl"))) replay_command.top) storm_command.top) verify_command.top
 
 -- the whole program

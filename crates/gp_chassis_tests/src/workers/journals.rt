@@ -69,8 +69,8 @@ const HEARD: [[Result<Said, ApplyFault>; 2]; 2] = [
     [Err(ApplyFault::OutOfMemory), Ok(Said::Found(0))],
 ];
 
-/// How a piece and the journal after it join: the numbers of the first entries, how many entries each has, and whether the journal goes
-/// on where the piece ends, and an entry earlier.
+/// How a piece and the journal after it join: the numbers of the first entries, how many entries each has, and
+/// whether the journal goes on where the piece ends, and an entry earlier.
 fn joined(cut: &Cut, closed: &Closed) -> Option<((u64, u64), (u64, usize), (bool, bool))> {
     let piece = cut.pieces.as_slice().first()?;
     let journal = closed.journals.as_slice().first()?;

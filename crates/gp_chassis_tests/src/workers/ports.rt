@@ -1,5 +1,5 @@
-//! Three ports, each of which admits a unit of its own: after a cut, and after a close or a cut that is refused, each is still
-//! served under its own number.
+//! Three ports, each of which admits a unit of its own: after a cut, and after a close or a cut that is refused, each
+//! is still served under its own number.
 ghost use Rattle.std.specs.Prelude.{◌≡◌};
 ghost use Rattle.gp_licence.specs.declared.ledger_parts.TheConstants.{MAX_LICENCES};
 
@@ -65,8 +65,8 @@ const NOT_ACTIVE: Result<Said, ApplyFault> = Ok(Said::Refused(Refusal::NotActive
 /// The number of the first entry that is kept of each port, and how many there are.
 type Kept = Vec<(u64, u64)>;
 
-/// What is left: the places of the lines that were answered otherwise, why a close or a cut was refused, and what the cut and the
-/// close handed out.
+/// What is left: the places of the lines that were answered otherwise, why a close or a cut was refused, and what the
+/// cut and the close handed out.
 type Outcome = ([Option<usize>; 2], Option<CloseFault>, Kept, Kept);
 
 /// What is kept in pieces.
@@ -87,7 +87,8 @@ fn kept_in_journals(alloc: Global, closed: &Closed) -> Result<Kept, AllocError> 
     Ok(kept)
 }
 
-/// Plays the first lines, cuts or is refused, plays the others and closes, with so many tries at most where memory is refused.
+/// Plays the first lines, cuts or is refused, plays the others and closes, with so many tries at most where memory is
+/// refused.
 fn outcome_of<L: Ledger, R: Abort + Wait>(
     rt: &R,
     alloc: Global,
@@ -135,7 +136,8 @@ fn outcome<R: Abort + Wait>(
     outcome_of::<Brand, R>(rt, alloc, blank, between, tries)
 }
 
-/// What each way leaves: why it was refused, the first number and the length of each piece, and the same of each journal.
+/// What each way leaves: why it was refused, the first number and the length of each piece, and the same of each
+/// journal.
 const WAYS: [(Between, Option<CloseFault>, &[(u64, u64)], [(u64, u64); 3]); 3] = [
     (
         Between::Cut,
@@ -179,8 +181,8 @@ fn each_port_under_its_number(rt: HostRuntime) {
     }
 }
 
-// Passes whichever one request for memory is refused, and with ample memory (`rt try --test --fail-alloc N`): a cut and a close that
-// are refused are tried again.
+// Passes whichever one request for memory is refused, and with ample memory (`rt try --test --fail-alloc N`): a cut
+// and a close that are refused are tried again.
 #[test]
 fn each_port_short_of_memory(rt: HostRuntime) {
     let found = match outcome(&rt, rt.alloc(), Between::Cut, 2) {
