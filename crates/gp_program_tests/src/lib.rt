@@ -1,4 +1,4 @@
-//! The tests of `gp_stream`, `gp_script`, `gp_decode`, `gp_trace`, `gp_lines`, `gp_replay`, `gp_storm` and
+//! The tests of `gp_stream`, `gp_script`, `gp_decode`, `gp_trace`, `gp_lines`, `gp_replay`, `gp_verify`, `gp_storm` and
 //! `gp_report`: what no clause says of them. They stand here, since a crate with tests is proved twice.
 //!
 //! - `stream.rt`: readers and writers that fail, or take an octet a call.
@@ -8,6 +8,7 @@
 //! - `lines.rt`: events and turns that are read, the first fault of each text that is refused, and lines of a trace.
 //! - `replay.rt`, `storm.rt`: whole scripts to their trace or their totals, readers and writers that fail, and memory
 //!   that is refused.
+//! - `verify.rt`: traces that are told to be runs, and the first line of each that is not.
 //! - `report.rt`: fault texts and statuses.
 #![tactic(auto)]
 
@@ -27,3 +28,5 @@ mod storm;
 mod stream;
 #[cfg(test)]
 mod trace;
+#[cfg(test)]
+mod verify;

@@ -1,8 +1,10 @@
 use gp_decode::LineFault;
 use gp_replay::RunFault;
-use gp_report::{arguments_report, line_report, memory_report, run_report, write_report};
+use gp_report::{
+    arguments_report, line_report, memory_report, run_report, verify_report, write_report,
+};
 use gp_script::ScriptFault;
-use std::alloc::{AllocError, Global};
+use gp_verify::{Verdict, VerifyFault};
 
 /// Each fault of a replay or of a storm, its line on standard error and the exit status.
 const REPORTS: &[(RunFault, &'static str, u8)] = &[
@@ -53,26 +55,35 @@ const LINE_REPORTS: &[(LineFault, &'static str, u8)] = &[
     (LineFault::Write, "oltctl: write", 4),
 ];
 
-/// Tells whether a fault of a replay is reported so. Its line is the program's name and the fault's text.
-fn is_reported(
-    alloc: Global,
-    fault: &RunFault,
-    line: &str,
-    status: u8,
-) -> Result<bool, AllocError> {
-    let text = format!(in alloc; "oltctl: {fault}")?;
-    let (told, exit) = run_report(fault);
-    Ok(told == line && exit == status && text.as_str() == line)
-}
+/// A verdict that ends a verification, with its line and its status.
+const VERDICTS: &[(Verdict, &'static str, u8)] = &[
+    (Verdict::NotALine, "oltctl: no line of a trace", 1),
+    (Verdict::NoPort, "oltctl: no such port", 1),
+    (Verdict::WrongNumber, "oltctl: not the next number", 1),
+    (Verdict::TooLong, "oltctl: line too long", 1),
+    (Verdict::NotAStep, "oltctl: not a run", 7),
+];
 
 #[test]
 fn reports_of_replays(rt: HostRuntime) {
     for (fault, line, status) in REPORTS {
-        assert!(rt;
-            is_reported(rt.alloc(), fault, line, *status) == Ok(true),
-            "{fault}"
-        );
+        let (told, exit) = run_report(fault);
+        assert!(rt; told == *line && exit == *status, "{line}");
     }
+}
+
+#[test]
+fn reports_of_verifications(rt: HostRuntime) {
+    for (verdict, line, status) in VERDICTS {
+        let refused = VerifyFault::Refused {
+            line: 7,
+            verdict: *verdict,
+        };
+        let (told, exit) = verify_report(&refused);
+        assert!(rt; told == *line && exit == *status, "{line}");
+    }
+    let unended = VerifyFault::Unended { line: 7 };
+    assert!(rt; verify_report(&unended) == ("oltctl: no line feed", 1));
 }
 
 #[test]

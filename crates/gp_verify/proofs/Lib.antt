@@ -1,3 +1,4 @@
+pub mod CheckingLemmas
 pub mod SmallLemmas
 pub mod JudgingLemmas
 pub mod TraceLemmas

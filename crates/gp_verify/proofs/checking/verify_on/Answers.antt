@@ -1,0 +1,11 @@
+use Rattle.gp_flow.specs.declared.fault.LineFault.TheVariants.{OutOfMemory}
+use Rattle.gp_script.specs.View.{script_view}
+use Rattle.gp_verify.specs.Checking.{opened_by}
+use Rattle.gp_verify.proofs.CheckingLemmas.{not_judged}
+use Rattle.gp_verify.proofs.checking.verify_on.Goals as goal
+
+pub returns-in_err-verifier : goal.returns-in_err-verifier
+returns-in_err-verifier g c = not_judged (opened_by (script_view c.args.script)) _ _ OutOfMemory _ c.from_residual.ensures.1
+
+pub returns : goal.returns
+returns g c = (c.run_verify-found.new.verifier, rw c.in_ok-verifier.ensures at c.run_verify-found.ensures)
