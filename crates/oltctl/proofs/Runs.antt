@@ -1,18 +1,21 @@
 -- What a run found in its input, from how it ended.
-use Rattle.std.proofs.Common.{◌≡◌, ℕ, List, Option, Result, Ok, Err, OnOk, subst}
+use Rattle.std.proofs.Common.{◌≡◌, ℕ, List, Option, Result, Ok, Err, OnOk, IsErrAnd, subst, sym, refl}
 use Rattle.gp_script.specs.declared.fault.ScriptFault.{ScriptFault}
 use Rattle.gp_script.specs.Script.{ScriptView}
 use Rattle.gp_stream.specs.Source.{SourceState, ReadsTooMuch, max_bytes}
 use Rattle.gp_stream.specs.Sink.{SinkState}
 use Rattle.gp_replay.specs.declared.fault.RunFault.TheVariants as runs
 use Rattle.gp_replay.specs.Outcome.{ReadsBy, RunAnswer, RunEnds}
-use Rattle.oltctl.specs.Replays.{IsReadBy, IsTooLong, unread}
+use Rattle.gp_verify.specs.declared.outcome.CheckFault.{CheckFault}
+use Rattle.gp_verify.specs.declared.outcome.CheckFault.TheVariants.{Script}
+use Rattle.gp_verify.specs.Checking.{ChecksScript}
+use Rattle.oltctl.specs.Replays.{IsCheckedBy, IsReadBy, IsTooLong, unread, unread_endless}
 
 pub found_script : {R W : Type 0} (says_of : List ℕ → Result ScriptView ScriptFault) (leaves : RunAnswer → ScriptView → Type 0) (reader : R)
     (remaining : Option (List ℕ)) (before after : SourceState R) (old new : SinkState W) (r : RunAnswer) → before ≡ unread reader remaining
     → RunEnds says_of leaves before after old new r → OnOk r ((script : ScriptView) × IsReadBy says_of reader remaining (Ok script))
 found_script {R = R} says_of leaves reader remaining before after old new (Ok v) is p =
-    (p.script, after, subst (λ (s : SourceState R). ReadsBy says_of s after (Ok p.script)) is p.input)
+    (p.script, (after, subst (λ (s : SourceState R). ReadsBy says_of s after (Ok p.script)) is p.input))
 found_script says_of leaves reader remaining before after old new (Err f) is p = tt
 
 pub found_fault : {R W : Type 0} (says_of : List ℕ → Result ScriptView ScriptFault) (leaves : RunAnswer → ScriptView → Type 0) (reader : R)
@@ -28,3 +31,22 @@ pub found_long : {R W : Type 0} (says_of : List ℕ → Result ScriptView Script
 found_long {R = R} says_of leaves reader remaining before after old new r is p told =
     let q = subst (λ (o : RunAnswer). RunEnds says_of leaves before after old new o) told p in
     (after, subst (λ (s : SourceState R). ReadsTooMuch max_bytes s after) is q.0)
+
+-- for want of memory neither the script nor the trace was read
+pub unchecked : {S T : Type 0} (script : S) (of_script : Option (List ℕ)) (trace : T) (of_trace : Option (List ℕ)) (r : Result ℕ CheckFault)
+    → IsErrAnd r (λ told. told ≡ Script runs.OutOfMemory) → IsCheckedBy script of_script trace of_trace r
+unchecked script of_script trace of_trace (Ok lines) same = absurd same
+unchecked script of_script trace of_trace (Err told) same =
+    subst (λ (e : CheckFault). IsCheckedBy script of_script trace of_trace (Err e)) (sym same)
+    (unread script of_script, unread_endless trace of_trace, (tt, refl))
+
+-- both were checked from where sources stand of which nothing was read
+pub checked_from : {S T : Type 0} (script : S) (of_script : Option (List ℕ)) (trace : T) (of_trace : Option (List ℕ)) (before after : SourceState S)
+    (from to : SourceState T) (r : Result ℕ CheckFault) → before ≡ unread script of_script → from ≡ unread_endless trace of_trace
+    → ChecksScript before after from to r → IsCheckedBy script of_script trace of_trace r
+checked_from {S = S} {T = T} script of_script trace of_trace before after from to r is also checked = (
+  after,
+  to,
+  subst (λ (s : SourceState S). ChecksScript s after (unread_endless trace of_trace) to r) is
+      (subst (λ (s : SourceState T). ChecksScript before after s to r) also checked),
+)

@@ -63,13 +63,17 @@ decode_command names = with_rule (with_rule (with_rule (new_app (codes "decode")
 -- shown
 abbrev pub script_commands : App
 script_commands =
-    with_subcommand (with_subcommand (with_subcommand (on_top (λ s. record s
-    { subcommand_required = true; arg_required_else_help = true })
-    (new_app (codes "oltctl"))) replay_command.top) storm_command.top) verify_command.top
+    with_subcommand
+    (with_subcommand (on_top (λ s. record s { subcommand_required = true; arg_required_else_help = true })
+    (new_app (codes "oltctl"))) replay_command.top) storm_command.top
+
+-- the program as far as it is about scripts and traces
+abbrev pub trace_commands : App
+trace_commands = with_subcommand script_commands verify_command.top
 
 -- the whole program
 abbrev pub oltctl_command : MaskNames → App
-oltctl_command names = with_subcommand script_commands (decode_command names).top
+oltctl_command names = with_subcommand trace_commands (decode_command names).top
 
 -- the words have no fault, and what was parsed is the subcommand that they name, with the values that they give it
 pub record IsParseOf (words : List Text) (m : ArgMatches) : Type 0 where

@@ -2,7 +2,7 @@
 ghost use Rattle.std.specs.Prelude.{◌≡◌, ◌≢◌, IfErr, IfOk, false, map};
 ghost use Rattle.clap.specs.Words.{app_of, kind_of, rule_of};
 ghost use Rattle.clap.specs.declared.builder.command.Command.TheViews.{out-Command as fields_of};
-ghost use Rattle.oltctl.specs.CommandLine.{AreMasks, IsFaultOf, IsParseOf, MaskNames, code_rule, decode_command, file_rule, mask_rule, oltctl_command, replay_command, script_commands, script_rule, storm_command, trace_rule, up_rule, verify_command};
+ghost use Rattle.oltctl.specs.CommandLine.{AreMasks, IsFaultOf, IsParseOf, MaskNames, code_rule, decode_command, file_rule, mask_rule, oltctl_command, replay_command, script_commands, script_rule, storm_command, trace_commands, trace_rule, up_rule, verify_command};
 ghost use Rattle.std.specs.String.{string_bytes};
 
 use clap::error::ErrorKind;
@@ -122,14 +122,20 @@ fn of_scripts<'a>(alloc: Global) -> Result<Command<'a>, AllocError>
         .subcommand_required(true)
         .arg_required_else_help(true)
         .subcommand(replay(alloc)?)?
-        .subcommand(storm(alloc)?)?
-        .subcommand(verify(alloc)?)
+        .subcommand(storm(alloc)?)
+}
+
+/// Makes the program's command line as far as it is about scripts and traces.
+fn of_traces<'a>(alloc: Global) -> Result<Command<'a>, AllocError>
+    ensures { IfOk result (λ c. app_of c ≡ trace_commands) }
+{
+    of_scripts(alloc)?.subcommand(verify(alloc)?)
 }
 
 fn command<'a>(alloc: Global) -> Result<Command<'a>, AllocError>
     ensures { IfOk result (λ c. (names : MaskNames) × AreMasks names × (app_of c ≡ oltctl_command names)) }
 {
-    of_scripts(alloc)?.subcommand(decode(alloc)?)
+    of_traces(alloc)?.subcommand(decode(alloc)?)
 }
 
 /// Reads what the words of a command line ask for.
