@@ -278,6 +278,13 @@ impl<L: Ledger> World<L> {
         Ok(())
     }
 
+    /// Tells how many simulated units there are.
+    pub fn units(&self) -> usize
+        ensures { result ≡ length self.now.fibre.units }
+    {
+        self.fibre.units()
+    }
+
     /// Ends the world, and says how many licences it was begun with: all are back.
     pub fn close(self) -> u32
         ensures { result ≡ self.licences }

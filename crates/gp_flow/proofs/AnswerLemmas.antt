@@ -5,7 +5,8 @@ use Rattle.gp_flow.specs.declared.fault.LineFault.{LineFault}
 use Rattle.gp_flow.specs.declared.fault.LineFault.TheVariants.{Write, OutOfMemory, Full}
 use Rattle.gp_stream.specs.declared.sink.WriteStopped.{WriteStopped}
 use Rattle.gp_stream.specs.Sink.{SinkState, Puts, Finishes, TakesPrefix}
-use Rattle.gp_flow.specs.Lines.{Speech, DoesAll, Answers, AnswersAll}
+use Rattle.gp_flow.specs.Lines.{Speech, DoesAll, DoesSome, Starts, StopsWithin, Answers, AnswersAll}
+use Rattle.gp_flow.specs.Lines.Starts.{NotBegun, AllSaid, PartSaid}
 use Rattle.gp_stream.proofs.SinkLemmas.{takes_nothing, takes_more, takes_prefix_after}
 
 -- lines, and then lines
@@ -17,8 +18,26 @@ does_more does old mid new (x ∷ xs) ys said more p q =
     (p.0, p.1 ++ more, p.2, p.3, does_more does p.2 mid new xs ys p.1 more p.4 q, ap (λ l. l ++ more) p.5 ∙ append_assoc p.0 p.1 more)
 
 -- one line
-pub does_one : {S : Type 0} (does : Speech S) (old new : S) (line : Option (List ℕ)) (said : List ℕ) → does old line said new → DoesAll does old (line ∷ []) said new
+pub does_one : {S : Type 0} (does : Speech S) (old new : S) (line : Option (List ℕ)) (said : List ℕ) → does.says old line said new → DoesAll does old (line ∷ []) said new
 does_one does old new line said p = (said, [], new, p, (refl, refl), sym (append-nil said))
+
+-- lines, and then lines of which the last was maybe only begun
+pub does_some_more : {S : Type 0} (does : Speech S) (old mid : S) (xs ys : List (Option (List ℕ))) (said more : List ℕ)
+    → DoesAll does old xs said mid → DoesSome does mid ys more → DoesSome does old (xs ++ ys) (said ++ more)
+does_some_more does old mid [] ys said more p q =
+    subst (λ l. DoesSome does old ys (l ++ more)) (sym p.0) (subst (λ s. DoesSome does s ys more) p.1 q)
+does_some_more does old mid (x ∷ xs) ys said more p q =
+    inl (p.0, p.1 ++ more, p.2, p.3, does_some_more does p.2 mid xs ys p.1 more p.4 q, ap (λ l. l ++ more) p.5 ∙ append_assoc p.0 p.1 more)
+
+-- one line, or a beginning of it
+one_begun : {S W : Type 0} (does : Speech S) (line : Option (List ℕ)) (old : S) (before after : SinkState W)
+    → Starts does line old before after → StopsWithin does (line ∷ []) old before after
+one_begun does line old before after (NotBegun written) =
+    record { begun = []; others = line ∷ []; all = refl; said = []; spoken = refl; written = written }
+one_begun does line old before after (AllSaid said next p written) =
+    record { begun = line ∷ []; others = []; all = refl; said = said; spoken = inl (said, [], next, p, refl, sym (append-nil said)); written = written }
+one_begun does line old before after (PartSaid said next p written) =
+    record { begun = line ∷ []; others = []; all = refl; said = said; spoken = inr (refl, next, p); written = written }
 
 -- an answer to one line is an answer to a list of one
 pub answers_one : {S W T : Type 0} (does : Speech S) (line : Option (List ℕ)) (old new : S) (before after : SinkState W) (r : Result T LineFault)
@@ -31,18 +50,7 @@ answers_one does line old new before after (Ok x) p = record {
 }
 answers_one does line old new before after (Err e) p = record {
   ok = tt;
-  error = elim p.error [
-    | inl nothing ↦ record { begun = []; others = line ∷ []; all = refl; said = []; next = old; spoken = (refl, refl); written = nothing }
-    | inr some ↦ record {
-      begun = line ∷ [];
-      others = [];
-      all = refl;
-      said = some.0;
-      next = some.1;
-      spoken = does_one does old some.1 line some.0 some.2;
-      written = some.3;
-    }
-  ];
+  error = one_begun does line old before after p.error;
   flushed = p.flushed;
   stopped = p.stopped;
 }
@@ -67,8 +75,7 @@ answers_more does xs ys old mid new before between after x (Err e) p q = record 
     others = q.error.others;
     all = append_assoc xs q.error.begun q.error.others ∙ ap (λ l. xs ++ l) q.error.all;
     said = p.ok.0 ++ q.error.said;
-    next = q.error.next;
-    spoken = does_more does old mid q.error.next xs q.error.begun p.ok.0 q.error.said p.ok.1 q.error.spoken;
+    spoken = does_some_more does old mid xs q.error.begun p.ok.0 q.error.said p.ok.1 q.error.spoken;
     written = takes_prefix_after before between after p.ok.0 q.error.said p.ok.2 q.error.written;
   };
   flushed = λ f. tt;
@@ -85,7 +92,6 @@ answers_stopped does xs ys old new other before after e p = record {
     others = p.error.others ++ ys;
     all = sym (append_assoc p.error.begun p.error.others ys) ∙ ap (λ l. l ++ ys) p.error.all;
     said = p.error.said;
-    next = p.error.next;
     spoken = p.error.spoken;
     written = p.error.written;
   };
@@ -107,7 +113,7 @@ pub finish_stopped : {S W T U : Type 0} (does : Speech S) (old : S) (before afte
     → AnswersAll {T = U} does [] old old before after (Err Write)
 finish_stopped does old before after e p = record {
   ok = tt;
-  error = record { begun = []; others = []; all = refl; said = []; next = old; spoken = (refl, refl); written = p.gives.error };
+  error = record { begun = []; others = []; all = refl; said = []; spoken = refl; written = p.gives.error };
   flushed = λ f. tt;
   stopped = λ s. p.gives.stopped ∙ ap (λ v. v || true) s;
 }
@@ -119,14 +125,14 @@ nothing_taken before = record { written = []; unwritten = before.gathered; appen
 pub no_room : {S W U : Type 0} (does : Speech S) (line : Option (List ℕ)) (old new : S) (before : SinkState W) → Answers {T = U} does line old new before before (Err Full)
 no_room does line old new before = record {
   ok = tt;
-  error = inl (nothing_taken before);
+  error = NotBegun (nothing_taken before);
   flushed = λ f. tt;
   stopped = λ s. s;
 }
 
 -- ---- for what answers a line: all that it says is put in at once
 
-pub put_answers : {S W T U : Type 0} (does : Speech S) (line : Option (List ℕ)) (old new : S) (before after : SinkState W) (said : List ℕ) (x : T) (y : U) → does old line said new
+pub put_answers : {S W T U : Type 0} (does : Speech S) (line : Option (List ℕ)) (old new : S) (before after : SinkState W) (said : List ℕ) (x : T) (y : U) → does.says old line said new
     → Puts {E = WriteStopped} before after said (Ok x) → Answers does line old new before after (Ok y)
 put_answers does line old new before after said x y d p = record {
   ok = (said, d, p.gives.ok);
@@ -135,11 +141,11 @@ put_answers does line old new before after said x y d p = record {
   stopped = λ s. p.gives.stopped ∙ ap (λ v. v || false) s;
 }
 
-pub put_stopped : {S W T U : Type 0} (does : Speech S) (line : Option (List ℕ)) (old new next : S) (before after : SinkState W) (said : List ℕ) (e : WriteStopped) → does old line said next
+pub put_stopped : {S W T U : Type 0} (does : Speech S) (line : Option (List ℕ)) (old new next : S) (before after : SinkState W) (said : List ℕ) (e : WriteStopped) → does.says old line said next
     → Puts {T = T} before after said (Err e) → Answers {T = U} does line old new before after (Err Write)
 put_stopped does line old new next before after said e d p = record {
   ok = tt;
-  error = inr (said, next, d, p.gives.error);
+  error = AllSaid said next d p.gives.error;
   flushed = λ f. tt;
   stopped = λ s. p.gives.stopped ∙ ap (λ v. v || true) s;
 }
@@ -148,12 +154,12 @@ put_stopped does line old new next before after said e d p = record {
 pub no_memory : {S W U : Type 0} (does : Speech S) (line : Option (List ℕ)) (old new : S) (before : SinkState W) → Answers {T = U} does line old new before before (Err OutOfMemory)
 no_memory does line old new before = record {
   ok = tt;
-  error = inl (nothing_taken before);
+  error = NotBegun (nothing_taken before);
   flushed = λ f. tt;
   stopped = λ s. s;
 }
 
 -- nothing is said
-pub silent_answers : {S W U : Type 0} (does : Speech S) (line : Option (List ℕ)) (old new : S) (before : SinkState W) (y : U) → does old line [] new
+pub silent_answers : {S W U : Type 0} (does : Speech S) (line : Option (List ℕ)) (old new : S) (before : SinkState W) (y : U) → does.says old line [] new
     → Answers does line old new before before (Ok y)
 silent_answers does line old new before y d = record { ok = ([], d, takes_nothing before); error = tt; flushed = λ f. f; stopped = λ s. s }

@@ -132,7 +132,6 @@ module _ {S R W : Type 0} (does : Speech S) (limit : ℕ) (line : OpenLine) (fro
           others = within.others ++ others;
           all = sym (append_assoc within.begun within.others others) ∙ ap (λ l. l ++ others) within.all ∙ all;
           said = within.said;
-          next = within.next;
           spoken = within.spoken;
           written = written_some before after within.said within.written;
         };
@@ -213,8 +212,7 @@ serves_start_fault does over limit from old other before after e p = record {
     others = [];
     all = refl;
     said = [];
-    next = old;
-    spoken = (refl, refl);
+    spoken = refl;
     written = written_some before after [] p.gives.error;
   };
   tells_read = λ f t. absurd (cc);
@@ -235,8 +233,7 @@ serves_no_memory does over limit from old before = record {
     others = [];
     all = refl;
     said = [];
-    next = old;
-    spoken = (refl, refl);
+    spoken = refl;
     written = (0, Appends-nil before.held);
   };
   tells_read = λ f t. absurd (cc);

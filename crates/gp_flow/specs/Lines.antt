@@ -39,16 +39,31 @@ with_feeds lines = flat_map (λ (line : List ℕ). line ++ 10 ∷ []) lines
 abbrev pub handed : ℕ → List ℕ → Option (List ℕ)
 handed limit line = if nat_le (length line) limit then Some line else None
 
--- what may be said to a line: from this state, to this line, these octets, to that state
-abbrev pub Speech : Type 0 → Type 1
-Speech S = S → Option (List ℕ) → List ℕ → S → Type 0
+-- what may be said to a line
+pub record Speech (S : Type 0) : Type 1 where
+  -- from this state, to this line, these octets, to that state
+  pub says : S → Option (List ℕ) → List ℕ → S → Type 0
+  -- the same where a fault came before the line was answered to its end
+  pub begins : S → Option (List ℕ) → List ℕ → S → Type 0
+
+-- a speech in which a line is answered whole or not at all
+abbrev pub WholeLines : {S : Type 0} → (S → Option (List ℕ) → List ℕ → S → Type 0) → Speech S
+WholeLines says = record { says = says; begins = λ old line said new. ⊥ }
 
 -- from the old state, to these lines in their order, all these octets are said, to the new state
 abbrev pub DoesAll : {S : Type 0} → Speech S → S → List (Option (List ℕ)) → List ℕ → S → Type 0
 DoesAll does old [] said new = (said ≡ []) × (new ≡ old)
 DoesAll does old (line ∷ lines) said new =
-    (first : List ℕ) × (rest : List ℕ) × (next : _) × does old line first next × DoesAll does next lines rest new
+    (first : List ℕ) × (rest : List ℕ) × (next : _) × does.says old line first next × DoesAll does next lines rest new
     × (said ≡ first ++ rest)
+
+-- to these lines in their order all these octets are said, but to the last of them maybe only a beginning
+abbrev pub DoesSome : {S : Type 0} → Speech S → S → List (Option (List ℕ)) → List ℕ → Type 0
+DoesSome does old [] said = said ≡ []
+DoesSome does old (line ∷ lines) said =
+    ((first : List ℕ) × (rest : List ℕ) × (next : _) × does.says old line first next × DoesSome does next lines rest
+    × (said ≡ first ++ rest))
+    ⊎ ((lines ≡ []) × (next : _) × does.begins old line said next)
 
 -- the answer tells that the writer stopped
 abbrev pub tells_stopped : {T : Type 0} → Result T LineFault → Bool
@@ -57,14 +72,22 @@ tells_stopped (Err Write) = true
 tells_stopped (Err OutOfMemory) = false
 tells_stopped (Err Full) = false
 
+-- of what is said to a line, or of a beginning of it, the writer took a prefix, and nothing else
+pub data Starts {S W : Type 0} (does : Speech S) (line : Option (List ℕ)) (old : S) (before after : SinkState W)
+    : Type 0 where
+  NotBegun : TakesPrefix before after [] → Starts does line old before after
+  AllSaid : (said : List ℕ) (next : S) → does.says old line said next → TakesPrefix before after said
+      → Starts does line old before after
+  PartSaid : (said : List ℕ) (next : S) → does.begins old line said next → TakesPrefix before after said
+      → Starts does line old before after
+
 -- a line was answered
 pub record Answers {S W T : Type 0} (does : Speech S) (line : Option (List ℕ)) (old new : S)
     (before after : SinkState W) (answer : Result T LineFault) : Type 0 where
   -- all that is said to it was handed in
-  pub ok : OnOk answer ((said : List ℕ) × does old line said new × Takes before after said)
-  -- nothing was said to it, or nothing but a prefix of what is said to it was written
-  pub error : OnErr answer (TakesPrefix before after []
-      ⊎ ((said : List ℕ) × (next : S) × does old line said next × TakesPrefix before after said))
+  pub ok : OnOk answer ((said : List ℕ) × does.says old line said new × Takes before after said)
+  -- of what is said to it, or of a beginning, a prefix was written
+  pub error : OnErr answer (Starts does line old before after)
   pub flushed : before.flushed ≡ true → OnOk answer (after.flushed ≡ true)
   pub stopped : before.stopped ≡ false → after.stopped ≡ tells_stopped answer
 
@@ -78,9 +101,7 @@ pub record StopsWithin {S W : Type 0} (does : Speech S) (lines : List (Option (L
   pub all : begun ++ others ≡ lines
   -- what is said to those that were begun
   pub said : List ℕ
-  -- the state that it leads to
-  pub next : S
-  pub spoken : DoesAll does old begun said next
+  pub spoken : DoesSome does old begun said
   -- the writer took a prefix of it, and nothing else
   pub written : TakesPrefix before after said
 
@@ -142,9 +163,7 @@ pub record ServesSome {S R W : Type 0} (does : Speech S) (limit : ℕ) (from to 
   pub all : begun ++ others ≡ map (handed limit) (lines_of bytes)
   -- what is said to those that were begun
   pub said : List ℕ
-  -- the state that it leads to
-  pub next : S
-  pub spoken : DoesAll does old begun said next
+  pub spoken : DoesSome does old begun said
   -- the writer got a prefix of it, and nothing else
   pub written : (count : ℕ) × Appends before.held after.held (take count (before.gathered ++ said))
 

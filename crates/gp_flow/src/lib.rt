@@ -6,7 +6,7 @@
 //! - What is written to and read from is `gp_stream`'s.
 //!
 //! Where to make which change: what the lines of an input are stands in `specs/Lines.antt`, and how serving them may
-//! end in `Serves` there. A new way to work with lines is an `impl` of `LineWork`, which says by `says` what it
+//! end in `Serves` there. A new way to work with lines is an `impl` of `LineWork`, which says by `speech` what it
 //! answers and by `over` when no more of the input needs to be read.
 #![tactic(auto)]
 

@@ -40,7 +40,7 @@ pub fn run_lines<R: Read, W: Write, K: LineWork>(
     work: &mut K,
 ) -> Result<LinesEnd, LinesFault>
     requires { sink.old.flushed ≡ true }
-    ensures { Serves K.says K.over MAX_LINE_BYTES source.old source.new work.old work.new sink.old sink.new result }
+    ensures { Serves K.speech K.over MAX_LINE_BYTES source.old source.new work.old work.new sink.old sink.new result }
 {
     let line = OpenLine::new(alloc, MAX_LINE_BYTES)?;
     serve(line, source, sink, work)
@@ -55,7 +55,7 @@ fn serve<R: Read, W: Write, K: LineWork>(
 ) -> Result<LinesEnd, LinesFault>
     requires begins { line.text ≡ [] }
     requires flushed { sink.old.flushed ≡ true }
-    ensures { Serves K.says K.over line.limit source.old source.new work.old work.new sink.old sink.new result }
+    ensures { Serves K.speech K.over line.limit source.old source.new work.old work.new sink.old sink.new result }
 {
     let mut piece = [0u8; PIECE_BYTES];
     sink.finish()?;

@@ -56,7 +56,7 @@ impl OpenLine {
         work: &mut K,
         sink: &mut Sink<W>,
     ) -> Result<(), LineFault>
-        ensures answers { AnswersAll K.says (handed self.old.limit self.old.text ∷ [])
+        ensures answers { AnswersAll K.speech (handed self.old.limit self.old.text ∷ [])
             work.old work.new sink.old sink.new result }
         ensures next { OnOk result (self.new ≡ record { text = []; limit = self.old.limit }) }
     {
@@ -76,7 +76,7 @@ impl OpenLine {
         work: &mut K,
         sink: &mut Sink<W>,
     ) -> Result<(), LineFault>
-        ensures answers { AnswersAll K.says (fed_lines self.old.limit self.old.text (byte ∷ []))
+        ensures answers { AnswersAll K.speech (fed_lines self.old.limit self.old.text (byte ∷ []))
             work.old work.new sink.old sink.new result }
         ensures next { OnOk result (self.new ≡
             record { text = fed_text self.old.limit self.old.text (byte ∷ []); limit = self.old.limit }) }
@@ -94,7 +94,7 @@ impl OpenLine {
         work: &mut K,
         sink: &mut Sink<W>,
     ) -> Result<(), LineFault>
-        ensures { AnswersAll K.says (last_line self.old.limit self.old.text)
+        ensures { AnswersAll K.speech (last_line self.old.limit self.old.text)
             work.old work.new sink.old sink.new result }
     {
         if self.text.is_empty() {
@@ -112,7 +112,7 @@ impl OpenLine {
         sink: &mut Sink<W>,
     ) -> Result<(), LineFault>
         requires { sink.old.flushed ≡ true }
-        ensures answers { AnswersAll K.says (fed_lines self.old.limit self.old.text piece.now)
+        ensures answers { AnswersAll K.speech (fed_lines self.old.limit self.old.text piece.now)
             work.old work.new sink.old sink.new result }
         ensures next { OnOk result (self.new ≡
             record { text = fed_text self.old.limit self.old.text piece.now; limit = self.old.limit }) }
@@ -133,7 +133,7 @@ impl OpenLine {
         sink: &mut Sink<W>,
     ) -> Result<bool, LineFault>
         requires { sink.old.flushed ≡ true }
-        ensures answers { AnswersAll K.says (last_line self.limit self.text)
+        ensures answers { AnswersAll K.speech (last_line self.limit self.text)
             work.old work.new sink.old sink.new result }
         ensures kept { OnOk result (KeepsNothing sink.new) }
         ensures whole { IfOk result (λ whole. IsTrue whole ↔ (self.text ≡ [])) }

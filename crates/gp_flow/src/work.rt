@@ -4,11 +4,11 @@ use std::io::Write;
 
 /// What is done with the lines of an input.
 pub trait LineWork {
-    ghost use Rattle.std.specs.Prelude.{◌≡◌, Bool, List, ℕ, Option, Some, None};
-    ghost use Rattle.gp_flow.specs.Lines.{Answers};
+    ghost use Rattle.std.specs.Prelude.{◌≡◌, Bool, Some, None};
+    ghost use Rattle.gp_flow.specs.Lines.{Answers, Speech};
 
-    // From this state, to this line, these octets are said, to that state.
-    ghost says: { Self → Option (List ℕ) → List ℕ → Self → Type 0 };
+    // What is said to a line, and what where a fault comes before its end.
+    ghost speech: { Speech Self };
 
     // No more of the input needs to be read.
     ghost over: { Self → Bool };
@@ -19,9 +19,9 @@ pub trait LineWork {
 
     /// Answers a line, which comes without its line feed.
     fn line<W: Write>(&mut self, text: &[u8], sink: &mut Sink<W>) -> Result<(), LineFault>
-        ensures { Answers says (Some text.now) self.old self.new sink.old sink.new result };
+        ensures { Answers speech (Some text.now) self.old self.new sink.old sink.new result };
 
     /// Answers a line that is too long to be kept.
     fn long_line<W: Write>(&mut self, sink: &mut Sink<W>) -> Result<(), LineFault>
-        ensures { Answers says None self.old self.new sink.old sink.new result };
+        ensures { Answers speech None self.old self.new sink.old sink.new result };
 }

@@ -1,4 +1,5 @@
 pub mod PlayLemmas
+pub mod PlayingLemmas
 pub mod RunLemmas
 pub mod TurnLemmas
 pub mod RoomLemmas

@@ -187,7 +187,7 @@ events_split all i d h =
     sym (take-append-drop (i + 1) all) ∙ ap (λ (l : List ScriptEvent). l ++ drop (i + 1) all) (take_more all i d h) ∙ append_assoc (take i all) (get_or all i d ∷ []) (drop (i + 1) all)
 
 -- events, and then a part of the next
-part_joins : (losses : LossesView) (all whole more : List ScriptEvent) (e : ScriptEvent) → all ≡ whole ++ e ∷ more
+pub part_joins : (losses : LossesView) (all whole more : List ScriptEvent) (e : ScriptEvent) → all ≡ whole ++ e ∷ more
     → WorldJoins (WorldTakesAll losses whole) (WorldTakesPart losses e) (WorldTakesPrefix losses all)
 part_joins losses all whole more e split a b c es fs p q = of_event e split q
   where

@@ -25,7 +25,8 @@ use Rattle.gp_script.specs.declared.script.ScriptEvent.{ScriptEvent}
 use Rattle.gp_script.specs.declared.script.ScriptEvent.TheVariants as events
 use Rattle.gp_script.specs.Lose.{LossesView}
 use Rattle.gp_replay.specs.WorldPlay.{TakesStep, WorldTakes}
-use Rattle.gp_replay.specs.WorldWriting.{FibrePlay, HasFibreRoom, Numbered, count_of, max_entries_each}
+use Rattle.gp_replay.specs.Playing.{count_of}
+use Rattle.gp_replay.specs.WorldWriting.{FibrePlay, HasFibreRoom, Numbered, max_entries_each}
 
 length-flights_of : (frame number : ℕ) (bs : List SentBurst) → length (flights_of frame number bs) ≡ length bs
 length-flights_of frame number [] = refl

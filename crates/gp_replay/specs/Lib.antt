@@ -8,3 +8,4 @@ pub mod Fault
 pub mod Runs
 pub mod Laws
 pub mod WorldWriting
+pub mod Playing

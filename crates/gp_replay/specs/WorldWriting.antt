@@ -71,10 +71,3 @@ pub record HasFibreRoom (count : ℕ) (play : FibrePlay) : Type 0 where
   pub frames : play.world.frames + count ≤ MAX_FRAMES
   pub numbers : play.next + length play.world.flights + max_entries_each * count < 2 ^ 64
   pub few : length play.world.fibre.units ≤ max_simulated_units
-
--- how many frames an event is, or that it is one other thing that happens
-abbrev pub count_of : ScriptEvent → ℕ
-count_of (events.Frames port count) = count
-count_of (events.Burst port at bytes) = 1
-count_of (events.Command port command) = 1
-count_of (events.Light unit lit) = 1

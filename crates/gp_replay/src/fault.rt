@@ -8,10 +8,14 @@ use gp_stream::{SourceFault, WriteStopped};
 use std::alloc::AllocError;
 use thiserror::Error;
 
-/// Why a script was not played and written to its end.
-#[derive(Clone, Copy)]
-pub(crate) enum PlayFault {
+/// Why events were not played and written to their end.
+#[derive(Clone, Copy, Debug, PartialEq, Eq, Error)]
+pub enum PlayFault {
+    /// Out of memory for the entries.
+    #[error("out of memory")]
     OutOfMemory,
+    /// A write failed or took nothing, or a flush failed.
+    #[error("a write failed or took nothing")]
     Write,
 }
 

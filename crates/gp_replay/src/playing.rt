@@ -1,38 +1,43 @@
-ghost use Rattle.std.specs.Prelude.{◌≡◌, ◌<◌, ◌≤◌, ◌*◌, ◌^◌, [], ◌∷◌, All, length, replicate};
+ghost use Rattle.std.specs.Prelude.{◌≡◌, ◌<◌, [], ◌∷◌, IfOk, length, replicate};
 ghost use Rattle.gp_script.specs.View.{NamesPort};
 ghost use Rattle.gp_replay.specs.Chassis.{HasRoom};
-ghost use Rattle.gp_replay.specs.Play.{TakesAllTurns, TakesSomeTurns, all_turns, frame_turn, turns_of};
-ghost use Rattle.gp_replay.specs.Writing.{PlaysOn};
+ghost use Rattle.gp_replay.specs.Play.{TakesAllTurns, TakesSomeTurns, frame_turn, turns_of};
+ghost use Rattle.gp_replay.specs.Playing.{Tells, count_of};
+ghost use Rattle.gp_replay.specs.Writing.{PlaysOn, Writes};
 
+use super::event_player::{EventPlayer, makes_grant};
 use super::fault::PlayFault;
 use super::line_buffer::LineBuffer;
 use super::player::Player;
 use super::turn::Turn;
-use gp_machine::Event;
+use gp_machine::{Event, Receipt};
 use gp_ploam::Mask;
+use gp_ranging::Grant;
 use gp_script::ScriptEvent;
 use gp_stream::Sink;
 use std::io::Write;
 use std::sync::ledger::Ledger;
 
-/// Takes one turn and writes its line.
+/// Takes one turn, writes its line, and gives its receipt.
 fn play_turn<L: Ledger, W: Write>(
     player: &mut Player<L>,
     sink: &mut Sink<W>,
     buffer: &mut LineBuffer,
     mask: Mask,
     turn: Turn,
-) -> Result<(), PlayFault>
+) -> Result<Receipt, PlayFault>
     requires port { turn.port < length player.old.next }
     requires room { HasRoom 1 player.old }
     ensures plays { let turns = turn ∷ [] in
         PlaysOn mask (TakesAllTurns turns) (TakesSomeTurns turns) player.old player.new sink.old sink.new result }
+    ensures told { IfOk result (λ receipt. Writes mask (Tells (receipt.entry ∷ []) (TakesAllTurns (turn ∷ [])))
+        player.old player.new sink.old sink.new) }
     ensures ports { length player.new.next ≡ length player.old.next }
 {
     let receipt = player.take_turn(turn)?;
     buffer.build(mask, &receipt);
     sink.put(buffer.as_bytes())?;
-    Ok(())
+    Ok(receipt)
 }
 
 /// Plays so many frames of a port.
@@ -69,43 +74,64 @@ fn play_event<L: Ledger, W: Write>(
     event: &ScriptEvent,
 ) -> Result<(), PlayFault>
     requires port { NamesPort (length player.old.next) event.now }
-    requires room { HasRoom (2 ^ 32) player.old }
+    requires room { HasRoom (count_of event.now) player.old }
     ensures plays { let turns = turns_of event.now in
         PlaysOn mask (TakesAllTurns turns) (TakesSomeTurns turns) player.old player.new sink.old sink.new result }
     ensures ports { length player.new.next ≡ length player.old.next }
-    ensures few { length (turns_of event.now) ≤ 2 ^ 32 }
 {
     match *event {
         ScriptEvent::Frames { port, count } => {
-            play_frames(player, sink, buffer, mask, port, count)
+            play_frames(player, sink, buffer, mask, port, count)?;
         }
         ScriptEvent::Burst { port, at, bytes } => {
             let event = Event::Burst { at, bytes };
-            play_turn(player, sink, buffer, mask, Turn { port, event })
+            play_turn(player, sink, buffer, mask, Turn { port, event })?;
         }
         ScriptEvent::Command { port, command } => {
             let event = Event::Command(command);
-            play_turn(player, sink, buffer, mask, Turn { port, event })
+            play_turn(player, sink, buffer, mask, Turn { port, event })?;
         }
         ScriptEvent::Light { .. } => unreachable!(),
     }
+    Ok(())
 }
 
-/// Plays the events of a script, in their order.
-pub(crate) fn play_events<L: Ledger, W: Write>(
-    player: &mut Player<L>,
-    sink: &mut Sink<W>,
-    buffer: &mut LineBuffer,
-    mask: Mask,
-    events: &[ScriptEvent],
-) -> Result<(), PlayFault>
-    requires ports { All (NamesPort (length player.old.next)) events.now }
-    requires room { HasRoom (length events.now * 2 ^ 32) player.old }
-    ensures { let turns = all_turns events.now in
-        PlaysOn mask (TakesAllTurns turns) (TakesSomeTurns turns) player.old player.new sink.old sink.new result }
-{
-    'events: for event in events {
-        play_event(player, sink, buffer, mask, event)?;
+impl<L: Ledger> EventPlayer for Player<L> {
+    ghost use Rattle.gp_replay.specs.Playing.{chassis_playing};
+
+    ghost playing = { chassis_playing };
+
+    fn ports(&self) -> usize {
+        Player::ports(self)
     }
-    Ok(())
+
+    fn units(&self) -> usize {
+        0
+    }
+
+    fn play_event<W: Write>(
+        &mut self,
+        sink: &mut Sink<W>,
+        buffer: &mut LineBuffer,
+        mask: Mask,
+        event: &ScriptEvent,
+    ) -> Result<(), PlayFault> {
+        play_event(self, sink, buffer, mask, event)
+    }
+
+    fn play_frame<W: Write>(
+        &mut self,
+        sink: &mut Sink<W>,
+        buffer: &mut LineBuffer,
+        mask: Mask,
+        port: u8,
+        grant: Grant,
+    ) -> Result<bool, PlayFault> {
+        let frame = Turn {
+            port,
+            event: Event::Frame,
+        };
+        let receipt = play_turn(self, sink, buffer, mask, frame)?;
+        Ok(makes_grant(&receipt.entry, grant))
+    }
 }

@@ -1,28 +1,29 @@
-ghost use Rattle.std.specs.Prelude.{◌≡◌, ◌≢◌, [], Err};
+ghost use Rattle.std.specs.Prelude.{◌≡◌, ◌≢◌, ◌<◌, [], Err, length};
 ghost use Rattle.gp_script.specs.Playable.{IsPlayable};
 ghost use Rattle.gp_script.specs.Script.{script_of};
 ghost use Rattle.gp_script.specs.View.{script_view};
 ghost use Rattle.gp_replay.specs.Outcome.{LeavesReplay, RunEnds, RunReads, RunWrites};
 ghost use Rattle.gp_replay.specs.Writing.{PlaysScript};
 
-use super::end_play::end_play;
+use super::play_end::end_play;
+use super::event_player::play_events;
 use super::fault::{PlayFault, RunFault};
+use super::fibre_player::FibrePlayer;
 use super::laws::each_port_runs;
 use super::line_buffer::LineBuffer;
 use super::player::{MAX_KEPT, Player};
-use super::playing::play_events;
-use super::world_playing::play_world;
 use gp_chassis::ChassisConfig;
+use gp_fibre::LossPlan;
 use gp_licence::MAX_LICENCES;
-use gp_script::Script;
+use gp_script::{Script, ScriptLosses};
 use gp_stream::{Sink, Source};
 use std::alloc::Global;
 use std::io::{Read, Write};
 use std::marker::Brand;
 use std::sync::ledger::{Blank, Ledger};
 
-/// Plays a script on a chassis of its own, whose ledger is the blank.
-fn play_on<L: Ledger, W: Write>(
+/// Plays a script without simulated units on a chassis of its own, whose ledger is the blank.
+fn play_on_chassis<L: Ledger, W: Write>(
     alloc: Global,
     blank: Blank,
     script: Script,
@@ -56,6 +57,40 @@ fn play_on<L: Ledger, W: Write>(
     end_play(sink, outcome)
 }
 
+/// Plays a script with simulated units on a fibre of its own, whose ledger is the blank. Entries are written as they
+/// come, a few frames' at a time, so memory for them stays small however long the trace is; the script's limit of
+/// journals means nothing here.
+fn play_on_fibre<L: Ledger, W: Write>(
+    alloc: Global,
+    blank: Blank,
+    script: Script,
+    sink: &mut Sink<W>,
+) -> Result<(), PlayFault>
+    requires name { blank.name ≡ L.name }
+    requires parts { (blank.parts ≡ L.parts) × (L.parts ≡ MAX_LICENCES) }
+    requires playable { IsPlayable (script_view script) }
+    requires units { 0 < length script.units.items }
+    ensures { PlaysScript (script_view script) sink.old sink.new result }
+{
+    let Script {
+        licences,
+        mask,
+        journal_limit: _,
+        ports,
+        units,
+        losses,
+        events,
+    } = script;
+    let ScriptLosses { copies, bursts } = losses;
+    let loss = LossPlan { copies, bursts };
+    let mut buffer = LineBuffer::new(alloc)?;
+    let mut player =
+        FibrePlayer::<L>::begin(alloc, blank, &ports[0], licences, units.as_slice(), loss)?;
+    let outcome = play_events(&mut player, sink, &mut buffer, mask, events.as_slice());
+    player.close();
+    end_play(sink, outcome)
+}
+
 /// Plays a script on a ledger of its own, which is the blank: on a chassis, or, where it has simulated units, on the
 /// fibre of its one port.
 fn play_script<L: Ledger, W: Write>(
@@ -70,9 +105,9 @@ fn play_script<L: Ledger, W: Write>(
     ensures { PlaysScript (script_view script) sink.old sink.new result }
 {
     if script.units.is_empty() {
-        play_on::<L, W>(alloc, blank, script, sink)
+        play_on_chassis::<L, W>(alloc, blank, script, sink)
     } else {
-        play_world::<L, W>(alloc, blank, script, sink)
+        play_on_fibre::<L, W>(alloc, blank, script, sink)
     }
 }
 

@@ -1,4 +1,4 @@
-ghost use Rattle.std.specs.Prelude.{◌≡◌, ◌+◌, ◌<◌, ◌^◌, None, All, IfOk, OnOk, map, true};
+ghost use Rattle.std.specs.Prelude.{◌≡◌, ◌+◌, ◌<◌, ◌^◌, None, All, IfOk, OnOk, length, map, true};
 ghost use Rattle.std.specs.Option.{ForSome};
 ghost use Rattle.gp_fibre.specs.World.{is_world_within_limits};
 ghost use Rattle.gp_fibre.specs.Schedule.{FramesRun, IsProperEntry, StepsTo, opening_state, step_fault};
@@ -117,6 +117,13 @@ impl<L: Ledger> WorldPlayer<L> {
             number,
             entry,
         }
+    }
+
+    /// How many simulated units there are.
+    pub(crate) fn units(&self) -> usize
+        ensures { result ≡ length self.now.world.fibre.units }
+    {
+        self.world.units()
     }
 
     /// Ends the fibre, and answers how many licences there are.

@@ -1,26 +1,25 @@
-ghost use Rattle.std.specs.Prelude.{◌≡◌, ◌+◌, ◌<◌, ◌≤◌, ◌*◌, ◌^◌, None, All, OnOk, length};
+ghost use Rattle.std.specs.Prelude.{◌≡◌, ◌+◌, ◌<◌, ◌^◌, ◌↔◌, None, All, IfOk, IsTrue, OnOk, length};
 ghost use Rattle.gp_fibre.specs.Schedule.{FramesRun, IsProperEntry, step_fault};
-ghost use Rattle.gp_script.specs.Playable.{IsPlayable};
-ghost use Rattle.gp_script.specs.View.{NamesOneOf, script_view};
+ghost use Rattle.gp_script.specs.View.{NamesOneOf};
 ghost use Rattle.gp_stream.specs.Sink.{Gives};
 ghost use Rattle.gp_trace.specs.Text.{line_of, trace_text};
-ghost use Rattle.gp_replay.specs.WorldPlay.{TakesStep, WorldTakes, WorldTakesAll, receipt_with, receipts_from};
-ghost use Rattle.gp_replay.specs.WorldWriting.{HasFibreRoom, MayTakeStep, Numbered, TakesSomeFrames, WorldTakesPart, WorldTakesPrefix, count_of, losses_of};
-ghost use Rattle.gp_replay.specs.Writing.{HandsIn, PlaysOn, PlaysScript};
+ghost use Rattle.gp_replay.specs.Playing.{HasGrant, MakesGrant, Tells, count_of};
+ghost use Rattle.gp_replay.specs.WorldPlay.{TakesStep, WorldTakes, receipt_with, receipts_from};
+ghost use Rattle.gp_replay.specs.WorldWriting.{HasFibreRoom, MayTakeStep, Numbered, TakesSomeFrames, WorldTakesPart, losses_of};
+ghost use Rattle.gp_replay.specs.Writing.{HandsIn, PlaysOn, Writes};
 
-use super::end_play::end_play;
+use super::event_player::makes_grant;
 use super::fault::PlayFault;
 use super::line_buffer::LineBuffer;
 use super::world_player::WorldPlayer;
 use gp_fibre::{LossPlan, WorldStep};
-use gp_licence::MAX_LICENCES;
 use gp_machine::Entry;
 use gp_ploam::Mask;
-use gp_script::{Script, ScriptEvent, ScriptLosses};
+use gp_ranging::Grant;
+use gp_script::ScriptEvent;
 use gp_stream::{Sink, WriteStopped};
-use std::alloc::Global;
 use std::io::Write;
-use std::sync::ledger::{Blank, Ledger};
+use std::sync::ledger::Ledger;
 
 /// How many frames are run before their lines are written: so the entries that are kept until then stay few, however
 /// many frames an event has.
@@ -85,7 +84,8 @@ fn play_step<L: Ledger, W: Write>(
     Ok(())
 }
 
-/// Makes so many frames, and writes the lines of their entries. The entries of all of them are kept until then.
+/// Makes so many frames, writes the lines of their entries, and gives these. The entries of all of them are kept until
+/// then.
 fn play_few_frames<L: Ledger, W: Write>(
     player: &mut WorldPlayer<L>,
     sink: &mut Sink<W>,
@@ -93,15 +93,51 @@ fn play_few_frames<L: Ledger, W: Write>(
     mask: Mask,
     loss: &LossPlan,
     frames: u32,
-) -> Result<(), PlayFault>
+) -> Result<Vec<Entry>, PlayFault>
     requires room { HasFibreRoom frames player.old }
-    ensures { let losses = losses_of loss.now in
+    ensures plays { let losses = losses_of loss.now in
         PlaysOn mask (Numbered (FramesRun losses.copies losses.bursts frames)) (Numbered (TakesSomeFrames losses frames))
         player.old player.new sink.old sink.new result }
+    ensures told { let losses = losses_of loss.now in IfOk result (λ entries.
+        Writes mask (Tells entries.items (Numbered (FramesRun losses.copies losses.bursts frames)))
+        player.old player.new sink.old sink.new) }
 {
     let entries = player.run_frames(frames, loss)?;
     write_entries(player, sink, buffer, mask, entries.as_slice())?;
-    Ok(())
+    Ok(entries)
+}
+
+/// Tells whether one of these entries makes the grant.
+fn has_grant(entries: &[Entry], grant: Grant) -> bool
+    ensures { IsTrue result ↔ HasGrant grant entries.now }
+{
+    'entries: for entry in entries {
+        if makes_grant(entry, grant) {
+            return true;
+        }
+    }
+    false
+}
+
+/// Makes one frame, writes the lines of its entries, and tells whether the port makes this grant in it.
+pub(crate) fn play_one_world_frame<L: Ledger, W: Write>(
+    player: &mut WorldPlayer<L>,
+    sink: &mut Sink<W>,
+    buffer: &mut LineBuffer,
+    mask: Mask,
+    loss: &LossPlan,
+    grant: Grant,
+) -> Result<bool, PlayFault>
+    requires room { HasFibreRoom 1 player.old }
+    ensures plays { let losses = losses_of loss.now in
+        PlaysOn mask (Numbered (FramesRun losses.copies losses.bursts 1)) (Numbered (TakesSomeFrames losses 1))
+        player.old player.new sink.old sink.new result }
+    ensures made { let losses = losses_of loss.now in IfOk result (λ made.
+        Writes mask (MakesGrant grant made (Numbered (FramesRun losses.copies losses.bursts 1)))
+        player.old player.new sink.old sink.new) }
+{
+    let entries = play_few_frames(player, sink, buffer, mask, loss, 1)?;
+    Ok(has_grant(entries.as_slice(), grant))
 }
 
 /// Makes so many frames, a few at a time, and writes the lines of their entries.
@@ -128,7 +164,7 @@ fn play_frames<L: Ledger, W: Write>(
 }
 
 /// Plays one event of a script.
-fn play_world_event<L: Ledger, W: Write>(
+pub(crate) fn play_world_event<L: Ledger, W: Write>(
     player: &mut WorldPlayer<L>,
     sink: &mut Sink<W>,
     buffer: &mut LineBuffer,
@@ -137,11 +173,10 @@ fn play_world_event<L: Ledger, W: Write>(
     event: &ScriptEvent,
 ) -> Result<(), PlayFault>
     requires names { NamesOneOf 1 (length player.old.world.fibre.units) event.now }
-    requires room { HasFibreRoom (2 ^ 32) player.old }
-    ensures plays { let losses = losses_of loss.now in
+    requires room { HasFibreRoom (count_of event.now) player.old }
+    ensures { let losses = losses_of loss.now in
         PlaysOn mask (Numbered (WorldTakes losses event.now)) (Numbered (WorldTakesPart losses event.now))
         player.old player.new sink.old sink.new result }
-    ensures few { count_of event.now ≤ 2 ^ 32 }
 {
     let step = match *event {
         ScriptEvent::Frames { port: _, count } => {
@@ -153,65 +188,4 @@ fn play_world_event<L: Ledger, W: Write>(
         ScriptEvent::Light { unit, lit: false } => WorldStep::Dark(unit),
     };
     play_step(player, sink, buffer, mask, step)
-}
-
-/// Plays the events of a script, in their order.
-fn play_world_events<L: Ledger, W: Write>(
-    player: &mut WorldPlayer<L>,
-    sink: &mut Sink<W>,
-    buffer: &mut LineBuffer,
-    mask: Mask,
-    loss: &LossPlan,
-    events: &[ScriptEvent],
-) -> Result<(), PlayFault>
-    requires names { All (NamesOneOf 1 (length player.old.world.fibre.units)) events.now }
-    requires room { HasFibreRoom (length events.now * 2 ^ 32) player.old }
-    ensures { let losses = losses_of loss.now in
-        PlaysOn mask (Numbered (WorldTakesAll losses events.now)) (Numbered (WorldTakesPrefix losses events.now))
-        player.old player.new sink.old sink.new result }
-{
-    'events: for event in events {
-        play_world_event(player, sink, buffer, mask, loss, event)?;
-    }
-    Ok(())
-}
-
-/// Plays a script with simulated units on a fibre of its own, whose ledger is the blank. Entries are written as they
-/// come, a few frames' at a time, so memory for them stays small however long the trace is; the script's limit of
-/// journals means nothing here.
-pub(crate) fn play_world<L: Ledger, W: Write>(
-    alloc: Global,
-    blank: Blank,
-    script: Script,
-    sink: &mut Sink<W>,
-) -> Result<(), PlayFault>
-    requires name { blank.name ≡ L.name }
-    requires parts { (blank.parts ≡ L.parts) × (L.parts ≡ MAX_LICENCES) }
-    requires playable { IsPlayable (script_view script) }
-    requires units { 0 < length script.units.items }
-    ensures { PlaysScript (script_view script) sink.old sink.new result }
-{
-    let Script {
-        licences,
-        mask,
-        journal_limit: _,
-        ports,
-        units,
-        losses,
-        events,
-    } = script;
-    let ScriptLosses { copies, bursts } = losses;
-    let loss = LossPlan { copies, bursts };
-    let mut buffer = LineBuffer::new(alloc)?;
-    let mut player = WorldPlayer::<L>::begin(alloc, blank, &ports[0], licences, units.as_slice())?;
-    let outcome = play_world_events(
-        &mut player,
-        sink,
-        &mut buffer,
-        mask,
-        &loss,
-        events.as_slice(),
-    );
-    player.close();
-    end_play(sink, outcome)
 }

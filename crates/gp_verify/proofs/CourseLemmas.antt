@@ -6,7 +6,7 @@ use Rattle.gp_ploam.specs.declared.check.Mask.{Mask}
 use Rattle.gp_replay.specs.Chassis.{PlayState}
 use Rattle.gp_verify.specs.declared.verdict.Verdict.{Verdict}
 use Rattle.gp_verify.specs.declared.verdict.Verdict.TheVariants as verdict
-use Rattle.gp_verify.specs.Following.{Follows, JudgesLine, TakesFrom}
+use Rattle.gp_verify.specs.Following.{Following, Follows, JudgesLine, TakesFrom}
 use Rattle.gp_verify.specs.Verdicts.{Judges, VerifyState, ending}
 use Rattle.gp_verify.proofs.TraceLemmas.{Stage, stage_on, followed}
 
@@ -42,7 +42,7 @@ Course None mask start all new = Runs mask start all new
 Course (Some v) mask start all new = Halts v mask start all new
 
 -- once it has ended it stays as it is
-stuck : (ls : List (Option (List ℕ))) (state new : VerifyState) (said : List ℕ) (v : Verdict) → state.ended ≡ Some v → DoesAll Follows state ls said new → new ≡ state
+stuck : (ls : List (Option (List ℕ))) (state new : VerifyState) (said : List ℕ) (v : Verdict) → state.ended ≡ Some v → DoesAll Following state ls said new → new ≡ state
 stuck [] state new said v is h = h.1
 stuck (line ∷ ls) state new said v is h =
     let same : h.2 ≡ state = subst (λ (e : Option Verdict). TakesFrom e state line h.2) is h.3.1 in
@@ -50,7 +50,7 @@ stuck (line ∷ ls) state new said v is h =
 
 halted : (mask : Mask) (start : PlayState) (done : List (List ℕ)) (line : Option (List ℕ)) (ls : List (Option (List ℕ))) (state next new : VerifyState) (said : List ℕ) (v : Verdict)
     → Stage mask start done state.play → state.lines ≡ length done → next.lines ≡ state.lines + 1 → next.ended ≡ Some v
-    → Fails v line mask state.play next.play next.said → DoesAll Follows next ls said new → Course new.ended mask start (wholes done ++ line ∷ ls) new
+    → Fails v line mask state.play next.play next.said → DoesAll Following next ls said new → Course new.ended mask start (wholes done ++ line ∷ ls) new
 halted mask start done line ls state next new said v stage counted more is fails h =
     let all = wholes done ++ line ∷ ls in
     let there : Course (Some v) mask start all next =
@@ -74,7 +74,7 @@ regroup done text ls =
 
 -- from where these lines were done, the others lead here
 pub course : (mask : Mask) (start : PlayState) (done : List (List ℕ)) (ls : List (Option (List ℕ))) (state new : VerifyState) (said : List ℕ)
-    → state.mask ≡ mask → state.ended ≡ None → Stage mask start done state.play → state.lines ≡ length done → DoesAll Follows state ls said new
+    → state.mask ≡ mask → state.ended ≡ None → Stage mask start done state.play → state.lines ≡ length done → DoesAll Following state ls said new
     → Course new.ended mask start (wholes done ++ ls) new
 course mask start done [] state new said masked none stage counted h =
     let all = wholes done ++ [] in

@@ -17,7 +17,7 @@ use Rattle.gp_verify.specs.declared.outcome.VerifyFault.{VerifyFault}
 use Rattle.gp_verify.specs.declared.outcome.VerifyFault.TheVariants.{Lines}
 use Rattle.gp_verify.specs.declared.verdict.Verdict.{Verdict}
 use Rattle.gp_verify.specs.declared.verdict.Verdict.TheVariants as verdict
-use Rattle.gp_verify.specs.Following.{Follows, has_ended}
+use Rattle.gp_verify.specs.Following.{Following, Follows, has_ended}
 use Rattle.gp_verify.specs.Outcome.{Condemns, IsRefused, IsRun, IsUnended, Verifies, finding, longest_line}
 use Rattle.gp_verify.specs.Tells.{AreTrace, IsTraceText, TellsNothing}
 use Rattle.gp_verify.specs.Verdicts.{Judges, VerifyState}
@@ -172,7 +172,7 @@ module _ {R : Type 0} (limit : ℕ) (from to : SourceState R) (old new : VerifyS
 
 -- ---- what was found
 
-started : (old new : VerifyState) (ls : List (Option (List ℕ))) (said : List ℕ) → old.ended ≡ None → old.lines ≡ 0 → DoesAll Follows old ls said new → Course new.ended old.mask old.play ls new
+started : (old new : VerifyState) (ls : List (Option (List ℕ))) (said : List ℕ) → old.ended ≡ None → old.lines ≡ 0 → DoesAll Following old ls said new → Course new.ended old.mask old.play ls new
 started old new ls said none first h = course old.mask old.play [] ls old new said refl none (stage_begun old.mask old.play) first h
 
 never : false ≡ true → ⊥
@@ -201,18 +201,18 @@ module _ {R W : Type 0} (from to : SourceState R) (old new : VerifyState) (befor
       refused_found longest_line from to old new v bytes (ended_lines bytes) e.0 came (ap lines_of (sym (append-nil bytes)) ∙ e.1)
       (λ xs here. first_lines longest_line from to old new from.remaining to.remaining bytes xs came here) c
 
-  pub verified : (end : LinesEnd) → old.ended ≡ None → old.lines ≡ 0 → ServesTo Follows has_ended longest_line end from to old new before after
+  pub verified : (end : LinesEnd) → old.ended ≡ None → old.lines ≡ 0 → ServesTo Following has_ended longest_line end from to old new before after
       → Verifies old new from to (finding end new.ended new.lines)
   verified Whole none first s = whole new.ended s.bytes s.read (s.feeds.0 refl) (started old new (map (handed longest_line) (lines_of s.bytes)) s.said none first s.spoken)
   verified Open none first s = unended new.ended s.bytes s.read (λ e. never (s.feeds.1 e)) (started old new (map (handed longest_line) (lines_of s.bytes)) s.said none first s.spoken)
   verified Over none first s = over new.ended s.1 s.0.bytes s.0.read (started old new (map (handed longest_line) (ended_lines s.0.bytes)) s.0.said none first s.0.spoken)
 
   pub verified_as : (end : LinesEnd) (found : Option Verdict) (line : ℕ) (answer : Result ℕ VerifyFault) → found ≡ new.ended → line ≡ new.lines → answer ≡ finding end found line
-      → old.ended ≡ None → old.lines ≡ 0 → ServesTo Follows has_ended longest_line end from to old new before after → Verifies old new from to answer
+      → old.ended ≡ None → old.lines ≡ 0 → ServesTo Following has_ended longest_line end from to old new before after → Verifies old new from to answer
   verified_as end found line answer is many same none first s =
       let told : answer ≡ finding end new.ended new.lines = same ∙ ap (λ (f : Option Verdict). finding end f line) is ∙ ap (λ (n : ℕ). finding end new.ended n) many in
       subst (λ (a : Result ℕ VerifyFault). Verifies old new from to a) (sym told) (verified end none first s)
 
-  pub unread : (fault : LinesFault) → Serves Follows has_ended longest_line from to old new before after (Err fault) → Verifies old new from to (Err (Lines fault))
+  pub unread : (fault : LinesFault) → Serves Following has_ended longest_line from to old new before after (Err fault) → Verifies old new from to (Err (Lines fault))
   unread faults.Read s = s.failed refl
   unread (faults.Line fault) s = tt

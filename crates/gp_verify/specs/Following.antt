@@ -1,5 +1,6 @@
 -- What a verifier does with the lines that it is handed (this profile's own rule).
 use Rattle.std.specs.Prelude.{◌≡◌, ℕ, ◌+◌, Bool, List, [], Option, None, Some, is_some}
+use Rattle.gp_flow.specs.Lines.{Speech, WholeLines}
 use Rattle.gp_verify.specs.declared.verdict.Verdict.{Verdict}
 use Rattle.gp_verify.specs.declared.verdict.Verdict.TheVariants.{TooLong}
 use Rattle.gp_verify.specs.Verdicts.{Judges, VerifyState, ending}
@@ -21,6 +22,10 @@ TakesFrom None old (Some text) new = JudgesLine old text new
 -- to no line anything is said
 abbrev pub Follows : VerifyState → Option (List ℕ) → List ℕ → VerifyState → Type 0
 Follows old line said new = (said ≡ []) × TakesFrom old.ended old line new
+
+-- what a verifier does with a line, which it answers whole or not at all
+abbrev pub Following : Speech VerifyState
+Following = WholeLines Follows
 
 -- it has ended
 abbrev pub has_ended : VerifyState → Bool

@@ -5,9 +5,9 @@ use std::io::Write;
 use std::sync::ledger::Ledger;
 
 impl<L: Ledger> LineWork for Verifier<L> {
-    ghost use Rattle.gp_verify.specs.Following.{Follows, has_ended};
+    ghost use Rattle.gp_verify.specs.Following.{Following, has_ended};
 
-    ghost says = { Follows };
+    ghost speech = { Following };
 
     ghost over = { has_ended };
 

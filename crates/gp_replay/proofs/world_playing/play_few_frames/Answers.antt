@@ -3,6 +3,7 @@ use Rattle.gp_fibre.specs.Schedule.{FramesRun}
 use Rattle.gp_replay.specs.WorldPlay.{receipts_from}
 use Rattle.gp_replay.specs.WorldWriting.{Numbered, TakesSomeFrames, losses_of}
 use Rattle.gp_replay.proofs.PlayLemmas.{plays_lines, stops_at_first, stops_in_lines}
+use Rattle.gp_replay.proofs.PlayingLemmas.{frames_told}
 use Rattle.gp_replay.proofs.WorldLemmas.{frames_happen, numbered_none, some_frames_happen}
 use Rattle.gp_replay.proofs.WorldRoomLemmas.{entries_fit}
 use Rattle.gp_replay.proofs.world_playing.play_few_frames.Goals as goal
@@ -13,14 +14,14 @@ write_entries-requires-clause-room g c =
     (entries_fit c.args.loss.now.copies.items c.args.loss.now.bursts.items c.args.frames c.run_frames.new.self.next c.args.player.now c.run_frames.new.self.world c.in_ok-entries.entries.items c.in_ok-entries.ensures.next
     c.requires.room c.in_ok-entries.ensures.ran)
 
-pub returns-in_err-entries : goal.returns-in_err-entries
-returns-in_err-entries g c =
+pub returns-in_err-entries-clause-plays : goal.returns-in_err-entries-clause-plays
+returns-in_err-entries-clause-plays g c =
     let losses = losses_of c.args.loss.now in
     stops_at_first c.args.mask (Numbered (FramesRun losses.copies losses.bursts c.args.frames)) (Numbered (TakesSomeFrames losses c.args.frames)) c.args.player.now _ c.args.sink.now _
     (numbered_none (TakesSomeFrames losses c.args.frames) c.args.player.now (0, omega arith, (refl, refl))) c.from_residual.ensures.1
 
-pub returns-in_err-write_entries : goal.returns-in_err-write_entries
-returns-in_err-write_entries g c =
+pub returns-in_err-write_entries-clause-plays : goal.returns-in_err-write_entries-clause-plays
+returns-in_err-write_entries-clause-plays g c =
     let losses = losses_of c.args.loss.now in
     let mid = c.run_frames.new.self in
     let entries = c.in_ok-entries.entries.items in
@@ -29,13 +30,23 @@ returns-in_err-write_entries g c =
     (some_frames_happen losses c.args.frames entries c.args.player.now mid c.in_ok-entries.ensures.ran c.in_ok-entries.ensures.next)
     (rw c.as_slice.ensures.value at c.in_err-write_entries.ensures.hands) c.from_residual-in_err-write_entries.ensures.1
 
-pub returns : goal.returns
-returns g c =
+pub returns-clause-plays : goal.returns-clause-plays
+returns-clause-plays g c =
     let losses = losses_of c.args.loss.now in
     let mid = c.run_frames.new.self in
     let entries = c.in_ok-entries.entries.items in
     plays_lines c.args.mask (Numbered (FramesRun losses.copies losses.bursts c.args.frames)) (Numbered (TakesSomeFrames losses c.args.frames)) c.args.player.now
     c.write_entries.new.player (receipts_from mid.next entries) _ _ _ _
+    (frames_happen losses c.args.frames entries c.args.player.now mid c.write_entries.new.player c.in_ok-entries.ensures.ran c.in_ok-entries.ensures.next c.in_ok-write_entries.ensures.world
+    (rw c.as_slice.ensures.value at c.in_ok-write_entries.ensures.next))
+    (rw c.as_slice.ensures.value at c.in_ok-write_entries.ensures.hands)
+
+pub returns-clause-told : goal.returns-clause-told
+returns-clause-told g c =
+    let losses = losses_of c.args.loss.now in
+    let mid = c.run_frames.new.self in
+    let entries = c.in_ok-entries.entries.items in
+    frames_told c.args.mask entries (FramesRun losses.copies losses.bursts c.args.frames) c.args.player.now c.write_entries.new.player mid.next _ _ _
     (frames_happen losses c.args.frames entries c.args.player.now mid c.write_entries.new.player c.in_ok-entries.ensures.ran c.in_ok-entries.ensures.next c.in_ok-write_entries.ensures.world
     (rw c.as_slice.ensures.value at c.in_ok-write_entries.ensures.next))
     (rw c.as_slice.ensures.value at c.in_ok-write_entries.ensures.hands)

@@ -24,7 +24,7 @@ returns-in_err-play_few_frames g c =
     let within : c.loop-left.left ≤ c.args.frames = c.loop-left.invariant.few in
     let total : (c.args.frames - c.loop-left.left) + c.min-few.result ≤ c.args.frames = omega arith in
     stops_on c.args.mask _ _ _ _ _ (numbered_join _ _ _ (some_frames_join (losses_of c.args.loss.now) (c.args.frames - c.loop-left.left) c.min-few.result c.args.frames total)) _ _ _ _ _ _ _ _
-    c.loop-left.invariant.played c.in_err-play_few_frames.ensures c.from_residual.ensures.1
+    c.loop-left.invariant.played c.in_err-play_few_frames.ensures.plays c.from_residual.ensures.1
 
 pub loop-left-preserved : goal.loop-left-preserved
 loop-left-preserved g c =
@@ -35,10 +35,10 @@ loop-left-preserved g c =
     record {
       played = stands_on c.args.mask _ _ _ _
           (numbered_join _ _ _ (frames_join (losses_of c.args.loss.now) (c.args.frames - c.loop-left.left) c.min-few.result (c.args.frames - (c.loop-left.left - c.min-few.result)) total)) _ _ _ _ _ _ _
-          c.loop-left.invariant.played c.in_ok-play_few_frames.ensures;
+          c.loop-left.invariant.played c.in_ok-play_few_frames.ensures.plays;
       few = omega (arith, few, within);
       room = room_after_frames c.args.loss.now.copies.items c.args.loss.now.bursts.items c.min-few.result c.loop-left.left (c.loop-left.left - c.min-few.result) c.loop-left.player
-          c.play_few_frames.new.player _ c.in_ok-play_few_frames.ensures.ok.happened rest c.loop-left.invariant.room;
+          c.play_few_frames.new.player _ c.in_ok-play_few_frames.ensures.plays.ok.happened rest c.loop-left.invariant.room;
     }
 
 pub returns : goal.returns

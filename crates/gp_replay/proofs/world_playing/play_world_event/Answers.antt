@@ -8,16 +8,16 @@ use Rattle.gp_replay.proofs.WorldPlayLemmas.{step_plays}
 use Rattle.gp_replay.proofs.world_playing.play_world_event.Goals as goal
 use Rattle.gp_replay.proofs.world_playing.play_world_event.Goals.{in-Burst, in-Command, in-Light-default-true, in-Light-default-false}
 
-pub returns-in-Frames-clause-plays : goal.returns-in-Frames-clause-plays
-returns-in-Frames-clause-plays g c =
+pub returns-in-Frames : goal.returns-in-Frames
+returns-in-Frames g c =
     let losses = losses_of c.args.loss.now in
     subst
     (λ (e : ScriptEvent). PlaysOn c.args.mask (Numbered (WorldTakes losses e)) (Numbered (WorldTakesPart losses e)) c.args.player.now c.play_frames.new.player c.args.sink.now
     c.play_frames.new.sink c.play_frames.result)
     (sym c.in-Frames.is) c.play_frames.ensures
 
-pub returns-clause-plays : goal.returns-clause-plays
-returns-clause-plays g c = elim c.match-event.branch [
+pub returns : goal.returns
+returns g c = elim c.match-event.branch [
   | in-Burst w ↦ step_plays c.args.mask (losses_of c.args.loss.now) c.args.event.now c.match-event.step _ _ c.args.player.now c.play_step.new.player _ _ c.play_step.result w.in-Burst.is w.step-is (λ h. h) c.play_step.ensures
   | in-Command w ↦ step_plays c.args.mask (losses_of c.args.loss.now) c.args.event.now c.match-event.step _ _ c.args.player.now c.play_step.new.player _ _ c.play_step.result w.in-Command.is w.step-is (λ h. h) c.play_step.ensures
   | in-Light-default-true w ↦

@@ -7,7 +7,7 @@ use std::io::Write;
 
 /// Writes out what a play has handed in, also where memory was refused in its midst: that takes none, and memory is
 /// told then even if the write fails.
-pub(crate) fn end_play<W: Write>(
+pub fn end_play<W: Write>(
     sink: &mut Sink<W>,
     played: Result<(), PlayFault>,
 ) -> Result<(), PlayFault>

@@ -2,7 +2,7 @@ use Rattle.std.proofs.Common.{◌≡◌, Result, Err, refl, rules, subst, sym}
 use Rattle.gp_replay.specs.declared.fault.PlayFault.{PlayFault}
 use Rattle.gp_replay.specs.declared.fault.PlayFault.TheVariants.{OutOfMemory}
 use Rattle.gp_replay.specs.Writing.{EndsPlay}
-use Rattle.gp_replay.proofs.end_play.end_play.Goals as goal
+use Rattle.gp_replay.proofs.play_end.end_play.Goals as goal
 
 pub returns-in-Err-OutOfMemory : goal.returns-in-Err-OutOfMemory
 returns-in-Err-OutOfMemory g c =

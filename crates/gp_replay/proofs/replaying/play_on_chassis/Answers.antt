@@ -1,14 +1,16 @@
 use Rattle.std.proofs.Common.{arith, ◌*◌, ◌^◌, ◌<◌, ◌≤◌, length}
 use Rattle.gp_script.specs.View.{script_view}
+use Rattle.gp_replay.proofs.PlayingLemmas.{chassis_plays}
 use Rattle.gp_replay.proofs.RoomLemmas.{opening_room}
 use Rattle.gp_replay.proofs.ScriptPlayLemmas.{chassis_stands, play_ends, play_refused}
-use Rattle.gp_replay.proofs.replaying.play_on.Goals as goal
+use Rattle.gp_replay.proofs.replaying.play_on_chassis.Goals as goal
 
 pub play_events-outcome-requires-clause-room : goal.play_events-outcome-requires-clause-room
 play_events-outcome-requires-clause-room g c =
     let few : length c.args.script.events.items ≤ 1048576 = c.requires.playable.few_events in
-    let within : length c.args.script.events.items * 2 ^ 32 < 2 ^ 64 = omega (arith, few) in
-    rw (c.in_ok-player.ensures, c.as_slice.ensures.value) (opening_room _ c.args.script.ports.items c.args.script.licences within)
+    let many = length c.args.script.events.items * 2 ^ 32 in
+    let within : many < 2 ^ 64 = omega (arith, few) in
+    rw (c.in_ok-player.ensures, c.as_slice.ensures.value) (many, omega arith, opening_room many c.args.script.ports.items c.args.script.licences within)
 
 pub returns-in_err-buffer : goal.returns-in_err-buffer
 returns-in_err-buffer g c = play_refused (script_view c.args.script) c.args.sink.now _ c.from_residual.ensures.1
@@ -18,6 +20,7 @@ returns-in_err-player g c = play_refused (script_view c.args.script) c.args.sink
 
 pub returns : goal.returns
 returns g c =
-    let played = rw (c.in_ok-player.ensures, c.as_slice.ensures.value) at c.play_events-outcome.ensures in
-    play_ends (script_view c.args.script) _ _ _ c.play_events-outcome.new.player c.args.sink.now c.play_events-outcome.new.sink _ c.play_events-outcome.result _
-    (chassis_stands c.each_port_runs.ensures (script_view c.args.script) c.requires.no_units) played c.end_play.ensures
+    let script = script_view c.args.script in
+    let played = rw (c.in_ok-player.ensures, c.as_slice.ensures.value) at c.play_events-outcome.ensures.plays in
+    play_ends script _ _ _ c.play_events-outcome.new.player c.args.sink.now c.play_events-outcome.new.sink _ c.play_events-outcome.result _
+    (chassis_stands c.each_port_runs.ensures script c.requires.no_units) (chassis_plays script.mask script.events _ _ _ _ _ played) c.end_play.ensures

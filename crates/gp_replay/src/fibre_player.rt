@@ -1,0 +1,115 @@
+ghost use Rattle.std.specs.Prelude.{◌≡◌, true, IfOk, map};
+ghost use Rattle.gp_fibre.specs.World.{is_world_within_limits};
+ghost use Rattle.gp_fibre.specs.Schedule.{opening_state};
+ghost use Rattle.gp_replay.specs.WorldPlay.{plan_of};
+ghost use Rattle.gp_replay.specs.WorldWriting.{losses_of};
+
+use super::event_player::EventPlayer;
+use super::fault::PlayFault;
+use super::line_buffer::LineBuffer;
+use super::world_player::WorldPlayer;
+use super::world_playing::{play_one_world_frame, play_world_event};
+use gp_fibre::LossPlan;
+use gp_licence::MAX_LICENCES;
+use gp_machine::PortConfig;
+use gp_ploam::Mask;
+use gp_ranging::Grant;
+use gp_script::{ScriptEvent, ScriptUnit};
+use gp_stream::Sink;
+use std::alloc::{AllocError, Global};
+use std::io::Write;
+use std::marker::Model;
+use std::sync::ledger::{Blank, Ledger};
+
+/// The fibre of one port with its simulated units, on whose way some copies and bursts are lost, as what events are
+/// played on. Contracts see its play, and what is lost.
+///
+/// It has no `Drop`: its licences are gathered by `close`.
+pub struct FibrePlayer<L: Ledger> {
+    player: WorldPlayer<L>,
+    loss: LossPlan,
+}
+
+impl<L: Ledger> Model for FibrePlayer<L> {
+    ghost use Rattle.std.specs.FinMap as map;
+    ghost use Rattle.std.specs.FinSet as set;
+    ghost use Rattle.std.specs.Coded.{codes};
+    ghost use Rattle.gp_ploam.specs.Serials.{serial_cmp, coded_serial};
+    ghost use Rattle.gp_unit.specs.contracts.row.Row as row;
+    ghost use Rattle.gp_replay.specs.Playing.{LossyPlay};
+    ghost use Rattle.gp_replay.specs.WorldWriting.{losses_of};
+
+    ghost Value = { LossyPlay };
+
+    ghost coded = { Prim.hlevel
+        (codes, map.code {R = serial_cmp} coded_serial row.the_row.coded, set.code {R = serial_cmp} coded_serial) };
+
+    ghost view = { λ p. record { play = p.player; losses = losses_of p.loss } };
+}
+
+impl<L: Ledger> FibrePlayer<L> {
+    /// Begins the fibre, before its first event. `blank` is a new ledger of `MAX_LICENCES` parts, made by
+    /// `Blank::new`, and `L` its name.
+    pub fn begin(
+        alloc: Global,
+        blank: Blank,
+        config: &PortConfig,
+        licences: u32,
+        units: &[ScriptUnit],
+        loss: LossPlan,
+    ) -> Result<FibrePlayer<L>, AllocError>
+        requires name { blank.name ≡ L.name }
+        requires parts { (blank.parts ≡ L.parts) × (L.parts ≡ MAX_LICENCES) }
+        requires limits { is_world_within_limits config.now licences (map plan_of units.now) ≡ true }
+        ensures world { IfOk result
+            (λ player. player.play.world ≡ opening_state config.now licences (map plan_of units.now)) }
+        ensures next { IfOk result (λ player. player.play.next ≡ 0) }
+        ensures losses { IfOk result (λ player. player.losses ≡ losses_of loss) }
+    {
+        let player = WorldPlayer::begin(alloc, blank, config, licences, units)?;
+        Ok(FibrePlayer { player, loss })
+    }
+
+    /// Ends the fibre, and answers how many licences there are.
+    pub fn close(self) -> u32
+        ensures { result ≡ self.play.world.licences }
+    {
+        let FibrePlayer { player, loss: _ } = self;
+        player.close()
+    }
+}
+
+impl<L: Ledger> EventPlayer for FibrePlayer<L> {
+    ghost use Rattle.gp_replay.specs.Playing.{fibre_playing};
+
+    ghost playing = { fibre_playing };
+
+    fn ports(&self) -> usize {
+        1
+    }
+
+    fn units(&self) -> usize {
+        self.player.units()
+    }
+
+    fn play_event<W: Write>(
+        &mut self,
+        sink: &mut Sink<W>,
+        buffer: &mut LineBuffer,
+        mask: Mask,
+        event: &ScriptEvent,
+    ) -> Result<(), PlayFault> {
+        play_world_event(&mut self.player, sink, buffer, mask, &self.loss, event)
+    }
+
+    fn play_frame<W: Write>(
+        &mut self,
+        sink: &mut Sink<W>,
+        buffer: &mut LineBuffer,
+        mask: Mask,
+        _port: u8,
+        grant: Grant,
+    ) -> Result<bool, PlayFault> {
+        play_one_world_frame(&mut self.player, sink, buffer, mask, &self.loss, grant)
+    }
+}
