@@ -1,0 +1,187 @@
+ghost use Rattle.std.specs.Prelude.{◌≡◌, ◌≤◌, ◌⊎◌, None, Err, IfOk};
+ghost use Rattle.std.specs.String.{string_bytes};
+ghost use Rattle.gp_flow.specs.Lines.{Answers};
+ghost use Rattle.gp_flow.specs.declared.fault.LineFault.TheVariants as lines;
+ghost use Rattle.gp_replay.specs.Playing.{HasRoomFor};
+ghost use Rattle.gp_drive.specs.Drive.{answering, begun, error_line, line_fault, most_lines, most_turns, playing_of, refusing};
+ghost use Rattle.gp_drive.specs.Turns.{cost_of, missing_in};
+
+use crate::fault::TurnFault;
+use crate::turn::{cost_of, missing_in, play_turn};
+use gp_flow::{LineFault, LineWork};
+use gp_lines::{Asked, LineFault as Fault, parse_turn};
+use gp_ploam::Mask;
+use gp_replay::{EventPlayer, LineBuffer, PlayFault};
+use gp_stream::Sink;
+use std::alloc::{AllocError, Global};
+use std::io::Write;
+use std::marker::Model;
+
+/// The most frames and other events that all lines of a drive together may ask for (this profile's own rule).
+pub const MOST_TURNS: u64 = 2_251_799_813_685_248;
+
+/// Answers lines that ask for something on a player: each by the trace lines of its entries, or by an error line.
+/// Contracts see the player, how many lines were answered, and how many of them by an error.
+///
+/// It has no `Drop`: its player is given back by `into_player`.
+pub struct Driver<P: EventPlayer> {
+    alloc: Global,
+    player: P,
+    buffer: LineBuffer,
+    mask: Mask,
+    lines: u64,
+    errors: u64,
+    left: u64,
+}
+
+impl<P: EventPlayer> Model for Driver<P> {
+    ghost use Rattle.std.specs.Prelude.{◌<◌, ◌≤◌};
+    ghost use Rattle.gp_replay.specs.Playing.{HasRoomFor};
+    ghost use Rattle.gp_drive.specs.Drive.{DriveState};
+
+    ghost Value = { DriveState P };
+
+    ghost view = { λ d. record { player = d.player; mask = d.mask; lines = d.lines; errors = d.errors; left = d.left } };
+
+    ghost invariant = { λ d. (d.errors ≤ d.lines) × (0 < d.left → HasRoomFor P.playing d.left d.player) };
+}
+
+impl<P: EventPlayer> Driver<P> {
+    /// Makes a drive on this player, before its first line.
+    pub fn new(alloc: Global, player: P, mask: Mask, buffer: LineBuffer) -> Driver<P>
+        requires { HasRoomFor P.playing most_turns player }
+        ensures { result ≡ begun player mask }
+    {
+        Driver {
+            alloc,
+            player,
+            buffer,
+            mask,
+            lines: 0,
+            errors: 0,
+            left: MOST_TURNS,
+        }
+    }
+
+    /// How many lines were answered.
+    pub fn lines(&self) -> u64
+        ensures { result ≡ self.now.lines }
+    {
+        self.lines
+    }
+
+    /// How many of them were answered by an error.
+    pub fn errors(&self) -> u64
+        ensures { result ≡ self.now.errors }
+    {
+        self.errors
+    }
+
+    /// Gives the player back.
+    pub fn into_player(self) -> P
+        ensures { result ≡ self.player }
+    {
+        let Driver {
+            alloc: _,
+            player,
+            buffer: _,
+            mask: _,
+            lines: _,
+            errors: _,
+            left: _,
+        } = self;
+        player
+    }
+
+    /// Answers a line by an error.
+    fn refuse<W: Write>(&mut self, sink: &mut Sink<W>, fault: TurnFault) -> Result<(), LineFault>
+        ensures answers { Answers (refusing fault) None self.old self.new sink.old sink.new result }
+        ensures full { result ≡ Err lines.Full → self.old.lines ≡ most_lines }
+    {
+        if self.lines == u64::MAX {
+            return Err(LineFault::Full);
+        }
+        let line = error_line(self.alloc, self.lines + 1, fault)?;
+        sink.put(line.as_bytes())?;
+        self.lines += 1;
+        self.errors += 1;
+        Ok(())
+    }
+
+    /// Plays what a line asks for that is there.
+    fn play<W: Write>(&mut self, sink: &mut Sink<W>, asked: Asked) -> Result<(), LineFault>
+        requires { missing_in (P.playing.ports self.old.player) (P.playing.units self.old.player) asked ≡ None }
+        ensures answers { Answers (playing_of P.playing asked) None self.old self.new sink.old sink.new result }
+        ensures full { result ≡ Err lines.Full
+            → (self.old.lines ≡ most_lines) ⊎ (self.old.left ≤ cost_of asked) }
+    {
+        let cost = cost_of(asked);
+        if self.lines == u64::MAX || self.left <= cost {
+            return Err(LineFault::Full);
+        }
+        match play_turn(&mut self.player, sink, &mut self.buffer, self.mask, asked) {
+            Ok(()) => {
+                self.left -= cost;
+                self.lines += 1;
+                Ok(())
+            }
+            Err(fault) => {
+                self.left = 0;
+                Err(line_fault(fault))
+            }
+        }
+    }
+
+    /// Answers what was read from a line.
+    fn answer<W: Write>(&mut self, sink: &mut Sink<W>, asked: Asked) -> Result<(), LineFault>
+        ensures answers { Answers (answering P.playing asked) None self.old self.new sink.old sink.new result }
+        ensures full { result ≡ Err lines.Full
+            → (self.old.lines ≡ most_lines) ⊎ (self.old.left ≤ cost_of asked) }
+    {
+        match missing_in(self.player.ports(), self.player.units(), asked) {
+            Some(fault) => self.refuse(sink, fault),
+            None => self.play(sink, asked),
+        }
+    }
+}
+
+/// Makes the error line of the line with this number.
+fn error_line(alloc: Global, line: u64, fault: TurnFault) -> Result<String, AllocError>
+    ensures { IfOk result (λ text. string_bytes text ≡ error_line line fault) }
+{
+    let word = fault.word();
+    Ok(format!(in alloc; "error {line} {word}\n")?)
+}
+
+/// Why a line was not answered, where a turn was not played.
+fn line_fault(fault: PlayFault) -> LineFault
+    ensures { result ≡ line_fault fault }
+{
+    match fault {
+        PlayFault::OutOfMemory => LineFault::OutOfMemory,
+        PlayFault::Write => LineFault::Write,
+    }
+}
+
+impl<P: EventPlayer> LineWork for Driver<P> {
+    ghost use Rattle.gp_drive.specs.Drive.{driving, never_over};
+
+    ghost speech = { driving P.playing };
+
+    ghost over = { never_over };
+
+    fn is_over(&self) -> bool {
+        false
+    }
+
+    fn line<W: Write>(&mut self, text: &[u8], sink: &mut Sink<W>) -> Result<(), LineFault> {
+        match parse_turn(text) {
+            Err(fault) => self.refuse(sink, TurnFault::NoTurn(fault)),
+            Ok(asked) => self.answer(sink, asked),
+        }
+    }
+
+    fn long_line<W: Write>(&mut self, sink: &mut Sink<W>) -> Result<(), LineFault> {
+        self.refuse(sink, TurnFault::NoTurn(Fault::Long))
+    }
+}

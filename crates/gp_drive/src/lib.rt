@@ -1,0 +1,17 @@
+//! A line terminal that one talks to: each line of an input asks for something, and is answered at once.
+//!
+//! - `driving.rt`: `run_drive`, from the bytes of a script and of an input of lines to the answers.
+//! - `driver.rt`: `Driver`, which answers one line after another on a player, as what serves lines.
+//! - `turn.rt`: plays what a line asks for.
+//! - `fault.rt`: why a line is answered by an error, and why a drive ends early.
+//!
+//! Where to make which change: which lines there are is `gp_lines`'; what is played of them stands in
+//! `specs/Turns.antt`, what is said to them in `specs/Drive.antt`, and how a drive may end in `specs/Outcome.antt`.
+#![tactic(auto)]
+
+mod driver;
+mod fault;
+mod turn;
+
+pub use driver::{Driver, MOST_TURNS};
+pub use fault::TurnFault;

@@ -1,0 +1,111 @@
+//! Plays what a line asks for.
+ghost use Rattle.std.specs.Prelude.{◌≡◌, ◌<◌, OnOk, None};
+ghost use Rattle.gp_replay.specs.Playing.{HasRoomFor, Keeps};
+ghost use Rattle.gp_replay.specs.Writing.{PlaysOn};
+ghost use Rattle.gp_lines.specs.Turn.{most_frames};
+ghost use Rattle.gp_drive.specs.Turns.{PlaysTurn, PlaysTurnPart, PlaysUntil, PlaysUntilPart, cost_of, event_of, missing_in};
+
+use crate::fault::TurnFault;
+use gp_lines::{Asked, MOST_FRAMES};
+use gp_machine::Event;
+use gp_ploam::Mask;
+use gp_ranging::Grant;
+use gp_replay::{EventPlayer, LineBuffer, PlayFault};
+use gp_script::ScriptEvent;
+use gp_stream::Sink;
+use std::io::Write;
+
+/// Gives an event of a port as a script has it.
+fn event_of(port: u8, event: Event) -> ScriptEvent
+    ensures { result ≡ event_of port event }
+{
+    match event {
+        Event::Frame => ScriptEvent::Frames { port, count: 1 },
+        Event::Burst { at, bytes } => ScriptEvent::Burst { port, at, bytes },
+        Event::Command(command) => ScriptEvent::Command { port, command },
+    }
+}
+
+/// Tells what a line asks for that is not there, among so many ports and units.
+pub(crate) fn missing_in(ports: usize, units: usize, asked: Asked) -> Option<TurnFault>
+    ensures { result ≡ missing_in ports units asked }
+{
+    match asked {
+        Asked::Nothing => None,
+        Asked::Event { port, .. } | Asked::Frames { port, .. } | Asked::Until { port, .. } => {
+            if usize::from(port) < ports {
+                None
+            } else {
+                Some(TurnFault::NoPort)
+            }
+        }
+        Asked::Light { unit, .. } => {
+            if usize::from(unit) < units {
+                None
+            } else {
+                Some(TurnFault::NoUnit)
+            }
+        }
+    }
+}
+
+/// How many frames a line asks for at most, or that it asks for one other thing.
+pub(crate) fn cost_of(asked: Asked) -> u64
+    ensures { result ≡ cost_of asked }
+{
+    match asked {
+        Asked::Nothing => 0,
+        Asked::Event { .. } | Asked::Light { .. } => 1,
+        Asked::Frames { port: _, count } => u64::from(count),
+        Asked::Until { .. } => u64::from(MOST_FRAMES),
+    }
+}
+
+/// Plays frames of a port up to the first one that makes this grant, at most `MOST_FRAMES`.
+fn play_until<P: EventPlayer, W: Write>(
+    player: &mut P,
+    sink: &mut Sink<W>,
+    buffer: &mut LineBuffer,
+    mask: Mask,
+    port: u8,
+    grant: Grant,
+) -> Result<(), PlayFault>
+    requires named { port < P.playing.ports player.old }
+    requires room { HasRoomFor P.playing most_frames player.old }
+    ensures plays { PlaysOn mask (PlaysUntil P.playing port grant most_frames)
+        (PlaysUntilPart P.playing port grant most_frames) player.old player.new sink.old sink.new result }
+    ensures keeps { OnOk result (Keeps P.playing most_frames player.old player.new) }
+{
+    for _ in 0..MOST_FRAMES {
+        if player.play_frame(sink, buffer, mask, port, grant)? {
+            return Ok(());
+        }
+    }
+    Ok(())
+}
+
+/// Plays what a line asks for, and writes its lines.
+pub(crate) fn play_turn<P: EventPlayer, W: Write>(
+    player: &mut P,
+    sink: &mut Sink<W>,
+    buffer: &mut LineBuffer,
+    mask: Mask,
+    asked: Asked,
+) -> Result<(), PlayFault>
+    requires there { missing_in (P.playing.ports player.old) (P.playing.units player.old) asked ≡ None }
+    requires room { HasRoomFor P.playing (cost_of asked) player.old }
+    ensures plays { PlaysOn mask (PlaysTurn P.playing asked) (PlaysTurnPart P.playing asked)
+        player.old player.new sink.old sink.new result }
+    ensures keeps { OnOk result (Keeps P.playing (cost_of asked) player.old player.new) }
+{
+    let event = match asked {
+        Asked::Nothing => return Ok(()),
+        Asked::Until { port, grant } => {
+            return play_until(player, sink, buffer, mask, port, grant);
+        }
+        Asked::Event { port, event } => event_of(port, event),
+        Asked::Frames { port, count } => ScriptEvent::Frames { port, count },
+        Asked::Light { unit, lit } => ScriptEvent::Light { unit, lit },
+    };
+    player.play_event(sink, buffer, mask, &event)
+}
