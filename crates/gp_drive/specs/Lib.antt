@@ -1,2 +1,3 @@
 pub mod Turns
 pub mod Drive
+pub mod Outcome

@@ -2,6 +2,7 @@
 //!
 //! - `driving.rt`: `run_drive`, from the bytes of a script and of an input of lines to the answers.
 //! - `driver.rt`: `Driver`, which answers one line after another on a player, as what serves lines.
+//!   `driven.rt`: how many lines there were.
 //! - `turn.rt`: plays what a line asks for.
 //! - `fault.rt`: why a line is answered by an error, and why a drive ends early.
 //!
@@ -9,9 +10,13 @@
 //! `specs/Turns.antt`, what is said to them in `specs/Drive.antt`, and how a drive may end in `specs/Outcome.antt`.
 #![tactic(auto)]
 
+mod driven;
 mod driver;
+mod driving;
 mod fault;
 mod turn;
 
+pub use driven::Driven;
 pub use driver::{Driver, MOST_TURNS};
-pub use fault::TurnFault;
+pub use driving::run_drive;
+pub use fault::{DriveFault, TurnFault};

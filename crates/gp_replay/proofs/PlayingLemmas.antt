@@ -366,7 +366,7 @@ fibre_plays mask losses es a b x y r same p =
     (λ rs end h. (end.play, subst (λ (l : LossesView). Numbered (WorldTakesPrefix l es) a.play rs end.play) same (fibre_some es a end rs h).happened)) p
 
 -- on a fibre that has just begun no frame was made and no entry has a number
-pub opening_fibre_room : (count : ℕ) (script : ScriptView) (config : PortConfig) (play : FibrePlay) → length script.units ≤ 1024 → count ≤ 2 ^ 52
+pub opening_fibre_room : (count : ℕ) (script : ScriptView) (config : PortConfig) (play : FibrePlay) → length script.units ≤ 1024 → count ≤ 2 ^ 52 + 2 ^ 51
     → play.world ≡ opening_fibre script config → play.next ≡ 0 → HasFibreRoom count play
 opening_fibre_room count script config play few within world next =
     let frames : play.world.frames ≡ 0 = ap (λ (w : WorldState). w.frames) world in

@@ -1,4 +1,4 @@
-use Rattle.std.proofs.Common.{◌≡◌, ◌∙◌, ◌∷◌, [], ◌≤◌, ◌*◌, ◌^◌, ap, arith, length, IsTrue, rules}
+use Rattle.std.proofs.Common.{◌≡◌, ◌∙◌, ◌∷◌, [], ◌≤◌, ◌+◌, ◌*◌, ◌^◌, ap, arith, length, IsTrue, rules}
 use Rattle.gp_fibre.specs.Schedule.{WorldState}
 use Rattle.gp_machine.specs.declared.config.PortConfig.{PortConfig}
 use Rattle.gp_machine.specs.Config.{is_within_limits}
@@ -25,7 +25,7 @@ pub play_events-outcome-requires-clause-room : goal.play_events-outcome-requires
 play_events-outcome-requires-clause-room g c =
     let few : length c.args.script.events.items ≤ 1048576 = c.requires.playable.few_events in
     let many = length c.args.script.events.items * 2 ^ 32 in
-    let within : many ≤ 2 ^ 52 = omega (arith, few) in
+    let within : many ≤ 2 ^ 52 + 2 ^ 51 = omega (arith, few) in
     rw c.as_slice-2.ensures.value (many, omega arith, opening_fibre_room many (script_view c.args.script) c.index.result.now c.in_ok-player.player.play
     c.requires.playable.few_units within (rw c.as_slice.ensures.value at c.in_ok-player.ensures.world) c.in_ok-player.ensures.next)
 

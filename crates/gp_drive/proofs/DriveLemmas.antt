@@ -1,0 +1,189 @@
+-- A drive, from the script's events and the lines behind them.
+use Rattle.std.proofs.Common.{◌≡◌, ◌||◌, ℕ, ◌+◌, ◌*◌, ◌^◌, ◌<◌, ◌≤◌, Bool, true, false, List, [], ◌∷◌, ◌++◌, Result, Ok, Err, IsErrAnd, length, take, map, refl, sym, ap, subst, ◌∙◌, arith, append_assoc}
+use Rattle.std.specs.Io.KnownBytes.{Appends}
+use Rattle.std.proofs.KnownBytes.{Appends-trans}
+use Rattle.std.proofs.Math.Seq.{take-append-add}
+use Rattle.gp_ploam.specs.declared.check.Mask.{Mask}
+use Rattle.gp_stream.specs.Sink.{SinkState, Takes}
+use Rattle.gp_stream.specs.Source.{ReadsAll, SourceState}
+use Rattle.gp_script.specs.declared.script.ScriptEvent.{ScriptEvent}
+use Rattle.gp_trace.specs.Text.{trace_text}
+use Rattle.gp_flow.specs.declared.fault.LineFault.{LineFault}
+use Rattle.gp_flow.specs.declared.fault.LinesFault.{LinesFault}
+use Rattle.gp_flow.specs.declared.fault.LinesFault.TheVariants as lines
+use Rattle.gp_flow.specs.declared.lines.LinesEnd.{LinesEnd}
+use Rattle.gp_flow.specs.declared.lines.LinesEnd.TheVariants as ends
+use Rattle.gp_flow.specs.Lines.{Serves, ServesTo}
+use Rattle.gp_script.specs.declared.fault.ScriptError.{ScriptError}
+use Rattle.gp_script.specs.declared.fault.ScriptError.TheVariants as errors
+use Rattle.gp_script.specs.declared.fault.ScriptFault.{ScriptFault}
+use Rattle.gp_script.specs.Script.{ScriptView, script_of}
+use Rattle.gp_stream.specs.declared.reading.SourceFault.{SourceFault}
+use Rattle.gp_stream.specs.declared.reading.SourceFault.TheVariants as sources
+use Rattle.gp_replay.specs.declared.fault.RunFault.{RunFault}
+use Rattle.gp_replay.specs.Outcome.{ReadsBy}
+use Rattle.gp_machine.specs.declared.config.PortConfig.{PortConfig}
+use Rattle.gp_replay.specs.declared.fault.PlayFault.{PlayFault}
+use Rattle.gp_replay.specs.declared.fault.PlayFault.TheVariants as faults
+use Rattle.gp_replay.specs.Chassis.{opened_play}
+use Rattle.gp_replay.specs.Fault.{fault_of_play, fault_of_script, fault_of_source}
+use Rattle.gp_replay.specs.Playing.{HasRoomFor, Keeps, LossyPlay, Playing, PlaysAll, chassis_playing, fibre_playing}
+use Rattle.gp_replay.specs.WorldPlay.{opening_fibre}
+use Rattle.gp_replay.specs.Writing.{EndsPlay, Happening, LeavesScript, PlaysOn, PlaysScript, Writes}
+use Rattle.gp_replay.proofs.PlayingLemmas.{opening_fibre_room}
+use Rattle.gp_replay.proofs.RoomLemmas.{opening_room}
+use Rattle.gp_replay.proofs.ScriptPlayLemmas.{StandsFor, play_ends}
+use Rattle.gp_drive.specs.declared.fault.DriveFault.{DriveFault}
+use Rattle.gp_drive.specs.declared.fault.DriveFault.TheVariants as drives
+use Rattle.gp_drive.specs.declared.driven.Driven.{Driven}
+use Rattle.gp_drive.specs.Drive.{DriveState, begun, driving, most_turns, never_over}
+use Rattle.gp_drive.specs.Outcome.{Drives, DrivesInput, DrivesScript, DrivesTo, IsNoScript, ServesTurns, longest_line, told}
+use Rattle.gp_drive.specs.Outcome.DrivesInput.{NotRead}
+
+-- ---- the lines
+
+not_over : {P : Type 0} → false ≡ true → P
+not_over e = absurd (cc)
+
+pub turns_served : {S T W : Type 0} (playing : Playing S) (player : S) (mask : Mask) (end : LinesEnd) (first last : DriveState S) (driven : Driven)
+    (from to : SourceState T) (before after : SinkState W) → first ≡ begun player mask → driven ≡ record { lines = last.lines; errors = last.errors }
+    → ServesTo (driving playing) never_over longest_line end from to first last before after → ServesTurns playing player mask (Ok driven) from to before after
+turns_served playing player mask ends.Whole first last driven from to before after is counted s =
+    (true, last, counted, subst (λ d. ServesTo (driving playing) never_over longest_line ends.Whole from to d last before after) is s)
+turns_served playing player mask ends.Open first last driven from to before after is counted s =
+    (false, last, counted, subst (λ d. ServesTo (driving playing) never_over longest_line ends.Open from to d last before after) is s)
+turns_served playing player mask ends.Over first last driven from to before after is counted s = not_over s.1
+
+pub turns_unserved : {S T W : Type 0} (playing : Playing S) (player : S) (mask : Mask) (fault : LinesFault) (first last : DriveState S)
+    (from to : SourceState T) (before after : SinkState W) → first ≡ begun player mask
+    → Serves (driving playing) never_over longest_line from to first last before after (Err fault) → ServesTurns playing player mask (Err fault) from to before after
+turns_unserved playing player mask lines.Read first last from to before after is s =
+    let t = subst (λ d. Serves (driving playing) never_over longest_line from to d last before after (Err lines.Read)) is s in
+    ((last, t.read refl), t.failed refl)
+turns_unserved playing player mask (lines.Line fault) first last from to before after is s =
+    let t = subst (λ d. Serves (driving playing) never_over longest_line from to d last before after (Err (lines.Line fault))) is s in
+    t.fault fault refl
+
+-- ---- the events, and then the lines
+
+joined : {W : Type 0} (x y z : SinkState W) (text said : List ℕ) → Takes x y text → Appends y.held z.held (y.gathered ++ said) → Appends x.held z.held (x.gathered ++ text ++ said)
+joined x y z text said t a =
+    let all : x.gathered ++ text ++ said ≡ t.written ++ (y.gathered ++ said) =
+    ap (λ (l : List ℕ). l ++ said) t.rest ∙ append_assoc t.written y.gathered said in
+    subst (Appends x.held z.held) (sym all) (Appends-trans x.held y.held z.held t.written (y.gathered ++ said) t.appended a)
+
+joined_prefix : {W : Type 0} (x y z : SinkState W) (text said : List ℕ) → Takes x y text → ((count : ℕ) × Appends y.held z.held (take count (y.gathered ++ said)))
+    → (count : ℕ) × Appends x.held z.held (take count (x.gathered ++ text ++ said))
+joined_prefix x y z text said t a =
+    let all : x.gathered ++ text ++ said ≡ t.written ++ (y.gathered ++ said) =
+    ap (λ (l : List ℕ). l ++ said) t.rest ∙ append_assoc t.written y.gathered said in
+    let prefix : take (length t.written + a.0) (x.gathered ++ text ++ said) ≡ t.written ++ take a.0 (y.gathered ++ said) =
+    ap (take (length t.written + a.0)) all ∙ take-append-add t.written (y.gathered ++ said) a.0 in
+    (length t.written + a.0, subst (Appends x.held z.held) (sym prefix) (Appends-trans x.held y.held z.held t.written (take a.0 (y.gathered ++ said)) t.appended a.1))
+
+pub drives_to : {S T W : Type 0} (playing : Playing S) (start mid : S) (mask : Mask) (events : List ScriptEvent) (answer : Result Driven LinesFault)
+    (from to : SourceState T) (x y z : SinkState W) → Writes mask (PlaysAll playing events) start mid x y → ServesTurns playing mid mask answer from to y z
+    → DrivesTo playing start mask events answer from to x z
+drives_to playing start mid mask events (Ok driven) from to x y z w s =
+    let all = s.3 in
+    record {
+      receipts = w.receipts;
+      mid = mid;
+      opened = w.happened;
+      bytes = all.bytes;
+      read = all.read;
+      said = all.said;
+      end = s.1;
+      spoken = all.spoken;
+      counted = s.2;
+      written = joined x y z (trace_text mask w.receipts) all.said w.lines all.written;
+      kept = all.kept;
+    }
+drives_to playing start mid mask events (Err lines.Read) from to x y z w s =
+    let ended = s.0.1 in (
+      record {
+        receipts = w.receipts;
+        mid = mid;
+        opened = w.happened;
+        bytes = ended.bytes;
+        read = ended.read;
+        said = ended.said;
+        end = s.0.0;
+        spoken = ended.spoken;
+        written = joined x y z (trace_text mask w.receipts) ended.said w.lines ended.written;
+        kept = ended.kept;
+      },
+      s.1,
+    )
+drives_to playing start mid mask events (Err (lines.Line fault)) from to x y z w s = record {
+  receipts = w.receipts;
+  mid = mid;
+  opened = w.happened;
+  bytes = s.bytes;
+  read = s.read;
+  first = s.begun;
+  others = s.others;
+  all = s.all;
+  said = s.said;
+  spoken = s.spoken;
+  written = joined_prefix x y z (trace_text mask w.receipts) s.said w.lines s.written;
+}
+
+-- ---- room
+
+-- behind a script's events there is room for all that lines may ask for
+pub room_behind : {S : Type 0} (playing : Playing S) (count : ℕ) (a b : S) → Keeps playing count a b → HasRoomFor playing (count + most_turns) a → HasRoomFor playing most_turns b
+room_behind playing count a b k r = k.room most_turns r
+
+pub chassis_room_for : (ports : List PortConfig) (licences count : ℕ) → count ≤ 2 ^ 52 → HasRoomFor chassis_playing (count + most_turns) (opened_play ports licences)
+chassis_room_for ports licences count few = (count + most_turns, omega arith, opening_room (count + most_turns) ports licences (omega (arith, few)))
+
+pub fibre_room_for : (script : ScriptView) (config : PortConfig) (start : LossyPlay) (count : ℕ) → count ≤ 2 ^ 52 → length script.units ≤ 1024
+    → start.play.world ≡ opening_fibre script config → start.play.next ≡ 0 → HasRoomFor fibre_playing (count + most_turns) start
+fibre_room_for script config start count within few world next =
+    (count + most_turns, omega arith, opening_fibre_room (count + most_turns) script config start.play few (omega (arith, within)) world next)
+
+-- there is room for fewer, too
+pub room_for_less : {S : Type 0} (playing : Playing S) (few more : ℕ) (a : S) → HasRoomFor playing (few + more) a → HasRoomFor playing few a
+room_for_less playing few more a r = (r.0, omega (arith, r.1), r.2)
+
+-- ---- a script whose events were not played to their end
+
+unplayed_as : {W T : Type 0} (script : ScriptView) (from : SourceState T) (x z : SinkState W) (fault : PlayFault) (answer : Result (Unit {0}) PlayFault)
+    → answer ≡ Err fault → PlaysScript script x z answer → LeavesScript fault script x z
+unplayed_as script from x z fault answer is p =
+    let q = subst (λ (a : Result (Unit {0}) PlayFault). PlaysScript script x z a) is p in q.fault
+
+pub events_unplayed : {S W U : Type 0} (script : ScriptView) (T P : Happening S) (start b : S) (from : SourceState U) (x y z : SinkState W) (fault : PlayFault)
+    (answer : Result (Unit {0}) PlayFault) → StandsFor script start T P → PlaysOn {T = Unit {0}} script.mask T P start b x y (Err fault) → EndsPlay y z (Err fault) answer
+    → DrivesScript (Err (drives.Script (fault_of_play fault))) from from x z script
+events_unplayed script T P start b from x y z faults.OutOfMemory answer stands p e =
+    (refl, unplayed_as script from x z faults.OutOfMemory answer e.0 (play_ends script T P start b x y z (Err faults.OutOfMemory) answer stands p e))
+events_unplayed script T P start b from x y z faults.Write answer stands p e =
+    (refl, unplayed_as script from x z faults.Write answer e.0 (play_ends script T P start b x y z (Err faults.Write) answer stands p e))
+
+pub told_unplayed : {W U : Type 0} (script : ScriptView) (from : SourceState U) (x z : SinkState W) (fault : PlayFault) (result : DriveFault)
+    → result ≡ drives.Script (fault_of_play fault) → DrivesScript (Err (drives.Script (fault_of_play fault))) from from x z script → DrivesScript (Err result) from from x z script
+told_unplayed script from x z fault result is d = subst (λ (f : DriveFault). DrivesScript (Err f) from from x z script) (sym is) d
+
+pub drives_told : {W U : Type 0} (script : ScriptView) (answer : Result Driven LinesFault) (from to : SourceState U) (x z : SinkState W)
+    → Drives script answer from to x z → DrivesScript (told answer) from to x z script
+drives_told script (Ok driven) from to x z d = d
+drives_told script (Err fault) from to x z d = d
+
+-- ---- a script that was not read
+
+pub not_read : {R U W : Type 0} (answer : Result Driven DriveFault) (fault : RunFault) (before after : SourceState R) (from : SourceState U) (x : SinkState W)
+    → IsErrAnd answer (λ told. told ≡ drives.Script fault) → IsNoScript before after fault → DrivesInput answer before after from from x x
+not_read (Ok driven) fault before after from x same no_script = absurd same
+not_read (Err told) fault before after from x same no_script = NotRead fault (ap Err same) no_script refl refl
+
+pub source_unread : {R : Type 0} (before after : SourceState R) (fault : SourceFault) → ReadsAll before after (Err fault) → IsNoScript before after (fault_of_source fault)
+source_unread before after sources.Read q = q.read refl
+source_unread before after sources.TooLong q = q.too_long refl
+source_unread before after sources.OutOfMemory q = tt
+
+pub unsaid : {R : Type 0} (before after : SourceState R) (error : ScriptError) → ((fault : ScriptFault) → error ≡ errors.Fault fault → ReadsBy script_of before after (Err fault))
+    → IsNoScript before after (fault_of_script error)
+unsaid before after errors.OutOfMemory reads = tt
+unsaid before after (errors.Fault fault) reads = reads fault refl

@@ -1,0 +1,41 @@
+use Rattle.std.proofs.Common.{arith, ◌*◌, ◌^◌, ◌≤◌, length}
+use Rattle.gp_script.specs.View.{script_view}
+use Rattle.gp_replay.specs.Chassis.{opened_play}
+use Rattle.gp_replay.specs.Playing.{chassis_playing}
+use Rattle.gp_replay.proofs.PlayingLemmas.{chassis_plays}
+use Rattle.gp_replay.proofs.ScriptPlayLemmas.{chassis_stands}
+use Rattle.gp_drive.specs.Drive.{most_turns}
+use Rattle.gp_drive.specs.Outcome.Drives.{OnChassis}
+use Rattle.gp_drive.proofs.DriveLemmas.{chassis_room_for, drives_to, drives_told, events_unplayed, room_behind, room_for_less, told_unplayed}
+use Rattle.gp_drive.proofs.driving.drive_chassis.Goals as goal
+
+pub play_events-requires-clause-room : goal.play_events-requires-clause-room
+play_events-requires-clause-room g c =
+    let few : length c.args.script.events.items ≤ 1048576 = c.requires.playable.few_events in
+    let many = length c.args.script.events.items * 2 ^ 32 in
+    let within : many ≤ 2 ^ 52 = omega (arith, few) in
+    rw (c.in_ok-player.ensures, c.as_slice.ensures.value)
+    (room_for_less chassis_playing many most_turns (opened_play c.args.script.ports.items c.args.script.licences) (chassis_room_for c.args.script.ports.items c.args.script.licences many within))
+
+pub returns-in-Err : goal.returns-in-Err
+returns-in-Err g c =
+    let script = script_view c.args.script in
+    let played = rw (c.in_ok-player.ensures, c.as_slice.ensures.value) at c.in-Err.ensures.plays in
+    told_unplayed script _ _ _ c.in-Err.fault _ c.from.ensures
+    (events_unplayed script _ _ _ _ _ _ _ _ c.in-Err.fault _ (chassis_stands c.each_port_runs.ensures script c.requires.no_units)
+    (chassis_plays script.mask script.events _ _ _ _ _ played) c.end_play.ensures)
+
+pub drive_lines-player-requires-clause-room : goal.drive_lines-player-requires-clause-room
+drive_lines-player-requires-clause-room g c =
+    let few : length c.args.script.events.items ≤ 1048576 = c.requires.playable.few_events in
+    let many = length c.args.script.events.items * 2 ^ 32 in
+    let within : many ≤ 2 ^ 52 = omega (arith, few) in
+    let kept = rw (c.in_ok-player.ensures, c.as_slice.ensures.value) at c.in_default.ensures.keeps in
+    room_behind chassis_playing many _ _ kept (chassis_room_for c.args.script.ports.items c.args.script.licences many within)
+
+pub returns : goal.returns
+returns g c =
+    let script = script_view c.args.script in
+    let written = rw (c.in_ok-player.ensures, c.as_slice.ensures.value) at c.in_default.ensures.plays.ok in
+    rw c.told.ensures
+    (drives_told script _ _ _ _ _ (OnChassis c.requires.no_units (drives_to chassis_playing _ _ script.mask script.events _ _ _ _ _ _ written c.drive_lines-player.ensures)))

@@ -1,0 +1,154 @@
+-- How a drive may end (this profile's own rule).
+use Rattle.std.specs.Prelude.{◌≡◌, ◌<◌, ◌⊎◌, Bool, true, ℕ, List, [], ◌∷◌, ◌++◌, Option, Result, Ok, Err, length, map, take}
+use Rattle.std.specs.Io.KnownBytes.{Appends, Consumes}
+use Rattle.gp_ploam.specs.declared.check.Mask.{Mask}
+use Rattle.gp_machine.specs.declared.config.PortConfig.{PortConfig}
+use Rattle.gp_machine.specs.declared.entry.Receipt.{Receipt}
+use Rattle.gp_stream.specs.Sink.{SinkState, KeepsNothing}
+use Rattle.gp_stream.specs.Source.{SourceState, ReadsTooMuch, ReadsWhole, max_bytes}
+use Rattle.gp_script.specs.declared.script.ScriptEvent.{ScriptEvent}
+use Rattle.gp_script.specs.Script.{ScriptView, script_of}
+use Rattle.gp_trace.specs.Text.{trace_text}
+use Rattle.gp_flow.specs.declared.fault.LinesFault.{LinesFault}
+use Rattle.gp_flow.specs.declared.fault.LinesFault.TheVariants as lines
+use Rattle.gp_flow.specs.Lines.{DoesAll, DoesSome, ServesAll, ServesEnded, ServesSome, ended_lines, handed, lines_of}
+use Rattle.gp_replay.specs.declared.fault.PlayFault.TheVariants as plays
+use Rattle.gp_replay.specs.declared.fault.RunFault.{RunFault}
+use Rattle.gp_replay.specs.declared.fault.RunFault.TheVariants as runs
+use Rattle.gp_replay.specs.Chassis.{opening_play}
+use Rattle.gp_replay.specs.Outcome.{OfScript, ReadsBy}
+use Rattle.gp_replay.specs.Playing.{LossyPlay, Playing, PlaysAll, chassis_playing, fibre_playing}
+use Rattle.gp_replay.specs.WorldPlay.{opening_fibre}
+use Rattle.gp_replay.specs.Writing.{LeavesScript}
+use Rattle.gp_drive.specs.declared.fault.DriveFault.{DriveFault}
+use Rattle.gp_drive.specs.declared.fault.DriveFault.TheVariants as drives
+use Rattle.gp_drive.specs.declared.driven.Driven.{Driven}
+use Rattle.gp_drive.specs.Drive.{DriveState, begun, driving}
+
+-- the most octets of a line that is looked at
+abbrev pub longest_line : ℕ
+longest_line = 4096
+
+-- the events were played; then the whole input was read, and each of its lines was answered
+pub record DrivesAll {S T W : Type 0} (playing : Playing S) (start : S) (mask : Mask) (events : List ScriptEvent)
+    (driven : Driven) (from to : SourceState T) (before after : SinkState W) : Type 0 where
+  -- the entries of the events
+  pub receipts : List Receipt
+  pub mid : S
+  pub opened : PlaysAll playing events start receipts mid
+  -- the input
+  pub bytes : List ℕ
+  pub read : ReadsWhole from to bytes
+  -- what is said to its lines
+  pub said : List ℕ
+  pub end : DriveState S
+  pub spoken : DoesAll (driving playing) (begun mid mask) (map (handed longest_line) (lines_of bytes)) said end
+  pub counted : driven ≡ record { lines = end.lines; errors = end.errors }
+  -- the writer got all of it, and keeps nothing back
+  pub written : Appends before.held after.held (before.gathered ++ trace_text mask receipts ++ said)
+  pub kept : KeepsNothing after
+
+-- the events were played; then a read failed, and each line was answered that a line feed ended before
+pub record DrivesEnded {S T W : Type 0} (playing : Playing S) (start : S) (mask : Mask) (events : List ScriptEvent)
+    (from to : SourceState T) (before after : SinkState W) : Type 0 where
+  pub receipts : List Receipt
+  pub mid : S
+  pub opened : PlaysAll playing events start receipts mid
+  pub bytes : List ℕ
+  pub read : Consumes from.remaining to.remaining bytes
+  pub said : List ℕ
+  pub end : DriveState S
+  pub spoken : DoesAll (driving playing) (begun mid mask) (map (handed longest_line) (ended_lines bytes)) said end
+  -- the writer got all of it, and keeps nothing back
+  pub written : Appends before.held after.held (before.gathered ++ trace_text mask receipts ++ said)
+  pub kept : KeepsNothing after
+
+-- the events were played; then the first of the lines that came were answered, the last of these maybe in part
+pub record DrivesSome {S T W : Type 0} (playing : Playing S) (start : S) (mask : Mask) (events : List ScriptEvent)
+    (from to : SourceState T) (before after : SinkState W) : Type 0 where
+  pub receipts : List Receipt
+  pub mid : S
+  pub opened : PlaysAll playing events start receipts mid
+  pub bytes : List ℕ
+  pub read : Consumes from.remaining to.remaining bytes
+  -- the lines that were begun, and the others
+  pub first : List (Option (List ℕ))
+  pub others : List (Option (List ℕ))
+  pub all : first ++ others ≡ map (handed longest_line) (lines_of bytes)
+  pub said : List ℕ
+  pub spoken : DoesSome (driving playing) (begun mid mask) first said
+  -- the writer got a prefix of it, and nothing else
+  pub written : (count : ℕ) × Appends before.held after.held (take count (before.gathered ++ trace_text mask receipts ++ said))
+
+-- the lines of an input were answered on a player, by the answer
+abbrev pub ServesTurns : {S T W : Type 0} → Playing S → S → Mask → Result Driven LinesFault
+    → SourceState T → SourceState T → SinkState W → SinkState W → Type 0
+ServesTurns playing player mask (Ok driven) from to before after =
+    (whole : Bool) × (end : DriveState _) × (driven ≡ record { lines = end.lines; errors = end.errors })
+    × ServesAll (driving playing) longest_line whole from to (begun player mask) end before after
+ServesTurns playing player mask (Err lines.Read) from to before after =
+    ((end : DriveState _) × ServesEnded (driving playing) longest_line from to (begun player mask) end before after)
+    × ((to.failed ≡ true) ⊎ (to.left ≡ 0))
+ServesTurns playing player mask (Err (lines.Line fault)) from to before after =
+    ServesSome (driving playing) longest_line from to (begun player mask) before after
+
+-- how the lines ended, by the answer
+abbrev pub DrivesTo : {S T W : Type 0} → Playing S → S → Mask → List ScriptEvent → Result Driven LinesFault
+    → SourceState T → SourceState T → SinkState W → SinkState W → Type 0
+DrivesTo playing start mask events (Ok driven) from to before after =
+    DrivesAll playing start mask events driven from to before after
+DrivesTo playing start mask events (Err lines.Read) from to before after =
+    DrivesEnded playing start mask events from to before after
+    × ((to.failed ≡ true) ⊎ (to.left ≡ 0))
+DrivesTo playing start mask events (Err (lines.Line fault)) from to before after =
+    DrivesSome playing start mask events from to before after
+
+-- the fibre that a script opens
+pub record OpensFibre (script : ScriptView) (start : LossyPlay) : Type 0 where
+  pub config : PortConfig
+  pub one_port : script.ports ≡ config ∷ []
+  pub world : start.play.world ≡ opening_fibre script config
+  pub next : start.play.next ≡ 0
+  pub losses : start.losses ≡ script.losses
+
+-- the lines were driven on what the script opens: a chassis, or, where it has simulated units, a fibre
+pub data Drives {T W : Type 0} (script : ScriptView) (answer : Result Driven LinesFault) (from to : SourceState T)
+    (before after : SinkState W) : Type 0 where
+  OnChassis : script.units ≡ []
+      → DrivesTo chassis_playing (opening_play script) script.mask script.events answer from to before after
+      → Drives script answer from to before after
+  OnFibre : 0 < length script.units → (start : LossyPlay) → OpensFibre script start
+      → DrivesTo fibre_playing start script.mask script.events answer from to before after
+      → Drives script answer from to before after
+
+-- the answer of a drive, by that of its lines
+abbrev pub told : Result Driven LinesFault → Result Driven DriveFault
+told (Ok driven) = Ok driven
+told (Err fault) = Err (drives.Turns fault)
+
+-- how a drive of a script ends, by its answer: where its events were not played to their end, no line was read
+abbrev pub DrivesScript : {T W : Type 0} → Result Driven DriveFault → SourceState T → SourceState T → SinkState W
+    → SinkState W → ScriptView → Type 0
+DrivesScript (Ok driven) from to before after script = Drives script (Ok driven) from to before after
+DrivesScript (Err (drives.Turns fault)) from to before after script = Drives script (Err fault) from to before after
+DrivesScript (Err (drives.Script runs.OutOfMemory)) from to before after script =
+    (to ≡ from) × LeavesScript plays.OutOfMemory script before after
+DrivesScript (Err (drives.Script runs.Write)) from to before after script =
+    (to ≡ from) × LeavesScript plays.Write script before after
+DrivesScript (Err (drives.Script _)) from to before after script = ⊥
+
+-- why a script was not read
+abbrev pub IsNoScript : {R : Type 0} → SourceState R → SourceState R → RunFault → Type 0
+IsNoScript before after runs.Read = (after.failed ≡ true) ⊎ (after.left ≡ 0)
+IsNoScript before after runs.TooLong = ReadsTooMuch max_bytes before after
+IsNoScript before after (runs.Script fault) = ReadsBy script_of before after (Err fault)
+IsNoScript before after runs.OutOfMemory = Unit {0}
+IsNoScript before after _ = ⊥
+
+-- how a drive ends: the script was read, and driven; or it was not read, and of the lines nothing
+pub data DrivesInput {R T W : Type 0} (answer : Result Driven DriveFault) (script_from script_to : SourceState R)
+    (from to : SourceState T) (before after : SinkState W) : Type 0 where
+  Read : OfScript script_of script_from script_to (DrivesScript answer from to before after)
+      → DrivesInput answer script_from script_to from to before after
+  NotRead : (fault : RunFault) → answer ≡ Err (drives.Script fault) → IsNoScript script_from script_to fault
+      → to ≡ from → after ≡ before → DrivesInput answer script_from script_to from to before after

@@ -1,0 +1,185 @@
+//! From a script and an input of lines to the answers.
+ghost use Rattle.std.specs.Prelude.{◌≡◌, ◌<◌, ◌+◌, ◌*◌, ◌^◌, [], length, true};
+ghost use Rattle.gp_replay.specs.Playing.{HasRoomFor, PlaysAll};
+ghost use Rattle.gp_script.specs.Playable.{IsPlayable};
+ghost use Rattle.gp_script.specs.View.{script_view};
+ghost use Rattle.gp_drive.specs.Drive.{begun, driving, most_turns, never_over};
+ghost use Rattle.gp_drive.specs.Outcome.{DrivesInput, DrivesScript, ServesTurns, told};
+
+use crate::driven::Driven;
+use crate::driver::Driver;
+use crate::fault::DriveFault;
+use gp_chassis::ChassisConfig;
+use gp_fibre::LossPlan;
+use gp_flow::{LinesFault, run_lines};
+use gp_licence::MAX_LICENCES;
+use gp_ploam::Mask;
+use gp_replay::{
+    EventPlayer, FibrePlayer, LineBuffer, MAX_KEPT, Player, each_port_runs, end_play, play_events,
+};
+use gp_script::{Script, ScriptLosses};
+use gp_stream::{Sink, Source};
+use std::alloc::Global;
+use std::io::{Read, Write};
+use std::marker::Brand;
+use std::sync::ledger::{Blank, Ledger};
+
+/// Answers the lines of an input on a player, which is given back with how many there were.
+fn drive_lines<P: EventPlayer, T: Read, W: Write>(
+    alloc: Global,
+    player: P,
+    buffer: LineBuffer,
+    mask: Mask,
+    turns: &mut Source<T>,
+    sink: &mut Sink<W>,
+) -> (P, Result<Driven, LinesFault>)
+    requires room { HasRoomFor P.playing most_turns player }
+    requires flushed { sink.old.flushed ≡ true }
+    ensures { ServesTurns P.playing player mask result.1 turns.old turns.new sink.old sink.new }
+{
+    let mut driver = Driver::new(alloc, player, mask, buffer);
+    let served = run_lines(alloc, turns, sink, &mut driver);
+    let driven = Driven {
+        lines: driver.lines(),
+        errors: driver.errors(),
+    };
+    let player = driver.into_player();
+    match served {
+        Ok(_) => (player, Ok(driven)),
+        Err(fault) => (player, Err(fault)),
+    }
+}
+
+/// Tells how many lines were answered, or why not all were.
+fn told(driven: Result<Driven, LinesFault>) -> Result<Driven, DriveFault>
+    ensures { result ≡ told driven }
+{
+    match driven {
+        Ok(driven) => Ok(driven),
+        Err(fault) => Err(DriveFault::Turns(fault)),
+    }
+}
+
+/// Drives a script without simulated units on a chassis of its own, whose ledger is the blank.
+fn drive_chassis<L: Ledger, T: Read, W: Write>(
+    alloc: Global,
+    blank: Blank,
+    script: Script,
+    turns: &mut Source<T>,
+    sink: &mut Sink<W>,
+) -> Result<Driven, DriveFault>
+    requires name { blank.name ≡ L.name }
+    requires parts { (blank.parts ≡ L.parts) × (L.parts ≡ MAX_LICENCES) }
+    requires playable { IsPlayable (script_view script) }
+    requires no_units { script.units.items ≡ [] }
+    requires flushed { sink.old.flushed ≡ true }
+    ensures { DrivesScript result turns.old turns.new sink.old sink.new (script_view script) }
+{
+    each_port_runs();
+    let Script {
+        licences,
+        mask,
+        journal_limit,
+        ports,
+        units: _,
+        losses: _,
+        events,
+    } = script;
+    let config = ChassisConfig {
+        licences,
+        journal_limit: journal_limit.min(MAX_KEPT),
+        ports,
+    };
+    let mut buffer = LineBuffer::new(alloc)?;
+    let mut player = Player::<L>::begin(alloc, blank, &config)?;
+    if let Err(fault) = play_events(&mut player, sink, &mut buffer, mask, events.as_slice()) {
+        player.close();
+        let _ = end_play(sink, Err(fault));
+        return Err(DriveFault::from(fault));
+    }
+    let (player, driven) = drive_lines(alloc, player, buffer, mask, turns, sink);
+    player.close();
+    told(driven)
+}
+
+/// Drives a script with simulated units on a fibre of its own, whose ledger is the blank.
+fn drive_fibre<L: Ledger, T: Read, W: Write>(
+    alloc: Global,
+    blank: Blank,
+    script: Script,
+    turns: &mut Source<T>,
+    sink: &mut Sink<W>,
+) -> Result<Driven, DriveFault>
+    requires name { blank.name ≡ L.name }
+    requires parts { (blank.parts ≡ L.parts) × (L.parts ≡ MAX_LICENCES) }
+    requires playable { IsPlayable (script_view script) }
+    requires units { 0 < length script.units.items }
+    requires flushed { sink.old.flushed ≡ true }
+    ensures { DrivesScript result turns.old turns.new sink.old sink.new (script_view script) }
+{
+    let Script {
+        licences,
+        mask,
+        journal_limit: _,
+        ports,
+        units,
+        losses,
+        events,
+    } = script;
+    let ScriptLosses { copies, bursts } = losses;
+    let loss = LossPlan { copies, bursts };
+    let mut buffer = LineBuffer::new(alloc)?;
+    let mut player =
+        FibrePlayer::<L>::begin(alloc, blank, &ports[0], licences, units.as_slice(), loss)?;
+    if let Err(fault) = play_events(&mut player, sink, &mut buffer, mask, events.as_slice()) {
+        player.close();
+        let _ = end_play(sink, Err(fault));
+        return Err(DriveFault::from(fault));
+    }
+    let (player, driven) = drive_lines(alloc, player, buffer, mask, turns, sink);
+    player.close();
+    told(driven)
+}
+
+/// Drives a script on a ledger of its own, which is the blank: on a chassis, or, where it has simulated units, on the
+/// fibre of its one port.
+fn drive_script<L: Ledger, T: Read, W: Write>(
+    alloc: Global,
+    blank: Blank,
+    script: Script,
+    turns: &mut Source<T>,
+    sink: &mut Sink<W>,
+) -> Result<Driven, DriveFault>
+    requires name { blank.name ≡ L.name }
+    requires parts { (blank.parts ≡ L.parts) × (L.parts ≡ MAX_LICENCES) }
+    requires playable { IsPlayable (script_view script) }
+    requires flushed { sink.old.flushed ≡ true }
+    ensures { DrivesScript result turns.old turns.new sink.old sink.new (script_view script) }
+{
+    if script.units.is_empty() {
+        drive_chassis::<L, T, W>(alloc, blank, script, turns, sink)
+    } else {
+        drive_fibre::<L, T, W>(alloc, blank, script, turns, sink)
+    }
+}
+
+/// Reads a script to the end of its source, at most 1,048,576 bytes, opens what it says, plays its events, and then
+/// answers the lines of an input, one after another, for as long as they come: each by the trace lines of its
+/// entries, or by an error line where it is no turn. Whenever more of the input is asked for, the answers to all lines
+/// that a line feed ended before are written and flushed.
+///
+/// All lines together may ask for `MOST_TURNS` frames and other events.
+pub fn run_drive<R: Read, T: Read, W: Write>(
+    alloc: Global,
+    script: &mut Source<R>,
+    turns: &mut Source<T>,
+    sink: &mut Sink<W>,
+) -> Result<Driven, DriveFault>
+    requires { sink.old.flushed ≡ true }
+    ensures { DrivesInput result script.old script.new turns.old turns.new sink.old sink.new }
+{
+    let bytes = gp_stream::read_all(alloc, script)?;
+    let read = gp_script::read_script(alloc, bytes.as_slice())?;
+    let blank = Blank::new(u64::from(MAX_LICENCES));
+    drive_script::<Brand, T, W>(alloc, blank, read, turns, sink)
+}
