@@ -1,10 +1,10 @@
 -- What the tasks of a storm served, from what each of them tells.
-use Rattle.std.proofs.Common.{◌≡◌, ◌≢◌, ◌<◌, ◌≤◌, ◌+◌, ◌-◌, ◌==◌, ℕ, Bool, true, false, cond, List, [], ◌∷◌, length, map, get_or, Ok, Err, inl, inr, refl, sym, ap, subst, ◌∙◌, arith, suc, zero, drop, drop-cons, add-one, ◌⊎◌}
+use Rattle.std.proofs.Common.{◌≡◌, ◌≢◌, ◌<◌, ◌≤◌, ◌+◌, ◌-◌, ◌==◌, ℕ, Bool, List, [], ◌∷◌, length, map, get_or, Ok, Err, inl, inr, refl, sym, ap, subst, ◌∙◌, arith, suc, zero, drop, drop-cons, add-one, ◌⊎◌}
 use Rattle.std.specs.Prelude.{MatchBool}
 use Rattle.std.proofs.lemmas.Bool.Decides.{eqb_tells}
 use Rattle.std.proofs.lemmas.List.{get_or-map, length-map}
 use Rattle.gp_machine.specs.declared.entry.Receipt.{Receipt}
-use Rattle.gp_workers.specs.Asked.{asked_of, commands_of, frames_of}
+use Rattle.gp_workers.specs.Asked.{commands_of, frames_of}
 use Rattle.gp_workers.specs.Ring.{GrowsByBursts}
 use Rattle.gp_storm.specs.declared.fault.PlanFault.{PlanFault}
 use Rattle.gp_storm.specs.declared.fault.PlanFault.TheVariants as plans

@@ -58,15 +58,6 @@ pub(crate) fn first_fault<L: Ledger>(tasks: &[Task<L>]) -> Result<(), PlanFault>
     Ok(())
 }
 
-/// Takes the first item out.
-fn take_first<T>(items: &mut Vec<T>) -> T
-    requires { 0 < vec_len items.old }
-    ensures first { items.old.items ≡ result ∷ items.new.items }
-    ensures len { vec_len items.new + 1 ≡ vec_len items.old }
-{
-    items.remove(0)
-}
-
 /// Takes the workers out of their tasks, in order, into an empty list that has room for them.
 pub(crate) fn workers_of<L: Ledger>(tasks: Vec<Task<L>>, workers: Vec<Worker<L>>) -> Vec<Worker<L>>
     requires empty { workers.items ≡ [] }
@@ -80,7 +71,7 @@ pub(crate) fn workers_of<L: Ledger>(tasks: Vec<Task<L>>, workers: Vec<Worker<L>>
             worker,
             ring: _,
             ended: _,
-        } = take_first(&mut tasks);
+        } = tasks.remove(0);
         workers.push_reserved(worker);
     }
     tasks.destroy_empty();

@@ -1,4 +1,4 @@
-use Rattle.std.proofs.Common.{rules, sym, ◌∙◌}
+use Rattle.std.proofs.Common.{sym, ◌∙◌}
 use Rattle.gp_storm.proofs.Serves.{first_of_tasks, past_task}
 use Rattle.gp_storm.proofs.task.first_fault.Goals as goal
 
