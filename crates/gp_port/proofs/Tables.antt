@@ -14,7 +14,7 @@ use Rattle.gp_common.specs.declared.common.Common.{Common}
 use Rattle.gp_unit.specs.Rows.{row_popped_up}
 use Rattle.gp_unit.specs.declared.row.Row.{Row}
 use Rattle.gp_table.specs.Rows.{count_operating, is_operating}
-use Rattle.gp_table.specs.declared.unit_table.Entry.{Entry}
+use Rattle.gp_table.specs.declared.unit_table.UnitEntry.{UnitEntry}
 use Rattle.gp_table.specs.Active.{ActiveState, IsFreeOnuId, IsFreeAllocId}
 use Rattle.gp_table.proofs.Admissions.{contains-from_list}
 use Rattle.gp_machine.specs.declared.config.PortConfig.{PortConfig}
@@ -27,7 +27,7 @@ use Rattle.gp_port.specs.Parts.{IsConfigured, state_with}
 pub admits : (admitted : FinSet serial_cmp) (serials : List Serial) (s : Serial) → admitted ≡ from_list serials → contains admitted s ≡ is_among s serials
 admits admitted serials s same = ap (λ (x : FinSet serial_cmp). contains x s) same ∙ contains-from_list serials s
 
-pub some_if : (b : Bool) (e : Entry) → is_some (if b then Some e else None) ≡ b
+pub some_if : (b : Bool) (e : UnitEntry) → is_some (if b then Some e else None) ≡ b
 some_if true e = refl
 some_if false e = refl
 

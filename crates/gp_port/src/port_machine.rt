@@ -24,7 +24,7 @@ use gp_machine::{
 };
 use gp_ploam::{Down, ONU_IDS, Serial};
 use gp_ranging::Window;
-use gp_table::{ActiveUnits, Entry, NumberLimits};
+use gp_table::{ActiveUnits, NumberLimits, UnitEntry};
 use gp_volley::{COPIES, MAX_COPIES_WITH_ROOM, VolleyQueue};
 use std::alloc::Global;
 use std::marker::Model;
@@ -174,7 +174,7 @@ impl PortMachine {
     }
 
     /// Tells what is known of an admitted unit; None where it is not admitted.
-    pub(super) fn look_up(&self, serial: &Serial) -> Option<Entry>
+    pub(super) fn look_up(&self, serial: &Serial) -> Option<UnitEntry>
         ensures admitted { is_some result ≡ is_among serial.now self.now.config.admitted }
         ensures disabled { IfSome result (λ known. known.disabled ≡ set.contains self.now.disabled serial.now) }
         ensures row { IfSome result (λ known. known.row ≡ map.get self.now.rows serial.now) }
@@ -205,7 +205,6 @@ impl PortMachine {
 
     /// Finds the ONU-ID of the operating unit that is polled next.
     pub(super) fn next_poll(&self) -> Option<u8>
-        requires { IsSound self.now }
         ensures { IsNextPoll self.now.rows self.now.polled result }
     {
         self.units.next_poll(self.polled)

@@ -16,7 +16,7 @@ use super::port_machine::PortMachine;
 use gp_alarms::AlarmKind;
 use gp_machine::{Phase, Refusal, Row};
 use gp_ploam::{BROADCAST_ONU, Down, Serial, Up};
-use gp_table::Entry;
+use gp_table::UnitEntry;
 
 impl PortMachine {
     /// Refuses a burst: the window has seen it, and nothing else changes.
@@ -61,7 +61,7 @@ impl PortMachine {
         &mut self,
         purse: u64,
         serial: Serial,
-        known: Entry,
+        known: UnitEntry,
         wished: Option<u16>,
     ) -> (BurstAnswer, u64)
         requires sound { IsSound self.old }

@@ -7,7 +7,7 @@
 //! - `decode.rt`, `trace.rt`: lines as they are printed; a code is decoded also where memory is refused.
 //! - `lines.rt`: events and turns that are read, the first fault of each text that is refused, and lines of a trace.
 //! - `replay.rt`, `storm.rt`: whole scripts to their trace or their totals, readers and writers that fail, and memory
-//!   that is refused.
+//!   that is refused; `storm/plans.rt` storms plans.
 //! - `verify.rt`: traces that are told to be runs, and the first line of each that is not.
 //! - `report.rt`: fault texts and statuses.
 #![tactic(auto)]

@@ -1,4 +1,6 @@
 //! What no clause says: the totals of worked scripts, in real threads, and what is written where a storm has none.
+mod plans;
+
 use gp_replay::RunFault;
 use gp_script::ScriptFault;
 use gp_storm::run_storm;

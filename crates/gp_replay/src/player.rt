@@ -2,6 +2,7 @@ ghost use Rattle.std.specs.Prelude.{◌≡◌, ◌≢◌, ◌<◌, ◌≤◌, []
 ghost use Rattle.std.specs.Option.{ForSome};
 ghost use Rattle.gp_ploam.specs.Down.{IsProperDown};
 ghost use Rattle.gp_chassis.specs.Limits.{IsWithin};
+ghost use Rattle.gp_chassis.specs.World.{IsBalanced};
 ghost use Rattle.gp_chassis.specs.Core.{IsFullAt};
 ghost use Rattle.gp_chassis.specs.Core.{GrantsTurn};
 ghost use Rattle.gp_replay.specs.Chassis.{HasRoom, KeepsFew, IsSoundPort, opened_play, play_of};
@@ -123,8 +124,11 @@ impl<L: Ledger> Player<L> {
         self.chassis.stands();
     }
 
-    /// Ends the chassis, and answers how many licences there are.
-    pub fn close(self) -> u32 {
+    /// Ends the chassis, and answers how many licences it was opened with: those that are free, in hands or with
+    /// active units.
+    pub fn close(self) -> u32
+        ensures { IsBalanced result self.world }
+    {
         let Player { alloc: _, chassis } = self;
         chassis.close()
     }

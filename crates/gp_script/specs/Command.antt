@@ -16,7 +16,7 @@ use Rattle.gp_script.specs.declared.fault.ScriptFault.{ScriptFault}
 use Rattle.gp_script.specs.declared.fault.ScriptFault.TheVariants as fault
 use Rattle.gp_script.specs.Fault.{◌>>=◌, needs}
 use Rattle.gp_script.specs.Keys.{has_only, needed_number, needed_text}
-use Rattle.gp_script.specs.Values.{in_range, port_in, serial_of}
+use Rattle.gp_script.specs.Values.{in_range, place_in, serial_of}
 
 -- what a word asks for
 abbrev pub command_word : List ℕ → Option CommandWord
@@ -47,7 +47,7 @@ unfoldable pub port_command : ℕ → Command → Members → Result ScriptEvent
 port_command ports command members = do
   _ ← needs fault.Shape (has_only (codes "port" ∷ codes "command" ∷ []) members)
   port ← needed_number (codes "port") members
-  port ← port_in ports port
+  port ← place_in ports port
   Ok (events.Command port command)
 
 -- a command to a unit
@@ -56,7 +56,7 @@ unit_command ports command members = do
   _ ← needs fault.Shape (has_only (codes "port" ∷ codes "command" ∷ codes "serial" ∷ []) members)
   port ← needed_number (codes "port") members
   serial ← needed_text (codes "serial") members
-  port ← port_in ports port
+  port ← place_in ports port
   serial ← serial_of serial
   Ok (events.Command port (command_to serial command))
 
@@ -67,7 +67,7 @@ dealloc_command ports members = do
   port ← needed_number (codes "port") members
   serial ← needed_text (codes "serial") members
   alloc ← needed_number (codes "alloc") members
-  port ← port_in ports port
+  port ← place_in ports port
   serial ← serial_of serial
   alloc ← in_range 0 last_alloc_id alloc
   Ok (events.Command port (commands.Dealloc serial alloc))

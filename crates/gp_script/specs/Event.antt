@@ -8,7 +8,7 @@ use Rattle.gp_script.specs.declared.fault.ScriptFault.{ScriptFault}
 use Rattle.gp_script.specs.declared.fault.ScriptFault.TheVariants as fault
 use Rattle.gp_script.specs.Fault.{◌>>=◌, needs}
 use Rattle.gp_script.specs.Keys.{has_only, needed_bool, needed_number, needed_text}
-use Rattle.gp_script.specs.Values.{delay_in, in_range, octets_of, port_in, unit_in}
+use Rattle.gp_script.specs.Values.{delay_in, in_range, octets_of, place_in}
 use Rattle.gp_script.specs.Say.{say_event}
 use Rattle.gp_script.specs.Command.{command_event}
 
@@ -18,7 +18,7 @@ frames_event ports members = do
   _ ← needs fault.Shape (has_only (codes "port" ∷ codes "frames" ∷ []) members)
   port ← needed_number (codes "port") members
   frames ← needed_number (codes "frames") members
-  port ← port_in ports port
+  port ← place_in ports port
   count ← in_range 1 1000000 frames
   Ok (Frames port count)
 
@@ -29,7 +29,7 @@ burst_event ports members = do
   port ← needed_number (codes "port") members
   at ← needed_number (codes "at") members
   burst ← needed_text (codes "burst") members
-  port ← port_in ports port
+  port ← place_in ports port
   at ← delay_in at
   bytes ← octets_of 13 burst
   Ok (Burst port at bytes)
@@ -41,7 +41,7 @@ light_event units members = do
   _ ← needs fault.Shape (has_only (codes "unit" ∷ codes "light" ∷ []) members)
   unit ← needed_number (codes "unit") members
   lit ← needed_bool (codes "light") members
-  unit ← unit_in units unit
+  unit ← place_in units unit
   Ok (Light unit lit)
 
 -- an event table; its form is told by the key that this form alone has

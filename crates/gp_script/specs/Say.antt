@@ -15,7 +15,7 @@ use Rattle.gp_script.specs.declared.fault.ScriptFault.{ScriptFault}
 use Rattle.gp_script.specs.declared.fault.ScriptFault.TheVariants as fault
 use Rattle.gp_script.specs.Fault.{◌>>=◌, needs}
 use Rattle.gp_script.specs.Keys.{has_only, number_at, needed_number, needed_text}
-use Rattle.gp_script.specs.Values.{delay_in, in_range_or, octet_in, port_in, serial_of}
+use Rattle.gp_script.specs.Values.{delay_in, in_range_or, octet_in, place_in, serial_of}
 
 -- a unit's message arrives
 abbrev pub said : Mask → Speaker → Up → ScriptEvent
@@ -29,7 +29,7 @@ say_serial ports mask members = do
   at ← needed_number (codes "at") members
   serial ← needed_text (codes "serial") members
   onu ← number_at (codes "onu") members
-  port ← port_in ports port
+  port ← place_in ports port
   at ← delay_in at
   serial ← serial_of serial
   onu ← in_range_or 255 0 255 onu
@@ -42,7 +42,7 @@ speaker_of ports members = do
   port ← needed_number (codes "port") members
   at ← needed_number (codes "at") members
   onu ← needed_number (codes "onu") members
-  port ← port_in ports port
+  port ← place_in ports port
   at ← delay_in at
   onu ← octet_in onu
   Ok (record { port = port; at = at; onu = onu })
@@ -67,7 +67,7 @@ say_ack ports mask members = do
   at ← needed_number (codes "at") members
   onu ← needed_number (codes "onu") members
   id ← needed_number (codes "id") members
-  port ← port_in ports port
+  port ← place_in ports port
   at ← delay_in at
   onu ← octet_in onu
   id ← octet_in id

@@ -22,15 +22,10 @@ abbrev pub in_range_or : ℕ → ℕ → ℕ → Option ℤ → Result ℕ Scrip
 in_range_or default low high None = Ok default
 in_range_or default low high (Some number) = in_range low high number
 
--- the place of one of so many ports
-abbrev pub port_in : ℕ → ℤ → Result ℕ ScriptFault
-port_in ports (pos place) = if nat_lt place ports then Ok place else Err fault.Range
-port_in ports (negsuc _) = Err fault.Range
-
--- the place of one of so many units
-abbrev pub unit_in : ℕ → ℤ → Result ℕ ScriptFault
-unit_in units (pos place) = if nat_lt place units then Ok place else Err fault.Range
-unit_in units (negsuc _) = Err fault.Range
+-- the place of one of so many ports or units
+abbrev pub place_in : ℕ → ℤ → Result ℕ ScriptFault
+place_in count (pos place) = if nat_lt place count then Ok place else Err fault.Range
+place_in count (negsuc _) = Err fault.Range
 
 -- a number from 0 on
 abbrev pub number_from_0 : ℤ → Result ℕ ScriptFault

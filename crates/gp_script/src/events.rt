@@ -9,7 +9,7 @@ use crate::fault::{ScriptError, ScriptFault};
 use crate::keys::{has_only, member, needed_bool, needed_number, needed_text, needs};
 use crate::say::say_event;
 use crate::script::ScriptEvent;
-use crate::values::{delay_in, in_range, octets_of, port_in, unit_in};
+use crate::values::{delay_in, in_range, octets_of, place_in, port_in};
 use gp_ploam::Mask;
 use std::alloc::Global;
 use toml::{Table, Value};
@@ -57,7 +57,7 @@ fn light_event(units: u16, table: &Table) -> Result<ScriptEvent, ScriptFault>
     needs(ScriptFault::Shape, has_only(table, &["unit", "light"]))?;
     let unit = needed_number(table, "unit")?;
     let lit = needed_bool(table, "light")?;
-    let unit = unit_in(units, unit)?;
+    let unit = place_in(units, unit)?;
     Ok(ScriptEvent::Light { unit, lit })
 }
 

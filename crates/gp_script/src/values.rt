@@ -39,26 +39,24 @@ pub(crate) fn in_range_or(
     }
 }
 
-/// Reads the place of one of so many ports.
-pub(crate) fn port_in(ports: u8, number: i64) -> Result<u8, ScriptFault>
-    ensures value { result ≡ spec.port_in ports number }
-    ensures within { IfOk result (λ port. port < ports) }
+/// Reads the place of one of so many ports or units.
+pub(crate) fn place_in(count: u16, number: i64) -> Result<u16, ScriptFault>
+    ensures value { result ≡ spec.place_in count number }
+    ensures within { IfOk result (λ place. place < count) }
 {
-    match u8::try_from(number) {
-        Ok(port) if port < ports => Ok(port),
+    match u16::try_from(number) {
+        Ok(place) if place < count => Ok(place),
         _ => Err(ScriptFault::Range),
     }
 }
 
-/// Reads the place of one of so many units.
-pub(crate) fn unit_in(units: u16, number: i64) -> Result<u16, ScriptFault>
-    ensures value { result ≡ spec.unit_in units number }
-    ensures within { IfOk result (λ unit. unit < units) }
+/// Reads the place of one of so many ports.
+pub(crate) fn port_in(ports: u8, number: i64) -> Result<u8, ScriptFault>
+    ensures value { result ≡ spec.place_in ports number }
+    ensures within { IfOk result (λ port. port < ports) }
 {
-    match u16::try_from(number) {
-        Ok(unit) if unit < units => Ok(unit),
-        _ => Err(ScriptFault::Range),
-    }
+    let place = place_in(u16::from(ports), number)?;
+    Ok(place as u8)
 }
 
 /// Reads a number from 0 on.

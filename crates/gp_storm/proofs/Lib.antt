@@ -1,3 +1,6 @@
+pub mod AccountedCounts
 pub mod PlanLemmas
+pub mod Serves
+pub mod ServedCounts
 pub mod TotalsLemmas
 pub mod OutcomeLemmas

@@ -1,9 +1,26 @@
--- Which fault of a run the fault of a storm is (this profile's own rule).
+-- Which fault of a storm the fault of a loop is, and which fault of a run that is (this profile's own rule).
 use Rattle.std.specs.Prelude.{}
+use Rattle.gp_chassis.specs.declared.fault.ApplyFault.{ApplyFault}
+use Rattle.gp_chassis.specs.declared.fault.ApplyFault.TheVariants as applies
 use Rattle.gp_replay.specs.declared.fault.RunFault.{RunFault}
 use Rattle.gp_replay.specs.declared.fault.RunFault.TheVariants as runs
+use Rattle.gp_storm.specs.declared.fault.PlanFault.{PlanFault}
+use Rattle.gp_storm.specs.declared.fault.PlanFault.TheVariants as plans
 use Rattle.gp_storm.specs.declared.fault.StormFault.{StormFault}
 use Rattle.gp_storm.specs.declared.fault.StormFault.TheVariants as storms
+
+-- why a loop ended, told of the threads of a storm
+abbrev pub plan_fault_of : ApplyFault → PlanFault
+plan_fault_of applies.NoPort = plans.NoPort
+plan_fault_of applies.OutOfMemory = plans.OutOfMemory
+plan_fault_of applies.JournalFull = plans.JournalFull
+
+-- why the threads did not serve all, told of a storm
+abbrev pub storm_fault_of : PlanFault → StormFault
+storm_fault_of plans.NoPort = storms.NoPort
+storm_fault_of plans.JournalFull = storms.JournalFull
+storm_fault_of plans.OutOfMemory = storms.OutOfMemory
+storm_fault_of plans.Mismatch = storms.Mismatch
 
 -- of a script that was read, the limits are kept and each event names a port, so where a storm tells otherwise its
 -- threads were told something else

@@ -1,5 +1,5 @@
 -- What the threads of a storm do, by the events of a script (this profile's own rule).
-use Rattle.std.specs.Prelude.{◌≡◌, ℕ, List, [], ◌∷◌, map, get_or, length, if◌then◌else◌, ◌==◌}
+use Rattle.std.specs.Prelude.{◌≡◌, ℕ, List, [], ◌∷◌, map, get_or, length, sum_by, if◌then◌else◌, ◌==◌}
 use Rattle.std.specs.Global.{Vec}
 use Rattle.std.specs.List.{flat_map}
 use Rattle.gp_machine.specs.declared.event.Command.{Command as CommandOf}
@@ -30,6 +30,18 @@ command_of (Frames port count) = []
 command_of (Burst port at bytes) = []
 command_of (Command port command) = (port, command) ∷ []
 command_of (Light unit lit) = []
+
+-- how many frames pairs of a port and a count ask for
+abbrev pub frame_count : List (ℕ × ℕ) → ℕ
+frame_count pairs = sum_by (λ (pair : ℕ × ℕ). pair.1) pairs
+
+-- how many frames a script asks for, on all its ports
+abbrev pub frames_asked : ScriptView → ℕ
+frames_asked script = frame_count (flat_map frames_of script.events)
+
+-- how many commands a script asks for, on all its ports
+abbrev pub commands_asked : ScriptView → ℕ
+commands_asked script = length (flat_map command_of script.events)
 
 -- ---- the plan
 

@@ -4,6 +4,7 @@ use Rattle.gp_journal.specs.Kept.{Kept}
 use Rattle.gp_workers.specs.declared.totals.Totals.{Totals}
 use Rattle.gp_workers.specs.Closing.{Ending}
 use Rattle.gp_script.specs.Script.{ScriptView}
+use Rattle.gp_storm.specs.Plan.{commands_asked, frames_asked}
 
 -- how many entries the journals keep, all together
 abbrev pub entries_in : List Kept → ℕ
@@ -19,9 +20,12 @@ totals_text totals entries licences =
     ++ (decimal entries ++ (codes "\nlicences " ++ (decimal licences ++ codes "\n")))))))))
 
 -- a chassis with the ports and the licences of the script was closed: its journals are runs of the ports'
--- configurations, and the text is that of what they add up to, with all the licences
+-- configurations and have all frames and all commands of the script, and the text is that of what they add up to, with
+-- all the licences
 pub record IsTotalsOf (script : ScriptView) (text : List ℕ) : Type 0 where
   pub journals : List Kept
   pub totals : Totals
   pub ending : Ending script.ports journals totals
+  pub frames : totals.frames ≡ frames_asked script
+  pub commands : totals.commands ≡ commands_asked script
   pub says : text ≡ totals_text totals (entries_in journals) script.licences

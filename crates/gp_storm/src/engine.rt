@@ -1,12 +1,13 @@
-ghost use Rattle.std.specs.Prelude.{◌≡◌, ◌≤◌, Err, IfOk};
+ghost use Rattle.std.specs.Prelude.{◌≡◌, ◌+◌, ◌<◌, ◌≤◌, ◌⊎◌, Err, IfErr, IfOk, length, map};
 ghost use Rattle.gp_licence.specs.declared.ledger_parts.TheConstants.{MAX_LICENCES};
 ghost use Rattle.gp_machine.specs.Config.{max_ports};
 ghost use Rattle.gp_chassis.specs.Limits.{IsWithin};
 ghost use Rattle.gp_workers.specs.Closing.{Ending};
+ghost use Rattle.gp_storm.specs.Plan.{frame_count};
+ghost use Rattle.gp_storm.specs.Serving.{AreServed, IsFaultOf, IsStormFaultOf};
 
 use super::fault::{PlanFault, StormFault, storm_fault};
 use super::plan::Plan;
-use super::slot::{slots_for, workers_of};
 use super::threads::{rings, run};
 use gp_accounts::CloseFault;
 use gp_chassis::ChassisConfig;
@@ -18,7 +19,9 @@ use std::sync::ledger::{Blank, Ledger};
 use std::thread::Threads;
 
 /// Runs the plan over a new chassis of this configuration, and gives what the chassis leaves. `StormFault` says when
-/// there is none.
+/// there is none: `Limit`, else `NoPort` where the plan has more lists of bursts than there are ports, else the first
+/// fault of the threads, else what keeps the chassis from being closed. Ports for which the plan has no list have no
+/// bursts.
 ///
 /// `blank` is a new ledger of `MAX_LICENCES` parts, made by `Blank::new`, and `L` its name.
 pub fn storm<L: Ledger + Send + Sync, R: Threads + Wait + Sync>(
@@ -34,9 +37,17 @@ pub fn storm<L: Ledger + Send + Sync, R: Threads + Wait + Sync>(
     ensures outside { (IsWithin config.now → ⊥) → result ≡ Err StormFault.Limit }
     ensures licences { IfOk result (λ closed. closed.licences ≡ config.now.licences) }
     ensures ending { IfOk result (λ closed. Ending config.now.ports.items closed.journals.items closed.totals) }
+    ensures frames { IfOk result (λ closed. closed.totals.frames ≡ frame_count plan.now.frames.items) }
+    ensures commands { IfOk result (λ closed. closed.totals.commands ≡ length plan.now.commands.items) }
+    ensures no_port { IsWithin config.now → length config.now.ports.items < length plan.now.bursts.items
+        → result ≡ Err StormFault.NoPort }
+    ensures fault { IfErr result (IsStormFaultOf plan.now (length config.now.ports.items)) }
 {
     if !config.is_within(alloc) {
         return Err(StormFault::Limit);
+    }
+    if plan.bursts.len() > config.ports.len() {
+        return Err(StormFault::NoPort);
     }
     let Ok(chassis) = Chassis::<NoGate, L>::begin(alloc, blank, config, NoGate) else {
         return Err(StormFault::OutOfMemory);
@@ -54,7 +65,7 @@ pub fn storm<L: Ledger + Send + Sync, R: Threads + Wait + Sync>(
     }
 }
 
-/// Runs the plan over a chassis, and hands back all its workers.
+/// Runs the plan over a chassis of so many ports, and hands back all its workers.
 fn work<L: Ledger + Send + Sync, R: Threads + Wait + Sync>(
     rt: &R,
     alloc: Global,
@@ -63,37 +74,19 @@ fn work<L: Ledger + Send + Sync, R: Threads + Wait + Sync>(
     plan: &Plan,
 ) -> Result<Vec<Worker<L>>, PlanFault>
     requires { ports ≤ max_ports }
+    ensures served { IfOk result
+        (λ workers. AreServed plan.now (ports + 1) (map (λ worker. worker.receipts) workers.items)) }
+    ensures fault { IfErr result (IsFaultOf plan.now (ports + 1)) }
 {
-    let Ok(rings) = rings(alloc, ports) else {
-        return Err(PlanFault::OutOfMemory);
-    };
-    let Ok(workers) = Vec::with_capacity(alloc, ports + 2) else {
-        return Err(PlanFault::OutOfMemory);
-    };
-    let slots = match slots_for(rt, alloc, chassis, ports + 2) {
-        Ok(slots) => slots,
-        Err(fault) => {
-            workers.destroy_empty();
-            return Err(fault);
-        }
-    };
-    let (others, readers) = slots.as_slice().split_at(2);
-    let answer = run(
-        rt, alloc, chassis, plan, rings, readers, &others[0], &others[1],
-    );
-    let workers = workers_of(slots, workers);
-    match answer {
-        Ok(()) => Ok(workers),
-        Err(fault) => {
-            retire_all(workers);
-            Err(fault)
-        }
+    match rings(alloc, ports) {
+        Ok(rings) => run(rt, alloc, chassis, plan, rings),
+        Err(_) => Err(PlanFault::OutOfMemory),
     }
 }
 
 /// Ends a chassis that does not close, with its workers.
 fn given_up<L: Ledger, R: Wait>(rt: &R, refused: CloseRefused<NoGate, L>) -> StormFault
-    ensures { result ≡ StormFault.Limit → ⊥ }
+    ensures { (result ≡ StormFault.OutOfMemory) ⊎ (result ≡ StormFault.Mismatch) }
 {
     let CloseRefused {
         fault,

@@ -1,4 +1,5 @@
 ghost use Rattle.std.specs.Prelude.{◌≡◌};
+ghost use Rattle.gp_storm.specs.Faults.{storm_fault_of};
 
 use gp_chassis::ApplyFault;
 use gp_replay::RunFault;
@@ -11,7 +12,7 @@ pub enum StormFault {
     /// The configuration is outside its limits.
     #[error("configuration outside its limits")]
     Limit,
-    /// The plan names a port that is not there.
+    /// The plan names a port that is not there, or has a list of bursts for one.
     #[error("no such port")]
     NoPort,
     /// A journal keeps as many entries as it may.
@@ -36,6 +37,11 @@ pub(crate) enum PlanFault {
 }
 
 impl From<ApplyFault> for PlanFault {
+    ghost use Rattle.std.specs.Prelude.{◌≡◌};
+    ghost use Rattle.gp_storm.specs.Faults.{plan_fault_of};
+
+    ghost from_gives = { λ applied fault. fault ≡ plan_fault_of applied };
+
     fn from(fault: ApplyFault) -> PlanFault {
         match fault {
             ApplyFault::NoPort => PlanFault::NoPort,
@@ -47,7 +53,7 @@ impl From<ApplyFault> for PlanFault {
 
 /// The same fault, told by a storm: its configuration was within the limits.
 pub(crate) fn storm_fault(fault: PlanFault) -> StormFault
-    ensures { result ≡ StormFault.Limit → ⊥ }
+    ensures { result ≡ storm_fault_of fault }
 {
     match fault {
         PlanFault::NoPort => StormFault::NoPort,

@@ -4,11 +4,12 @@
 //! - `storming.rt`: `run_storm`, from the bytes of a script to those of its totals.
 //! - `plan.rt`: `Plan`, what a storm does, and `plan_of` a script. `fault.rt`: `StormFault`, why it has no totals.
 //! - `feeder.rt`: what puts a port's bursts into its ring.
-//! - `slot.rt`: where a thread takes its worker, and puts it back.
+//! - `task.rt`: what one thread has: its worker, its end of a ring, and how its loop ended.
 //! - `threads.rt`: the threads of one storm. `engine.rt`: `storm`, a chassis from its opening to its close.
 //!
-//! What a thread does is a loop of `gp_workers`; another kind of thread is one more loop there, and a line in
-//! `threads.rt`. What is planned for whom stands in `specs/Plan.antt`, what is written in `specs/Totals.antt`, and
+//! What a thread does is a loop of `gp_workers`; another kind of thread is one more loop there, and a line in `serve`
+//! of `threads.rt` and in `IsServed` of `specs/Serving.antt`. What is planned for whom stands in `specs/Plan.antt`,
+//! what the threads serve and whose fault is told in `specs/Serving.antt`, what is written in `specs/Totals.antt`, and
 //! how a storm may end in `specs/Outcome.antt`; a further total is a line there and in `storming.rt`.
 #![tactic(auto)]
 
@@ -16,8 +17,8 @@ mod engine;
 mod fault;
 mod feeder;
 mod plan;
-mod slot;
 mod storming;
+mod task;
 mod threads;
 
 pub use engine::storm;

@@ -6,6 +6,7 @@ pub mod Admissions
 pub mod Marks
 pub mod Tables
 pub mod Kept
+pub mod NextPoll
 pub mod PopUp
 pub mod PopOne
 pub mod Recounted

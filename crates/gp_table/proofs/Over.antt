@@ -3,7 +3,7 @@ use Rattle.std.proofs.Common.{◌≡◌, ℕ, Bool, true, false, cond, Option, N
 use Rattle.std.specs.Option.{option_map}
 use Rattle.gp_unit.specs.declared.row.Row.{Row}
 use Rattle.gp_table.specs.declared.admission_index.AdmittedSerial.{AdmittedSerial}
-use Rattle.gp_table.specs.declared.unit_table.Entry.{Entry}
+use Rattle.gp_table.specs.declared.unit_table.UnitEntry.{UnitEntry}
 use Rattle.gp_table.proofs.Admissions.{contains-admitted_of, contains-disabled_of, get-keys_of}
 use Rattle.gp_table.proofs.Kept.{is_there}
 use Rattle.gp_table.proofs.Tables.{IsIndexed, Onus, get_rows, no_row_there}
@@ -36,8 +36,8 @@ pub entry_is : (slots : Slots) (m : Admissions) (u : Units) (s : Serial) (row : 
 entry_is slots m u s row is a has got =
     let admitted : set.contains u.admitted s ≡ true = ap (λ x. set.contains x s) (sym (same_admitted slots m u is)) ∙ contains-admitted_of m s ∙ ap is_some has in
     let disabled : a.disabled ≡ set.contains u.disabled s = sym (ap disabled_in has) ∙ sym (contains-disabled_of m s) ∙ ap (λ x. set.contains x s) (same_disabled slots m u is) in
-    ap (λ (d : Bool). let e : Entry = record { disabled = d; row = row } in Some e) disabled
-    ∙ ap (λ (r : Option Row). let e : Entry = record { disabled = set.contains u.disabled s; row = r } in Some e) (got ∙ ap (λ (rs : Rows). map.get rs s) (same_rows slots m u is))
+    ap (λ (d : Bool). let e : UnitEntry = record { disabled = d; row = row } in Some e) disabled
+    ∙ ap (λ (r : Option Row). let e : UnitEntry = record { disabled = set.contains u.disabled s; row = r } in Some e) (got ∙ ap (λ (rs : Rows). map.get rs s) (same_rows slots m u is))
     ∙ ap (λ (b : Bool). cond b (Some (record { disabled = set.contains u.disabled s; row = map.get u.rows s })) None) (sym admitted)
 
 pub entry_is_none : (slots : Slots) (m : Admissions) (u : Units) (s : Serial) → units_of slots m ≡ u → map.get m s ≡ None → None ≡ entry_for u s

@@ -12,7 +12,7 @@ use Rattle.gp_unit.specs.declared.record.Record.{Record}
 use Rattle.gp_unit.specs.declared.row.Row.{Row}
 use Rattle.gp_unit.specs.Rows.{is_ranging}
 use Rattle.gp_unit.specs.Records.{row_of}
-use Rattle.gp_table.specs.Rows.{Operates, PopsUpOne, popped_phase, popped_row}
+use Rattle.gp_table.specs.Rows.{IsInPhase, PopsUpOne, popped_phase, popped_row}
 use Rattle.gp_table.specs.Table.{Slots, slot_at, rows_of, key_of_onu, IsKeptTable}
 use Rattle.gp_table.proofs.Gets.{same_value}
 use Rattle.gp_table.proofs.Tables.{Serials, Onus, row_there, rows-replace, unique}
@@ -51,7 +51,7 @@ module _ (slots : Slots) (capacity : ℕ) (serials : Serials) (onus : Onus) (ran
         (kept-replace slots (set slots key (Some (popped unit))) capacity serials onus ranging operating key (popped unit) h named onu_there
         (written_over slots key unit (popped unit) slot) (count-written_over slots key unit (popped unit) slot))
 
-    pub pops_up : Operates (rows_of slots serials) onu → PopsUpOne (rows_of slots serials) (rows_of (set slots key (Some (popped unit))) serials)
+    pub pops_up : IsInPhase (rows_of slots serials) false onu → PopsUpOne (rows_of slots serials) (rows_of (set slots key (Some (popped unit))) serials)
     pops_up p =
         let has = row_there slots serials unit.serial key unit named slot in
         let both = indexed slots capacity serials onus ranging operating h in

@@ -16,7 +16,7 @@ use Rattle.gp_unit.specs.declared.row.Phase.{Phase}
 use Rattle.gp_unit.specs.declared.row.Phase.TheVariants.{Ranging, Operating}
 use Rattle.gp_unit.specs.declared.row.Row.{Row}
 use Rattle.gp_unit.specs.Rows.{is_ranging}
-use Rattle.gp_table.specs.Rows.{Rows, HasRow, Operates, popped_phase, popped_row, popped_rows, is_operating, count_operating}
+use Rattle.gp_table.specs.Rows.{Rows, HasRow, IsInPhase, popped_phase, popped_row, popped_rows, is_operating, count_operating}
 use Rattle.gp_table.proofs.Gets.{get-insert_same, get-insert_other, same_value, no_value}
 use Rattle.gp_table.proofs.Values.{get-map_values}
 
@@ -59,7 +59,7 @@ popped_none rows all = fin.same_map serials_total serials_exact _ _ (λ q. by_ro
     by_row q None e = e ∙ ap (option_map popped_row) (sym e)
     by_row q (Some row) e = e ∙ ap Some (sym (with_phase row (popped_phase row.phase) row.phase (ranging_stays row.phase (all q row e)))) ∙ ap (option_map popped_row) (sym e)
 
-pub nobody_operates : (rows : Rows) → ((onu : ℕ) → Operates rows onu → ⊥) → (s : Serial) (row : Row) → HasRow rows s row → is_ranging row.phase ≡ true
+pub nobody_operates : (rows : Rows) → ((onu : ℕ) → IsInPhase rows false onu → ⊥) → (s : Serial) (row : Row) → HasRow rows s row → is_ranging row.phase ≡ true
 nobody_operates rows none s row has = elim (cases_Bool (is_ranging row.phase)) [
   | inl t ↦ t
   | inr f ↦ absurd (none row.onu (record { serial = s; row = row; has = has; phase = f; is_onu = refl }))

@@ -14,7 +14,7 @@ use Rattle.gp_pools.specs.Onu.{OnuPool}
 use Rattle.gp_pools.specs.Pool.{Pool, pool_without_lease}
 use Rattle.gp_unit.specs.declared.row.Row.{Row}
 use Rattle.gp_unit.specs.Rows.{has_alloc}
-use Rattle.gp_table.specs.declared.unit_table.Entry.{Entry}
+use Rattle.gp_table.specs.declared.unit_table.UnitEntry.{UnitEntry}
 use Rattle.gp_table.specs.Rows.{Rows, HasRow}
 use Rattle.gp_table.specs.Units.{Units}
 
@@ -44,7 +44,7 @@ no_active_units serials max_units alloc_last quarantine =
     }
 
 -- what is known of a serial number; None where it isn't admitted
-abbrev pub entry_of_active : ActiveState → Serial → Option Entry
+abbrev pub entry_of_active : ActiveState → Serial → Option UnitEntry
 entry_of_active units serial =
     if finset.contains units.admitted serial
     then Some (record { disabled = finset.contains units.disabled serial; row = finmap.get units.rows serial })

@@ -4,7 +4,7 @@ use Rattle.std.specs.FinMap as map
 use Rattle.std.specs.FinSet as set
 use Rattle.gp_ploam.specs.declared.message.Serial.{Serial}
 use Rattle.gp_ploam.specs.Serials.{serial_cmp}
-use Rattle.gp_table.specs.declared.unit_table.Entry.{Entry}
+use Rattle.gp_table.specs.declared.unit_table.UnitEntry.{UnitEntry}
 use Rattle.gp_table.specs.Rows.{Rows}
 
 -- the admitted serial numbers, from the serial number of each active unit to its row, and the disabled serial numbers
@@ -18,7 +18,7 @@ abbrev pub no_units : List Serial → Units
 no_units serials = record { admitted = set.from_list serials; rows = map.empty; disabled = set.empty }
 
 -- what the table has for a serial number; None where it isn't admitted
-abbrev pub entry_for : Units → Serial → Option Entry
+abbrev pub entry_for : Units → Serial → Option UnitEntry
 entry_for units serial =
     if set.contains units.admitted serial
     then Some (record { disabled = set.contains units.disabled serial; row = map.get units.rows serial })

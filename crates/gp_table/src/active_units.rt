@@ -15,9 +15,10 @@ ghost use Rattle.gp_unit.specs.Sound.{IsSoundRow};
 ghost use Rattle.gp_unit.specs.Units.{retired as retired_unit};
 ghost use Rattle.gp_table.specs.Awake.{HasNumbersOf, IsOperatingAwake, record_awake};
 ghost use Rattle.gp_table.specs.Active.{IsFreeAllocId, IsFreeOnuId, KeepsNumbers, entry_of_active, no_active_units, pool_freed, with_row, without};
-ghost use Rattle.gp_table.specs.Rows.{HasOnuId, HasRow, IsLeastRanging, IsNextPoll, count_operating, popped_rows};
+ghost use Rattle.gp_machine.specs.State.{HasRow, IsLeastRanging, IsNextPoll};
+ghost use Rattle.gp_table.specs.Rows.{HasOnuId, count_operating, popped_rows};
 
-use super::unit_table::{Entry, UnitTable};
+use super::unit_table::{UnitEntry, UnitTable};
 use gp_alarms::PollCounts;
 use gp_ploam::Serial;
 use gp_pools::{AllocIds, AllocLease, OnuIds};
@@ -98,7 +99,7 @@ impl ActiveUnits {
     }
 
     /// Tells what the table has for a serial number, found by one search; None where it isn't admitted.
-    pub fn look_up(&self, serial: &Serial) -> Option<Entry>
+    pub fn look_up(&self, serial: &Serial) -> Option<UnitEntry>
         ensures { result ≡ entry_of_active self.now serial.now }
     {
         self.table.look_up(serial)

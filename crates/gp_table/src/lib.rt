@@ -17,4 +17,4 @@ mod admission_index;
 mod unit_table;
 
 pub use active_units::{ActiveUnits, NumberLimits};
-pub use unit_table::Entry;
+pub use unit_table::UnitEntry;

@@ -1,13 +1,15 @@
-ghost use Rattle.std.specs.Prelude.{◌≡◌, ℕ, ◌<◌, ◌≤◌, ◌≢◌, IfOk, IfSome, IfNone, IsSome, IsTrue, None, Some, if◌then◌else◌};
+ghost use Rattle.std.specs.Prelude.{◌≡◌, ℕ, ◌<◌, ◌≤◌, ◌≢◌, IfOk, IfSome, IfNone, IsSome, IsTrue, None, Some, if◌then◌else◌, false, ◌+◌};
 ghost use Rattle.std.specs.Option.{option_map};
 ghost use Rattle.std.specs.FinMap as map;
 ghost use Rattle.std.specs.FinSet as set;
 ghost use Rattle.gp_ploam.specs.declared.message.Serial.{Serial};
 ghost use Rattle.gp_ploam.specs.OnuIds.{last_onu, onu_ids};
+ghost use Rattle.gp_numbers.specs.Least.{IsLeastFrom};
 ghost use Rattle.gp_unit.specs.declared.row.Row.{Row};
 ghost use Rattle.gp_unit.specs.Records.{row_of, record_of};
 ghost use Rattle.gp_unit.specs.Rows.{row_counted};
-ghost use Rattle.gp_table.specs.Rows.{HasOnuId, HasRow, IsLeastRanging, IsNextPoll, Operates, PopsUpOne, count_operating, popped_rows};
+ghost use Rattle.gp_machine.specs.State.{HasRow, IsLeast, IsLeastRanging, IsNextPoll, Operates};
+ghost use Rattle.gp_table.specs.Rows.{HasOnuId, IsInPhase, PopsUpOne, count_operating, popped_rows};
 ghost use Rattle.gp_table.specs.Table.{row_in, slot_at};
 ghost use Rattle.gp_table.specs.Units.{entry_for, no_units};
 
@@ -25,7 +27,7 @@ const PLACES: usize = ONU_IDS as usize;
 
 /// What the table has for an admitted serial number.
 #[derive(Clone, Copy, Debug)]
-pub struct Entry {
+pub struct UnitEntry {
     /// Whether the serial number is disabled.
     pub disabled: bool,
     /// The row of its unit, if that is active.
@@ -129,11 +131,11 @@ impl UnitTable {
     }
 
     /// What the table has for a serial number, found by one search; None where it isn't admitted.
-    pub fn look_up(&self, serial: &Serial) -> Option<Entry>
+    pub fn look_up(&self, serial: &Serial) -> Option<UnitEntry>
         ensures { result ≡ entry_for self.now serial.now }
     {
         match self.admissions.get(serial) {
-            Some(admission) => Some(Entry {
+            Some(admission) => Some(UnitEntry {
                 disabled: admission.disabled,
                 row: row_at(&self.records, admission.key),
             }),
@@ -293,18 +295,23 @@ impl UnitTable {
         }
     }
 
+    /// The least ONU-ID of an operating unit.
+    fn least_operating(&self) -> Option<u8>
+        ensures { IsLeast (Operates self.now.rows) result }
+    {
+        match self.operating.least_from(0) {
+            Some(onu) => Some(onu as u8),
+            None => None,
+        }
+    }
+
     /// The ONU-ID of the operating unit that is polled next after the last polled one.
     pub fn next_poll(&self, last: Option<u8>) -> Option<u8>
         ensures { IsNextPoll self.now.rows last result }
     {
-        if let Some(last) = last {
-            if let Some(onu) = self.operating.least_from(u16::from(last) + 1) {
-                return Some(onu as u8);
-            }
-        }
-        match self.operating.least_from(0) {
+        match least_above(&self.operating, last) {
             Some(onu) => Some(onu as u8),
-            None => None,
+            None => self.least_operating(),
         }
     }
 
@@ -325,7 +332,7 @@ impl UnitTable {
 
     /// Makes the operating unit with this ONU-ID range from the start.
     fn pop_up_one(&mut self, onu: u8)
-        requires { Operates self.old.rows onu }
+        requires { IsInPhase self.old.rows false onu }
         ensures one { PopsUpOne self.old.rows self.new.rows }
         ensures rest { self.new ≡ record self.old { rows = self.new.rows } }
     {
@@ -339,5 +346,16 @@ impl UnitTable {
             }
             None => unreachable!(),
         }
+    }
+}
+
+/// The least of the ONU-IDs above the last polled one; none where none was polled.
+fn least_above(onus: &NumberSet<0, 4>, last: Option<u8>) -> Option<u16>
+    ensures none { last ≡ None → result ≡ None }
+    ensures some { (polled : ℕ) → last ≡ Some polled → IsLeastFrom onus.now (polled + 1) result }
+{
+    match last {
+        Some(last) => onus.least_from(u16::from(last) + 1),
+        None => None,
     }
 }

@@ -1,5 +1,6 @@
 ghost use Rattle.std.specs.Prelude.{◌≡◌, ◌+◌, ◌≤◌, ℕ, None, Some, Ok, Err, IfOk, OnErr};
 ghost use Rattle.gp_chassis.specs.Limits.{IsWithin};
+ghost use Rattle.gp_chassis.specs.World.{IsBalanced};
 ghost use Rattle.gp_verify.specs.declared.fault.LineRefusal.TheVariants.{Full};
 ghost use Rattle.gp_verify.specs.declared.verdict.Verdict.{Verdict as AnyVerdict};
 ghost use Rattle.gp_verify.specs.declared.verdict.Verdict.TheVariants.{TooLong};
@@ -148,8 +149,11 @@ impl<L: Ledger> Verifier<L> {
         self.buffer.as_bytes()
     }
 
-    /// Ends the chassis, and answers how many licences there are.
-    pub fn close(self) -> u32 {
+    /// Ends the chassis, and answers how many licences it was opened with: those that are free, in hands or with
+    /// active units.
+    pub fn close(self) -> u32
+        ensures { IsBalanced result self.play.world }
+    {
         let Verifier {
             player,
             buffer: _,

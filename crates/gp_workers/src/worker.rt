@@ -1,4 +1,4 @@
-ghost use Rattle.std.specs.Prelude.{◌≡◌, ◌<◌, ◌++◌, ◌∷◌, [], vec_len, vec_capacity, All, OnOk};
+ghost use Rattle.std.specs.Prelude.{◌≡◌, ◌<◌, ◌++◌, ◌∷◌, [], All, OnOk};
 
 use gp_accounts::Told;
 use gp_linear::NeverDropped;
@@ -61,7 +61,7 @@ impl<L: Ledger> Worker<L> {
         requires { 0 < self.old.room }
         ensures { self.new.receipts ≡ self.old.receipts ++ receipt.now ∷ [] }
     {
-        push_within(&mut self.receipts, *receipt);
+        self.receipts.push_reserved(*receipt);
     }
 
     /// Forgets all receipts.
@@ -89,14 +89,6 @@ impl<L: Ledger> Told for Worker<L> {
     fn receipts(&self) -> &[Receipt] {
         Worker::receipts(self)
     }
-}
-
-/// Appends an item where there is room for it.
-fn push_within<T: Copy>(items: &mut Vec<T>, item: T)
-    requires { vec_len items.old < vec_capacity items.old }
-    ensures { items.new.items ≡ items.old.items ++ item ∷ [] }
-{
-    items.push_reserved(item);
 }
 
 /// Ends workers, with their receipts.

@@ -1,4 +1,4 @@
-use Rattle.std.proofs.Common.{◌≡◌, ◌≤◌, length, Ok, refl, rules}
+use Rattle.std.proofs.Common.{◌≡◌, ◌≤◌, length, Ok, rules}
 use Rattle.std.specs.String.{string_bytes}
 use Rattle.gp_stream.specs.Source.{max_bytes}
 use Rattle.gp_script.specs.Script.{storm_script_of}

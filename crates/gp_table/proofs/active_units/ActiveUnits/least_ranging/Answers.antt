@@ -1,5 +1,5 @@
 use Rattle.std.proofs.Common.{subst}
-use Rattle.gp_table.specs.Rows.{IsLeastRanging}
+use Rattle.gp_machine.specs.State.{IsLeastRanging}
 use Rattle.gp_table.proofs.Together.{table_rows}
 use Rattle.gp_table.proofs.active_units.ActiveUnits.least_ranging.Goals as goal
 

@@ -1,5 +1,5 @@
 use Rattle.std.proofs.Common.{subst}
-use Rattle.gp_table.specs.Rows.{IsNextPoll}
+use Rattle.gp_machine.specs.State.{IsNextPoll}
 use Rattle.gp_table.proofs.Together.{table_rows}
 use Rattle.gp_table.proofs.active_units.ActiveUnits.next_poll.Goals as goal
 

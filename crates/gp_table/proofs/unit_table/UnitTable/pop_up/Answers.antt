@@ -1,7 +1,8 @@
-use Rattle.std.proofs.Common.{◌≡◌, ap, ◌∙◌, arith, refl}
+use Rattle.std.proofs.Common.{◌≡◌, ap, ◌∙◌, arith, refl, None}
 use Rattle.gp_table.specs.Rows.{Rows, count_operating, popped_rows}
 use Rattle.gp_table.specs.Units.{Units}
 use Rattle.gp_table.proofs.PopUp.{all_range, count_after_one, count_at_most, count_none, nobody_operates, popped_after_one, popped_none}
+use Rattle.gp_table.proofs.NextPoll.{nobody_polled, polled_operates}
 use Rattle.gp_table.proofs.unit_table.UnitTable.pop_up.Goals as goal
 
 -- other rows, and all else the same
@@ -15,11 +16,11 @@ loop-count-init c = record { same = refl; counted = omega arith; rest = refl }
 pub returns-in_default-clause-rows : goal.returns-in_default-clause-rows
 returns-in_default-clause-rows c =
     c.loop-count.invariant.rest
-    ∙ with_rows c.args.self.now _ _ (popped_none c.loop-count.self.rows (nobody_operates c.loop-count.self.rows c.in_default.ensures) ∙ c.loop-count.invariant.same)
+    ∙ with_rows c.args.self.now _ _ (popped_none c.loop-count.self.rows (nobody_operates c.loop-count.self.rows (nobody_polled c.loop-count.self.rows None c.in_default.ensures)) ∙ c.loop-count.invariant.same)
 
 pub returns-in_default-clause-count : goal.returns-in_default-clause-count
 returns-in_default-clause-count c =
-    let none = count_none c.loop-count.self.rows (nobody_operates c.loop-count.self.rows c.in_default.ensures) in
+    let none = count_none c.loop-count.self.rows (nobody_operates c.loop-count.self.rows (nobody_polled c.loop-count.self.rows None c.in_default.ensures)) in
     omega (arith, none, c.loop-count.invariant.counted)
 
 -- one more ranges
@@ -47,3 +48,6 @@ pub returns-clause-count : goal.returns-clause-count
 returns-clause-count c =
     let most = count_at_most c.args.self.now.rows in
     omega (arith, most, c.len-units.ensures, c.loop-count.invariant.counted)
+
+pub pop_up_one-requires : goal.pop_up_one-requires
+pop_up_one-requires c = polled_operates c.loop-count.self.rows None c.in-Some.onu c.in-Some.ensures

@@ -1,5 +1,5 @@
 use Rattle.std.proofs.Common.{false, sym, ◌∙◌, arith}
-use Rattle.gp_table.specs.Rows.{Operates}
+use Rattle.gp_table.specs.Rows.{IsInPhase}
 use Rattle.gp_table.specs.Table.{rows_of}
 use Rattle.gp_table.proofs.Gets.{no_value}
 use Rattle.gp_table.proofs.Kept.{indexed, holds, is_there, low_onu}
@@ -27,7 +27,7 @@ pub unreachable-requires : goal.unreachable-requires
 unreachable-requires c =
     let q = c.self.inside in
     let both = indexed _ _ _ _ _ _ c.self.invariant in
-    let operates : Operates (rows_of q.records.slots (keys_of q.admissions)) c.args.onu = rw (same_rows q.records.slots q.admissions _ c.self.view_is) c.requires in
+    let operates : IsInPhase (rows_of q.records.slots (keys_of q.admissions)) false c.args.onu = rw (same_rows q.records.slots q.admissions _ c.self.view_is) c.requires in
     let low = low_onu q.records.slots (keys_of q.admissions) q.onus.items false c.args.onu both operates in
     let at = holds q.records.slots (keys_of q.admissions) q.onus.items operates.serial c.args.onu both (operates.row, operates.has, operates.is_onu) in
     no_value at.0 (sym c.in-None.is ∙ key_read q.onus.items c.args.onu c.from.result c.index.result.now c.self.invariant.places low c.from.ensures c.index.ensures ∙ at.2)
