@@ -1,6 +1,7 @@
 //! Says in words which PLOAM message a code is, where the code is given as hexadecimal digits.
 //!
 //! - `line.rt`: `decode_line`, which reads the digits and writes the message's line.
+//! - `words.rt`: `words_of`, the words of thirteen octets.
 //! - `code.rt`: the thirteen octets of a text of hexadecimal digits.
 //! - `message.rt`: a message as its name and its fields.
 //! - `fault.rt`: what may be wrong with a text, and the line and the exit status of a program that meets it.
@@ -14,6 +15,8 @@ mod code;
 mod fault;
 mod line;
 mod message;
+mod words;
 
 pub use fault::LineFault;
 pub use line::decode_line;
+pub use words::words_of;
