@@ -38,17 +38,22 @@ pub fn decode_line<W: Write>(
         → (line : List ℕ) × Says upstream mask text.now line × TakesPrefix sink.old sink.new line }
     ensures kept { IfErr result (λ fault. fault ≢ LineFault.Write → sink.new ≡ sink.old) }
 {
-    let line = line_for(alloc, text, upstream, mask)?;
+    let line = line_for(alloc, text.as_bytes(), upstream, mask)?;
     sink.write_whole(line.as_bytes())?;
     Ok(())
 }
 
 /// Makes the line of the message that a text is the code of.
-fn line_for(alloc: Global, text: &str, upstream: bool, mask: Mask) -> Result<String, LineFault>
+pub(crate) fn line_for(
+    alloc: Global,
+    text: &[u8],
+    upstream: bool,
+    mask: Mask,
+) -> Result<String, LineFault>
     ensures line { IfOk result (λ line. Says upstream mask text.now (string_bytes line)) }
     ensures fault { IfErr result (LacksLine upstream mask text.now) }
 {
-    let code = code_in(text.as_bytes())?;
+    let code = code_in(text)?;
     let mut line = words_of(alloc, &code, upstream, mask)?;
     line.push('\n')?;
     Ok(line)
