@@ -1,0 +1,3 @@
+pub mod Fields
+pub mod Words
+pub mod Encoding
