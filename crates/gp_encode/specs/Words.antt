@@ -81,6 +81,7 @@ down_other parts = do
   body ← next_body octet1.1
   done ← ended body.1
   Ok (down.Other id.0 octet1.0 body.0)
+
 -- the message of the line terminal with this name
 unfoldable pub down_named : List ℕ → List (List ℕ) → Result Down LineFault
 down_named word parts =
@@ -144,6 +145,7 @@ up_other parts = do
   body ← next_body octet1.1
   done ← ended body.1
   Ok (up.Other id.0 octet1.0 body.0)
+
 -- the message of a unit with this name
 unfoldable pub up_named : List ℕ → List (List ℕ) → Result Up LineFault
 up_named word parts =

@@ -27,7 +27,10 @@ fn assign_onu(rest: Option<&[u8]>) -> Result<Down, LineFault>
     let (onu, rest) = next_number(u64::from(u8::MAX), rest)?;
     let (serial, rest) = next_serial(rest)?;
     ended(rest)?;
-    Ok(Down::AssignOnu { onu: onu as u8, serial })
+    Ok(Down::AssignOnu {
+        onu: onu as u8,
+        serial,
+    })
 }
 
 #[tactic(auto, unfolding(crate::specs::Words::down_ranging_time))]
@@ -37,7 +40,10 @@ fn ranging_time(rest: Option<&[u8]>) -> Result<Down, LineFault>
     let (onu, rest) = next_number(u64::from(u8::MAX), rest)?;
     let (eqd, rest) = next_number(u64::from(u32::MAX), rest)?;
     ended(rest)?;
-    Ok(Down::RangingTime { onu: onu as u8, eqd: eqd as u32 })
+    Ok(Down::RangingTime {
+        onu: onu as u8,
+        eqd: eqd as u32,
+    })
 }
 
 #[tactic(auto, unfolding(crate::specs::Words::down_deactivate))]
@@ -83,7 +89,11 @@ fn assign_alloc(rest: Option<&[u8]>) -> Result<Down, LineFault>
     let (alloc, rest) = next_number(GREATEST_ALLOC, rest)?;
     let (keep, rest) = next_keep(rest)?;
     ended(rest)?;
-    Ok(Down::AssignAlloc { onu: onu as u8, alloc: alloc as u16, keep })
+    Ok(Down::AssignAlloc {
+        onu: onu as u8,
+        alloc: alloc as u16,
+        keep,
+    })
 }
 
 #[tactic(auto, unfolding(crate::specs::Words::down_nothing))]
@@ -111,7 +121,11 @@ fn other(rest: Option<&[u8]>) -> Result<Down, LineFault>
     let (octet1, rest) = next_number(u64::from(u8::MAX), rest)?;
     let (body, rest) = next_body(rest)?;
     ended(rest)?;
-    Ok(Down::Other { id: id as u8, octet1: octet1 as u8, body })
+    Ok(Down::Other {
+        id: id as u8,
+        octet1: octet1 as u8,
+        body,
+    })
 }
 
 /// Reads the fields of the message with this name.

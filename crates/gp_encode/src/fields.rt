@@ -22,7 +22,7 @@ pub(crate) fn is_name(word: &[u8], name: &str) -> bool
 fn next_part(rest: Option<&[u8]>) -> Result<(&[u8], Option<&[u8]>), LineFault>
     ensures { MatchResult result
         (λ taken. spec.next_part (parts_behind (option_copied rest.entry))
-            ≡ Ok (taken.0.now, parts_behind (option_copied taken.1)))
+        ≡ Ok (taken.0.now, parts_behind (option_copied taken.1)))
         (λ fault. spec.next_part (parts_behind (option_copied rest.entry)) ≡ Err fault) }
 {
     match rest {
@@ -39,7 +39,7 @@ pub(crate) fn next_number(
 ) -> Result<(u64, Option<&[u8]>), LineFault>
     ensures value { MatchResult result
         (λ taken. spec.next_number greatest (parts_behind (option_copied rest.entry))
-            ≡ Ok (taken.0, parts_behind (option_copied taken.1)))
+        ≡ Ok (taken.0, parts_behind (option_copied taken.1)))
         (λ fault. spec.next_number greatest (parts_behind (option_copied rest.entry)) ≡ Err fault) }
     ensures within { IfOk result (λ taken. taken.0 ≤ greatest) }
 {
@@ -53,7 +53,7 @@ pub(crate) fn next_number(
 pub(crate) fn next_serial(rest: Option<&[u8]>) -> Result<(Serial, Option<&[u8]>), LineFault>
     ensures { MatchResult result
         (λ taken. spec.next_serial (parts_behind (option_copied rest.entry))
-            ≡ Ok (taken.0, parts_behind (option_copied taken.1)))
+        ≡ Ok (taken.0, parts_behind (option_copied taken.1)))
         (λ fault. spec.next_serial (parts_behind (option_copied rest.entry)) ≡ Err fault) }
 {
     let (part, rest) = next_part(rest)?;
@@ -73,7 +73,7 @@ fn body_in(part: &[u8]) -> Result<[u8; 10], LineFault>
 pub(crate) fn next_body(rest: Option<&[u8]>) -> Result<([u8; 10], Option<&[u8]>), LineFault>
     ensures { MatchResult result
         (λ taken. spec.next_body (parts_behind (option_copied rest.entry))
-            ≡ Ok (taken.0, parts_behind (option_copied taken.1)))
+        ≡ Ok (taken.0, parts_behind (option_copied taken.1)))
         (λ fault. spec.next_body (parts_behind (option_copied rest.entry)) ≡ Err fault) }
 {
     let (part, rest) = next_part(rest)?;
@@ -97,7 +97,7 @@ fn keep_of(word: &[u8]) -> Result<bool, LineFault>
 pub(crate) fn next_keep(rest: Option<&[u8]>) -> Result<(bool, Option<&[u8]>), LineFault>
     ensures { MatchResult result
         (λ taken. spec.next_keep (parts_behind (option_copied rest.entry))
-            ≡ Ok (taken.0, parts_behind (option_copied taken.1)))
+        ≡ Ok (taken.0, parts_behind (option_copied taken.1)))
         (λ fault. spec.next_keep (parts_behind (option_copied rest.entry)) ≡ Err fault) }
 {
     let (part, rest) = next_part(rest)?;

@@ -13,7 +13,9 @@ mod down;
 mod encoding;
 mod fault;
 mod fields;
+mod laws;
 mod up;
 
 pub use encoding::encode_words;
 pub use fault::WordsFault;
+pub use laws::{words_are_read, words_come_back};

@@ -23,7 +23,12 @@ fn serial_number(rest: Option<&[u8]>) -> Result<Up, LineFault>
     let (random, rest) = next_number(GREATEST_DELAY, rest)?;
     let (flags, rest) = next_number(GREATEST_FLAGS, rest)?;
     ended(rest)?;
-    Ok(Up::SerialNumber { onu: onu as u8, serial, random: random as u16, flags: flags as u8 })
+    Ok(Up::SerialNumber {
+        onu: onu as u8,
+        serial,
+        random: random as u16,
+        flags: flags as u8,
+    })
 }
 
 #[tactic(auto, unfolding(crate::specs::Words::up_gasp))]
@@ -51,7 +56,11 @@ fn acknowledge(rest: Option<&[u8]>) -> Result<Up, LineFault>
     let (onu, rest) = next_number(u64::from(u8::MAX), rest)?;
     let (id, rest) = next_number(u64::from(u8::MAX), rest)?;
     ended(rest)?;
-    Ok(Up::Acknowledge { onu: onu as u8, id: id as u8, copy: [0; 9] })
+    Ok(Up::Acknowledge {
+        onu: onu as u8,
+        id: id as u8,
+        copy: [0; 9],
+    })
 }
 
 #[tactic(auto, unfolding(crate::specs::Words::up_other))]
@@ -62,7 +71,11 @@ fn other(rest: Option<&[u8]>) -> Result<Up, LineFault>
     let (octet1, rest) = next_number(u64::from(u8::MAX), rest)?;
     let (body, rest) = next_body(rest)?;
     ended(rest)?;
-    Ok(Up::Other { id: id as u8, octet1: octet1 as u8, body })
+    Ok(Up::Other {
+        id: id as u8,
+        octet1: octet1 as u8,
+        body,
+    })
 }
 
 /// Reads the fields of the message with this name.
