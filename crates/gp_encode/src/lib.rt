@@ -1,6 +1,7 @@
 //! Gives the code of a message that is said in words: the inverse of `gp_decode`.
 //!
-//! - `encoding.rt`: `encode_words`, from words to thirteen octets.
+//! - `line.rt`: `encode_line`, which writes the code in hexadecimal digits; `encoding.rt`: `encode_words`, from words to
+//!   thirteen octets.
 //! - `down.rt`, `up.rt`: the message that words say, of each direction; `fields.rt`: its fields.
 //! - `laws.rt`: the words that `gp_decode` has for a message say that message.
 //! - `fault.rt`: what may be wrong with words.
@@ -14,8 +15,10 @@ mod encoding;
 mod fault;
 mod fields;
 mod laws;
+mod line;
 mod up;
 
 pub use encoding::encode_words;
-pub use fault::WordsFault;
+pub use fault::{EncodeFault, WordsFault};
 pub use laws::{words_are_read, words_come_back};
+pub use line::encode_line;
