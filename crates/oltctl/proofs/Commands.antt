@@ -1,5 +1,5 @@
 -- The command line, from its commands.
-use Rattle.std.proofs.Common.{◌≡◌, ◌≢◌, true, false, List, Result, Ok, Err, IfOk, IfErr, sym, ap, subst, ◌∙◌, inl, inr}
+use Rattle.std.proofs.Common.{◌≡◌, ◌≢◌, true, false, List, Result, Ok, Err, IfOk, IfErr, ap, subst, ◌∙◌, inl, inr}
 use Rattle.clap.specs.Words.{AddsSubcommand, App, FailsBy, IsAmong, Text, app_of, fault_of, is_simple_and_free, kind_of, shape_of, with_subcommand}
 use Rattle.clap.specs.declared.builder.command.Command.{Command}
 use Rattle.clap.specs.declared.builder.command.Command.TheViews.{out-Command as fields_of}

@@ -138,7 +138,9 @@ fn code<'a>(alloc: Global) -> Arg<'a>
     Arg::new(alloc, "code")
         .value_name("HEX")
         .action(ArgAction::Append)
-        .help("Codes of thirteen octets, as 26 hexadecimal digits each; one a line from standard input if left out, or for -")
+        .help(
+            "Codes of thirteen octets, as 26 hexadecimal digits each; one a line from standard input if left out, or for -",
+        )
 }
 
 fn decode<'a>(alloc: Global) -> Result<Command<'a>, AllocError>

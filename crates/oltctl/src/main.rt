@@ -28,8 +28,8 @@ use gp_flow::LinesFault;
 use gp_ploam::Mask;
 use gp_replay::{RunFault, run_replay};
 use gp_report::{
-    BAD_ARGUMENTS, SUCCESS, arguments_report, encode_report, explain_report, input_report, line_report,
-    memory_report, run_report, verify_report, write_report,
+    BAD_ARGUMENTS, SUCCESS, arguments_report, encode_report, explain_report, input_report,
+    line_report, memory_report, run_report, verify_report, write_report,
 };
 use gp_storm::run_storm;
 use gp_stream::{Sink, Source};
@@ -247,12 +247,7 @@ fn end_lines<R: Eprint>(rt: &R, outcome: &Result<Option<FaultAt>, LinesFault>) -
 }
 
 /// Gives the code of words, on standard output, and answers the exit status.
-fn encode<R: AllocGlobal + Print + Eprint>(
-    rt: &R,
-    words: &[&str],
-    upstream: bool,
-    mask: Mask,
-) -> u8
+fn encode<R: AllocGlobal + Print + Eprint>(rt: &R, words: &[&str], upstream: bool, mask: Mask) -> u8
     ensures { IsEncoded result }
 {
     let Ok(text) = joined(rt.alloc(), words, b' ') else {
