@@ -15,8 +15,8 @@ use Rattle.gp_decode.specs.Line.{HasLineFault, IsOfText, LacksLine, Says}
 -- the code of a text that says a line, with its check octet
 pub code_said : (upstream : Bool) (mask : Mask) (text line : List ℕ) → Says upstream mask text line
     → (code : List ℕ) × (decode_of text ≡ Ok code) × (length code ≡ 13) × HasRightCheck code (mask_value mask)
-code_said true mask text line s = (s.code, s.spelled, s.said.1.long, s.said.1.check)
-code_said false mask text line s = (s.code, s.spelled, s.said.1.long, s.said.1.check)
+code_said true mask text line s = (s.code, s.spelled, s.said.1.1.long, s.said.1.1.check)
+code_said false mask text line s = (s.code, s.spelled, s.said.1.1.long, s.said.1.1.check)
 
 -- the octets read, or none
 abbrev octets_in : {E : Type 0} → Result (List ℕ) E → List ℕ

@@ -14,10 +14,15 @@ use Rattle.gp_decode.specs.declared.fault.LineFault.{LineFault}
 use Rattle.gp_decode.specs.declared.fault.LineFault.TheVariants as fault
 use Rattle.gp_decode.specs.Message.{down_text, up_text}
 
--- the line says the message that a code is read as: upstream or downstream, under the mask
+-- the words of the message that a code is read as: upstream or downstream, under the mask
+abbrev pub HasWords : Bool → Mask → List ℕ → List ℕ → Type 0
+HasWords true mask code words = (m : Up) × ReadsUp code (mask_value mask) m × (words ≡ up_text m)
+HasWords false mask code words = (m : Down) × ReadsDown code (mask_value mask) m × (words ≡ down_text m)
+
+-- the line says these words, and ends behind them
 abbrev pub SaysCode : Bool → Mask → List ℕ → List ℕ → Type 0
-SaysCode true mask code line = (m : Up) × ReadsUp code (mask_value mask) m × (line ≡ up_text m ++ codes "\n")
-SaysCode false mask code line = (m : Down) × ReadsDown code (mask_value mask) m × (line ≡ down_text m ++ codes "\n")
+SaysCode upstream mask code line =
+    (words : List ℕ) × HasWords upstream mask code words × (line ≡ words ++ codes "\n")
 
 -- the text is the hexadecimal digits of a code, and the line says the message that this is read as
 pub record Says (upstream : Bool) (mask : Mask) (text line : List ℕ) : Type 0 where
@@ -51,8 +56,8 @@ abbrev pub LacksLine : Bool → Mask → List ℕ → LineFault → Type 0
 LacksLine upstream mask text fault.OutOfMemory = (line : List ℕ) × Says upstream mask text line
 LacksLine upstream mask text own = HasLineFault mask text own
 
--- why there is no line for thirteen octets: out of memory for the line that they say, or a check octet that is wrong
-abbrev pub LacksLineOfCode : Bool → Mask → List ℕ → LineFault → Type 0
-LacksLineOfCode upstream mask code fault.OutOfMemory = (line : List ℕ) × SaysCode upstream mask code line
-LacksLineOfCode upstream mask code fault.Crc = HasWrongCheck mask code
-LacksLineOfCode upstream mask code _ = ⊥
+-- why there are no words for thirteen octets: out of memory for those that they have, or a check octet that is wrong
+abbrev pub LacksWords : Bool → Mask → List ℕ → LineFault → Type 0
+LacksWords upstream mask code fault.OutOfMemory = (words : List ℕ) × HasWords upstream mask code words
+LacksWords upstream mask code fault.Crc = HasWrongCheck mask code
+LacksWords upstream mask code _ = ⊥

@@ -1,19 +1,28 @@
 //! Says in words which PLOAM message a code is, where the code is given as hexadecimal digits.
 //!
 //! - `line.rt`: `decode_line`, which reads the digits and writes the message's line.
+//! - `lines.rt`: `decode_lines`, which does so of each line of an input; `decoder.rt`: `Decoder`, what serves the lines.
+//! - `words.rt`: `words_of`, the words of thirteen octets.
 //! - `code.rt`: the thirteen octets of a text of hexadecimal digits.
 //! - `message.rt`: a message as its name and its fields.
 //! - `fault.rt`: what may be wrong with a text, and the line and the exit status of a program that meets it.
 //!
 //! Where to make which change: the words for a message stand in `message.rt` and `specs/Message.antt`; what is wrong
-//! with a text, and in which order, in `code.rt` and `specs/Line.antt`; a line on standard error or an exit status in
+//! with a text, and in which order, in `code.rt` and `specs/Line.antt`; what is said to a line of many in
+//! `specs/Lines.antt`; a line on standard error or an exit status in
 //! `fault.rt` and `specs/Faults.antt`.
 #![tactic(auto)]
 
 mod code;
+mod decoder;
 mod fault;
 mod line;
+mod lines;
 mod message;
+mod words;
 
+pub use decoder::{Decoder, FaultAt};
 pub use fault::LineFault;
 pub use line::decode_line;
+pub use lines::decode_lines;
+pub use words::words_of;

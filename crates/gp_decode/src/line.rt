@@ -3,12 +3,12 @@ ghost use Rattle.std.specs.Prelude.{◌≡◌, ◌≢◌, ◌↔◌, ℕ, List, 
 ghost use Rattle.std.specs.String.{string_bytes};
 ghost use Rattle.gp_stream.specs.Sink.{Takes, TakesPrefix};
 ghost use Rattle.gp_decode.specs.declared.fault.LineFault.{LineFault as AnyFault};
-ghost use Rattle.gp_decode.specs.Line.{HasLineFault, IsOfText, LacksLine, LacksLineOfCode, Says, SaysCode};
+ghost use Rattle.gp_decode.specs.Line.{HasLineFault, IsOfText, LacksLine, Says};
 
 use super::code::code_in;
 use super::fault::LineFault;
-use super::message::{DownText, UpText};
-use gp_ploam::{Mask, decode_down, decode_up};
+use super::words::words_of;
+use gp_ploam::Mask;
 use gp_stream::Sink;
 use std::alloc::Global;
 use std::io::Write;
@@ -38,46 +38,23 @@ pub fn decode_line<W: Write>(
         → (line : List ℕ) × Says upstream mask text.now line × TakesPrefix sink.old sink.new line }
     ensures kept { IfErr result (λ fault. fault ≢ LineFault.Write → sink.new ≡ sink.old) }
 {
-    let line = line_for(alloc, text, upstream, mask)?;
+    let line = line_for(alloc, text.as_bytes(), upstream, mask)?;
     sink.write_whole(line.as_bytes())?;
     Ok(())
 }
 
 /// Makes the line of the message that a text is the code of.
-fn line_for(alloc: Global, text: &str, upstream: bool, mask: Mask) -> Result<String, LineFault>
+pub(crate) fn line_for(
+    alloc: Global,
+    text: &[u8],
+    upstream: bool,
+    mask: Mask,
+) -> Result<String, LineFault>
     ensures line { IfOk result (λ line. Says upstream mask text.now (string_bytes line)) }
     ensures fault { IfErr result (LacksLine upstream mask text.now) }
 {
-    let code = code_in(text.as_bytes())?;
-    line_of(alloc, &code, upstream, mask)
-}
-
-/// Makes the line of the message that a code is read as.
-fn line_of(alloc: Global, code: &[u8; 13], upstream: bool, mask: Mask) -> Result<String, LineFault>
-    ensures line { IfOk result (λ line. SaysCode upstream mask code.now (string_bytes line)) }
-    ensures fault { IfErr result (LacksLineOfCode upstream mask code.now) }
-{
-    if upstream {
-        up_line(alloc, code, mask)
-    } else {
-        down_line(alloc, code, mask)
-    }
-}
-
-/// Makes the line of the upstream message that a code is read as.
-fn up_line(alloc: Global, code: &[u8; 13], mask: Mask) -> Result<String, LineFault>
-    ensures line { IfOk result (λ line. SaysCode true mask code.now (string_bytes line)) }
-    ensures fault { IfErr result (LacksLineOfCode true mask code.now) }
-{
-    let message = UpText(decode_up(code, mask)?);
-    Ok(format!(in alloc; "{message}\n")?)
-}
-
-/// Makes the line of the downstream message that a code is read as.
-fn down_line(alloc: Global, code: &[u8; 13], mask: Mask) -> Result<String, LineFault>
-    ensures line { IfOk result (λ line. SaysCode false mask code.now (string_bytes line)) }
-    ensures fault { IfErr result (LacksLineOfCode false mask code.now) }
-{
-    let message = DownText(decode_down(code, mask)?);
-    Ok(format!(in alloc; "{message}\n")?)
+    let code = code_in(text)?;
+    let mut line = words_of(alloc, &code, upstream, mask)?;
+    line.push('\n')?;
+    Ok(line)
 }

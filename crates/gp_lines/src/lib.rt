@@ -6,8 +6,8 @@
 //! - `picks.rt`: `picked`, the number that an answer picks.
 //! - `laws.rt`, `told.rt`, `short.rt`: what `gp_trace` writes is read back, a text tells one thing at most, and a
 //!   line of a trace has no line feed but the one that ends it, and is not too long.
-//! - `word.rt`, `fields.rt`, `parts.rt`: the words that events begin with, numbers, codes and serial numbers, and what
-//!   stands between the spaces of a text. `fault.rt`: what is wrong with a line.
+//! - `word.rt`: the words that events begin with. `fields.rt`: numbers, codes and serial numbers. `parts.rt`: what stands
+//!   between the spaces of a text. `fault.rt`: what is wrong with a line.
 //!
 //! Where to make which change: what a text spells stands in `specs/Spelling.antt` and `specs/Turn.antt`, its first
 //! fault in `specs/Fault.antt` and `specs/TurnFault.antt`, a line of a trace in `specs/Trace.antt`.
@@ -30,11 +30,13 @@ mod word;
 
 pub use event::parse_event;
 pub use fault::LineFault;
+pub use fields::{number_in, serial_in};
 pub use laws::{
     events_are_read, one_cut, one_event, one_turn, picks_are_read, told_events_are_read,
     told_picks_are_read, told_turns_are_read, traced_lines_are_cut, traced_lines_are_short,
     traced_lines_end_once, turns_are_read,
 };
+pub use parts::cut;
 pub use picks::picked;
 pub use short::answer_is_short;
 pub use told::event_is_told;

@@ -1,12 +1,16 @@
 //! The line on standard error, without its line feed, and the exit status of each fault.
 ghost use Rattle.std.specs.Prelude.{◌≡◌};
 ghost use Rattle.gp_report.specs.Report.{arguments_line, code_line, code_status, memory_line, run_line, run_status, script_line, unanswered_line, unanswered_status, verdict_line, verdict_status, verify_line, verify_status, write_line};
+ghost use Rattle.gp_report.specs.Words.{explain_line, explain_status, input_line, input_status, none_line, part_line, words_line};
 
 use crate::status::{
     BAD_ARGUMENTS, BAD_INPUT, DISAGREEMENT, JOURNAL_FULL, NOT_A_RUN, NOT_WRITTEN, OUT_OF_MEMORY,
 };
 use gp_decode::LineFault;
+use gp_encode::WordsFault;
+use gp_explain::{ExplainFault, NoLine};
 use gp_flow::{LineFault as UnansweredLine, LinesFault};
+use gp_lines::LineFault as PartFault;
 use gp_replay::RunFault;
 use gp_script::ScriptFault;
 use gp_verify::{Verdict, VerifyFault};
@@ -116,5 +120,63 @@ fn unanswered_report(line: UnansweredLine) -> (&'static str, u8)
         UnansweredLine::OutOfMemory => memory_report(),
         UnansweredLine::Write => write_report(),
         UnansweredLine::Full => ("oltctl: too many lines", BAD_INPUT),
+    }
+}
+
+/// Answers the line and the status where not all lines of an input were answered.
+pub fn input_report(fault: &LinesFault) -> (&'static str, u8)
+    ensures line { result.0.now ≡ input_line fault.now }
+    ensures status { result.1 ≡ input_status fault.now }
+{
+    match *fault {
+        LinesFault::Read => ("oltctl: read", BAD_INPUT),
+        LinesFault::Line(line) => unanswered_report(line),
+    }
+}
+
+/// Answers the line, without the number of the trace's line, and the status of an explanation that ended with this
+/// fault.
+pub fn explain_report(fault: &ExplainFault) -> (&'static str, u8)
+    ensures line { result.0.now ≡ explain_line fault.now }
+    ensures status { result.1 ≡ explain_status fault.now }
+{
+    match fault {
+        ExplainFault::Refused { line: _, why } => (none_report_line(*why), BAD_INPUT),
+        ExplainFault::Lines(fault) => input_report(fault),
+    }
+}
+
+/// Answers the line of why a line is none of a trace.
+fn none_report_line(why: NoLine) -> &'static str
+    ensures { result.now ≡ none_line why }
+{
+    match why {
+        NoLine::NotALine => "oltctl: no line of a trace",
+        NoLine::TooLong => "oltctl: line too long",
+    }
+}
+
+/// Answers the line and the status of words that have no code.
+pub fn encode_report(fault: &WordsFault) -> (&'static str, u8)
+    ensures line { result.0.now ≡ words_line fault.now }
+    ensures status { result.1 ≡ BAD_INPUT }
+{
+    match *fault {
+        WordsFault::Part(part) => (part_report_line(part), BAD_INPUT),
+        WordsFault::Named => ("oltctl: encode named", BAD_INPUT),
+    }
+}
+
+/// Answers the line of a part of words that has this fault.
+fn part_report_line(fault: PartFault) -> &'static str
+    ensures { result.now ≡ part_line fault }
+{
+    match fault {
+        PartFault::Word => "oltctl: encode word",
+        PartFault::Number => "oltctl: encode number",
+        PartFault::Serial => "oltctl: encode serial",
+        PartFault::Hex => "oltctl: encode hex",
+        PartFault::Range => "oltctl: encode range",
+        PartFault::Long => "oltctl: encode long",
     }
 }

@@ -1,12 +1,12 @@
--- The command line: `oltctl replay [FILE]`, `oltctl storm [FILE]`, `oltctl verify FILE [TRACE]` and `oltctl decode
--- [--up] [--mask 0|85] HEX` (this
--- profile's own rule).
+-- The command line: `oltctl replay [FILE]`, `oltctl storm [FILE]`, `oltctl verify FILE [TRACE]`, `oltctl explain
+-- [--mask 0|85] [TRACE]`, `oltctl decode [--up] [--mask 0|85] [HEX..]` and `oltctl encode [--up] [--mask 0|85] WORDS..`
+-- (this profile's own rule).
 use Rattle.std.specs.Prelude.{◌≡◌, List, [], ◌∷◌, Option, None, Some, map, true, codes, if◌then◌else◌}
 use Rattle.std.specs.Borrow.{Bor}
 use Rattle.std.specs.Str.{bytes_eq}
 use Rattle.clap.specs.Simple.{on_top}
 use Rattle.clap.specs.Words.{App, IsAmong, Rule, Text, fault_of, new_app, new_rule, with_rule, with_subcommand, subcommand_of, subcommand_rows_of}
-use Rattle.clap.specs.declared.builder.action.ArgAction.TheVariants.{SetTrue}
+use Rattle.clap.specs.declared.builder.action.ArgAction.TheVariants.{Append, SetTrue}
 use Rattle.clap.specs.declared.builder.value_parser.ValueParser.TheVariants.{Names}
 use Rattle.clap.specs.declared.error.kind.ErrorKind.{ErrorKind}
 use Rattle.clap.specs.declared.parser.matches.ArgMatches.{ArgMatches}
@@ -35,9 +35,13 @@ mask_rule names =
     record (new_rule (codes "mask"))
     { long = Some (codes "mask"); value_names = 1; parser = Some (Names names); defaults = codes "0" ∷ [] }
 
--- HEX, which is required
+-- HEX, as often as there are codes
 abbrev pub code_rule : Rule
-code_rule = record (new_rule (codes "code")) { value_names = 1; required = true }
+code_rule = record (new_rule (codes "code")) { value_names = 1; action = Some Append }
+
+-- WORDS, one at least
+abbrev pub words_rule : Rule
+words_rule = record (new_rule (codes "words")) { value_names = 1; required = true; action = Some Append }
 
 -- the script of a verification, which is required
 abbrev pub script_rule : Rule
@@ -59,6 +63,22 @@ verify_command = with_rule (with_rule (new_app (codes "verify")) script_rule) tr
 abbrev pub decode_command : MaskNames → App
 decode_command names = with_rule (with_rule (with_rule (new_app (codes "decode")) up_rule) (mask_rule names)) code_rule
 
+abbrev pub encode_command : MaskNames → App
+encode_command names =
+    with_rule (with_rule (with_rule (new_app (codes "encode")) up_rule) (mask_rule names)) words_rule
+
+abbrev pub explain_command : MaskNames → App
+explain_command names = with_rule (with_rule (new_app (codes "explain")) (mask_rule names)) trace_rule
+
+-- the names of the masks of each command that takes one
+pub record AllNames : Type 0 where
+  pub explain : MaskNames
+  pub decode : MaskNames
+  pub encode : MaskNames
+
+abbrev pub AreAllMasks : AllNames → Type 0
+AreAllMasks names = AreMasks names.explain × AreMasks names.decode × AreMasks names.encode
+
 -- the program as far as it is about scripts: one of its commands has to be named; with no words at all the help is
 -- shown
 abbrev pub script_commands : App
@@ -72,20 +92,23 @@ abbrev pub trace_commands : App
 trace_commands = with_subcommand script_commands verify_command.top
 
 -- the whole program
-abbrev pub oltctl_command : MaskNames → App
-oltctl_command names = with_subcommand trace_commands (decode_command names).top
+abbrev pub oltctl_command : AllNames → App
+oltctl_command names =
+    with_subcommand
+    (with_subcommand (with_subcommand trace_commands (explain_command names.explain).top)
+    (decode_command names.decode).top) (encode_command names.encode).top
 
 -- the words have no fault, and what was parsed is the subcommand that they name, with the values that they give it
 pub record IsParseOf (words : List Text) (m : ArgMatches) : Type 0 where
-  pub names : MaskNames
-  pub masks : AreMasks names
+  pub names : AllNames
+  pub masks : AreAllMasks names
   pub faultless : fault_of (oltctl_command names) words ≡ []
   pub found : subcommand_rows_of m ≡ subcommand_of (oltctl_command names) words
 
 -- this is what is wrong with the words, or that help was asked for
 pub record IsFaultOf (words : List Text) (kind : ErrorKind) : Type 0 where
-  pub names : MaskNames
-  pub masks : AreMasks names
+  pub names : AllNames
+  pub masks : AreAllMasks names
   pub among : IsAmong kind (fault_of (oltctl_command names) words)
 
 -- the mask that a name stands for: 85 is the other mask, and everything else the plain one, as where there is none

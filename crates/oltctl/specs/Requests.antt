@@ -1,9 +1,10 @@
 -- What a parsed command line asks for (this profile's own rule).
-use Rattle.std.specs.Prelude.{◌≡◌, ◌≢◌, List, Bool, true, false, Option, None, Some, option_map, codes}
-use Rattle.clap.specs.Words.{Row, Text, first_of, one_of}
+use Rattle.std.specs.Prelude.{◌≡◌, ◌≢◌, List, [], ◌∷◌, Bool, true, false, Option, None, Some, map, option_map, codes}
+use Rattle.std.specs.Borrow.{Bor}
+use Rattle.clap.specs.Words.{Row, Text, all_of, first_of, one_of}
 use Rattle.oltctl.specs.CommandLine.{mask_named}
 use Rattle.oltctl.specs.declared.request.Request.{Request}
-use Rattle.oltctl.specs.declared.request.Request.TheVariants.{Replay, Storm, Verify, Decode}
+use Rattle.oltctl.specs.declared.request.Request.TheVariants.{Replay, Storm, Verify, Decode, DecodeLines, Encode, Explain}
 
 -- a flag is given or not, as its text says, and is not where it has none
 pub record IsFlag (rows : List Row) (id : Text) (is_given : Bool) : Type 0 where
@@ -11,37 +12,51 @@ pub record IsFlag (rows : List Row) (id : Text) (is_given : Bool) : Type 0 where
   pub yes : one_of id rows ≡ Some (codes "true") → is_given ≡ true
   pub no : one_of id rows ≡ Some (codes "false") → is_given ≡ false
 
+-- the texts of words, as clap holds them
+abbrev pub texts : Bor (List (Bor Text)) → List Text
+texts words = map (λ word. word.now) words.now
+
 -- the rows of `replay` ask to play FILE, or standard input where it is left out
 abbrev pub AsksToReplay : List Row → Request → Type 0
 AsksToReplay rows (Replay file) = option_map (λ name. name.now) file ≡ first_of (codes "file") rows
-AsksToReplay rows (Storm file) = ⊥
-AsksToReplay rows (Verify script trace) = ⊥
-AsksToReplay rows (Decode code upstream mask) = ⊥
+AsksToReplay rows _ = ⊥
 
 -- the rows of `storm` ask for the storm of FILE, or of standard input where it is left out
 abbrev pub AsksToStorm : List Row → Request → Type 0
-AsksToStorm rows (Replay file) = ⊥
 AsksToStorm rows (Storm file) = option_map (λ name. name.now) file ≡ first_of (codes "file") rows
-AsksToStorm rows (Verify script trace) = ⊥
-AsksToStorm rows (Decode code upstream mask) = ⊥
+AsksToStorm rows _ = ⊥
 
 -- the rows of `verify` ask to verify TRACE, or standard input where it is left out, against the script of FILE
 abbrev pub AsksToVerify : List Row → Request → Type 0
-AsksToVerify rows (Replay file) = ⊥
-AsksToVerify rows (Storm file) = ⊥
 AsksToVerify rows (Verify script trace) =
     (first_of (codes "script") rows ≡ Some script.now)
     × (option_map (λ name. name.now) trace ≡ first_of (codes "trace") rows)
-AsksToVerify rows (Decode code upstream mask) = ⊥
+AsksToVerify rows _ = ⊥
 
--- the rows of `decode` ask for the words of HEX, as an upstream message with `--up`, under the mask of `--mask`
+-- the rows of `decode` ask for the words of one HEX, or of each of several or of standard input, as upstream messages
+-- with `--up`, under the mask of `--mask`
 abbrev pub AsksToDecode : List Row → Request → Type 0
-AsksToDecode rows (Replay file) = ⊥
-AsksToDecode rows (Storm file) = ⊥
-AsksToDecode rows (Verify script trace) = ⊥
 AsksToDecode rows (Decode code upstream mask) =
-    (first_of (codes "code") rows ≡ Some code.now) × IsFlag rows (codes "up") upstream
+    (all_of (codes "code") rows ≡ Some (code.now ∷ [])) × IsFlag rows (codes "up") upstream
     × (mask ≡ mask_named (first_of (codes "mask") rows))
+AsksToDecode rows (DecodeLines many upstream mask) =
+    (option_map texts many ≡ all_of (codes "code") rows) × IsFlag rows (codes "up") upstream
+    × (mask ≡ mask_named (first_of (codes "mask") rows))
+AsksToDecode rows _ = ⊥
+
+-- the rows of `encode` ask for the code of WORDS, of an upstream message with `--up`, under the mask of `--mask`
+abbrev pub AsksToEncode : List Row → Request → Type 0
+AsksToEncode rows (Encode words upstream mask) =
+    (all_of (codes "words") rows ≡ Some (texts words)) × IsFlag rows (codes "up") upstream
+    × (mask ≡ mask_named (first_of (codes "mask") rows))
+AsksToEncode rows _ = ⊥
+
+-- the rows of `explain` ask for TRACE in words, or for standard input where it is left out, under the mask of `--mask`
+abbrev pub AsksToExplain : List Row → Request → Type 0
+AsksToExplain rows (Explain trace mask) =
+    (option_map (λ name. name.now) trace ≡ first_of (codes "trace") rows)
+    × (mask ≡ mask_named (first_of (codes "mask") rows))
+AsksToExplain rows _ = ⊥
 
 -- the subcommand that was parsed, with its rows, asks for this
 abbrev pub Asks : Option (Text × List Row) → Request → Type 0
@@ -52,11 +67,16 @@ Asks (Some (name, rows)) (Verify script trace) =
     (name ≡ codes "verify") × AsksToVerify rows (Verify script trace)
 Asks (Some (name, rows)) (Decode code upstream mask) =
     (name ≡ codes "decode") × AsksToDecode rows (Decode code upstream mask)
+Asks (Some (name, rows)) (DecodeLines many upstream mask) =
+    (name ≡ codes "decode") × AsksToDecode rows (DecodeLines many upstream mask)
+Asks (Some (name, rows)) (Encode words upstream mask) =
+    (name ≡ codes "encode") × AsksToEncode rows (Encode words upstream mask)
+Asks (Some (name, rows)) (Explain trace mask) = (name ≡ codes "explain") × AsksToExplain rows (Explain trace mask)
 
--- it asks for nothing that is known: there is none, or another one, or one that has no code to decode or no script
+-- it asks for nothing that is known: there is none, or another one, or one that has no script or no words
 abbrev pub AsksNothing : Option (Text × List Row) → Type 0
 AsksNothing None = Unit {0}
 AsksNothing (Some (name, rows)) =
-    (name ≢ codes "replay") × (name ≢ codes "storm")
+    (name ≢ codes "replay") × (name ≢ codes "storm") × (name ≢ codes "decode") × (name ≢ codes "explain")
     × (name ≡ codes "verify" → first_of (codes "script") rows ≡ None)
-    × (name ≡ codes "decode" → first_of (codes "code") rows ≡ None)
+    × (name ≡ codes "encode" → all_of (codes "words") rows ≡ None)

@@ -1,16 +1,20 @@
 -- The exit statuses of the program (this profile's own rule).
-use Rattle.std.specs.Prelude.{◌≡◌, ◌≢◌, ℕ, Bool, List, ◌⊎◌, Result, Ok, Err}
+use Rattle.std.specs.Prelude.{◌≡◌, ◌≢◌, ℕ, Bool, List, ◌⊎◌, Option, None, Some, Result, Ok, Err}
 use Rattle.std.specs.declared.io.ErrorKind.{ErrorKind as IoErrorKind}
 use Rattle.std.specs.declared.io.ErrorKind.TheVariants as io_error
 use Rattle.clap.specs.declared.error.kind.ErrorKind.{ErrorKind}
 use Rattle.clap.specs.declared.error.kind.ErrorKind.TheVariants as error
 use Rattle.gp_ploam.specs.declared.check.Mask.{Mask}
+use Rattle.gp_decode.specs.declared.decoder.FaultAt.{FaultAt}
 use Rattle.gp_decode.specs.declared.fault.LineFault.{LineFault}
 use Rattle.gp_decode.specs.Line.{HasLineFault, IsOfText, Says}
+use Rattle.gp_explain.specs.declared.fault.ExplainFault.{ExplainFault}
+use Rattle.gp_flow.specs.declared.fault.LinesFault.{LinesFault}
 use Rattle.gp_replay.specs.declared.fault.RunFault.{RunFault}
 use Rattle.gp_replay.specs.declared.fault.RunFault.TheVariants as run
-use Rattle.gp_report.specs.declared.status.TheConstants.{BAD_ARGUMENTS, NOT_A_RUN, NOT_WRITTEN, OUT_OF_MEMORY, SUCCESS}
+use Rattle.gp_report.specs.declared.status.TheConstants.{BAD_ARGUMENTS, BAD_INPUT, NOT_A_RUN, NOT_WRITTEN, OUT_OF_MEMORY, SUCCESS}
 use Rattle.gp_report.specs.Report.{arguments_line, code_status, memory_line, run_status, verify_status}
+use Rattle.gp_report.specs.Words.{explain_status, input_status}
 use Rattle.gp_verify.specs.declared.outcome.CheckFault.{CheckFault}
 use Rattle.gp_verify.specs.declared.outcome.CheckFault.TheVariants as check
 use Rattle.clap.specs.Words.{Text, subcommand_rows_of}
@@ -18,7 +22,7 @@ use Rattle.clap.specs.declared.parser.matches.ArgMatches.{ArgMatches}
 use Rattle.oltctl.specs.CommandLine.{IsFaultOf, IsParseOf}
 use Rattle.oltctl.specs.Requests.{Asks, AsksNothing}
 use Rattle.oltctl.specs.declared.request.Request.{Request}
-use Rattle.oltctl.specs.declared.request.Request.TheVariants.{Replay, Storm, Verify, Decode}
+use Rattle.oltctl.specs.declared.request.Request.TheVariants.{Replay, Storm, Verify, Decode, DecodeLines, Encode, Explain}
 
 -- no status is greater
 abbrev pub greatest_status : ℕ
@@ -80,12 +84,38 @@ IsVerifyStatus (Err (check.Trace fault)) status = status ≡ verify_status fault
 abbrev pub IsVerified : ℕ → Type 0
 IsVerified status = (outcome : Result ℕ CheckFault) × IsVerifyStatus outcome status
 
+-- the status after lines were decoded: that of the first fault, if one had a fault
+abbrev pub lines_status : Result (Option FaultAt) LinesFault → ℕ
+lines_status (Ok None) = SUCCESS
+lines_status (Ok (Some first)) = code_status first.fault
+lines_status (Err fault) = input_status fault
+
+-- what codes are given, or standard input holds, no contract can tell, so it is that of some input
+abbrev pub AreDecoded : ℕ → Type 0
+AreDecoded status = (outcome : Result (Option FaultAt) LinesFault) × (status ≡ lines_status outcome)
+
+-- the status after words were to be encoded: they have a code, or a fault, or memory or the output failed
+abbrev pub IsEncoded : ℕ → Type 0
+IsEncoded status = (status ≡ SUCCESS) ⊎ (status ≡ BAD_INPUT) ⊎ (status ≡ OUT_OF_MEMORY) ⊎ (status ≡ NOT_WRITTEN)
+
+-- the status after a trace was told in words
+abbrev pub told_status : Result ℕ ExplainFault → ℕ
+told_status (Ok lines) = SUCCESS
+told_status (Err fault) = explain_status fault
+
+-- what a file or standard input holds no contract can tell, so it is that of some trace
+abbrev pub IsExplained : ℕ → Type 0
+IsExplained status = (outcome : Result ℕ ExplainFault) × (status ≡ told_status outcome)
+
 -- the status after what was asked for
 abbrev pub IsServed : Request → ℕ → Type 0
 IsServed (Replay file) status = IsPlayed status
 IsServed (Storm file) status = IsStormed status
 IsServed (Verify script trace) status = IsVerified status
 IsServed (Decode code upstream mask) status = IsDecoded code.now upstream mask status
+IsServed (DecodeLines many upstream mask) status = AreDecoded status
+IsServed (Encode words upstream mask) status = IsEncoded status
+IsServed (Explain trace mask) status = IsExplained status
 
 -- how a run over the words of a command line may end, with this status
 pub data IsRun (words : List Text) (status : ℕ) : Type 0 where

@@ -2,7 +2,7 @@
 ghost use Rattle.std.specs.Prelude.{◌≡◌, ◌≢◌, IfErr, IfOk, false, map};
 ghost use Rattle.clap.specs.Words.{app_of, kind_of, rule_of};
 ghost use Rattle.clap.specs.declared.builder.command.Command.TheViews.{out-Command as fields_of};
-ghost use Rattle.oltctl.specs.CommandLine.{AreMasks, IsFaultOf, IsParseOf, MaskNames, code_rule, decode_command, file_rule, mask_rule, oltctl_command, replay_command, script_commands, script_rule, storm_command, trace_commands, trace_rule, up_rule, verify_command};
+ghost use Rattle.oltctl.specs.CommandLine.{AllNames, AreAllMasks, AreMasks, IsFaultOf, IsParseOf, MaskNames, code_rule, decode_command, encode_command, explain_command, file_rule, mask_rule, oltctl_command, replay_command, script_commands, script_rule, storm_command, trace_commands, trace_rule, up_rule, verify_command, words_rule};
 ghost use Rattle.std.specs.String.{string_bytes};
 
 use clap::error::ErrorKind;
@@ -11,6 +11,45 @@ use std::alloc::{AllocError, Global};
 
 /// The masks that a code may be read with.
 static MASKS: [&str; 2] = ["0", "85"];
+
+/// What stands at the end of the help of `explain`.
+const EXPLAIN_HELP: &str = "\
+Examples:
+  oltctl explain trace.txt
+  oltctl replay script.toml | oltctl explain -
+
+Exit status:
+  0  all lines were told
+  1  a line is none of a trace, or the trace was not read
+  2  the command line is wrong
+  3  out of memory
+  4  the output takes no more";
+
+/// What stands at the end of the help of `decode`.
+const DECODE_HELP: &str = "\
+Examples:
+  oltctl decode ff03004142434400000001001b
+  oltctl decode --up - < codes.txt
+
+Exit status, that of the first fault:
+  0  all codes were told
+  1  a code is wrong, or the input was not read
+  2  the command line is wrong
+  3  out of memory
+  4  the output takes no more";
+
+/// What stands at the end of the help of `encode`.
+const ENCODE_HELP: &str = "\
+Examples:
+  oltctl encode Assign_ONU-ID 0 ABCD00000001
+  oltctl encode --up --mask 85 Acknowledge 0 10
+
+Exit status:
+  0  the code was written
+  1  the words have no code
+  2  the command line is wrong
+  3  out of memory
+  4  the output takes no more";
 
 fn file<'a>(alloc: Global) -> Arg<'a>
     ensures rule { rule_of result ≡ file_rule }
@@ -98,8 +137,10 @@ fn code<'a>(alloc: Global) -> Arg<'a>
 {
     Arg::new(alloc, "code")
         .value_name("HEX")
-        .required(true)
-        .help("The thirteen octets of a code, as 26 hexadecimal digits")
+        .action(ArgAction::Append)
+        .help(
+            "Codes of thirteen octets, as 26 hexadecimal digits each; one a line from standard input if left out, or for -",
+        )
 }
 
 fn decode<'a>(alloc: Global) -> Result<Command<'a>, AllocError>
@@ -107,10 +148,45 @@ fn decode<'a>(alloc: Global) -> Result<Command<'a>, AllocError>
     ensures local { IfOk result (λ c. (fields_of c).has_globals ≡ false) }
 {
     Command::new(alloc, "decode")
-        .about("Says in words which message a code is")
+        .about("Says in words which messages codes are")
+        .after_help(DECODE_HELP)
         .arg(up(alloc))?
         .arg(mask(alloc))?
         .arg(code(alloc))
+}
+
+fn words<'a>(alloc: Global) -> Arg<'a>
+    ensures rule { rule_of result ≡ words_rule }
+    ensures local { result.global ≡ false }
+{
+    Arg::new(alloc, "words")
+        .value_name("WORDS")
+        .required(true)
+        .action(ArgAction::Append)
+        .help("The words that decode writes for a message: its name and its fields")
+}
+
+fn encode<'a>(alloc: Global) -> Result<Command<'a>, AllocError>
+    ensures app { IfOk result (λ c. (names : MaskNames) × AreMasks names × (app_of c ≡ encode_command names)) }
+    ensures local { IfOk result (λ c. (fields_of c).has_globals ≡ false) }
+{
+    Command::new(alloc, "encode")
+        .about("Gives the code of a message that is said in words")
+        .after_help(ENCODE_HELP)
+        .arg(up(alloc))?
+        .arg(mask(alloc))?
+        .arg(words(alloc))
+}
+
+fn explain<'a>(alloc: Global) -> Result<Command<'a>, AllocError>
+    ensures app { IfOk result (λ c. (names : MaskNames) × AreMasks names × (app_of c ≡ explain_command names)) }
+    ensures local { IfOk result (λ c. (fields_of c).has_globals ≡ false) }
+{
+    Command::new(alloc, "explain")
+        .about("Writes a trace again with its codes in words, line by line as it comes")
+        .after_help(EXPLAIN_HELP)
+        .arg(mask(alloc))?
+        .arg(trace(alloc))
 }
 
 /// Makes the program's command line as far as it is about scripts.
@@ -133,9 +209,12 @@ fn of_traces<'a>(alloc: Global) -> Result<Command<'a>, AllocError>
 }
 
 fn command<'a>(alloc: Global) -> Result<Command<'a>, AllocError>
-    ensures { IfOk result (λ c. (names : MaskNames) × AreMasks names × (app_of c ≡ oltctl_command names)) }
+    ensures { IfOk result (λ c. (names : AllNames) × AreAllMasks names × (app_of c ≡ oltctl_command names)) }
 {
-    of_traces(alloc)?.subcommand(decode(alloc)?)
+    of_traces(alloc)?
+        .subcommand(explain(alloc)?)?
+        .subcommand(decode(alloc)?)?
+        .subcommand(encode(alloc)?)
 }
 
 /// Reads what the words of a command line ask for.

@@ -1,5 +1,6 @@
 //! `oltctl`: plays a script and writes its trace, runs its events at once by threads and writes the totals, tells
-//! whether a trace is one of a correct line terminal, and says in words which message a code is.
+//! whether a trace is one of a correct line terminal, writes a trace again with its codes in words, says in words which
+//! message a code is, and gives the code of a message in words.
 #![tactic(auto)]
 
 ghost use Rattle.std.specs.Prelude.{◌≡◌, ◌≢◌, ◌≤◌, ◌↔◌, ℕ, List, Ok, Err, OnOk, map};
@@ -12,24 +13,28 @@ ghost use Rattle.gp_script.specs.declared.fault.ScriptFault.{ScriptFault};
 ghost use Rattle.gp_script.specs.Script.{ScriptView, script_of, storm_script_of};
 ghost use Rattle.oltctl.specs.Replays.{IsCheckedBy, IsReadBy, IsTooLong};
 ghost use Rattle.gp_report.specs.Report.{verify_status};
-ghost use Rattle.oltctl.specs.Statuses.{IsArgumentsReport, IsRun, IsServed, IsStatusOf, IsVerifyStatus, end_status, greatest_status};
+ghost use Rattle.oltctl.specs.Statuses.{IsArgumentsReport, IsEncoded, IsRun, IsServed, IsStatusOf, IsVerifyStatus, end_status, greatest_status, lines_status, told_status};
 
 mod command_line;
+mod joined;
 mod request;
 
 use clap::Error;
 use clap::error::ErrorKind;
-use gp_decode::{LineFault, decode_line};
+use gp_decode::{FaultAt, LineFault, decode_line, decode_lines};
+use gp_encode::{EncodeFault, encode_line};
+use gp_explain::{ExplainFault, explain_trace};
 use gp_flow::LinesFault;
 use gp_ploam::Mask;
 use gp_replay::{RunFault, run_replay};
 use gp_report::{
-    BAD_ARGUMENTS, SUCCESS, arguments_report, line_report, memory_report, run_report,
-    verify_report, write_report,
+    BAD_ARGUMENTS, SUCCESS, arguments_report, encode_report, explain_report, input_report,
+    line_report, memory_report, run_report, verify_report, write_report,
 };
 use gp_storm::run_storm;
 use gp_stream::{Sink, Source};
 use gp_verify::{CheckFault, VerifyFault, verify_script};
+use joined::joined;
 use request::{Request, request_of};
 use std::io;
 use std::io::Read;
@@ -202,10 +207,106 @@ fn decode<R: AllocGlobal + Print>(
     decode_line(rt.alloc(), code, upstream, mask, &mut sink)
 }
 
+/// Says of each line that a reader gives which message's code it is, on standard output.
+fn decode_from<R: AllocGlobal + Print, S: Read + Drop>(
+    rt: &R,
+    reader: S,
+    upstream: bool,
+    mask: Mask,
+) -> Result<Option<FaultAt>, LinesFault> {
+    let mut source = Source::endless(reader);
+    let mut sink = Sink::new(rt.alloc(), io::writer(rt))?;
+    decode_lines(rt.alloc(), &mut source, &mut sink, upstream, mask)
+}
+
+/// Says so of these codes, as if each were a line, or of each line of standard input.
+fn decode_all<R: AllocGlobal + Print + Input>(
+    rt: &R,
+    codes: Option<&[&str]>,
+    upstream: bool,
+    mask: Mask,
+) -> Result<Option<FaultAt>, LinesFault> {
+    match codes {
+        None | Some(["-"]) => decode_from(rt, rt.reader(), upstream, mask),
+        Some(codes) => {
+            let text = joined(rt.alloc(), codes, b'\n')?;
+            decode_from(rt, text.as_slice(), upstream, mask)
+        }
+    }
+}
+
+/// Says which line had the first fault, or why not all were answered, and answers the exit status.
+fn end_lines<R: Eprint>(rt: &R, outcome: &Result<Option<FaultAt>, LinesFault>) -> u8
+    ensures { result ≡ lines_status outcome.now }
+{
+    match outcome {
+        Ok(None) => SUCCESS,
+        Ok(Some(first)) => report_at(rt, line_report(&first.fault), first.line),
+        Err(fault) => report(rt, input_report(fault)),
+    }
+}
+
+/// Gives the code of words, on standard output, and answers the exit status.
+fn encode<R: AllocGlobal + Print + Eprint>(rt: &R, words: &[&str], upstream: bool, mask: Mask) -> u8
+    ensures { IsEncoded result }
+{
+    let Ok(text) = joined(rt.alloc(), words, b' ') else {
+        return report(rt, memory_report());
+    };
+    let Ok(mut sink) = Sink::new(rt.alloc(), io::writer(rt)) else {
+        return report(rt, memory_report());
+    };
+    match encode_line(text.as_slice(), upstream, mask, &mut sink) {
+        Ok(()) => SUCCESS,
+        Err(EncodeFault::Words(fault)) => report(rt, encode_report(&fault)),
+        Err(EncodeFault::Write) => report(rt, write_report()),
+    }
+}
+
+/// Writes the trace that a reader gives again with its codes in words, to standard output.
+fn explain_from<R: AllocGlobal + Print, T: Read + Drop>(
+    rt: &R,
+    trace: T,
+    mask: Mask,
+) -> Result<u64, ExplainFault> {
+    let mut source = Source::endless(trace);
+    let mut sink = Sink::new(rt.alloc(), io::writer(rt))?;
+    explain_trace(rt.alloc(), mask, &mut source, &mut sink)
+}
+
+/// Does so of the trace of a file, or of standard input.
+fn explain<R: AllocGlobal + Files + Print + Input>(
+    rt: &R,
+    trace: Option<&str>,
+    mask: Mask,
+) -> Result<u64, ExplainFault> {
+    match trace {
+        None | Some("-") => explain_from(rt, rt.reader(), mask),
+        Some(path) => match std::fs::open(rt, path) {
+            Ok(trace) => explain_from(rt, trace, mask),
+            Err(_) => Err(ExplainFault::Lines(LinesFault::Read)),
+        },
+    }
+}
+
+/// Says how telling a trace in words ended, with the number of the line that is none of a trace, and answers the exit
+/// status.
+fn end_explain<R: Eprint>(rt: &R, outcome: &Result<u64, ExplainFault>) -> u8
+    ensures { result ≡ told_status outcome.now }
+{
+    match outcome {
+        Ok(_) => SUCCESS,
+        Err(fault) => match fault {
+            ExplainFault::Refused { line, why: _ } => report_at(rt, explain_report(fault), *line),
+            ExplainFault::Lines(_) => report(rt, explain_report(fault)),
+        },
+    }
+}
+
 /// Does what is asked for, and answers the exit status.
 fn serve<R: AllocGlobal + Files + Print + Eprint + Input + Threads + Wait + Sync>(
     rt: &R,
-    request: Request<'_>,
+    request: Request<'_, '_>,
 ) -> u8
     ensures { IsServed request.entry result }
 {
@@ -221,12 +322,23 @@ fn serve<R: AllocGlobal + Files + Print + Eprint + Input + Threads + Wait + Sync
             Ok(()) => SUCCESS,
             Err(fault) => report(rt, line_report(&fault)),
         },
+        Request::DecodeLines {
+            codes,
+            upstream,
+            mask,
+        } => end_lines(rt, &decode_all(rt, codes, upstream, mask)),
+        Request::Encode {
+            words,
+            upstream,
+            mask,
+        } => encode(rt, words, upstream, mask),
+        Request::Explain { trace, mask } => end_explain(rt, &explain(rt, trace, mask)),
     }
 }
 
 /// Shows the help that was asked for, or what is wrong with a command line, and answers the exit
 /// status.
-fn explain<R: Print + Eprint>(rt: &R, error: &Error) -> u8
+fn refuse<R: Print + Eprint>(rt: &R, error: &Error) -> u8
     ensures { IsStatusOf (kind_of error.now) result }
 {
     if error.kind() == ErrorKind::OutOfMemory {
@@ -268,7 +380,7 @@ fn run_words<R: AllocGlobal + Files + Print + Eprint + Input + Threads + Wait + 
             Some(request) => serve(rt, request),
             None => BAD_ARGUMENTS,
         },
-        Err(error) => explain(rt, &error),
+        Err(error) => refuse(rt, &error),
     }
 }
 

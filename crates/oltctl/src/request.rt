@@ -1,15 +1,15 @@
 //! What a command line asks for.
-ghost use Rattle.std.specs.Prelude.{◌≡◌, IfSome, IfNone, None, codes, option_map};
-ghost use Rattle.clap.specs.Words.{first_of, found_of, rows_of, subcommand_rows_of};
+ghost use Rattle.std.specs.Prelude.{◌≡◌, ◌∷◌, [], IfSome, IfNone, Some, None, codes, option_map};
+ghost use Rattle.clap.specs.Words.{all_of, first_of, found_of, rows_of, subcommand_rows_of};
 ghost use Rattle.oltctl.specs.CommandLine.{mask_named};
-ghost use Rattle.oltctl.specs.Requests.{Asks, AsksNothing, AsksToDecode, AsksToReplay, AsksToStorm, AsksToVerify};
+ghost use Rattle.oltctl.specs.Requests.{Asks, AsksNothing, AsksToDecode, AsksToEncode, AsksToExplain, AsksToReplay, AsksToStorm, AsksToVerify, texts};
 
 use clap::ArgMatches;
 use gp_ploam::Mask;
 
 /// What the program is to do.
 #[derive(Clone, Copy)]
-pub enum Request<'a> {
+pub enum Request<'m, 'a> {
     /// Play the script of this file, or of standard input.
     Replay {
         file: Option<&'a str>,
@@ -30,11 +30,28 @@ pub enum Request<'a> {
         upstream: bool,
         mask: Mask,
     },
+    /// Say so of each of these codes, or, where there are none or `-` alone, of each line of standard input.
+    DecodeLines {
+        codes: Option<&'m [&'a str]>,
+        upstream: bool,
+        mask: Mask,
+    },
+    /// Give the code of the message that these words say.
+    Encode {
+        words: &'m [&'a str],
+        upstream: bool,
+        mask: Mask,
+    },
+    /// Write this trace again, or for none and for `-` that of standard input, with its codes in words.
+    Explain {
+        trace: Option<&'a str>,
+        mask: Mask,
+    },
 }
 
-/// Tells what the subcommand of a parsed command line asks for; None where it has none that is known, or no code
-/// or script.
-pub fn request_of<'a>(matches: &ArgMatches<'a>) -> Option<Request<'a>>
+/// Tells what the subcommand of a parsed command line asks for; None where it has none that is known, or no script
+/// or words.
+pub fn request_of<'m, 'a>(matches: &'m ArgMatches<'a>) -> Option<Request<'m, 'a>>
     ensures asks { IfSome result (Asks (subcommand_rows_of matches.now)) }
     ensures nothing { IfNone result (AsksNothing (subcommand_rows_of matches.now)) }
 {
@@ -42,13 +59,15 @@ pub fn request_of<'a>(matches: &ArgMatches<'a>) -> Option<Request<'a>>
         ("replay", found) => Some(replay_of(found)),
         ("storm", found) => Some(storm_of(found)),
         ("verify", found) => verify_of(found),
-        ("decode", found) => decode_of(found),
+        ("decode", found) => Some(decode_of(found)),
+        ("encode", found) => encode_of(found),
+        ("explain", found) => Some(explain_of(found)),
         _ => None,
     }
 }
 
 #[tactic(auto, using(crate::proofs::Rows::value_by_rows))]
-fn replay_of<'a>(found: &ArgMatches<'a>) -> Request<'a>
+fn replay_of<'m, 'a>(found: &'m ArgMatches<'a>) -> Request<'m, 'a>
     ensures { AsksToReplay (rows_of (found_of found.now)) result }
 {
     Request::Replay {
@@ -57,7 +76,7 @@ fn replay_of<'a>(found: &ArgMatches<'a>) -> Request<'a>
 }
 
 #[tactic(auto, using(crate::proofs::Rows::value_by_rows))]
-fn storm_of<'a>(found: &ArgMatches<'a>) -> Request<'a>
+fn storm_of<'m, 'a>(found: &'m ArgMatches<'a>) -> Request<'m, 'a>
     ensures { AsksToStorm (rows_of (found_of found.now)) result }
 {
     Request::Storm {
@@ -66,7 +85,7 @@ fn storm_of<'a>(found: &ArgMatches<'a>) -> Request<'a>
 }
 
 #[tactic(auto, using(crate::proofs::Rows::value_by_rows))]
-fn verify_of<'a>(found: &ArgMatches<'a>) -> Option<Request<'a>>
+fn verify_of<'m, 'a>(found: &'m ArgMatches<'a>) -> Option<Request<'m, 'a>>
     ensures asks { IfSome result (AsksToVerify (rows_of (found_of found.now))) }
     ensures nothing { IfNone result (first_of (codes "script") (rows_of (found_of found.now)) ≡ None) }
 {
@@ -76,16 +95,57 @@ fn verify_of<'a>(found: &ArgMatches<'a>) -> Option<Request<'a>>
     })
 }
 
-#[tactic(auto, using(crate::proofs::Rows::value_by_rows, crate::proofs::Rows::flag_by_rows))]
-fn decode_of<'a>(found: &ArgMatches<'a>) -> Option<Request<'a>>
-    ensures asks { IfSome result (AsksToDecode (rows_of (found_of found.now))) }
-    ensures nothing { IfNone result (first_of (codes "code") (rows_of (found_of found.now)) ≡ None) }
+/// Gives the code, where one alone is given, and it isn't `-`, which stands for standard input.
+fn code_alone<'a>(codes: Option<&[&'a str]>) -> Option<&'a str>
+    ensures { IfSome result (λ code. option_map texts codes.entry ≡ Some (code.now ∷ [])) }
 {
-    Some(Request::Decode {
-        code: found.get_str("code")?,
+    match codes {
+        Some(codes) if codes.len() == 1 && codes[0] != "-" => Some(codes[0]),
+        _ => None,
+    }
+}
+
+#[tactic(auto, using(crate::proofs::Rows::value_by_rows, crate::proofs::Rows::flag_by_rows, crate::proofs::Rows::values_by_rows))]
+fn decode_of<'m, 'a>(found: &'m ArgMatches<'a>) -> Request<'m, 'a>
+    ensures { AsksToDecode (rows_of (found_of found.now)) result }
+{
+    let codes = found.get_strs("code");
+    let upstream = found.get_flag("up");
+    let mask = mask_of(found.get_str("mask"));
+    match code_alone(codes) {
+        Some(code) => Request::Decode {
+            code,
+            upstream,
+            mask,
+        },
+        None => Request::DecodeLines {
+            codes,
+            upstream,
+            mask,
+        },
+    }
+}
+
+#[tactic(auto, using(crate::proofs::Rows::value_by_rows, crate::proofs::Rows::flag_by_rows, crate::proofs::Rows::values_by_rows))]
+fn encode_of<'m, 'a>(found: &'m ArgMatches<'a>) -> Option<Request<'m, 'a>>
+    ensures asks { IfSome result (AsksToEncode (rows_of (found_of found.now))) }
+    ensures nothing { IfNone result (all_of (codes "words") (rows_of (found_of found.now)) ≡ None) }
+{
+    Some(Request::Encode {
+        words: found.get_strs("words")?,
         upstream: found.get_flag("up"),
         mask: mask_of(found.get_str("mask")),
     })
+}
+
+#[tactic(auto, using(crate::proofs::Rows::value_by_rows))]
+fn explain_of<'m, 'a>(found: &'m ArgMatches<'a>) -> Request<'m, 'a>
+    ensures { AsksToExplain (rows_of (found_of found.now)) result }
+{
+    Request::Explain {
+        trace: found.get_str("trace"),
+        mask: mask_of(found.get_str("mask")),
+    }
 }
 
 /// Gives the mask that a value of `--mask` names, and the plain one where there is none.

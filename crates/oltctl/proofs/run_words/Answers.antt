@@ -9,4 +9,4 @@ pub returns-in-Ok-clause-ended : goal.returns-in-Ok-clause-ended
 returns-in-Ok-clause-ended g c = idle c.in-Ok.matches c.in-Ok.ensures.parsed c.in-None.ensures.nothing refl
 
 pub returns-clause-ended : goal.returns-clause-ended
-returns-clause-ended g c = refused _ c.in-Err.ensures.fault c.explain.ensures
+returns-clause-ended g c = refused _ c.in-Err.ensures.fault c.refuse.ensures

@@ -1,0 +1,87 @@
+-- What is said to lines each of which should be the hexadecimal digits of a code (this profile's own rule).
+use Rattle.std.specs.Prelude.{◌≡◌, ◌⊎◌, ℕ, ◌+◌, Bool, false, List, ◌++◌, Option, Some, None, Result, Ok, Err, codes, decimal}
+use Rattle.gp_flow.specs.declared.lines.LinesEnd.{LinesEnd}
+use Rattle.gp_flow.specs.declared.fault.LinesFault.{LinesFault}
+use Rattle.gp_flow.specs.Lines.{Serves}
+use Rattle.gp_stream.specs.Sink.{SinkState}
+use Rattle.gp_stream.specs.Source.{SourceState}
+use Rattle.gp_ploam.specs.declared.check.Mask.{Mask}
+use Rattle.gp_decode.specs.declared.decoder.FaultAt.{FaultAt}
+use Rattle.gp_decode.specs.declared.fault.LineFault.{LineFault}
+use Rattle.gp_decode.specs.declared.fault.LineFault.TheVariants as fault
+use Rattle.gp_decode.specs.Line.{HasLineFault, Says}
+
+-- the name of a fault of a text
+abbrev pub fault_name : LineFault → List ℕ
+fault_name fault.Length = codes "length"
+fault_name fault.Digit = codes "digit"
+fault_name fault.Crc = codes "crc"
+fault_name fault.OutOfMemory = codes "memory"
+fault_name fault.Write = codes "write"
+
+-- what is said to a line with a fault: the line's number, counted from 1, and the fault's name
+abbrev pub error_text : ℕ → LineFault → List ℕ
+error_text line fault = codes "error " ++ decimal line ++ codes " " ++ fault_name fault
+
+abbrev pub error_line : ℕ → LineFault → List ℕ
+error_line line fault = error_text line fault ++ codes "\n"
+
+-- where it stands: the direction and the mask of the codes, how many lines came, and the first that had a fault
+pub record DecodeState : Type 0 where
+  pub upstream : Bool
+  pub mask : Mask
+  pub lines : ℕ
+  pub first : Option FaultAt
+
+-- before the first line
+abbrev pub opened_decode : Bool → Mask → DecodeState
+opened_decode upstream mask = record { upstream = upstream; mask = mask; lines = 0; first = None }
+
+-- the first of two, if there is one
+abbrev pub first_of : Option FaultAt → FaultAt → FaultAt
+first_of None at = at
+first_of (Some first) at = first
+
+-- one line more came, which had no fault
+abbrev pub counted : DecodeState → DecodeState
+counted state = record state { lines = state.lines + 1 }
+
+-- one line more came, which had this fault
+abbrev pub faulted : LineFault → DecodeState → DecodeState
+faulted fault state = record state {
+  lines = state.lines + 1;
+  first = Some (first_of state.first (record { line = state.lines + 1; fault = fault }));
+}
+
+-- the line has this fault, and is told so
+abbrev pub SaysFault : LineFault → DecodeState → List ℕ → DecodeState → Type 0
+SaysFault fault old said new = (said ≡ error_line (old.lines + 1) fault) × (new ≡ faulted fault old)
+
+-- the same, whatever the line was
+abbrev pub RefusesBy : LineFault → DecodeState → Option (List ℕ) → List ℕ → DecodeState → Type 0
+RefusesBy fault old line said new = SaysFault fault old said new
+
+-- a line is answered by the line of its code's message, or by its first fault; one that is too long to be looked at has
+-- the fault of its length
+abbrev pub SaysToLine : DecodeState → Option (List ℕ) → List ℕ → DecodeState → Type 0
+SaysToLine old None said new = SaysFault fault.Length old said new
+SaysToLine old (Some text) said new =
+    (Says old.upstream old.mask text said × (new ≡ counted old))
+    ⊎ ((fault : LineFault) × HasLineFault old.mask text fault × SaysFault fault old said new)
+
+-- it goes on to the end of the input
+abbrev pub never : DecodeState → Bool
+never state = false
+
+-- what is answered at the end: the first line that had a fault, or why not all were answered
+abbrev pub IsAnswer : Result LinesEnd LinesFault → DecodeState → Result (Option FaultAt) LinesFault → Type 0
+IsAnswer (Ok end) new answer = answer ≡ Ok new.first
+IsAnswer (Err fault) new answer = answer ≡ Err fault
+
+-- each line of an input was answered, in their order, from where none had come
+pub record DecodesLines {R W : Type 0} (upstream : Bool) (mask : Mask) (from to : SourceState R)
+    (before after : SinkState W) (answer : Result (Option FaultAt) LinesFault) : Type 0 where
+  pub new : DecodeState
+  pub end : Result LinesEnd LinesFault
+  pub served : Serves SaysToLine never 4096 from to (opened_decode upstream mask) new before after end
+  pub told : IsAnswer end new answer

@@ -1,0 +1,4 @@
+pub mod EndLemmas
+pub mod FieldLemmas
+pub mod DownLemmas
+pub mod UpLemmas

@@ -1,0 +1,4 @@
+pub mod Fields
+pub mod Words
+pub mod Encoding
+pub mod Said

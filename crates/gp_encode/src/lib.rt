@@ -1,0 +1,24 @@
+//! Gives the code of a message that is said in words: the inverse of `gp_decode`.
+//!
+//! - `line.rt`: `encode_line`, which writes the code in hexadecimal digits; `encoding.rt`: `encode_words`, from words to
+//!   thirteen octets.
+//! - `down.rt`, `up.rt`: the message that words say, of each direction; `fields.rt`: its fields.
+//! - `laws.rt`: the words that `gp_decode` has for a message say that message.
+//! - `fault.rt`: what may be wrong with words.
+//!
+//! Where to make which change: the words of a message stand in `specs/Words.antt` and in the function of `down.rt` or
+//! `up.rt` that is proved to read them, a kind of field in `specs/Fields.antt` and `fields.rt`.
+#![tactic(auto)]
+
+mod down;
+mod encoding;
+mod fault;
+mod fields;
+mod laws;
+mod line;
+mod up;
+
+pub use encoding::encode_words;
+pub use fault::{EncodeFault, WordsFault};
+pub use laws::{words_are_read, words_come_back};
+pub use line::encode_line;

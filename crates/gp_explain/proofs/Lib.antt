@@ -1,0 +1,4 @@
+pub mod PartsLemmas
+pub mod ServingLemmas
+pub mod CourseLemmas
+pub mod OutcomeLemmas

@@ -1,0 +1,232 @@
+-- How telling a trace in words ends.
+use Rattle.std.specs.Prelude.{is_some}
+use Rattle.std.proofs.Common.{◌≡◌, ℕ, true, false, List, [], ◌∷◌, ◌++◌, Option, None, Some, Result, Ok, Err, IsErrAnd, length, take, map, refl, sym, ap, subst, ◌∙◌, append_assoc, arith}
+use Rattle.std.proofs.lemmas.List.{append-nil, take_all}
+use Rattle.std.proofs.KnownBytes.{Appends-nil}
+use Rattle.std.specs.Io.KnownBytes.{Appends, Consumes}
+use Rattle.gp_flow.specs.declared.fault.LineFault.{LineFault}
+use Rattle.gp_flow.specs.declared.lines.LinesEnd.{LinesEnd}
+use Rattle.gp_flow.specs.declared.lines.LinesEnd.TheVariants.{Whole, Open, Over}
+use Rattle.gp_flow.specs.declared.fault.LinesFault.{LinesFault}
+use Rattle.gp_flow.specs.declared.fault.LinesFault.TheVariants as faults
+use Rattle.gp_flow.specs.Lines.{DoesAll, Serves, ServesTo, ended_lines, handed, lines_of}
+use Rattle.gp_flow.proofs.LineLemmas.{ended_first, handed_none, handed_whole}
+use Rattle.gp_stream.specs.Sink.{SinkState, KeepsNothing}
+use Rattle.gp_stream.specs.Source.{SourceState, ReadsWhole}
+use Rattle.gp_ploam.specs.declared.check.Mask.{Mask}
+use Rattle.gp_explain.specs.declared.fault.ExplainFault.{ExplainFault}
+use Rattle.gp_explain.specs.declared.fault.ExplainFault.TheVariants.{Lines}
+use Rattle.gp_explain.specs.declared.fault.NoLine.{NoLine}
+use Rattle.gp_explain.specs.Words.{IsTraceLine}
+use Rattle.gp_explain.specs.Explaining.{ExplainState, Explains, has_ended, opened_explain}
+use Rattle.gp_explain.specs.Outcome.{AreTold, ExplainsTrace, IsBegun, IsNone, IsRefused, finding, longest_line}
+use Rattle.gp_explain.proofs.CourseLemmas.{Course, Fails, Halts, course, wholes}
+
+-- ---- lines that were handed on
+
+some_cons : {A : Type 0} (x : A) (xs : List A) → x ∷ xs ≡ [] → ⊥
+some_cons x xs h = cc
+
+none_cons : {A : Type 0} (x : A) (xs : List A) → [] ≡ x ∷ xs → ⊥
+none_cons x xs h = cc
+
+head_same : {A : Type 0} (x y : A) (xs ys : List A) → x ∷ xs ≡ y ∷ ys → x ≡ y
+head_same x y xs ys h = cc
+
+tail_same : {A : Type 0} (x y : A) (xs ys : List A) → x ∷ xs ≡ y ∷ ys → xs ≡ ys
+tail_same x y xs ys h = cc
+
+cons_same : {A : Type 0} (x y : A) (xs ys : List A) → x ≡ y → xs ≡ ys → x ∷ xs ≡ y ∷ ys
+cons_same x y xs ys h k = cc
+
+never : false ≡ true → ⊥
+never h = cc
+
+-- the first of them whole
+record First (ls texts : List (List ℕ)) : Type 0 where
+  pub others : List (List ℕ)
+  pub parts : ls ≡ texts ++ others
+
+first_whole : (limit : ℕ) (ls texts : List (List ℕ)) (rest : List (Option (List ℕ))) → map (handed limit) ls ≡ wholes texts ++ rest → First ls texts
+first_whole limit ls [] rest h = record { others = ls; parts = refl }
+first_whole limit [] (t ∷ texts) rest h = absurd (none_cons _ _ h)
+first_whole limit (l ∷ ls) (t ∷ texts) rest h =
+    let more = first_whole limit ls texts rest (tail_same _ _ _ _ h) in
+    record { others = more.others; parts = cons_same l t ls _ (handed_whole limit l t (head_same _ _ _ _ h)) more.parts }
+
+-- all of them whole
+handed_all : (limit : ℕ) (ls texts : List (List ℕ)) → map (handed limit) ls ≡ wholes texts → ls ≡ texts
+handed_all limit [] [] h = refl
+handed_all limit [] (t ∷ texts) h = absurd (none_cons _ _ h)
+handed_all limit (l ∷ ls) [] h = absurd (some_cons _ _ h)
+handed_all limit (l ∷ ls) (t ∷ texts) h =
+    cons_same l t ls texts (handed_whole limit l t (head_same _ _ _ _ h)) (handed_all limit ls texts (tail_same _ _ _ _ h))
+
+-- the first of them whole, and this one
+record Parted (limit : ℕ) (ls before : List (List ℕ)) (line : Option (List ℕ)) : Type 0 where
+  pub raw : List ℕ
+  pub others : List (List ℕ)
+  pub parts : ls ≡ before ++ raw ∷ others
+  pub is : handed limit raw ≡ line
+
+parted : (limit : ℕ) (ls before : List (List ℕ)) (line : Option (List ℕ)) (rest : List (Option (List ℕ))) → map (handed limit) ls ≡ wholes before ++ line ∷ rest → Parted limit ls before line
+parted limit [] [] line rest h = absurd (none_cons _ _ h)
+parted limit [] (t ∷ before) line rest h = absurd (none_cons _ _ h)
+parted limit (l ∷ ls) [] line rest h = record { raw = l; others = ls; parts = refl; is = head_same _ _ _ _ h }
+parted limit (l ∷ ls) (t ∷ before) line rest h =
+    let p = parted limit ls before line rest (tail_same _ _ _ _ h) in
+    record { raw = p.raw; others = p.others; parts = cons_same l t ls _ (handed_whole limit l t (head_same _ _ _ _ h)) p.parts; is = p.is }
+
+-- a line that ends it
+none_of : (why : NoLine) (line : Option (List ℕ)) (raw : List ℕ) → handed longest_line raw ≡ line → Fails why line → IsNone why raw
+none_of why None raw is fails = subst (λ (w : NoLine). IsNone w raw) (sym fails) (handed_none longest_line raw is)
+none_of why (Some text) raw is fails =
+    subst (λ (w : NoLine). IsNone w raw) (sym fails.0) (subst (λ (t : List ℕ). IsTraceLine t → ⊥) (sym (handed_whole longest_line raw text is)) fails.1)
+
+-- ---- how it ends
+
+started : (mask : Mask) (new : ExplainState) (ls : List (Option (List ℕ))) (said : List ℕ) → DoesAll Explains (opened_explain mask) ls said new
+    → Course new.ended mask ls said 0 new.lines
+started mask new ls said h = course ls (opened_explain mask) new said refl h
+
+module _ {R W : Type 0} (mask : Mask) (from to : SourceState R) (before after : SinkState W) where
+  refused_found : (why : NoLine) (bytes : List ℕ) (ls others : List (List ℕ)) (said : List ℕ) (lines : ℕ) → Consumes from.remaining to.remaining bytes
+      → lines_of bytes ≡ ls ++ others → Appends before.held after.held (before.gathered ++ said) → KeepsNothing after
+      → Halts why mask (map (handed longest_line) ls) said 0 lines → IsRefused mask from to before after lines why
+  refused_found why bytes ls others said lines came is written kept halts =
+      let p = parted longest_line ls halts.before halts.line halts.rest halts.all_is in
+      let many = halts.lines in
+      record {
+        bytes = bytes;
+        came = came;
+        first = halts.before;
+        text = p.raw;
+        others = p.others ++ others;
+        lines = is ∙ ap (λ (l : List (List ℕ)). l ++ others) p.parts ∙ append_assoc halts.before (p.raw ∷ p.others) others;
+        number = omega (arith, many);
+        none = none_of why halts.line p.raw p.is halts.fails;
+        said = said;
+        told = halts.told;
+        written = written;
+        kept = kept;
+      }
+
+  whole : (ended : Option NoLine) (lines : ℕ) (text said : List ℕ) → ReadsWhole from to text → Appends before.held after.held (before.gathered ++ said) → KeepsNothing after
+      → Course ended mask (map (handed longest_line) (lines_of text)) said 0 lines → ExplainsTrace mask from to before after (finding ended lines)
+  whole None lines text said read written kept c =
+      let same : lines_of text ≡ c.texts = handed_all longest_line (lines_of text) c.texts c.all_is in
+      let many = c.lines in
+      let long : length (lines_of text) ≡ length c.texts = ap length same in
+      record {
+        text = text;
+        read = read;
+        count = omega (arith, many, long);
+        said = said;
+        told = subst (λ (ts : List (List ℕ)). AreTold mask ts said) (sym same) c.told;
+        written = written;
+        kept = kept;
+      }
+  whole (Some why) lines text said read written kept c =
+      refused_found why text (lines_of text) [] said lines read.consumed (sym (append-nil (lines_of text))) written kept c
+
+  over : (ended : Option NoLine) (lines : ℕ) (bytes said : List ℕ) → is_some ended ≡ true → Consumes from.remaining to.remaining bytes
+      → Appends before.held after.held (before.gathered ++ said) → KeepsNothing after
+      → Course ended mask (map (handed longest_line) (ended_lines bytes)) said 0 lines → ExplainsTrace mask from to before after (finding ended lines)
+  over None lines bytes said is came written kept c = absurd (never is)
+  over (Some why) lines bytes said is came written kept c =
+      let e = ended_first bytes [] in
+      refused_found why bytes (ended_lines bytes) e.0 said lines came (ap lines_of (sym (append-nil bytes)) ∙ e.1) written kept c
+
+  explained : (end : LinesEnd) (new : ExplainState) → ServesTo Explains has_ended longest_line end from to (opened_explain mask) new before after
+      → ExplainsTrace mask from to before after (finding new.ended new.lines)
+  explained Whole new s = whole new.ended new.lines s.bytes s.said s.read s.written s.kept (started mask new (map (handed longest_line) (lines_of s.bytes)) s.said s.spoken)
+  explained Open new s = whole new.ended new.lines s.bytes s.said s.read s.written s.kept (started mask new (map (handed longest_line) (lines_of s.bytes)) s.said s.spoken)
+  explained Over new s =
+      over new.ended new.lines s.0.bytes s.0.said s.1 s.0.read s.0.written s.0.kept (started mask new (map (handed longest_line) (ended_lines s.0.bytes)) s.0.said s.0.spoken)
+
+  pub explained_as : (end : LinesEnd) (old new : ExplainState) (ended : Option NoLine) (lines : ℕ) (answer : Result ℕ ExplainFault) → old ≡ opened_explain mask
+      → ended ≡ new.ended → lines ≡ new.lines → answer ≡ finding ended lines → ServesTo Explains has_ended longest_line end from to old new before after
+      → ExplainsTrace mask from to before after answer
+  explained_as end old new ended lines answer opened is many told s =
+      let same : answer ≡ finding new.ended new.lines = told ∙ ap (λ (e : Option NoLine). finding e lines) is ∙ ap (λ (n : ℕ). finding new.ended n) many in
+      subst (λ (a : Result ℕ ExplainFault). ExplainsTrace mask from to before after a) (sym same)
+      (explained end new (subst (λ (o : ExplainState). ServesTo Explains has_ended longest_line end from to o new before after) opened s))
+
+  -- ---- where it was not read, or a line not told
+
+  begun : (ended : Option NoLine) (bytes : List ℕ) (ls others : List (List ℕ)) (rest : List (Option (List ℕ))) (all : List (Option (List ℕ))) (said : List ℕ) (lines : ℕ)
+      → Consumes from.remaining to.remaining bytes → lines_of bytes ≡ ls ++ others → map (handed longest_line) ls ≡ all ++ rest
+      → ((count : ℕ) × Appends before.held after.held (take count (before.gathered ++ said)))
+      → Course ended mask all said 0 lines → IsBegun mask from to before after
+  begun None bytes ls others rest all said lines came is parts written c =
+      let f = first_whole longest_line ls c.texts rest (parts ∙ ap (λ (l : List (Option (List ℕ))). l ++ rest) c.all_is) in
+      record {
+        bytes = bytes;
+        came = came;
+        first = c.texts;
+        others = f.others ++ others;
+        lines = is ∙ ap (λ (l : List (List ℕ)). l ++ others) f.parts ∙ append_assoc c.texts f.others others;
+        said = said;
+        told = c.told;
+        written = written;
+      }
+  begun (Some why) bytes ls others rest all said lines came is parts written c =
+      let f = first_whole longest_line ls c.before (c.line ∷ c.rest ++ rest)
+      (parts ∙ ap (λ (l : List (Option (List ℕ))). l ++ rest) c.all_is ∙ append_assoc (wholes c.before) (c.line ∷ c.rest) rest) in
+      record {
+        bytes = bytes;
+        came = came;
+        first = c.before;
+        others = f.others ++ others;
+        lines = is ∙ ap (λ (l : List (List ℕ)). l ++ others) f.parts ∙ append_assoc c.before f.others others;
+        said = said;
+        told = c.told;
+        written = written;
+      }
+
+  all_taken : (said : List ℕ) → Appends before.held after.held said → (count : ℕ) × Appends before.held after.held (take count said)
+  all_taken said written =
+      let whole : take (length said) said ≡ said = take_all (length said) said (omega arith) in
+      (length said, subst (λ (l : List ℕ). Appends before.held after.held l) (sym whole) written)
+
+  unread : (fault : LinesFault) (new : ExplainState) → Serves Explains has_ended longest_line from to (opened_explain mask) new before after (Err fault)
+      → ExplainsTrace mask from to before after (Err (Lines fault))
+  unread faults.Read new s =
+      let e = s.read refl in
+      let first = ended_first e.bytes [] in (
+        begun new.ended e.bytes (ended_lines e.bytes) first.0 [] (map (handed longest_line) (ended_lines e.bytes)) e.said new.lines e.read
+            (ap lines_of (sym (append-nil e.bytes)) ∙ first.1) (sym (append-nil _)) (all_taken (before.gathered ++ e.said) e.written)
+            (started mask new (map (handed longest_line) (ended_lines e.bytes)) e.said e.spoken),
+        s.failed refl,
+      )
+  unread (faults.Line fault) new s =
+      let e = s.fault fault refl in
+      begun e.next.ended e.bytes (lines_of e.bytes) [] e.others e.begun e.said e.next.lines e.read (sym (append-nil (lines_of e.bytes))) (sym e.all) e.written
+      (started mask e.next e.begun e.said e.spoken)
+
+  pub unread_as : (fault : LinesFault) (old new : ExplainState) (answer : Result ℕ ExplainFault) → old ≡ opened_explain mask
+      → IsErrAnd answer (λ told. told ≡ Lines fault) → Serves Explains has_ended longest_line from to old new before after (Err fault) → ExplainsTrace mask from to before after answer
+  unread_as fault old new (Ok lines) opened told s = absurd told
+  unread_as fault old new (Err e) opened told s =
+      subst (λ (x : ExplainFault). ExplainsTrace mask from to before after (Err x)) (sym told)
+      (unread fault new (subst (λ (o : ExplainState). Serves Explains has_ended longest_line from to o new before after (Err fault)) opened s))
+
+-- nothing was read, for want of memory
+pub unbegun : {R W : Type 0} (mask : Mask) (from : SourceState R) (before : SinkState W) (line : LineFault) (answer : Result ℕ ExplainFault)
+    → IsErrAnd answer (λ told. told ≡ Lines (faults.Line line)) → ExplainsTrace mask from from before before answer
+unbegun mask from before line (Ok lines) told = absurd told
+unbegun mask from before line (Err e) told =
+    subst (λ (x : ExplainFault). ExplainsTrace mask from from before before (Err x)) (sym told) (record {
+      bytes = [];
+      came = nothing_came from.remaining;
+      first = [];
+      others = [];
+      lines = refl;
+      said = [];
+      told = refl;
+      written = (0, Appends-nil before.held);
+    })
+  where
+    nothing_came : (o : Option (List ℕ)) → Consumes o o []
+    nothing_came None = tt
+    nothing_came (Some xs) = refl

@@ -1,0 +1,86 @@
+-- How telling a trace in words may end (this profile's own rule).
+use Rattle.std.specs.Prelude.{◌≡◌, ◌<◌, ◌⊎◌, ℕ, ◌+◌, true, List, [], ◌∷◌, ◌++◌, length, take, Option, Some, None, Result, Ok, Err}
+use Rattle.std.specs.Io.KnownBytes.{Appends, Consumes}
+use Rattle.gp_flow.specs.declared.fault.LinesFault.TheVariants as faults
+use Rattle.gp_flow.specs.Lines.{lines_of}
+use Rattle.gp_stream.specs.Sink.{SinkState, KeepsNothing}
+use Rattle.gp_stream.specs.Source.{SourceState, ReadsWhole}
+use Rattle.gp_ploam.specs.declared.check.Mask.{Mask}
+use Rattle.gp_explain.specs.declared.fault.ExplainFault.{ExplainFault}
+use Rattle.gp_explain.specs.declared.fault.ExplainFault.TheVariants.{Refused, Lines}
+use Rattle.gp_explain.specs.declared.fault.NoLine.{NoLine}
+use Rattle.gp_explain.specs.declared.fault.NoLine.TheVariants.{NotALine, TooLong}
+use Rattle.gp_explain.specs.Words.{IsTraceLine, TellsLine}
+
+-- the most octets of a line that is looked at
+abbrev pub longest_line : ℕ
+longest_line = 4096
+
+-- these texts are lines of a trace, and this is what they are in words, one line after another
+abbrev pub AreTold : Mask → List (List ℕ) → List ℕ → Type 0
+AreTold mask [] said = said ≡ []
+AreTold mask (text ∷ texts) said =
+    (line rest : List ℕ) × IsTraceLine text × TellsLine mask text line × AreTold mask texts rest × (said ≡ line ++ rest)
+
+-- the whole trace was read, and the writer got each of its lines in words
+pub record IsExplained {R W : Type 0} (mask : Mask) (from to : SourceState R) (before after : SinkState W) (lines : ℕ)
+    : Type 0 where
+  pub text : List ℕ
+  pub read : ReadsWhole from to text
+  pub count : length (lines_of text) ≡ lines
+  -- what is said
+  pub said : List ℕ
+  pub told : AreTold mask (lines_of text) said
+  -- the writer got all of it, and keeps nothing back
+  pub written : Appends before.held after.held (before.gathered ++ said)
+  pub kept : KeepsNothing after
+
+-- why a text is no line of a trace
+abbrev pub IsNone : NoLine → List ℕ → Type 0
+IsNone NotALine text = IsTraceLine text → ⊥
+IsNone TooLong text = longest_line < length text
+
+-- the lines before this one were told, and this one is none of a trace
+pub record IsRefused {R W : Type 0} (mask : Mask) (from to : SourceState R) (before after : SinkState W) (line : ℕ)
+    (why : NoLine) : Type 0 where
+  -- what was read
+  pub bytes : List ℕ
+  pub came : Consumes from.remaining to.remaining bytes
+  -- its lines: those before, this one, and others
+  pub first : List (List ℕ)
+  pub text : List ℕ
+  pub others : List (List ℕ)
+  pub lines : lines_of bytes ≡ first ++ text ∷ others
+  pub number : length first + 1 ≡ line
+  pub none : IsNone why text
+  -- what is said
+  pub said : List ℕ
+  pub told : AreTold mask first said
+  pub written : Appends before.held after.held (before.gathered ++ said)
+  pub kept : KeepsNothing after
+
+-- of the lines that came the first were told, and of what is said to them the writer got a prefix, and nothing else
+pub record IsBegun {R W : Type 0} (mask : Mask) (from to : SourceState R) (before after : SinkState W) : Type 0 where
+  pub bytes : List ℕ
+  pub came : Consumes from.remaining to.remaining bytes
+  pub first : List (List ℕ)
+  pub others : List (List ℕ)
+  pub lines : lines_of bytes ≡ first ++ others
+  -- what is said
+  pub said : List ℕ
+  pub told : AreTold mask first said
+  pub written : (count : ℕ) × Appends before.held after.held (take count (before.gathered ++ said))
+
+-- how it may end; a failed read, and the bound of reads, are told as such
+abbrev pub ExplainsTrace : {R W : Type 0} → Mask → SourceState R → SourceState R → SinkState W → SinkState W
+    → Result ℕ ExplainFault → Type 0
+ExplainsTrace mask from to before after (Ok lines) = IsExplained mask from to before after lines
+ExplainsTrace mask from to before after (Err (Refused line why)) = IsRefused mask from to before after line why
+ExplainsTrace mask from to before after (Err (Lines faults.Read)) =
+    IsBegun mask from to before after × ((to.failed ≡ true) ⊎ (to.left ≡ 0))
+ExplainsTrace mask from to before after (Err (Lines (faults.Line fault))) = IsBegun mask from to before after
+
+-- what was found, by what ended it, and how many lines came
+abbrev pub finding : Option NoLine → ℕ → Result ℕ ExplainFault
+finding None line = Ok line
+finding (Some why) line = Err (Refused line why)

@@ -1,0 +1,24 @@
+//! Writes a trace again with its codes in words.
+//!
+//! - `line.rt`: `explain_line`, one line in words; `place.rt`: where in a line codes stand.
+//! - `explainer.rt`: `Explainer`, which is given the lines of a trace one after another; `serving.rt`: as what serves
+//!   lines.
+//! - `running.rt`: `explain_trace`, from the bytes of a trace to its lines in words.
+//! - `fault.rt`: why a line is none of a trace, and how it may end.
+//!
+//! Where to make which change: what a line is in words stands in `specs/Words.antt`, the words of a message in
+//! `gp_decode`, what is said to which line in `specs/Explaining.antt`, and how it may end in `specs/Outcome.antt`.
+#![tactic(auto)]
+
+mod explainer;
+mod fault;
+mod line;
+mod place;
+mod running;
+mod serving;
+
+pub use explainer::Explainer;
+pub use fault::{ExplainFault, NoLine};
+pub use line::explain_line;
+pub use place::Place;
+pub use running::explain_trace;

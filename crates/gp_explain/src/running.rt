@@ -1,0 +1,37 @@
+//! A whole trace.
+ghost use Rattle.std.specs.Prelude.{◌≡◌, true};
+ghost use Rattle.gp_explain.specs.Outcome.{ExplainsTrace, finding};
+
+use crate::explainer::Explainer;
+use crate::fault::{ExplainFault, NoLine};
+use gp_flow::run_lines;
+use gp_ploam::Mask;
+use gp_stream::{Sink, Source};
+use std::alloc::Global;
+use std::io::{Read, Write};
+
+/// Writes a trace again with its codes in words, line by line as it comes, and answers how many lines it has. Memory is
+/// flat.
+pub fn explain_trace<R: Read, W: Write>(
+    alloc: Global,
+    mask: Mask,
+    source: &mut Source<R>,
+    sink: &mut Sink<W>,
+) -> Result<u64, ExplainFault>
+    requires { sink.old.flushed ≡ true }
+    ensures { ExplainsTrace mask source.old source.new sink.old sink.new result }
+{
+    let mut explainer = Explainer::new(alloc, mask)?;
+    run_lines(alloc, source, sink, &mut explainer)?;
+    finding(explainer.ended(), explainer.lines())
+}
+
+/// What was found, where so many lines came.
+fn finding(ended: Option<NoLine>, line: u64) -> Result<u64, ExplainFault>
+    ensures { result ≡ finding ended line }
+{
+    match ended {
+        Some(why) => Err(ExplainFault::Refused { line, why }),
+        None => Ok(line),
+    }
+}

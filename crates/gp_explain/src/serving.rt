@@ -1,0 +1,50 @@
+//! An explainer serves lines.
+use crate::explainer::Explainer;
+use crate::fault::NoLine;
+use crate::line::explain_line;
+use gp_flow::{LineFault, LineWork};
+use gp_lines::split_line;
+use gp_stream::Sink;
+use std::io::Write;
+
+impl LineWork for Explainer {
+    ghost use Rattle.gp_explain.specs.Explaining.{Explains, has_ended};
+
+    ghost says = { Explains };
+
+    ghost over = { has_ended };
+
+    fn is_over(&self) -> bool {
+        self.ended.is_some()
+    }
+
+    fn line<W: Write>(&mut self, text: &[u8], sink: &mut Sink<W>) -> Result<(), LineFault> {
+        if self.ended.is_some() {
+            return Ok(());
+        }
+        if self.lines == u64::MAX {
+            return Err(LineFault::Full);
+        }
+        if split_line(text).is_none() {
+            self.lines += 1;
+            self.ended = Some(NoLine::NotALine);
+            return Ok(());
+        }
+        explain_line(self.alloc, self.mask, text, &mut self.buffer)?;
+        sink.put(self.buffer.as_slice())?;
+        self.lines += 1;
+        Ok(())
+    }
+
+    fn long_line<W: Write>(&mut self, _sink: &mut Sink<W>) -> Result<(), LineFault> {
+        if self.ended.is_some() {
+            return Ok(());
+        }
+        if self.lines == u64::MAX {
+            return Err(LineFault::Full);
+        }
+        self.lines += 1;
+        self.ended = Some(NoLine::TooLong);
+        Ok(())
+    }
+}
