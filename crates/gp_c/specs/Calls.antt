@@ -1,0 +1,92 @@
+-- What a call from C answers, and what it leaves.
+use Rattle.std.specs.Prelude.{ℕ, ◌≡◌, List, Option, None, Some, Result, Ok, Err, OnOk, OnErr, IfSome, IfNone}
+use Rattle.gp_ploam.specs.declared.message.Serial.{Serial}
+use Rattle.gp_machine.specs.declared.config.PortConfig.{PortConfig}
+use Rattle.gp_machine.specs.declared.event.Event.{Event}
+use Rattle.gp_chassis.specs.Core.{CoreState, core_opened}
+use Rattle.gp_c.specs.declared.answer.AnswerNumbers.{AnswerNumbers}
+use Rattle.gp_c.specs.declared.row.RowNumbers.{RowNumbers}
+use Rattle.gp_c.specs.declared.fault.Fault.{Fault}
+use Rattle.gp_c.specs.declared.fault.Fault.TheVariants.{NotOpen, IsOpen, Serials}
+use Rattle.gp_c.specs.declared.settings.ChassisSettings.{ChassisSettings}
+use Rattle.gp_c.specs.declared.settings.PortSettings.{PortSettings}
+use Rattle.gp_c.specs.declared.settings.SerialNumber.{SerialNumber}
+use Rattle.gp_c.specs.Faults.{fault_number}
+use Rattle.gp_c.specs.Settings.{ports_of}
+use Rattle.gp_c.specs.Serves.{Answers, Cuts, row_at}
+
+-- ---- what crosses
+
+-- the status of a call: 0 where it is done
+abbrev pub status_of : {A : Type 0} → Result A Fault → ℕ
+status_of (Ok told) = 0
+status_of (Err fault) = fault_number fault
+
+-- what then stands where the caller wants what is told: where there is a fault, what stood there
+abbrev pub written : {A : Type 0} → A → Result A Fault → A
+written old (Ok told) = told
+written old (Err fault) = old
+
+-- ---- opening
+
+-- a chassis with these ports was just opened
+pub record IsOpened (settings : ChassisSettings) (ports : List PortSettings) (serials : List SerialNumber) (after : Option CoreState) : Type 0 where
+  pub configs : List PortConfig
+  pub are : ports_of ports serials ≡ Some configs
+  pub core : after ≡ Some (core_opened configs settings.licences settings.journal_limit)
+
+-- a closed handle is open now, or nothing changed
+abbrev pub OpensHandle : ChassisSettings → List PortSettings → List SerialNumber → Option CoreState → Option CoreState → Result Unit Fault → Type 0
+OpensHandle settings ports serials before after done =
+    OnOk done ((before ≡ None) × IsOpened settings ports serials after)
+    × OnErr done (after ≡ before)
+    × ((core : CoreState) → before ≡ Some core → done ≡ Err IsOpen)
+    × (done ≡ Err Serials → ports_of ports serials ≡ None)
+
+-- what the caller is told of that
+pub record TellsOpen (settings : ChassisSettings) (ports : List PortSettings) (serials : List SerialNumber) (before after : Option CoreState) (status : ℕ) : Type 0 where
+  pub done : Result Unit Fault
+  pub opens : OpensHandle settings ports serials before after done
+  pub status_is : status ≡ status_of done
+
+-- ---- the other calls: a closed handle stays closed, and says so
+
+-- an event was served at a port, or refused
+abbrev pub ServesEvent : Option CoreState → ℕ → Event → Option CoreState → Result AnswerNumbers Fault → Type 0
+ServesEvent before port event after answered =
+    (before ≡ None → (after ≡ None) × (answered ≡ Err NotOpen))
+    × ((core : CoreState) → before ≡ Some core → IfSome after (λ new. Answers core port event new answered) × IfNone after ⊥)
+
+-- what the caller is told of that
+pub record Tells (before : Option CoreState) (port : ℕ) (event : Event) (after : Option CoreState) (status : ℕ) (old new : AnswerNumbers) : Type 0 where
+  pub answered : Result AnswerNumbers Fault
+  pub serves : ServesEvent before port event after answered
+  pub status_is : status ≡ status_of answered
+  pub written_is : new ≡ written old answered
+
+-- what a port knows of a unit
+abbrev pub shown_at : Option CoreState → ℕ → Serial → Result RowNumbers Fault
+shown_at None port serial = Err NotOpen
+shown_at (Some core) port serial = row_at core port serial
+
+-- how many licences are free
+abbrev pub free_at : Option CoreState → Result ℕ Fault
+free_at None = Err NotOpen
+free_at (Some core) = Ok core.free
+
+-- the journal of a port was cut, or nothing changed
+abbrev pub CutsJournal : Option CoreState → ℕ → Option CoreState → Result Unit Fault → Type 0
+CutsJournal before port after done =
+    (before ≡ None → (after ≡ None) × (done ≡ Err NotOpen))
+    × ((core : CoreState) → before ≡ Some core → IfSome after (λ new. Cuts core port new done) × IfNone after ⊥)
+
+-- what the caller is told of that
+pub record TellsCut (before : Option CoreState) (port : ℕ) (after : Option CoreState) (status : ℕ) : Type 0 where
+  pub done : Result Unit Fault
+  pub cuts : CutsJournal before port after done
+  pub status_is : status ≡ status_of done
+
+-- whether there was a chassis to close
+abbrev pub closed_at : Option CoreState → Result Unit Fault
+closed_at None = Err NotOpen
+closed_at (Some core) = Ok tt

@@ -1,0 +1,9 @@
+pub mod Answers
+pub mod Calls
+pub mod Commands
+pub mod Faults
+pub mod Held
+pub mod Outs
+pub mod Rows
+pub mod Serves
+pub mod Settings
