@@ -1,5 +1,5 @@
 -- What a call from C answers, and what it leaves.
-use Rattle.std.specs.Prelude.{ℕ, ◌≡◌, List, Option, None, Some, Result, Ok, Err, OnOk, OnErr, IfSome, IfNone}
+use Rattle.std.specs.Prelude.{ℕ, ◌≡◌, List, Option, None, Some, Result, Ok, Err, OnOk, OnErr}
 use Rattle.gp_ploam.specs.declared.message.Serial.{Serial}
 use Rattle.gp_machine.specs.declared.config.PortConfig.{PortConfig}
 use Rattle.gp_machine.specs.declared.event.Event.{Event}
@@ -13,7 +13,7 @@ use Rattle.gp_c.specs.declared.settings.PortSettings.{PortSettings}
 use Rattle.gp_c.specs.declared.settings.SerialNumber.{SerialNumber}
 use Rattle.gp_c.specs.Faults.{fault_number}
 use Rattle.gp_c.specs.Settings.{ports_of}
-use Rattle.gp_c.specs.Serves.{Answers, Cuts, row_at}
+use Rattle.gp_c.specs.Serves.{Answers, Cuts, StaysOpen, row_at}
 
 -- ---- what crosses
 
@@ -29,36 +29,51 @@ written old (Err fault) = old
 
 -- ---- opening
 
+-- what a chassis is opened with: what it has beside its ports, the ports, and the serial numbers that they admit
+pub record Asked : Type 0 where
+  pub settings : ChassisSettings
+  pub ports : List PortSettings
+  pub serials : List SerialNumber
+
+abbrev pub asked_for : ChassisSettings → List PortSettings → List SerialNumber → Asked
+asked_for settings ports serials = record { settings = settings; ports = ports; serials = serials }
+
 -- a chassis with these ports was just opened
-pub record IsOpened (settings : ChassisSettings) (ports : List PortSettings) (serials : List SerialNumber) (after : Option CoreState) : Type 0 where
+pub record IsOpened (asked : Asked) (after : Option CoreState) : Type 0 where
   pub configs : List PortConfig
-  pub are : ports_of ports serials ≡ Some configs
-  pub core : after ≡ Some (core_opened configs settings.licences settings.journal_limit)
+  pub are : ports_of asked.ports asked.serials ≡ Some configs
+  pub core : after ≡ Some (core_opened configs asked.settings.licences asked.settings.journal_limit)
 
 -- a closed handle is open now, or nothing changed
-abbrev pub OpensHandle : ChassisSettings → List PortSettings → List SerialNumber → Option CoreState → Option CoreState → Result Unit Fault → Type 0
-OpensHandle settings ports serials before after done =
-    OnOk done ((before ≡ None) × IsOpened settings ports serials after)
+abbrev pub OpensHandle : Asked → Option CoreState → Option CoreState → Result Unit Fault → Type 0
+OpensHandle asked before after done =
+    OnOk done ((before ≡ None) × IsOpened asked after)
     × OnErr done (after ≡ before)
     × ((core : CoreState) → before ≡ Some core → done ≡ Err IsOpen)
-    × (done ≡ Err Serials → ports_of ports serials ≡ None)
+    × (done ≡ Err Serials → ports_of asked.ports asked.serials ≡ None)
 
 -- what the caller is told of that
-pub record TellsOpen (settings : ChassisSettings) (ports : List PortSettings) (serials : List SerialNumber) (before after : Option CoreState) (status : ℕ) : Type 0 where
+pub record TellsOpen (asked : Asked) (before after : Option CoreState) (status : ℕ) : Type 0 where
   pub done : Result Unit Fault
-  pub opens : OpensHandle settings ports serials before after done
+  pub opens : OpensHandle asked before after done
   pub status_is : status ≡ status_of done
 
 -- ---- the other calls: a closed handle stays closed, and says so
 
+-- what an event gave, or why it was not served
+abbrev pub Answered : Type 0
+Answered = Result AnswerNumbers Fault
+
 -- an event was served at a port, or refused
-abbrev pub ServesEvent : Option CoreState → ℕ → Event → Option CoreState → Result AnswerNumbers Fault → Type 0
+abbrev pub ServesEvent : Option CoreState → ℕ → Event → Option CoreState → Answered → Type 0
 ServesEvent before port event after answered =
     (before ≡ None → (after ≡ None) × (answered ≡ Err NotOpen))
-    × ((core : CoreState) → before ≡ Some core → IfSome after (λ new. Answers core port event new answered) × IfNone after ⊥)
+    × ((core : CoreState) → before ≡ Some core
+    → StaysOpen after (λ new. Answers core port event new answered))
 
 -- what the caller is told of that
-pub record Tells (before : Option CoreState) (port : ℕ) (event : Event) (after : Option CoreState) (status : ℕ) (old new : AnswerNumbers) : Type 0 where
+pub record Tells (before : Option CoreState) (port : ℕ) (event : Event) (after : Option CoreState) (status : ℕ)
+    (old new : AnswerNumbers) : Type 0 where
   pub answered : Result AnswerNumbers Fault
   pub serves : ServesEvent before port event after answered
   pub status_is : status ≡ status_of answered
@@ -78,7 +93,8 @@ free_at (Some core) = Ok core.free
 abbrev pub CutsJournal : Option CoreState → ℕ → Option CoreState → Result Unit Fault → Type 0
 CutsJournal before port after done =
     (before ≡ None → (after ≡ None) × (done ≡ Err NotOpen))
-    × ((core : CoreState) → before ≡ Some core → IfSome after (λ new. Cuts core port new done) × IfNone after ⊥)
+    × ((core : CoreState) → before ≡ Some core
+    → StaysOpen after (λ new. Cuts core port new done))
 
 -- what the caller is told of that
 pub record TellsCut (before : Option CoreState) (port : ℕ) (after : Option CoreState) (status : ℕ) : Type 0 where

@@ -7,8 +7,17 @@ use Rattle.gp_machine.specs.declared.event.Command.TheVariants.{Search, Alloc, D
 -- the commands in the order of their numbers, from 0
 abbrev pub commands : Serial → ℕ → List Command
 commands serial alloc =
-    Search ∷ Alloc serial ∷ Dealloc serial alloc ∷ Deactivate serial ∷ Disable serial ∷ Enable serial ∷ EnableAll
-    ∷ Popup serial ∷ PopupAll ∷ Show serial ∷ []
+    Search
+    ∷ Alloc serial
+    ∷ Dealloc serial alloc
+    ∷ Deactivate serial
+    ∷ Disable serial
+    ∷ Enable serial
+    ∷ EnableAll
+    ∷ Popup serial
+    ∷ PopupAll
+    ∷ Show serial
+    ∷ []
 
 -- the command of a number, if there is one
 abbrev pub command_of : ℕ → Serial → ℕ → Option Command

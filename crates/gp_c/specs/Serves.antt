@@ -37,7 +37,8 @@ Opens config after done =
 -- ---- an event
 
 -- the chassis applies the event, and the answer tells what that gave
-pub record IsServed (core : CoreState) (port : ℕ) (event : Event) (after : CoreState) (answer : AnswerNumbers) : Type 0 where
+pub record IsServed (core : CoreState) (port : ℕ) (event : Event) (after : CoreState) (answer : AnswerNumbers)
+    : Type 0 where
   pub desk : DeskState
   pub is : slice_get core.desks port ≡ Some desk
   pub receipt : Receipt
@@ -94,15 +95,20 @@ Cuts core port after cut =
 
 -- ---- whatever is asked
 
+-- a chassis that was asked stays open, and this holds of it
+abbrev pub StaysOpen : Option CoreState → (CoreState → Type 0) → Type 0
+StaysOpen after P = IfSome after P × IfNone after ⊥
+
 -- what is asked, and what is answered
 abbrev pub Serves : Option CoreState → Op → Option CoreState → Out → Type 0
 Serves before op after out =
     (before ≡ None → (after ≡ None) × (out ≡ NotOpen))
     × ((core : CoreState) (port : ℕ) (event : Event) → before ≡ Some core → op ≡ Apply port event
-    → IfSome after (λ new. Answers core port event new (answered_of out)) × IfNone after ⊥)
+    → StaysOpen after (λ new. Answers core port event new (answered_of out)))
     × ((core : CoreState) (port : ℕ) (serial : Serial) → before ≡ Some core → op ≡ Show port serial
     → (after ≡ Some core) × (shown_of out ≡ row_at core port serial))
-    × ((core : CoreState) → before ≡ Some core → op ≡ Count → (after ≡ Some core) × (counted_of out ≡ Ok core.free))
+    × ((core : CoreState) → before ≡ Some core → op ≡ Count
+    → (after ≡ Some core) × (counted_of out ≡ Ok core.free))
     × ((core : CoreState) (port : ℕ) → before ≡ Some core → op ≡ Cut port
-    → IfSome after (λ new. Cuts core port new (done_of out)) × IfNone after ⊥)
+    → StaysOpen after (λ new. Cuts core port new (done_of out)))
     × ((core : CoreState) → before ≡ Some core → op ≡ Close → (after ≡ None) × (done_of out ≡ Ok tt))

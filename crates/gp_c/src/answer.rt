@@ -169,6 +169,7 @@ fn sent_numbers(mask: Mask, sent: &Option<Down>) -> (u8, [u8; 13])
 }
 
 /// Tells by numbers what an event gave.
+#[inline(always)]
 pub(crate) fn answer_of(mask: Mask, receipt: &Receipt) -> AnswerNumbers
     requires { ForSome receipt.now.entry.answer.sent IsProperDown }
     ensures { result ≡ spec.answer_numbers (mask_value mask) receipt.now.number receipt.now.entry.answer }

@@ -23,7 +23,8 @@ pub(crate) fn open(
     ports: &[PortSettings],
     serials: &[SerialNumber],
 ) -> Result<(), Fault>
-    ensures { spec.OpensHandle settings.now ports.now serials.now handle.old.value handle.new.value result }
+    ensures { spec.OpensHandle
+        (spec.asked_for settings.now ports.now serials.now) handle.old.value handle.new.value result }
 {
     if free(handle, alloc).is_ok() {
         return Err(Fault::IsOpen);
@@ -40,6 +41,7 @@ pub(crate) fn open(
 }
 
 /// Has a port serve an event.
+#[inline(always)]
 pub(crate) fn apply(
     handle: &mut Handle,
     alloc: Global,
@@ -52,6 +54,7 @@ pub(crate) fn apply(
 }
 
 /// Tells what a port knows of a unit.
+#[inline(always)]
 pub(crate) fn show(
     handle: &mut Handle,
     alloc: Global,
@@ -65,6 +68,7 @@ pub(crate) fn show(
 }
 
 /// Tells how many licences are free.
+#[inline(always)]
 pub(crate) fn free(handle: &mut Handle, alloc: Global) -> Result<u32, Fault>
     ensures unchanged { handle.new.value ≡ handle.old.value }
     ensures free { result ≡ spec.free_at handle.old.value }
@@ -73,6 +77,7 @@ pub(crate) fn free(handle: &mut Handle, alloc: Global) -> Result<u32, Fault>
 }
 
 /// Lets go what a port's journal keeps.
+#[inline(always)]
 pub(crate) fn cut(handle: &mut Handle, alloc: Global, port: u8) -> Result<(), Fault>
     ensures { spec.CutsJournal handle.old.value port handle.new.value result }
 {

@@ -40,6 +40,7 @@ impl<L: Ledger> Model for Engine<L> {
 
 impl<L: Ledger> Engine<L> {
     /// Serves an event at a port, and tells by numbers what it gave.
+    #[inline(always)]
     pub(crate) fn apply(&mut self, port: u8, event: Event) -> Result<AnswerNumbers, Fault>
         ensures ok { IfOk result (λ answer. IsServed self.old port event self.new answer) }
         ensures err { OnErr result (self.new ≡ self.old) }
@@ -49,11 +50,12 @@ impl<L: Ledger> Engine<L> {
             return Err(Fault::NoPort);
         };
         let mask = desk.config().mask;
-        let receipt = match self.core.apply(port, event) {
+        let applied = self.core.apply(port, event);
+        let receipt = match &applied {
             Ok(receipt) => receipt,
-            Err(fault) => return Err(fault_of(fault)),
+            Err(fault) => return Err(fault_of(*fault)),
         };
-        Ok(answer_of(mask, &receipt))
+        Ok(answer_of(mask, receipt))
     }
 
     /// Tells what a port knows of the unit with this serial number. The faults are `NoPort` and `NoUnit`.

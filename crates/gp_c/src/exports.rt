@@ -4,9 +4,9 @@ ghost use Rattle.gp_machine.specs.declared.event.Command.{Command as AnyCommand}
 ghost use Rattle.gp_machine.specs.declared.event.Event.TheVariants.{Frame, Burst, Command as Commanded};
 ghost use Rattle.gp_c.specs.declared.fault.Fault.{Fault as AnyFault};
 ghost use Rattle.gp_c.specs.Faults.{fault_number};
-ghost use Rattle.gp_c.specs.Commands as commands;
+ghost use Rattle.gp_c.specs.Commands as spec;
 ghost use Rattle.gp_c.specs.Settings.{serial_of};
-ghost use Rattle.gp_c.specs.Calls.{TellsOpen, Tells, TellsCut, shown_at, free_at, closed_at, status_of, written};
+ghost use Rattle.gp_c.specs.Calls.{asked_for, TellsOpen, Tells, TellsCut, shown_at, free_at, closed_at, status_of, written};
 
 use crate::answer::AnswerNumbers;
 use crate::calls::{apply, close, cut, free, open, show};
@@ -31,7 +31,7 @@ pub extern "C" fn wp_open(
     ports: &[PortSettings],
     serials: &[SerialNumber],
 ) -> u32
-    ensures { TellsOpen settings.now ports.now serials.now handle.old.value handle.new.value result }
+    ensures { TellsOpen (asked_for settings.now ports.now serials.now) handle.old.value handle.new.value result }
 {
     match open(handle, alloc, settings, ports, serials) {
         Ok(()) => DONE,
@@ -79,10 +79,12 @@ pub extern "C" fn wp_command(
     alloc_id: u16,
     answer: &mut AnswerNumbers,
 ) -> u32
-    ensures serves { (command : AnyCommand) → commands.command_of kind (serial_of serial.now) alloc_id ≡ Some command
+    ensures serves { (command : AnyCommand) → spec.command_of kind (serial_of serial.now) alloc_id ≡ Some command
         → Tells handle.old.value port (Commanded command) handle.new.value result answer.old answer.new }
-    ensures none { commands.command_of kind (serial_of serial.now) alloc_id ≡ None
-        → (result ≡ fault_number AnyFault.NoCommand) × (handle.new.value ≡ handle.old.value) × (answer.new ≡ answer.old) }
+    ensures unknown { spec.command_of kind (serial_of serial.now) alloc_id ≡ None
+        → result ≡ fault_number AnyFault.NoCommand }
+    ensures nothing { spec.command_of kind (serial_of serial.now) alloc_id ≡ None
+        → (handle.new.value ≡ handle.old.value) × (answer.new ≡ answer.old) }
 {
     match command_of(kind, Serial(serial.octets), alloc_id) {
         Some(command) => serve(handle, alloc, port, Event::Command(command), answer),
@@ -152,6 +154,7 @@ pub extern "C" fn wp_close(alloc: Global, handle: &mut Handle) -> u32
 }
 
 /// Has a port serve an event, and tells what it gave.
+#[inline(always)]
 fn serve(
     handle: &mut Handle,
     alloc: Global,

@@ -35,6 +35,7 @@ impl Model for Handle {
 
 impl Handle {
     /// Makes a closed handle.
+    #[inline(always)]
     pub(crate) fn closed(alloc: Global) -> Handle
         ensures { result.value ≡ None }
     {
@@ -63,6 +64,7 @@ impl Handle {
     }
 
     /// Does what is asked of the engine, whatever its ledger.
+    #[inline(always)]
     pub(crate) fn serve(self, op: Op, global: Global) -> (Handle, Out)
         ensures { Serves self.value op result.0.value result.1 }
     {
@@ -86,6 +88,7 @@ impl Handle {
 }
 
 /// Does what is asked of the chassis behind a handle.
+#[inline(always)]
 pub(crate) fn ask(handle: &mut Handle, alloc: Global, op: Op) -> Out
     ensures { Serves handle.old.value op handle.new.value result }
 {

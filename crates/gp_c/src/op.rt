@@ -40,6 +40,7 @@ pub enum Out {
 
 impl Out {
     /// Gives the answer to opening, `Close` or `Cut`.
+    #[inline(always)]
     pub(crate) fn done(self) -> Result<(), Fault>
         ensures { result ≡ spec.done_of self }
     {
@@ -50,6 +51,7 @@ impl Out {
     }
 
     /// Gives the answer to `Apply`.
+    #[inline(always)]
     pub(crate) fn answered(self) -> Result<AnswerNumbers, Fault>
         ensures { result ≡ spec.answered_of self }
     {
@@ -60,6 +62,7 @@ impl Out {
     }
 
     /// Gives the answer to `Show`.
+    #[inline(always)]
     pub(crate) fn shown(self) -> Result<RowNumbers, Fault>
         ensures { result ≡ spec.shown_of self }
     {
@@ -70,6 +73,7 @@ impl Out {
     }
 
     /// Gives the answer to `Count`.
+    #[inline(always)]
     pub(crate) fn counted(self) -> Result<u32, Fault>
         ensures { result ≡ spec.counted_of self }
     {

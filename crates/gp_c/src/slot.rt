@@ -29,11 +29,13 @@ pub(crate) struct Slot<L: Ledger> {
 }
 
 impl<L: Ledger> Model for Slot<L> {
-    ghost also_owns = { λ s. held (global.dealloc_token s.alloc) (engine.the_row L.row L.Ledger) s.is_open s.at s.value };
+    ghost also_owns = { λ s. held
+        (global.dealloc_token s.alloc) (engine.the_row L.row L.Ledger) s.is_open s.at s.value };
 }
 
 impl<L: Ledger> Slot<L> {
     /// Makes a place with nothing in it.
+    #[inline(always)]
     pub(crate) fn closed(alloc: Global) -> Slot<L>
         ensures { result.value ≡ None }
     {
@@ -45,6 +47,7 @@ impl<L: Ledger> Slot<L> {
     }
 
     /// Makes a place with an engine in it.
+    #[inline(always)]
     pub(crate) fn of(loose: Loose<Engine<L>, Global>) -> Slot<L>
         ensures { result.value ≡ Some loose.value }
     {
@@ -57,6 +60,7 @@ impl<L: Ledger> Slot<L> {
     }
 
     /// Gives the engine, where there is one.
+    #[inline(always)]
     pub(crate) fn into_loose(self) -> Option<Loose<Engine<L>, Global>>
         ensures { self.value ≡ option_map (λ l. l.value) result }
     {
@@ -92,6 +96,7 @@ pub(crate) fn open_slot<L: Ledger>(
 }
 
 /// Does what is asked.
+#[inline(always)]
 pub(crate) fn serve_slot<L: Ledger>(slot: Slot<L>, op: Op, alloc: Global) -> (Slot<L>, Out)
     ensures { Serves slot.value op result.0.value result.1 }
 {

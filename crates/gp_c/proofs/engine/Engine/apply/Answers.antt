@@ -1,4 +1,4 @@
-use Rattle.std.proofs.Common.{ap, Result, Ok, Err}
+use Rattle.std.proofs.Common.{ap, sym, ◌∙◌, Result, Ok, Err}
 use Rattle.gp_machine.specs.declared.entry.Receipt.{Receipt}
 use Rattle.gp_chassis.specs.declared.fault.CoreFault.{CoreFault}
 use Rattle.gp_chassis.specs.declared.fault.CoreFault.TheVariants.{NoActor}
@@ -11,10 +11,10 @@ fault_in (Err fault) = fault
 
 pub returns-in-Err-clause-refuses : goal.returns-in-Err-clause-refuses
 returns-in-Err-clause-refuses g c =
-    let told = c.in-Err.ensures in let same = c.fault_of.ensures in
+    let told = c.apply-applied.ensures in let same = c.fault_of.ensures in let is = c.in-Err.is in
     rw (← c.self.view_is) (record {
-      no_port = ((λ h. told.no_port.0 (ap Err (same.no_port.0 h))), (λ h. same.no_port.1 (ap fault_in (told.no_port.1 h))));
-      full = λ within. let full = told.full within in ((λ h. full.0 (same.full.0 h)), (λ h. same.full.1 (full.1 h)));
+      no_port = ((λ h. told.no_port.0 (is ∙ ap Err (same.no_port.0 h))), (λ h. same.no_port.1 (ap fault_in (sym is ∙ told.no_port.1 h))));
+      full = λ within. let full = rw is at (told.full within) in ((λ h. full.0 (same.full.0 h)), (λ h. same.full.1 (full.1 h)));
       only = same.only;
     })
 
@@ -23,6 +23,6 @@ returns-clause-ok g c = rw (← c.self.view_is) (record {
   desk = c.in-Some.desk.now;
   is = c.in-Some.ensures;
   receipt = c.in-Ok.receipt;
-  applies = c.in-Ok.ensures.ok;
+  applies = rw c.in-Ok.is at c.apply-applied.ensures.ok;
   told = rw c.config.ensures at c.answer_of.ensures;
 })
