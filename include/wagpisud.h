@@ -1,16 +1,17 @@
-/* Wagpisud: a GPON line terminal (ITU-T G.984.3) as a C library. A chassis of 1 to 16 ports, each with its journal, and
- * one stock of licences. The library is crates/gp_c/out/libgp_c.a, with the kit's c/liblibc_c.a beside it.
+/* Wagpisud: a GPON line terminal (ITU-T G.984.3) as a C library. A chassis of 1 to 16 ports, each with its journal,
+ * and one stock of licences. The library is crates/gp_c/out/libgp_c.a, with the kit's c/liblibc_c.a beside it.
  *
  * Who calls keeps these rules, which nothing checks:
- *   - A wp_chassis is all zeros before its first call (WP_CLOSED). Nobody but these functions writes to it, and while it is
- *     open no copy of it is used.
+ *   - A wp_chassis is all zeros before its first call (WP_CLOSED). Nobody but these functions writes to it, and while
+ *     it is open no copy of it is used.
  *   - A chassis is used by one call at a time, and on the thread that opened it.
- *   - No pointer is null, but that of an array of no elements. What a call writes overlaps nothing else that it is passed.
+ *   - No pointer is null, but that of an array of no elements. What a call writes overlaps nothing else that it is
+ *     passed.
  *   - malloc, realloc and free are those of the C library. No call comes from a signal handler.
  *
  * All else is answered: a handle that is closed, opened twice or closed twice, a port or a unit that isn't there, any
- * thirteen octets, any number in a struct. Every function returns a wp_status. Where that is not WP_DONE the chassis is as
- * it was, and nothing was written to what the caller passed. */
+ * thirteen octets, any number in a struct. Every function but wp_text returns a wp_status. Where that is not WP_DONE
+ * the chassis is as it was, and nothing was written to what the caller passed. */
 #ifndef WAGPISUD_H
 #define WAGPISUD_H
 
@@ -32,7 +33,14 @@ enum wp_status {
     WP_JOURNAL_FULL = 6, /* the port's journal keeps as many entries as it may: wp_cut makes room */
     WP_NO_UNIT = 7,      /* no active unit of the port has this serial number */
     WP_NO_COMMAND = 8,   /* there is no command of this kind */
-    WP_SERIALS = 9       /* the ports admit more or fewer serial numbers in all than are given */
+    WP_SERIALS = 9,      /* the ports admit more or fewer serial numbers in all than are given */
+    WP_NO_EVENT = 10,    /* there is no event of these numbers */
+    WP_LINE_WORD = 11,   /* of a line: a word is unknown, or parts are missing or too many */
+    WP_LINE_NUMBER = 12, /* of a line: a number has a character that is no decimal digit, or none at all */
+    WP_LINE_SERIAL = 13, /* of a line: a text spells no serial number */
+    WP_LINE_HEX = 14,    /* of a line: a code isn't 26 hexadecimal digits */
+    WP_LINE_RANGE = 15,  /* of a line: a number is outside its range */
+    WP_LINE_LONG = 16    /* of a line: it has more than 4,096 octets */
 };
 
 /* A chassis: closed where it is all zeros. Its fields are the library's. */
@@ -59,7 +67,7 @@ typedef struct wp_settings {
 typedef struct wp_port {
     uint32_t teqd;          /* the equalized round-trip delay in bit times: 311,040 is usual */
     uint32_t search_period; /* frames in standby before a search begins by itself, at most 1,000,000; 0 for never */
-    uint32_t admitted;      /* how many serial numbers it admits, at most 512: the next of those that wp_open is given */
+    uint32_t admitted;      /* how many serial numbers it admits, at most 512: the next of those given to wp_open */
     uint16_t alloc_last;    /* the greatest Alloc-ID that it may assign, 256 to 4095 */
     uint16_t quarantine;    /* frames in which a freed ONU-ID is given to no other unit, at most 8000; 0 for none */
     uint8_t is_masked;      /* 0: check octets are as they are; else each is XORed with 85 */
@@ -171,8 +179,55 @@ typedef struct wp_unit {
     uint8_t garbled;      /* of an operating unit: how many were answered by nothing that could be read, 0 to 2 */
 } wp_unit;
 
-/* Opens a chassis behind a closed handle: each port without units, in standby, all licences free. The first port admits
- * the first ports[0].admitted of the serial numbers, the second the next ports[1].admitted, and so on; none may be left.
+/* What is counted of a port. */
+typedef struct wp_counts {
+    uint64_t entries;    /* how many entries it ever had: the number of the next one */
+    uint64_t first_kept; /* the number of the first entry that its journal keeps, or of the next one */
+    uint64_t units;      /* how many units are active, at most 254 */
+    uint64_t owed;       /* how many copies of messages are still to be sent, one with each frame */
+} wp_counts;
+
+/* The kinds of events, and which numbers of a wp_event each has. */
+enum wp_event_kind {
+    WP_EVENT_FRAME = 0,
+    WP_EVENT_BURST = 1,  /* at, octets */
+    WP_EVENT_COMMAND = 2 /* command; serial and alloc, where that command looks at them */
+};
+
+/* An event. A number that its kind has no use for isn't looked at, and is 0 where wp_turn writes it. */
+typedef struct wp_event {
+    uint32_t at;        /* the whole measured round-trip delay in bit times */
+    uint16_t alloc;     /* an Alloc-ID */
+    uint8_t kind;       /* enum wp_event_kind */
+    uint8_t command;    /* enum wp_command_kind */
+    uint8_t serial[8];  /* a serial number */
+    uint8_t octets[13]; /* what arrived */
+} wp_event;
+
+/* The kinds of turns, and which numbers of a wp_asked each has. */
+enum wp_turn_kind {
+    WP_TURN_NOTHING = 0, /* an empty line or a remark */
+    WP_TURN_EVENT = 1,   /* port, event */
+    WP_TURN_FRAMES = 2,  /* port, count: so many frames */
+    WP_TURN_UNTIL = 3,   /* port, grant, grant_onu: frames up to the one that makes this grant */
+    WP_TURN_LIGHT = 4    /* unit, is_lit: the light of a simulated unit, which this library has none of */
+};
+
+/* What a line of text asks for. A number that its kind has no use for is 0. */
+typedef struct wp_asked {
+    wp_event event;
+    uint32_t count;    /* 1 to 1,000,000 */
+    uint16_t unit;     /* 0 to 1023 */
+    uint8_t kind;      /* enum wp_turn_kind */
+    uint8_t port;      /* 0 to 15 */
+    uint8_t is_lit;    /* 1 where the light comes */
+    uint8_t grant;     /* enum wp_grant */
+    uint8_t grant_onu; /* the ONU-ID that is asked */
+} wp_asked;
+
+/* Opens a chassis behind a closed handle: each port without units, in standby, all licences free. The first port
+ * admits the first ports[0].admitted of the serial numbers, the second the next ports[1].admitted, and so on; none may
+ * be left.
  * Takes all memory that ports ever need, but that of the journals.
  * Answers WP_IS_OPEN, WP_SERIALS, WP_LIMIT or WP_NO_MEMORY; the first that holds, but that memory may run out first.
  *
@@ -220,6 +275,14 @@ enum wp_command_kind {
 uint32_t wp_command(wp_chassis *chassis, uint8_t port, uint8_t kind, const wp_serial *serial, uint16_t alloc,
                     wp_answer *answer);
 
+/* What a wp_event tells happens at a port: the same as wp_frame, wp_burst or wp_command.
+ * Answers WP_NO_EVENT for numbers that are no event, before all else; then as wp_frame does.
+ *
+ *     wp_asked asked;
+ *     if (wp_turn(line, length, &asked) == WP_DONE && asked.kind == WP_TURN_EVENT)
+ *         wp_apply(&chassis, asked.port, &asked.event, &answer); */
+uint32_t wp_apply(wp_chassis *chassis, uint8_t port, const wp_event *event, wp_answer *answer);
+
 /* Tells what a port knows of the active unit with this serial number. No entry is made.
  * Answers WP_NOT_OPEN, WP_NO_PORT or WP_NO_UNIT.
  *
@@ -233,8 +296,15 @@ uint32_t wp_show(wp_chassis *chassis, uint8_t port, const wp_serial *serial, wp_
  *     wp_free(&chassis, &count); */
 uint32_t wp_free(wp_chassis *chassis, uint32_t *count);
 
-/* Lets go the entries that a port's journal keeps, so that it has room again. The port stays as it is, and the next entry
- * has the next number. Takes memory for two images of the port, and gives the journal's back.
+/* Tells what is counted of a port. Answers WP_NOT_OPEN or WP_NO_PORT.
+ *
+ *     wp_counts counts;
+ *     if (wp_count(&chassis, 0, &counts) == WP_DONE)
+ *         printf("%u units\n", (unsigned)counts.units); */
+uint32_t wp_count(wp_chassis *chassis, uint8_t port, wp_counts *counts);
+
+/* Lets go the entries that a port's journal keeps, so that it has room again. The port stays as it is, and the next
+ * entry has the next number. Takes memory for two images of the port, and gives the journal's back.
  * Answers WP_NOT_OPEN, WP_NO_PORT or WP_NO_MEMORY.
  *
  *     if (wp_frame(&chassis, 0, &answer) == WP_JOURNAL_FULL && wp_cut(&chassis, 0) == WP_DONE)
@@ -245,6 +315,20 @@ uint32_t wp_cut(wp_chassis *chassis, uint8_t port);
  *
  *     wp_close(&chassis); */
 uint32_t wp_close(wp_chassis *chassis);
+
+/* Reads the turn that a line of text asks for, without its line feed: `PORT EVENT` with an event as a trace tells it,
+ * `PORT frame COUNT`, `PORT until GRANT`, `unit I light` or `unit I dark`; docs/FORMATS.md has the grammar. Touches no
+ * chassis. Answers the first fault from the left, WP_LINE_WORD to WP_LINE_LONG.
+ *
+ *     wp_turn((const uint8_t *)"0 search", 8, &asked); */
+uint32_t wp_turn(const uint8_t *line, size_t length, wp_asked *asked);
+
+/* Writes a status in words, in ASCII without a zero at its end, where the buffer has room for all of them; else it
+ * writes nothing. Returns how many octets the words have, at most 34.
+ *
+ *     uint8_t words[40];
+ *     printf("%.*s\n", (int)wp_text(status, words, sizeof words), (const char *)words); */
+size_t wp_text(uint32_t status, uint8_t *buffer, size_t size);
 
 #ifdef __cplusplus
 }

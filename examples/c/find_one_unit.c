@@ -25,7 +25,7 @@ int main(void)
 {
     const wp_settings settings = { .licences = 1, .journal_limit = 4096 };
     const wp_serial serial = { { 'A', 'B', 'C', 'D', 0, 0, 0, 1 } };
-    const wp_port port = { .teqd = 311040, .admitted = 1, .alloc_last = 4095, .quarantine = 800, .max_units = 254, .cycles = 1 };
+    const wp_port port = { .teqd = 311040, .admitted = 1, .alloc_last = 4095, .max_units = 254, .cycles = 1 };
     /* what the unit says: Serial_number_ONU without an ONU-ID, and then with ONU-ID 0, each with its check octet */
     const uint8_t unnamed[13] = { 0xff, 0x01, 'A', 'B', 'C', 'D', 0, 0, 0, 1, 0, 0, 0x2c };
     const uint8_t named[13] = { 0x00, 0x01, 'A', 'B', 'C', 'D', 0, 0, 0, 1, 0, 0, 0x6b };

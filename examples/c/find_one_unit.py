@@ -12,11 +12,12 @@ def struct(name, **fields):
 Chassis = struct("Chassis", at=c.c_void_p, is_open=c.c_uint64)
 Settings = struct("Settings", licences=c.c_uint32, journal_limit=c.c_uint32)
 Serial = struct("Serial", octets=c.c_uint8 * 8)
-Port = struct("Port", teqd=c.c_uint32, search_period=c.c_uint32, admitted=c.c_uint32, alloc_last=c.c_uint16, quarantine=c.c_uint16,
-              is_masked=c.c_uint8, max_units=c.c_uint8, cycles=c.c_uint8, overhead=c.c_uint8 * 10)
-Answer = struct("Answer", number=c.c_uint64, eqd=c.c_uint32, alloc=c.c_uint16, reply=c.c_uint8, refusal=c.c_uint8, onu=c.c_uint8,
-                count=c.c_uint8, grant=c.c_uint8, grant_onu=c.c_uint8, alarm=c.c_uint8, alarm_serial=c.c_uint8 * 8,
-                is_sent=c.c_uint8, sent=c.c_uint8 * 13)
+Port = struct("Port", teqd=c.c_uint32, search_period=c.c_uint32, admitted=c.c_uint32, alloc_last=c.c_uint16,
+              quarantine=c.c_uint16, is_masked=c.c_uint8, max_units=c.c_uint8, cycles=c.c_uint8,
+              overhead=c.c_uint8 * 10)
+Answer = struct("Answer", number=c.c_uint64, eqd=c.c_uint32, alloc=c.c_uint16, reply=c.c_uint8, refusal=c.c_uint8,
+                onu=c.c_uint8, count=c.c_uint8, grant=c.c_uint8, grant_onu=c.c_uint8, alarm=c.c_uint8,
+                alarm_serial=c.c_uint8 * 8, is_sent=c.c_uint8, sent=c.c_uint8 * 13)
 SEARCH, FOUND, RANGED = 0, 3, 8
 
 wp = c.CDLL(sys.argv[1])
@@ -39,8 +40,8 @@ def burst(digits):
     return answer.reply
 
 
-port = Port(teqd=311040, admitted=1, alloc_last=4095, quarantine=800, max_units=254, cycles=1)
-must(wp.wp_open(c.byref(chassis), c.byref(Settings(1, 4096)), c.byref(port), c.c_size_t(1), c.byref(serial), c.c_size_t(1)))
+port, one = Port(teqd=311040, admitted=1, alloc_last=4095, max_units=254, cycles=1), c.c_size_t(1)
+must(wp.wp_open(c.byref(chassis), c.byref(Settings(1, 4096)), c.byref(port), one, c.byref(serial), one))
 must(wp.wp_command(c.byref(chassis), c.c_uint8(0), c.c_uint8(SEARCH), c.byref(serial), c.c_uint16(0), c.byref(answer)))
 frames(5)
 assert burst("ff01414243440000000100002c") == FOUND

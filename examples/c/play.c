@@ -2,9 +2,9 @@
  *
  *     play LICENCES JOURNAL_LIMIT
  *
- * First a line `port TEQD MAX_UNITS ALLOC_LAST CYCLES SEARCH_PERIOD QUARANTINE MASK COUNT SERIAL..` for each port, with so
- * many serial numbers of 16 hexadecimal digits; then a line `PORT EVENT` for each turn, with serial numbers as in the trace
- * (12 or 16 characters). tools/embed makes such lines, and compares. */
+ * First a line `port OVERHEAD TEQD MAX_UNITS ALLOC_LAST CYCLES SEARCH_PERIOD QUARANTINE MASK COUNT SERIAL..` for each
+ * port, with OVERHEAD of 20 and so many serial numbers of 16 hexadecimal digits; then a line for each turn, as wp_turn
+ * reads it. tools/embed makes such lines, and compares. */
 #include "wagpisud.h"
 #include <ctype.h>
 #include <inttypes.h>
@@ -22,10 +22,6 @@ static const char *const refusals[] = {
     "not-operating", "pending-alloc", "alloc-full", "not-held", "no-alloc", "already-searching"
 };
 static const char *const alarms[] = { "", "LOS", "LOAM", "LOA", "SUF", "DF", "DG" };
-static const char *const commands[] = {
-    "search", "alloc", "dealloc", "deactivate", "disable", "enable", "enable-all", "popup", "popup-all", "show"
-};
-
 static wp_chassis chassis = WP_CLOSED;
 static wp_port ports[16];
 static wp_serial serials[16 * 512];
@@ -33,8 +29,15 @@ static size_t port_count, serial_count;
 
 static void fail(const char *what, uint32_t status)
 {
-    fprintf(stderr, "play: %s %u\n", what, (unsigned)status);
+    uint8_t words[40];
+    fprintf(stderr, "play: %s: %.*s\n", what, (int)wp_text(status, words, sizeof words), (const char *)words);
     exit(1);
+}
+
+static void must(const char *what, uint32_t status)
+{
+    if (status != WP_DONE)
+        fail(what, status);
 }
 
 static void read_octets(const char *digits, uint8_t *octets, size_t count)
@@ -53,18 +56,6 @@ static void write_octets(const uint8_t *octets, size_t count, const char *form)
         printf(form, octets[i]);
 }
 
-static wp_serial read_serial(const char *text)
-{
-    wp_serial serial;
-    if (strlen(text) == 12) {
-        memcpy(serial.octets, text, 4);
-        read_octets(text + 4, serial.octets + 4, 4);
-    } else {
-        read_octets(text, serial.octets, 8);
-    }
-    return serial;
-}
-
 static void write_serial(const uint8_t *octets)
 {
     size_t plain = 0;
@@ -79,8 +70,9 @@ static void read_port(char *words)
 {
     wp_port *port = &ports[port_count++];
     uint32_t numbers[8];
+    read_octets(strtok(words, " "), port->overhead, 10);
     for (size_t i = 0; i < 8; i++)
-        numbers[i] = (uint32_t)strtoul(strtok(i == 0 ? words : NULL, " "), NULL, 10);
+        numbers[i] = (uint32_t)strtoul(strtok(NULL, " "), NULL, 10);
     port->teqd = numbers[0];
     port->max_units = (uint8_t)numbers[1];
     port->alloc_last = (uint16_t)numbers[2];
@@ -90,25 +82,29 @@ static void read_port(char *words)
     port->is_masked = numbers[6] != 0;
     port->admitted = numbers[7];
     for (uint32_t i = 0; i < port->admitted; i++)
-        serials[serial_count++] = read_serial(strtok(NULL, " \n"));
+        read_octets(strtok(NULL, " "), serials[serial_count++].octets, 8);
 }
 
-static void write_unit(uint8_t port, const wp_serial *serial)
+static void write_unit(const wp_asked *asked)
 {
+    wp_serial serial;
     wp_unit unit;
-    uint32_t status = wp_show(&chassis, port, serial, &unit);
-    if (status != WP_DONE)
-        fail("show", status);
-    printf(" %s %" PRIu32 " allocs ", unit.is_operating ? "operating" : "ranging", unit.is_operating ? unit.eqd : unit.attempts);
+    memcpy(serial.octets, asked->event.serial, 8);
+    must("show", wp_show(&chassis, asked->port, &serial, &unit));
+    if (unit.is_operating)
+        printf(" operating %" PRIu32, unit.eqd);
+    else
+        printf(" ranging %u", unit.attempts);
+    printf(" allocs ");
     for (size_t i = 0; i < 8 && unit.allocs[i].is_there; i++)
         printf("%s%u%s", i ? "," : "", unit.allocs[i].alloc, unit.allocs[i].is_leaving ? "!" : "");
     if (!unit.allocs[0].is_there)
         printf("-");
 }
 
-static void write_answer(uint8_t port, const char *event, const wp_serial *serial, const wp_answer *answer)
+static void write_answer(const char *event, const wp_asked *asked, const wp_answer *answer)
 {
-    printf("%u %" PRIu64 " %s = %s", port, answer->number, event, replies[answer->reply]);
+    printf("%u %" PRIu64 " %s = %s", asked->port, answer->number, event, replies[answer->reply]);
     switch (answer->reply) {
     case WP_TICKED: case WP_SEARCHING: case WP_DISABLED_SEEN: case WP_DISABLED: case WP_ENABLED: case WP_ENABLED_ALL:
         break;
@@ -119,7 +115,7 @@ static void write_answer(uint8_t port, const char *event, const wp_serial *seria
     default: printf(" %u", answer->onu);
     }
     if (answer->reply == WP_SHOWN)
-        write_unit(port, serial);
+        write_unit(asked);
     if (answer->is_sent) {
         printf(" sent ");
         write_octets(answer->sent, 13, "%02x");
@@ -136,51 +132,46 @@ static void write_answer(uint8_t port, const char *event, const wp_serial *seria
     printf("\n");
 }
 
-/* Makes the call that an event stands for. */
-static uint32_t call(uint8_t port, char *event, wp_serial *serial, wp_answer *answer)
+/* Makes the call that an event stands for: its own, or wp_apply. */
+static uint32_t call(const wp_asked *asked, int own, wp_answer *answer)
 {
-    char word[16] = "", first[32] = "", second[32] = "";
-    sscanf(event, "%15s %31s %31s", word, first, second);
-    if (strcmp(word, "frame") == 0)
-        return wp_frame(&chassis, port, answer);
-    if (strcmp(word, "burst") == 0) {
-        uint8_t octets[13];
-        read_octets(second, octets, 13);
-        return wp_burst(&chassis, port, (uint32_t)strtoul(first, NULL, 10), octets, answer);
+    const wp_event *event = &asked->event;
+    wp_serial serial;
+    memcpy(serial.octets, event->serial, 8);
+    if (!own)
+        return wp_apply(&chassis, asked->port, event, answer);
+    switch (event->kind) {
+    case WP_EVENT_FRAME: return wp_frame(&chassis, asked->port, answer);
+    case WP_EVENT_BURST: return wp_burst(&chassis, asked->port, event->at, event->octets, answer);
+    default: return wp_command(&chassis, asked->port, event->command, &serial, event->alloc, answer);
     }
-    uint8_t kind = 0;
-    while (kind < 10 && strcmp(word, commands[kind]) != 0)
-        kind++;
-    if (first[0])
-        *serial = read_serial(first);
-    return wp_command(&chassis, port, kind, serial, (uint16_t)strtoul(second, NULL, 10), answer);
 }
 
 int main(int argc, char **argv)
 {
     static char line[16384];
-    wp_serial serial = { { 0 } };
+    wp_asked asked;
     wp_answer answer;
     if (argc != 3)
         fail("LICENCES JOURNAL_LIMIT", 0);
     const wp_settings settings = { (uint32_t)strtoul(argv[1], NULL, 10), (uint32_t)strtoul(argv[2], NULL, 10) };
-    while (fgets(line, sizeof line, stdin)) {
+    for (int own = 0; fgets(line, sizeof line, stdin); own = !own) {
         line[strcspn(line, "\n")] = 0;
         if (strncmp(line, "port ", 5) == 0) {
             read_port(line + 5);
             continue;
         }
-        uint32_t status = chassis.is_open ? WP_DONE : wp_open(&chassis, &settings, ports, port_count, serials, serial_count);
-        if (status != WP_DONE)
-            fail("open", status);
-        char *event = strchr(line, ' ') + 1;
-        const uint8_t port = (uint8_t)strtoul(line, NULL, 10);
-        status = call(port, event, &serial, &answer);
-        if (status == WP_JOURNAL_FULL && wp_cut(&chassis, port) == WP_DONE)
-            status = call(port, event, &serial, &answer);
-        if (status != WP_DONE)
-            fail("call", status);
-        write_answer(port, event, &serial, &answer);
+        if (!chassis.is_open)
+            must("open", wp_open(&chassis, &settings, ports, port_count, serials, serial_count));
+        must("turn", wp_turn((const uint8_t *)line, strlen(line), &asked));
+        uint32_t status = call(&asked, own, &answer);
+        if (status == WP_JOURNAL_FULL) {
+            must("cut", wp_cut(&chassis, asked.port));
+            status = call(&asked, own, &answer);
+        }
+        must("call", status);
+        write_answer(strchr(line, ' ') + 1, &asked, &answer);
     }
-    return wp_close(&chassis) == WP_DONE ? 0 : 1;
+    must("close", wp_close(&chassis));
+    return 0;
 }

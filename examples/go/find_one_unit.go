@@ -36,7 +36,7 @@ func burst(digits string) C.uint8_t {
 func main() {
 	settings := C.wp_settings{licences: 1, journal_limit: 4096}
 	serial := C.wp_serial{octets: [8]C.uint8_t{'A', 'B', 'C', 'D', 0, 0, 0, 1}}
-	port := C.wp_port{teqd: 311040, admitted: 1, alloc_last: 4095, quarantine: 800, max_units: 254, cycles: 1}
+	port := C.wp_port{teqd: 311040, admitted: 1, alloc_last: 4095, max_units: 254, cycles: 1}
 	must(C.wp_open(&chassis, &settings, &port, 1, &serial, 1))
 	must(C.wp_command(&chassis, 0, C.WP_COMMAND_SEARCH, &serial, 0, &answer))
 	frames(5)

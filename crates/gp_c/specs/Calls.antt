@@ -1,10 +1,11 @@
 -- What a call from C answers, and what it leaves.
-use Rattle.std.specs.Prelude.{ℕ, ◌≡◌, List, Option, None, Some, Result, Ok, Err, OnOk, OnErr}
+use Rattle.std.specs.Prelude.{ℕ, ◌≡◌, ◌++◌, nat_le, if◌then◌else◌, length, drop, List, Option, None, Some, Result, Ok, Err, OnOk, OnErr}
 use Rattle.gp_ploam.specs.declared.message.Serial.{Serial}
 use Rattle.gp_machine.specs.declared.config.PortConfig.{PortConfig}
 use Rattle.gp_machine.specs.declared.event.Event.{Event}
 use Rattle.gp_chassis.specs.Core.{CoreState, core_opened}
 use Rattle.gp_c.specs.declared.answer.AnswerNumbers.{AnswerNumbers}
+use Rattle.gp_c.specs.declared.counts.PortCounts.{PortCounts}
 use Rattle.gp_c.specs.declared.row.RowNumbers.{RowNumbers}
 use Rattle.gp_c.specs.declared.fault.Fault.{Fault}
 use Rattle.gp_c.specs.declared.fault.Fault.TheVariants.{NotOpen, IsOpen, Serials}
@@ -13,7 +14,7 @@ use Rattle.gp_c.specs.declared.settings.PortSettings.{PortSettings}
 use Rattle.gp_c.specs.declared.settings.SerialNumber.{SerialNumber}
 use Rattle.gp_c.specs.Faults.{fault_number}
 use Rattle.gp_c.specs.Settings.{ports_of}
-use Rattle.gp_c.specs.Serves.{Answers, Cuts, StaysOpen, row_at}
+use Rattle.gp_c.specs.Serves.{Answers, Cuts, StaysOpen, row_at, counts_at}
 
 -- ---- what crosses
 
@@ -89,6 +90,11 @@ abbrev pub free_at : Option CoreState → Result ℕ Fault
 free_at None = Err NotOpen
 free_at (Some core) = Ok core.free
 
+-- what is counted of a port
+abbrev pub tallied_at : Option CoreState → ℕ → Result PortCounts Fault
+tallied_at None port = Err NotOpen
+tallied_at (Some core) port = counts_at core port
+
 -- the journal of a port was cut, or nothing changed
 abbrev pub CutsJournal : Option CoreState → ℕ → Option CoreState → Result Unit Fault → Type 0
 CutsJournal before port after done =
@@ -106,3 +112,10 @@ pub record TellsCut (before : Option CoreState) (port : ℕ) (after : Option Cor
 abbrev pub closed_at : Option CoreState → Result Unit Fault
 closed_at None = Err NotOpen
 closed_at (Some core) = Ok tt
+
+-- ---- texts
+
+-- what stands in a buffer where a text is wanted: the text and what stood behind it, or what stood there where it is too
+-- short
+abbrev pub text_in : List ℕ → List ℕ → List ℕ
+text_in buffer text = if nat_le (length text) (length buffer) then text ++ drop (length text) buffer else buffer

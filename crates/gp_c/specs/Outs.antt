@@ -1,11 +1,12 @@
 -- What an answer of the chassis behind a handle says to the one who asked.
 use Rattle.std.specs.Prelude.{ℕ, Result, Ok, Err}
 use Rattle.gp_c.specs.declared.answer.AnswerNumbers.{AnswerNumbers}
+use Rattle.gp_c.specs.declared.counts.PortCounts.{PortCounts}
 use Rattle.gp_c.specs.declared.row.RowNumbers.{RowNumbers}
 use Rattle.gp_c.specs.declared.fault.Fault.{Fault}
 use Rattle.gp_c.specs.declared.fault.Fault.TheVariants.{NotOpen}
 use Rattle.gp_c.specs.declared.op.Out.{Out}
-use Rattle.gp_c.specs.declared.op.Out.TheVariants.{Done, Answered, Shown, Counted}
+use Rattle.gp_c.specs.declared.op.Out.TheVariants.{Done, Answered, Shown, Counted, Tallied}
 
 -- to opening, closing or cutting
 abbrev pub done_of : Out → Result Unit Fault
@@ -26,3 +27,8 @@ shown_of _ = Err NotOpen
 abbrev pub counted_of : Out → Result ℕ Fault
 counted_of (Counted count) = Ok count
 counted_of _ = Err NotOpen
+
+-- to a question for a port's counts
+abbrev pub tallied_of : Out → Result PortCounts Fault
+tallied_of (Tallied counts) = counts
+tallied_of _ = Err NotOpen

@@ -17,12 +17,14 @@ use Rattle.gp_c.specs.declared.row.RowNumbers.{RowNumbers}
 use Rattle.gp_c.specs.declared.fault.Fault.{Fault}
 use Rattle.gp_c.specs.declared.fault.Fault.TheVariants.{Limit, OutOfMemory, NoPort, JournalFull, NoUnit}
 use Rattle.gp_c.specs.declared.op.Op.{Op}
-use Rattle.gp_c.specs.declared.op.Op.TheVariants.{Apply, Show, Count, Cut, Close}
+use Rattle.gp_c.specs.declared.op.Op.TheVariants.{Apply, Show, Count, Cut, Close, Tally}
 use Rattle.gp_c.specs.declared.op.Out.{Out}
 use Rattle.gp_c.specs.declared.op.Out.TheVariants.{NotOpen}
 use Rattle.gp_c.specs.Answers.{answer_numbers}
+use Rattle.gp_c.specs.declared.counts.PortCounts.{PortCounts}
+use Rattle.gp_c.specs.Counts.{counts_of}
 use Rattle.gp_c.specs.Rows.{row_numbers}
-use Rattle.gp_c.specs.Outs.{done_of, answered_of, shown_of, counted_of}
+use Rattle.gp_c.specs.Outs.{done_of, answered_of, shown_of, counted_of, tallied_of}
 
 -- ---- opening
 
@@ -74,6 +76,17 @@ row_on (Some desk) serial = row_told (get desk.state.rows serial)
 abbrev pub row_at : CoreState → ℕ → Serial → Result RowNumbers Fault
 row_at core port serial = row_on (slice_get core.desks port) serial
 
+-- ---- a port
+
+-- what is counted of a port, if there is the port
+abbrev pub counts_on : Option DeskState → Result PortCounts Fault
+counts_on None = Err NoPort
+counts_on (Some desk) = Ok (counts_of desk)
+
+-- what is counted of the port with this number
+abbrev pub counts_at : CoreState → ℕ → Result PortCounts Fault
+counts_at core port = counts_on (slice_get core.desks port)
+
 -- ---- a journal
 
 -- what the port's journal keeps is let go, and it begins anew
@@ -112,3 +125,5 @@ Serves before op after out =
     × ((core : CoreState) (port : ℕ) → before ≡ Some core → op ≡ Cut port
     → StaysOpen after (λ new. Cuts core port new (done_of out)))
     × ((core : CoreState) → before ≡ Some core → op ≡ Close → (after ≡ None) × (done_of out ≡ Ok tt))
+    × ((core : CoreState) (port : ℕ) → before ≡ Some core → op ≡ Tally port
+    → (after ≡ Some core) × (tallied_of out ≡ counts_at core port))

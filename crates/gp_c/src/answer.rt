@@ -122,7 +122,7 @@ pub(crate) fn reply_numbers(reply: &Reply) -> ReplyNumbers
 }
 
 /// Tells a grant by its kind and its ONU-ID.
-fn grant_numbers(grant: &Option<Grant>) -> (u8, u8)
+pub(crate) fn grant_numbers(grant: &Option<Grant>) -> (u8, u8)
     ensures { result ≡ spec.grant_numbers grant.now }
 {
     match *grant {

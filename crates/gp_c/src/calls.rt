@@ -3,6 +3,7 @@ ghost use Rattle.std.specs.Prelude.{◌≡◌, None};
 ghost use Rattle.gp_c.specs.Calls as spec;
 
 use crate::answer::AnswerNumbers;
+use crate::counts::PortCounts;
 use crate::fault::Fault;
 use crate::handle::{Handle, ask};
 use crate::op::Op;
@@ -74,6 +75,15 @@ pub(crate) fn free(handle: &mut Handle, alloc: Global) -> Result<u32, Fault>
     ensures free { result ≡ spec.free_at handle.old.value }
 {
     ask(handle, alloc, Op::Count).counted()
+}
+
+/// Tells what is counted of a port.
+#[inline(always)]
+pub(crate) fn tally(handle: &mut Handle, alloc: Global, port: u8) -> Result<PortCounts, Fault>
+    ensures unchanged { handle.new.value ≡ handle.old.value }
+    ensures counts { result ≡ spec.tallied_at handle.old.value port }
+{
+    ask(handle, alloc, Op::Tally { port }).tallied()
 }
 
 /// Lets go what a port's journal keeps.

@@ -1,8 +1,9 @@
 //! What stands behind a handle: a chassis that is closed where it is dropped.
 ghost use Rattle.std.specs.Prelude.{◌≡◌, ◌↔◌, ◌⊎◌, IfOk, IfErr, OnOk, OnErr};
-ghost use Rattle.gp_c.specs.Serves.{IsServed, Refuses, IsCut, KeepsJournal, row_at};
+ghost use Rattle.gp_c.specs.Serves.{IsServed, Refuses, IsCut, KeepsJournal, row_at, counts_at};
 
 use crate::answer::{AnswerNumbers, answer_of};
+use crate::counts::{PortCounts, counts_of};
 use crate::fault::Fault;
 use crate::row::{RowNumbers, row_of};
 use gp_chassis::{ChassisCore, CoreFault};
@@ -76,6 +77,16 @@ impl<L: Ledger> Engine<L> {
         ensures { result ≡ self.now.free }
     {
         self.core.free()
+    }
+
+    /// Tells what is counted of a port. The fault is `NoPort`.
+    pub(crate) fn tally(&self, port: u8) -> Result<PortCounts, Fault>
+        ensures { result ≡ counts_at self.now port }
+    {
+        match self.core.desk(port) {
+            Some(desk) => Ok(counts_of(desk)),
+            None => Err(Fault::NoPort),
+        }
     }
 
     /// Lets go what a port's journal keeps, and begins it anew. The faults are `NoPort` and `OutOfMemory`.

@@ -1,20 +1,26 @@
 //! What C calls. Each answers a status: 0 where it is done, else the number of a fault.
-ghost use Rattle.std.specs.Prelude.{◌≡◌, Some, None};
+ghost use Rattle.std.specs.Prelude.{◌≡◌, Some, None, length};
 ghost use Rattle.gp_machine.specs.declared.event.Command.{Command as AnyCommand};
+ghost use Rattle.gp_machine.specs.declared.event.Event.{Event as AnyEvent};
 ghost use Rattle.gp_machine.specs.declared.event.Event.TheVariants.{Frame, Burst, Command as Commanded};
 ghost use Rattle.gp_c.specs.declared.fault.Fault.{Fault as AnyFault};
-ghost use Rattle.gp_c.specs.Faults.{fault_number};
+ghost use Rattle.gp_c.specs.Faults.{fault_number, status_text};
+ghost use Rattle.gp_c.specs.Events.{event_of};
+ghost use Rattle.gp_c.specs.Turns.{turn_of};
 ghost use Rattle.gp_c.specs.Commands as spec;
 ghost use Rattle.gp_c.specs.Settings.{serial_of};
-ghost use Rattle.gp_c.specs.Calls.{asked_for, TellsOpen, Tells, TellsCut, shown_at, free_at, closed_at, status_of, written};
+ghost use Rattle.gp_c.specs.Calls.{asked_for, TellsOpen, Tells, TellsCut, shown_at, free_at, closed_at, tallied_at, status_of, written, text_in};
 
 use crate::answer::AnswerNumbers;
-use crate::calls::{apply, close, cut, free, open, show};
+use crate::calls::{apply, close, cut, free, open, show, tally};
 use crate::command::command_of;
-use crate::fault::Fault;
+use crate::counts::PortCounts;
+use crate::event::{EventNumbers, event_of as event_in};
+use crate::fault::{Fault, text_of};
 use crate::handle::Handle;
 use crate::row::RowNumbers;
 use crate::settings::{ChassisSettings, PortSettings, SerialNumber};
+use crate::turn::{TurnNumbers, turn_of as turn_in};
 use gp_machine::Event;
 use gp_ploam::Serial;
 use std::alloc::Global;
@@ -92,6 +98,27 @@ pub extern "C" fn wp_command(
     }
 }
 
+/// What is told by numbers happens at a port.
+#[unsafe(no_mangle)]
+pub extern "C" fn wp_apply(
+    alloc: Global,
+    handle: &mut Handle,
+    port: u8,
+    event: &EventNumbers,
+    answer: &mut AnswerNumbers,
+) -> u32
+    ensures serves { (happens : AnyEvent) → event_of event.now ≡ Some happens
+        → Tells handle.old.value port happens handle.new.value result answer.old answer.new }
+    ensures unknown { event_of event.now ≡ None → result ≡ fault_number AnyFault.NoEvent }
+    ensures nothing { event_of event.now ≡ None
+        → (handle.new.value ≡ handle.old.value) × (answer.new ≡ answer.old) }
+{
+    match event_in(event) {
+        Some(happens) => serve(handle, alloc, port, happens, answer),
+        None => Fault::NoEvent.number(),
+    }
+}
+
 /// Tells what a port knows of a unit.
 #[unsafe(no_mangle)]
 pub extern "C" fn wp_show(
@@ -124,6 +151,27 @@ pub extern "C" fn wp_free(alloc: Global, handle: &mut Handle, count: &mut u32) -
     match free(handle, alloc) {
         Ok(told) => {
             *count = told;
+            DONE
+        }
+        Err(fault) => fault.number(),
+    }
+}
+
+/// Tells what is counted of a port.
+#[unsafe(no_mangle)]
+pub extern "C" fn wp_count(
+    alloc: Global,
+    handle: &mut Handle,
+    port: u8,
+    counts: &mut PortCounts,
+) -> u32
+    ensures unchanged { handle.new.value ≡ handle.old.value }
+    ensures status { result ≡ status_of (tallied_at handle.old.value port) }
+    ensures counts { counts.new ≡ written counts.old (tallied_at handle.old.value port) }
+{
+    match tally(handle, alloc, port) {
+        Ok(told) => {
+            *counts = told;
             DONE
         }
         Err(fault) => fault.number(),
@@ -171,4 +219,32 @@ fn serve(
         }
         Err(fault) => fault.number(),
     }
+}
+
+/// Reads the turn that a line of text asks for.
+#[unsafe(no_mangle)]
+pub extern "C" fn wp_turn(line: &[u8], turn: &mut TurnNumbers) -> u32
+    ensures status { result ≡ status_of (turn_of line.now) }
+    ensures turn { turn.new ≡ written turn.old (turn_of line.now) }
+{
+    match turn_in(line) {
+        Ok(told) => {
+            *turn = told;
+            DONE
+        }
+        Err(fault) => fault.number(),
+    }
+}
+
+/// Writes a status in words, where the buffer has room for them, and tells how many octets they have.
+#[unsafe(no_mangle)]
+pub extern "C" fn wp_text(status: u32, buffer: &mut [u8]) -> usize
+    ensures length { result ≡ length (status_text status) }
+    ensures text { buffer.new ≡ text_in buffer.old (status_text status) }
+{
+    let text = text_of(status).as_bytes();
+    if text.len() <= buffer.len() {
+        buffer[..text.len()].copy_from_slice(text);
+    }
+    text.len()
 }

@@ -1,7 +1,8 @@
 //! The chassis for C, C++, Go and Python: a static library with the header `include/wagpisud.h`.
 //!
 //! - `exports.rt`: the functions that C calls. `calls.rt`: what each asks of its handle.
-//! - `settings.rt`, `command.rt`, `answer.rt`, `row.rt`, `fault.rt`: what crosses, as plain numbers.
+//! - `settings.rt`, `event.rt`, `command.rt`, `answer.rt`, `row.rt`, `counts.rt`, `turn.rt`, `fault.rt`: what crosses, as
+//!   plain numbers.
 //! - `handle.rt`: `Handle`, what C holds. `slot.rt`: the same at a ledger. `loose.rt`: a box as its pointer.
 //! - `engine.rt`: what stands behind a handle. `op.rt`: what is asked of it, and what it answers.
 //!
@@ -17,7 +18,9 @@
 mod answer;
 mod calls;
 mod command;
+mod counts;
 mod engine;
+mod event;
 mod exports;
 mod fault;
 mod handle;
@@ -26,12 +29,19 @@ mod op;
 mod row;
 mod settings;
 mod slot;
+mod turn;
 
 pub use answer::AnswerNumbers;
+pub use counts::PortCounts;
 pub use engine::Engine;
-pub use exports::{wp_burst, wp_close, wp_command, wp_cut, wp_frame, wp_free, wp_open, wp_show};
+pub use event::EventNumbers;
+pub use exports::{
+    wp_apply, wp_burst, wp_close, wp_command, wp_count, wp_cut, wp_frame, wp_free, wp_open,
+    wp_show, wp_text, wp_turn,
+};
 pub use fault::Fault;
 pub use handle::Handle;
 pub use op::{Op, Out};
 pub use row::{AllocNumbers, RowNumbers};
 pub use settings::{ChassisSettings, PortSettings, SerialNumber};
+pub use turn::TurnNumbers;

@@ -3,6 +3,7 @@ ghost use Rattle.std.specs.Prelude.{◌≡◌};
 ghost use Rattle.gp_c.specs.Outs as spec;
 
 use crate::answer::AnswerNumbers;
+use crate::counts::PortCounts;
 use crate::fault::Fault;
 use crate::row::RowNumbers;
 use gp_machine::Event;
@@ -17,6 +18,8 @@ pub enum Op {
     Show { port: u8, serial: Serial },
     /// Tell how many licences are free.
     Count,
+    /// Tell what is counted of a port.
+    Tally { port: u8 },
     /// Let go what a port's journal keeps.
     Cut { port: u8 },
     /// Close the chassis.
@@ -36,6 +39,8 @@ pub enum Out {
     Shown(Result<RowNumbers, Fault>),
     /// To `Count`.
     Counted(u32),
+    /// To `Tally`.
+    Tallied(Result<PortCounts, Fault>),
 }
 
 impl Out {
@@ -79,6 +84,17 @@ impl Out {
     {
         match self {
             Out::Counted(count) => Ok(count),
+            _ => Err(Fault::NotOpen),
+        }
+    }
+
+    /// Gives the answer to `Tally`.
+    #[inline(always)]
+    pub(crate) fn tallied(self) -> Result<PortCounts, Fault>
+        ensures { result ≡ spec.tallied_of self }
+    {
+        match self {
+            Out::Tallied(counts) => counts,
             _ => Err(Fault::NotOpen),
         }
     }

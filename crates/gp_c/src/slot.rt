@@ -117,6 +117,10 @@ pub(crate) fn serve_slot<L: Ledger>(slot: Slot<L>, op: Op, alloc: Global) -> (Sl
             let count = engine.free();
             (Slot::of(Loose::of(engine)), Out::Counted(count))
         }
+        Op::Tally { port } => {
+            let counts = engine.tally(port);
+            (Slot::of(Loose::of(engine)), Out::Tallied(counts))
+        }
         Op::Cut { port } => {
             let done = engine.cut(alloc, port);
             (Slot::of(Loose::of(engine)), Out::Done(done))
