@@ -14,6 +14,7 @@ use gp_licence::MAX_LICENCES;
 use gp_machine::Event;
 use gp_ploam::Serial;
 use std::alloc::Global;
+use std::mem;
 use std::sync::ledger::Blank;
 
 /// Opens a chassis behind a closed handle.
@@ -37,7 +38,7 @@ pub(crate) fn open(
         ports,
     };
     let (next, out) = Handle::open(alloc, Blank::new(u64::from(MAX_LICENCES)), config);
-    *handle = next;
+    mem::replace(handle, next).end();
     out.done()
 }
 

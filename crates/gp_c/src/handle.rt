@@ -12,14 +12,15 @@ use crate::engine::Engine;
 use crate::op::{Op, Out};
 use crate::slot::{Slot, open_slot, serve_slot};
 use gp_chassis::ChassisConfig;
+use gp_linear::NeverDropped;
 use std::alloc::Global;
 use std::marker::{Brand, Model};
 use std::mem;
 use std::sync::ledger::Blank;
 
-/// What C holds: open, or closed, as one is that is all zeros.
+/// What C holds: open, or closed, as one is that is all zeros. There is no `Drop`: a handle ends by `end`, which takes
+/// a closed one alone, so no chassis is lost with it.
 #[repr(C)]
-#[derive(Drop)]
 pub struct Handle {
     at: *mut u8,
     is_open: u64,
@@ -28,6 +29,8 @@ pub struct Handle {
     ghost parts: { ℕ },
     ghost value: { Option CoreState } by { coded_option (engine_row 0 0).coded },
 }
+
+impl NeverDropped for Handle {}
 
 impl Model for Handle {
     ghost also_owns = { λ h. held (global.dealloc_token h.alloc) (engine_row h.name h.parts) h.is_open h.at h.value };
@@ -44,6 +47,18 @@ impl Handle {
             is_open: 0,
             alloc,
         }
+    }
+
+    /// Lets go of a closed handle.
+    #[inline(always)]
+    pub(crate) fn end(self)
+        requires { self.value ≡ None }
+    {
+        let Handle {
+            at: _,
+            is_open: _,
+            alloc: _,
+        } = self;
     }
 
     /// Opens a chassis whose ledger is the blank.
@@ -93,6 +108,6 @@ pub(crate) fn ask(handle: &mut Handle, alloc: Global, op: Op) -> Out
     ensures { Serves handle.old.value op handle.new.value result }
 {
     let (next, out) = mem::replace(handle, Handle::closed(alloc)).serve(op, alloc);
-    *handle = next;
+    mem::replace(handle, next).end();
     out
 }
