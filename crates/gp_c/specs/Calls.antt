@@ -3,12 +3,14 @@ use Rattle.std.specs.Prelude.{ℕ, ◌≡◌, ◌++◌, nat_le, if◌then◌else
 use Rattle.gp_ploam.specs.declared.message.Serial.{Serial}
 use Rattle.gp_machine.specs.declared.config.PortConfig.{PortConfig}
 use Rattle.gp_machine.specs.declared.event.Event.{Event}
+use Rattle.gp_chassis.specs.declared.config.ChassisConfig.{ChassisConfig}
+use Rattle.gp_chassis.specs.Limits.{IsWithin}
 use Rattle.gp_chassis.specs.Core.{CoreState, core_opened}
 use Rattle.gp_c.specs.declared.answer.AnswerNumbers.{AnswerNumbers}
 use Rattle.gp_c.specs.declared.counts.PortCounts.{PortCounts}
 use Rattle.gp_c.specs.declared.row.RowNumbers.{RowNumbers}
 use Rattle.gp_c.specs.declared.fault.Fault.{Fault}
-use Rattle.gp_c.specs.declared.fault.Fault.TheVariants.{NotOpen, IsOpen, Serials}
+use Rattle.gp_c.specs.declared.fault.Fault.TheVariants.{NotOpen, IsOpen, Limit, Serials}
 use Rattle.gp_c.specs.declared.settings.ChassisSettings.{ChassisSettings}
 use Rattle.gp_c.specs.declared.settings.PortSettings.{PortSettings}
 use Rattle.gp_c.specs.declared.settings.SerialNumber.{SerialNumber}
@@ -39,11 +41,28 @@ pub record Asked : Type 0 where
 abbrev pub asked_for : ChassisSettings → List PortSettings → List SerialNumber → Asked
 asked_for settings ports serials = record { settings = settings; ports = ports; serials = serials }
 
+-- no chassis may have these ports: a number is outside its limits, or a serial number is admitted twice
+abbrev pub IsOutside : ChassisSettings → List PortConfig → Type 0
+IsOutside settings configs =
+    (config : ChassisConfig)
+    → config.ports.items ≡ configs
+    → config.licences ≡ settings.licences
+    → config.journal_limit ≡ settings.journal_limit
+    → IsWithin config
+    → ⊥
+
 -- a chassis with these ports was just opened
 pub record IsOpened (asked : Asked) (after : Option CoreState) : Type 0 where
   pub configs : List PortConfig
   pub are : ports_of asked.ports asked.serials ≡ Some configs
+  pub within : IsOutside asked.settings configs → ⊥
   pub core : after ≡ Some (core_opened configs asked.settings.licences asked.settings.journal_limit)
+
+-- no chassis may be opened so
+pub record IsBeyond (asked : Asked) : Type 0 where
+  pub configs : List PortConfig
+  pub are : ports_of asked.ports asked.serials ≡ Some configs
+  pub outside : IsOutside asked.settings configs
 
 -- a closed handle is open now, or nothing changed
 abbrev pub OpensHandle : Asked → Option CoreState → Option CoreState → Result Unit Fault → Type 0
@@ -52,6 +71,7 @@ OpensHandle asked before after done =
     × OnErr done (after ≡ before)
     × ((core : CoreState) → before ≡ Some core → done ≡ Err IsOpen)
     × (done ≡ Err Serials → ports_of asked.ports asked.serials ≡ None)
+    × (done ≡ Err Limit → IsBeyond asked)
 
 -- what the caller is told of that
 pub record TellsOpen (asked : Asked) (before after : Option CoreState) (status : ℕ) : Type 0 where

@@ -32,6 +32,7 @@ use Rattle.gp_c.specs.Outs.{done_of, answered_of, shown_of, counted_of, tallied_
 abbrev pub Opens : ChassisConfig → Option CoreState → Result Unit Fault → Type 0
 Opens config after done =
     OnOk done (after ≡ Some (core_opened config.ports.items config.licences config.journal_limit))
+    × OnOk done ((IsWithin config → ⊥) → ⊥)
     × OnErr done (after ≡ None)
     × (done ≡ Err Limit → IsWithin config → ⊥)
     × IfErr done (λ fault. (fault ≡ Limit) ⊎ (fault ≡ OutOfMemory))
