@@ -1,0 +1,12 @@
+pub mod Answers
+pub mod Calls
+pub mod Commands
+pub mod Counts
+pub mod Events
+pub mod Faults
+pub mod Held
+pub mod Outs
+pub mod Rows
+pub mod Serves
+pub mod Settings
+pub mod Turns
