@@ -2,34 +2,15 @@
 use Rattle.std.proofs.Common.{◌≡◌, ℕ, Bool, List, Option, None, Some, Result, Ok, Err, IsErrAnd, inl, inr, refl, sym, subst}
 use Rattle.gp_flow.specs.declared.fault.LineFault.{LineFault as Unanswered}
 use Rattle.gp_flow.specs.declared.fault.LineFault.TheVariants.{Write}
-use Rattle.gp_flow.specs.Lines.{Answers, Speech}
-use Rattle.gp_flow.proofs.AnswerLemmas.{put_stopped}
+use Rattle.gp_flow.specs.Lines.{Answers}
+use Rattle.gp_flow.proofs.AnswerLemmas.{answers_as, put_stopped}
 use Rattle.gp_stream.specs.declared.sink.WriteStopped.{WriteStopped}
 use Rattle.gp_stream.specs.Sink.{SinkState, Puts}
 use Rattle.gp_ploam.specs.declared.check.Mask.{Mask}
 use Rattle.gp_decode.specs.declared.fault.LineFault.{LineFault}
 use Rattle.gp_decode.specs.declared.fault.LineFault.TheVariants as fault
 use Rattle.gp_decode.specs.Line.{HasLineFault, LacksLine, Says}
-use Rattle.gp_decode.specs.Lines.{DecodeState, RefusesBy, SaysFault, SaysToLine, counted}
-
--- what answers by one speech answers by another that allows as much
-answers_as : {S W T : Type 0} (does other : Speech S) (line text : Option (List ℕ)) (old new : S) (before after : SinkState W) (r : Result T Unanswered)
-    → ((said : List ℕ) (next : S) → does old line said next → other old text said next) → Answers does line old new before after r → Answers other text old new before after r
-answers_as does other line text old new before after (Ok x) allows a = record {
-  ok = (a.ok.0, allows a.ok.0 new a.ok.1, a.ok.2);
-  error = tt;
-  flushed = a.flushed;
-  stopped = a.stopped;
-}
-answers_as does other line text old new before after (Err e) allows a = record {
-  ok = tt;
-  error = elim a.error [
-    | inl nothing ↦ inl nothing
-    | inr some ↦ inr (some.0, some.1, allows some.0 some.1 some.2, some.3)
-  ];
-  flushed = a.flushed;
-  stopped = a.stopped;
-}
+use Rattle.gp_decode.specs.Lines.{DecodeState, Decoding, RefusesBy, SaysFault, counted}
 
 -- a fault that lies in the text
 own_fault : (upstream : Bool) (mask : Mask) (text : List ℕ) (f : LineFault) → (f ≡ fault.OutOfMemory → ⊥) → LacksLine upstream mask text f → HasLineFault mask text f
@@ -41,24 +22,24 @@ own_fault upstream mask text fault.Write other h = h
 
 -- a line with a fault
 pub refused_line : {W T : Type 0} (old new : DecodeState) (text : List ℕ) (f : LineFault) (before after : SinkState W) (r : Result T Unanswered) → (f ≡ fault.OutOfMemory → ⊥)
-    → LacksLine old.upstream old.mask text f → Answers (RefusesBy f) None old new before after r → Answers SaysToLine (Some text) old new before after r
+    → LacksLine old.upstream old.mask text f → Answers (RefusesBy f) None old new before after r → Answers Decoding (Some text) old new before after r
 refused_line old new text f before after r other lacks a =
-    answers_as (RefusesBy f) SaysToLine None (Some text) old new before after r
-    (λ said next says. inr (f, own_fault old.upstream old.mask text f other lacks, says)) a
+    answers_as (RefusesBy f) Decoding None (Some text) old new before after r
+    (λ said next says. inr (f, own_fault old.upstream old.mask text f other lacks, says)) (λ said next none. absurd none) a
 
 -- a line that is too long
 pub long_line : {W T : Type 0} (old new : DecodeState) (before after : SinkState W) (r : Result T Unanswered) → Answers (RefusesBy fault.Length) None old new before after r
-    → Answers SaysToLine None old new before after r
-long_line old new before after r a = answers_as (RefusesBy fault.Length) SaysToLine None None old new before after r (λ said next says. says) a
+    → Answers Decoding None old new before after r
+long_line old new before after r a = answers_as (RefusesBy fault.Length) Decoding None None old new before after r (λ said next says. says) (λ said next none. absurd none) a
 
 -- a line of which the writer took a part
 pub stopped_line : {W T : Type 0} (old new next : DecodeState) (text said : List ℕ) (before after : SinkState W) (e : WriteStopped) (r : Result (Unit {0}) Unanswered)
     → Says old.upstream old.mask text said → next ≡ counted old → Puts {T = T} before after said (Err e) → IsErrAnd r (λ f. f ≡ Write)
-    → Answers SaysToLine (Some text) old new before after r
+    → Answers Decoding (Some text) old new before after r
 stopped_line old new next text said before after e (Ok x) says same puts told = absurd told
 stopped_line old new next text said before after e (Err f) says same puts told =
-    subst (λ (failed : Unanswered). Answers {T = Unit {0}} SaysToLine (Some text) old new before after (Err failed)) (sym told)
-    (put_stopped SaysToLine (Some text) old new next before after said e (inl (says, same)) puts)
+    subst (λ (failed : Unanswered). Answers {T = Unit {0}} Decoding (Some text) old new before after (Err failed)) (sym told)
+    (put_stopped Decoding (Some text) old new next before after said e (inl (says, same)) puts)
 
 -- a fault of which the writer took a part
 pub stopped_fault : {W T : Type 0} (f : LineFault) (old new next : DecodeState) (said : List ℕ) (before after : SinkState W) (e : WriteStopped) (r : Result (Unit {0}) Unanswered)

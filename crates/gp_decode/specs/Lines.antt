@@ -2,7 +2,7 @@
 use Rattle.std.specs.Prelude.{◌≡◌, ◌⊎◌, ℕ, ◌+◌, Bool, false, List, ◌++◌, Option, Some, None, Result, Ok, Err, codes, decimal}
 use Rattle.gp_flow.specs.declared.lines.LinesEnd.{LinesEnd}
 use Rattle.gp_flow.specs.declared.fault.LinesFault.{LinesFault}
-use Rattle.gp_flow.specs.Lines.{Serves}
+use Rattle.gp_flow.specs.Lines.{Serves, Speech, WholeLines}
 use Rattle.gp_stream.specs.Sink.{SinkState}
 use Rattle.gp_stream.specs.Source.{SourceState}
 use Rattle.gp_ploam.specs.declared.check.Mask.{Mask}
@@ -58,8 +58,8 @@ abbrev pub SaysFault : LineFault → DecodeState → List ℕ → DecodeState �
 SaysFault fault old said new = (said ≡ error_line (old.lines + 1) fault) × (new ≡ faulted fault old)
 
 -- the same, whatever the line was
-abbrev pub RefusesBy : LineFault → DecodeState → Option (List ℕ) → List ℕ → DecodeState → Type 0
-RefusesBy fault old line said new = SaysFault fault old said new
+abbrev pub RefusesBy : LineFault → Speech DecodeState
+RefusesBy fault = WholeLines (λ old line said new. SaysFault fault old said new)
 
 -- a line is answered by the line of its code's message, or by its first fault; one that is too long to be looked at has
 -- the fault of its length
@@ -68,6 +68,10 @@ SaysToLine old None said new = SaysFault fault.Length old said new
 SaysToLine old (Some text) said new =
     (Says old.upstream old.mask text said × (new ≡ counted old))
     ⊎ ((fault : LineFault) × HasLineFault old.mask text fault × SaysFault fault old said new)
+
+-- what is said to lines, each of which is answered whole or not at all
+abbrev pub Decoding : Speech DecodeState
+Decoding = WholeLines SaysToLine
 
 -- it goes on to the end of the input
 abbrev pub never : DecodeState → Bool
@@ -83,5 +87,5 @@ pub record DecodesLines {R W : Type 0} (upstream : Bool) (mask : Mask) (from to 
     (before after : SinkState W) (answer : Result (Option FaultAt) LinesFault) : Type 0 where
   pub new : DecodeState
   pub end : Result LinesEnd LinesFault
-  pub served : Serves SaysToLine never 4096 from to (opened_decode upstream mask) new before after end
+  pub served : Serves Decoding never 4096 from to (opened_decode upstream mask) new before after end
   pub told : IsAnswer end new answer

@@ -131,9 +131,9 @@ impl Decoder {
 }
 
 impl LineWork for Decoder {
-    ghost use Rattle.gp_decode.specs.Lines.{SaysToLine, never};
+    ghost use Rattle.gp_decode.specs.Lines.{Decoding, never};
 
-    ghost says = { SaysToLine };
+    ghost speech = { Decoding };
 
     ghost over = { never };
 

@@ -1,8 +1,9 @@
 -- Answers to a line, by how what it asks for was played.
 use Rattle.std.proofs.Common.{◌≡◌, ◌||◌, ℕ, ◌+◌, Bool, true, false, List, [], Option, None, Some, Result, Ok, Err, refl, sym, ap, ◌∙◌}
 use Rattle.gp_flow.specs.declared.fault.LineFault.{LineFault}
-use Rattle.gp_flow.specs.Lines.{Answers, Speech, Starts}
-use Rattle.gp_flow.specs.Lines.Starts.{AllSaid, NotBegun, PartSaid}
+use Rattle.gp_flow.specs.Lines.{Answers}
+use Rattle.gp_flow.specs.Lines.Starts.{PartSaid}
+use Rattle.gp_flow.proofs.AnswerLemmas.{answers_as}
 use Rattle.gp_lines.specs.declared.turn.Asked.{Asked}
 use Rattle.gp_lines.specs.TurnReading.{turn_of}
 use Rattle.gp_stream.specs.Sink.{SinkState, Takes, TakesPrefix}
@@ -14,25 +15,6 @@ use Rattle.gp_trace.specs.Text.{trace_text}
 use Rattle.gp_drive.specs.declared.fault.TurnFault.{TurnFault}
 use Rattle.gp_drive.specs.Drive.{AnswersAsked, DriveState, Says, answering, driving, line_fault, playing_of, refusing}
 use Rattle.gp_drive.specs.Turns.{PlaysTurn, PlaysTurnPart, cost_of, missing_in}
-
--- ---- the answer of one speech is that of another
-
-starts_as : {S W : Type 0} (f g : Speech S) (l m : Option (List ℕ)) (old : S) (before after : SinkState W)
-    → ((said : List ℕ) (next : S) → f.says old l said next → g.says old m said next)
-    → ((said : List ℕ) (next : S) → f.begins old l said next → g.begins old m said next)
-    → Starts f l old before after → Starts g m old before after
-starts_as f g l m old before after whole part (NotBegun written) = NotBegun written
-starts_as f g l m old before after whole part (AllSaid said next h written) = AllSaid said next (whole said next h) written
-starts_as f g l m old before after whole part (PartSaid said next h written) = PartSaid said next (part said next h) written
-
-pub answers_as : {S W T : Type 0} (f g : Speech S) (l m : Option (List ℕ)) (old new : S) (before after : SinkState W) (r : Result T LineFault)
-    → ((said : List ℕ) (next : S) → f.says old l said next → g.says old m said next)
-    → ((said : List ℕ) (next : S) → f.begins old l said next → g.begins old m said next)
-    → Answers f l old new before after r → Answers g m old new before after r
-answers_as f g l m old new before after (Ok v) whole part p =
-    record { ok = (p.ok.0, whole p.ok.0 new p.ok.1, p.ok.2); error = tt; flushed = p.flushed; stopped = p.stopped }
-answers_as f g l m old new before after (Err e) whole part p =
-    record { ok = tt; error = starts_as f g l m old before after whole part p.error; flushed = p.flushed; stopped = p.stopped }
 
 -- ---- a turn
 

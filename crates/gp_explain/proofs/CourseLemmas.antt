@@ -5,7 +5,7 @@ use Rattle.gp_ploam.specs.declared.check.Mask.{Mask}
 use Rattle.gp_explain.specs.declared.fault.NoLine.{NoLine}
 use Rattle.gp_explain.specs.declared.fault.NoLine.TheVariants.{NotALine, TooLong}
 use Rattle.gp_explain.specs.Words.{IsTraceLine, TellsLine}
-use Rattle.gp_explain.specs.Explaining.{ExplainState, Explains, SaysFrom, SaysToText, ended_by}
+use Rattle.gp_explain.specs.Explaining.{ExplainState, Explaining, Explains, SaysFrom, SaysToText, ended_by}
 use Rattle.gp_explain.specs.Outcome.{AreTold}
 
 -- lines that are handed on whole
@@ -39,7 +39,7 @@ Course None mask all said from to = Runs mask all said from to
 Course (Some why) mask all said from to = Halts why mask all said from to
 
 -- once it has ended nothing is said, and it stays as it is
-stuck : (ls : List (Option (List ℕ))) (state new : ExplainState) (said : List ℕ) (why : NoLine) → state.ended ≡ Some why → DoesAll Explains state ls said new
+stuck : (ls : List (Option (List ℕ))) (state new : ExplainState) (said : List ℕ) (why : NoLine) → state.ended ≡ Some why → DoesAll Explaining state ls said new
     → (said ≡ []) × (new ≡ state)
 stuck [] state new said why is h = h
 stuck (line ∷ ls) state new said why is h =
@@ -48,7 +48,7 @@ stuck (line ∷ ls) state new said why is h =
     (h.5 ∙ ap (λ (l : List ℕ). l ++ h.1) here.0 ∙ more.0, more.1 ∙ here.1)
 
 halted : (line : Option (List ℕ)) (ls : List (Option (List ℕ))) (state next new : ExplainState) (said first rest : List ℕ) (why : NoLine)
-    → first ≡ [] → next ≡ ended_by why state → Fails why line → said ≡ first ++ rest → DoesAll Explains next ls rest new
+    → first ≡ [] → next ≡ ended_by why state → Fails why line → said ≡ first ++ rest → DoesAll Explaining next ls rest new
     → Course new.ended state.mask (line ∷ ls) said state.lines new.lines
 halted line ls state next new said first rest why nothing is fails parts h =
     let ended : next.ended ≡ Some why = ap (λ (s : ExplainState). s.ended) is in
@@ -82,7 +82,7 @@ none_done : (n : ℕ) → n ≡ n + 0
 none_done n = omega arith
 
 text_course : (text : List ℕ) (ls : List (Option (List ℕ))) (old next new : ExplainState) (said first rest : List ℕ) → old.ended ≡ None
-    → SaysToText old text first next → said ≡ first ++ rest → DoesAll Explains next ls rest new
+    → SaysToText old text first next → said ≡ first ++ rest → DoesAll Explaining next ls rest new
     → (next.ended ≡ None → Course new.ended next.mask ls rest next.lines new.lines) → Course new.ended old.mask (Some text ∷ ls) said old.lines new.lines
 text_course text ls old next new said first rest none (inl told) parts h more =
     let is = told.2 in
@@ -93,7 +93,7 @@ text_course text ls old next new said first rest none (inl told) parts h more =
 text_course text ls old next new said first rest none (inr none_of) parts h more =
     halted (Some text) ls old next new said first rest NotALine none_of.1 none_of.2 (refl, none_of.0) parts h
 
-pub course : (ls : List (Option (List ℕ))) (old new : ExplainState) (said : List ℕ) → old.ended ≡ None → DoesAll Explains old ls said new
+pub course : (ls : List (Option (List ℕ))) (old new : ExplainState) (said : List ℕ) → old.ended ≡ None → DoesAll Explaining old ls said new
     → Course new.ended old.mask ls said old.lines new.lines
 course [] old new said none h =
     let there : Course None old.mask [] said old.lines old.lines = record { texts = []; all_is = refl; told = h.0; lines = none_done old.lines } in

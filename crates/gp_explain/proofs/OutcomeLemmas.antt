@@ -18,7 +18,8 @@ use Rattle.gp_explain.specs.declared.fault.ExplainFault.{ExplainFault}
 use Rattle.gp_explain.specs.declared.fault.ExplainFault.TheVariants.{Lines}
 use Rattle.gp_explain.specs.declared.fault.NoLine.{NoLine}
 use Rattle.gp_explain.specs.Words.{IsTraceLine}
-use Rattle.gp_explain.specs.Explaining.{ExplainState, Explains, has_ended, opened_explain}
+use Rattle.gp_flow.proofs.AnswerLemmas.{all_of_some}
+use Rattle.gp_explain.specs.Explaining.{ExplainState, Explaining, Explains, has_ended, opened_explain}
 use Rattle.gp_explain.specs.Outcome.{AreTold, ExplainsTrace, IsBegun, IsNone, IsRefused, finding, longest_line}
 use Rattle.gp_explain.proofs.CourseLemmas.{Course, Fails, Halts, course, wholes}
 
@@ -85,7 +86,7 @@ none_of why (Some text) raw is fails =
 
 -- ---- how it ends
 
-started : (mask : Mask) (new : ExplainState) (ls : List (Option (List ℕ))) (said : List ℕ) → DoesAll Explains (opened_explain mask) ls said new
+started : (mask : Mask) (new : ExplainState) (ls : List (Option (List ℕ))) (said : List ℕ) → DoesAll Explaining (opened_explain mask) ls said new
     → Course new.ended mask ls said 0 new.lines
 started mask new ls said h = course ls (opened_explain mask) new said refl h
 
@@ -137,7 +138,7 @@ module _ {R W : Type 0} (mask : Mask) (from to : SourceState R) (before after : 
       let e = ended_first bytes [] in
       refused_found why bytes (ended_lines bytes) e.0 said lines came (ap lines_of (sym (append-nil bytes)) ∙ e.1) written kept c
 
-  explained : (end : LinesEnd) (new : ExplainState) → ServesTo Explains has_ended longest_line end from to (opened_explain mask) new before after
+  explained : (end : LinesEnd) (new : ExplainState) → ServesTo Explaining has_ended longest_line end from to (opened_explain mask) new before after
       → ExplainsTrace mask from to before after (finding new.ended new.lines)
   explained Whole new s = whole new.ended new.lines s.bytes s.said s.read s.written s.kept (started mask new (map (handed longest_line) (lines_of s.bytes)) s.said s.spoken)
   explained Open new s = whole new.ended new.lines s.bytes s.said s.read s.written s.kept (started mask new (map (handed longest_line) (lines_of s.bytes)) s.said s.spoken)
@@ -145,12 +146,12 @@ module _ {R W : Type 0} (mask : Mask) (from to : SourceState R) (before after : 
       over new.ended new.lines s.0.bytes s.0.said s.1 s.0.read s.0.written s.0.kept (started mask new (map (handed longest_line) (ended_lines s.0.bytes)) s.0.said s.0.spoken)
 
   pub explained_as : (end : LinesEnd) (old new : ExplainState) (ended : Option NoLine) (lines : ℕ) (answer : Result ℕ ExplainFault) → old ≡ opened_explain mask
-      → ended ≡ new.ended → lines ≡ new.lines → answer ≡ finding ended lines → ServesTo Explains has_ended longest_line end from to old new before after
+      → ended ≡ new.ended → lines ≡ new.lines → answer ≡ finding ended lines → ServesTo Explaining has_ended longest_line end from to old new before after
       → ExplainsTrace mask from to before after answer
   explained_as end old new ended lines answer opened is many told s =
       let same : answer ≡ finding new.ended new.lines = told ∙ ap (λ (e : Option NoLine). finding e lines) is ∙ ap (λ (n : ℕ). finding new.ended n) many in
       subst (λ (a : Result ℕ ExplainFault). ExplainsTrace mask from to before after a) (sym same)
-      (explained end new (subst (λ (o : ExplainState). ServesTo Explains has_ended longest_line end from to o new before after) opened s))
+      (explained end new (subst (λ (o : ExplainState). ServesTo Explaining has_ended longest_line end from to o new before after) opened s))
 
   -- ---- where it was not read, or a line not told
 
@@ -189,7 +190,7 @@ module _ {R W : Type 0} (mask : Mask) (from to : SourceState R) (before after : 
       let whole : take (length said) said ≡ said = take_all (length said) said (omega arith) in
       (length said, subst (λ (l : List ℕ). Appends before.held after.held l) (sym whole) written)
 
-  unread : (fault : LinesFault) (new : ExplainState) → Serves Explains has_ended longest_line from to (opened_explain mask) new before after (Err fault)
+  unread : (fault : LinesFault) (new : ExplainState) → Serves Explaining has_ended longest_line from to (opened_explain mask) new before after (Err fault)
       → ExplainsTrace mask from to before after (Err (Lines fault))
   unread faults.Read new s =
       let e = s.read refl in
@@ -201,15 +202,16 @@ module _ {R W : Type 0} (mask : Mask) (from to : SourceState R) (before after : 
       )
   unread (faults.Line fault) new s =
       let e = s.fault fault refl in
-      begun e.next.ended e.bytes (lines_of e.bytes) [] e.others e.begun e.said e.next.lines e.read (sym (append-nil (lines_of e.bytes))) (sym e.all) e.written
-      (started mask e.next e.begun e.said e.spoken)
+      let whole = all_of_some Explains (opened_explain mask) e.begun e.said e.spoken in
+      begun whole.0.ended e.bytes (lines_of e.bytes) [] e.others e.begun e.said whole.0.lines e.read (sym (append-nil (lines_of e.bytes))) (sym e.all) e.written
+      (started mask whole.0 e.begun e.said whole.1)
 
   pub unread_as : (fault : LinesFault) (old new : ExplainState) (answer : Result ℕ ExplainFault) → old ≡ opened_explain mask
-      → IsErrAnd answer (λ told. told ≡ Lines fault) → Serves Explains has_ended longest_line from to old new before after (Err fault) → ExplainsTrace mask from to before after answer
+      → IsErrAnd answer (λ told. told ≡ Lines fault) → Serves Explaining has_ended longest_line from to old new before after (Err fault) → ExplainsTrace mask from to before after answer
   unread_as fault old new (Ok lines) opened told s = absurd told
   unread_as fault old new (Err e) opened told s =
       subst (λ (x : ExplainFault). ExplainsTrace mask from to before after (Err x)) (sym told)
-      (unread fault new (subst (λ (o : ExplainState). Serves Explains has_ended longest_line from to o new before after (Err fault)) opened s))
+      (unread fault new (subst (λ (o : ExplainState). Serves Explaining has_ended longest_line from to o new before after (Err fault)) opened s))
 
 -- nothing was read, for want of memory
 pub unbegun : {R W : Type 0} (mask : Mask) (from : SourceState R) (before : SinkState W) (line : LineFault) (answer : Result ℕ ExplainFault)

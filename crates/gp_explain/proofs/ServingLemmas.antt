@@ -12,7 +12,7 @@ use Rattle.gp_lines.specs.Trace.{SplitsLine}
 use Rattle.gp_explain.specs.declared.fault.NoLine.{NoLine}
 use Rattle.gp_explain.specs.declared.fault.NoLine.TheVariants.{NotALine}
 use Rattle.gp_explain.specs.Words.{IsTraceLine, TellsLine}
-use Rattle.gp_explain.specs.Explaining.{ExplainState, Explains, SaysFrom, counted, ended_by}
+use Rattle.gp_explain.specs.Explaining.{ExplainState, Explaining, Explains, SaysFrom, counted, ended_by}
 
 -- no line of a trace, as cutting it tells
 abbrev pub IsUncut : List ℕ → Type 0
@@ -30,16 +30,16 @@ told_line old new text said none is tells same =
 
 -- a line that is none of a trace ends it
 pub refused_line : {W : Type 0} (old new : ExplainState) (text : List ℕ) (before : SinkState W) → old.ended ≡ None → IsUncut text → new ≡ ended_by NotALine old
-    → Answers {T = Unit {0}} Explains (Some text) old new before before (Ok tt)
+    → Answers {T = Unit {0}} Explaining (Some text) old new before before (Ok tt)
 refused_line old new text before none uncut same =
-    silent_answers Explains (Some text) old new before (tt {0})
+    silent_answers Explaining (Some text) old new before (tt {0})
     (subst (λ (e : Option NoLine). SaysFrom e old (Some text) [] new) (sym none) (inr (λ is. uncut is.0 is.1 is.2 is.3 is.4, refl, same)))
 
 -- a line of which the writer took a part
 pub stopped_line : {W T : Type 0} (old new next : ExplainState) (text said : List ℕ) (before after : SinkState W) (e : WriteStopped) (r : Result (Unit {0}) LineFault)
     → old.ended ≡ None → IsTraceLine text → TellsLine old.mask text said → next ≡ counted old → Puts {T = T} before after said (Err e) → IsErrAnd r (λ f. f ≡ Write)
-    → Answers Explains (Some text) old new before after r
+    → Answers Explaining (Some text) old new before after r
 stopped_line old new next text said before after e (Ok x) none is tells same puts told = absurd told
 stopped_line old new next text said before after e (Err f) none is tells same puts told =
-    subst (λ (fault : LineFault). Answers {T = Unit {0}} Explains (Some text) old new before after (Err fault)) (sym told)
-    (put_stopped Explains (Some text) old new next before after said e (told_line old next text said none is tells same) puts)
+    subst (λ (fault : LineFault). Answers {T = Unit {0}} Explaining (Some text) old new before after (Err fault)) (sym told)
+    (put_stopped Explaining (Some text) old new next before after said e (told_line old next text said none is tells same) puts)

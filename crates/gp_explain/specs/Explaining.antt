@@ -1,6 +1,7 @@
 -- What is said to the lines of a trace (this profile's own rule).
 use Rattle.std.specs.Prelude.{◌≡◌, ℕ, ◌+◌, ◌⊎◌, Bool, List, [], Option, None, Some, is_some}
 use Rattle.gp_ploam.specs.declared.check.Mask.{Mask}
+use Rattle.gp_flow.specs.Lines.{Speech, WholeLines}
 use Rattle.gp_explain.specs.declared.fault.NoLine.{NoLine}
 use Rattle.gp_explain.specs.declared.fault.NoLine.TheVariants.{NotALine, TooLong}
 use Rattle.gp_explain.specs.Words.{IsTraceLine, TellsLine}
@@ -38,6 +39,10 @@ SaysFrom None old (Some text) said new = SaysToText old text said new
 -- what is said to a line
 abbrev pub Explains : ExplainState → Option (List ℕ) → List ℕ → ExplainState → Type 0
 Explains old line said new = SaysFrom old.ended old line said new
+
+-- what is said to lines, each of which is answered whole or not at all
+abbrev pub Explaining : Speech ExplainState
+Explaining = WholeLines Explains
 
 -- it has ended
 abbrev pub has_ended : ExplainState → Bool

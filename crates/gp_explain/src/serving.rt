@@ -8,9 +8,9 @@ use gp_stream::Sink;
 use std::io::Write;
 
 impl LineWork for Explainer {
-    ghost use Rattle.gp_explain.specs.Explaining.{Explains, has_ended};
+    ghost use Rattle.gp_explain.specs.Explaining.{Explaining, has_ended};
 
-    ghost says = { Explains };
+    ghost speech = { Explaining };
 
     ghost over = { has_ended };
 

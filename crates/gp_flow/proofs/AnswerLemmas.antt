@@ -5,7 +5,7 @@ use Rattle.gp_flow.specs.declared.fault.LineFault.{LineFault}
 use Rattle.gp_flow.specs.declared.fault.LineFault.TheVariants.{Write, OutOfMemory, Full}
 use Rattle.gp_stream.specs.declared.sink.WriteStopped.{WriteStopped}
 use Rattle.gp_stream.specs.Sink.{SinkState, Puts, Finishes, TakesPrefix}
-use Rattle.gp_flow.specs.Lines.{Speech, DoesAll, DoesSome, Starts, StopsWithin, Answers, AnswersAll}
+use Rattle.gp_flow.specs.Lines.{Speech, WholeLines, DoesAll, DoesSome, Starts, StopsWithin, Answers, AnswersAll}
 use Rattle.gp_flow.specs.Lines.Starts.{NotBegun, AllSaid, PartSaid}
 use Rattle.gp_stream.proofs.SinkLemmas.{takes_nothing, takes_more, takes_prefix_after}
 
@@ -163,3 +163,31 @@ no_memory does line old new before = record {
 pub silent_answers : {S W U : Type 0} (does : Speech S) (line : Option (List ℕ)) (old new : S) (before : SinkState W) (y : U) → does.says old line [] new
     → Answers does line old new before before (Ok y)
 silent_answers does line old new before y d = record { ok = ([], d, takes_nothing before); error = tt; flushed = λ f. f; stopped = λ s. s }
+
+-- ---- the answer of one speech is that of another
+
+starts_as : {S W : Type 0} (f g : Speech S) (l m : Option (List ℕ)) (old : S) (before after : SinkState W)
+    → ((said : List ℕ) (next : S) → f.says old l said next → g.says old m said next)
+    → ((said : List ℕ) (next : S) → f.begins old l said next → g.begins old m said next)
+    → Starts f l old before after → Starts g m old before after
+starts_as f g l m old before after whole part (NotBegun written) = NotBegun written
+starts_as f g l m old before after whole part (AllSaid said next h written) = AllSaid said next (whole said next h) written
+starts_as f g l m old before after whole part (PartSaid said next h written) = PartSaid said next (part said next h) written
+
+pub answers_as : {S W T : Type 0} (f g : Speech S) (l m : Option (List ℕ)) (old new : S) (before after : SinkState W) (r : Result T LineFault)
+    → ((said : List ℕ) (next : S) → f.says old l said next → g.says old m said next)
+    → ((said : List ℕ) (next : S) → f.begins old l said next → g.begins old m said next)
+    → Answers f l old new before after r → Answers g m old new before after r
+answers_as f g l m old new before after (Ok v) whole part p =
+    record { ok = (p.ok.0, whole p.ok.0 new p.ok.1, p.ok.2); error = tt; flushed = p.flushed; stopped = p.stopped }
+answers_as f g l m old new before after (Err e) whole part p =
+    record { ok = tt; error = starts_as f g l m old before after whole part p.error; flushed = p.flushed; stopped = p.stopped }
+
+-- where lines are answered whole or not at all, each that was begun was answered
+pub all_of_some : {S : Type 0} (says : S → Option (List ℕ) → List ℕ → S → Type 0) (old : S) (lines : List (Option (List ℕ))) (said : List ℕ)
+    → DoesSome (WholeLines says) old lines said → (next : S) × DoesAll (WholeLines says) old lines said next
+all_of_some says old [] said p = (old, (p, refl))
+all_of_some says old (line ∷ lines) said (inl p) =
+    let rest = all_of_some says p.2 lines p.1 p.4 in
+    (rest.0, (p.0, p.1, p.2, p.3, rest.1, p.5))
+all_of_some says old (line ∷ lines) said (inr p) = absurd p.2

@@ -1,14 +1,20 @@
 -- What a run found in its input, from how it ended.
-use Rattle.std.proofs.Common.{◌≡◌, ℕ, List, Option, Result, Ok, Err, OnOk, IsErrAnd, subst, sym, refl}
+use Rattle.std.proofs.Common.{◌≡◌, ℕ, List, Option, Result, Ok, Err, OnOk, IsErrAnd, subst, sym, refl, ◌∙◌}
 use Rattle.gp_script.specs.declared.fault.ScriptFault.{ScriptFault}
-use Rattle.gp_script.specs.Script.{ScriptView}
+use Rattle.gp_script.specs.Script.{ScriptView, script_of}
 use Rattle.gp_stream.specs.Source.{SourceState, ReadsTooMuch, max_bytes}
 use Rattle.gp_stream.specs.Sink.{SinkState}
+use Rattle.gp_replay.specs.declared.fault.RunFault.{RunFault}
 use Rattle.gp_replay.specs.declared.fault.RunFault.TheVariants as runs
 use Rattle.gp_replay.specs.Outcome.{ReadsBy, RunAnswer, RunEnds}
 use Rattle.gp_verify.specs.declared.outcome.CheckFault.{CheckFault}
 use Rattle.gp_verify.specs.declared.outcome.CheckFault.TheVariants.{Script}
 use Rattle.gp_verify.specs.Checking.{ChecksScript}
+use Rattle.gp_drive.specs.declared.driven.Driven.{Driven}
+use Rattle.gp_drive.specs.declared.fault.DriveFault.{DriveFault}
+use Rattle.gp_drive.specs.declared.fault.DriveFault.TheVariants as drives
+use Rattle.gp_drive.specs.Outcome.{DrivesInput, DrivesScript, IsNoScript}
+use Rattle.gp_drive.specs.Outcome.DrivesInput.{NotRead, Read}
 use Rattle.oltctl.specs.Replays.{IsCheckedBy, IsReadBy, IsTooLong, unread, unread_endless}
 
 pub found_script : {R W : Type 0} (says_of : List ℕ → Result ScriptView ScriptFault) (leaves : RunAnswer → ScriptView → Type 0) (reader : R)
@@ -50,3 +56,50 @@ checked_from {S = S} {T = T} script of_script trace of_trace before after from t
   subst (λ (s : SourceState S). ChecksScript s after (unread_endless trace of_trace) to r) is
       (subst (λ (s : SourceState T). ChecksScript before after s to r) also checked),
 )
+
+-- ---- a drive
+
+-- what a fault of a script tells, where it is one of its text
+FaultOf : {R : Type 0} → R → Option (List ℕ) → SourceState R → RunFault → Type 0
+FaultOf reader remaining after (runs.Script fault) = ReadsBy script_of (unread reader remaining) after (Err fault)
+FaultOf reader remaining after runs.TooLong = ReadsTooMuch max_bytes (unread reader remaining) after
+FaultOf reader remaining after _ = Unit {0}
+
+told_fault : {R : Type 0} (reader : R) (remaining : Option (List ℕ)) (after : SourceState R) (fault : RunFault) → IsNoScript (unread reader remaining) after fault
+    → FaultOf reader remaining after fault
+told_fault reader remaining after runs.Read no = tt
+told_fault reader remaining after runs.TooLong no = no
+told_fault reader remaining after (runs.Script fault) no = no
+told_fault reader remaining after runs.OutOfMemory no = tt
+told_fault reader remaining after runs.Write no = tt
+told_fault reader remaining after runs.Mismatch no = tt
+told_fault reader remaining after runs.JournalFull no = tt
+
+same_fault : (one other : RunFault) → Err {T = Driven} (drives.Script one) ≡ Err (drives.Script other) → one ≡ other
+same_fault one other is = cc is
+
+pub drive_found : {R T W : Type 0} (reader : R) (remaining : Option (List ℕ)) (before after : SourceState R) (from to : SourceState T) (old new : SinkState W)
+    (r : Result Driven DriveFault) → before ≡ unread reader remaining → DrivesInput r before after from to old new
+    → OnOk r ((script : ScriptView) × IsReadBy script_of reader remaining (Ok script))
+drive_found {R = R} reader remaining before after from to old new (Ok driven) is (Read of) =
+    (of.script, (after, subst (λ (s : SourceState R). ReadsBy script_of s after (Ok of.script)) is of.input))
+drive_found reader remaining before after from to old new (Ok driven) is (NotRead fault told no lines kept) = absurd (cc)
+drive_found reader remaining before after from to old new (Err f) is d = tt
+
+pub drive_fault : {R T W : Type 0} (reader : R) (remaining : Option (List ℕ)) (before after : SourceState R) (from to : SourceState T) (old new : SinkState W)
+    (r : Result Driven DriveFault) → before ≡ unread reader remaining → DrivesInput r before after from to old new
+    → (fault : ScriptFault) → r ≡ Err (drives.Script (runs.Script fault)) → IsReadBy script_of reader remaining (Err fault)
+drive_fault {R = R} reader remaining before after from to old new r is (Read of) fault told =
+    absurd (subst (λ (a : Result Driven DriveFault). DrivesScript a from to old new of.script) told of.held)
+drive_fault {R = R} reader remaining before after from to old new r is (NotRead other also no lines kept) fault told =
+    let same : other ≡ runs.Script fault = same_fault other (runs.Script fault) (sym also ∙ told) in
+    (after, subst (λ (f : RunFault). FaultOf reader remaining after f) same (told_fault reader remaining after other (subst (λ (s : SourceState R). IsNoScript s after other) is no)))
+
+pub drive_long : {R T W : Type 0} (reader : R) (remaining : Option (List ℕ)) (before after : SourceState R) (from to : SourceState T) (old new : SinkState W)
+    (r : Result Driven DriveFault) → before ≡ unread reader remaining → DrivesInput r before after from to old new
+    → r ≡ Err (drives.Script runs.TooLong) → IsTooLong reader remaining
+drive_long {R = R} reader remaining before after from to old new r is (Read of) told =
+    absurd (subst (λ (a : Result Driven DriveFault). DrivesScript a from to old new of.script) told of.held)
+drive_long {R = R} reader remaining before after from to old new r is (NotRead other also no lines kept) told =
+    let same : other ≡ runs.TooLong = same_fault other runs.TooLong (sym also ∙ told) in
+    (after, subst (λ (f : RunFault). FaultOf reader remaining after f) same (told_fault reader remaining after other (subst (λ (s : SourceState R). IsNoScript s after other) is no)))

@@ -1,4 +1,4 @@
--- The command line: `oltctl replay [FILE]`, `oltctl storm [FILE]`, `oltctl verify FILE [TRACE]`, `oltctl explain
+-- The command line: `oltctl replay [FILE]`, `oltctl drive FILE`, `oltctl storm [FILE]`, `oltctl verify FILE [TRACE]`, `oltctl explain
 -- [--mask 0|85] [TRACE]`, `oltctl decode [--up] [--mask 0|85] [HEX..]` and `oltctl encode [--up] [--mask 0|85] WORDS..`
 -- (this profile's own rule).
 use Rattle.std.specs.Prelude.{◌≡◌, List, [], ◌∷◌, Option, None, Some, map, true, codes, if◌then◌else◌}
@@ -43,7 +43,7 @@ code_rule = record (new_rule (codes "code")) { value_names = 1; action = Some Ap
 abbrev pub words_rule : Rule
 words_rule = record (new_rule (codes "words")) { value_names = 1; required = true; action = Some Append }
 
--- the script of a verification, which is required
+-- the script of a drive or of a verification, which is required
 abbrev pub script_rule : Rule
 script_rule = record (new_rule (codes "script")) { value_names = 1; required = true }
 
@@ -53,6 +53,9 @@ trace_rule = record (new_rule (codes "trace")) { value_names = 1 }
 
 abbrev pub replay_command : App
 replay_command = with_rule (new_app (codes "replay")) file_rule
+
+abbrev pub drive_command : App
+drive_command = with_rule (new_app (codes "drive")) script_rule
 
 abbrev pub storm_command : App
 storm_command = with_rule (new_app (codes "storm")) file_rule
@@ -84,8 +87,9 @@ AreAllMasks names = AreMasks names.explain × AreMasks names.decode × AreMasks 
 abbrev pub script_commands : App
 script_commands =
     with_subcommand
+    (with_subcommand
     (with_subcommand (on_top (λ s. record s { subcommand_required = true; arg_required_else_help = true })
-    (new_app (codes "oltctl"))) replay_command.top) storm_command.top
+    (new_app (codes "oltctl"))) replay_command.top) drive_command.top) storm_command.top
 
 -- the program as far as it is about scripts and traces
 abbrev pub trace_commands : App

@@ -4,7 +4,7 @@ use Rattle.std.specs.Borrow.{Bor}
 use Rattle.clap.specs.Words.{Row, Text, all_of, first_of, one_of}
 use Rattle.oltctl.specs.CommandLine.{mask_named}
 use Rattle.oltctl.specs.declared.request.Request.{Request}
-use Rattle.oltctl.specs.declared.request.Request.TheVariants.{Replay, Storm, Verify, Decode, DecodeLines, Encode, Explain}
+use Rattle.oltctl.specs.declared.request.Request.TheVariants.{Replay, Drive, Storm, Verify, Decode, DecodeLines, Encode, Explain}
 
 -- a flag is given or not, as its text says, and is not where it has none
 pub record IsFlag (rows : List Row) (id : Text) (is_given : Bool) : Type 0 where
@@ -20,6 +20,11 @@ texts words = map (λ word. word.now) words.now
 abbrev pub AsksToReplay : List Row → Request → Type 0
 AsksToReplay rows (Replay file) = option_map (λ name. name.now) file ≡ first_of (codes "file") rows
 AsksToReplay rows _ = ⊥
+
+-- the rows of `drive` ask to drive the script of FILE
+abbrev pub AsksToDrive : List Row → Request → Type 0
+AsksToDrive rows (Drive script) = first_of (codes "script") rows ≡ Some script.now
+AsksToDrive rows _ = ⊥
 
 -- the rows of `storm` ask for the storm of FILE, or of standard input where it is left out
 abbrev pub AsksToStorm : List Row → Request → Type 0
@@ -62,6 +67,7 @@ AsksToExplain rows _ = ⊥
 abbrev pub Asks : Option (Text × List Row) → Request → Type 0
 Asks None request = ⊥
 Asks (Some (name, rows)) (Replay file) = (name ≡ codes "replay") × AsksToReplay rows (Replay file)
+Asks (Some (name, rows)) (Drive script) = (name ≡ codes "drive") × AsksToDrive rows (Drive script)
 Asks (Some (name, rows)) (Storm file) = (name ≡ codes "storm") × AsksToStorm rows (Storm file)
 Asks (Some (name, rows)) (Verify script trace) =
     (name ≡ codes "verify") × AsksToVerify rows (Verify script trace)
@@ -78,5 +84,6 @@ abbrev pub AsksNothing : Option (Text × List Row) → Type 0
 AsksNothing None = Unit {0}
 AsksNothing (Some (name, rows)) =
     (name ≢ codes "replay") × (name ≢ codes "storm") × (name ≢ codes "decode") × (name ≢ codes "explain")
+    × (name ≡ codes "drive" → first_of (codes "script") rows ≡ None)
     × (name ≡ codes "verify" → first_of (codes "script") rows ≡ None)
     × (name ≡ codes "encode" → all_of (codes "words") rows ≡ None)

@@ -1,5 +1,5 @@
 -- The exit statuses of the program (this profile's own rule).
-use Rattle.std.specs.Prelude.{◌≡◌, ◌≢◌, ℕ, Bool, List, ◌⊎◌, Option, None, Some, Result, Ok, Err}
+use Rattle.std.specs.Prelude.{◌≡◌, ◌≢◌, ◌==◌, if◌then◌else◌, ℕ, Bool, List, ◌⊎◌, Option, None, Some, Result, Ok, Err}
 use Rattle.std.specs.declared.io.ErrorKind.{ErrorKind as IoErrorKind}
 use Rattle.std.specs.declared.io.ErrorKind.TheVariants as io_error
 use Rattle.clap.specs.declared.error.kind.ErrorKind.{ErrorKind}
@@ -8,6 +8,9 @@ use Rattle.gp_ploam.specs.declared.check.Mask.{Mask}
 use Rattle.gp_decode.specs.declared.decoder.FaultAt.{FaultAt}
 use Rattle.gp_decode.specs.declared.fault.LineFault.{LineFault}
 use Rattle.gp_decode.specs.Line.{HasLineFault, IsOfText, Says}
+use Rattle.gp_drive.specs.declared.driven.Driven.{Driven}
+use Rattle.gp_drive.specs.declared.fault.DriveFault.{DriveFault}
+use Rattle.gp_drive.specs.declared.fault.DriveFault.TheVariants as drives
 use Rattle.gp_explain.specs.declared.fault.ExplainFault.{ExplainFault}
 use Rattle.gp_flow.specs.declared.fault.LinesFault.{LinesFault}
 use Rattle.gp_replay.specs.declared.fault.RunFault.{RunFault}
@@ -22,7 +25,7 @@ use Rattle.clap.specs.declared.parser.matches.ArgMatches.{ArgMatches}
 use Rattle.oltctl.specs.CommandLine.{IsFaultOf, IsParseOf}
 use Rattle.oltctl.specs.Requests.{Asks, AsksNothing}
 use Rattle.oltctl.specs.declared.request.Request.{Request}
-use Rattle.oltctl.specs.declared.request.Request.TheVariants.{Replay, Storm, Verify, Decode, DecodeLines, Encode, Explain}
+use Rattle.oltctl.specs.declared.request.Request.TheVariants.{Replay, Drive, Storm, Verify, Decode, DecodeLines, Encode, Explain}
 
 -- no status is greater
 abbrev pub greatest_status : ℕ
@@ -56,6 +59,16 @@ IsPlayed status =
 -- the status after a storm of a file or of standard input, likewise that of some storm
 abbrev pub IsStormed : ℕ → Type 0
 IsStormed status = (outcome : Result (Unit {0}) RunFault) × (status ≡ end_status outcome)
+
+-- the status after a drive: that some line was no turn is told, too
+abbrev pub drive_status : Result Driven DriveFault → ℕ
+drive_status (Ok driven) = if driven.errors == 0 then SUCCESS else BAD_INPUT
+drive_status (Err (drives.Script fault)) = run_status fault
+drive_status (Err (drives.Turns fault)) = input_status fault
+
+-- what a file and standard input hold no contract can tell, so it is that of some drive
+abbrev pub IsDriven : ℕ → Type 0
+IsDriven status = (outcome : Result Driven DriveFault) × (status ≡ drive_status outcome)
 
 -- all went well, and the code has a line
 abbrev pub IsSaid : List ℕ → Bool → Mask → ℕ → Type 0
@@ -110,6 +123,7 @@ IsExplained status = (outcome : Result ℕ ExplainFault) × (status ≡ told_sta
 -- the status after what was asked for
 abbrev pub IsServed : Request → ℕ → Type 0
 IsServed (Replay file) status = IsPlayed status
+IsServed (Drive script) status = IsDriven status
 IsServed (Storm file) status = IsStormed status
 IsServed (Verify script trace) status = IsVerified status
 IsServed (Decode code upstream mask) status = IsDecoded code.now upstream mask status

@@ -2,7 +2,7 @@
 ghost use Rattle.std.specs.Prelude.{◌≡◌, ◌≢◌, IfErr, IfOk, false, map};
 ghost use Rattle.clap.specs.Words.{app_of, kind_of, rule_of};
 ghost use Rattle.clap.specs.declared.builder.command.Command.TheViews.{out-Command as fields_of};
-ghost use Rattle.oltctl.specs.CommandLine.{AllNames, AreAllMasks, AreMasks, IsFaultOf, IsParseOf, MaskNames, code_rule, decode_command, encode_command, explain_command, file_rule, mask_rule, oltctl_command, replay_command, script_commands, script_rule, storm_command, trace_commands, trace_rule, up_rule, verify_command, words_rule};
+ghost use Rattle.oltctl.specs.CommandLine.{AllNames, AreAllMasks, AreMasks, IsFaultOf, IsParseOf, MaskNames, code_rule, decode_command, drive_command, encode_command, explain_command, file_rule, mask_rule, oltctl_command, replay_command, script_commands, script_rule, storm_command, trace_commands, trace_rule, up_rule, verify_command, words_rule};
 ghost use Rattle.std.specs.String.{string_bytes};
 
 use clap::error::ErrorKind;
@@ -11,6 +11,28 @@ use std::alloc::{AllocError, Global};
 
 /// The masks that a code may be read with.
 static MASKS: [&str; 2] = ["0", "85"];
+
+/// What stands at the end of the help of `drive`.
+const DRIVE_HELP: &str = "\
+Lines:
+  PORT EVENT          once, as a trace tells it: 0 search, 0 show ABCD00000001
+  PORT frame COUNT    so many frames, 1 to 1000000
+  PORT until GRANT    frames up to this grant: search, range ONU-ID, poll ONU-ID
+  unit I light        the light of a simulated unit comes; dark: it goes
+  # ..                a remark; empty lines too are passed over
+
+A line that is no turn is answered by: error LINE KIND
+
+Examples:
+  oltctl drive script.toml
+  printf '0 search\\n0 frame 4\\n' | oltctl drive script.toml
+
+Exit status:
+  0  all lines were answered by their entries
+  1  a line was no turn, or the script is wrong, or the input was not read
+  2  the command line is wrong
+  3  out of memory
+  4  the output takes no more";
 
 /// What stands at the end of the help of `explain`.
 const EXPLAIN_HELP: &str = "\
@@ -67,6 +89,26 @@ fn replay<'a>(alloc: Global) -> Result<Command<'a>, AllocError>
     Command::new(alloc, "replay")
         .about("Plays a script and writes its trace, one line for each entry")
         .arg(file(alloc))
+}
+
+fn driven<'a>(alloc: Global) -> Arg<'a>
+    ensures rule { rule_of result ≡ script_rule }
+    ensures local { result.global ≡ false }
+{
+    Arg::new(alloc, "script")
+        .value_name("FILE")
+        .required(true)
+        .help("The script, whose events are played before the first line is read")
+}
+
+fn drive<'a>(alloc: Global) -> Result<Command<'a>, AllocError>
+    ensures app { IfOk result (λ c. app_of c ≡ drive_command) }
+    ensures local { IfOk result (λ c. (fields_of c).has_globals ≡ false) }
+{
+    Command::new(alloc, "drive")
+        .about("Answers lines of standard input, each at once by the trace lines of what it asks for")
+        .after_help(DRIVE_HELP)
+        .arg(driven(alloc))
 }
 
 fn storm<'a>(alloc: Global) -> Result<Command<'a>, AllocError>
@@ -198,6 +240,7 @@ fn of_scripts<'a>(alloc: Global) -> Result<Command<'a>, AllocError>
         .subcommand_required(true)
         .arg_required_else_help(true)
         .subcommand(replay(alloc)?)?
+        .subcommand(drive(alloc)?)?
         .subcommand(storm(alloc)?)
 }
 

@@ -1,4 +1,4 @@
-//! `oltctl`: plays a script and writes its trace, runs its events at once by threads and writes the totals, tells
+//! `oltctl`: plays a script and writes its trace, answers lines that ask for something, runs its events at once by threads and writes the totals, tells
 //! whether a trace is one of a correct line terminal, writes a trace again with its codes in words, says in words which
 //! message a code is, and gives the code of a message in words.
 #![tactic(auto)]
@@ -13,7 +13,7 @@ ghost use Rattle.gp_script.specs.declared.fault.ScriptFault.{ScriptFault};
 ghost use Rattle.gp_script.specs.Script.{ScriptView, script_of, storm_script_of};
 ghost use Rattle.oltctl.specs.Replays.{IsCheckedBy, IsReadBy, IsTooLong};
 ghost use Rattle.gp_report.specs.Report.{verify_status};
-ghost use Rattle.oltctl.specs.Statuses.{IsArgumentsReport, IsEncoded, IsRun, IsServed, IsStatusOf, IsVerifyStatus, end_status, greatest_status, lines_status, told_status};
+ghost use Rattle.oltctl.specs.Statuses.{IsArgumentsReport, IsEncoded, IsRun, IsServed, IsStatusOf, IsVerifyStatus, drive_status, end_status, greatest_status, lines_status, told_status};
 
 mod command_line;
 mod joined;
@@ -22,13 +22,14 @@ mod request;
 use clap::Error;
 use clap::error::ErrorKind;
 use gp_decode::{FaultAt, LineFault, decode_line, decode_lines};
+use gp_drive::{DriveFault, Driven, run_drive};
 use gp_encode::{EncodeFault, encode_line};
 use gp_explain::{ExplainFault, explain_trace};
 use gp_flow::LinesFault;
 use gp_ploam::Mask;
 use gp_replay::{RunFault, run_replay};
 use gp_report::{
-    BAD_ARGUMENTS, SUCCESS, arguments_report, encode_report, explain_report, input_report,
+    BAD_ARGUMENTS, BAD_INPUT, SUCCESS, arguments_report, encode_report, explain_report, input_report,
     line_report, memory_report, run_report, verify_report, write_report,
 };
 use gp_storm::run_storm;
@@ -90,6 +91,59 @@ fn replay<R: AllocGlobal + Files + Print + Input>(
             Ok(file) => replay_from(rt, file),
             Err(_) => Err(RunFault::Read),
         },
+    }
+}
+
+/// Plays the script that a reader gives, and answers the lines that another gives, on standard output.
+fn drive_from<R: AllocGlobal + Print, S: Read + Drop, T: Read + Drop>(
+    rt: &R,
+    script: S,
+    turns: T,
+) -> Result<Driven, DriveFault>
+    ensures ok { OnOk result ((view : ScriptView) × IsReadBy script_of script (S.remaining script) (Ok view)) }
+    ensures script { (fault : ScriptFault) → result ≡ Err (DriveFault.Script (RunFault.Script fault))
+        → IsReadBy script_of script (S.remaining script) (Err fault) }
+    ensures too_long { result ≡ Err (DriveFault.Script RunFault.TooLong) → IsTooLong script (S.remaining script) }
+{
+    let mut script = Source::new(script);
+    let mut turns = Source::endless(turns);
+    let mut sink = Sink::new(rt.alloc(), io::writer(rt))?;
+    run_drive(rt.alloc(), &mut script, &mut turns, &mut sink)
+}
+
+/// Drives the script of a file by the lines of standard input.
+fn drive<R: AllocGlobal + Files + Print + Input>(
+    rt: &R,
+    script: &str,
+) -> Result<Driven, DriveFault> {
+    match std::fs::open(rt, script) {
+        Ok(script) => drive_from(rt, script, rt.reader()),
+        Err(_) => Err(DriveFault::Script(RunFault::Read)),
+    }
+}
+
+/// Says on standard error how many lines were no turns, and answers the exit status.
+fn report_errors<R: Eprint>(rt: &R, errors: u64) -> u8
+    ensures { result ≡ BAD_INPUT }
+{
+    let _ = eprintln!(rt; "oltctl: lines that are no turns: {errors}");
+    BAD_INPUT
+}
+
+/// Says how a drive ended, and answers the exit status.
+fn end_drive<R: Eprint>(rt: &R, outcome: &Result<Driven, DriveFault>) -> u8
+    ensures { result ≡ drive_status outcome.now }
+{
+    match outcome {
+        Ok(driven) => {
+            if driven.errors == 0 {
+                SUCCESS
+            } else {
+                report_errors(rt, driven.errors)
+            }
+        }
+        Err(DriveFault::Script(fault)) => report(rt, run_report(fault)),
+        Err(DriveFault::Turns(fault)) => report(rt, input_report(fault)),
     }
 }
 
@@ -312,6 +366,7 @@ fn serve<R: AllocGlobal + Files + Print + Eprint + Input + Threads + Wait + Sync
 {
     match request {
         Request::Replay { file } => end_run(rt, &replay(rt, file)),
+        Request::Drive { script } => end_drive(rt, &drive(rt, script)),
         Request::Storm { file } => end_run(rt, &storm(rt, file)),
         Request::Verify { script, trace } => end_verify(rt, &verify(rt, script, trace)),
         Request::Decode {

@@ -2,7 +2,7 @@
 ghost use Rattle.std.specs.Prelude.{◌≡◌, ◌∷◌, [], IfSome, IfNone, Some, None, codes, option_map};
 ghost use Rattle.clap.specs.Words.{all_of, first_of, found_of, rows_of, subcommand_rows_of};
 ghost use Rattle.oltctl.specs.CommandLine.{mask_named};
-ghost use Rattle.oltctl.specs.Requests.{Asks, AsksNothing, AsksToDecode, AsksToEncode, AsksToExplain, AsksToReplay, AsksToStorm, AsksToVerify, texts};
+ghost use Rattle.oltctl.specs.Requests.{Asks, AsksNothing, AsksToDecode, AsksToDrive, AsksToEncode, AsksToExplain, AsksToReplay, AsksToStorm, AsksToVerify, texts};
 
 use clap::ArgMatches;
 use gp_ploam::Mask;
@@ -13,6 +13,10 @@ pub enum Request<'m, 'a> {
     /// Play the script of this file, or of standard input.
     Replay {
         file: Option<&'a str>,
+    },
+    /// Play the script of this file, and then what the lines of standard input ask for.
+    Drive {
+        script: &'a str,
     },
     /// Run the storm of this file's script, or of standard input's.
     Storm {
@@ -57,6 +61,7 @@ pub fn request_of<'m, 'a>(matches: &'m ArgMatches<'a>) -> Option<Request<'m, 'a>
 {
     match matches.subcommand()? {
         ("replay", found) => Some(replay_of(found)),
+        ("drive", found) => drive_of(found),
         ("storm", found) => Some(storm_of(found)),
         ("verify", found) => verify_of(found),
         ("decode", found) => Some(decode_of(found)),
@@ -73,6 +78,16 @@ fn replay_of<'m, 'a>(found: &'m ArgMatches<'a>) -> Request<'m, 'a>
     Request::Replay {
         file: found.get_str("file"),
     }
+}
+
+#[tactic(auto, using(crate::proofs::Rows::value_by_rows))]
+fn drive_of<'m, 'a>(found: &'m ArgMatches<'a>) -> Option<Request<'m, 'a>>
+    ensures asks { IfSome result (AsksToDrive (rows_of (found_of found.now))) }
+    ensures nothing { IfNone result (first_of (codes "script") (rows_of (found_of found.now)) ≡ None) }
+{
+    Some(Request::Drive {
+        script: found.get_str("script")?,
+    })
 }
 
 #[tactic(auto, using(crate::proofs::Rows::value_by_rows))]
