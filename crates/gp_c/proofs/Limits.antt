@@ -1,5 +1,5 @@
 -- A configuration is told by what it holds.
-use Rattle.std.proofs.Common.{◌≡◌, ◌<◌, ◌≤◌, List, length, refl, sym, subst, ℕ}
+use Rattle.std.proofs.Common.{◌≡◌, ◌<◌, ◌≤◌, List, length, subst, ℕ}
 use Rattle.std.specs.Prelude.{All, IsTrue}
 use Rattle.gp_licence.specs.Limits.{max_licences}
 use Rattle.gp_machine.specs.declared.config.PortConfig.{PortConfig}

@@ -3,7 +3,7 @@ use Rattle.std.proofs.Common.{◌≡◌, ◌⊎◌, inl, inr, ℕ, refl, sym, ap
 use lib.Dec.{T}
 use Rattle.std.specs.Prelude.{is_some, is_ok}
 use Rattle.gp_chassis.specs.declared.config.ChassisConfig.{ChassisConfig}
-use Rattle.gp_chassis.specs.Core.{CoreState, core_opened}
+use Rattle.gp_chassis.specs.Core.{CoreState}
 use Rattle.gp_c.specs.declared.fault.Fault.{Fault}
 use Rattle.gp_c.specs.declared.fault.Fault.TheVariants.{Serials, Limit, OutOfMemory}
 use Rattle.gp_c.specs.Settings.{ports_of}

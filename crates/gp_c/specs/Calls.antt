@@ -135,7 +135,7 @@ closed_at (Some core) = Ok tt
 
 -- ---- texts
 
--- what stands in a buffer where a text is wanted: the text and what stood behind it, or what stood there where it is too
--- short
+-- what stands in a buffer where a text is wanted: the text and what stood behind it, or what stood there where it is
+-- too short
 abbrev pub text_in : List ℕ → List ℕ → List ℕ
 text_in buffer text = if nat_le (length text) (length buffer) then text ++ drop (length text) buffer else buffer

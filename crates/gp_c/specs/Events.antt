@@ -1,5 +1,5 @@
 -- The numbers of events (this library's own rule; include/wagpisud.h has their names).
-use Rattle.std.specs.Prelude.{ℕ, List, [], ◌∷◌, replicate, slice_index_or, Option, None, Some, option_map}
+use Rattle.std.specs.Prelude.{ℕ, [], ◌∷◌, replicate, slice_index_or, Option, None, Some, option_map}
 use Rattle.gp_ploam.specs.declared.message.Serial.{Serial}
 use Rattle.gp_machine.specs.declared.event.Event.{Event}
 use Rattle.gp_machine.specs.declared.event.Event.TheVariants.{Frame, Burst, Command as Commanded}

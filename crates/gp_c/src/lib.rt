@@ -1,8 +1,8 @@
 //! The chassis for C, C++, Go and Python: a static library with the header `include/wagpisud.h`.
 //!
 //! - `exports.rt`: the functions that C calls. `calls.rt`: what each asks of its handle.
-//! - `settings.rt`, `event.rt`, `command.rt`, `answer.rt`, `row.rt`, `counts.rt`, `turn.rt`, `fault.rt`: what crosses, as
-//!   plain numbers.
+//! - `settings.rt`, `event.rt`, `command.rt`, `answer.rt`, `row.rt`, `counts.rt`, `turn.rt`, `fault.rt`: what crosses,
+//!   as plain numbers.
 //! - `handle.rt`: `Handle`, what C holds. `slot.rt`: the same at a ledger. `loose.rt`: a box as its pointer.
 //! - `engine.rt`: what stands behind a handle. `op.rt`: what is asked of it, and what it answers.
 //!

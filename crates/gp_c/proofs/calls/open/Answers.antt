@@ -1,5 +1,4 @@
-use Rattle.std.proofs.Common.{◌≡◌, refl, None, false, rules}
-use Rattle.std.specs.Prelude.{is_ok}
+use Rattle.std.proofs.Common.{◌≡◌, refl, None, rules}
 use Rattle.gp_chassis.specs.declared.config.ChassisConfig.{ChassisConfig}
 use Rattle.gp_c.specs.Outs.{done_of}
 use Rattle.gp_c.specs.Calls.{asked_for}
