@@ -1,6 +1,6 @@
-use gp_decode::{LineFault, decode_line};
+use gp_decode::{FaultAt, LineFault, decode_line, decode_lines};
 use gp_ploam::Mask;
-use gp_stream::Sink;
+use gp_stream::{Sink, Source};
 use std::alloc::{AllocError, Global};
 
 const DOWN: bool = false;
@@ -179,4 +179,43 @@ fn memory_short_or_ample(rt: HostRuntime) {
         assert_eq!(rt; outcome, Ok(()), "{text}");
         assert!(rt; written.as_slice() == line.as_bytes(), "{text}");
     }
+}
+
+/// Lines of codes, what is said to them, and the first that has a fault.
+const INPUTS: [(&'static str, &'static str, Option<FaultAt>); 4] = [
+    ("", "", None),
+    (
+        "ff03004142434400000001001b\nff0c00000000000000000000c3",
+        "Assign_ONU-ID 0 ABCD00000001\nPOPUP 255\n",
+        None,
+    ),
+    (
+        "ff03004142434400000001001b\n0g\n00050000000000000000000062\nff0c00000000000000000000c3\n",
+        "Assign_ONU-ID 0 ABCD00000001\nerror 2 digit\nerror 3 crc\nPOPUP 255\n",
+        Some(FaultAt {
+            line: 2,
+            fault: LineFault::Digit,
+        }),
+    ),
+    (
+        "\n",
+        "error 1 length\n",
+        Some(FaultAt {
+            line: 1,
+            fault: LineFault::Length,
+        }),
+    ),
+];
+
+#[test]
+fn lines_of_an_input(rt: HostRuntime) -> Result<(), AllocError> {
+    for (input, said, first) in INPUTS {
+        let mut source = Source::endless(input.as_bytes());
+        let mut sink = Sink::new(rt.alloc(), Vec::new(rt.alloc()))?;
+        let outcome = decode_lines(rt.alloc(), &mut source, &mut sink, DOWN, Mask::Plain);
+        let written = sink.into_inner();
+        assert_eq!(rt; outcome, Ok(first), "{input}");
+        assert!(rt; written.as_slice() == said.as_bytes(), "{input}");
+    }
+    Ok(())
 }

@@ -1,7 +1,12 @@
 use gp_decode::LineFault;
+use gp_encode::WordsFault;
+use gp_explain::{ExplainFault, NoLine};
+use gp_flow::{LineFault as UnansweredLine, LinesFault};
+use gp_lines::LineFault as PartFault;
 use gp_replay::RunFault;
 use gp_report::{
-    arguments_report, line_report, memory_report, run_report, verify_report, write_report,
+    arguments_report, encode_report, explain_report, input_report, line_report, memory_report,
+    run_report, verify_report, write_report,
 };
 use gp_script::ScriptFault;
 use gp_verify::{Verdict, VerifyFault};
@@ -99,4 +104,53 @@ fn other_reports(rt: HostRuntime) {
     assert!(rt; memory_report() == ("oltctl: memory", 3));
     assert!(rt; write_report() == ("oltctl: write", 4));
     assert!(rt; arguments_report() == ("oltctl: arguments", 2));
+}
+
+/// Why words have no code, and the line on standard error.
+const WORDS: [(WordsFault, &'static str); 7] = [
+    (WordsFault::Part(PartFault::Word), "oltctl: encode word"),
+    (WordsFault::Part(PartFault::Number), "oltctl: encode number"),
+    (WordsFault::Part(PartFault::Serial), "oltctl: encode serial"),
+    (WordsFault::Part(PartFault::Hex), "oltctl: encode hex"),
+    (WordsFault::Part(PartFault::Range), "oltctl: encode range"),
+    (WordsFault::Part(PartFault::Long), "oltctl: encode long"),
+    (WordsFault::Named, "oltctl: encode named"),
+];
+
+#[test]
+fn reports_of_words(rt: HostRuntime) {
+    for (fault, line) in WORDS {
+        assert_eq!(rt; encode_report(&fault), (line, 1));
+    }
+}
+
+/// Why lines were not answered, the line and the status.
+const INPUTS: [(LinesFault, &'static str, u8); 4] = [
+    (LinesFault::Read, "oltctl: read", 1),
+    (
+        LinesFault::Line(UnansweredLine::OutOfMemory),
+        "oltctl: memory",
+        3,
+    ),
+    (LinesFault::Line(UnansweredLine::Write), "oltctl: write", 4),
+    (
+        LinesFault::Line(UnansweredLine::Full),
+        "oltctl: too many lines",
+        1,
+    ),
+];
+
+#[test]
+fn reports_of_inputs(rt: HostRuntime) {
+    for (fault, line, exit) in INPUTS {
+        assert_eq!(rt; input_report(&fault), (line, exit));
+        assert_eq!(rt; explain_report(&ExplainFault::Lines(fault)), (line, exit));
+    }
+    for (why, line) in [
+        (NoLine::NotALine, "oltctl: no line of a trace"),
+        (NoLine::TooLong, "oltctl: line too long"),
+    ] {
+        let told = explain_report(&ExplainFault::Refused { line: 7, why });
+        assert_eq!(rt; told, (line, 1));
+    }
 }
