@@ -1,5 +1,6 @@
 //! The tests of `gp_stream`, `gp_script`, `gp_decode`, `gp_encode`, `gp_explain`, `gp_trace`, `gp_lines`, `gp_replay`,
-//! `gp_verify`, `gp_storm` and `gp_report`: what no clause says of them. They stand here, since a crate with tests is proved twice.
+//! `gp_verify`, `gp_drive`, `gp_storm` and `gp_report`: what no clause says of them. They stand here, since a crate with
+//! tests is proved twice.
 //!
 //! - `stream.rt`: readers and writers that fail, or take an octet a call.
 //! - `script.rt`: scripts that are read; `script/ranges.rt` has the ends of each range, `script/faults.rt` what is
@@ -9,12 +10,15 @@
 //! - `lines.rt`: events and turns that are read, the first fault of each text that is refused, and lines of a trace.
 //! - `replay.rt`, `storm.rt`: whole scripts to their trace or their totals, readers and writers that fail, and memory
 //!   that is refused; `storm/plans.rt` storms plans.
+//! - `drive.rt`: lines that ask for something, and what is said to each.
 //! - `verify.rt`: traces that are told to be runs, and the first line of each that is not.
 //! - `report.rt`: fault texts and statuses.
 #![tactic(auto)]
 
 #[cfg(test)]
 mod decode;
+#[cfg(test)]
+mod drive;
 #[cfg(test)]
 mod encode;
 #[cfg(test)]

@@ -1,0 +1,114 @@
+//! Lines that ask for something, and what is said to each.
+use gp_drive::{DriveFault, Driven, run_drive};
+use gp_replay::RunFault;
+use gp_script::ScriptFault;
+use gp_stream::{Sink, Source};
+use std::alloc::Global;
+
+/// A port that admits one unit and searches once.
+const PORT: &str = "licences = 1\n[[port]]\ncycles = 1\nadmit = [\"ABCD00000001\"]\n";
+
+/// The same port, with the unit on its fibre.
+const FIBRE: &str = "licences = 1\n[[port]]\ncycles = 1\nadmit = [\"ABCD00000001\"]\n\
+    [[unit]]\nserial = \"ABCD00000001\"\ndelay = 200000\n";
+
+/// A search, up to its window.
+const SEARCH: &str = "\
+0 0 search = searching
+0 1 frame = ok
+0 2 frame = ok sent ff010000000000000000000058
+0 3 frame = ok sent ff010000000000000000000058
+0 4 frame = ok sent ff010000000000000000000058
+0 5 frame = ok grant search
+";
+
+/// What is written of a script and lines, and how it ended; None where memory was refused.
+fn driven(
+    alloc: Global,
+    script: &str,
+    lines: &[u8],
+) -> Option<(Result<Driven, DriveFault>, Vec<u8>)> {
+    let mut script = Source::new(script.as_bytes());
+    let mut turns = Source::endless(lines);
+    let mut sink = Sink::new(alloc, Vec::new(alloc)).ok()?;
+    let outcome = run_drive(alloc, &mut script, &mut turns, &mut sink);
+    Some((outcome, sink.into_inner()))
+}
+
+/// Tells whether so many lines were answered, so many of them by errors, and this was written.
+fn drives(
+    alloc: Global,
+    script: &str,
+    lines: &[u8],
+    expected: &str,
+    (count, errors): (u64, u64),
+) -> bool {
+    let all = Driven {
+        lines: count,
+        errors,
+    };
+    match driven(alloc, script, lines) {
+        Some((Ok(found), said)) => found == all && said.as_slice() == expected.as_bytes(),
+        _ => false,
+    }
+}
+
+#[test]
+fn a_search_in_three_ways(rt: HostRuntime) {
+    let one_by_one = b"0 search\n0 frame\n0 frame\n0 frame\n0 frame\n0 frame\n";
+    assert!(rt; drives(rt.alloc(), PORT, one_by_one, SEARCH, (6, 0)));
+    assert!(rt; drives(rt.alloc(), PORT, b"0 search\n0 frame 5", SEARCH, (2, 0)));
+    assert!(rt;
+        drives(
+            rt.alloc(),
+            PORT,
+            b"# until\r\n0 search\n\n0 until search\n",
+            SEARCH,
+            (4, 0)
+        )
+    );
+}
+
+#[test]
+fn lines_that_are_no_turns(rt: HostRuntime) {
+    let lines =
+        b"0 frmae\nx frame\n0 frame 0\n0 alloc X\n0 burst 5 00\n1 frame\nunit 0 dark\n0 search\n";
+    let expected =
+        "error 1 word\nerror 2 number\nerror 3 range\nerror 4 serial\nerror 5 hex\nerror 6 port\nerror 7 unit\n\
+        0 0 search = searching\n";
+    assert!(rt; drives(rt.alloc(), PORT, lines, expected, (8, 7)));
+}
+
+#[test]
+fn a_line_that_is_too_long(rt: HostRuntime) {
+    assert!(rt; drives(rt.alloc(), PORT, &[b'#'; 4_097], "error 1 long\n", (1, 1)));
+    assert!(rt; drives(rt.alloc(), PORT, &[b'#'; 4_096], "", (1, 0)));
+}
+
+#[test]
+fn a_unit_on_the_fibre(rt: HostRuntime) {
+    let lines = b"unit 0 dark\nunit 1 light\nunit 0 light\n0 search\n0 until range 0\n";
+    let expected = "error 2 unit\n\
+        0 0 search = searching\n\
+        0 1 frame = ok\n\
+        0 2 frame = ok sent ff010000000000000000000058\n\
+        0 3 frame = ok sent ff010000000000000000000058\n\
+        0 4 frame = ok sent ff010000000000000000000058\n\
+        0 5 frame = ok grant search\n\
+        0 6 frame = ok\n\
+        0 7 burst 200000 ff01414243440000000100002c = found 0\n\
+        0 8 frame = ok sent ff03004142434400000001001b\n\
+        0 9 frame = ok sent ff03004142434400000001001b\n\
+        0 10 frame = ok sent ff03004142434400000001001b\n\
+        0 11 frame = ok grant range 0\n";
+    let outcome = driven(rt.alloc(), FIBRE, lines);
+    let said = outcome.map(|(_, said)| said);
+    assert!(rt; said.is_some_and(|said| said.as_slice() == expected.as_bytes()));
+}
+
+#[test]
+fn a_script_that_is_none(rt: HostRuntime) {
+    let outcome = driven(rt.alloc(), "ports = 1", b"0 frame\n").map(|driven| driven.0);
+    let shape = DriveFault::Script(RunFault::Script(ScriptFault::Shape));
+    assert_eq!(rt; outcome, Some(Err(shape)));
+}
