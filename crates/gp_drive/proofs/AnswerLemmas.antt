@@ -1,5 +1,5 @@
 -- Answers to a line, by how what it asks for was played.
-use Rattle.std.proofs.Common.{◌≡◌, ◌||◌, ℕ, ◌+◌, Bool, true, false, List, [], Option, None, Some, Result, Ok, Err, refl, sym, ap, ◌∙◌}
+use Rattle.std.proofs.Common.{◌≡◌, ◌||◌, ℕ, ◌+◌, Bool, true, false, List, Option, None, Some, Result, Ok, Err, refl, ap, ◌∙◌}
 use Rattle.gp_flow.specs.declared.fault.LineFault.{LineFault}
 use Rattle.gp_flow.specs.Lines.{Answers}
 use Rattle.gp_flow.specs.Lines.Starts.{PartSaid}
@@ -13,7 +13,7 @@ use Rattle.gp_replay.specs.Playing.{Playing}
 use Rattle.gp_replay.specs.Writing.{PlaysOn}
 use Rattle.gp_trace.specs.Text.{trace_text}
 use Rattle.gp_drive.specs.declared.fault.TurnFault.{TurnFault}
-use Rattle.gp_drive.specs.Drive.{AnswersAsked, DriveState, Says, answering, driving, line_fault, playing_of, refusing}
+use Rattle.gp_drive.specs.Drive.{DriveState, Says, answering, driving, line_fault, playing_of, refusing}
 use Rattle.gp_drive.specs.Turns.{PlaysTurn, PlaysTurnPart, cost_of, missing_in}
 
 -- ---- a turn

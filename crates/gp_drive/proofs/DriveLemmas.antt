@@ -1,5 +1,5 @@
 -- A drive, from the script's events and the lines behind them.
-use Rattle.std.proofs.Common.{◌≡◌, ◌||◌, ℕ, ◌+◌, ◌*◌, ◌^◌, ◌<◌, ◌≤◌, Bool, true, false, List, [], ◌∷◌, ◌++◌, Result, Ok, Err, IsErrAnd, length, take, map, refl, sym, ap, subst, ◌∙◌, arith, append_assoc}
+use Rattle.std.proofs.Common.{◌≡◌, ℕ, ◌+◌, ◌^◌, ◌≤◌, true, false, List, ◌++◌, Result, Ok, Err, IsErrAnd, length, take, refl, sym, ap, subst, ◌∙◌, arith, append_assoc}
 use Rattle.std.specs.Io.KnownBytes.{Appends}
 use Rattle.std.proofs.KnownBytes.{Appends-trans}
 use Rattle.std.proofs.Math.Seq.{take-append-add}
@@ -8,7 +8,6 @@ use Rattle.gp_stream.specs.Sink.{SinkState, Takes}
 use Rattle.gp_stream.specs.Source.{ReadsAll, SourceState}
 use Rattle.gp_script.specs.declared.script.ScriptEvent.{ScriptEvent}
 use Rattle.gp_trace.specs.Text.{trace_text}
-use Rattle.gp_flow.specs.declared.fault.LineFault.{LineFault}
 use Rattle.gp_flow.specs.declared.fault.LinesFault.{LinesFault}
 use Rattle.gp_flow.specs.declared.fault.LinesFault.TheVariants as lines
 use Rattle.gp_flow.specs.declared.lines.LinesEnd.{LinesEnd}

@@ -1,6 +1,5 @@
 -- Frames up to a grant, one after the other.
-use Rattle.std.specs.Prelude.{◌⊎◌}
-use Rattle.std.proofs.Common.{◌≡◌, ℕ, ◌+◌, ◌<◌, ◌≤◌, true, false, Bool, List, [], ◌∷◌, ◌++◌, Result, Ok, IsTrue, length, subst, refl, sym, ap, ◌∙◌, append_assoc, arith}
+use Rattle.std.proofs.Common.{◌≡◌, ℕ, ◌+◌, ◌<◌, true, false, Bool, List, [], ◌∷◌, ◌++◌, Ok, length, subst, refl, sym, ap, ◌∙◌, arith}
 use Rattle.std.proofs.lemmas.Grind.{flat_map-append}
 use Rattle.std.proofs.lemmas.List.{append-nil, length-append}
 use Rattle.gp_ploam.specs.declared.check.Mask.{Mask}
@@ -8,7 +7,6 @@ use Rattle.gp_ranging.specs.declared.grant.Grant.{Grant}
 use Rattle.gp_machine.specs.declared.entry.Receipt.{Receipt}
 use Rattle.gp_script.specs.declared.script.ScriptEvent.TheVariants as events
 use Rattle.gp_stream.specs.Sink.{SinkState}
-use Rattle.gp_replay.specs.declared.fault.PlayFault.{PlayFault}
 use Rattle.gp_replay.specs.Playing.{MakesGrant, Playing}
 use Rattle.gp_replay.specs.Writing.{Happening, PlaysOn, Writes}
 use Rattle.gp_replay.proofs.PlayLemmas.{Joins, Stands}

@@ -129,8 +129,14 @@ fn drive_fibre<L: Ledger, T: Read, W: Write>(
     let ScriptLosses { copies, bursts } = losses;
     let loss = LossPlan { copies, bursts };
     let mut buffer = LineBuffer::new(alloc)?;
-    let mut player =
-        FibrePlayer::<L>::begin(alloc, blank, &ports[0], licences, units.as_slice(), loss)?;
+    let mut player = FibrePlayer::<L>::begin(
+        alloc,
+        blank,
+        &ports[0],
+        licences,
+        units.as_slice(),
+        loss,
+    )?;
     if let Err(fault) = play_events(&mut player, sink, &mut buffer, mask, events.as_slice()) {
         player.close();
         let _ = end_play(sink, Err(fault));

@@ -12,7 +12,7 @@ use Rattle.gp_script.specs.declared.script.ScriptEvent.{ScriptEvent}
 use Rattle.gp_script.specs.declared.script.ScriptEvent.TheVariants as events
 use Rattle.gp_script.specs.Lose.{LossesView}
 use Rattle.gp_script.specs.Script.{ScriptView}
-use Rattle.gp_stream.specs.Sink.{SinkState, Takes}
+use Rattle.gp_stream.specs.Sink.{SinkState}
 use Rattle.gp_trace.specs.Text.{trace_text}
 use Rattle.gp_replay.specs.declared.fault.PlayFault.{PlayFault}
 use Rattle.gp_replay.specs.declared.fault.PlayFault.TheVariants as faults
@@ -153,7 +153,7 @@ chassis_keeps_on mask event P old new x y (Err e) ports p = tt
 
 -- one entry makes the grant, where it is the only one
 pub one_grants : (grant : Grant) (entry : Entry) (made : Bool) → IsTrue made ↔ (entry.answer.grant ≡ Some grant) → IsTrue made ↔ HasGrant grant (entry ∷ [])
-one_grants grant entry made h = (λ t. inl (h.0 t), λ w. elim w [ | inl is ↦ h.1 is | inr none ↦ absurd none ])
+one_grants grant entry made h = (λ t. inl (h.0 t), λ w. elim w [ inl is ↦ h.1 is | inr none ↦ absurd none ])
 
 -- whether the grant is made in what happens is told by its entries
 pub makes_told : {S W : Type 0} (mask : Mask) (grant : Grant) (entries : List Entry) (made : Bool) (happens : Happening S) (old new : S) (x y : SinkState W)
@@ -176,7 +176,7 @@ grant_at grant (e ∷ es) (suc i) d h is = inr (grant_at grant es i d (omega (ar
 grant_of_parts : (grant : Grant) (es fs : List Entry) → HasGrant grant (es ++ fs) → HasGrant grant es ⊎ HasGrant grant fs
 grant_of_parts grant [] fs h = inr h
 grant_of_parts grant (e ∷ es) fs (inl is) = inl (inl is)
-grant_of_parts grant (e ∷ es) fs (inr more) = elim (grant_of_parts grant es fs more) [ | inl first ↦ inl (inr first) | inr rest ↦ inr rest ]
+grant_of_parts grant (e ∷ es) fs (inr more) = elim (grant_of_parts grant es fs more) [ inl first ↦ inl (inr first) | inr rest ↦ inr rest ]
 
 -- where none of the first entries makes it, and the next does not
 pub no_grant_more : (grant : Grant) (es : List Entry) (i : ℕ) (d : Entry) → i < length es → (HasGrant grant (take i es) → ⊥)

@@ -5,12 +5,12 @@ ghost use Rattle.gp_script.specs.View.{script_view};
 ghost use Rattle.gp_replay.specs.Outcome.{LeavesReplay, RunEnds, RunReads, RunWrites};
 ghost use Rattle.gp_replay.specs.Writing.{PlaysScript};
 
-use super::play_end::end_play;
 use super::event_player::play_events;
 use super::fault::{PlayFault, RunFault};
 use super::fibre_player::FibrePlayer;
 use super::laws::each_port_runs;
 use super::line_buffer::LineBuffer;
+use super::play_end::end_play;
 use super::player::{MAX_KEPT, Player};
 use gp_chassis::ChassisConfig;
 use gp_fibre::LossPlan;
@@ -84,8 +84,14 @@ fn play_on_fibre<L: Ledger, W: Write>(
     let ScriptLosses { copies, bursts } = losses;
     let loss = LossPlan { copies, bursts };
     let mut buffer = LineBuffer::new(alloc)?;
-    let mut player =
-        FibrePlayer::<L>::begin(alloc, blank, &ports[0], licences, units.as_slice(), loss)?;
+    let mut player = FibrePlayer::<L>::begin(
+        alloc,
+        blank,
+        &ports[0],
+        licences,
+        units.as_slice(),
+        loss,
+    )?;
     let outcome = play_events(&mut player, sink, &mut buffer, mask, events.as_slice());
     player.close();
     end_play(sink, outcome)

@@ -106,7 +106,9 @@ fn drive<'a>(alloc: Global) -> Result<Command<'a>, AllocError>
     ensures local { IfOk result (λ c. (fields_of c).has_globals ≡ false) }
 {
     Command::new(alloc, "drive")
-        .about("Answers lines of standard input, each at once by the trace lines of what it asks for")
+        .about(
+            "Answers lines of standard input, each at once by the trace lines of what it asks for",
+        )
         .after_help(DRIVE_HELP)
         .arg(driven(alloc))
 }

@@ -29,8 +29,8 @@ use gp_flow::LinesFault;
 use gp_ploam::Mask;
 use gp_replay::{RunFault, run_replay};
 use gp_report::{
-    BAD_ARGUMENTS, BAD_INPUT, SUCCESS, arguments_report, encode_report, explain_report, input_report,
-    line_report, memory_report, run_report, verify_report, write_report,
+    BAD_ARGUMENTS, BAD_INPUT, SUCCESS, arguments_report, encode_report, explain_report,
+    input_report, line_report, memory_report, run_report, verify_report, write_report,
 };
 use gp_storm::run_storm;
 use gp_stream::{Sink, Source};

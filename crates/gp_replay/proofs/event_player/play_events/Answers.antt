@@ -1,7 +1,7 @@
-use Rattle.std.proofs.Common.{refl, arith, ◌≤◌, ◌+◌, ◌-◌, ◌*◌, ◌^◌, length}
+use Rattle.std.proofs.Common.{refl, arith, ◌+◌, ◌*◌, ◌^◌}
 use Rattle.gp_script.specs.declared.script.ScriptEvent.TheVariants.{Frames}
 use Rattle.gp_replay.proofs.PlayLemmas.{stands_at_first, stands_on, stops_on}
-use Rattle.gp_replay.proofs.PlayingLemmas.{all_more, keeps_none, keeps_on, room_now, some_more}
+use Rattle.gp_replay.proofs.PlayingLemmas.{all_more, keeps_none, keeps_on, some_more}
 use Rattle.gp_replay.proofs.event_player.play_events.Goals as goal
 
 pub events-init : goal.events-init

@@ -1,4 +1,4 @@
-use Rattle.std.proofs.Common.{◌≡◌, ◌*◌, ◌^◌, take}
+use Rattle.std.proofs.Common.{◌*◌, ◌^◌, take}
 use Rattle.gp_replay.specs.Playing.{Keeps, PlaysAll}
 use Rattle.gp_replay.proofs.PlayLemmas.{Stands}
 use Rattle.gp_replay.proofs.event_player.play_events.Given as goal

@@ -26,8 +26,12 @@ play_events-outcome-requires-clause-room g c =
     let few : length c.args.script.events.items ≤ 1048576 = c.requires.playable.few_events in
     let many = length c.args.script.events.items * 2 ^ 32 in
     let within : many ≤ 2 ^ 52 + 2 ^ 51 = omega (arith, few) in
-    rw c.as_slice-2.ensures.value (many, omega arith, opening_fibre_room many (script_view c.args.script) c.index.result.now c.in_ok-player.player.play
-    c.requires.playable.few_units within (rw c.as_slice.ensures.value at c.in_ok-player.ensures.world) c.in_ok-player.ensures.next)
+    rw c.as_slice-2.ensures.value (
+      many,
+      omega arith,
+      opening_fibre_room many (script_view c.args.script) c.index.result.now c.in_ok-player.player.play
+          c.requires.playable.few_units within (rw c.as_slice.ensures.value at c.in_ok-player.ensures.world) c.in_ok-player.ensures.next,
+    )
 
 pub returns-in_err-buffer : goal.returns-in_err-buffer
 returns-in_err-buffer g c = play_refused (script_view c.args.script) c.args.sink.now _ c.from_residual.ensures.1

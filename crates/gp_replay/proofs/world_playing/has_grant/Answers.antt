@@ -1,5 +1,4 @@
-use Rattle.std.specs.Prelude.{◌↔◌}
-use Rattle.std.proofs.Common.{◌≡◌, IsTrue, Some, rules, refl, true, false, subst, sym}
+use Rattle.std.proofs.Common.{◌≡◌, Some, rules, refl, false, subst, sym}
 use Rattle.std.proofs.Math.Seq.{take_all}
 use Rattle.gp_machine.specs.declared.entry.Entry.{Entry}
 use Rattle.gp_replay.specs.Playing.{HasGrant}
