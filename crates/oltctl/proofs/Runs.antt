@@ -1,5 +1,5 @@
 -- What a run found in its input, from how it ended.
-use Rattle.std.proofs.Common.{◌≡◌, ℕ, List, Option, Result, Ok, Err, OnOk, IsErrAnd, subst, sym, refl, ◌∙◌}
+use Rattle.std.proofs.Common.{◌≡◌, ℕ, List, Option, Result, Ok, Err, OnOk, IsErrAnd, subst, sym, refl, ap, ◌∙◌}
 use Rattle.gp_script.specs.declared.fault.ScriptFault.{ScriptFault}
 use Rattle.gp_script.specs.Script.{ScriptView, script_of}
 use Rattle.gp_stream.specs.Source.{SourceState, ReadsTooMuch, max_bytes}
@@ -60,30 +60,37 @@ checked_from {S = S} {T = T} script of_script trace of_trace before after from t
 -- ---- a drive
 
 -- what a fault of a script tells, where it is one of its text
-FaultOf : {R : Type 0} → R → Option (List ℕ) → SourceState R → RunFault → Type 0
+abbrev FaultOf : {R : Type 0} → R → Option (List ℕ) → SourceState R → RunFault → Type 0
 FaultOf reader remaining after (runs.Script fault) = ReadsBy script_of (unread reader remaining) after (Err fault)
 FaultOf reader remaining after runs.TooLong = ReadsTooMuch max_bytes (unread reader remaining) after
 FaultOf reader remaining after _ = Unit {0}
 
 told_fault : {R : Type 0} (reader : R) (remaining : Option (List ℕ)) (after : SourceState R) (fault : RunFault) → IsNoScript (unread reader remaining) after fault
     → FaultOf reader remaining after fault
-told_fault reader remaining after runs.Read no = tt
-told_fault reader remaining after runs.TooLong no = no
-told_fault reader remaining after (runs.Script fault) no = no
-told_fault reader remaining after runs.OutOfMemory no = tt
-told_fault reader remaining after runs.Write no = tt
-told_fault reader remaining after runs.Mismatch no = tt
-told_fault reader remaining after runs.JournalFull no = tt
+told_fault reader remaining after runs.Read why = tt
+told_fault reader remaining after runs.TooLong why = why
+told_fault reader remaining after (runs.Script fault) why = why
+told_fault reader remaining after runs.OutOfMemory why = tt
+told_fault reader remaining after runs.Write why = tt
+told_fault reader remaining after runs.Mismatch why = tt
+told_fault reader remaining after runs.JournalFull why = tt
 
-same_fault : (one other : RunFault) → Err {T = Driven} (drives.Script one) ≡ Err (drives.Script other) → one ≡ other
-same_fault one other is = cc is
+-- the fault of a script that an answer tells
+abbrev fault_told : Result Driven DriveFault → RunFault
+fault_told (Err (drives.Script fault)) = fault
+fault_told _ = runs.Mismatch
+
+found_by : {R T W : Type 0} (reader : R) (remaining : Option (List ℕ)) (before after : SourceState R) (from to : SourceState T) (old new : SinkState W)
+    (driven : Driven) → before ≡ unread reader remaining → DrivesInput (Ok driven) before after from to old new
+    → (script : ScriptView) × IsReadBy script_of reader remaining (Ok script)
+found_by {R = R} reader remaining before after from to old new driven is (Read of) =
+    (of.script, (after, subst (λ (s : SourceState R). ReadsBy script_of s after (Ok of.script)) is of.input))
+found_by reader remaining before after from to old new driven is (NotRead fault told why lines kept) = absurd (cc)
 
 pub drive_found : {R T W : Type 0} (reader : R) (remaining : Option (List ℕ)) (before after : SourceState R) (from to : SourceState T) (old new : SinkState W)
     (r : Result Driven DriveFault) → before ≡ unread reader remaining → DrivesInput r before after from to old new
     → OnOk r ((script : ScriptView) × IsReadBy script_of reader remaining (Ok script))
-drive_found {R = R} reader remaining before after from to old new (Ok driven) is (Read of) =
-    (of.script, (after, subst (λ (s : SourceState R). ReadsBy script_of s after (Ok of.script)) is of.input))
-drive_found reader remaining before after from to old new (Ok driven) is (NotRead fault told no lines kept) = absurd (cc)
+drive_found reader remaining before after from to old new (Ok driven) is d = found_by reader remaining before after from to old new driven is d
 drive_found reader remaining before after from to old new (Err f) is d = tt
 
 pub drive_fault : {R T W : Type 0} (reader : R) (remaining : Option (List ℕ)) (before after : SourceState R) (from to : SourceState T) (old new : SinkState W)
@@ -91,15 +98,15 @@ pub drive_fault : {R T W : Type 0} (reader : R) (remaining : Option (List ℕ)) 
     → (fault : ScriptFault) → r ≡ Err (drives.Script (runs.Script fault)) → IsReadBy script_of reader remaining (Err fault)
 drive_fault {R = R} reader remaining before after from to old new r is (Read of) fault told =
     absurd (subst (λ (a : Result Driven DriveFault). DrivesScript a from to old new of.script) told of.held)
-drive_fault {R = R} reader remaining before after from to old new r is (NotRead other also no lines kept) fault told =
-    let same : other ≡ runs.Script fault = same_fault other (runs.Script fault) (sym also ∙ told) in
-    (after, subst (λ (f : RunFault). FaultOf reader remaining after f) same (told_fault reader remaining after other (subst (λ (s : SourceState R). IsNoScript s after other) is no)))
+drive_fault {R = R} reader remaining before after from to old new r is (NotRead other also why lines kept) fault told =
+    let same : other ≡ runs.Script fault = ap fault_told (sym also ∙ told) in
+    (after, subst (λ (f : RunFault). FaultOf reader remaining after f) same (told_fault reader remaining after other (subst (λ (s : SourceState R). IsNoScript s after other) is why)))
 
 pub drive_long : {R T W : Type 0} (reader : R) (remaining : Option (List ℕ)) (before after : SourceState R) (from to : SourceState T) (old new : SinkState W)
     (r : Result Driven DriveFault) → before ≡ unread reader remaining → DrivesInput r before after from to old new
     → r ≡ Err (drives.Script runs.TooLong) → IsTooLong reader remaining
 drive_long {R = R} reader remaining before after from to old new r is (Read of) told =
     absurd (subst (λ (a : Result Driven DriveFault). DrivesScript a from to old new of.script) told of.held)
-drive_long {R = R} reader remaining before after from to old new r is (NotRead other also no lines kept) told =
-    let same : other ≡ runs.TooLong = same_fault other runs.TooLong (sym also ∙ told) in
-    (after, subst (λ (f : RunFault). FaultOf reader remaining after f) same (told_fault reader remaining after other (subst (λ (s : SourceState R). IsNoScript s after other) is no)))
+drive_long {R = R} reader remaining before after from to old new r is (NotRead other also why lines kept) told =
+    let same : other ≡ runs.TooLong = ap fault_told (sym also ∙ told) in
+    (after, subst (λ (f : RunFault). FaultOf reader remaining after f) same (told_fault reader remaining after other (subst (λ (s : SourceState R). IsNoScript s after other) is why)))

@@ -87,13 +87,16 @@ AreAllMasks names = AreMasks names.explain × AreMasks names.decode × AreMasks 
 abbrev pub script_commands : App
 script_commands =
     with_subcommand
-    (with_subcommand
     (with_subcommand (on_top (λ s. record s { subcommand_required = true; arg_required_else_help = true })
-    (new_app (codes "oltctl"))) replay_command.top) drive_command.top) storm_command.top
+    (new_app (codes "oltctl"))) replay_command.top) storm_command.top
 
--- the program as far as it is about scripts and traces
+-- the program as far as it is about scripts and lines that ask for something
+abbrev pub line_commands : App
+line_commands = with_subcommand script_commands drive_command.top
+
+-- the program as far as it is about scripts, lines and traces
 abbrev pub trace_commands : App
-trace_commands = with_subcommand script_commands verify_command.top
+trace_commands = with_subcommand line_commands verify_command.top
 
 -- the whole program
 abbrev pub oltctl_command : AllNames → App

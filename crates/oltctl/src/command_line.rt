@@ -2,7 +2,7 @@
 ghost use Rattle.std.specs.Prelude.{◌≡◌, ◌≢◌, IfErr, IfOk, false, map};
 ghost use Rattle.clap.specs.Words.{app_of, kind_of, rule_of};
 ghost use Rattle.clap.specs.declared.builder.command.Command.TheViews.{out-Command as fields_of};
-ghost use Rattle.oltctl.specs.CommandLine.{AllNames, AreAllMasks, AreMasks, IsFaultOf, IsParseOf, MaskNames, code_rule, decode_command, drive_command, encode_command, explain_command, file_rule, mask_rule, oltctl_command, replay_command, script_commands, script_rule, storm_command, trace_commands, trace_rule, up_rule, verify_command, words_rule};
+ghost use Rattle.oltctl.specs.CommandLine.{AllNames, AreAllMasks, AreMasks, IsFaultOf, IsParseOf, MaskNames, code_rule, decode_command, drive_command, encode_command, explain_command, file_rule, line_commands, mask_rule, oltctl_command, replay_command, script_commands, script_rule, storm_command, trace_commands, trace_rule, up_rule, verify_command, words_rule};
 ghost use Rattle.std.specs.String.{string_bytes};
 
 use clap::error::ErrorKind;
@@ -242,15 +242,21 @@ fn of_scripts<'a>(alloc: Global) -> Result<Command<'a>, AllocError>
         .subcommand_required(true)
         .arg_required_else_help(true)
         .subcommand(replay(alloc)?)?
-        .subcommand(drive(alloc)?)?
         .subcommand(storm(alloc)?)
 }
 
-/// Makes the program's command line as far as it is about scripts and traces.
+/// Makes the program's command line as far as it is about scripts and lines that ask for something.
+fn of_lines<'a>(alloc: Global) -> Result<Command<'a>, AllocError>
+    ensures { IfOk result (λ c. app_of c ≡ line_commands) }
+{
+    of_scripts(alloc)?.subcommand(drive(alloc)?)
+}
+
+/// Makes the program's command line as far as it is about scripts, lines and traces.
 fn of_traces<'a>(alloc: Global) -> Result<Command<'a>, AllocError>
     ensures { IfOk result (λ c. app_of c ≡ trace_commands) }
 {
-    of_scripts(alloc)?.subcommand(verify(alloc)?)
+    of_lines(alloc)?.subcommand(verify(alloc)?)
 }
 
 fn command<'a>(alloc: Global) -> Result<Command<'a>, AllocError>
