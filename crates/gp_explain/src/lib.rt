@@ -3,6 +3,7 @@
 //! - `line.rt`: `explain_line`, one line in words; `place.rt`: where in a line codes stand.
 //! - `explainer.rt`: `Explainer`, which is given the lines of a trace one after another; `serving.rt`: as what serves
 //!   lines.
+//! - `telling.rt`: `Telling`, which tells any lines, one after another.
 //! - `running.rt`: `explain_trace`, from the bytes of a trace to its lines in words.
 //! - `fault.rt`: why a line is none of a trace, and how it may end.
 //!
@@ -16,9 +17,11 @@ mod line;
 mod place;
 mod running;
 mod serving;
+mod telling;
 
 pub use explainer::Explainer;
 pub use fault::{ExplainFault, NoLine};
 pub use line::explain_line;
 pub use place::Place;
 pub use running::explain_trace;
+pub use telling::Telling;
