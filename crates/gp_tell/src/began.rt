@@ -13,10 +13,12 @@ pub trait Began {
 }
 
 impl Began for Brand {
-    ghost use Rattle.std.specs.Prelude.{None};
-    ghost use Rattle.gp_ploam.specs.declared.check.Mask.TheVariants.{Plain};
+    ghost use Rattle.std.specs.Prelude.{None, false};
+    ghost use Rattle.gp_ploam.specs.declared.check.Mask.TheVariants as masks;
+    ghost use Rattle.gp_explain.specs.declared.form.Form.TheVariants as forms;
+    ghost use Rattle.gp_explain.specs.Telling.{no_frames};
 
     ghost held = { None };
 
-    ghost manner = { record { mask = Plain } };
+    ghost manner = { record { mask = masks.Plain; form = forms.Plain; timed = false; frames = no_frames } };
 }
