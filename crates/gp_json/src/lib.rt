@@ -1,6 +1,6 @@
 //! Writes the lines of a trace as JSON, one object a line.
 //!
-//! - `object.rt`: `write_object`, a line as an object; `write_line`, one that tells nothing of a trace.
+//! - `object.rt`: `write_object`, a line as an object; `other.rt`: `write_other`, one that is none of a trace.
 //! - `slot.rt`: what stands where in a line, and which field it makes; `field.rt`: that field.
 //! - `text.rt`: texts and numbers as JSON spells them.
 //!
@@ -10,8 +10,10 @@
 
 mod field;
 mod object;
+mod other;
 mod slot;
 mod text;
 
-pub use object::{write_line, write_object};
+pub use object::write_object;
+pub use other::write_other;
 pub use slot::{Kind, Slot};

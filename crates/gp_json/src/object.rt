@@ -2,11 +2,11 @@
 ghost use Rattle.std.specs.Prelude.{◌≡◌, ◌++◌, ℕ, List, OnOk, IfOk, MatchBool};
 ghost use Rattle.gp_lines.specs.Parts.{parts_of};
 ghost use Rattle.gp_json.specs.Fields.{TellsParts};
-ghost use Rattle.gp_json.specs.Object.{TellsObject, frames_field, line_object};
+ghost use Rattle.gp_json.specs.Object.{TellsObject, frames_field};
 
 use crate::field::push_part;
+use crate::other::write_line;
 use crate::slot::Slot;
-use crate::text::push_quoted;
 use gp_lines::cut;
 use gp_ploam::Mask;
 use itoa::Buffer;
@@ -48,16 +48,6 @@ fn push_fields(
         rest = others;
     }
     Ok(slot.is_end())
-}
-
-/// Writes a line that tells nothing of a trace, in the place of what the buffer holds.
-pub fn write_line(text: &[u8], out: &mut Vec<u8>) -> Result<(), AllocError>
-    ensures { OnOk result (out.new.items ≡ line_object text.now) }
-{
-    out.clear();
-    out.extend_from_slice(b"{\"line\":")?;
-    push_quoted(out, text)?;
-    out.extend_from_slice(b"}\n")
 }
 
 /// Writes a line as a JSON object, with a line feed behind it, in the place of what the buffer holds: the fields of a line
