@@ -9,8 +9,8 @@ use gp_licence::MAX_LICENCES;
 use gp_machine::{Admitted, Command, Entry, PortConfig, Reply};
 use gp_ploam::Mask;
 use runs::{
-    A, ACTS, Act, FORGOTTEN, LOSSES, NEAR, POPUP_AND_TIMERS, Plan, Run, SHORT_OF_MEMORY, TOLD, Told,
-    UNITS_AND_STEPS,
+    A, ACTS, Act, FORGOTTEN, LOSSES, NEAR, POPUP_AND_TIMERS, Plan, Run, SHORT_OF_MEMORY, TOLD,
+    Told, UNITS_AND_STEPS,
 };
 use std::alloc::{AllocError, Global};
 use std::marker::Brand;

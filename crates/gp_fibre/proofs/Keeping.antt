@@ -46,9 +46,9 @@ pub from_kept : {T : Type 0} (forgotten : ℕ) (items : List T) (number : ℕ) (
 from_kept forgotten items number item e = elim (cases_Bool (nat_lt number forgotten)) [
   | inl is ↦ absurd (none_is_some item (sym (ap (λ b. cond b None (slice_get items number)) is) ∙ e))
   | inr isnt ↦ record {
-      kept = ltb-false number forgotten isnt;
-      there = sym (ap (λ b. cond b None (slice_get items number)) isnt) ∙ e;
-    }
+    kept = ltb-false number forgotten isnt;
+    there = sym (ap (λ b. cond b None (slice_get items number)) isnt) ∙ e;
+  }
 ]
 
 pub kept_there : {T : Type 0} (forgotten : ℕ) (items : List T) (number : ℕ) → forgotten ≤ number → kept_at forgotten items number ≡ slice_get items number

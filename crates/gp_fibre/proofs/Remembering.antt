@@ -317,7 +317,7 @@ frame_along lc lb whole old new entries f r =
     ∙ ap (λ (bs : List SentBurst). whole.flights ++ flights_of whole.frames (length old.fibre.bursts) bs) (late_old ∙ sym late)
     ∙ ap (λ (n : ℕ). whole.flights ++ flights_of whole.frames n (drop (length whole.fibre.bursts) reached.after.bursts)) bursts in
     let arrived = runs_along (arrivals lb whole.frames r.flights) r.more reached.after r.answered r.arrived reached.forgets
-        (subst (λ (n : ℕ). FibreRun r.answered (arrivals lb n r.flights) r.more r.arrived) f.frames r.arrives) in
+    (subst (λ (n : ℕ). FibreRun r.answered (arrivals lb n r.flights) r.more r.arrived) f.frames r.arrives) in
     let after : WorldState = record {
       fibre = world_after_frame arrived.after;
       licences = whole.licences;

@@ -322,9 +322,18 @@ pub(super) const ACTS: [(Run, Act); 63] = [
 
 /// What is done in a new world, the last of it a step that asks for what was forgotten, and its fault.
 pub(super) const FORGOTTEN: [([Act; 4], WorldFault); 3] = [
-    ([SEARCH, Act::Run(5), Act::Forget, DELIVER], WorldFault::NoCopy),
-    ([SEARCH, Act::Run(5), Act::Forget, GIVE], WorldFault::NoGrant),
-    ([SEARCH, Act::Run(5), Act::Forget, ARRIVE], WorldFault::NoBurst),
+    (
+        [SEARCH, Act::Run(5), Act::Forget, DELIVER],
+        WorldFault::NoCopy,
+    ),
+    (
+        [SEARCH, Act::Run(5), Act::Forget, GIVE],
+        WorldFault::NoGrant,
+    ),
+    (
+        [SEARCH, Act::Run(5), Act::Forget, ARRIVE],
+        WorldFault::NoBurst,
+    ),
 ];
 
 /// What is done in a new world, and the last reply. The first step of a world takes memory, be it a frame, a command

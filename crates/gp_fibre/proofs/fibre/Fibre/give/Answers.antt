@@ -19,12 +19,12 @@ returns-clause-unit g c =
       units = asked.units;
       answer = more ∙ ap (λ (o : Option SentBurst). with_blanks (burst_with 0 []) i.bursts.forgotten i.bursts.items.items ++ option_to_list o) asked.answered;
       rest = ap (λ (n : ℕ). let w : FibreWorld = record {
-            port = i.core;
-            free = i.book.free;
-            units = c.grant-answer.new.self.units;
-            copies = with_blanks NoMessage i.copies.forgotten i.copies.items.items;
-            grants = with_blanks Search i.grants.forgotten i.grants.items.items;
-            bursts = with_blanks (burst_with 0 []) c.add.new.self.forgotten c.add.new.self.items.items;
-            forgotten = record { copies = i.copies.forgotten; grants = i.grants.forgotten; bursts = n };
-          } in w) c.add.ensures.forgotten;
+        port = i.core;
+        free = i.book.free;
+        units = c.grant-answer.new.self.units;
+        copies = with_blanks NoMessage i.copies.forgotten i.copies.items.items;
+        grants = with_blanks Search i.grants.forgotten i.grants.items.items;
+        bursts = with_blanks (burst_with 0 []) c.add.new.self.forgotten c.add.new.self.items.items;
+        forgotten = record { copies = i.copies.forgotten; grants = i.grants.forgotten; bursts = n };
+      } in w) c.add.ensures.forgotten;
     })
