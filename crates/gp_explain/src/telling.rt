@@ -133,13 +133,7 @@ impl Telling {
                 push_time_if(self.timed, frames, out)?;
                 push_words(self.alloc, self.mask, text, out)
             }
-            Form::Json => write_object(
-                self.alloc,
-                self.mask,
-                shown(self.timed, frames),
-                text,
-                out,
-            ),
+            Form::Json => write_object(self.alloc, self.mask, shown(self.timed, frames), text, out),
         }
     }
 }

@@ -34,7 +34,7 @@ fn push_fields(
 ) -> Result<bool, AllocError>
     ensures { IfOk result (λ told. MatchBool told
         ((fields : List ℕ) × TellsParts mask Slot.Port (parts_of text.now) fields
-            × (out.new.items ≡ out.old.items ++ fields))
+        × (out.new.items ≡ out.old.items ++ fields))
         ((fields : List ℕ) → TellsParts mask Slot.Port (parts_of text.now) fields → ⊥)) }
 {
     let mut slot = Slot::Port;

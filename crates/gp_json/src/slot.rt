@@ -98,12 +98,34 @@ impl Slot {
         ensures { result ≡ spec.kind_of self }
     {
         match self {
-            Slot::Port | Slot::Number | Slot::At | Slot::Dealloc | Slot::Onu | Slot::Alloc | Slot::Refusal | Slot::RangedOnu | Slot::Eqd | Slot::Count | Slot::UnitOnu | Slot::Attempts | Slot::UnitEqd | Slot::GrantOnu => Kind::Number,
-            Slot::Event | Slot::Serial | Slot::DeallocSerial | Slot::Reply | Slot::Reason | Slot::Phase | Slot::Grant | Slot::Alarm | Slot::AlarmSerial => Kind::Text,
+            Slot::Port
+            | Slot::Number
+            | Slot::At
+            | Slot::Dealloc
+            | Slot::Onu
+            | Slot::Alloc
+            | Slot::Refusal
+            | Slot::RangedOnu
+            | Slot::Eqd
+            | Slot::Count
+            | Slot::UnitOnu
+            | Slot::Attempts
+            | Slot::UnitEqd
+            | Slot::GrantOnu => Kind::Number,
+            Slot::Event
+            | Slot::Serial
+            | Slot::DeallocSerial
+            | Slot::Reply
+            | Slot::Reason
+            | Slot::Phase
+            | Slot::Grant
+            | Slot::Alarm
+            | Slot::AlarmSerial => Kind::Text,
             Slot::Code => Kind::UnitCode,
             Slot::Sent => Kind::TerminalCode,
             Slot::Allocs => Kind::Allocs,
-            Slot::Equals | Slot::AllocsWord | Slot::Behind | Slot::BehindSent | Slot::BehindGrant => Kind::Silent,
+            Slot::Equals | Slot::AllocsWord | Slot::Behind | Slot::BehindSent | Slot::BehindGrant =>
+                Kind::Silent,
             Slot::End | Slot::Unknown => Kind::Unknown,
         }
     }
@@ -120,7 +142,13 @@ impl Slot {
             Slot::Code => "code",
             Slot::Serial | Slot::DeallocSerial => "serial",
             Slot::Dealloc => "alloc",
-            Slot::Equals | Slot::AllocsWord | Slot::Behind | Slot::BehindSent | Slot::BehindGrant | Slot::End | Slot::Unknown => "",
+            Slot::Equals
+            | Slot::AllocsWord
+            | Slot::Behind
+            | Slot::BehindSent
+            | Slot::BehindGrant
+            | Slot::End
+            | Slot::Unknown => "",
             Slot::Reply => "reply",
             Slot::Onu | Slot::RangedOnu | Slot::UnitOnu => "onu",
             Slot::Alloc => "reply_alloc",
@@ -177,7 +205,8 @@ impl Slot {
             Slot::At => Slot::Code,
             Slot::Code | Slot::Serial | Slot::Dealloc => Slot::Equals,
             Slot::DeallocSerial => Slot::Dealloc,
-            Slot::Onu | Slot::Alloc | Slot::Count | Slot::Eqd | Slot::Reason | Slot::Allocs => Slot::Behind,
+            Slot::Onu | Slot::Alloc | Slot::Count | Slot::Eqd | Slot::Reason | Slot::Allocs =>
+                Slot::Behind,
             Slot::RangedOnu => Slot::Eqd,
             Slot::Refusal => Slot::Reason,
             Slot::UnitOnu => Slot::Phase,

@@ -72,7 +72,12 @@ fn rows() -> [Row; 7] {
             "[frame 1, 0.125 ms] 0 7 frame = ok sent ff03004142434400000001001b\n",
         ),
         // of a line that is open nothing is told
-        ("0 1 frame = ok\n0 2 frame = ok", Form::Words, false, "0 1 frame = ok\n"),
+        (
+            "0 1 frame = ok\n0 2 frame = ok",
+            Form::Words,
+            false,
+            "0 1 frame = ok\n",
+        ),
         // what is no line of a trace stays as it is
         (
             "error 3 word\n\nx sent ff03004142434400000001001b\n",
@@ -146,7 +151,12 @@ fn objects() -> [Row; 9] {
             "{\"port\":0,\"number\":11,\"event\":\"burst\",\"at\":100000,\"code\":\"0001414243440000000100006b\",\
              \"message\":\"Serial_Number_ONU 0 ABCD00000001 0 0\",\"reply\":\"ranged\",\"onu\":0,\"eqd\":211040}\n",
         ),
-        ("error 3 word\n", Form::Json, true, "{\"error\":\"word\",\"line\":3}\n"),
+        (
+            "error 3 word\n",
+            Form::Json,
+            true,
+            "{\"error\":\"word\",\"line\":3}\n",
+        ),
         // what no trace spells so
         (
             "0 07 frame = ok\nsay \"a\\b\"\t\n",
@@ -274,8 +284,12 @@ fn a_replay_in_words(rt: HostRuntime) -> Result<(), AllocError> {
     let trace = ONE_UNIT_TRACE.as_bytes();
     let telling = Telling::new(rt.alloc(), Mask::Plain, Form::Words, true);
     let writer = Vec::new(rt.alloc());
-    let (is_played, (ended, told_replay)) =
-        replayed::<Brand, Vec<u8>>(rt.alloc(), telling, script, writer)?;
+    let (is_played, (ended, told_replay)) = replayed::<Brand, Vec<u8>>(
+        rt.alloc(),
+        telling,
+        script,
+        writer,
+    )?;
     let telling = Telling::new(rt.alloc(), Mask::Plain, Form::Words, true);
     let (_, told_trace) = told(rt.alloc(), telling, trace, 1_000)?;
     assert!(rt; is_played && ended.is_ok());

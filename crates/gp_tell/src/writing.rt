@@ -30,11 +30,7 @@ fn part_len(bytes: &[u8]) -> usize
 }
 
 /// Hands on what was kept of a line, and then a part of it.
-fn pass_on<W: Write>(
-    below: &mut Sink<W>,
-    kept: &[u8],
-    part: &[u8],
-) -> Result<(), WriteStopped>
+fn pass_on<W: Write>(below: &mut Sink<W>, kept: &[u8], part: &[u8]) -> Result<(), WriteStopped>
     ensures { Gives below.old below.new (kept.now ++ part.now) result }
 {
     below.put(kept)?;

@@ -20,8 +20,7 @@ invariant_of-self-in-Err-Write g c =
 
 pub invariant_of-self-in-Err-OutOfMemory : goal.invariant_of-self-in-Err-OutOfMemory
 invariant_of-self-in-Err-OutOfMemory g c =
-    let none : c.self.inside.fault ≡ None = ap (λ s. s.fault) c.self.view_is ∙ c.requires in
-    (
+    let none : c.self.inside.fault ≡ None = ap (λ s. s.fault) c.self.view_is ∙ c.requires in (
       ends_unsaid _ _ _ _ _ _ _ _ _ _ _ none c.self.invariant.0 c.as_slice.ensures.value _ _ c.finish.result c.in-Err-OutOfMemory.field-0-is c.in-Err-OutOfMemory.ensures c.finish.ensures,
       c.self.invariant.1,
     )

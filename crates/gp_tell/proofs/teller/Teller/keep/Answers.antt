@@ -22,8 +22,7 @@ invariant_of-self-then-is_err g c =
     elim c.else-not-self.branch [
       | else-not-self-via-then-not-self+else-part-len w ↦ omega (arith, length-append c.self.inside.line.items c.args.part.now, w.if-part-len.false, w.len.ensures, c.self.inside.line.ok.0)
       | else-not-self-via-else-not-self w ↦ absurd (search rules)
-    ] in
-    (
+    ] in (
       loses_part _ _ _ _ _ _ _ _ c.args.part.now _ none c.self.invariant.0 c.requires.part c.note.ensures _ _ _ c.as_slice.ensures.value over (search rules) c.pass_on-passed.ensures,
       search rules,
     )
@@ -35,8 +34,7 @@ invariant_of-self-else-is_err g c =
     elim c.else-not-self.branch [
       | else-not-self-via-then-not-self+else-part-len w ↦ omega (arith, length-append c.self.inside.line.items c.args.part.now, w.if-part-len.false, w.len.ensures, c.self.inside.line.ok.0)
       | else-not-self-via-else-not-self w ↦ absurd (search rules)
-    ] in
-    (
+    ] in (
       passes_part _ _ _ _ _ _ _ _ c.args.part.now _ none c.self.invariant.0 c.requires.part c.note.ensures _ _ _ _ c.as_slice.ensures.value c.clear.ensures.items over (search rules) c.pass_on-passed.ensures,
       search rules,
     )
