@@ -1,3 +1,4 @@
 pub mod Turns
 pub mod Drive
 pub mod Outcome
+pub mod Runs

@@ -4,19 +4,22 @@
 //! - `driver.rt`: `Driver`, which answers one line after another on a player, as what serves lines.
 //!   `driven.rt`: how many lines there were.
 //! - `turn.rt`: plays what a line asks for.
-//! - `fault.rt`: why a line is answered by an error, and why a drive ends early.
+//! - `fault.rt`: why a line is answered by an error, and why a drive ends early. `laws.rt`: what every drive comes to.
 //!
 //! Where to make which change: which lines there are is `gp_lines`'; what is played of them stands in
-//! `specs/Turns.antt`, what is said to them in `specs/Drive.antt`, and how a drive may end in `specs/Outcome.antt`.
+//! `specs/Turns.antt`, what is said to them in `specs/Drive.antt`, and how a drive may end in `specs/Outcome.antt`; what it comes to, in
+//! `specs/Runs.antt`.
 #![tactic(auto)]
 
 mod driven;
 mod driver;
 mod driving;
 mod fault;
+mod laws;
 mod turn;
 
 pub use driven::Driven;
 pub use driver::{Driver, MOST_TURNS};
 pub use driving::run_drive;
 pub use fault::{DriveFault, TurnFault};
+pub use laws::drives_are_runs;

@@ -34,7 +34,7 @@ use Rattle.gp_replay.proofs.WorldRoomLemmas.{room_for_fewer as fewer_frames}
 
 -- ---- what happens
 
-all_append : {S : Type 0} (p : Playing S) (us vs : List ScriptEvent) → Joins (PlaysAll p us) (PlaysAll p vs) (PlaysAll p (us ++ vs))
+pub all_append : {S : Type 0} (p : Playing S) (us vs : List ScriptEvent) → Joins (PlaysAll p us) (PlaysAll p vs) (PlaysAll p (us ++ vs))
 all_append p [] vs a b c rs ss h k = subst (λ (l : List Receipt). PlaysAll p vs a (l ++ ss) c) (sym h.1) (subst (λ s. PlaysAll p vs s ss c) h.0 k)
 all_append p (u ∷ us) vs a b c rs ss h k = (
   h.0,
@@ -45,7 +45,7 @@ all_append p (u ∷ us) vs a b c rs ss h k = (
   ap (λ (l : List Receipt). l ++ ss) h.5 ∙ append_assoc h.1 h.2 ss,
 )
 
-all_one : {S : Type 0} (p : Playing S) (e : ScriptEvent) (a b : S) (rs : List Receipt) → p.whole e a rs b → PlaysAll p (e ∷ []) a rs b
+pub all_one : {S : Type 0} (p : Playing S) (e : ScriptEvent) (a b : S) (rs : List Receipt) → p.whole e a rs b → PlaysAll p (e ∷ []) a rs b
 all_one p e a b rs h = (b, rs, [], h, (refl, refl), sym (append-nil rs))
 
 -- one event more

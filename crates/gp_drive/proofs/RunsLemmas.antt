@@ -1,0 +1,160 @@
+-- What a whole drive comes to.
+use Rattle.std.proofs.Common.{◌≡◌, ◌<◌, ℕ, List, [], ◌∷◌, ◌++◌, Result, Ok, Err, Option, None, Some, length, replicate, refl, sym, ap, subst, ◌∙◌, append_assoc}
+use Rattle.std.proofs.lemmas.List.{append-nil}
+use Rattle.std.specs.List.{flat_map}
+use Rattle.gp_ploam.specs.declared.check.Mask.{Mask}
+use Rattle.gp_machine.specs.declared.config.PortConfig.{PortConfig}
+use Rattle.gp_machine.specs.declared.entry.Receipt.{Receipt}
+use Rattle.gp_script.specs.declared.script.ScriptEvent.{ScriptEvent}
+use Rattle.gp_script.specs.declared.script.ScriptEvent.TheVariants as events
+use Rattle.gp_script.specs.Lose.{LossesView}
+use Rattle.gp_script.specs.Script.{ScriptView}
+use Rattle.gp_trace.specs.Text.{trace_text}
+use Rattle.gp_lines.specs.declared.fault.LineFault.{LineFault}
+use Rattle.gp_lines.specs.declared.turn.Asked.{Asked}
+use Rattle.gp_lines.specs.declared.turn.Asked.TheVariants as asked
+use Rattle.gp_lines.specs.TurnReading.{turn_of}
+use Rattle.gp_flow.specs.Lines.{DoesAll}
+use Rattle.gp_replay.specs.Chassis.{PlayState, opening_play}
+use Rattle.gp_replay.specs.Laws.{EachPortRuns}
+use Rattle.gp_replay.specs.Playing.{LossyPlay, Playing, PlaysAll, chassis_playing, fibre_playing}
+use Rattle.gp_replay.specs.WorldPlay.{WorldTakesAll}
+use Rattle.gp_replay.specs.WorldWriting.{Numbered}
+use Rattle.gp_replay.proofs.PlayingLemmas.{all_append, all_one, chassis_all, fibre_all}
+use Rattle.gp_replay.proofs.ScriptPlayLemmas.{chassis_stands}
+use Rattle.gp_replay.proofs.WorldPlayLemmas.{world_stands}
+use Rattle.gp_drive.specs.declared.fault.TurnFault.{TurnFault}
+use Rattle.gp_drive.specs.Drive.{AnswersAsked, AnswersTurn, DriveState, Plays, Refuses, Says, begun, driving}
+use Rattle.gp_drive.specs.Outcome.{OpensFibre}
+use Rattle.gp_drive.specs.Runs.{ChassisDrivesRun, ComesTo, FibreDrivesRun, LineAnswer, Entries, ErrorLine, answer_text, answers_text, entries_in, entries_of, followed_by}
+use Rattle.gp_drive.specs.Turns.{FramesPlayed, Made, NotMade, PlaysTurn, PlaysUntil, all_of, event_of}
+use Rattle.gp_lines.specs.Turn.{most_frames}
+use Rattle.gp_ranging.specs.declared.grant.Grant.{Grant}
+
+-- ---- what a line asks for, as events
+
+-- some events are played
+record SomePlay {S : Type 0} (playing : Playing S) (old : S) (receipts : List Receipt) (new : S) : Type 0 where
+  more : List ScriptEvent
+  played : PlaysAll playing more old receipts new
+
+frames_play : {S : Type 0} (playing : Playing S) (port : ℕ) (old new : S) (frames : List (List Receipt)) → FramesPlayed playing port old frames new
+    → SomePlay playing old (all_of frames) new
+frames_play playing port old new [] same = record { more = []; played = (same, refl) }
+frames_play playing port old new (first ∷ frames) h =
+    let rest = frames_play playing port h.0 new frames h.2 in
+    record { more = events.Frames port 1 ∷ rest.more; played = (h.0, first, all_of frames, h.1, rest.played, refl) }
+
+until_plays : {S : Type 0} (playing : Playing S) (port : ℕ) (grant : Grant) (old new : S) (receipts : List Receipt)
+    → PlaysUntil playing port grant most_frames old receipts new → SomePlay playing old receipts new
+until_plays playing port grant old new receipts (Made before last played never made few is) =
+    subst (λ (l : List Receipt). SomePlay playing old l new) (sym is) (frames_play playing port old new (before ++ last ∷ []) played)
+until_plays playing port grant old new receipts (NotMade frames played never count is) =
+    subst (λ (l : List Receipt). SomePlay playing old l new) (sym is) (frames_play playing port old new frames played)
+
+one_plays : {S : Type 0} (playing : Playing S) (event : ScriptEvent) (old new : S) (receipts : List Receipt) → playing.whole event old receipts new
+    → SomePlay playing old receipts new
+one_plays playing event old new receipts h = record { more = event ∷ []; played = all_one playing event old new receipts h }
+
+turn_plays : {S : Type 0} (playing : Playing S) (turn : Asked) (old new : S) (receipts : List Receipt) → PlaysTurn playing turn old receipts new
+    → SomePlay playing old receipts new
+turn_plays playing asked.Nothing old new receipts h = record { more = []; played = h }
+turn_plays playing (asked.Event port event) old new receipts h = one_plays playing (event_of port event) old new receipts h
+turn_plays playing (asked.Frames port count) old new receipts h = one_plays playing (events.Frames port count) old new receipts h
+turn_plays playing (asked.Until port grant) old new receipts h = until_plays playing port grant old new receipts h
+turn_plays playing (asked.Light unit lit) old new receipts h = one_plays playing (events.Light unit lit) old new receipts h
+
+-- ---- the answer to a line
+
+-- the answer is of entries that some events make, or an error that changes nothing of the player
+record IsAnswered {S : Type 0} (playing : Playing S) (old : DriveState S) (said : List ℕ) (new : DriveState S) : Type 0 where
+  answer : LineAnswer
+  said_is : said ≡ answer_text old.mask answer
+  mask : new.mask ≡ old.mask
+  plays : SomePlay playing old.player (entries_in answer) new.player
+
+refused : {S : Type 0} (playing : Playing S) (fault : TurnFault) (old : DriveState S) (said : List ℕ) (new : DriveState S) → Refuses fault old said new
+    → IsAnswered playing old said new
+refused playing fault old said new h = record {
+  answer = ErrorLine said;
+  said_is = refl;
+  mask = ap (λ (d : DriveState _). d.mask) h.new_is;
+  plays = record { more = []; played = (ap (λ (d : DriveState _). d.player) h.new_is, refl) };
+}
+
+played : {S : Type 0} (playing : Playing S) (turn : Asked) (old : DriveState S) (said : List ℕ) (new : DriveState S) → Plays playing turn old said new
+    → IsAnswered playing old said new
+played playing turn old said new h = record {
+  answer = Entries h.receipts;
+  said_is = h.said_is;
+  mask = h.mask;
+  plays = turn_plays playing turn old.player new.player h.receipts h.played;
+}
+
+asked_answered : {S : Type 0} (playing : Playing S) (turn : Asked) (missing : Option TurnFault) (old : DriveState S) (said : List ℕ) (new : DriveState S)
+    → AnswersAsked playing turn missing old said new → IsAnswered playing old said new
+asked_answered playing turn (Some fault) old said new h = refused playing fault old said new h
+asked_answered playing turn None old said new h = played playing turn old said new h
+
+turn_answered : {S : Type 0} (playing : Playing S) (read : Result Asked LineFault) (old : DriveState S) (said : List ℕ) (new : DriveState S)
+    → AnswersTurn playing read old said new → IsAnswered playing old said new
+turn_answered playing (Err fault) old said new h = refused playing _ old said new h
+turn_answered playing (Ok turn) old said new h = asked_answered playing turn _ old said new h
+
+line_answered : {S : Type 0} (playing : Playing S) (line : Option (List ℕ)) (old : DriveState S) (said : List ℕ) (new : DriveState S)
+    → Says playing old line said new → IsAnswered playing old said new
+line_answered playing None old said new h = refused playing _ old said new h
+line_answered playing (Some text) old said new h = turn_answered playing (turn_of text) old said new h
+
+-- ---- the answers to lines
+
+record AreAnswered {S : Type 0} (playing : Playing S) (old : DriveState S) (said : List ℕ) (new : DriveState S) : Type 0 where
+  answers : List LineAnswer
+  said_is : said ≡ answers_text old.mask answers
+  plays : SomePlay playing old.player (entries_of answers) new.player
+
+lines_answered : {S : Type 0} (playing : Playing S) (lines : List (Option (List ℕ))) (old : DriveState S) (said : List ℕ) (new : DriveState S)
+    → DoesAll (driving playing) old lines said new → AreAnswered playing old said new
+lines_answered playing [] old said new h = record {
+  answers = [];
+  said_is = h.0;
+  plays = record { more = []; played = (ap (λ (d : DriveState _). d.player) h.1, refl) };
+}
+lines_answered playing (line ∷ lines) old said new h =
+    let one = line_answered playing line old h.0 h.2 h.3 in
+    let rest = lines_answered playing lines h.2 h.1 new h.4 in
+    let others : h.1 ≡ answers_text old.mask rest.answers = rest.said_is ∙ ap (λ (m : Mask). answers_text m rest.answers) one.mask in
+    record {
+      answers = one.answer ∷ rest.answers;
+      said_is = h.5 ∙ ap (λ (l : List ℕ). l ++ h.1) one.said_is ∙ ap (λ (l : List ℕ). answer_text old.mask one.answer ++ l) others;
+      plays = record {
+        more = one.plays.more ++ rest.plays.more;
+        played = all_append playing one.plays.more rest.plays.more old.player h.2.player new.player (entries_in one.answer) (entries_of rest.answers)
+            one.plays.played rest.plays.played;
+      };
+    }
+
+-- ---- whole drives
+
+pub chassis_drives : EachPortRuns → ChassisDrivesRun
+chassis_drives runs script receipts mid lines said end none opened spoken =
+    let lines = lines_answered chassis_playing lines (begun mid script.mask) said end spoken in
+    let more = lines.plays.more in
+    let whole = followed_by script more in
+    let all = receipts ++ entries_of lines.answers in
+    let took = chassis_all whole.events (opening_play script) end.player all
+        (all_append chassis_playing script.events more (opening_play script) mid end.player receipts (entries_of lines.answers) opened lines.plays.played) in
+    let stands = (chassis_stands runs whole none).all all end.player took in
+    record { more = more; answers = lines.answers; said_is = lines.said_is; plays = stands.0; runs = stands.1 }
+
+pub fibre_drives : FibreDrivesRun
+fibre_drives script start receipts mid lines said end some opens opened spoken =
+    let lines = lines_answered fibre_playing lines (begun mid script.mask) said end spoken in
+    let more = lines.plays.more in
+    let whole = followed_by script more in
+    let all = receipts ++ entries_of lines.answers in
+    let took = fibre_all whole.events start end.player all
+        (all_append fibre_playing script.events more start mid end.player receipts (entries_of lines.answers) opened lines.plays.played) in
+    let numbered = subst (λ (l : LossesView). Numbered (WorldTakesAll l whole.events) start.play all end.player.play) opens.losses took.happened in
+    let stands = (world_stands whole opens.config start.play some opens.one_port opens.world opens.next).all all end.player.play numbered in
+    record { more = more; answers = lines.answers; said_is = lines.said_is; plays = stands.0; runs = stands.1 }
