@@ -82,12 +82,16 @@ pub record AllNames : Type 0 where
 abbrev pub AreAllMasks : AllNames → Type 0
 AreAllMasks names = AreMasks names.explain × AreMasks names.decode × AreMasks names.encode
 
--- the program as far as it is about scripts: one of its commands has to be named; with no words at all the help is
--- shown
+-- the program as far as it is about scripts: one of its commands has to be named, or `--version`; with no words at all
+-- the help is shown
 abbrev pub script_commands : App
 script_commands =
     with_subcommand
-    (with_subcommand (on_top (λ s. record s { subcommand_required = true; arg_required_else_help = true })
+    (with_subcommand (on_top (λ s. record s {
+      has_version = true;
+      subcommand_required = true;
+      arg_required_else_help = true;
+    })
     (new_app (codes "oltctl"))) replay_command.top) storm_command.top
 
 -- the program as far as it is about scripts and lines that ask for something
@@ -122,3 +126,8 @@ pub record IsFaultOf (words : List Text) (kind : ErrorKind) : Type 0 where
 abbrev pub mask_named : Option Text → Mask
 mask_named None = Plain
 mask_named (Some name) = if bytes_eq name (codes "85") then Coset else Plain
+
+-- the file that a name stands for: `-` stands for standard input, as no name does
+abbrev pub file_named : Option Text → Option Text
+file_named None = None
+file_named (Some name) = if bytes_eq name (codes "-") then None else Some name

@@ -2,7 +2,7 @@
 use Rattle.std.specs.Prelude.{◌≡◌, ◌≢◌, List, [], ◌∷◌, Bool, true, false, Option, None, Some, map, option_map, codes}
 use Rattle.std.specs.Borrow.{Bor}
 use Rattle.clap.specs.Words.{Row, Text, all_of, first_of, one_of}
-use Rattle.oltctl.specs.CommandLine.{mask_named}
+use Rattle.oltctl.specs.CommandLine.{file_named, mask_named}
 use Rattle.oltctl.specs.declared.request.Request.{Request}
 use Rattle.oltctl.specs.declared.request.Request.TheVariants.{Replay, Drive, Storm, Verify, Decode, DecodeLines, Encode, Explain}
 
@@ -16,9 +16,13 @@ pub record IsFlag (rows : List Row) (id : Text) (is_given : Bool) : Type 0 where
 abbrev pub texts : Bor (List (Bor Text)) → List Text
 texts words = map (λ word. word.now) words.now
 
+-- the name of a file, as clap holds it
+abbrev pub name_in : Option (Bor Text) → Option Text
+name_in file = option_map (λ name. name.now) file
+
 -- the rows of `replay` ask to play FILE, or standard input where it is left out
 abbrev pub AsksToReplay : List Row → Request → Type 0
-AsksToReplay rows (Replay file) = option_map (λ name. name.now) file ≡ first_of (codes "file") rows
+AsksToReplay rows (Replay file) = name_in file ≡ file_named (first_of (codes "file") rows)
 AsksToReplay rows _ = ⊥
 
 -- the rows of `drive` ask to drive the script of FILE
@@ -28,14 +32,13 @@ AsksToDrive rows _ = ⊥
 
 -- the rows of `storm` ask for the storm of FILE, or of standard input where it is left out
 abbrev pub AsksToStorm : List Row → Request → Type 0
-AsksToStorm rows (Storm file) = option_map (λ name. name.now) file ≡ first_of (codes "file") rows
+AsksToStorm rows (Storm file) = name_in file ≡ file_named (first_of (codes "file") rows)
 AsksToStorm rows _ = ⊥
 
 -- the rows of `verify` ask to verify TRACE, or standard input where it is left out, against the script of FILE
 abbrev pub AsksToVerify : List Row → Request → Type 0
 AsksToVerify rows (Verify script trace) =
-    (first_of (codes "script") rows ≡ Some script.now)
-    × (option_map (λ name. name.now) trace ≡ first_of (codes "trace") rows)
+    (first_of (codes "script") rows ≡ Some script.now) × (name_in trace ≡ file_named (first_of (codes "trace") rows))
 AsksToVerify rows _ = ⊥
 
 -- the rows of `decode` ask for the words of one HEX, or of each of several or of standard input, as upstream messages
@@ -59,7 +62,7 @@ AsksToEncode rows _ = ⊥
 -- the rows of `explain` ask for TRACE in words, or for standard input where it is left out, under the mask of `--mask`
 abbrev pub AsksToExplain : List Row → Request → Type 0
 AsksToExplain rows (Explain trace mask) =
-    (option_map (λ name. name.now) trace ≡ first_of (codes "trace") rows)
+    (name_in trace ≡ file_named (first_of (codes "trace") rows))
     × (mask ≡ mask_named (first_of (codes "mask") rows))
 AsksToExplain rows _ = ⊥
 

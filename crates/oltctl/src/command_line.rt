@@ -5,6 +5,10 @@ ghost use Rattle.clap.specs.declared.builder.command.Command.TheViews.{out-Comma
 ghost use Rattle.oltctl.specs.CommandLine.{AllNames, AreAllMasks, AreMasks, IsFaultOf, IsParseOf, MaskNames, code_rule, decode_command, drive_command, encode_command, explain_command, file_rule, line_commands, mask_rule, oltctl_command, replay_command, script_commands, script_rule, storm_command, trace_commands, trace_rule, up_rule, verify_command, words_rule};
 ghost use Rattle.std.specs.String.{string_bytes};
 
+use crate::help::{
+    ABOUT_HELP, DECODE_HELP, DRIVE_HELP, ENCODE_HELP, EXPLAIN_HELP, REPLAY_HELP, STORM_HELP,
+    VERIFY_HELP,
+};
 use clap::error::ErrorKind;
 use clap::{Arg, ArgAction, ArgMatches, Command, Error};
 use std::alloc::{AllocError, Global};
@@ -12,66 +16,8 @@ use std::alloc::{AllocError, Global};
 /// The masks that a code may be read with.
 static MASKS: [&str; 2] = ["0", "85"];
 
-/// What stands at the end of the help of `drive`.
-const DRIVE_HELP: &str = "\
-Lines:
-  PORT EVENT          once, as a trace tells it: 0 search, 0 show ABCD00000001
-  PORT frame COUNT    so many frames, 1 to 1000000
-  PORT until GRANT    frames up to this grant: search, range ONU-ID, poll ONU-ID
-  unit I light        the light of a simulated unit comes; dark: it goes
-  # ..                a remark; empty lines too are passed over
-
-A line that is no turn is answered by: error LINE KIND
-
-Examples:
-  oltctl drive script.toml
-  printf '0 search\\n0 frame 4\\n' | oltctl drive script.toml
-
-Exit status:
-  0  all lines were answered by their entries
-  1  a line was no turn, or the script is wrong, or the input was not read
-  2  the command line is wrong
-  3  out of memory
-  4  the output takes no more";
-
-/// What stands at the end of the help of `explain`.
-const EXPLAIN_HELP: &str = "\
-Examples:
-  oltctl explain trace.txt
-  oltctl replay script.toml | oltctl explain -
-
-Exit status:
-  0  all lines were told
-  1  a line is none of a trace, or the trace was not read
-  2  the command line is wrong
-  3  out of memory
-  4  the output takes no more";
-
-/// What stands at the end of the help of `decode`.
-const DECODE_HELP: &str = "\
-Examples:
-  oltctl decode ff03004142434400000001001b
-  oltctl decode --up - < codes.txt
-
-Exit status, that of the first fault:
-  0  all codes were told
-  1  a code is wrong, or the input was not read
-  2  the command line is wrong
-  3  out of memory
-  4  the output takes no more";
-
-/// What stands at the end of the help of `encode`.
-const ENCODE_HELP: &str = "\
-Examples:
-  oltctl encode Assign_ONU-ID 0 ABCD00000001
-  oltctl encode --up --mask 85 Acknowledge 0 10
-
-Exit status:
-  0  the code was written
-  1  the words have no code
-  2  the command line is wrong
-  3  out of memory
-  4  the output takes no more";
+/// The version of the program, and of all crates of this repository.
+pub const VERSION: &str = "1.0.0";
 
 fn file<'a>(alloc: Global) -> Arg<'a>
     ensures rule { rule_of result ≡ file_rule }
@@ -79,7 +25,7 @@ fn file<'a>(alloc: Global) -> Arg<'a>
 {
     Arg::new(alloc, "file")
         .value_name("FILE")
-        .help("The script; standard input if left out")
+        .help("The script; standard input if left out, or for -")
 }
 
 fn replay<'a>(alloc: Global) -> Result<Command<'a>, AllocError>
@@ -88,6 +34,7 @@ fn replay<'a>(alloc: Global) -> Result<Command<'a>, AllocError>
 {
     Command::new(alloc, "replay")
         .about("Plays a script and writes its trace, one line for each entry")
+        .after_help(REPLAY_HELP)
         .arg(file(alloc))
 }
 
@@ -121,6 +68,7 @@ fn storm<'a>(alloc: Global) -> Result<Command<'a>, AllocError>
         .about(
             "Runs a script's bursts, frames and commands at once, by threads, and writes the totals",
         )
+        .after_help(STORM_HELP)
         .arg(file(alloc))
 }
 
@@ -140,7 +88,7 @@ fn trace<'a>(alloc: Global) -> Arg<'a>
 {
     Arg::new(alloc, "trace")
         .value_name("TRACE")
-        .help("The trace; standard input if left out")
+        .help("The trace; standard input if left out, or for -")
 }
 
 fn verify<'a>(alloc: Global) -> Result<Command<'a>, AllocError>
@@ -149,6 +97,7 @@ fn verify<'a>(alloc: Global) -> Result<Command<'a>, AllocError>
 {
     Command::new(alloc, "verify")
         .about("Tells whether a trace is one that a correct line terminal could have written")
+        .after_help(VERIFY_HELP)
         .arg(script(alloc))?
         .arg(trace(alloc))
 }
@@ -239,6 +188,8 @@ fn of_scripts<'a>(alloc: Global) -> Result<Command<'a>, AllocError>
 {
     Command::new(alloc, "oltctl")
         .about("The activation side of a GPON line terminal (ITU-T G.984.3)")
+        .after_help(ABOUT_HELP)
+        .version(VERSION)
         .subcommand_required(true)
         .arg_required_else_help(true)
         .subcommand(replay(alloc)?)?

@@ -16,6 +16,7 @@ ghost use Rattle.gp_report.specs.Report.{verify_status};
 ghost use Rattle.oltctl.specs.Statuses.{IsArgumentsReport, IsEncoded, IsRun, IsServed, IsStatusOf, IsVerifyStatus, drive_status, end_status, greatest_status, lines_status, told_status};
 
 mod command_line;
+mod help;
 mod joined;
 mod request;
 
@@ -335,7 +336,7 @@ fn explain<R: AllocGlobal + Files + Print + Input>(
     mask: Mask,
 ) -> Result<u64, ExplainFault> {
     match trace {
-        None | Some("-") => explain_from(rt, rt.reader(), mask),
+        None => explain_from(rt, rt.reader(), mask),
         Some(path) => match std::fs::open(rt, path) {
             Ok(trace) => explain_from(rt, trace, mask),
             Err(_) => Err(ExplainFault::Lines(LinesFault::Read)),

@@ -1,8 +1,8 @@
 //! What a command line asks for.
 ghost use Rattle.std.specs.Prelude.{◌≡◌, ◌∷◌, [], IfSome, IfNone, Some, None, codes, option_map};
 ghost use Rattle.clap.specs.Words.{all_of, first_of, found_of, rows_of, subcommand_rows_of};
-ghost use Rattle.oltctl.specs.CommandLine.{mask_named};
-ghost use Rattle.oltctl.specs.Requests.{Asks, AsksNothing, AsksToDecode, AsksToDrive, AsksToEncode, AsksToExplain, AsksToReplay, AsksToStorm, AsksToVerify, texts};
+ghost use Rattle.oltctl.specs.CommandLine.{file_named, mask_named};
+ghost use Rattle.oltctl.specs.Requests.{Asks, AsksNothing, AsksToDecode, AsksToDrive, AsksToEncode, AsksToExplain, AsksToReplay, AsksToStorm, AsksToVerify, name_in, texts};
 
 use clap::ArgMatches;
 use gp_ploam::Mask;
@@ -71,12 +71,22 @@ pub fn request_of<'m, 'a>(matches: &'m ArgMatches<'a>) -> Option<Request<'m, 'a>
     }
 }
 
+/// Gives the name of a file; None where there is none, and for `-`, which stands for standard input.
+fn file_of<'a>(name: Option<&'a str>) -> Option<&'a str>
+    ensures { name_in result ≡ file_named (name_in name.entry) }
+{
+    match name {
+        Some("-") => None,
+        other => other,
+    }
+}
+
 #[tactic(auto, using(crate::proofs::Rows::value_by_rows))]
 fn replay_of<'m, 'a>(found: &'m ArgMatches<'a>) -> Request<'m, 'a>
     ensures { AsksToReplay (rows_of (found_of found.now)) result }
 {
     Request::Replay {
-        file: found.get_str("file"),
+        file: file_of(found.get_str("file")),
     }
 }
 
@@ -95,7 +105,7 @@ fn storm_of<'m, 'a>(found: &'m ArgMatches<'a>) -> Request<'m, 'a>
     ensures { AsksToStorm (rows_of (found_of found.now)) result }
 {
     Request::Storm {
-        file: found.get_str("file"),
+        file: file_of(found.get_str("file")),
     }
 }
 
@@ -106,7 +116,7 @@ fn verify_of<'m, 'a>(found: &'m ArgMatches<'a>) -> Option<Request<'m, 'a>>
 {
     Some(Request::Verify {
         script: found.get_str("script")?,
-        trace: found.get_str("trace"),
+        trace: file_of(found.get_str("trace")),
     })
 }
 
@@ -158,7 +168,7 @@ fn explain_of<'m, 'a>(found: &'m ArgMatches<'a>) -> Request<'m, 'a>
     ensures { AsksToExplain (rows_of (found_of found.now)) result }
 {
     Request::Explain {
-        trace: found.get_str("trace"),
+        trace: file_of(found.get_str("trace")),
         mask: mask_of(found.get_str("mask")),
     }
 }
