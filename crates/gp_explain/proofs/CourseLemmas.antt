@@ -1,10 +1,10 @@
 -- Where the lines of a trace lead.
 use Rattle.std.proofs.Common.{◌≡◌, ℕ, ◌+◌, List, [], ◌∷◌, ◌++◌, Option, None, Some, length, map, refl, sym, ap, subst, ◌∙◌, arith, inl, inr}
 use Rattle.gp_flow.specs.Lines.{DoesAll}
-use Rattle.gp_ploam.specs.declared.check.Mask.{Mask}
 use Rattle.gp_explain.specs.declared.fault.NoLine.{NoLine}
 use Rattle.gp_explain.specs.declared.fault.NoLine.TheVariants.{NotALine, TooLong}
-use Rattle.gp_explain.specs.Words.{IsTraceLine, TellsLine}
+use Rattle.gp_explain.specs.Words.{IsTraceLine}
+use Rattle.gp_explain.specs.Telling.{Manner, TellsTraceLine}
 use Rattle.gp_explain.specs.Explaining.{ExplainState, Explaining, Explains, SaysFrom, SaysToText, ended_by}
 use Rattle.gp_explain.specs.Outcome.{AreTold}
 
@@ -13,10 +13,10 @@ abbrev pub wholes : List (List ℕ) → List (Option (List ℕ))
 wholes texts = map (λ (text : List ℕ). let line : Option (List ℕ) = Some text in line) texts
 
 -- all of them are told
-pub record Runs (mask : Mask) (all : List (Option (List ℕ))) (said : List ℕ) (from to : ℕ) : Type 0 where
+pub record Runs (manner : Manner) (all : List (Option (List ℕ))) (said : List ℕ) (from to : ℕ) : Type 0 where
   pub texts : List (List ℕ)
   pub all_is : all ≡ wholes texts
-  pub told : AreTold mask texts said
+  pub told : AreTold manner texts said
   pub lines : to ≡ from + length texts
 
 -- why a line ends it
@@ -25,18 +25,18 @@ Fails why None = why ≡ TooLong
 Fails why (Some text) = (why ≡ NotALine) × (IsTraceLine text → ⊥)
 
 -- one of them ends it
-pub record Halts (why : NoLine) (mask : Mask) (all : List (Option (List ℕ))) (said : List ℕ) (from to : ℕ) : Type 0 where
+pub record Halts (why : NoLine) (manner : Manner) (all : List (Option (List ℕ))) (said : List ℕ) (from to : ℕ) : Type 0 where
   pub before : List (List ℕ)
   pub line : Option (List ℕ)
   pub rest : List (Option (List ℕ))
   pub all_is : all ≡ wholes before ++ line ∷ rest
-  pub told : AreTold mask before said
+  pub told : AreTold manner before said
   pub lines : to ≡ from + (length before + 1)
   pub fails : Fails why line
 
-abbrev pub Course : Option NoLine → Mask → List (Option (List ℕ)) → List ℕ → ℕ → ℕ → Type 0
-Course None mask all said from to = Runs mask all said from to
-Course (Some why) mask all said from to = Halts why mask all said from to
+abbrev pub Course : Option NoLine → Manner → List (Option (List ℕ)) → List ℕ → ℕ → ℕ → Type 0
+Course None manner all said from to = Runs manner all said from to
+Course (Some why) manner all said from to = Halts why manner all said from to
 
 -- once it has ended nothing is said, and it stays as it is
 stuck : (ls : List (Option (List ℕ))) (state new : ExplainState) (said : List ℕ) (why : NoLine) → state.ended ≡ Some why → DoesAll Explaining state ls said new
@@ -49,31 +49,31 @@ stuck (line ∷ ls) state new said why is h =
 
 halted : (line : Option (List ℕ)) (ls : List (Option (List ℕ))) (state next new : ExplainState) (said first rest : List ℕ) (why : NoLine)
     → first ≡ [] → next ≡ ended_by why state → Fails why line → said ≡ first ++ rest → DoesAll Explaining next ls rest new
-    → Course new.ended state.mask (line ∷ ls) said state.lines new.lines
+    → Course new.ended state.manner (line ∷ ls) said state.lines new.lines
 halted line ls state next new said first rest why nothing is fails parts h =
     let ended : next.ended ≡ Some why = ap (λ (s : ExplainState). s.ended) is in
     let end = stuck ls next new rest why ended h in
     let silent : said ≡ [] = parts ∙ ap (λ (l : List ℕ). l ++ rest) nothing ∙ end.0 in
     let many : new.lines ≡ state.lines + 1 = ap (λ (s : ExplainState). s.lines) end.1 ∙ ap (λ (s : ExplainState). s.lines) is in
-    let there : Course (Some why) state.mask (line ∷ ls) said state.lines new.lines =
+    let there : Course (Some why) state.manner (line ∷ ls) said state.lines new.lines =
     record { before = []; line = line; rest = ls; all_is = refl; told = silent; lines = many; fails = fails } in
-    subst (λ (e : Option NoLine). Course e state.mask (line ∷ ls) said state.lines new.lines) (sym (ap (λ (s : ExplainState). s.ended) end.1 ∙ ended)) there
+    subst (λ (e : Option NoLine). Course e state.manner (line ∷ ls) said state.lines new.lines) (sym (ap (λ (s : ExplainState). s.ended) end.1 ∙ ended)) there
 
 -- one line more at the head
-onto : (ended : Option NoLine) (mask : Mask) (text : List ℕ) (ls : List (Option (List ℕ))) (said first rest : List ℕ) (from to : ℕ) → IsTraceLine text
-    → TellsLine mask text first → said ≡ first ++ rest → Course ended mask ls rest (from + 1) to → Course ended mask (Some text ∷ ls) said from to
-onto None mask text ls said first rest from to is tells parts c = record {
+onto : (ended : Option NoLine) (manner next : Manner) (text : List ℕ) (ls : List (Option (List ℕ))) (said first rest : List ℕ) (from to : ℕ)
+    → TellsTraceLine manner text first next → said ≡ first ++ rest → Course ended next ls rest (from + 1) to → Course ended manner (Some text ∷ ls) said from to
+onto None manner next text ls said first rest from to tells parts c = record {
   texts = text ∷ c.texts;
   all_is = ap (λ (l : List (Option (List ℕ))). Some text ∷ l) c.all_is;
-  told = (first, rest, is, tells, c.told, parts);
+  told = (first, rest, next, tells, c.told, parts);
   lines = let many = c.lines in omega (arith, many);
 }
-onto (Some why) mask text ls said first rest from to is tells parts c = record {
+onto (Some why) manner next text ls said first rest from to tells parts c = record {
   before = text ∷ c.before;
   line = c.line;
   rest = c.rest;
   all_is = ap (λ (l : List (Option (List ℕ))). Some text ∷ l) c.all_is;
-  told = (first, rest, is, tells, c.told, parts);
+  told = (first, rest, next, tells, c.told, parts);
   lines = let many = c.lines in omega (arith, many);
   fails = c.fails;
 }
@@ -83,22 +83,22 @@ none_done n = omega arith
 
 text_course : (text : List ℕ) (ls : List (Option (List ℕ))) (old next new : ExplainState) (said first rest : List ℕ) → old.ended ≡ None
     → SaysToText old text first next → said ≡ first ++ rest → DoesAll Explaining next ls rest new
-    → (next.ended ≡ None → Course new.ended next.mask ls rest next.lines new.lines) → Course new.ended old.mask (Some text ∷ ls) said old.lines new.lines
+    → (next.ended ≡ None → Course new.ended next.manner ls rest next.lines new.lines) → Course new.ended old.manner (Some text ∷ ls) said old.lines new.lines
 text_course text ls old next new said first rest none (inl told) parts h more =
     let is = told.2 in
-    let before : Course new.ended next.mask ls rest next.lines new.lines = more (ap (λ (s : ExplainState). s.ended) is ∙ none) in
-    let there : Course new.ended old.mask ls rest (old.lines + 1) new.lines =
-    subst (λ (s : ExplainState). Course new.ended s.mask ls rest s.lines new.lines) is before in
-    onto new.ended old.mask text ls said first rest old.lines new.lines told.0 told.1 parts there
+    let before : Course new.ended next.manner ls rest next.lines new.lines = more (ap (λ (s : ExplainState). s.ended) is ∙ none) in
+    let there : Course new.ended told.0 ls rest (old.lines + 1) new.lines =
+    subst (λ (s : ExplainState). Course new.ended s.manner ls rest s.lines new.lines) is before in
+    onto new.ended old.manner told.0 text ls said first rest old.lines new.lines told.1 parts there
 text_course text ls old next new said first rest none (inr none_of) parts h more =
     halted (Some text) ls old next new said first rest NotALine none_of.1 none_of.2 (refl, none_of.0) parts h
 
 pub course : (ls : List (Option (List ℕ))) (old new : ExplainState) (said : List ℕ) → old.ended ≡ None → DoesAll Explaining old ls said new
-    → Course new.ended old.mask ls said old.lines new.lines
+    → Course new.ended old.manner ls said old.lines new.lines
 course [] old new said none h =
-    let there : Course None old.mask [] said old.lines old.lines = record { texts = []; all_is = refl; told = h.0; lines = none_done old.lines } in
-    let here : Course old.ended old.mask [] said old.lines old.lines = subst (λ (e : Option NoLine). Course e old.mask [] said old.lines old.lines) (sym none) there in
-    subst (λ (s : ExplainState). Course s.ended old.mask [] said old.lines s.lines) (sym h.1) here
+    let there : Course None old.manner [] said old.lines old.lines = record { texts = []; all_is = refl; told = h.0; lines = none_done old.lines } in
+    let here : Course old.ended old.manner [] said old.lines old.lines = subst (λ (e : Option NoLine). Course e old.manner [] said old.lines old.lines) (sym none) there in
+    subst (λ (s : ExplainState). Course s.ended old.manner [] said old.lines s.lines) (sym h.1) here
 course (None ∷ ls) old new said none h =
     let long : SaysFrom None old None h.0 h.2 = subst (λ (e : Option NoLine). SaysFrom e old None h.0 h.2) none h.3 in
     halted None ls old h.2 new said h.0 h.1 TooLong long.0 long.1 refl h.5 h.4

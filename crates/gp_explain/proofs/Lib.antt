@@ -1,4 +1,5 @@
 pub mod PartsLemmas
 pub mod ServingLemmas
+pub mod TellingLemmas
 pub mod CourseLemmas
 pub mod OutcomeLemmas

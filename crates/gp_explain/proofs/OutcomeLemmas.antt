@@ -13,11 +13,11 @@ use Rattle.gp_flow.specs.Lines.{DoesAll, Serves, ServesTo, ended_lines, handed, 
 use Rattle.gp_flow.proofs.LineLemmas.{ended_first, handed_none, handed_whole}
 use Rattle.gp_stream.specs.Sink.{SinkState, KeepsNothing}
 use Rattle.gp_stream.specs.Source.{SourceState, ReadsWhole}
-use Rattle.gp_ploam.specs.declared.check.Mask.{Mask}
 use Rattle.gp_explain.specs.declared.fault.ExplainFault.{ExplainFault}
 use Rattle.gp_explain.specs.declared.fault.ExplainFault.TheVariants.{Lines}
 use Rattle.gp_explain.specs.declared.fault.NoLine.{NoLine}
 use Rattle.gp_explain.specs.Words.{IsTraceLine}
+use Rattle.gp_explain.specs.Telling.{Manner}
 use Rattle.gp_flow.proofs.AnswerLemmas.{all_of_some}
 use Rattle.gp_explain.specs.Explaining.{ExplainState, Explaining, Explains, has_ended, opened_explain}
 use Rattle.gp_explain.specs.Outcome.{AreTold, ExplainsTrace, IsBegun, IsNone, IsRefused, finding, longest_line}
@@ -86,14 +86,14 @@ none_of why (Some text) raw is fails =
 
 -- ---- how it ends
 
-started : (mask : Mask) (new : ExplainState) (ls : List (Option (List ℕ))) (said : List ℕ) → DoesAll Explaining (opened_explain mask) ls said new
-    → Course new.ended mask ls said 0 new.lines
-started mask new ls said h = course ls (opened_explain mask) new said refl h
+started : (manner : Manner) (new : ExplainState) (ls : List (Option (List ℕ))) (said : List ℕ) → DoesAll Explaining (opened_explain manner) ls said new
+    → Course new.ended manner ls said 0 new.lines
+started manner new ls said h = course ls (opened_explain manner) new said refl h
 
-module _ {R W : Type 0} (mask : Mask) (from to : SourceState R) (before after : SinkState W) where
+module _ {R W : Type 0} (manner : Manner) (from to : SourceState R) (before after : SinkState W) where
   refused_found : (why : NoLine) (bytes : List ℕ) (ls others : List (List ℕ)) (said : List ℕ) (lines : ℕ) → Consumes from.remaining to.remaining bytes
       → lines_of bytes ≡ ls ++ others → Appends before.held after.held (before.gathered ++ said) → KeepsNothing after
-      → Halts why mask (map (handed longest_line) ls) said 0 lines → IsRefused mask from to before after lines why
+      → Halts why manner (map (handed longest_line) ls) said 0 lines → IsRefused manner from to before after lines why
   refused_found why bytes ls others said lines came is written kept halts =
       let p = parted longest_line ls halts.before halts.line halts.rest halts.all_is in
       let many = halts.lines in
@@ -113,7 +113,7 @@ module _ {R W : Type 0} (mask : Mask) (from to : SourceState R) (before after : 
       }
 
   whole : (ended : Option NoLine) (lines : ℕ) (text said : List ℕ) → ReadsWhole from to text → Appends before.held after.held (before.gathered ++ said) → KeepsNothing after
-      → Course ended mask (map (handed longest_line) (lines_of text)) said 0 lines → ExplainsTrace mask from to before after (finding ended lines)
+      → Course ended manner (map (handed longest_line) (lines_of text)) said 0 lines → ExplainsTrace manner from to before after (finding ended lines)
   whole None lines text said read written kept c =
       let same : lines_of text ≡ c.texts = handed_all longest_line (lines_of text) c.texts c.all_is in
       let many = c.lines in
@@ -123,7 +123,7 @@ module _ {R W : Type 0} (mask : Mask) (from to : SourceState R) (before after : 
         read = read;
         count = omega (arith, many, long);
         said = said;
-        told = subst (λ (ts : List (List ℕ)). AreTold mask ts said) (sym same) c.told;
+        told = subst (λ (ts : List (List ℕ)). AreTold manner ts said) (sym same) c.told;
         written = written;
         kept = kept;
       }
@@ -132,25 +132,25 @@ module _ {R W : Type 0} (mask : Mask) (from to : SourceState R) (before after : 
 
   over : (ended : Option NoLine) (lines : ℕ) (bytes said : List ℕ) → is_some ended ≡ true → Consumes from.remaining to.remaining bytes
       → Appends before.held after.held (before.gathered ++ said) → KeepsNothing after
-      → Course ended mask (map (handed longest_line) (ended_lines bytes)) said 0 lines → ExplainsTrace mask from to before after (finding ended lines)
+      → Course ended manner (map (handed longest_line) (ended_lines bytes)) said 0 lines → ExplainsTrace manner from to before after (finding ended lines)
   over None lines bytes said is came written kept c = absurd (never is)
   over (Some why) lines bytes said is came written kept c =
       let e = ended_first bytes [] in
       refused_found why bytes (ended_lines bytes) e.0 said lines came (ap lines_of (sym (append-nil bytes)) ∙ e.1) written kept c
 
-  explained : (end : LinesEnd) (new : ExplainState) → ServesTo Explaining has_ended longest_line end from to (opened_explain mask) new before after
-      → ExplainsTrace mask from to before after (finding new.ended new.lines)
-  explained Whole new s = whole new.ended new.lines s.bytes s.said s.read s.written s.kept (started mask new (map (handed longest_line) (lines_of s.bytes)) s.said s.spoken)
-  explained Open new s = whole new.ended new.lines s.bytes s.said s.read s.written s.kept (started mask new (map (handed longest_line) (lines_of s.bytes)) s.said s.spoken)
+  explained : (end : LinesEnd) (new : ExplainState) → ServesTo Explaining has_ended longest_line end from to (opened_explain manner) new before after
+      → ExplainsTrace manner from to before after (finding new.ended new.lines)
+  explained Whole new s = whole new.ended new.lines s.bytes s.said s.read s.written s.kept (started manner new (map (handed longest_line) (lines_of s.bytes)) s.said s.spoken)
+  explained Open new s = whole new.ended new.lines s.bytes s.said s.read s.written s.kept (started manner new (map (handed longest_line) (lines_of s.bytes)) s.said s.spoken)
   explained Over new s =
-      over new.ended new.lines s.0.bytes s.0.said s.1 s.0.read s.0.written s.0.kept (started mask new (map (handed longest_line) (ended_lines s.0.bytes)) s.0.said s.0.spoken)
+      over new.ended new.lines s.0.bytes s.0.said s.1 s.0.read s.0.written s.0.kept (started manner new (map (handed longest_line) (ended_lines s.0.bytes)) s.0.said s.0.spoken)
 
-  pub explained_as : (end : LinesEnd) (old new : ExplainState) (ended : Option NoLine) (lines : ℕ) (answer : Result ℕ ExplainFault) → old ≡ opened_explain mask
+  pub explained_as : (end : LinesEnd) (old new : ExplainState) (ended : Option NoLine) (lines : ℕ) (answer : Result ℕ ExplainFault) → old ≡ opened_explain manner
       → ended ≡ new.ended → lines ≡ new.lines → answer ≡ finding ended lines → ServesTo Explaining has_ended longest_line end from to old new before after
-      → ExplainsTrace mask from to before after answer
+      → ExplainsTrace manner from to before after answer
   explained_as end old new ended lines answer opened is many told s =
       let same : answer ≡ finding new.ended new.lines = told ∙ ap (λ (e : Option NoLine). finding e lines) is ∙ ap (λ (n : ℕ). finding new.ended n) many in
-      subst (λ (a : Result ℕ ExplainFault). ExplainsTrace mask from to before after a) (sym same)
+      subst (λ (a : Result ℕ ExplainFault). ExplainsTrace manner from to before after a) (sym same)
       (explained end new (subst (λ (o : ExplainState). ServesTo Explaining has_ended longest_line end from to o new before after) opened s))
 
   -- ---- where it was not read, or a line not told
@@ -158,7 +158,7 @@ module _ {R W : Type 0} (mask : Mask) (from to : SourceState R) (before after : 
   begun : (ended : Option NoLine) (bytes : List ℕ) (ls others : List (List ℕ)) (rest : List (Option (List ℕ))) (all : List (Option (List ℕ))) (said : List ℕ) (lines : ℕ)
       → Consumes from.remaining to.remaining bytes → lines_of bytes ≡ ls ++ others → map (handed longest_line) ls ≡ all ++ rest
       → ((count : ℕ) × Appends before.held after.held (take count (before.gathered ++ said)))
-      → Course ended mask all said 0 lines → IsBegun mask from to before after
+      → Course ended manner all said 0 lines → IsBegun manner from to before after
   begun None bytes ls others rest all said lines came is parts written c =
       let f = first_whole longest_line ls c.texts rest (parts ∙ ap (λ (l : List (Option (List ℕ))). l ++ rest) c.all_is) in
       record {
@@ -190,35 +190,35 @@ module _ {R W : Type 0} (mask : Mask) (from to : SourceState R) (before after : 
       let whole : take (length said) said ≡ said = take_all (length said) said (omega arith) in
       (length said, subst (λ (l : List ℕ). Appends before.held after.held l) (sym whole) written)
 
-  unread : (fault : LinesFault) (new : ExplainState) → Serves Explaining has_ended longest_line from to (opened_explain mask) new before after (Err fault)
-      → ExplainsTrace mask from to before after (Err (Lines fault))
+  unread : (fault : LinesFault) (new : ExplainState) → Serves Explaining has_ended longest_line from to (opened_explain manner) new before after (Err fault)
+      → ExplainsTrace manner from to before after (Err (Lines fault))
   unread faults.Read new s =
       let e = s.read refl in
       let first = ended_first e.bytes [] in (
         begun new.ended e.bytes (ended_lines e.bytes) first.0 [] (map (handed longest_line) (ended_lines e.bytes)) e.said new.lines e.read
             (ap lines_of (sym (append-nil e.bytes)) ∙ first.1) (sym (append-nil _)) (all_taken (before.gathered ++ e.said) e.written)
-            (started mask new (map (handed longest_line) (ended_lines e.bytes)) e.said e.spoken),
+            (started manner new (map (handed longest_line) (ended_lines e.bytes)) e.said e.spoken),
         s.failed refl,
       )
   unread (faults.Line fault) new s =
       let e = s.fault fault refl in
-      let whole = all_of_some Explains (opened_explain mask) e.begun e.said e.spoken in
+      let whole = all_of_some Explains (opened_explain manner) e.begun e.said e.spoken in
       begun whole.0.ended e.bytes (lines_of e.bytes) [] e.others e.begun e.said whole.0.lines e.read (sym (append-nil (lines_of e.bytes))) (sym e.all) e.written
-      (started mask whole.0 e.begun e.said whole.1)
+      (started manner whole.0 e.begun e.said whole.1)
 
-  pub unread_as : (fault : LinesFault) (old new : ExplainState) (answer : Result ℕ ExplainFault) → old ≡ opened_explain mask
-      → IsErrAnd answer (λ told. told ≡ Lines fault) → Serves Explaining has_ended longest_line from to old new before after (Err fault) → ExplainsTrace mask from to before after answer
+  pub unread_as : (fault : LinesFault) (old new : ExplainState) (answer : Result ℕ ExplainFault) → old ≡ opened_explain manner
+      → IsErrAnd answer (λ told. told ≡ Lines fault) → Serves Explaining has_ended longest_line from to old new before after (Err fault) → ExplainsTrace manner from to before after answer
   unread_as fault old new (Ok lines) opened told s = absurd told
   unread_as fault old new (Err e) opened told s =
-      subst (λ (x : ExplainFault). ExplainsTrace mask from to before after (Err x)) (sym told)
+      subst (λ (x : ExplainFault). ExplainsTrace manner from to before after (Err x)) (sym told)
       (unread fault new (subst (λ (o : ExplainState). Serves Explaining has_ended longest_line from to o new before after (Err fault)) opened s))
 
 -- nothing was read, for want of memory
-pub unbegun : {R W : Type 0} (mask : Mask) (from : SourceState R) (before : SinkState W) (line : LineFault) (answer : Result ℕ ExplainFault)
-    → IsErrAnd answer (λ told. told ≡ Lines (faults.Line line)) → ExplainsTrace mask from from before before answer
-unbegun mask from before line (Ok lines) told = absurd told
-unbegun mask from before line (Err e) told =
-    subst (λ (x : ExplainFault). ExplainsTrace mask from from before before (Err x)) (sym told) (record {
+pub unbegun : {R W : Type 0} (manner : Manner) (from : SourceState R) (before : SinkState W) (line : LineFault) (answer : Result ℕ ExplainFault)
+    → IsErrAnd answer (λ told. told ≡ Lines (faults.Line line)) → ExplainsTrace manner from from before before answer
+unbegun manner from before line (Ok lines) told = absurd told
+unbegun manner from before line (Err e) told =
+    subst (λ (x : ExplainFault). ExplainsTrace manner from from before before (Err x)) (sym told) (record {
       bytes = [];
       came = nothing_came from.remaining;
       first = [];

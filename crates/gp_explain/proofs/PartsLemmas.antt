@@ -63,8 +63,35 @@ leads_end mask text place left out line h none is =
     let whole = (subst (λ (l : List (List ℕ)). Leads mask text place l out) none h).ends [] tt in
     (whole.0, whole.1, is ∙ ap (λ (l : List ℕ). l ++ codes "\n") (sym (whole.2 ∙ append-nil out)))
 
--- the same where the line feed may not have been appended
-pub leads_ended : {E : Type 0} (r : Result (Unit {0}) E) (mask : Mask) (text : List ℕ) (place : Place) (left : List (List ℕ)) (out line : List ℕ) → Leads mask text place left out → left ≡ []
-    → OnOk r (line ≡ out ++ codes "\n") → OnOk r (TellsLine mask text line)
-leads_ended (Ok x) mask text place left out line h none is = leads_end mask text place left out line h none is
-leads_ended (Err e) mask text place left out line h none is = tt
+-- ---- the same behind what stood in the buffer before
+
+pub record LeadsBehind (before : List ℕ) (mask : Mask) (text : List ℕ) (place : Place) (left : List (List ℕ)) (out : List ℕ) : Type 0 where
+  pub line : List ℕ
+  pub stands : out ≡ before ++ line
+  pub leads : Leads mask text place left line
+
+pub behind_first : (before : List ℕ) (mask : Mask) (text first out : List ℕ) (place : Place) (left : List (List ℕ)) → parts_of text ≡ first ∷ left → place ≡ place_after Word first → out ≡ before ++ first
+    → LeadsBehind before mask text place left out
+behind_first before mask text first out place left parts there same =
+    record { line = first; stands = same; leads = leads_first mask text first first place left parts there refl }
+
+pub behind_next : (before : List ℕ) (mask : Mask) (text : List ℕ) (place next : Place) (part out between new : List ℕ) (left others : List (List ℕ)) → LeadsBehind before mask text place left out
+    → left ≡ part ∷ others → between ≡ out ++ 32 ∷ [] → ((told : List ℕ) × TellsPart mask place part told × (new ≡ between ++ told)) → next ≡ place_after place part
+    → LeadsBehind before mask text next others new
+behind_next before mask text place next part out between new left others h is space told there =
+    let line = (h.line ++ 32 ∷ []) ++ told.0 in
+    let first : between ≡ before ++ (h.line ++ 32 ∷ []) = space ∙ ap (λ (l : List ℕ). l ++ 32 ∷ []) h.stands ∙ append_assoc before h.line (32 ∷ []) in
+    record {
+      line = line;
+      stands = told.2 ∙ ap (λ (l : List ℕ). l ++ told.0) first ∙ append_assoc before (h.line ++ 32 ∷ []) told.0;
+      leads = leads_next mask text place next part h.line (h.line ++ 32 ∷ []) line left others h.leads is refl (told.0, told.1, refl) there;
+    }
+
+pub behind_ended : {E : Type 0} (r : Result (Unit {0}) E) (before : List ℕ) (mask : Mask) (text : List ℕ) (place : Place) (left : List (List ℕ)) (out new : List ℕ) → LeadsBehind before mask text place left out
+    → left ≡ [] → OnOk r (new ≡ out ++ codes "\n") → OnOk r ((line : List ℕ) × TellsLine mask text line × (new ≡ before ++ line))
+behind_ended (Ok x) before mask text place left out new h none is = (
+  h.line ++ codes "\n",
+  leads_end mask text place left h.line (h.line ++ codes "\n") h.leads none refl,
+  is ∙ ap (λ (l : List ℕ). l ++ codes "\n") h.stands ∙ append_assoc before h.line (codes "\n"),
+)
+behind_ended (Err e) before mask text place left out new h none is = tt

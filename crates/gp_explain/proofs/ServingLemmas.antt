@@ -11,7 +11,8 @@ use Rattle.gp_machine.specs.declared.event.Event.{Event}
 use Rattle.gp_lines.specs.Trace.{SplitsLine}
 use Rattle.gp_explain.specs.declared.fault.NoLine.{NoLine}
 use Rattle.gp_explain.specs.declared.fault.NoLine.TheVariants.{NotALine}
-use Rattle.gp_explain.specs.Words.{IsTraceLine, TellsLine}
+use Rattle.gp_explain.specs.Words.{IsTraceLine}
+use Rattle.gp_explain.specs.Telling.{Manner, TellsTraceLine}
 use Rattle.gp_explain.specs.Explaining.{ExplainState, Explaining, Explains, SaysFrom, counted, ended_by}
 
 -- no line of a trace, as cutting it tells
@@ -23,10 +24,10 @@ pub by_none : {A P : Type 0} (found : Option A) → is_some found ≡ false → 
 by_none None h p = p
 by_none (Some x) h p = cc h
 
-told_line : (old new : ExplainState) (text said : List ℕ) → old.ended ≡ None → IsTraceLine text → TellsLine old.mask text said → new ≡ counted old
+told_line : (old new : ExplainState) (next : Manner) (text said : List ℕ) → old.ended ≡ None → TellsTraceLine old.manner text said next → new ≡ counted next old
     → Explains old (Some text) said new
-told_line old new text said none is tells same =
-    subst (λ (e : Option NoLine). SaysFrom e old (Some text) said new) (sym none) (inl (is, tells, same))
+told_line old new next text said none tells same =
+    subst (λ (e : Option NoLine). SaysFrom e old (Some text) said new) (sym none) (inl (next, tells, same))
 
 -- a line that is none of a trace ends it
 pub refused_line : {W : Type 0} (old new : ExplainState) (text : List ℕ) (before : SinkState W) → old.ended ≡ None → IsUncut text → new ≡ ended_by NotALine old
@@ -36,10 +37,10 @@ refused_line old new text before none uncut same =
     (subst (λ (e : Option NoLine). SaysFrom e old (Some text) [] new) (sym none) (inr (λ is. uncut is.0 is.1 is.2 is.3 is.4, refl, same)))
 
 -- a line of which the writer took a part
-pub stopped_line : {W T : Type 0} (old new next : ExplainState) (text said : List ℕ) (before after : SinkState W) (e : WriteStopped) (r : Result (Unit {0}) LineFault)
-    → old.ended ≡ None → IsTraceLine text → TellsLine old.mask text said → next ≡ counted old → Puts {T = T} before after said (Err e) → IsErrAnd r (λ f. f ≡ Write)
+pub stopped_line : {W T : Type 0} (old new next : ExplainState) (manner : Manner) (text said : List ℕ) (before after : SinkState W) (e : WriteStopped) (r : Result (Unit {0}) LineFault)
+    → old.ended ≡ None → TellsTraceLine old.manner text said manner → next ≡ counted manner old → Puts {T = T} before after said (Err e) → IsErrAnd r (λ f. f ≡ Write)
     → Answers Explaining (Some text) old new before after r
-stopped_line old new next text said before after e (Ok x) none is tells same puts told = absurd told
-stopped_line old new next text said before after e (Err f) none is tells same puts told =
+stopped_line old new next manner text said before after e (Ok x) none tells same puts told = absurd told
+stopped_line old new next manner text said before after e (Err f) none tells same puts told =
     subst (λ (fault : LineFault). Answers {T = Unit {0}} Explaining (Some text) old new before after (Err fault)) (sym told)
-    (put_stopped Explaining (Some text) old new next before after said e (told_line old next text said none is tells same) puts)
+    (put_stopped Explaining (Some text) old new next before after said e (told_line old next manner text said none tells same) puts)

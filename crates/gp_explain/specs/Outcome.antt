@@ -1,36 +1,37 @@
--- How telling a trace in words may end (this profile's own rule).
+-- How telling a trace may end (this profile's own rule).
 use Rattle.std.specs.Prelude.{◌≡◌, ◌<◌, ◌⊎◌, ℕ, ◌+◌, true, List, [], ◌∷◌, ◌++◌, length, take, Option, Some, None, Result, Ok, Err}
 use Rattle.std.specs.Io.KnownBytes.{Appends, Consumes}
 use Rattle.gp_flow.specs.declared.fault.LinesFault.TheVariants as faults
 use Rattle.gp_flow.specs.Lines.{lines_of}
 use Rattle.gp_stream.specs.Sink.{SinkState, KeepsNothing}
 use Rattle.gp_stream.specs.Source.{SourceState, ReadsWhole}
-use Rattle.gp_ploam.specs.declared.check.Mask.{Mask}
 use Rattle.gp_explain.specs.declared.fault.ExplainFault.{ExplainFault}
 use Rattle.gp_explain.specs.declared.fault.ExplainFault.TheVariants.{Refused, Lines}
 use Rattle.gp_explain.specs.declared.fault.NoLine.{NoLine}
 use Rattle.gp_explain.specs.declared.fault.NoLine.TheVariants.{NotALine, TooLong}
-use Rattle.gp_explain.specs.Words.{IsTraceLine, TellsLine}
+use Rattle.gp_explain.specs.Words.{IsTraceLine}
+use Rattle.gp_explain.specs.Telling.{Manner, TellsTraceLine}
 
 -- the most octets of a line that is looked at
 abbrev pub longest_line : ℕ
 longest_line = 4096
 
--- these texts are lines of a trace, and this is what they are in words, one line after another
-abbrev pub AreTold : Mask → List (List ℕ) → List ℕ → Type 0
-AreTold mask [] said = said ≡ []
-AreTold mask (text ∷ texts) said =
-    (line rest : List ℕ) × IsTraceLine text × TellsLine mask text line × AreTold mask texts rest × (said ≡ line ++ rest)
+-- these texts are lines of a trace, and this is what is told of them, one after another
+abbrev pub AreTold : Manner → List (List ℕ) → List ℕ → Type 0
+AreTold manner [] said = said ≡ []
+AreTold manner (text ∷ texts) said =
+    (line rest : List ℕ) × (next : Manner) × TellsTraceLine manner text line next × AreTold next texts rest
+    × (said ≡ line ++ rest)
 
--- the whole trace was read, and the writer got each of its lines in words
-pub record IsExplained {R W : Type 0} (mask : Mask) (from to : SourceState R) (before after : SinkState W) (lines : ℕ)
+-- the whole trace was read, and the writer got what is told of each of its lines
+pub record IsExplained {R W : Type 0} (manner : Manner) (from to : SourceState R) (before after : SinkState W) (lines : ℕ)
     : Type 0 where
   pub text : List ℕ
   pub read : ReadsWhole from to text
   pub count : length (lines_of text) ≡ lines
   -- what is said
   pub said : List ℕ
-  pub told : AreTold mask (lines_of text) said
+  pub told : AreTold manner (lines_of text) said
   -- the writer got all of it, and keeps nothing back
   pub written : Appends before.held after.held (before.gathered ++ said)
   pub kept : KeepsNothing after
@@ -41,7 +42,7 @@ IsNone NotALine text = IsTraceLine text → ⊥
 IsNone TooLong text = longest_line < length text
 
 -- the lines before this one were told, and this one is none of a trace
-pub record IsRefused {R W : Type 0} (mask : Mask) (from to : SourceState R) (before after : SinkState W) (line : ℕ)
+pub record IsRefused {R W : Type 0} (manner : Manner) (from to : SourceState R) (before after : SinkState W) (line : ℕ)
     (why : NoLine) : Type 0 where
   -- what was read
   pub bytes : List ℕ
@@ -55,12 +56,12 @@ pub record IsRefused {R W : Type 0} (mask : Mask) (from to : SourceState R) (bef
   pub none : IsNone why text
   -- what is said
   pub said : List ℕ
-  pub told : AreTold mask first said
+  pub told : AreTold manner first said
   pub written : Appends before.held after.held (before.gathered ++ said)
   pub kept : KeepsNothing after
 
 -- of the lines that came the first were told, and of what is said to them the writer got a prefix, and nothing else
-pub record IsBegun {R W : Type 0} (mask : Mask) (from to : SourceState R) (before after : SinkState W) : Type 0 where
+pub record IsBegun {R W : Type 0} (manner : Manner) (from to : SourceState R) (before after : SinkState W) : Type 0 where
   pub bytes : List ℕ
   pub came : Consumes from.remaining to.remaining bytes
   pub first : List (List ℕ)
@@ -68,17 +69,17 @@ pub record IsBegun {R W : Type 0} (mask : Mask) (from to : SourceState R) (befor
   pub lines : lines_of bytes ≡ first ++ others
   -- what is said
   pub said : List ℕ
-  pub told : AreTold mask first said
+  pub told : AreTold manner first said
   pub written : (count : ℕ) × Appends before.held after.held (take count (before.gathered ++ said))
 
 -- how it may end; a failed read, and the bound of reads, are told as such
-abbrev pub ExplainsTrace : {R W : Type 0} → Mask → SourceState R → SourceState R → SinkState W → SinkState W
+abbrev pub ExplainsTrace : {R W : Type 0} → Manner → SourceState R → SourceState R → SinkState W → SinkState W
     → Result ℕ ExplainFault → Type 0
-ExplainsTrace mask from to before after (Ok lines) = IsExplained mask from to before after lines
-ExplainsTrace mask from to before after (Err (Refused line why)) = IsRefused mask from to before after line why
-ExplainsTrace mask from to before after (Err (Lines faults.Read)) =
-    IsBegun mask from to before after × ((to.failed ≡ true) ⊎ (to.left ≡ 0))
-ExplainsTrace mask from to before after (Err (Lines (faults.Line fault))) = IsBegun mask from to before after
+ExplainsTrace manner from to before after (Ok lines) = IsExplained manner from to before after lines
+ExplainsTrace manner from to before after (Err (Refused line why)) = IsRefused manner from to before after line why
+ExplainsTrace manner from to before after (Err (Lines faults.Read)) =
+    IsBegun manner from to before after × ((to.failed ≡ true) ⊎ (to.left ≡ 0))
+ExplainsTrace manner from to before after (Err (Lines (faults.Line fault))) = IsBegun manner from to before after
 
 -- what was found, by what ended it, and how many lines came
 abbrev pub finding : Option NoLine → ℕ → Result ℕ ExplainFault

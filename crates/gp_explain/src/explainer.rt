@@ -3,19 +3,18 @@ ghost use Rattle.std.specs.Prelude.{◌≡◌, ◌+◌, Ok, Err, None, Some, IfO
 ghost use Rattle.gp_explain.specs.Explaining.{opened_explain};
 
 use crate::fault::NoLine;
-use gp_ploam::Mask;
+use crate::telling::Telling;
 use std::alloc::{AllocError, Global};
 use std::marker::Model;
 
 /// How much room the buffer of a line has at first.
 const LINE_ROOM: usize = 512;
 
-/// Tells the lines of a trace in words, one after another. The first line that is none of a trace ends it. Contracts
-/// see the mask, how many lines came, and what ended it.
+/// Tells the lines of a trace, one after another. The first line that is none of a trace ends it. Contracts see what the
+/// next line is told by, how many lines came, and what ended it.
 #[derive(Drop)]
 pub struct Explainer {
-    pub(crate) alloc: Global,
-    pub(crate) mask: Mask,
+    pub(crate) telling: Telling,
     pub(crate) buffer: Vec<u8>,
     pub(crate) lines: u64,
     pub(crate) ended: Option<NoLine>,
@@ -26,18 +25,17 @@ impl Model for Explainer {
 
     ghost Value = { ExplainState };
 
-    ghost view = { λ s. record { mask = s.mask; lines = s.lines; ended = s.ended } };
+    ghost view = { λ s. record { manner = s.telling; lines = s.lines; ended = s.ended } };
 }
 
 impl Explainer {
-    /// Makes one to which no line came. The mask is that of the trace's codes.
-    pub fn new(alloc: Global, mask: Mask) -> Result<Explainer, AllocError>
-        ensures { IfOk result (λ explainer. explainer ≡ opened_explain mask) }
+    /// Makes one to which no line came.
+    pub fn new(alloc: Global, telling: Telling) -> Result<Explainer, AllocError>
+        ensures { IfOk result (λ explainer. explainer ≡ opened_explain telling) }
     {
         let buffer = Vec::with_capacity(alloc, LINE_ROOM)?;
         Ok(Explainer {
-            alloc,
-            mask,
+            telling,
             buffer,
             lines: 0,
             ended: None,

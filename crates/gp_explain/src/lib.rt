@@ -1,6 +1,7 @@
 //! Writes a trace again with its codes in words.
 //!
-//! - `line.rt`: `explain_line`, one line in words; `place.rt`: where in a line codes stand.
+//! - `line.rt`: one line in words; `place.rt`: where in a line codes stand. `time.rt`: a port's time before a line.
+//! - `telling.rt`: `Telling`, which tells any lines, one after another, in one of the forms of `form.rt`.
 //! - `explainer.rt`: `Explainer`, which is given the lines of a trace one after another; `serving.rt`: as what serves
 //!   lines.
 //! - `running.rt`: `explain_trace`, from the bytes of a trace to its lines in words.
@@ -12,13 +13,17 @@
 
 mod explainer;
 mod fault;
+mod form;
 mod line;
 mod place;
 mod running;
 mod serving;
+mod telling;
+mod time;
 
 pub use explainer::Explainer;
 pub use fault::{ExplainFault, NoLine};
-pub use line::explain_line;
+pub use form::Form;
 pub use place::Place;
 pub use running::explain_trace;
+pub use telling::Telling;

@@ -72,22 +72,21 @@ fn push_part(
     }
 }
 
-/// Writes a line of a trace in words, with a line feed behind it, in the place of what the buffer holds. The line comes
-/// without its line feed. Its codes are told as `decode` tells them, between brackets: that of a burst as a unit's
-/// message, that behind `sent` as one of the line terminal; `[garbled HEX]` where the check octet is wrong under the
-/// mask. All else stays as it is, also in a text that is no line of a trace.
+/// Appends a line of a trace in words, with a line feed behind it. The line comes without its line feed. Its codes are
+/// told as `decode` tells them, between brackets: that of a burst as a unit's message, that behind `sent` as one of the
+/// line terminal; `[garbled HEX]` where the check octet is wrong under the mask. All else stays as it is.
 ///
-/// Memory is taken for the words of a code, and where the buffer has no room. Where it is refused, the buffer may hold
-/// a part of the line.
-pub fn explain_line(
+/// Memory is taken for the words of a code, and where the buffer has no room. Where it is refused, a part of the line may
+/// have been appended.
+pub(crate) fn push_words(
     alloc: Global,
     mask: Mask,
     text: &[u8],
     out: &mut Vec<u8>,
 ) -> Result<(), AllocError>
-    ensures { OnOk result (TellsLine mask text.now out.new.items) }
+    ensures { OnOk result ((line : List ℕ) × TellsLine mask text.now line
+        × (out.new.items ≡ out.old.items ++ line)) }
 {
-    out.clear();
     let (first, mut rest) = cut(text);
     out.extend_from_slice(first)?;
     let mut place = Place::Word.after(first);

@@ -4,24 +4,23 @@ ghost use Rattle.gp_explain.specs.Outcome.{ExplainsTrace, finding};
 
 use crate::explainer::Explainer;
 use crate::fault::{ExplainFault, NoLine};
+use crate::telling::Telling;
 use gp_flow::run_lines;
-use gp_ploam::Mask;
 use gp_stream::{Sink, Source};
 use std::alloc::Global;
 use std::io::{Read, Write};
 
-/// Writes a trace again with its codes in words, line by line as it comes, and answers how many lines it has. Memory is
-/// flat.
+/// Tells the lines of a trace as they come, and answers how many they are. Memory is flat.
 pub fn explain_trace<R: Read, W: Write>(
     alloc: Global,
-    mask: Mask,
+    telling: Telling,
     source: &mut Source<R>,
     sink: &mut Sink<W>,
 ) -> Result<u64, ExplainFault>
     requires { sink.old.flushed ≡ true }
-    ensures { ExplainsTrace mask source.old source.new sink.old sink.new result }
+    ensures { ExplainsTrace telling source.old source.new sink.old sink.new result }
 {
-    let mut explainer = Explainer::new(alloc, mask)?;
+    let mut explainer = Explainer::new(alloc, telling)?;
     run_lines(alloc, source, sink, &mut explainer)?;
     finding(explainer.ended(), explainer.lines())
 }

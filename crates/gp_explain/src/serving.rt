@@ -1,7 +1,6 @@
 //! An explainer serves lines.
 use crate::explainer::Explainer;
 use crate::fault::NoLine;
-use crate::line::explain_line;
 use gp_flow::{LineFault, LineWork};
 use gp_lines::split_line;
 use gp_stream::Sink;
@@ -25,12 +24,13 @@ impl LineWork for Explainer {
         if self.lines == u64::MAX {
             return Err(LineFault::Full);
         }
-        if split_line(text).is_none() {
+        let Some(line) = split_line(text) else {
             self.lines += 1;
             self.ended = Some(NoLine::NotALine);
             return Ok(());
-        }
-        explain_line(self.alloc, self.mask, text, &mut self.buffer)?;
+        };
+        self.buffer.clear();
+        self.telling.tell_line(text, &line, &mut self.buffer)?;
         sink.put(self.buffer.as_slice())?;
         self.lines += 1;
         Ok(())

@@ -1,5 +1,5 @@
 //! Traces in words.
-use gp_explain::{ExplainFault, NoLine, explain_trace};
+use gp_explain::{ExplainFault, Form, NoLine, Telling, explain_trace};
 use gp_ploam::Mask;
 use gp_stream::{Sink, Source};
 use std::alloc::AllocError;
@@ -73,7 +73,8 @@ fn traces(rt: HostRuntime) -> Result<(), AllocError> {
     for (text, mask, words, wanted) in rows() {
         let mut source = Source::endless(text.as_bytes());
         let mut sink = Sink::new(rt.alloc(), Vec::new(rt.alloc()))?;
-        let outcome = explain_trace(rt.alloc(), mask, &mut source, &mut sink);
+        let telling = Telling::new(rt.alloc(), mask, Form::Words, false);
+        let outcome = explain_trace(rt.alloc(), telling, &mut source, &mut sink);
         let written = sink.into_inner();
         assert_eq!(rt; outcome, wanted, "{text}");
         assert!(rt; written.as_slice() == words.as_bytes(), "{text}");
@@ -90,7 +91,8 @@ fn long_lines(rt: HostRuntime) -> Result<(), AllocError> {
         text.resize(14 + spaces, b' ')?;
         let mut source = Source::endless(text.as_slice());
         let mut sink = Sink::new(rt.alloc(), Vec::new(rt.alloc()))?;
-        let outcome = explain_trace(rt.alloc(), Mask::Plain, &mut source, &mut sink);
+        let telling = Telling::new(rt.alloc(), Mask::Plain, Form::Words, false);
+        let outcome = explain_trace(rt.alloc(), telling, &mut source, &mut sink);
         assert_eq!(rt; outcome, wanted);
     }
     Ok(())

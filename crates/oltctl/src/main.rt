@@ -25,7 +25,7 @@ use clap::error::ErrorKind;
 use gp_decode::{FaultAt, LineFault, decode_line, decode_lines};
 use gp_drive::{DriveFault, Driven, run_drive};
 use gp_encode::{EncodeFault, encode_line};
-use gp_explain::{ExplainFault, explain_trace};
+use gp_explain::{ExplainFault, Form, Telling, explain_trace};
 use gp_flow::LinesFault;
 use gp_ploam::Mask;
 use gp_replay::{RunFault, run_replay};
@@ -326,7 +326,8 @@ fn explain_from<R: AllocGlobal + Print, T: Read + Drop>(
 ) -> Result<u64, ExplainFault> {
     let mut source = Source::endless(trace);
     let mut sink = Sink::new(rt.alloc(), io::writer(rt))?;
-    explain_trace(rt.alloc(), mask, &mut source, &mut sink)
+    let telling = Telling::new(rt.alloc(), mask, Form::Words, false);
+    explain_trace(rt.alloc(), telling, &mut source, &mut sink)
 }
 
 /// Does so of the trace of a file, or of standard input.
