@@ -20,11 +20,25 @@ Exit status:
 pub const REPLAY_HELP: &str = "\
 Examples:
   oltctl replay script.toml
-  oltctl replay script.toml | oltctl explain
+  oltctl replay --words --time script.toml
+  oltctl replay --summary script.toml
 
 Exit status:
-  0  the whole trace was written
+  0  the whole trace, or the summary, was written
   1  the script is wrong, too long, or was not read
+  2  the command line is wrong
+  3  out of memory
+  4  the output takes no more";
+
+/// What stands at the end of the help of `check`.
+pub const CHECK_HELP: &str = "\
+Examples:
+  oltctl check script.toml
+  oltctl check scripts/*.toml
+
+Exit status:
+  0  all files are scripts
+  1  one is wrong, too long, or was not read: the line says where
   2  the command line is wrong
   3  out of memory
   4  the output takes no more";

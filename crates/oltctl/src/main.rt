@@ -13,19 +13,23 @@ ghost use Rattle.gp_script.specs.declared.fault.ScriptFault.{ScriptFault};
 ghost use Rattle.gp_script.specs.Script.{ScriptView, script_of, storm_script_of};
 ghost use Rattle.oltctl.specs.Replays.{IsCheckedBy, IsReadBy, IsTooLong};
 ghost use Rattle.gp_report.specs.Report.{verify_status};
-ghost use Rattle.oltctl.specs.Statuses.{IsArgumentsReport, IsEncoded, IsRun, IsServed, IsStatusOf, IsVerifyStatus, drive_status, end_status, greatest_status, lines_status, told_status};
+ghost use Rattle.oltctl.specs.Statuses.{IsArgumentsReport, IsEncoded, IsPlayed, IsRun, IsServed, IsStatusOf, IsVerifyStatus, check_status, drive_status, end_status, greatest_status, lines_status, told_status};
 
+mod checking;
 mod command_line;
 mod help;
 mod joined;
 mod request;
+mod telling;
 
+use checking::check_files;
 use clap::Error;
 use clap::error::ErrorKind;
 use gp_decode::{FaultAt, LineFault, decode_line, decode_lines};
 use gp_drive::{DriveFault, Driven, run_drive};
 use gp_encode::{EncodeFault, encode_line};
-use gp_explain::{ExplainFault, Form, Telling, explain_trace};
+use gp_check::ScriptCheckFault;
+use gp_explain::{ExplainFault, Telling, explain_trace};
 use gp_flow::LinesFault;
 use gp_ploam::Mask;
 use gp_replay::{RunFault, run_replay};
@@ -34,16 +38,17 @@ use gp_report::{
     input_report, line_report, memory_report, run_report, verify_report, write_report,
 };
 use gp_storm::run_storm;
-use gp_stream::{Sink, Source};
+use gp_stream::{Sink, Source, read_all};
 use gp_verify::{CheckFault, VerifyFault, verify_script};
 use joined::joined;
-use request::{Request, request_of};
+use request::{Play, Request, Told, request_of};
 use std::io;
 use std::io::Read;
 use std::process::ExitCode;
 use std::rt::{Env, Files};
 use std::sync::Wait;
 use std::thread::Threads;
+use telling::{drive_told, is_plain, replay_bytes, tell_place};
 
 /// Says on standard error what went wrong, and answers the exit status, which says it too where
 /// standard error takes nothing.
@@ -64,6 +69,11 @@ fn report_at<R: Eprint>(rt: &R, told: (&'static str, u8), number: u64) -> u8
     status
 }
 
+/// Tells whether the trace alone is wanted of a replay, as it is.
+fn is_usual(play: Play) -> bool {
+    is_plain(play.told) && !play.summary && !play.explain
+}
+
 /// Plays the script that a reader gives, to standard output.
 fn replay_from<R: AllocGlobal + Print, S: Read + Drop>(rt: &R, reader: S) -> Result<(), RunFault>
     ensures ok { OnOk result ((script : ScriptView) × IsReadBy script_of reader (S.remaining reader) (Ok script)) }
@@ -78,19 +88,44 @@ fn replay_from<R: AllocGlobal + Print, S: Read + Drop>(rt: &R, reader: S) -> Res
     run_replay(rt.alloc(), &mut source, &mut sink)
 }
 
-/// Plays the script of a file, or of standard input.
-fn replay<R: AllocGlobal + Files + Print + Input>(
+/// Plays the script that a reader gives, and writes what is wanted of it to standard output. Says on standard error
+/// what went wrong, if anything did, and answers the exit status.
+fn replay_so<R: AllocGlobal + Print + Eprint, S: Read + Drop>(
+    rt: &R,
+    reader: S,
+    play: Play,
+) -> u8
+    ensures { IsPlayed result }
+{
+    if is_usual(play) {
+        return end_run(rt, &replay_from(rt, reader));
+    }
+    let mut source = Source::new(reader);
+    let bytes = match read_all(rt.alloc(), &mut source) {
+        Ok(bytes) => bytes,
+        Err(fault) => return end_run(rt, &Err(RunFault::from(fault))),
+    };
+    let played = replay_bytes(rt, bytes.as_slice(), play);
+    let status = end_run(rt, &played);
+    if play.explain && status == BAD_INPUT {
+        tell_place(rt, bytes.as_slice());
+    }
+    status
+}
+
+/// Does so with the script of a file, or of standard input.
+fn replay<R: AllocGlobal + Files + Print + Eprint + Input>(
     rt: &R,
     file: Option<&str>,
-) -> Result<(), RunFault>
-    ensures mismatch { result ≢ Err RunFault.Mismatch }
-    ensures journal_full { result ≢ Err RunFault.JournalFull }
+    play: Play,
+) -> u8
+    ensures { IsPlayed result }
 {
     match file {
-        None => replay_from(rt, rt.reader()),
+        None => replay_so(rt, rt.reader(), play),
         Some(path) => match std::fs::open(rt, path) {
-            Ok(file) => replay_from(rt, file),
-            Err(_) => Err(RunFault::Read),
+            Ok(file) => replay_so(rt, file, play),
+            Err(_) => end_run(rt, &Err(RunFault::Read)),
         },
     }
 }
@@ -116,9 +151,11 @@ fn drive_from<R: AllocGlobal + Print, S: Read + Drop, T: Read + Drop>(
 fn drive<R: AllocGlobal + Files + Print + Input>(
     rt: &R,
     script: &str,
+    told: Told,
 ) -> Result<Driven, DriveFault> {
     match std::fs::open(rt, script) {
-        Ok(script) => drive_from(rt, script, rt.reader()),
+        Ok(script) if is_plain(told) => drive_from(rt, script, rt.reader()),
+        Ok(script) => drive_told(rt, script, rt.reader(), told),
         Err(_) => Err(DriveFault::Script(RunFault::Read)),
     }
 }
@@ -145,6 +182,18 @@ fn end_drive<R: Eprint>(rt: &R, outcome: &Result<Driven, DriveFault>) -> u8
         }
         Err(DriveFault::Script(fault)) => report(rt, run_report(fault)),
         Err(DriveFault::Turns(fault)) => report(rt, input_report(fault)),
+    }
+}
+
+/// Says why files were not all checked, if they weren't, and answers the exit status.
+fn end_check<R: Eprint>(rt: &R, outcome: &Result<bool, ScriptCheckFault>) -> u8
+    ensures { result ≡ check_status outcome.now }
+{
+    match outcome {
+        Ok(true) => SUCCESS,
+        Ok(false) => BAD_INPUT,
+        Err(ScriptCheckFault::OutOfMemory) => report(rt, memory_report()),
+        Err(ScriptCheckFault::Write) => report(rt, write_report()),
     }
 }
 
@@ -323,10 +372,11 @@ fn explain_from<R: AllocGlobal + Print, T: Read + Drop>(
     rt: &R,
     trace: T,
     mask: Mask,
+    told: Told,
 ) -> Result<u64, ExplainFault> {
     let mut source = Source::endless(trace);
     let mut sink = Sink::new(rt.alloc(), io::writer(rt))?;
-    let telling = Telling::new(rt.alloc(), mask, Form::Words, false);
+    let telling = Telling::new(rt.alloc(), mask, told.form, told.timed);
     explain_trace(rt.alloc(), telling, &mut source, &mut sink)
 }
 
@@ -335,11 +385,12 @@ fn explain<R: AllocGlobal + Files + Print + Input>(
     rt: &R,
     trace: Option<&str>,
     mask: Mask,
+    told: Told,
 ) -> Result<u64, ExplainFault> {
     match trace {
-        None => explain_from(rt, rt.reader(), mask),
+        None => explain_from(rt, rt.reader(), mask, told),
         Some(path) => match std::fs::open(rt, path) {
-            Ok(trace) => explain_from(rt, trace, mask),
+            Ok(trace) => explain_from(rt, trace, mask, told),
             Err(_) => Err(ExplainFault::Lines(LinesFault::Read)),
         },
     }
@@ -367,8 +418,9 @@ fn serve<R: AllocGlobal + Files + Print + Eprint + Input + Threads + Wait + Sync
     ensures { IsServed request.entry result }
 {
     match request {
-        Request::Replay { file } => end_run(rt, &replay(rt, file)),
-        Request::Drive { script } => end_drive(rt, &drive(rt, script)),
+        Request::Replay { file, play } => replay(rt, file, play),
+        Request::Drive { script, told } => end_drive(rt, &drive(rt, script, told)),
+        Request::Check { files } => end_check(rt, &check_files(rt, files)),
         Request::Storm { file } => end_run(rt, &storm(rt, file)),
         Request::Verify { script, trace } => end_verify(rt, &verify(rt, script, trace)),
         Request::Decode {
@@ -389,7 +441,7 @@ fn serve<R: AllocGlobal + Files + Print + Eprint + Input + Threads + Wait + Sync
             upstream,
             mask,
         } => encode(rt, words, upstream, mask),
-        Request::Explain { trace, mask } => end_explain(rt, &explain(rt, trace, mask)),
+        Request::Explain { trace, mask, told } => end_explain(rt, &explain(rt, trace, mask, told)),
     }
 }
 

@@ -1,11 +1,32 @@
 //! What a command line asks for.
-ghost use Rattle.std.specs.Prelude.{◌≡◌, ◌∷◌, [], IfSome, IfNone, Some, None, codes, option_map};
+ghost use Rattle.std.specs.Prelude.{◌≡◌, ◌∷◌, [], true, IfSome, IfNone, Some, None, codes, option_map};
 ghost use Rattle.clap.specs.Words.{all_of, first_of, found_of, rows_of, subcommand_rows_of};
-ghost use Rattle.oltctl.specs.CommandLine.{file_named, mask_named};
-ghost use Rattle.oltctl.specs.Requests.{Asks, AsksNothing, AsksToDecode, AsksToDrive, AsksToEncode, AsksToExplain, AsksToReplay, AsksToStorm, AsksToVerify, name_in, texts};
+ghost use Rattle.oltctl.specs.CommandLine.{file_named, form_named, mask_named};
+ghost use Rattle.oltctl.specs.Requests.{Asks, AsksForForm, AsksForPlay, AsksForTrace, AsksNothing, AsksToCheck, AsksToDecode, AsksToDrive, AsksToEncode, AsksToExplain, AsksToReplay, AsksToStorm, AsksToVerify, name_in, texts};
 
 use clap::ArgMatches;
+use gp_explain::Form;
 use gp_ploam::Mask;
+
+/// How the lines of a trace are written.
+#[derive(Clone, Copy)]
+pub struct Told {
+    /// As they are, in words, or as JSON.
+    pub form: Form,
+    /// With the time of its port before each.
+    pub timed: bool,
+}
+
+/// What is wanted of a replay.
+#[derive(Clone, Copy)]
+pub struct Play {
+    /// How its trace is written.
+    pub told: Told,
+    /// In place of the trace, what it comes to.
+    pub summary: bool,
+    /// Of a script that is wrong, where.
+    pub explain: bool,
+}
 
 /// What the program is to do.
 #[derive(Clone, Copy)]
@@ -13,10 +34,16 @@ pub enum Request<'m, 'a> {
     /// Play the script of this file, or of standard input.
     Replay {
         file: Option<&'a str>,
+        play: Play,
     },
     /// Play the script of this file, and then what the lines of standard input ask for.
     Drive {
         script: &'a str,
+        told: Told,
+    },
+    /// Say of each of these files whether it is a script, or where it is wrong.
+    Check {
+        files: &'m [&'a str],
     },
     /// Run the storm of this file's script, or of standard input's.
     Storm {
@@ -50,6 +77,7 @@ pub enum Request<'m, 'a> {
     Explain {
         trace: Option<&'a str>,
         mask: Mask,
+        told: Told,
     },
 }
 
@@ -63,6 +91,7 @@ pub fn request_of<'m, 'a>(matches: &'m ArgMatches<'a>) -> Option<Request<'m, 'a>
         ("replay", found) => Some(replay_of(found)),
         ("drive", found) => drive_of(found),
         ("storm", found) => Some(storm_of(found)),
+        ("check", found) => check_of(found),
         ("verify", found) => verify_of(found),
         ("decode", found) => Some(decode_of(found)),
         ("encode", found) => encode_of(found),
@@ -81,13 +110,63 @@ fn file_of<'a>(name: Option<&'a str>) -> Option<&'a str>
     }
 }
 
+/// Gives the form of a trace that is written in words or is not, by the name of its format.
+fn form_of(words: bool, format: Option<&str>) -> Form
+    ensures { result ≡ form_named words (name_in format.entry) }
+{
+    match format {
+        Some("json") => Form::Json,
+        _ if words => Form::Words,
+        _ => Form::Plain,
+    }
+}
+
+#[tactic(auto, using(crate::proofs::Rows::value_by_rows, crate::proofs::Rows::flag_by_rows))]
+fn form_in(found: &ArgMatches<'_>, words: bool) -> Told
+    ensures { AsksForForm (rows_of (found_of found.now)) words result }
+{
+    Told {
+        form: form_of(words, found.get_str("format")),
+        timed: found.get_flag("time"),
+    }
+}
+
+#[tactic(auto, using(crate::proofs::Rows::flag_by_rows))]
+fn told_in(found: &ArgMatches<'_>) -> Told
+    ensures { AsksForTrace (rows_of (found_of found.now)) result }
+{
+    form_in(found, found.get_flag("words"))
+}
+
+#[tactic(auto, using(crate::proofs::Rows::flag_by_rows))]
+fn play_in(found: &ArgMatches<'_>) -> Play
+    ensures { AsksForPlay (rows_of (found_of found.now)) result }
+{
+    Play {
+        told: told_in(found),
+        summary: found.get_flag("summary"),
+        explain: found.get_flag("explain"),
+    }
+}
+
 #[tactic(auto, using(crate::proofs::Rows::value_by_rows))]
 fn replay_of<'m, 'a>(found: &'m ArgMatches<'a>) -> Request<'m, 'a>
     ensures { AsksToReplay (rows_of (found_of found.now)) result }
 {
     Request::Replay {
         file: file_of(found.get_str("file")),
+        play: play_in(found),
     }
+}
+
+#[tactic(auto, using(crate::proofs::Rows::values_by_rows))]
+fn check_of<'m, 'a>(found: &'m ArgMatches<'a>) -> Option<Request<'m, 'a>>
+    ensures asks { IfSome result (AsksToCheck (rows_of (found_of found.now))) }
+    ensures nothing { IfNone result (all_of (codes "files") (rows_of (found_of found.now)) ≡ None) }
+{
+    Some(Request::Check {
+        files: found.get_strs("files")?,
+    })
 }
 
 #[tactic(auto, using(crate::proofs::Rows::value_by_rows))]
@@ -97,6 +176,7 @@ fn drive_of<'m, 'a>(found: &'m ArgMatches<'a>) -> Option<Request<'m, 'a>>
 {
     Some(Request::Drive {
         script: found.get_str("script")?,
+        told: told_in(found),
     })
 }
 
@@ -170,6 +250,7 @@ fn explain_of<'m, 'a>(found: &'m ArgMatches<'a>) -> Request<'m, 'a>
     Request::Explain {
         trace: file_of(found.get_str("trace")),
         mask: mask_of(found.get_str("mask")),
+        told: form_in(found, true),
     }
 }
 

@@ -1,0 +1,110 @@
+//! Traces that are told otherwise than they are, and replays that are summed up.
+ghost use Rattle.std.specs.Prelude.{◌≡◌, ◌≢◌, Err};
+
+use crate::request::{Play, Told};
+use gp_check::mistake_line;
+use gp_explain::{Form, Telling};
+use gp_drive::{DriveFault, Driven, run_drive};
+use gp_flow::{LineFault, LinesFault};
+use gp_ploam::Mask;
+use gp_replay::{RunFault, run_replay};
+use gp_script::{PlacedError, read_script, read_script_at};
+use gp_stream::{Sink, Source, read_all};
+use gp_summary::run_summary;
+use gp_tell::{TellFault, Teller};
+use std::alloc::Global;
+use std::io;
+use std::io::Read;
+use std::marker::Brand;
+
+/// Tells whether lines are written as they are.
+pub fn is_plain(told: Told) -> bool {
+    told.form == Form::Plain && !told.timed
+}
+
+/// Gives the mask of the script that bytes are, and the plain one where they are none.
+pub fn mask_in(alloc: Global, bytes: &[u8]) -> Mask {
+    match read_script(alloc, bytes) {
+        Ok(script) => script.mask,
+        Err(_) => Mask::Plain,
+    }
+}
+
+/// How a replay ended, where what was told of it may have had a fault.
+fn ended(told: Option<TellFault>, played: Result<(), RunFault>) -> Result<(), RunFault>
+    requires mismatch { played ≢ Err RunFault.Mismatch }
+    requires journal_full { played ≢ Err RunFault.JournalFull }
+    ensures mismatch { result ≢ Err RunFault.Mismatch }
+    ensures journal_full { result ≢ Err RunFault.JournalFull }
+{
+    match told {
+        Some(TellFault::OutOfMemory) => Err(RunFault::OutOfMemory),
+        Some(TellFault::Write) | None => played,
+    }
+}
+
+/// Plays the script that bytes are, and writes its trace so.
+fn replay_told<R: AllocGlobal + Print>(rt: &R, bytes: &[u8], told: Told) -> Result<(), RunFault>
+    ensures mismatch { result ≢ Err RunFault.Mismatch }
+    ensures journal_full { result ≢ Err RunFault.JournalFull }
+{
+    let mask = mask_in(rt.alloc(), bytes);
+    let telling = Telling::new(rt.alloc(), mask, told.form, told.timed);
+    let teller = Teller::<Brand, _>::new(rt.alloc(), telling, io::writer(rt))?;
+    let mut sink = Sink::new(rt.alloc(), teller)?;
+    let mut source = Source::new(bytes);
+    let played = run_replay(rt.alloc(), &mut source, &mut sink);
+    ended(sink.into_inner().fault(), played)
+}
+
+/// Plays the script that bytes are, and writes its trace, or what it comes to.
+pub fn replay_bytes<R: AllocGlobal + Print>(rt: &R, bytes: &[u8], play: Play) -> Result<(), RunFault>
+    ensures mismatch { result ≢ Err RunFault.Mismatch }
+    ensures journal_full { result ≢ Err RunFault.JournalFull }
+{
+    if !play.summary && !is_plain(play.told) {
+        return replay_told(rt, bytes, play.told);
+    }
+    let mut sink = Sink::new(rt.alloc(), io::writer(rt))?;
+    let mut source = Source::new(bytes);
+    if play.summary {
+        run_summary(rt.alloc(), &mut source, &mut sink)
+    } else {
+        run_replay(rt.alloc(), &mut source, &mut sink)
+    }
+}
+
+/// Plays the script that a reader gives, and answers the lines that another gives, by trace lines that are told so.
+pub fn drive_told<R: AllocGlobal + Print, S: Read, T: Read>(
+    rt: &R,
+    script: S,
+    turns: T,
+    told: Told,
+) -> Result<Driven, DriveFault> {
+    let mut source = Source::new(script);
+    let bytes = read_all(rt.alloc(), &mut source)?;
+    let mask = mask_in(rt.alloc(), bytes.as_slice());
+    let telling = Telling::new(rt.alloc(), mask, told.form, told.timed);
+    let teller = Teller::<Brand, _>::new(rt.alloc(), telling, io::writer(rt))?;
+    let mut sink = Sink::new(rt.alloc(), teller)?;
+    let mut script = Source::new(bytes.as_slice());
+    let mut turns = Source::endless(turns);
+    let driven = run_drive(rt.alloc(), &mut script, &mut turns, &mut sink);
+    match sink.into_inner().fault() {
+        Some(TellFault::OutOfMemory) => {
+            let fault = LinesFault::Line(LineFault::OutOfMemory);
+            Err(DriveFault::Turns(fault))
+        }
+        Some(TellFault::Write) | None => driven,
+    }
+}
+
+/// Says on standard error where bytes are no script, if they are none.
+pub fn tell_place<R: AllocGlobal + Eprint>(rt: &R, bytes: &[u8]) {
+    let Err(PlacedError::Wrong(mistake)) = read_script_at(rt.alloc(), bytes) else {
+        return;
+    };
+    if let Ok(place) = mistake_line(rt.alloc(), &mistake) {
+        let _ = eprintln!(rt; "oltctl: {place}");
+    }
+}
