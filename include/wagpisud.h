@@ -40,7 +40,8 @@ enum wp_status {
     WP_LINE_SERIAL = 13, /* of a line: a text spells no serial number */
     WP_LINE_HEX = 14,    /* of a line: a code isn't 26 hexadecimal digits */
     WP_LINE_RANGE = 15,  /* of a line: a number is outside its range */
-    WP_LINE_LONG = 16    /* of a line: it has more than 4,096 octets */
+    WP_LINE_LONG = 16,   /* of a line: it has more than 4,096 octets */
+    WP_NO_ENTRY = 17     /* the port's journal keeps no entry with this number */
 };
 
 /* A chassis: closed where it is all zeros. Its fields are the library's. */
@@ -302,6 +303,25 @@ uint32_t wp_free(wp_chassis *chassis, uint32_t *count);
  *     if (wp_count(&chassis, 0, &counts) == WP_DONE)
  *         printf("%u units\n", (unsigned)counts.units); */
 uint32_t wp_count(wp_chassis *chassis, uint8_t port, wp_counts *counts);
+
+/* Tells an entry that a port's journal keeps, as numbers: what happened, and what the port gave for it. Those that are
+ * kept are numbered from first_kept up to entries - 1 of wp_count. Takes no memory.
+ * Answers WP_NOT_OPEN, WP_NO_PORT or WP_NO_ENTRY.
+ *
+ *     for (uint64_t number = counts.first_kept; number < counts.entries; number++)
+ *         wp_entry(&chassis, 0, number, &event, &answer); */
+uint32_t wp_entry(wp_chassis *chassis, uint8_t port, uint64_t number, wp_event *event, wp_answer *answer);
+
+/* The same as a line of the trace, in ASCII with its line feed and without a zero at its end: the line that `oltctl
+ * replay` writes of it and `oltctl verify` reads. It is written where the buffer has room for all of it; else nothing
+ * is. *length is how many octets it has, at most 256. Takes memory for the line, and gives it back.
+ * Answers WP_NOT_OPEN, WP_NO_PORT, WP_NO_ENTRY or WP_NO_MEMORY.
+ *
+ *     uint8_t line[256];
+ *     size_t length;
+ *     if (wp_line(&chassis, 0, answer.number, line, sizeof line, &length) == WP_DONE)
+ *         fwrite(line, 1, length, log); */
+uint32_t wp_line(wp_chassis *chassis, uint8_t port, uint64_t number, uint8_t *buffer, size_t size, size_t *length);
 
 /* Lets go the entries that a port's journal keeps, so that it has room again. The port stays as it is, and the next
  * entry has the next number. Takes memory for two images of the port, and gives the journal's back.

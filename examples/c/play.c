@@ -132,6 +132,23 @@ static void write_answer(const char *event, const wp_asked *asked, const wp_answ
     printf("\n");
 }
 
+/* Writes the line that the library has of the last entry, which wp_entry has to tell too. */
+static void write_line(const wp_asked *asked, const wp_answer *answer)
+{
+    uint8_t line[256];
+    size_t length;
+    wp_event event;
+    wp_answer again;
+    must("line", wp_line(&chassis, asked->port, answer->number, line, sizeof line, &length));
+    fwrite(line, 1, length, stdout);
+    must("entry", wp_entry(&chassis, asked->port, answer->number, &event, &again));
+    if (memcmp(event.octets, asked->event.octets, 13) || event.kind != asked->event.kind
+        || memcmp(again.sent, answer->sent, 13) || again.reply != answer->reply || again.number != answer->number)
+        fail("another entry", 0);
+    if (wp_entry(&chassis, asked->port, answer->number + 1, &event, &again) != WP_NO_ENTRY)
+        fail("an entry too many", 0);
+}
+
 /* Makes the call that an event stands for: its own, or wp_apply. */
 static uint32_t call(const wp_asked *asked, int own, wp_answer *answer)
 {
@@ -170,7 +187,10 @@ int main(int argc, char **argv)
             status = call(&asked, own, &answer);
         }
         must("call", status);
-        write_answer(strchr(line, ' ') + 1, &asked, &answer);
+        if (own)
+            write_answer(strchr(line, ' ') + 1, &asked, &answer);
+        else
+            write_line(&asked, &answer);
     }
     must("close", wp_close(&chassis));
     return 0;

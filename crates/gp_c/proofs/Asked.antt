@@ -1,13 +1,15 @@
 -- What is asked of a handle, by the kind of question.
-use Rattle.std.proofs.Common.{◌≡◌, ℕ, refl, ap, Option, None, Some}
+use Rattle.std.proofs.Common.{◌≡◌, ℕ, refl, ap, Option, None, Some, IfOk}
+use Rattle.std.specs.Option.{ForSome}
+use Rattle.gp_ploam.specs.Down.{IsProperDown}
 use Rattle.gp_ploam.specs.declared.message.Serial.{Serial}
 use Rattle.gp_machine.specs.declared.event.Event.{Event}
 use Rattle.gp_chassis.specs.Core.{CoreState}
-use Rattle.gp_c.specs.declared.op.Op.TheVariants.{Apply, Show, Count, Cut, Close, Tally}
+use Rattle.gp_c.specs.declared.op.Op.TheVariants.{Apply, Show, Count, Cut, Close, Tally, Entry}
 use Rattle.gp_c.specs.declared.op.Out.{Out}
-use Rattle.gp_c.specs.Outs.{done_of, answered_of, shown_of, counted_of, tallied_of}
+use Rattle.gp_c.specs.Outs.{done_of, answered_of, shown_of, counted_of, tallied_of, kept_of}
 use Rattle.gp_c.specs.Serves.{Serves}
-use Rattle.gp_c.specs.Calls.{ServesEvent, CutsJournal, shown_at, free_at, closed_at, tallied_at}
+use Rattle.gp_c.specs.Calls.{ServesEvent, CutsJournal, shown_at, free_at, closed_at, tallied_at, kept_at}
 
 -- an event
 pub applied : (before after : Option CoreState) (port : ℕ) (event : Event) (out : Out) → Serves before (Apply port event) after out → ServesEvent before port event after (answered_of out)
@@ -37,3 +39,13 @@ closed (Some core) after out s = s.5 core refl refl
 pub tallied : (before after : Option CoreState) (port : ℕ) (out : Out) → Serves before (Tally port) after out → (after ≡ before) × (tallied_of out ≡ tallied_at before port)
 tallied None after port out s = ((s.0 refl).0, ap tallied_of (s.0 refl).1)
 tallied (Some core) after port out s = s.6 core port refl refl
+
+-- an entry
+pub kept : (before after : Option CoreState) (port number : ℕ) (out : Out) → Serves before (Entry port number) after out
+    → (after ≡ before) × (kept_of out ≡ kept_at before port number) × IfOk (kept_of out) (λ entry. ForSome entry.receipt.entry.answer.sent IsProperDown)
+kept None after port number out s =
+    let none = ap kept_of (s.0 refl).1 in
+    ((s.0 refl).0, none, rw none tt)
+kept (Some core) after port number out s =
+    let given = s.7 core port number refl refl in
+    (given.0, given.1.0, given.1.1)

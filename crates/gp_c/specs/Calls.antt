@@ -1,6 +1,7 @@
 -- What a call from C answers, and what it leaves.
-use Rattle.std.specs.Prelude.{ℕ, ◌≡◌, ◌++◌, nat_le, if◌then◌else◌, length, drop, List, Option, None, Some, Result, Ok, Err, OnOk, OnErr}
+use Rattle.std.specs.Prelude.{ℕ, ◌≡◌, ◌++◌, nat_le, if◌then◌else◌, length, drop, List, Option, None, Some, Result, Ok, Err, OnOk, OnErr, ◌⊎◌}
 use Rattle.gp_ploam.specs.declared.message.Serial.{Serial}
+use Rattle.gp_trace.specs.Text.{line_of}
 use Rattle.gp_machine.specs.declared.config.PortConfig.{PortConfig}
 use Rattle.gp_machine.specs.declared.event.Event.{Event}
 use Rattle.gp_chassis.specs.declared.config.ChassisConfig.{ChassisConfig}
@@ -10,12 +11,14 @@ use Rattle.gp_c.specs.declared.answer.AnswerNumbers.{AnswerNumbers}
 use Rattle.gp_c.specs.declared.counts.PortCounts.{PortCounts}
 use Rattle.gp_c.specs.declared.row.RowNumbers.{RowNumbers}
 use Rattle.gp_c.specs.declared.fault.Fault.{Fault}
-use Rattle.gp_c.specs.declared.fault.Fault.TheVariants.{NotOpen, IsOpen, Limit, Serials}
+use Rattle.gp_c.specs.declared.fault.Fault.TheVariants.{NotOpen, IsOpen, Limit, Serials, OutOfMemory}
 use Rattle.gp_c.specs.declared.settings.ChassisSettings.{ChassisSettings}
 use Rattle.gp_c.specs.declared.settings.PortSettings.{PortSettings}
 use Rattle.gp_c.specs.declared.settings.SerialNumber.{SerialNumber}
 use Rattle.gp_c.specs.Faults.{fault_number}
 use Rattle.gp_c.specs.Settings.{ports_of}
+use Rattle.gp_c.specs.declared.kept.KeptEntry.{KeptEntry}
+use Rattle.gp_c.specs.Entries.{entry_at}
 use Rattle.gp_c.specs.Serves.{Answers, Cuts, StaysOpen, row_at, counts_at}
 
 -- ---- what crosses
@@ -115,6 +118,20 @@ abbrev pub tallied_at : Option CoreState → ℕ → Result PortCounts Fault
 tallied_at None port = Err NotOpen
 tallied_at (Some core) port = counts_at core port
 
+-- an entry that a port's journal keeps
+abbrev pub kept_at : Option CoreState → ℕ → ℕ → Result KeptEntry Fault
+kept_at None port number = Err NotOpen
+kept_at (Some core) port number = entry_at core port number
+
+-- what is told of it, where it is kept
+abbrev pub told_by : {A : Type 0} → (KeptEntry → A) → Result KeptEntry Fault → Result A Fault
+told_by tell (Ok kept) = Ok (tell kept)
+told_by tell (Err fault) = Err fault
+
+-- its line of the trace
+abbrev pub line_told : KeptEntry → List ℕ
+line_told kept = line_of kept.mask kept.receipt
+
 -- the journal of a port was cut, or nothing changed
 abbrev pub CutsJournal : Option CoreState → ℕ → Option CoreState → Result Unit Fault → Type 0
 CutsJournal before port after done =
@@ -139,3 +156,22 @@ closed_at (Some core) = Ok tt
 -- too short
 abbrev pub text_in : List ℕ → List ℕ → List ℕ
 text_in buffer text = if nat_le (length text) (length buffer) then text ++ drop (length text) buffer else buffer
+
+-- what stands in it where there may be a fault instead
+abbrev pub line_in : {E : Type 0} → List ℕ → Result (List ℕ) E → List ℕ
+line_in buffer (Ok line) = text_in buffer line
+line_in buffer (Err fault) = buffer
+
+-- how many octets the caller is told that it has
+abbrev pub length_in : {E : Type 0} → ℕ → Result (List ℕ) E → ℕ
+length_in old (Ok line) = length line
+length_in old (Err fault) = old
+
+-- the caller is told the line of an entry, or that memory for it was refused
+pub record TellsLine (before : Option CoreState) (port number status : ℕ) (old new : List ℕ)
+    (was is : ℕ) : Type 0 where
+  pub line : Result (List ℕ) Fault
+  pub told : (line ≡ told_by line_told (kept_at before port number)) ⊎ (line ≡ Err OutOfMemory)
+  pub status_is : status ≡ status_of line
+  pub buffer : new ≡ line_in old line
+  pub length_is : is ≡ length_in was line

@@ -3,6 +3,7 @@ pub mod Calls
 pub mod Commands
 pub mod Counts
 pub mod Events
+pub mod Entries
 pub mod Faults
 pub mod Held
 pub mod Outs

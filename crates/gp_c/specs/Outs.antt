@@ -4,9 +4,10 @@ use Rattle.gp_c.specs.declared.answer.AnswerNumbers.{AnswerNumbers}
 use Rattle.gp_c.specs.declared.counts.PortCounts.{PortCounts}
 use Rattle.gp_c.specs.declared.row.RowNumbers.{RowNumbers}
 use Rattle.gp_c.specs.declared.fault.Fault.{Fault}
+use Rattle.gp_c.specs.declared.kept.KeptEntry.{KeptEntry}
 use Rattle.gp_c.specs.declared.fault.Fault.TheVariants.{NotOpen}
 use Rattle.gp_c.specs.declared.op.Out.{Out}
-use Rattle.gp_c.specs.declared.op.Out.TheVariants.{Done, Answered, Shown, Counted, Tallied}
+use Rattle.gp_c.specs.declared.op.Out.TheVariants.{Done, Answered, Shown, Counted, Tallied, Kept}
 
 -- to opening, closing or cutting
 abbrev pub done_of : Out → Result Unit Fault
@@ -32,3 +33,8 @@ counted_of _ = Err NotOpen
 abbrev pub tallied_of : Out → Result PortCounts Fault
 tallied_of (Tallied counts) = counts
 tallied_of _ = Err NotOpen
+
+-- to a question for an entry
+abbrev pub kept_of : Out → Result KeptEntry Fault
+kept_of (Kept kept) = kept
+kept_of _ = Err NotOpen

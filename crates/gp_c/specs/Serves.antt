@@ -1,8 +1,10 @@
 -- What is asked of the chassis behind a handle, and what is answered.
 use Rattle.std.specs.Prelude.{ℕ, ◌≡◌, ◌<◌, ◌≤◌, ◌↔◌, ◌⊎◌, Option, None, Some, Result, Ok, Err, length, slice_get, IfOk, IfErr, OnOk, OnErr, IfSome, IfNone}
 use Rattle.std.specs.FinMap.{get}
+use Rattle.std.specs.Option.{ForSome}
 use Rattle.gp_ploam.specs.declared.message.Serial.{Serial}
 use Rattle.gp_ploam.specs.Mask.{mask_value}
+use Rattle.gp_ploam.specs.Down.{IsProperDown}
 use Rattle.gp_unit.specs.declared.row.Row.{Row}
 use Rattle.gp_unit.specs.Records.{view_of}
 use Rattle.gp_machine.specs.declared.event.Event.{Event}
@@ -17,14 +19,16 @@ use Rattle.gp_c.specs.declared.row.RowNumbers.{RowNumbers}
 use Rattle.gp_c.specs.declared.fault.Fault.{Fault}
 use Rattle.gp_c.specs.declared.fault.Fault.TheVariants.{Limit, OutOfMemory, NoPort, JournalFull, NoUnit}
 use Rattle.gp_c.specs.declared.op.Op.{Op}
-use Rattle.gp_c.specs.declared.op.Op.TheVariants.{Apply, Show, Count, Cut, Close, Tally}
+use Rattle.gp_c.specs.declared.op.Op.TheVariants.{Apply, Show, Count, Cut, Close, Tally, Entry}
 use Rattle.gp_c.specs.declared.op.Out.{Out}
 use Rattle.gp_c.specs.declared.op.Out.TheVariants.{NotOpen}
 use Rattle.gp_c.specs.Answers.{answer_numbers}
 use Rattle.gp_c.specs.declared.counts.PortCounts.{PortCounts}
 use Rattle.gp_c.specs.Counts.{counts_of}
 use Rattle.gp_c.specs.Rows.{row_numbers}
-use Rattle.gp_c.specs.Outs.{done_of, answered_of, shown_of, counted_of, tallied_of}
+use Rattle.gp_c.specs.declared.kept.KeptEntry.{KeptEntry}
+use Rattle.gp_c.specs.Entries.{entry_at}
+use Rattle.gp_c.specs.Outs.{done_of, answered_of, shown_of, counted_of, tallied_of, kept_of}
 
 -- ---- opening
 
@@ -107,6 +111,14 @@ Cuts core port after cut =
     × OnErr cut (after ≡ core)
     × IfErr cut (λ fault. KeepsJournal core port fault)
 
+-- ---- an entry
+
+-- the entry that is asked for is given, and what it tells as sent can be encoded
+abbrev pub GivesEntry : CoreState → ℕ → ℕ → Result KeptEntry Fault → Type 0
+GivesEntry core port number kept =
+    (kept ≡ entry_at core port number)
+    × IfOk kept (λ entry. ForSome entry.receipt.entry.answer.sent IsProperDown)
+
 -- ---- whatever is asked
 
 -- a chassis that was asked stays open, and this holds of it
@@ -128,3 +140,5 @@ Serves before op after out =
     × ((core : CoreState) → before ≡ Some core → op ≡ Close → (after ≡ None) × (done_of out ≡ Ok tt))
     × ((core : CoreState) (port : ℕ) → before ≡ Some core → op ≡ Tally port
     → (after ≡ Some core) × (tallied_of out ≡ counts_at core port))
+    × ((core : CoreState) (port number : ℕ) → before ≡ Some core → op ≡ Entry port number
+    → (after ≡ Some core) × GivesEntry core port number (kept_of out))

@@ -1,11 +1,14 @@
 //! What a handle is asked: one function for each kind of call.
-ghost use Rattle.std.specs.Prelude.{◌≡◌, None};
+ghost use Rattle.std.specs.Prelude.{◌≡◌, None, IfOk};
+ghost use Rattle.std.specs.Option.{ForSome};
+ghost use Rattle.gp_ploam.specs.Down.{IsProperDown};
 ghost use Rattle.gp_c.specs.Calls as spec;
 
 use crate::answer::AnswerNumbers;
 use crate::counts::PortCounts;
 use crate::fault::Fault;
 use crate::handle::{Handle, ask};
+use crate::kept::KeptEntry;
 use crate::op::Op;
 use crate::row::RowNumbers;
 use crate::settings::{ChassisSettings, PortSettings, SerialNumber, ports_of};
@@ -85,6 +88,21 @@ pub(crate) fn tally(handle: &mut Handle, alloc: Global, port: u8) -> Result<Port
     ensures counts { result ≡ spec.tallied_at handle.old.value port }
 {
     ask(handle, alloc, Op::Tally { port }).tallied()
+}
+
+/// Gives an entry that a port's journal keeps.
+#[inline(always)]
+pub(crate) fn entry(
+    handle: &mut Handle,
+    alloc: Global,
+    port: u8,
+    number: u64,
+) -> Result<KeptEntry, Fault>
+    ensures unchanged { handle.new.value ≡ handle.old.value }
+    ensures kept { result ≡ spec.kept_at handle.old.value port number }
+    ensures proper { IfOk result (λ kept. ForSome kept.receipt.entry.answer.sent IsProperDown) }
+{
+    ask(handle, alloc, Op::Entry { port, number }).kept()
 }
 
 /// Lets go what a port's journal keeps.

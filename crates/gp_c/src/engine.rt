@@ -1,13 +1,14 @@
 //! What stands behind a handle: a chassis that is closed where it is dropped.
 ghost use Rattle.std.specs.Prelude.{◌≡◌, ◌↔◌, ◌⊎◌, IfOk, IfErr, OnOk, OnErr};
-ghost use Rattle.gp_c.specs.Serves.{IsServed, Refuses, IsCut, KeepsJournal, row_at, counts_at};
+ghost use Rattle.gp_c.specs.Serves.{IsServed, Refuses, IsCut, KeepsJournal, GivesEntry, row_at, counts_at};
 
 use crate::answer::{AnswerNumbers, answer_of};
 use crate::counts::{PortCounts, counts_of};
 use crate::fault::Fault;
+use crate::kept::KeptEntry;
 use crate::row::{RowNumbers, row_of};
 use gp_chassis::{ChassisCore, CoreFault};
-use gp_machine::Event;
+use gp_machine::{Event, Receipt};
 use gp_ploam::Serial;
 use std::alloc::Global;
 use std::marker::Model;
@@ -86,6 +87,27 @@ impl<L: Ledger> Engine<L> {
         match self.core.desk(port) {
             Some(desk) => Ok(counts_of(desk)),
             None => Err(Fault::NoPort),
+        }
+    }
+
+    /// Gives an entry that a port's journal keeps. The faults are `NoPort` and `NoEntry`.
+    pub(crate) fn entry(&self, port: u8, number: u64) -> Result<KeptEntry, Fault>
+        ensures { GivesEntry self.now port number result }
+    {
+        let Some(desk) = self.core.desk(port) else {
+            return Err(Fault::NoPort);
+        };
+        let journal = desk.journal();
+        match journal.entry_at(number) {
+            Some(entry) => Ok(KeptEntry {
+                mask: desk.config().mask,
+                receipt: Receipt {
+                    port,
+                    number,
+                    entry,
+                },
+            }),
+            None => Err(Fault::NoEntry),
         }
     }
 

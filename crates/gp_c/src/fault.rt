@@ -37,10 +37,12 @@ pub enum Fault {
     LineRange,
     /// Of a line: it has more than 4,096 octets.
     LineLong,
+    /// The journal of the port keeps no entry with this number.
+    NoEntry,
 }
 
 impl Fault {
-    /// Gives the number that the caller is told, 1 to 16; 0 is told where a call is done.
+    /// Gives the number that the caller is told, 1 to 17; 0 is told where a call is done.
     pub fn number(self) -> u32
         ensures { result ≡ fault_number self }
     {
@@ -61,6 +63,7 @@ impl Fault {
             Fault::LineHex => 14,
             Fault::LineRange => 15,
             Fault::LineLong => 16,
+            Fault::NoEntry => 17,
         }
     }
 }
@@ -87,6 +90,7 @@ pub(crate) fn text_of(status: u32) -> &'static str
         14 => "line: hex",
         15 => "line: range",
         16 => "line: long",
+        17 => "no such entry",
         _ => "no such status",
     }
 }

@@ -2,7 +2,7 @@
 //!
 //! - `exports.rt`: the functions that C calls. `calls.rt`: what each asks of its handle.
 //! - `settings.rt`, `event.rt`, `command.rt`, `answer.rt`, `row.rt`, `counts.rt`, `turn.rt`, `fault.rt`: what crosses,
-//!   as plain numbers.
+//!   as plain numbers. `kept.rt`: an entry that a journal keeps.
 //! - `handle.rt`: `Handle`, what C holds. `slot.rt`: the same at a ledger. `loose.rt`: a box as its pointer.
 //! - `engine.rt`: what stands behind a handle. `op.rt`: what is asked of it, and what it answers.
 //!
@@ -24,6 +24,7 @@ mod event;
 mod exports;
 mod fault;
 mod handle;
+mod kept;
 mod loose;
 mod op;
 mod row;
@@ -36,11 +37,12 @@ pub use counts::PortCounts;
 pub use engine::Engine;
 pub use event::EventNumbers;
 pub use exports::{
-    wp_apply, wp_burst, wp_close, wp_command, wp_count, wp_cut, wp_frame, wp_free, wp_open,
-    wp_show, wp_text, wp_turn,
+    wp_apply, wp_burst, wp_close, wp_command, wp_count, wp_cut, wp_entry, wp_frame, wp_free,
+    wp_line, wp_open, wp_show, wp_text, wp_turn,
 };
 pub use fault::Fault;
 pub use handle::Handle;
+pub use kept::KeptEntry;
 pub use op::{Op, Out};
 pub use row::{AllocNumbers, RowNumbers};
 pub use settings::{ChassisSettings, PortSettings, SerialNumber};

@@ -5,6 +5,7 @@ ghost use Rattle.gp_c.specs.Outs as spec;
 use crate::answer::AnswerNumbers;
 use crate::counts::PortCounts;
 use crate::fault::Fault;
+use crate::kept::KeptEntry;
 use crate::row::RowNumbers;
 use gp_machine::Event;
 use gp_ploam::Serial;
@@ -20,6 +21,8 @@ pub enum Op {
     Count,
     /// Tell what is counted of a port.
     Tally { port: u8 },
+    /// Give an entry that a port's journal keeps.
+    Entry { port: u8, number: u64 },
     /// Let go what a port's journal keeps.
     Cut { port: u8 },
     /// Close the chassis.
@@ -41,6 +44,8 @@ pub enum Out {
     Counted(u32),
     /// To `Tally`.
     Tallied(Result<PortCounts, Fault>),
+    /// To `Entry`.
+    Kept(Result<KeptEntry, Fault>),
 }
 
 impl Out {
@@ -95,6 +100,17 @@ impl Out {
     {
         match self {
             Out::Tallied(counts) => counts,
+            _ => Err(Fault::NotOpen),
+        }
+    }
+
+    /// Gives the answer to `Entry`.
+    #[inline(always)]
+    pub(crate) fn kept(self) -> Result<KeptEntry, Fault>
+        ensures { result ≡ spec.kept_of self }
+    {
+        match self {
+            Out::Kept(kept) => kept,
             _ => Err(Fault::NotOpen),
         }
     }

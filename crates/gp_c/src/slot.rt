@@ -121,6 +121,10 @@ pub(crate) fn serve_slot<L: Ledger>(slot: Slot<L>, op: Op, alloc: Global) -> (Sl
             let counts = engine.tally(port);
             (Slot::of(Loose::of(engine)), Out::Tallied(counts))
         }
+        Op::Entry { port, number } => {
+            let kept = engine.entry(port, number);
+            (Slot::of(Loose::of(engine)), Out::Kept(kept))
+        }
         Op::Cut { port } => {
             let done = engine.cut(alloc, port);
             (Slot::of(Loose::of(engine)), Out::Done(done))

@@ -3,7 +3,7 @@ use Rattle.std.proofs.Common.{◌≡◌, ◌<◌, ◌≤◌, ◌+◌, ◌-◌, �
 use Rattle.std.specs.Prelude.{Option, Some, slice_get, slice_set, slice_index, sum_by, All, if◌then◌else◌, nat_lt, option_map, ◌↔◌}
 use Rattle.std.specs.FinMap.{len-empty}
 use Rattle.std.proofs.lemmas.List.{map-set, set-set, set-get_or, length-replicate}
-use Rattle.std.proofs.lemmas.List.Elements.{All-set, All-map}
+use Rattle.std.proofs.lemmas.List.Elements.{All-set, All-map, All-nil}
 use Rattle.std.proofs.lemmas.List.Folds.{sum_by-replicate}
 use Rattle.std.proofs.lemmas.List.Sums.{sum_by-cons}
 use Rattle.std.proofs.lemmas.Option.{slice_get-map, get_or_from_slice_get, slice_get_read, slice_get_within, same_Some}
@@ -25,7 +25,7 @@ use Rattle.gp_port.specs.Numbers.{GrantsWish, HandsOut}
 use Rattle.gp_laws.proofs.WholeRuns.{every_state}
 use Rattle.gp_journal.specs.declared.piece.Piece.{Piece}
 use Rattle.gp_journal.proofs.Runs.{Replays-opened}
-use Rattle.gp_chassis.specs.Desk.{DeskState, DeskStands, HasRoom, opened, Serves, Cuts}
+use Rattle.gp_chassis.specs.Desk.{DeskState, DeskStands, HasRoom, opened, Serves, Cuts, IsProperEntry}
 use Rattle.gp_chassis.specs.World.{ChassisWorld, Port, PortMoves, hand, taken, given, ChassisStep, ChassisRun, IsBalanced, HoldsApart, units_of, world_opened}
 use Rattle.gp_chassis.specs.Core.{CoreState, Stands, CoreServes, CoreCuts, CoreApplies, GrantsFrom, GrantsTurn, world_of, with_licences, lent, moves_of, core_opened, IsFullAt, JoinsAt}
 use Rattle.gp_chassis.proofs.Worlds.{move_keeps, taken_ports, set_same, apart_reached}
@@ -174,7 +174,7 @@ cut_joins old new p piece h =
 -- ---- it is opened
 
 opened_desks : (limit : ℕ) (cs : List PortConfig) → All (λ (c : PortConfig). IsTrue (is_within_limits c)) cs → All DeskStands (map (opened limit) cs)
-opened_desks limit cs h = All-map DeskStands (opened limit) cs (λ k d l. record { replays = Replays-opened (get_or cs k d) (h k d l); reached = ([], refl) })
+opened_desks limit cs h = All-map DeskStands (opened limit) cs (λ k d l. record { replays = Replays-opened (get_or cs k d) (h k d l); reached = ([], refl); proper = All-nil IsProperEntry })
 
 opened_ports : (limit : ℕ) (cs : List PortConfig) → map (λ (d : DeskState). d.state) (map (opened limit) cs) ≡ map opening_of cs
 opened_ports limit [] = refl

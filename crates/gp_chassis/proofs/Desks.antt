@@ -1,6 +1,7 @@
 -- A desk that serves one event more.
-use Rattle.std.proofs.Common.{◌≡◌, ◌≤◌, ◌+◌, ℕ, List, [], ◌∷◌, ◌++◌, length, sym, ap, subst, ◌∙◌, length-append}
+use Rattle.std.proofs.Common.{◌≡◌, ◌+◌, ℕ, List, [], ◌∷◌, ◌++◌, length, sym, ap, subst, ◌∙◌, length-append}
 use Rattle.std.specs.Prelude.{Option}
+use Rattle.std.proofs.lemmas.List.Elements.{All-push}
 use Rattle.gp_machine.specs.declared.config.PortConfig.{PortConfig}
 use Rattle.gp_machine.specs.declared.answer.Answer.{Answer}
 use Rattle.gp_machine.specs.declared.event.Event.{Event}
@@ -12,7 +13,7 @@ use Rattle.gp_port.specs.Numbers.{GrantsWish}
 use Rattle.gp_laws.proofs.WholeRuns.{step_config}
 use Rattle.gp_journal.specs.Replays.{Replays}
 use Rattle.gp_journal.proofs.Runs.{Replays-push, Run-push}
-use Rattle.gp_chassis.specs.Desk.{DeskState, DeskStands, desk_after}
+use Rattle.gp_chassis.specs.Desk.{DeskState, DeskStands, IsProperEntry, desk_after}
 
 -- a step, with the licences counted before and after it
 pub step_counted : (purse rest counted left : ℕ) (p next : PortState) (event : Event) (answer : Answer) → counted ≡ purse → left ≡ rest
@@ -30,8 +31,8 @@ wish_counted purse rest left p next event wished answer r grants =
     subst (λ (n : ℕ). GrantsWish purse p event wished (record { answer = answer; purse = n; state = next })) (sym r) grants
 
 -- what holds of a desk holds of it after a step more
-pub stepped_desk : (d : DeskState) (e : Entry) (next : PortState) → DeskStands d → IsStep d.state e next → DeskStands (desk_after d e next)
-stepped_desk d e next h step =
+pub stepped_desk : (d : DeskState) (e : Entry) (next : PortState) → DeskStands d → IsStep d.state e next → IsProperEntry e → DeskStands (desk_after d e next)
+stepped_desk d e next h step proper =
     let config : next.config ≡ d.state.config = step_config d.state next e step in
     let c : PortConfig = d.state.config in
     let replays : Replays c d.base (d.entries ++ e ∷ []) next = Replays-push c d.base d.state next d.entries e h.replays step in
@@ -39,6 +40,7 @@ stepped_desk d e next h step =
     record {
       replays = subst (λ (x : PortConfig). Replays x d.base (d.entries ++ e ∷ []) next) (sym config) replays;
       reached = subst (λ (x : PortConfig). IsReached x next) (sym config) reached;
+      proper = All-push IsProperEntry d.entries e h.proper proper;
     }
 
 -- the desk whose journal made room, and then kept one entry more

@@ -1,5 +1,5 @@
 -- A port with its journal (this profile's own rule).
-use Rattle.std.specs.Prelude.{ℕ, List, Option, None, Some, ◌≡◌, ◌+◌, ◌<◌, ◌^◌, ◌++◌, ◌∷◌, [], length, IsTrue}
+use Rattle.std.specs.Prelude.{ℕ, List, Option, None, Some, All, ◌≡◌, ◌+◌, ◌<◌, ◌^◌, ◌++◌, ◌∷◌, [], length, IsTrue}
 use Rattle.std.specs.Option.{ForSome}
 use Rattle.gp_ploam.specs.Down.{IsProperDown}
 use Rattle.gp_machine.specs.declared.config.PortConfig.{PortConfig}
@@ -32,12 +32,18 @@ history_of_desk desk = record { first = desk.first; entries = desk.entries }
 abbrev pub opened : ℕ → PortConfig → DeskState
 opened limit config = record { limit = limit; first = 0; base = None; entries = []; state = opening_of config }
 
+-- what the entry tells as sent can be encoded
+abbrev pub IsProperEntry : Entry → Type 0
+IsProperEntry entry = ForSome entry.answer.sent IsProperDown
+
 -- what holds of every desk
 pub record DeskStands (desk : DeskState) : Type 0 where
   -- the entries that are kept tell how the port came from the base to where it stands
   pub replays : Replays desk.state.config desk.base desk.entries desk.state
   -- and it was opened once, and has made steps alone since then
   pub reached : IsReached desk.state.config desk.state
+  -- what the entries that are kept tell as sent can be encoded
+  pub proper : All IsProperEntry desk.entries
 
 -- the journal may keep an entry more
 pub record HasRoom (desk : DeskState) : Type 0 where
@@ -56,7 +62,7 @@ pub record Serves (old new : DeskState) (port purse : ℕ) (event : Event) (rece
   pub step : IsStep old.state receipt.entry new.state
   pub sound : IsSound new.state
   -- what is sent can be encoded
-  pub proper : ForSome receipt.entry.answer.sent IsProperDown
+  pub proper : IsProperEntry receipt.entry
   pub purse_in : receipt.entry.purse_in ≡ purse
   pub event_is : receipt.entry.event ≡ event
   pub rest_is : rest ≡ receipt.entry.purse_out

@@ -1,5 +1,7 @@
+pub mod Keeping
 pub mod Steps
 pub mod Frames
+pub mod Remembering
 pub mod Telling
 pub mod Losing
 pub mod Asking

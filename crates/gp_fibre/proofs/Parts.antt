@@ -22,7 +22,7 @@ use Rattle.gp_onu.specs.declared.limits.TheConstants.{FRAME_BIT_TIMES}
 use Rattle.gp_fibre.specs.declared.flight.Flight.{Flight}
 use Rattle.gp_fibre.specs.declared.sent_burst.SentBurst.{SentBurst}
 use Rattle.gp_fibre.specs.declared.world_step.WorldStep.TheVariants as steps
-use Rattle.gp_fibre.specs.World.{FibreUnit, FibreWorld}
+use Rattle.gp_fibre.specs.World.{FibreUnit, FibreWorld, Forgotten, kept_at}
 use Rattle.gp_fibre.specs.Step.{FibreInput, Whole, FibreStep, PortTakes, UnitChanges, UnitAnswers, burst_answered, burst_with, unit_granted, unit_hearing}
 use Rattle.gp_fibre.specs.Run.{FibreRun}
 use Rattle.gp_fibre.specs.Fibre.{FibreStand}
@@ -46,6 +46,7 @@ takes_nothing a =
       free = refl;
       copies = refl;
       grants = refl;
+      forgotten = refl;
       many = refl;
       prefix = take_all (length a.bursts) a.bursts (omega arith);
       more = omega arith;
@@ -61,6 +62,7 @@ takes_both a b c is more x y =
       free = y.free ∙ x.free;
       copies = y.copies ∙ x.copies;
       grants = y.grants ∙ x.grants;
+      forgotten = y.forgotten ∙ x.forgotten;
       many = y.many ∙ x.many;
       prefix = prefix_of;
       more = let p = x.more in let q = y.more in omega arith;
@@ -73,7 +75,7 @@ takes_both a b c is more x y =
         sym (take-take (length a.bursts) (length b.bursts) c.bursts low) ∙ ap (λ (bs : List SentBurst). take (length a.bursts) bs) y.prefix ∙ x.prefix
 
 -- one unit hears a copy
-heard_one : (a b : FibreWorld) (copy place : ℕ) (m : Down) → slice_get a.copies copy ≡ Some m → UnitChanges a place (unit_hearing m) b → UnitsTake a (Whole (steps.Deliver copy place) ∷ []) b
+heard_one : (a b : FibreWorld) (copy place : ℕ) (m : Down) → kept_at a.forgotten.copies a.copies copy ≡ Some m → UnitChanges a place (unit_hearing m) b → UnitsTake a (Whole (steps.Deliver copy place) ∷ []) b
 heard_one a b copy place m sent changes =
     record {
       run = one_step a (Whole (steps.Deliver copy place)) None b (m, refl, sent, changes);
@@ -81,6 +83,7 @@ heard_one a b copy place m sent changes =
       free = ap (λ (w : FibreWorld). w.free) changes.rest;
       copies = ap (λ (w : FibreWorld). w.copies) changes.rest;
       grants = ap (λ (w : FibreWorld). w.grants) changes.rest;
+      forgotten = ap (λ (w : FibreWorld). w.forgotten) changes.rest;
       many = ap (λ (us : List FibreUnit). length us) changes.units.after ∙ length-set a.units place (unit_hearing m changes.units.unit);
       prefix = ap (λ (w : FibreWorld). take (length a.bursts) w.bursts) changes.rest ∙ take_all (length a.bursts) a.bursts (omega arith);
       more = let same = ap (λ (w : FibreWorld). length w.bursts) changes.rest in omega arith;
@@ -92,7 +95,7 @@ at_most_one None = omega arith
 at_most_one (Some b) = omega arith
 
 -- one unit takes a grant
-granted_one : (a b : FibreWorld) (grant place : ℕ) (issued : Grant) → slice_get a.grants grant ≡ Some issued → UnitAnswers a place issued b → UnitsTake a (Whole (steps.Give grant place) ∷ []) b
+granted_one : (a b : FibreWorld) (grant place : ℕ) (issued : Grant) → kept_at a.forgotten.grants a.grants grant ≡ Some issued → UnitAnswers a place issued b → UnitsTake a (Whole (steps.Give grant place) ∷ []) b
 granted_one a b grant place issued there answers =
     let o = burst_answered issued answers.units.unit in
     let few = at_most_one o in
@@ -103,25 +106,26 @@ granted_one a b grant place issued there answers =
       free = ap (λ (w : FibreWorld). w.free) answers.rest;
       copies = ap (λ (w : FibreWorld). w.copies) answers.rest;
       grants = ap (λ (w : FibreWorld). w.grants) answers.rest;
+      forgotten = ap (λ (w : FibreWorld). w.forgotten) answers.rest;
       many = ap (λ (us : List FibreUnit). length us) answers.units.after ∙ length-set a.units place _;
       prefix = ap (λ (bs : List SentBurst). take (length a.bursts) bs) answers.answer ∙ take_at a.bursts (option_to_list o) (length a.bursts) refl;
       more = omega arith;
       most = omega arith;
     }
 
-pub heard_more : (a b c : FibreWorld) (copy place : ℕ) (m : Down) → slice_get a.copies copy ≡ Some m → UnitsTake a (deliveries copy place) b → UnitChanges b place (unit_hearing m) c
+pub heard_more : (a b c : FibreWorld) (copy place : ℕ) (m : Down) → kept_at a.forgotten.copies a.copies copy ≡ Some m → UnitsTake a (deliveries copy place) b → UnitChanges b place (unit_hearing m) c
     → UnitsTake a (deliveries copy (place + 1)) c
 heard_more a b c copy place m sent so_far changes =
     subst (λ (is : List FibreInput). UnitsTake a is c) (sym (map-range_with_len_more (λ unit. Whole (steps.Deliver copy unit)) 0 place place (omega arith)))
     (takes_both a b c (deliveries copy place) (Whole (steps.Deliver copy place) ∷ []) so_far
-    (heard_one b c copy place m (ap (λ (cs : List Down). slice_get cs copy) so_far.copies ∙ sent) changes))
+    (heard_one b c copy place m (ap (λ (f : Forgotten). kept_at f.copies b.copies copy) so_far.forgotten ∙ ap (λ (cs : List Down). kept_at a.forgotten.copies cs copy) so_far.copies ∙ sent) changes))
 
-pub granted_more : (a b c : FibreWorld) (grant place : ℕ) (issued : Grant) → slice_get a.grants grant ≡ Some issued → UnitsTake a (grants_given grant place) b → UnitAnswers b place issued c
+pub granted_more : (a b c : FibreWorld) (grant place : ℕ) (issued : Grant) → kept_at a.forgotten.grants a.grants grant ≡ Some issued → UnitsTake a (grants_given grant place) b → UnitAnswers b place issued c
     → UnitsTake a (grants_given grant (place + 1)) c
 granted_more a b c grant place issued there so_far answers =
     subst (λ (is : List FibreInput). UnitsTake a is c) (sym (map-range_with_len_more (λ unit. Whole (steps.Give grant unit)) 0 place place (omega arith)))
     (takes_both a b c (grants_given grant place) (Whole (steps.Give grant place) ∷ []) so_far
-    (granted_one b c grant place issued (ap (λ (gs : List Grant). slice_get gs grant) so_far.grants ∙ there) answers))
+    (granted_one b c grant place issued (ap (λ (f : Forgotten). kept_at f.grants b.grants grant) so_far.forgotten ∙ ap (λ (gs : List Grant). kept_at a.forgotten.grants gs grant) so_far.grants ∙ there) answers))
 
 -- ---- units that a grant does not ask
 
@@ -148,7 +152,7 @@ left_alone w place asked low isnt =
       rest = refl;
     }
 
-module _ (a b : FibreWorld) (grant first : ℕ) (issued : Grant) (there : slice_get a.grants grant ≡ Some issued) (so_far : UnitsTake a (grants_given grant first) b) where
+module _ (a b : FibreWorld) (grant first : ℕ) (issued : Grant) (there : kept_at a.forgotten.grants a.grants grant ≡ Some issued) (so_far : UnitsTake a (grants_given grant first) b) where
   passed : (count : ℕ) → first + count ≤ length b.units → ((place : ℕ) → first ≤ place → place < first + count → is_asked_at b.units issued place ≡ false)
       → UnitsTake a (grants_given grant (first + count)) b
   passed zero few none = let same : first ≡ first + 0 = omega arith in subst (λ (n : ℕ). UnitsTake a (grants_given grant n) b) same so_far
@@ -202,7 +206,7 @@ left_deaf w place message low others =
       rest = refl;
     }
 
-module _ (a b : FibreWorld) (copy first : ℕ) (message : Down) (there : slice_get a.copies copy ≡ Some message) (so_far : UnitsTake a (deliveries copy first) b) where
+module _ (a b : FibreWorld) (copy first : ℕ) (message : Down) (there : kept_at a.forgotten.copies a.copies copy ≡ Some message) (so_far : UnitsTake a (deliveries copy first) b) where
   unheard : (count : ℕ) → first + count ≤ length b.units → ((place : ℕ) → first ≤ place → place < first + count → IsMeantForOthers b.units message place)
       → UnitsTake a (deliveries copy (first + count)) b
   unheard zero few others = let same : first ≡ first + 0 = omega arith in subst (λ (n : ℕ). UnitsTake a (deliveries copy n) b) same so_far
@@ -275,15 +279,16 @@ puts_both a b c is more before mid after x y =
       run = runs_in_parts a b c is more x.more y.more x.run y.run;
       after_is = y.after_is ∙ ap (λ (es : List Entry). es ++ y.more) x.after_is ∙ append_assoc before x.more y.more;
       bursts = y.bursts ∙ x.bursts;
+      forgotten = y.forgotten ∙ x.forgotten;
     }
 
 pub puts_nothing : (a : FibreWorld) (entries : List Entry) → PortPuts a [] entries entries a
-puts_nothing a entries = record { more = []; run = (refl, refl); after_is = sym (append-nil entries); bursts = refl }
+puts_nothing a entries = record { more = []; run = (refl, refl); after_is = sym (append-nil entries); bursts = refl; forgotten = refl }
 
-pub puts_one : (a b : FibreWorld) (number : ℕ) (burst : SentBurst) (entry : Entry) (before after : List Entry) → slice_get a.bursts number ≡ Some burst
+pub puts_one : (a b : FibreWorld) (number : ℕ) (burst : SentBurst) (entry : Entry) (before after : List Entry) → kept_at a.forgotten.bursts a.bursts number ≡ Some burst
     → PortTakes a (event.Burst burst.at burst.bytes) entry b → after ≡ before ++ entry ∷ [] → PortPuts a (Whole (steps.Arrive number) ∷ []) before after b
 puts_one a b number burst entry before after there takes is =
-    record { more = entry ∷ []; run = one_step a (Whole (steps.Arrive number)) (Some entry) b (entry, burst, refl, there, takes); after_is = is; bursts = takes.bursts }
+    record { more = entry ∷ []; run = one_step a (Whole (steps.Arrive number)) (Some entry) b (entry, burst, refl, there, takes); after_is = is; bursts = takes.bursts; forgotten = takes.forgotten }
 
 arrivals_append : (lost : List ℕ) (frame : ℕ) (xs ys : List Flight) → arrivals lost frame (xs ++ ys) ≡ arrivals lost frame xs ++ arrivals lost frame ys
 arrivals_append lost frame xs ys =

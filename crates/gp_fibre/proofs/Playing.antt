@@ -1,9 +1,9 @@
 -- A frame of a run, put together from its parts, and runs of many frames.
 use Rattle.std.proofs.Common.{◌≡◌, ℕ, zero, suc, ◌+◌, ◌-◌, ◌*◌, ◌/◌, ◌<◌, ◌≤◌, Bool, true, false, cond, List, [], ◌∷◌, ◌++◌, length, drop, Option, None, Some, refl, sym, ap, subst, ◌∙◌, arith, append_assoc}
-use Rattle.std.specs.Prelude.{All, not}
+use Rattle.std.specs.Prelude.{min, All, not}
 use Rattle.std.proofs.lemmas.List.{append-nil, length-append, length-drop}
 use Rattle.std.proofs.lemmas.List.FromFn.{length-map-range_with_len}
-use Rattle.std.proofs.lemmas.List.Elements.{All-nil, All-cons, All-append, All-weaker, All-filter, All-same}
+use Rattle.std.proofs.lemmas.List.Elements.{All-nil, All-cons, All-head, All-tail, All-append, All-weaker, All-filter, All-same}
 use Rattle.gp_ploam.specs.declared.message.Down.{Down}
 use Rattle.gp_ranging.specs.declared.grant.Grant.{Grant}
 use Rattle.gp_machine.specs.declared.entry.Entry.{Entry}
@@ -13,9 +13,11 @@ use Rattle.gp_fibre.specs.declared.fault.WorldFault.{WorldFault}
 use Rattle.gp_fibre.specs.declared.flight.Flight.{Flight}
 use Rattle.gp_fibre.specs.declared.sent_burst.SentBurst.{SentBurst}
 use Rattle.gp_fibre.specs.declared.world_step.WorldStep.TheVariants as steps
-use Rattle.gp_fibre.specs.World.{FibreUnit, FibreWorld}
+use Rattle.gp_fibre.specs.World.{FibreUnit, FibreWorld, Forgotten}
+use Rattle.gp_fibre.specs.Flights.{AreKept}
+use Rattle.gp_fibre.specs.Forgetting.{first_to_come}
 use Rattle.gp_fibre.specs.Step.{FibreInput, Whole, PortTakes, world_after_frame}
-use Rattle.gp_fibre.specs.Parts.{Asks, PortPuts, UnitsTake}
+use Rattle.gp_fibre.specs.Parts.{Asks, Comes, PortPuts, UnitsTake}
 use Rattle.gp_fibre.specs.Schedule.{WorldState, FrameRuns, FramesRun, PutsFrame, IsRunFault, StopsShort, arrivals, deliveries, flights_of, flights_after, inputs_of_copy, inputs_of_grant, is_due, is_lost}
 use Rattle.gp_fibre.proofs.Parts.{takes_both}
 
@@ -78,28 +80,98 @@ answered_length frame from flights after bs is =
     ∙ length-append flights (flights_of frame from (drop from bs))
     ∙ ap (λ (n : ℕ). length flights + n) (length-flights_of frame from (drop from bs) ∙ length-drop from bs)
 
-abbrev pub AreBelow : ℕ → List Flight → Type 0
-AreBelow bound flights = All (λ (f : Flight). f.number < bound) flights
+abbrev pub AreBetween : ℕ → ℕ → List Flight → Type 0
+AreBetween low bound flights = All (λ (f : Flight). (low ≤ f.number) × (f.number < bound)) flights
 
-numbers_of : (frame from bound : ℕ) (bs : List SentBurst) → from + length bs ≤ bound → AreBelow bound (flights_of frame from bs)
-numbers_of frame from bound [] low = All-nil (λ (f : Flight). f.number < bound)
-numbers_of frame from bound (b ∷ bs) low =
-    All-cons (λ (f : Flight). f.number < bound) (record { number = from; due = frame + b.at / FRAME_BIT_TIMES }) (flights_of frame (from + 1) bs) (omega arith)
-    (numbers_of frame (from + 1) bound bs (omega arith))
+numbers_of : (frame from low bound : ℕ) (bs : List SentBurst) → low ≤ from → from + length bs ≤ bound → AreBetween low bound (flights_of frame from bs)
+numbers_of frame from low bound [] first last = All-nil (λ (f : Flight). (low ≤ f.number) × (f.number < bound))
+numbers_of frame from low bound (b ∷ bs) first last =
+    All-cons (λ (f : Flight). (low ≤ f.number) × (f.number < bound)) (record { number = from; due = frame + b.at / FRAME_BIT_TIMES }) (flights_of frame (from + 1) bs)
+    (first, omega arith) (numbers_of frame (from + 1) low bound bs (omega arith) (omega arith))
 
-pub answered_below : (frame from : ℕ) (flights after : List Flight) (bs : List SentBurst) → from ≤ length bs → AreBelow from flights → after ≡ flights ++ flights_of frame from (drop from bs)
-    → AreBelow (length bs) after
-answered_below frame from flights after bs low below is =
-    let long = length-drop from bs in
-    All-same (λ (f : Flight). f.number < length bs) after (flights ++ flights_of frame from (drop from bs)) is
-    (All-append (λ (f : Flight). f.number < length bs) flights (flights_of frame from (drop from bs))
-    (All-weaker (λ (f : Flight). f.number < from) (λ (f : Flight). f.number < length bs) (λ f h. omega arith) flights below)
-    (numbers_of frame from (length bs) (drop from bs) (omega arith)))
+-- those that were kept, and those that were answered since
+pub answered_kept : (frame : ℕ) (old new : FibreWorld) (flights after : List Flight) → AreKept old flights → new.forgotten ≡ old.forgotten → length old.bursts ≤ length new.bursts
+    → Comes frame old flights new after → AreKept new after
+answered_kept frame old new flights after kept same more is =
+    let from = length old.bursts in
+    let low = new.forgotten.bursts in
+    let bound = length new.bursts in
+    let first : low ≡ old.forgotten.bursts = ap (λ (f : Forgotten). f.bursts) same in
+    let within = kept.within in
+    let long = length-drop from new.bursts in
+    record {
+      within = omega arith;
+      each = All-same (λ (f : Flight). (low ≤ f.number) × (f.number < bound)) after (flights ++ flights_of frame from (drop from new.bursts)) is
+          (All-append (λ (f : Flight). (low ≤ f.number) × (f.number < bound)) flights (flights_of frame from (drop from new.bursts))
+          (All-weaker (λ (f : Flight). (old.forgotten.bursts ≤ f.number) × (f.number < from)) (λ (f : Flight). (low ≤ f.number) × (f.number < bound))
+          (λ f h. let a = h.0 in let b = h.1 in (omega arith, omega arith)) flights kept.each)
+          (numbers_of frame from low bound (drop from new.bursts) (omega arith) (omega arith)));
+    }
 
-pub left_below : (bound frame : ℕ) (flights after : List Flight) → AreBelow bound flights → after ≡ flights_after frame flights → AreBelow bound after
-left_below bound frame flights after below is =
-    All-same (λ (f : Flight). f.number < bound) after (flights_after frame flights) is
-    (All-filter (λ f. not (is_due frame f)) (λ (f : Flight). f.number < bound) flights below)
+-- those that are left, in a world with the same bursts
+pub left_kept : (frame : ℕ) (old new : FibreWorld) (flights after : List Flight) → AreKept old flights → new.forgotten ≡ old.forgotten → new.bursts ≡ old.bursts → after ≡ flights_after frame flights
+    → AreKept new after
+left_kept frame old new flights after kept same bursts is =
+    let low = old.forgotten.bursts in
+    let bound = length old.bursts in
+    let first : new.forgotten.bursts ≡ low = ap (λ (f : Forgotten). f.bursts) same in
+    let last : length new.bursts ≡ bound = ap (λ (bs : List SentBurst). length bs) bursts in
+    let within = kept.within in
+    record {
+      within = omega arith;
+      each = All-same (λ (f : Flight). (new.forgotten.bursts ≤ f.number) × (f.number < length new.bursts)) after (flights_after frame flights) is
+          (All-weaker (λ (f : Flight). (low ≤ f.number) × (f.number < bound)) (λ (f : Flight). (new.forgotten.bursts ≤ f.number) × (f.number < length new.bursts))
+          (λ f h. let a = h.0 in let b = h.1 in (omega arith, omega arith)) (flights_after frame flights)
+          (All-filter (λ f. not (is_due frame f)) (λ (f : Flight). (low ≤ f.number) × (f.number < bound)) flights kept.each));
+    }
+
+-- none leaves, in a world with as many bursts or more
+pub still_kept : (old new : FibreWorld) (flights : List Flight) → AreKept old flights → new.forgotten ≡ old.forgotten → length old.bursts ≤ length new.bursts → AreKept new flights
+still_kept old new flights kept same more =
+    let first : new.forgotten.bursts ≡ old.forgotten.bursts = ap (λ (f : Forgotten). f.bursts) same in
+    let within = kept.within in
+    record {
+      within = omega arith;
+      each = All-weaker (λ (f : Flight). (old.forgotten.bursts ≤ f.number) × (f.number < length old.bursts)) (λ (f : Flight). (new.forgotten.bursts ≤ f.number) × (f.number < length new.bursts))
+          (λ f h. let a = h.0 in let b = h.1 in (omega arith, omega arith)) flights kept.each;
+    }
+
+-- ---- the first that is still to come
+
+pub first_at_most : (first : ℕ) (flights : List Flight) → first_to_come first flights ≤ first
+first_at_most first [] = omega arith
+first_at_most first (f ∷ fs) = let rest = first_at_most (min first f.number) fs in omega arith
+
+pub first_at_least : (low bound first : ℕ) (flights : List Flight) → low ≤ first → AreBetween low bound flights → low ≤ first_to_come first flights
+first_at_least low bound first [] above all = above
+first_at_least low bound first (f ∷ fs) above all =
+    let P : Flight → Type 0 = λ x. (low ≤ x.number) × (x.number < bound) in
+    let here = All-head P f fs all in
+    let one = here.0 in
+    first_at_least low bound (min first f.number) fs (omega arith) (All-tail P f fs all)
+
+pub first_of_all : (first : ℕ) (flights : List Flight) → All (λ (f : Flight). first_to_come first flights ≤ f.number) flights
+first_of_all first [] = All-nil (λ (f : Flight). first ≤ f.number)
+first_of_all first (f ∷ fs) =
+    let least = first_to_come (min first f.number) fs in
+    let below = first_at_most (min first f.number) fs in
+    All-cons (λ (x : Flight). least ≤ x.number) f fs (omega arith) (first_of_all (min first f.number) fs)
+
+-- those that are still to come are kept where all before the first of them are forgotten, or fewer
+pub still_to_come : (old new : FibreWorld) (flights : List Flight) → AreKept old flights → length new.bursts ≡ length old.bursts
+    → new.forgotten.bursts ≤ first_to_come (length old.bursts) flights → AreKept new flights
+still_to_come old new flights kept many few =
+    let bound = length old.bursts in
+    let low = new.forgotten.bursts in
+    let first = first_at_most bound flights in
+    record {
+      within = omega arith;
+      each = λ k d at.
+          let least = first_of_all bound flights k d at in
+          let was = kept.each k d at in
+          let high = was.1 in
+          (omega arith, omega arith);
+    }
 
 -- ---- a frame
 

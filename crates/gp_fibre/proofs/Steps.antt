@@ -23,6 +23,7 @@ use Rattle.gp_fibre.specs.World.{FibreUnit, FibreWorld}
 use Rattle.gp_fibre.specs.Step.{FibreInput, Whole, PortPart, UnitsPart, PortTakes, UnitChanges, FibreStep, unit_taking, burst_answered, world_after_frame}
 use Rattle.gp_fibre.specs.Run.{FibreRun}
 use Rattle.gp_fibre.specs.Laws.{RunsInParts, PortRuns, KeepsLicences}
+use Rattle.gp_fibre.proofs.Keeping.{from_kept}
 
 -- ---- one step
 
@@ -55,8 +56,9 @@ module _ (P : FibreWorld → Type 0) (keeps : IsKeptBySteps P) where
   step_keeps w (Whole (steps.Command c)) g v s h = keeps.port w v (event.Command c) s.0 s.2 h
   step_keeps w (Whole (steps.Deliver copy place)) g v s h =
       let m : Down = s.0 in
+      let there : slice_get w.copies copy ≡ Some m = let is = from_kept w.forgotten.copies w.copies copy m s.2 in is.there in
       changed w v place (λ u. Hears (code_of_down m (mask_value u.state.mask)) m)
-      (λ u. (copy, slice_get_within w.copies copy m s.2, get_or_from_slice_get w.copies copy m m s.2)) s.3 h
+      (λ u. (copy, slice_get_within w.copies copy m there, get_or_from_slice_get w.copies copy m m there)) s.3 h
   step_keeps w (Whole (steps.Give grant place)) g v s h =
       let asked : Grant = s.0 in
       let at = s.3.units in

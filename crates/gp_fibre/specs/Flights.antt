@@ -1,6 +1,7 @@
 -- The bursts that are to come, and the flags that tell in which frames they may (this profile's own rule).
 use Rattle.std.specs.Prelude.{ℕ, ◌+◌, ◌%◌, ◌<◌, ◌≤◌, ◌≡◌, Bool, false, true, List, All, length, slice_index_or}
 use Rattle.gp_fibre.specs.declared.flight.Flight.{Flight}
+use Rattle.gp_fibre.specs.World.{FibreWorld}
 
 -- what contracts see: the bursts, and for how many further ones there is room
 pub record FlightsState : Type 0 where
@@ -18,6 +19,11 @@ AreInReach frame flights = All (λ f. (frame ≤ f.due) × (f.due < frame + fram
 -- each comes less than five frames before or after this one
 abbrev pub AreNear : ℕ → List Flight → Type 0
 AreNear due flights = All (λ f. (f.due < due + frames_in_reach) × (due < f.due + frames_in_reach)) flights
+
+-- each was answered, and was not forgotten
+pub record AreKept (world : FibreWorld) (flights : List Flight) : Type 0 where
+  pub within : world.forgotten.bursts ≤ length world.bursts
+  pub each : All (λ f. (world.forgotten.bursts ≤ f.number) × (f.number < length world.bursts)) flights
 
 -- ---- the representation
 

@@ -1,5 +1,6 @@
 pub use Rattle.gp_machine.specs.State
 pub mod World
+pub mod Sent
 pub mod Step
 pub mod Run
 pub mod Told
@@ -9,4 +10,5 @@ pub mod UnitStore
 pub mod Fibre
 pub mod Flights
 pub mod Schedule
+pub mod Forgetting
 pub mod Parts

@@ -18,7 +18,7 @@ use Rattle.gp_fibre.specs.declared.unit_plan.UnitPlan.{UnitPlan}
 use Rattle.gp_fibre.specs.declared.world.TheConstants.{MAX_FRAMES}
 use Rattle.gp_fibre.specs.declared.world_step.WorldStep.{WorldStep}
 use Rattle.gp_fibre.specs.declared.world_step.WorldStep.TheVariants as steps
-use Rattle.gp_fibre.specs.World.{FibreWorld, opening_world}
+use Rattle.gp_fibre.specs.World.{FibreWorld, is_kept, opening_world}
 use Rattle.gp_fibre.specs.Step.{FibreInput, Whole, PortPart, FibreStep, PortTakes, world_after_frame}
 use Rattle.gp_fibre.specs.Run.{FibreRun}
 
@@ -50,12 +50,14 @@ abbrev pub step_fault : WorldState → WorldStep → Option WorldFault
 step_fault world steps.Frame = if nat_lt world.frames MAX_FRAMES then None else Some Limit
 step_fault world (steps.Command command) = None
 step_fault world (steps.Deliver copy unit) =
-    if nat_lt copy (length world.fibre.copies)
+    if is_kept world.fibre.forgotten.copies world.fibre.copies copy
     then (if nat_lt unit (length world.fibre.units) then None else Some NoUnit) else Some NoCopy
 step_fault world (steps.Give grant unit) =
     if nat_lt unit (length world.fibre.units)
-    then (if nat_lt grant (length world.fibre.grants) then None else Some NoGrant) else Some NoUnit
-step_fault world (steps.Arrive burst) = if nat_lt burst (length world.fibre.bursts) then None else Some NoBurst
+    then (if is_kept world.fibre.forgotten.grants world.fibre.grants grant then None else Some NoGrant)
+    else Some NoUnit
+step_fault world (steps.Arrive burst) =
+    if is_kept world.fibre.forgotten.bursts world.fibre.bursts burst then None else Some NoBurst
 step_fault world (steps.Bytes at bytes) = None
 step_fault world (steps.Light unit) = if nat_lt unit (length world.fibre.units) then None else Some NoUnit
 step_fault world (steps.Dark unit) = if nat_lt unit (length world.fibre.units) then None else Some NoUnit

@@ -1,5 +1,5 @@
 -- One step of a fibre (this profile's own rule): any sent copy may reach any unit, any grant any unit, any burst or any
--- thirteen octets the port, in any order and any number of times.
+-- thirteen octets the port, in any order and any number of times, but for what was forgotten.
 use Rattle.std.specs.Prelude.{◌≡◌, ℕ, ◌+◌, List, ◌++◌, map, min, Option, None, Some, slice_get, slice_set}
 use Rattle.std.specs.Option.{option_map, option_to_list}
 use Rattle.gp_ploam.specs.declared.message.Down.{Down}
@@ -15,7 +15,7 @@ use Rattle.gp_onu.specs.Table.{Input, Light, Dark, Frame, Hears, Granted, unit_a
 use Rattle.gp_fibre.specs.declared.sent_burst.SentBurst.{SentBurst}
 use Rattle.gp_fibre.specs.declared.world_step.WorldStep.{WorldStep}
 use Rattle.gp_fibre.specs.declared.world_step.WorldStep.TheVariants as steps
-use Rattle.gp_fibre.specs.World.{FibreUnit, FibreWorld}
+use Rattle.gp_fibre.specs.World.{FibreUnit, FibreWorld, kept_at}
 
 -- what may happen on a fibre: a step of the world, or one of the two parts of its frame by itself
 pub data FibreInput : Type 0 where
@@ -41,6 +41,7 @@ pub record PortTakes (old : FibreWorld) (event : Event) (entry : Entry) (new : F
   pub copies : new.copies ≡ old.copies ++ option_to_list entry.answer.sent
   pub grants : new.grants ≡ old.grants ++ option_to_list entry.answer.grant
   pub bursts : new.bursts ≡ old.bursts
+  pub forgotten : new.forgotten ≡ old.forgotten
 
 -- ---- the units
 
@@ -98,12 +99,14 @@ FibreStep old (Whole steps.Frame) given new =
 FibreStep old (Whole (steps.Command command)) given new =
     (entry : Entry) × (given ≡ Some entry) × PortTakes old (event.Command command) entry new
 FibreStep old (Whole (steps.Deliver copy unit)) given new =
-    (message : Down) × (given ≡ None) × (slice_get old.copies copy ≡ Some message)
+    (message : Down) × (given ≡ None) × (kept_at old.forgotten.copies old.copies copy ≡ Some message)
     × UnitChanges old unit (unit_hearing message) new
 FibreStep old (Whole (steps.Give grant unit)) given new =
-    (granted : Grant) × (given ≡ None) × (slice_get old.grants grant ≡ Some granted) × UnitAnswers old unit granted new
+    (granted : Grant) × (given ≡ None) × (kept_at old.forgotten.grants old.grants grant ≡ Some granted)
+    × UnitAnswers old unit granted new
 FibreStep old (Whole (steps.Arrive burst)) given new =
-    (entry : Entry) × (arrived : SentBurst) × (given ≡ Some entry) × (slice_get old.bursts burst ≡ Some arrived)
+    (entry : Entry) × (arrived : SentBurst) × (given ≡ Some entry)
+    × (kept_at old.forgotten.bursts old.bursts burst ≡ Some arrived)
     × PortTakes old (event.Burst arrived.at arrived.bytes) entry new
 FibreStep old (Whole (steps.Bytes at bytes)) given new =
     (entry : Entry) × (given ≡ Some entry) × PortTakes old (event.Burst at bytes) entry new

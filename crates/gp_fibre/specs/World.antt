@@ -1,5 +1,5 @@
 -- A fibre: one port, and the simulated units that it reaches (this profile's own rule).
-use Rattle.std.specs.Prelude.{ℕ, nat_le, Bool, false, ◌&&◌, List, [], length, map}
+use Rattle.std.specs.Prelude.{ℕ, nat_le, nat_lt, Bool, false, ◌&&◌, if◌then◌else◌, List, [], length, map, Option, None, slice_get}
 use Rattle.std.specs.List.{list_all}
 use Rattle.gp_licence.specs.Limits.{max_licences}
 use Rattle.gp_ploam.specs.declared.message.Down.{Down}
@@ -20,8 +20,25 @@ pub record FibreUnit : Type 0 where
   pub delay : ℕ
   pub random : ℕ
 
--- the port, the licences that nobody holds, the units by their places, and all copies, grants and bursts that were
--- sent, by their numbers
+-- how many of the copies, grants and bursts were forgotten, from number 0 on: nobody can ask for these any more
+pub record Forgotten : Type 0 where
+  pub copies : ℕ
+  pub grants : ℕ
+  pub bursts : ℕ
+
+abbrev pub nothing_forgotten : Forgotten
+nothing_forgotten = record { copies = 0; grants = 0; bursts = 0 }
+
+-- the item with this number, if there is one and it is none of the first ones, which were forgotten
+abbrev pub kept_at : {T : Type 0} → ℕ → List T → ℕ → Option T
+kept_at forgotten items number = if nat_lt number forgotten then None else slice_get items number
+
+-- there is an item with this number, and it was not forgotten
+abbrev pub is_kept : {T : Type 0} → ℕ → List T → ℕ → Bool
+is_kept forgotten items number = nat_le forgotten number && nat_lt number (length items)
+
+-- the port, the licences that nobody holds, the units by their places, all copies, grants and bursts that were sent,
+-- by their numbers, and which of these were forgotten
 pub record FibreWorld : Type 0 where
   pub port : PortState
   pub free : ℕ
@@ -29,6 +46,7 @@ pub record FibreWorld : Type 0 where
   pub copies : List Down
   pub grants : List Grant
   pub bursts : List SentBurst
+  pub forgotten : Forgotten
 
 -- a unit as a world begins with it: new, and then lit
 abbrev pub planned_unit : Mask → UnitPlan → FibreUnit
@@ -49,6 +67,7 @@ opening_world config licences plans =
       copies = [];
       grants = [];
       bursts = [];
+      forgotten = nothing_forgotten;
     }
 
 -- a round trip of at most four frames, and a random delay of twelve bits

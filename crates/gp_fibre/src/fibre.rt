@@ -1,4 +1,4 @@
-ghost use Rattle.std.specs.Prelude.{◌≡◌, ◌+◌, ◌<◌, ◌≤◌, ◌++◌, [], IfSome, OnOk, length, slice_get, vec_capacity, vec_len};
+ghost use Rattle.std.specs.Prelude.{◌≡◌, ◌+◌, ◌<◌, ◌≤◌, ◌++◌, [], IfSome, OnOk, length};
 ghost use Rattle.std.specs.Option.{ForSome, option_to_list};
 ghost use Rattle.gp_ploam.specs.Down.{IsProperDown};
 ghost use Rattle.gp_machine.specs.State.{rows_of};
@@ -6,8 +6,11 @@ ghost use Rattle.gp_onu.specs.declared.limits.TheConstants.{MAX_DELAY, MAX_SIMUL
 ghost use Rattle.gp_onu.specs.Table.{Dark, Light};
 ghost use Rattle.gp_fibre.specs.declared.world.TheConstants.{MAX_FRAMES};
 ghost use Rattle.gp_fibre.specs.UnitStore.{IsNextAsked, IsNextOf, onu_id_meant};
+ghost use Rattle.gp_fibre.specs.Forgetting.{FibreForgets, forgotten_before};
+ghost use Rattle.gp_fibre.specs.World.{kept_at, nothing_forgotten};
 ghost use Rattle.gp_fibre.specs.Step.{PortTakes, UnitAnswers, UnitChanges, purse_for, unit_hearing, unit_taking, world_after_frame};
 
+use super::sent::Sent;
 use super::sent_burst::SentBurst;
 use super::unit_store::UnitStore;
 use gp_licence::{LicenceBook, Licences};
@@ -24,13 +27,13 @@ pub struct Fibre<L: Ledger> {
     pub(super) core: PortCore<L>,
     pub(super) book: LicenceBook<L>,
     pub(super) store: UnitStore,
-    pub(super) copies: Vec<Down>,
-    pub(super) grants: Vec<Grant>,
-    pub(super) bursts: Vec<SentBurst>,
+    copies: Sent<Down>,
+    grants: Sent<Grant>,
+    bursts: Sent<SentBurst>,
 }
 
 impl<L: Ledger> Model for Fibre<L> {
-    ghost use Rattle.std.specs.Prelude.{◌≡◌, ◌+◌, ◌-◌, All, vec_capacity, vec_len};
+    ghost use Rattle.std.specs.Prelude.{◌≡◌, ◌+◌, ◌-◌, ◌≤◌, All, [], vec_capacity, vec_len};
     ghost use Rattle.std.specs.FinMap as map;
     ghost use Rattle.std.specs.FinSet as set;
     ghost use Rattle.std.specs.Coded.{codes};
@@ -38,7 +41,12 @@ impl<L: Ledger> Model for Fibre<L> {
     ghost use Rattle.gp_ploam.specs.Down.{IsProperDown};
     ghost use Rattle.gp_unit.specs.contracts.row.Row as row;
     ghost use Rattle.gp_machine.specs.State.{rows_of};
+    ghost use Rattle.gp_ploam.specs.declared.message.Down.TheVariants.{NoMessage};
+    ghost use Rattle.gp_ranging.specs.declared.grant.Grant.TheVariants.{Search};
     ghost use Rattle.gp_fibre.specs.Fibre.{FibreStand};
+    ghost use Rattle.gp_fibre.specs.Sent.{with_blanks};
+    ghost use Rattle.gp_fibre.specs.Step.{burst_with};
+    ghost use Rattle.gp_fibre.specs.declared.sent.TheConstants.{MAX_FORGOTTEN};
 
     ghost Value = { FibreStand };
 
@@ -46,15 +54,25 @@ impl<L: Ledger> Model for Fibre<L> {
         (codes, map.code {R = serial_cmp} coded_serial row.the_row.coded, set.code {R = serial_cmp} coded_serial) };
 
     ghost view = { λ f. record {
-      world = record { port = f.core; free = f.book.free; units = f.store.units; copies = f.copies.items; grants = f.grants.items; bursts = f.bursts.items };
+      world = record {
+        port = f.core;
+        free = f.book.free;
+        units = f.store.units;
+        copies = with_blanks NoMessage f.copies.forgotten f.copies.items.items;
+        grants = with_blanks Search f.grants.forgotten f.grants.items.items;
+        bursts = with_blanks (burst_with 0 []) f.bursts.forgotten f.bursts.items.items;
+        forgotten = record { copies = f.copies.forgotten; grants = f.grants.forgotten; bursts = f.bursts.forgotten };
+      };
       total = f.book.total;
       frames = f.store.frames;
-      copies_room = vec_capacity f.copies - vec_len f.copies;
-      grants_room = vec_capacity f.grants - vec_len f.grants;
-      bursts_room = vec_capacity f.bursts - vec_len f.bursts;
+      copies_room = vec_capacity f.copies.items - vec_len f.copies.items;
+      grants_room = vec_capacity f.grants.items - vec_len f.grants.items;
+      bursts_room = vec_capacity f.bursts.items - vec_len f.bursts.items;
     } };
 
-    ghost invariant = { λ f. All IsProperDown f.copies.items × (f.book.free + rows_of f.core ≡ f.book.total) };
+    ghost invariant = { λ f. All IsProperDown f.copies.items.items × (f.book.free + rows_of f.core ≡ f.book.total)
+        × (f.copies.forgotten ≤ MAX_FORGOTTEN) × (f.grants.forgotten ≤ MAX_FORGOTTEN)
+        × (f.bursts.forgotten ≤ MAX_FORGOTTEN) };
 }
 
 impl<L: Ledger> Fibre<L> {
@@ -65,6 +83,7 @@ impl<L: Ledger> Fibre<L> {
         ensures free { result.world.free ≡ book.free }
         ensures units { result.world.units ≡ store.units }
         ensures nothing { (result.world.copies ≡ []) × (result.world.grants ≡ []) × (result.world.bursts ≡ []) }
+        ensures forgotten { result.world.forgotten ≡ nothing_forgotten }
         ensures total { result.total ≡ book.total }
         ensures frames { result.frames ≡ store.frames }
     {
@@ -72,9 +91,9 @@ impl<L: Ledger> Fibre<L> {
             core,
             book,
             store,
-            copies: Vec::new(alloc),
-            grants: Vec::new(alloc),
-            bursts: Vec::new(alloc),
+            copies: Sent::new(alloc),
+            grants: Sent::new(alloc),
+            bursts: Sent::new(alloc),
         }
     }
 
@@ -112,8 +131,8 @@ impl<L: Ledger> Fibre<L> {
         let (answer, rest) = self.core.step(purse, event);
         let purse_out = rest.count();
         self.book.give(rest);
-        keep(&mut self.copies, answer.sent);
-        keep(&mut self.grants, answer.grant);
+        self.copies.add(answer.sent);
+        self.grants.add(answer.grant);
         Entry {
             purse_in,
             event,
@@ -122,26 +141,26 @@ impl<L: Ledger> Fibre<L> {
         }
     }
 
-    /// Gives the copy with this number, if it was sent.
+    /// Gives the copy with this number, if it was sent and not forgotten.
     pub fn copy_at(&self, number: u64) -> Option<Down>
-        ensures value { result ≡ slice_get self.now.world.copies number }
+        ensures value { result ≡ kept_at self.now.world.forgotten.copies self.now.world.copies number }
         ensures proper { ForSome result IsProperDown }
     {
-        self.copies.get(number as usize).copied()
+        self.copies.get(number)
     }
 
-    /// Gives the grant with this number, if it was issued.
+    /// Gives the grant with this number, if it was issued and not forgotten.
     pub fn grant_at(&self, number: u64) -> Option<Grant>
-        ensures { result ≡ slice_get self.now.world.grants number }
+        ensures { result ≡ kept_at self.now.world.forgotten.grants self.now.world.grants number }
     {
-        self.grants.get(number as usize).copied()
+        self.grants.get(number)
     }
 
-    /// Gives the burst with this number, if a unit answered with it.
+    /// Gives the burst with this number, if a unit answered with it and it was not forgotten.
     pub fn burst_at(&self, number: u64) -> Option<SentBurst>
-        ensures { result ≡ slice_get self.now.world.bursts number }
+        ensures { result ≡ kept_at self.now.world.forgotten.bursts self.now.world.bursts number }
     {
-        self.bursts.get(number as usize).copied()
+        self.bursts.get(number)
     }
 
     /// Tells how many units there are.
@@ -154,23 +173,26 @@ impl<L: Ledger> Fibre<L> {
 
     /// Tells how many copies were sent.
     pub fn copies(&self) -> u64
-        ensures { result ≡ length self.now.world.copies }
+        ensures value { result ≡ length self.now.world.copies }
+        ensures kept { self.now.world.forgotten.copies ≤ result }
     {
-        self.copies.len() as u64
+        self.copies.count()
     }
 
     /// Tells how many grants were issued.
     pub fn grants(&self) -> u64
-        ensures { result ≡ length self.now.world.grants }
+        ensures value { result ≡ length self.now.world.grants }
+        ensures kept { self.now.world.forgotten.grants ≤ result }
     {
-        self.grants.len() as u64
+        self.grants.count()
     }
 
     /// Tells how many bursts the units answered with.
     pub fn bursts(&self) -> u64
-        ensures { result ≡ length self.now.world.bursts }
+        ensures value { result ≡ length self.now.world.bursts }
+        ensures kept { self.now.world.forgotten.bursts ≤ result }
     {
-        self.bursts.len() as u64
+        self.bursts.count()
     }
 
     /// Tells how many frames the units have had.
@@ -236,7 +258,7 @@ impl<L: Ledger> Fibre<L> {
         ensures room { self.old.bursts_room ≤ self.new.bursts_room + 1 }
     {
         let answer = self.store.grant(place, grant);
-        keep(&mut self.bursts, answer);
+        self.bursts.add(answer);
         answer
     }
 
@@ -247,6 +269,22 @@ impl<L: Ledger> Fibre<L> {
             ≡ record self.old { world = world_after_frame self.old.world; frames = self.old.frames + 1 } }
     {
         self.store.frame();
+    }
+
+    /// Forgets all copies and grants, and the bursts before the one with this number. How many there were stays, and so
+    /// does the room that they took.
+    pub fn forget(&mut self, burst: u64)
+        requires kept { self.old.world.forgotten.bursts ≤ burst }
+        requires sent { burst ≤ length self.old.world.bursts }
+        ensures forgets { FibreForgets self.old.world self.new.world }
+        ensures forgotten { self.new.world.forgotten
+            ≡ forgotten_before (length self.old.world.copies) (length self.old.world.grants) burst }
+        ensures total { self.new.total ≡ self.old.total }
+        ensures frames { self.new.frames ≡ self.old.frames }
+    {
+        self.copies.forget_before(self.copies.count());
+        self.grants.forget_before(self.grants.count());
+        self.bursts.forget_before(burst);
     }
 
     /// Ends it, and says how many licences it has in all.
@@ -274,18 +312,5 @@ fn take_purse<L: Ledger>(book: &mut LicenceBook<L>, event: &Event) -> Licences<L
     match event {
         Event::Burst { .. } => book.take(),
         Event::Frame | Event::Command(_) => Licences::none(),
-    }
-}
-
-/// Puts an item, if there is one, at the end of a list that has room for it.
-fn keep<T>(kept: &mut Vec<T>, item: Option<T>)
-    requires { vec_len kept.old < vec_capacity kept.old }
-    ensures items { kept.new.items ≡ kept.old.items ++ option_to_list item }
-    ensures capacity { vec_capacity kept.new ≡ vec_capacity kept.old }
-    ensures len { vec_len kept.new ≤ vec_len kept.old + 1 }
-{
-    match item {
-        Some(item) => kept.push_reserved(item),
-        None => {}
     }
 }

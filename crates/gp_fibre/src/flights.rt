@@ -1,5 +1,6 @@
 ghost use Rattle.std.specs.Prelude.{◌≡◌, ◌+◌, ◌%◌, ◌<◌, ◌≤◌, ◌^◌, ◌++◌, ◌∷◌, [], All, false, OnOk, length};
 ghost use Rattle.gp_fibre.specs.Flights.{AreInReach, AreNear, frames_in_reach};
+ghost use Rattle.gp_fibre.specs.Forgetting.{first_to_come};
 ghost use Rattle.gp_fibre.specs.Schedule.{flights_after, is_due};
 
 use super::flight::Flight;
@@ -54,6 +55,17 @@ impl Flights {
         ensures few { result < 2 ^ 63 }
     {
         self.list.len()
+    }
+
+    /// Gives the least of their numbers, or `next` where none is less.
+    pub fn first_to_come(&self, next: u64) -> u64
+        ensures { result ≡ first_to_come next self.now.flights }
+    {
+        let mut first = next;
+        'flights: for flight in self.list.as_slice() {
+            first = first.min(flight.number);
+        }
+        first
     }
 
     /// Adds a further one, with the next number.

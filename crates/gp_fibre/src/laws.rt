@@ -1,3 +1,4 @@
+ghost use Rattle.gp_fibre.specs.Forgetting.{ForgettingChangesNoFrames, ForgettingChangesNoSteps};
 ghost use Rattle.gp_fibre.specs.Laws.{AssignedStayOrAreTold, FramesAreRuns, FramesRunInParts, KeepsLicences, OneHasIt, PortRuns, RunsInParts, UnitsAreTold, UnitsHaveOrLose};
 
 /// States that a run of a fibre, and a run from where it ends, are one run.
@@ -52,4 +53,11 @@ pub fn frames_are_runs()
 /// States that a run of so many frames and then of more is one run of all of them, and that a run may be cut so.
 pub fn frames_run_in_parts()
     ensures { FramesRunInParts }
+{}
+
+/// States that a world that forgot makes only frames and steps that it could have made if it had not: what is
+/// forgotten changes nothing of what the port and the units do.
+pub fn forgetting_changes_nothing()
+    ensures frames { ForgettingChangesNoFrames }
+    ensures steps { ForgettingChangesNoSteps }
 {}

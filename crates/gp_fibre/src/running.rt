@@ -4,7 +4,8 @@ ghost use Rattle.std.specs.Prelude.{◌≡◌, ◌+◌, ◌-◌, ◌*◌, ◌<�
 ghost use Rattle.std.specs.Option.{ForSome};
 ghost use Rattle.gp_ploam.specs.Down.{IsProperDown};
 ghost use Rattle.gp_fibre.specs.declared.world.TheConstants.{MAX_FRAMES};
-ghost use Rattle.gp_fibre.specs.Flights.{AreInReach};
+ghost use Rattle.gp_fibre.specs.Flights.{AreInReach, AreKept};
+ghost use Rattle.gp_fibre.specs.World.{kept_at};
 ghost use Rattle.gp_fibre.specs.Parts.{Asks, Comes, PortPuts, UnitsTake, events_of, world_state};
 ghost use Rattle.gp_fibre.specs.Step.{UnitAnswers};
 ghost use Rattle.gp_fibre.specs.Schedule.{IsProperEntry};
@@ -31,7 +32,7 @@ fn is_lost(lost: &[u64], number: u64) -> bool
 /// Lets a copy reach each unit, one after the other. Those without the ONU-ID that it is meant for are the same after
 /// it, so they are passed over.
 fn deliver_all<L: Ledger>(fibre: &mut Fibre<L>, copy: u64, message: &Down)
-    requires sent { slice_get fibre.old.world.copies copy ≡ Some message.now }
+    requires sent { kept_at fibre.old.world.forgotten.copies fibre.old.world.copies copy ≡ Some message.now }
     requires proper { IsProperDown message.now }
     ensures taken { UnitsTake fibre.old.world (spec.deliveries copy (length fibre.old.world.units)) fibre.new.world }
     ensures bursts { fibre.new.world.bursts ≡ fibre.old.world.bursts }
@@ -81,7 +82,7 @@ fn give_all<L: Ledger>(
     issued: Grant,
     frame: u64,
 )
-    requires issued { slice_get fibre.old.world.grants grant ≡ Some issued }
+    requires issued { kept_at fibre.old.world.forgotten.grants fibre.old.world.grants grant ≡ Some issued }
     requires room { length fibre.old.world.units ≤ fibre.old.bursts_room }
     requires flights { length fibre.old.world.units ≤ flights.old.room }
     requires frame { frame < MAX_FRAMES }
@@ -100,7 +101,8 @@ fn give_all<L: Ledger>(
 
 /// Lets the copy that was sent with this number, if one was, and is not lost, reach each unit.
 pub(super) fn pass_on<L: Ledger>(fibre: &mut Fibre<L>, copy: u64, sent: Option<Down>, lost: &[u64])
-    requires sent { ForSome sent (λ message. slice_get fibre.old.world.copies copy ≡ Some message) }
+    requires sent { ForSome sent (λ message.
+        kept_at fibre.old.world.forgotten.copies fibre.old.world.copies copy ≡ Some message) }
     requires proper { ForSome sent IsProperDown }
     ensures taken { UnitsTake fibre.old.world
         (spec.inputs_of_copy lost.now copy (length fibre.old.world.units) sent) fibre.new.world }
@@ -124,7 +126,8 @@ pub(super) fn give_on<L: Ledger>(
     issued: Option<Grant>,
     frame: u64,
 )
-    requires issued { ForSome issued (λ asked. slice_get fibre.old.world.grants grant ≡ Some asked) }
+    requires issued { ForSome issued (λ asked.
+        kept_at fibre.old.world.forgotten.grants fibre.old.world.grants grant ≡ Some asked) }
     requires room { length fibre.old.world.units ≤ fibre.old.bursts_room }
     requires flights { length fibre.old.world.units ≤ flights.old.room }
     requires frame { frame < MAX_FRAMES }
@@ -152,7 +155,7 @@ fn arrive_all<L: Ledger>(
     requires copies { length flights.now ≤ fibre.old.copies_room }
     requires grants { length flights.now ≤ fibre.old.grants_room }
     requires entries { vec_len entries.old + length flights.now ≤ vec_capacity entries.old }
-    requires numbers { All (λ f. f.number < length fibre.old.world.bursts) flights.now }
+    requires kept { AreKept fibre.old.world flights.now }
     requires proper { All IsProperEntry entries.old.items }
     ensures puts { PortPuts fibre.old.world
         (spec.arrivals lost.now frame flights.now) entries.old.items entries.new.items fibre.new.world }
@@ -176,6 +179,7 @@ fn arrive<L: Ledger>(
     requires copies { 0 < fibre.old.copies_room }
     requires grants { 0 < fibre.old.grants_room }
     requires entries { vec_len entries.old < vec_capacity entries.old }
+    requires kept { fibre.old.world.forgotten.bursts ≤ flight.number }
     requires number { flight.number < length fibre.old.world.bursts }
     requires proper { All IsProperEntry entries.old.items }
     ensures puts { PortPuts fibre.old.world
@@ -210,7 +214,7 @@ fn land<L: Ledger>(
     requires copies { length flights.old.flights ≤ fibre.old.copies_room }
     requires grants { length flights.old.flights ≤ fibre.old.grants_room }
     requires entries { vec_len entries.old + length flights.old.flights ≤ vec_capacity entries.old }
-    requires numbers { All (λ f. f.number < length fibre.old.world.bursts) flights.old.flights }
+    requires kept { AreKept fibre.old.world flights.old.flights }
     requires reach { AreInReach frame flights.old.flights }
     requires proper { All IsProperEntry entries.old.items }
     ensures puts { PortPuts fibre.old.world
@@ -271,7 +275,7 @@ pub(super) fn play_frame<L: Ledger>(
     loss: &LossPlan,
 )
     requires frames { fibre.old.frames < MAX_FRAMES }
-    requires numbers { All (λ f. f.number < length fibre.old.world.bursts) flights.old.flights }
+    requires kept { AreKept fibre.old.world flights.old.flights }
     requires reach { AreInReach fibre.old.frames flights.old.flights }
     requires copies { events_of fibre.old flights.old ≤ fibre.old.copies_room }
     requires grants { events_of fibre.old flights.old ≤ fibre.old.grants_room }
@@ -281,7 +285,7 @@ pub(super) fn play_frame<L: Ledger>(
     requires proper { All IsProperEntry entries.old.items }
     ensures puts { spec.PutsFrame loss.now.copies.items loss.now.bursts.items
         (world_state fibre.old flights.old) entries.old.items entries.new.items (world_state fibre.new flights.new) }
-    ensures numbers { All (λ f. f.number < length fibre.new.world.bursts) flights.new.flights }
+    ensures kept { AreKept fibre.new.world flights.new.flights }
     ensures reach { AreInReach fibre.new.frames flights.new.flights }
     ensures proper { All IsProperEntry entries.new.items }
 {

@@ -2,6 +2,7 @@ ghost use Rattle.std.specs.Prelude.{◌≡◌, ◌+◌, ◌<◌, ◌≤◌, ◌�
 ghost use Rattle.std.specs.List.{list_all};
 ghost use Rattle.std.specs.Option.{ForSome};
 ghost use Rattle.gp_fibre.specs.World as spec;
+ghost use Rattle.gp_fibre.specs.Forgetting.{WorldForgets, all_but_coming};
 ghost use Rattle.gp_fibre.specs.Schedule.{FramesRun, IsFaultOf, IsProperEntry, IsRunFault, PutsFrame, StepsTo, StopsShort, TakesTo, opening_state, step_fault};
 
 use super::fault::WorldFault;
@@ -24,8 +25,8 @@ use std::sync::ledger::{Blank, Ledger};
 /// The most frames that a world counts, 2^63 (this profile's own rule).
 pub const MAX_FRAMES: u64 = 9_223_372_036_854_775_808;
 
-/// One port, its licences, and the simulated units that it reaches. Contracts see all that was sent, and each unit as
-/// it is after the frames so far.
+/// One port, its licences, and the simulated units that it reaches. Contracts see all that was sent, how much of it was
+/// forgotten, and each unit as it is after the frames so far.
 ///
 /// It has no `Drop`: it is ended by `close`, which gathers its licences.
 pub struct World<L: Ledger> {
@@ -34,13 +35,12 @@ pub struct World<L: Ledger> {
 }
 
 impl<L: Ledger> Model for World<L> {
-    ghost use Rattle.std.specs.Prelude.{◌<◌, All, length};
     ghost use Rattle.std.specs.FinMap as map;
     ghost use Rattle.std.specs.FinSet as set;
     ghost use Rattle.std.specs.Coded.{codes};
     ghost use Rattle.gp_ploam.specs.Serials.{serial_cmp, coded_serial};
     ghost use Rattle.gp_unit.specs.contracts.row.Row as row;
-    ghost use Rattle.gp_fibre.specs.Flights.{AreInReach};
+    ghost use Rattle.gp_fibre.specs.Flights.{AreInReach, AreKept};
     ghost use Rattle.gp_fibre.specs.Schedule.{WorldState};
 
     ghost Value = { WorldState };
@@ -51,8 +51,7 @@ impl<L: Ledger> Model for World<L> {
     ghost view = { λ w. record
         { fibre = w.fibre.world; licences = w.fibre.total; frames = w.fibre.frames; flights = w.flights.flights } };
 
-    ghost invariant = { λ w. All (λ f. f.number < length w.fibre.world.bursts) w.flights.flights
-        × AreInReach w.fibre.frames w.flights.flights };
+    ghost invariant = { λ w. AreKept w.fibre.world w.flights.flights × AreInReach w.fibre.frames w.flights.flights };
 }
 
 impl<L: Ledger> World<L> {
@@ -276,6 +275,18 @@ impl<L: Ledger> World<L> {
         entries.reserve(events)?;
         play_frame(&mut self.fibre, &mut self.flights, entries, loss);
         Ok(())
+    }
+
+    /// Forgets the copies, grants and bursts that were sent, but for the bursts that are still to come in a run: no step
+    /// can ask for them any more, which is then `NoCopy`, `NoGrant` or `NoBurst`. Their numbers aren't given anew, and
+    /// port, units, licences and what is still to come stay as they are. So a long run that forgets after each of its
+    /// parts needs no more memory than one part.
+    pub fn forget(&mut self)
+        ensures forgets { WorldForgets self.old self.new }
+        ensures forgotten { self.new.fibre.forgotten ≡ all_but_coming self.old }
+    {
+        let next = self.fibre.bursts();
+        self.fibre.forget(self.flights.first_to_come(next));
     }
 
     /// Tells how many simulated units there are.

@@ -28,10 +28,10 @@ fed_text-append limit text (b ∷ xs) ys =
 
 -- ---- what is kept of a line tells what is handed on of it
 
-le_or_lt : (m n : ℕ) → (m ≤ n) ⊎ (n < m)
+pub le_or_lt : (m n : ℕ) → (m ≤ n) ⊎ (n < m)
 le_or_lt m n = grind arith
 
-take_of-take : (n : ℕ) (xs ys : List ℕ) → take n (take n xs ++ ys) ≡ take n (xs ++ ys)
+pub take_of-take : (n : ℕ) (xs ys : List ℕ) → take n (take n xs ++ ys) ≡ take n (xs ++ ys)
 take_of-take n xs ys =
     elim (le_or_lt (length xs) n) [
       | inl short ↦ ap (λ l. take n (l ++ ys)) (take_all n xs short)
@@ -94,7 +94,7 @@ kept_more limit part b = take_of-take (limit + 1) part (b ∷ [])
 nothing_kept : (limit : ℕ) (bytes : List ℕ) → fed_lines limit (take (limit + 1) []) bytes ≡ fed_lines limit [] bytes
 nothing_kept limit bytes = ap (λ t. fed_lines limit t bytes) (take-nil (limit + 1))
 
-true_or_false : (v : Bool) → (v ≡ true) ⊎ (v ≡ false)
+pub true_or_false : (v : Bool) → (v ≡ true) ⊎ (v ≡ false)
 true_or_false true = inl refl
 true_or_false false = inr refl
 

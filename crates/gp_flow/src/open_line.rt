@@ -1,11 +1,12 @@
-ghost use Rattle.std.specs.Prelude.{◌≡◌, ◌<◌, ◌↔◌, [], ◌∷◌, true, IfOk, IsTrue, OnOk, length};
+ghost use Rattle.std.specs.Prelude.{◌≡◌, ◌<◌, ◌≤◌, ◌+◌, ◌↔◌, [], ◌∷◌, ◌++◌, true, IfOk, IsTrue, OnOk, length};
 ghost use Rattle.gp_flow.specs.Lines.{AnswersAll, handed};
 ghost use Rattle.gp_stream.specs.Sink.{KeepsNothing};
-ghost use Rattle.gp_flow.specs.OpenLine.{kept, fed_lines, fed_text, last_line};
+ghost use Rattle.gp_flow.specs.OpenLine.{kept_all, fed_lines, fed_text, last_line};
 
 use crate::fault::LineFault;
 use crate::work::LineWork;
 use gp_stream::Sink;
+use memchr::memchr;
 use std::alloc::{AllocError, Global};
 use std::io::Write;
 use std::marker::Model;
@@ -41,13 +42,15 @@ impl OpenLine {
         Ok(OpenLine { text, limit })
     }
 
-    /// Takes in an octet that is no line feed.
-    fn keep(&mut self, byte: u8)
-        ensures { self.new ≡ record { text = kept self.old.limit self.old.text byte; limit = self.old.limit } }
+    /// Takes in octets, none of which is a line feed.
+    fn keep(&mut self, octets: &[u8])
+        ensures kept { self.new ≡
+            record { text = kept_all self.old.limit self.old.text octets.now; limit = self.old.limit } }
+        ensures short { length self.old.text ≤ self.old.limit + 1 }
     {
-        if self.text.len() <= self.limit {
-            self.text.push(byte).unwrap();
-        }
+        let room = self.limit + 1 - self.text.len();
+        let count = octets.len().min(room);
+        self.text.extend_from_slice(&octets[..count]).unwrap();
     }
 
     /// Has the line answered, and begins the next.
@@ -60,32 +63,28 @@ impl OpenLine {
             work.old work.new sink.old sink.new result }
         ensures next { OnOk result (self.new ≡ record { text = []; limit = self.old.limit }) }
     {
-        if self.text.len() <= self.limit {
-            work.line(self.text.as_slice(), sink)?;
-        } else {
-            work.long_line(sink)?;
-        }
+        answer(self.text.as_slice(), self.limit, work, sink)?;
         self.text.clear();
         Ok(())
     }
 
-    /// Takes in an octet, and has the line answered that it ends.
-    fn take_in<K: LineWork, W: Write>(
+    /// Has the line answered that these octets end, none of which is a line feed, and begins the next. They are not
+    /// copied where none came before them.
+    fn end_with<K: LineWork, W: Write>(
         &mut self,
-        byte: u8,
+        octets: &[u8],
         work: &mut K,
         sink: &mut Sink<W>,
     ) -> Result<(), LineFault>
-        ensures answers { AnswersAll K.speech (fed_lines self.old.limit self.old.text (byte ∷ []))
+        ensures answers { AnswersAll K.speech (handed self.old.limit (self.old.text ++ octets.now) ∷ [])
             work.old work.new sink.old sink.new result }
-        ensures next { OnOk result (self.new ≡
-            record { text = fed_text self.old.limit self.old.text (byte ∷ []); limit = self.old.limit }) }
+        ensures next { OnOk result (self.new ≡ record { text = []; limit = self.old.limit }) }
     {
-        if byte == LINE_FEED {
+        if !self.text.is_empty() {
+            self.keep(octets);
             return self.end(work, sink);
         }
-        self.keep(byte);
-        Ok(())
+        answer(octets, self.limit, work, sink)
     }
 
     /// Has the line answered at the end of the input, if octets of it came.
@@ -118,9 +117,12 @@ impl OpenLine {
             record { text = fed_text self.old.limit self.old.text piece.now; limit = self.old.limit }) }
         ensures kept { OnOk result (KeepsNothing sink.new) }
     {
-        'octets: for byte in piece {
-            self.take_in(*byte, work, sink)?;
+        let mut rest = piece;
+        'lines: while let Some(count) = memchr(LINE_FEED, rest) {
+            self.end_with(&rest[..count], work, sink)?;
+            rest = &rest[count + 1..];
         }
+        self.keep(rest);
         sink.finish()?;
         Ok(())
     }
@@ -142,5 +144,21 @@ impl OpenLine {
         self.end_last(work, sink)?;
         sink.finish()?;
         Ok(whole)
+    }
+}
+
+/// Has a line answered, whole or as one that is too long.
+fn answer<K: LineWork, W: Write>(
+    line: &[u8],
+    limit: usize,
+    work: &mut K,
+    sink: &mut Sink<W>,
+) -> Result<(), LineFault>
+    ensures { AnswersAll K.speech (handed limit line.now ∷ []) work.old work.new sink.old sink.new result }
+{
+    if line.len() <= limit {
+        work.line(line, sink)
+    } else {
+        work.long_line(sink)
     }
 }

@@ -27,7 +27,7 @@ use Rattle.gp_replay.proofs.PlayLemmas.{Joins}
 use Rattle.gp_replay.proofs.RoomLemmas.{room_for_fewer, room_left}
 use Rattle.gp_replay.proofs.RunLemmas.{no_turns, turns_append}
 use Rattle.gp_replay.proofs.TurnLemmas.{takes_all}
-use Rattle.gp_replay.proofs.WorldLemmas.{WorldJoins, all_are_prefix, numbered_join, numbered_none, part_joins}
+use Rattle.gp_replay.proofs.WorldLemmas.{WorldJoins, all_are_prefix, numbered_as, numbered_join, numbered_none, part_joins}
 use Rattle.gp_replay.proofs.WorldPlayLemmas.{opening_units}
 use Rattle.gp_replay.proofs.WorldRoomLemmas.{room_after_event, units_after_event}
 use Rattle.gp_replay.proofs.WorldRoomLemmas.{room_for_fewer as fewer_frames}
@@ -273,7 +273,7 @@ pub fibre_all : (es : List ScriptEvent) (a b : LossyPlay) (rs : List Receipt) �
     → Loses (λ losses. Numbered (WorldTakesAll losses es)) a rs b
 fibre_all [] a b rs h = record {
   happened = subst (λ (l : List Receipt). Numbered (WorldTakesAll a.losses []) a.play l b.play) (sym h.1)
-      (subst (λ (s : LossyPlay). Numbered (WorldTakesAll a.losses []) a.play [] s.play) (sym h.0) (numbered_none (WorldTakesAll a.losses []) a.play (refl, refl)));
+      (subst (λ (s : LossyPlay). Numbered (WorldTakesAll a.losses []) a.play [] s.play) (sym h.0) (numbered_none (WorldTakesAll a.losses []) a.play (λ w. (refl, refl))));
   losses = ap (λ (s : LossyPlay). s.losses) h.0;
 }
 fibre_all (e ∷ es) a b rs h =
@@ -321,21 +321,11 @@ pub fibre_some : (es : List ScriptEvent) (a b : LossyPlay) (rs : List Receipt) �
     → Loses (λ losses. Numbered (WorldTakesPrefix losses es)) a rs b
 fibre_some [] a b rs h =
     let all = fibre_all [] a b rs h in record {
-      happened = record {
-        entries = all.happened.entries;
-        happened = all_are_prefix a.losses [] a.play.world b.play.world all.happened.entries all.happened.happened;
-        next = all.happened.next;
-        receipts_are = all.happened.receipts_are;
-      };
+      happened = numbered_as (WorldTakesAll a.losses []) (WorldTakesPrefix a.losses []) (λ u v xs t. all_are_prefix a.losses [] u v xs t) a.play b.play rs all.happened;
       losses = all.losses;
     }
 fibre_some (e ∷ es) a b rs (inl part) = record {
-  happened = record {
-    entries = part.happened.entries;
-    happened = prefix_of_event a.losses e es a.play.world b.play.world part.happened.entries part.happened.happened;
-    next = part.happened.next;
-    receipts_are = part.happened.receipts_are;
-  };
+  happened = numbered_as (WorldTakesPart a.losses e) (WorldTakesPrefix a.losses (e ∷ es)) (λ u v xs t. prefix_of_event a.losses e es u v xs t) a.play b.play rs part.happened;
   losses = part.losses;
 }
 fibre_some (e ∷ es) a b rs (inr h) =

@@ -8,14 +8,16 @@ use Rattle.gp_machine.specs.declared.entry.Entry.{Entry}
 use Rattle.gp_machine.specs.declared.entry.Receipt.{Receipt}
 use Rattle.gp_fibre.specs.declared.world_step.WorldStep.{WorldStep}
 use Rattle.gp_fibre.specs.Schedule.{WorldState, FramesRun, StepsTo}
+use Rattle.gp_fibre.specs.Forgetting.{WorldForgets}
 use Rattle.gp_fibre.proofs.Frames.{frames_in_parts}
+use Rattle.gp_fibre.proofs.Remembering.{forgetting_changes_no_frames, forgetting_changes_no_steps, world_forgets_none, world_forgets_then}
 use Rattle.gp_script.specs.declared.script.ScriptEvent.{ScriptEvent}
 use Rattle.gp_script.specs.declared.script.ScriptEvent.TheVariants as events
 use Rattle.gp_script.specs.Lose.{LossesView}
 use Rattle.gp_stream.specs.Sink.{SinkState, Takes, TakesPrefix}
 use Rattle.gp_trace.specs.Text.{line_of, trace_text}
 use Rattle.gp_replay.specs.WorldPlay.{TakesStep, WorldTakes, WorldTakesAll, receipt_with, receipts_from}
-use Rattle.gp_replay.specs.WorldWriting.{FibrePlay, MayTakeStep, Numbered, TakesNothing, TakesSomeFrames, WorldHappening, WorldTakesPart, WorldTakesPrefix}
+use Rattle.gp_replay.specs.WorldWriting.{FibrePlay, MayTakeStep, Numbered, Remembered, TakesNothing, TakesSomeFrames, WorldHappening, WorldTakesPart, WorldTakesPrefix}
 use Rattle.gp_stream.proofs.SinkLemmas.{takes_more, takes_prefix_after}
 use Rattle.gp_replay.proofs.PlayLemmas.{Joins}
 
@@ -79,11 +81,23 @@ entries_stop mask n m i es d x y z h e is p told =
 abbrev pub WorldJoins : WorldHappening → WorldHappening → WorldHappening → Type 0
 WorldJoins T U V = (a b c : WorldState) (es fs : List Entry) → T a es b → U b fs c → V a (es ++ fs) c
 
+-- so it is where something was forgotten
+remembered_join : (T U V : WorldHappening) → WorldJoins T U V → WorldJoins (Remembered T) (Remembered U) (Remembered V)
+remembered_join T U V joins a b c es fs p q = λ whole f.
+    let first = p whole f in
+    let second = q first.0 first.2 in
+    (second.0, joins whole first.0 second.0 es fs first.1 second.1, second.2)
+
+-- what holds of all that happens holds of it where something was forgotten
+pub remembered_as : (T U : WorldHappening) → ((a b : WorldState) (es : List Entry) → T a es b → U a es b) → (a b : WorldState) (es : List Entry)
+    → Remembered T a es b → Remembered U a es b
+remembered_as T U h a b es p = λ whole f. let done = p whole f in (done.0, h whole done.0 es done.1, done.2)
+
 -- so it is of the receipts
 pub numbered_join : (T U V : WorldHappening) → WorldJoins T U V → Joins (Numbered T) (Numbered U) (Numbered V)
 numbered_join T U V joins a b c rs ss p q = record {
   entries = p.entries ++ q.entries;
-  happened = joins a.world b.world c.world p.entries q.entries p.happened q.happened;
+  happened = remembered_join T U V joins a.world b.world c.world p.entries q.entries p.happened q.happened;
   next = omega (arith, p.next, q.next, length-append p.entries q.entries);
   receipts_are =
       ap (λ (l : List Receipt). l ++ ss) p.receipts_are
@@ -92,29 +106,39 @@ numbered_join T U V joins a b c rs ss p q = record {
 }
 
 -- nothing happens
-pub numbered_none : (T : WorldHappening) (a : FibrePlay) → T a.world [] a.world → Numbered T a [] a
-numbered_none T a h = record { entries = []; happened = h; next = omega arith; receipts_are = refl }
+pub numbered_none : (T : WorldHappening) (a : FibrePlay) → ((w : WorldState) → T w [] w) → Numbered T a [] a
+numbered_none T a h = record { entries = []; happened = λ whole f. (whole, h whole, f); next = omega arith; receipts_are = refl }
+
+pub numbered_as : (T U : WorldHappening) → ((a b : WorldState) (es : List Entry) → T a es b → U a es b) → (a b : FibrePlay) (rs : List Receipt) → Numbered T a rs b → Numbered U a rs b
+numbered_as T U h a b rs n = record { entries = n.entries; happened = remembered_as T U h a.world b.world n.entries n.happened; next = n.next; receipts_are = n.receipts_are }
 
 -- ---- a step
+
+step_remembered : (step : WorldStep) (given : Option Entry) (old mid new : WorldState) (es : List Entry) → StepsTo old step given mid → es ≡ option_to_list given → WorldForgets mid new
+    → Remembered (TakesStep step) old es new
+step_remembered step given old mid new es steps is forgets = λ whole f.
+    let done = forgetting_changes_no_steps step whole old mid given f steps in
+    (done.0, (given, done.1, is), world_forgets_then done.0 mid new done.2 forgets)
 
 pub step_happens : (step : WorldStep) (given : Option Entry) (entry : Entry) (old mid new : FibrePlay) → StepsTo old.world step given mid.world
     → given ≡ Some entry → mid.next ≡ old.next → new.world ≡ mid.world → new.next ≡ mid.next + 1
     → Numbered (TakesStep step) old (receipt_with mid.next entry ∷ []) new
 step_happens step given entry old mid new steps is next world more = record {
   entries = entry ∷ [];
-  happened = subst (λ (w : WorldState). TakesStep step old.world (entry ∷ []) w) (sym world) (given, steps, ap (λ (g : Option Entry). option_to_list g) (sym is));
+  happened = step_remembered step given old.world mid.world new.world (entry ∷ []) steps (ap (λ (g : Option Entry). option_to_list g) (sym is))
+      (subst (λ (w : WorldState). WorldForgets mid.world w) (sym world) (world_forgets_none mid.world));
   next = more ∙ ap (λ (n : ℕ). n + 1) next;
   receipts_are = ap (λ (n : ℕ). receipt_with n entry ∷ []) next;
 }
 
 pub step_may : (step : WorldStep) (old new : FibrePlay) (rs : List Receipt) → Numbered (TakesStep step) old rs new → Numbered (MayTakeStep step) old rs new
-step_may step old new rs n = record { entries = n.entries; happened = inr n.happened; next = n.next; receipts_are = n.receipts_are }
+step_may step old new rs n = numbered_as (TakesStep step) (MayTakeStep step) (λ a b es t. inr t) old new rs n
 
 pub step_silent : (step : WorldStep) (given : Option Entry) (old new : FibrePlay) → StepsTo old.world step given new.world → given ≡ None
     → new.next ≡ old.next → Numbered (TakesStep step) old [] new
 step_silent step given old new steps is next = record {
   entries = [];
-  happened = (given, steps, ap (λ (g : Option Entry). option_to_list g) (sym is));
+  happened = step_remembered step given old.world new.world new.world [] steps (ap (λ (g : Option Entry). option_to_list g) (sym is)) (world_forgets_none new.world);
   next = omega (arith, next);
   receipts_are = refl;
 }
@@ -135,14 +159,20 @@ some_frames_join losses count more total e a b c es fs p q =
 pub no_frames : (losses : LossesView) (count : ℕ) (a : FibrePlay) → count ≡ 0 → Numbered (FramesRun losses.copies losses.bursts count) a [] a
 no_frames losses count a none =
     numbered_none (FramesRun losses.copies losses.bursts count) a
-    (subst (λ (n : ℕ). FramesRun losses.copies losses.bursts n a.world [] a.world) (sym none) (refl, refl))
+    (λ w. subst (λ (n : ℕ). FramesRun losses.copies losses.bursts n w [] w) (sym none) (refl, refl))
+
+frames_remembered : (losses : LossesView) (count : ℕ) (old mid new : WorldState) (entries : List Entry) → FramesRun losses.copies losses.bursts count old entries mid → WorldForgets mid new
+    → Remembered (FramesRun losses.copies losses.bursts count) old entries new
+frames_remembered losses count old mid new entries run forgets = λ whole f.
+    let done = forgetting_changes_no_frames losses.copies losses.bursts count whole old mid entries f run in
+    (done.0, done.1, world_forgets_then done.0 mid new done.2 forgets)
 
 pub frames_happen : (losses : LossesView) (count : ℕ) (entries : List Entry) (old mid new : FibrePlay)
-    → FramesRun losses.copies losses.bursts count old.world entries mid.world → mid.next ≡ old.next → new.world ≡ mid.world
+    → FramesRun losses.copies losses.bursts count old.world entries mid.world → mid.next ≡ old.next → WorldForgets mid.world new.world
     → new.next ≡ mid.next + length entries → Numbered (FramesRun losses.copies losses.bursts count) old (receipts_from mid.next entries) new
-frames_happen losses count entries old mid new run next world more = record {
+frames_happen losses count entries old mid new run next forgets more = record {
   entries = entries;
-  happened = subst (λ (w : WorldState). FramesRun losses.copies losses.bursts count old.world entries w) (sym world) run;
+  happened = frames_remembered losses count old.world mid.world new.world entries run forgets;
   next = more ∙ ap (λ (n : ℕ). n + length entries) next;
   receipts_are = ap (λ (n : ℕ). receipts_from n entries) next;
 }
@@ -152,7 +182,8 @@ pub some_frames_happen : (losses : LossesView) (count : ℕ) (entries : List Ent
     → Numbered (TakesSomeFrames losses count) old (receipts_from mid.next entries) (record { world = mid.world; next = mid.next + length entries })
 some_frames_happen losses count entries old mid run next = record {
   entries = entries;
-  happened = (count, omega arith, run);
+  happened = remembered_as (FramesRun losses.copies losses.bursts count) (TakesSomeFrames losses count) (λ a b es t. (count, omega arith, t)) old.world mid.world entries
+      (frames_remembered losses count old.world mid.world mid.world entries run (world_forgets_none mid.world));
   next = ap (λ (n : ℕ). n + length entries) next;
   receipts_are = ap (λ (n : ℕ). receipts_from n entries) next;
 }

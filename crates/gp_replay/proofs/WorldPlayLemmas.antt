@@ -11,7 +11,9 @@ use Rattle.gp_onu.specs.declared.limits.TheConstants.{MAX_SIMULATED_UNITS}
 use Rattle.gp_fibre.specs.declared.world_step.WorldStep.{WorldStep}
 use Rattle.gp_fibre.specs.World.{is_plan_within_limits, is_world_within_limits, planned_unit}
 use Rattle.gp_fibre.specs.Schedule.{WorldState}
+use Rattle.gp_fibre.specs.Forgetting.{WorldForgets}
 use Rattle.gp_fibre.proofs.Frames.{frames_are_runs}
+use Rattle.gp_fibre.proofs.Remembering.{world_forgets_none}
 use Rattle.gp_fibre.proofs.Steps.{port_runs, runs_in_parts}
 use Rattle.gp_script.specs.declared.script.ScriptEvent.{ScriptEvent}
 use Rattle.gp_script.specs.declared.script.ScriptUnit.{ScriptUnit}
@@ -27,7 +29,7 @@ use Rattle.gp_replay.specs.WorldWriting.{FibrePlay, MayTakeStep, Numbered, World
 use Rattle.gp_replay.specs.ScriptPlay.{ByFibre, SomeByFibre}
 use Rattle.gp_replay.specs.Writing.{PlaysOn}
 use Rattle.gp_replay.proofs.ScriptPlayLemmas.{StandsFor}
-use Rattle.gp_replay.proofs.WorldLemmas.{all_are_prefix}
+use Rattle.gp_replay.proofs.WorldLemmas.{all_are_prefix, numbered_as}
 use Rattle.gp_replay.proofs.WorldRunLemmas.{world_runs}
 
 -- ---- one event
@@ -83,18 +85,18 @@ pub world_stands : (script : ScriptView) (config : PortConfig) (player : FibrePl
     → StandsFor script player (Numbered (WorldTakesAll script.losses script.events)) (Numbered (WorldTakesPrefix script.losses script.events))
 world_stands script config player some port world next = record {
   all = λ rs end n.
-      let takes = subst (λ (o : WorldState). WorldTakesAll script.losses script.events o n.entries end.world) world n.happened in
+      let done = n.happened (opening_fibre script config) opened in
       let told = n.receipts_are ∙ ap (λ (k : ℕ). receipts_from k n.entries) next in
-      let plays : WorldPlays script rs = record { config = config; one_port = port; entries = n.entries; end = end.world; takes = takes; receipts_are = told } in
+      let plays : WorldPlays script rs = record { config = config; one_port = port; entries = n.entries; end = done.0; takes = done.1; receipts_are = told } in
       (ByFibre some plays, world_runs frames_are_runs runs_in_parts port_runs script rs plays);
   some = λ rs end n.
-      let happened = subst (λ (o : WorldState). WorldTakesPrefix script.losses script.events o n.entries end.world) world n.happened in
+      let done = n.happened (opening_fibre script config) opened in
+      let happened : WorldTakesPrefix script.losses script.events (opening_fibre script config) n.entries done.0 = done.1 in
       let told = n.receipts_are ∙ ap (λ (k : ℕ). receipts_from k n.entries) next in
-      SomeByFibre some (record { config = config; one_port = port; done = happened.0; prefix = happened.1; entries = n.entries; end = end.world; takes = happened.2; receipts_are = told });
-  is_part = λ rs end n. record {
-    entries = n.entries;
-    happened = all_are_prefix script.losses script.events player.world end.world n.entries n.happened;
-    next = n.next;
-    receipts_are = n.receipts_are;
-  };
+      SomeByFibre some (record { config = config; one_port = port; done = happened.0; prefix = happened.1; entries = n.entries; end = done.0; takes = happened.2; receipts_are = told });
+  is_part = λ rs end n.
+      numbered_as (WorldTakesAll script.losses script.events) (WorldTakesPrefix script.losses script.events) (λ a b es t. all_are_prefix script.losses script.events a b es t) player end rs n;
 }
+  where
+    opened : WorldForgets (opening_fibre script config) player.world
+    opened = subst (λ (w : WorldState). WorldForgets (opening_fibre script config) w) (sym world) (world_forgets_none (opening_fibre script config))

@@ -18,6 +18,8 @@ use Rattle.gp_fibre.specs.declared.sent_burst.SentBurst.{SentBurst}
 use Rattle.gp_fibre.specs.declared.world_step.WorldStep.{WorldStep}
 use Rattle.gp_fibre.specs.declared.world_step.WorldStep.TheVariants as steps
 use Rattle.gp_fibre.specs.World.{FibreUnit, FibreWorld}
+use Rattle.gp_fibre.specs.Forgetting.{WorldForgets}
+use Rattle.gp_fibre.proofs.Remembering.{world_forgets_none}
 use Rattle.gp_fibre.specs.Step.{FibreInput, Whole, PortPart, UnitsPart, FibreStep, UnitChanges, unit_granted, burst_answered}
 use Rattle.gp_fibre.specs.Run.{FibreRun}
 use Rattle.gp_fibre.specs.Schedule.{WorldState, FrameRuns, FramesRun, StopsShort, arrivals, deliveries, grants_given, inputs_of_copy, inputs_of_grant, is_due, is_lost, flights_after, flights_of}
@@ -192,6 +194,19 @@ frames_come lc lb (suc count) old new entries run =
     let product = suc-mul count unit in
     record { entries_few = omega arith; units_same = rest.units_same ∙ first.units_same; frames = omega arith }
 
+-- also where something is forgotten then
+few_forget : (old after new : WorldState) (entries count : ℕ) → FewComes old after entries count → WorldForgets after new → FewComes old new entries count
+few_forget old after new entries count come f =
+    let flights : length new.flights ≡ length after.flights = ap (λ (fs : List Flight). length fs) f.flights in
+    let few = come.entries_few in
+    let made = come.frames in
+    let same : new.frames ≡ after.frames = f.frames in
+    record {
+      entries_few = omega arith;
+      units_same = ap (λ (us : List FibreUnit). length us) f.fibre.units ∙ come.units_same;
+      frames = omega arith;
+    }
+
 -- ---- room
 
 pub frames_limit : (lc lb : List ℕ) (count : ℕ) (old : FibrePlay) (fault : WorldFault) (new : WorldState) → HasFibreRoom count old → StopsShort lc lb count old.world fault new → fault ≡ OutOfMemory
@@ -243,7 +258,8 @@ room_after count many rest old new entries come next le room =
 pub room_after_frames : (lc lb : List ℕ) (count many rest : ℕ) (old new : FibrePlay) (rs : List Receipt) → Numbered (FramesRun lc lb count) old rs new
     → count + rest ≤ many → HasFibreRoom many old → HasFibreRoom rest new
 room_after_frames lc lb count many rest old new rs n le room =
-    room_after count many rest old new (length n.entries) (frames_come lc lb count old.world new.world n.entries n.happened) n.next le room
+    let done = n.happened old.world (world_forgets_none old.world) in
+    room_after count many rest old new (length n.entries) (few_forget old.world done.0 new.world (length n.entries) count (frames_come lc lb count old.world done.0 n.entries done.1) done.2) n.next le room
 
 -- an event of the script
 step_comes : (step : WorldStep) (old new : WorldState) (entries : List Entry) → TakesStep step old entries new → new.frames ≡ old.frames → new.flights ≡ old.flights → FewComes old new (length entries) 1
@@ -261,11 +277,17 @@ event_comes losses (events.Command port command) old new entries t = step_comes 
 event_comes losses (events.Light unit true) old new entries t = step_comes (steps.Light unit) old new entries t t.1.frames t.1.flights
 event_comes losses (events.Light unit false) old new entries t = step_comes (steps.Dark unit) old new entries t t.1.frames t.1.flights
 
+numbered_comes : (losses : LossesView) (event : ScriptEvent) (old new : FibrePlay) (rs : List Receipt) (n : Numbered (WorldTakes losses event) old rs new)
+    → FewComes old.world new.world (length n.entries) (count_of event)
+numbered_comes losses event old new rs n =
+    let done = n.happened old.world (world_forgets_none old.world) in
+    few_forget old.world done.0 new.world (length n.entries) (count_of event) (event_comes losses event old.world done.0 n.entries done.1) done.2
+
 pub units_after_event : (losses : LossesView) (event : ScriptEvent) (old new : FibrePlay) (rs : List Receipt) → Numbered (WorldTakes losses event) old rs new
     → length new.world.fibre.units ≡ length old.world.fibre.units
-units_after_event losses event old new rs n = (event_comes losses event old.world new.world n.entries n.happened).units_same
+units_after_event losses event old new rs n = (numbered_comes losses event old new rs n).units_same
 
 pub room_after_event : (losses : LossesView) (event : ScriptEvent) (many rest : ℕ) (old new : FibrePlay) (rs : List Receipt)
     → Numbered (WorldTakes losses event) old rs new → count_of event + rest ≤ many → HasFibreRoom many old → HasFibreRoom rest new
 room_after_event losses event many rest old new rs n le room =
-    room_after (count_of event) many rest old new (length n.entries) (event_comes losses event old.world new.world n.entries n.happened) n.next le room
+    room_after (count_of event) many rest old new (length n.entries) (numbered_comes losses event old new rs n) n.next le room

@@ -7,13 +7,15 @@ use Rattle.gp_fibre.specs.declared.loss_plan.LossPlan.{LossPlan}
 use Rattle.gp_fibre.specs.declared.world_step.WorldStep.{WorldStep}
 use Rattle.gp_fibre.specs.declared.world_step.WorldStep.TheVariants as steps
 use Rattle.gp_fibre.specs.Schedule.{WorldState, FramesRun}
+use Rattle.gp_fibre.specs.Forgetting.{WorldForgets}
 use Rattle.gp_fibre.specs.declared.world.TheConstants.{MAX_FRAMES}
 use Rattle.gp_script.specs.declared.script.ScriptEvent.{ScriptEvent}
 use Rattle.gp_script.specs.declared.script.ScriptEvent.TheVariants as events
 use Rattle.gp_script.specs.Lose.{LossesView}
 use Rattle.gp_replay.specs.WorldPlay.{IsPrefix, TakesStep, WorldTakesAll, light_step, receipts_from}
 
--- where a play stands: its fibre, and the number of the port's next entry
+-- where a play stands: its fibre, which may have forgotten what can't come any more, and the number of the port's next
+-- entry
 pub record FibrePlay : Type 0 where
   pub world : WorldState
   pub next : ℕ
@@ -26,11 +28,18 @@ losses_of plan = record { copies = plan.copies.items; bursts = plan.bursts.items
 abbrev pub WorldHappening : Type 1
 WorldHappening = WorldState → List Entry → WorldState → Type 0
 
+-- this happened to the fibre as it would be if it had forgotten nothing: from each world of which the old one is left,
+-- to one of which the new one is left
+abbrev pub Remembered : WorldHappening → WorldHappening
+Remembered happens old entries new =
+    (whole : WorldState) → WorldForgets whole old
+    → (after : WorldState) × happens whole entries after × WorldForgets after new
+
 -- this happened to the fibre of a play, and the receipts are those of its entries, numbered on
 pub record Numbered
     (happens : WorldHappening) (old : FibrePlay) (receipts : List Receipt) (new : FibrePlay) : Type 0 where
   pub entries : List Entry
-  pub happened : happens old.world entries new.world
+  pub happened : Remembered happens old.world entries new.world
   pub next : new.next ≡ old.next + length entries
   pub receipts_are : receipts ≡ receipts_from old.next entries
 

@@ -1,6 +1,7 @@
 ghost use Rattle.std.specs.Prelude.{◌≡◌, ◌+◌, ◌<◌, ◌^◌, None, All, IfOk, OnOk, length, map, true};
 ghost use Rattle.std.specs.Option.{ForSome};
 ghost use Rattle.gp_fibre.specs.World.{is_world_within_limits};
+ghost use Rattle.gp_fibre.specs.Forgetting.{WorldForgets};
 ghost use Rattle.gp_fibre.specs.Schedule.{FramesRun, IsProperEntry, StepsTo, opening_state, step_fault};
 ghost use Rattle.gp_replay.specs.WorldPlay.{plan_of, receipt_with};
 ghost use Rattle.gp_replay.specs.WorldWriting.{HasFibreRoom};
@@ -101,6 +102,14 @@ impl<L: Ledger> WorldPlayer<L> {
             Err(WorldFault::OutOfMemory) => Err(AllocError),
             Err(_) => unreachable!(),
         }
+    }
+
+    /// Forgets what was sent and is not to come any more, so that a long play needs no more memory than a short one.
+    pub(crate) fn forget(&mut self)
+        ensures world { WorldForgets self.old.world self.new.world }
+        ensures next { self.new.next ≡ self.old.next }
+    {
+        self.world.forget();
     }
 
     /// Gives the receipt of the port's next entry.

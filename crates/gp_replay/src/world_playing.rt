@@ -85,7 +85,7 @@ fn play_step<L: Ledger, W: Write>(
 }
 
 /// Makes so many frames, writes the lines of their entries, and gives these. The entries of all of them are kept until
-/// then.
+/// then; what the fibre need not remember after them it forgets.
 fn play_few_frames<L: Ledger, W: Write>(
     player: &mut WorldPlayer<L>,
     sink: &mut Sink<W>,
@@ -104,6 +104,7 @@ fn play_few_frames<L: Ledger, W: Write>(
 {
     let entries = player.run_frames(frames, loss)?;
     write_entries(player, sink, buffer, mask, entries.as_slice())?;
+    player.forget();
     Ok(entries)
 }
 

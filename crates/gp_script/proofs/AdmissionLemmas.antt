@@ -9,7 +9,7 @@ use Rattle.std.proofs.lemmas.List.Sums.{sum_by-cons}
 use Rattle.std.specs.FinMap as map
 use Rattle.std.specs.FinMap.{entries, entries-insert, find, put, get-empty, get-entries, get-insert}
 use Rattle.std.specs.List.{count_by}
-use Rattle.std.specs.Option.{is_some}
+use Rattle.std.specs.Option.{is_some, MatchOption}
 use Rattle.std.specs.Ordering.{eq_by_cmp, is_eq}
 use Rattle.std.specs.declared.cmp.Ordering.TheVariants.{Less, Equal, Greater}
 use Rattle.std.specs.FinMap.Entries.{by_order}
@@ -25,13 +25,13 @@ use Rattle.gp_serial.specs.declared.fault.AdmitFault.TheVariants as admits
 use Rattle.toml.specs.Data.{Data, Items, item}
 use Rattle.toml.specs.View.{items_view, view}
 use Rattle.toml.specs.declared.value.Value.{Value}
-use Rattle.gp_script.specs.declared.fault.ScriptFault.{ScriptFault}
-use Rattle.gp_script.specs.declared.fault.ScriptFault.TheVariants as faults
-use Rattle.gp_script.specs.declared.fault.ScriptError.{ScriptError}
-use Rattle.gp_script.specs.declared.fault.ScriptError.TheVariants as errors
-use Rattle.gp_script.specs.Fault.{error_of_admit, Fails}
-use Rattle.gp_script.specs.Port.{is_admitted, new_serial, serial_in, serials_from}
-use Rattle.gp_script.specs.Admits.{Admits}
+use Rattle.gp_script.specs.declared.place.TablePlace.TheVariants as places
+use Rattle.gp_script.specs.declared.place.Wanted.{Wanted}
+use Rattle.gp_script.specs.declared.place.Wanted.TheVariants as wanted
+use Rattle.gp_script.specs.Fault.{Stops}
+use Rattle.gp_script.specs.Mistake.{TableMistakeView, in_table}
+use Rattle.gp_script.specs.Port.{is_admitted, new_serial, port_with, serial_in, serials_from}
+use Rattle.gp_script.specs.Admits.{Admits, item_error, wanted_by_admit}
 
 -- ---- how many are admitted on a port
 
@@ -155,34 +155,41 @@ unfolding new_serial
 read_new ports serials d s reads among admitted = simp (reads, among, admitted)
 
 read_known : (ports : List PortConfig) (serials : List Serial) (d : Data) (s : Serial) → serial_in d ≡ Ok s → (is_among s serials || is_admitted s ports) ≡ true
-    → new_serial ports serials d ≡ Err faults.Duplicate
+    → new_serial ports serials d ≡ Err (wanted.NewSerial (port_with s ports))
 unfolding new_serial
 read_known ports serials d s reads is_known = simp (reads, is_known)
 
--- where the list refuses it, the walk ends with the fault
+-- what is wanted of an item ends the walk there, and so does want of memory
+pub stopped : (ports : List PortConfig) (serials : List Serial) (d : Data) (rest : Items) (want : Option Wanted) → MatchOption want (Unit {0}) (λ w. new_serial ports serials d ≡ Err w)
+    → Stops (item_error (length ports) (length serials) want) (in_table (places.Port (length ports)) (serials_from ports serials (item d rest)))
+unfolding serials_from
+stopped ports serials d rest None says = tt
+stopped ports serials d rest (Some want) says = simp says
+
+-- a text that spells no serial number
+pub no_serial : (ports : List PortConfig) (serials : List Serial) (d : Data) (want : Wanted) → serial_in d ≡ Err want → new_serial ports serials d ≡ Err want
+unfolding new_serial
+no_serial ports serials d want reads = simp reads
+
+-- where the list refuses it, the mistake is the one of the walk
 pub refused : (m : Admissions) (ports : List PortConfig) (serials : List Serial) (d : Data) (s : Serial) (fault : AdmitFault) → serial_in d ≡ Ok s → Admits m ports serials
     → length serials < max_on_a_port
     → (fault ≡ admits.Duplicate → IsSome (map.get m s))
     → (fault ≡ admits.Full → count_on (length ports) m ≡ max_on_a_port)
-    → Fails (error_of_admit fault) (new_serial ports serials d)
+    → MatchOption (wanted_by_admit ports s fault) (Unit {0}) (λ w. new_serial ports serials d ≡ Err w)
 refused m ports serials d s admits.Duplicate reads has few duplicate full = read_known ports serials d s reads (sym (has.here s) ∙ duplicate refl)
 refused m ports serials d s admits.Full reads has few duplicate full = absurd (let e = full refl in let n = has.count in omega (arith, e, n, few))
 refused m ports serials d s admits.OutOfMemory reads has few duplicate full = tt
 
-pub refused_there : (ports : List PortConfig) (serials : List Serial) (d : Data) (rest : Items) (error : ScriptError) → Fails error (new_serial ports serials d)
-    → Fails error (serials_from ports serials (item d rest))
-unfolding serials_from
-refused_there ports serials d rest errors.OutOfMemory fails = tt
-refused_there ports serials d rest (errors.Fault fault) fails = simp fails
-
 -- a text of `admit` that is refused ends the walk
-pub refused_at : (ports : List PortConfig) (serials : List Serial) (texts : List Value) (i : ℕ) (text : Value) (says : Result (List Serial) ScriptFault) (error : ScriptError)
+pub stopped_at : (ports : List PortConfig) (serials : List Serial) (texts : List Value) (i : ℕ) (text : Value) (says : Result (List Serial) TableMistakeView) (want : Option Wanted)
     → i < length texts
     → text ≡ get_or texts i text
     → serials_from ports serials (items_view (drop i texts)) ≡ says
-    → Fails error (new_serial ports serials (view text))
-    → Fails error says
-refused_at ports serials texts i text says error here is walk fails =
-    let there = refused_there ports serials (view text) (items_view (drop (suc i) texts)) error fails in
+    → MatchOption want (Unit {0}) (λ w. new_serial ports serials (view text) ≡ Err w)
+    → Stops (item_error (length ports) (length serials) want) (in_table (places.Port (length ports)) says)
+stopped_at ports serials texts i text says want here is walk fails =
+    let there = stopped ports serials (view text) (items_view (drop (suc i) texts)) want fails in
     let first : drop i texts ≡ text ∷ drop (suc i) texts = drop-cons texts i text here ∙ ap (λ (t : Value). t ∷ drop (suc i) texts) (sym is) in
-    subst (Fails error) (ap (λ (ts : List Value). serials_from ports serials (items_view ts)) (sym first) ∙ walk) there
+    let same : serials_from ports serials (items_view (text ∷ drop (suc i) texts)) ≡ says = ap (λ (ts : List Value). serials_from ports serials (items_view ts)) (sym first) ∙ walk in
+    subst (λ (r : Result (List Serial) TableMistakeView). Stops (item_error (length ports) (length serials) want) (in_table (places.Port (length ports)) r)) same there

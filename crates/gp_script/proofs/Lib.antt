@@ -4,6 +4,7 @@ pub mod EventsLemmas
 pub mod ItemsLemmas
 pub mod NamesLemmas
 pub mod PlacesLemmas
+pub mod PortLemmas
 pub mod TableLemmas
 pub mod TextLemmas
 pub mod UnitsLemmas

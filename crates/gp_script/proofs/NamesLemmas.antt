@@ -1,17 +1,20 @@
--- The keys of a table against names.
-use Rattle.std.proofs.Common.{◌≡◌, ℕ, ◌&&◌, ◌||◌, List, [], ◌∷◌, Bor, map, refl, ap}
-use Rattle.std.specs.List.{list_all, list_any}
-use Rattle.std.specs.Str.{bytes_eq}
+-- The keys of a table against the keys that it may have.
+use Rattle.std.proofs.Common.{◌≡◌, ℕ, Bool, true, false, not, cond, List, [], ◌∷◌, Option, Some, map, option_map, refl}
+use Rattle.std.specs.List.{find}
 use Rattle.std.specs.Prelude.{String, string_bytes}
 use Rattle.std.specs.declared.alloc.Global.{Global}
 use Rattle.toml.specs.View.{members_view}
 use Rattle.toml.specs.declared.value.Value.{Value}
-use Rattle.gp_script.specs.Keys.{is_one_of, has_only}
+use Rattle.gp_script.specs.declared.place.Key.{Key}
+use Rattle.gp_script.specs.Keys.{is_one_of, other_key}
 
-pub is_one_of_texts : (names : List (Bor (List ℕ))) (key : List ℕ) → is_one_of (map (λ n. n.now) names) key ≡ list_any (λ n. bytes_eq n.now key) names
-is_one_of_texts [] key = refl
-is_one_of_texts (n ∷ ns) key = ap (λ b. bytes_eq n.now key || b) (is_one_of_texts ns key)
+first_other : (b : Bool) (name : String Global) (o : Option (List ℕ)) (found : Option (String Global)) → o ≡ option_map string_bytes found
+    → cond b o (Some (string_bytes name)) ≡ option_map string_bytes (cond (not b) (Some name) found)
+first_other true name o found h = h
+first_other false name o found h = refl
 
-pub has_only_view : (names : List (List ℕ)) (entries : List (String Global × Value)) → has_only names (members_view entries) ≡ list_all (λ e. is_one_of names (string_bytes e.0)) entries
-has_only_view names [] = refl
-has_only_view names (e ∷ es) = ap (λ b. is_one_of names (string_bytes e.0) && b) (has_only_view names es)
+-- the first other key is the first entry that isn't one of them
+pub other_key_view : (keys : List Key) (entries : List (String Global × Value))
+    → other_key keys (members_view entries) ≡ option_map string_bytes (find (λ name. not (is_one_of keys (string_bytes name))) (map (λ e. e.0) entries))
+other_key_view keys [] = refl
+other_key_view keys (e ∷ es) = first_other (is_one_of keys (string_bytes e.0)) e.0 _ _ (other_key_view keys es)

@@ -12,9 +12,11 @@ use Rattle.gp_script.specs.declared.command.CommandWord.{CommandWord}
 use Rattle.gp_script.specs.declared.command.CommandWord.TheVariants.{OfPort, OfUnit, Dealloc}
 use Rattle.gp_script.specs.declared.command.UnitCommand.{UnitCommand}
 use Rattle.gp_script.specs.declared.command.UnitCommand.TheVariants.{Alloc, Deactivate, Disable, Enable, Popup, Show}
-use Rattle.gp_script.specs.declared.fault.ScriptFault.{ScriptFault}
-use Rattle.gp_script.specs.declared.fault.ScriptFault.TheVariants as fault
-use Rattle.gp_script.specs.Fault.{◌>>=◌, needs}
+use Rattle.gp_script.specs.declared.place.Key.TheVariants as key
+use Rattle.gp_script.specs.declared.place.Spot.TheVariants as spots
+use Rattle.gp_script.specs.declared.place.Wanted.TheVariants as wanted
+use Rattle.gp_script.specs.Fault.{◌>>=◌}
+use Rattle.gp_script.specs.Mistake.{TableMistakeView, unmet, at_key}
 use Rattle.gp_script.specs.Keys.{has_only, needed_number, needed_text}
 use Rattle.gp_script.specs.Values.{in_range, place_in, serial_of}
 
@@ -43,44 +45,44 @@ command_to serial Popup = commands.Popup serial
 command_to serial Show = commands.Show serial
 
 -- a command that names no unit
-unfoldable pub port_command : ℕ → Command → Members → Result ScriptEvent ScriptFault
+unfoldable pub port_command : ℕ → Command → Members → Result ScriptEvent TableMistakeView
 port_command ports command members = do
-  _ ← needs fault.Shape (has_only (codes "port" ∷ codes "command" ∷ []) members)
-  port ← needed_number (codes "port") members
-  port ← place_in ports port
+  _ ← has_only (key.Port ∷ key.Command ∷ []) members
+  port ← needed_number key.Port members
+  port ← at_key key.Port (place_in ports port)
   Ok (events.Command port command)
 
 -- a command to a unit
-unfoldable pub unit_command : ℕ → UnitCommand → Members → Result ScriptEvent ScriptFault
+unfoldable pub unit_command : ℕ → UnitCommand → Members → Result ScriptEvent TableMistakeView
 unit_command ports command members = do
-  _ ← needs fault.Shape (has_only (codes "port" ∷ codes "command" ∷ codes "serial" ∷ []) members)
-  port ← needed_number (codes "port") members
-  serial ← needed_text (codes "serial") members
-  port ← place_in ports port
-  serial ← serial_of serial
+  _ ← has_only (key.Port ∷ key.Command ∷ key.Serial ∷ []) members
+  port ← needed_number key.Port members
+  serial ← needed_text key.Serial members
+  port ← at_key key.Port (place_in ports port)
+  serial ← at_key key.Serial (serial_of serial)
   Ok (events.Command port (command_to serial command))
 
 -- a unit is to give an Alloc-ID back
-unfoldable pub dealloc_command : ℕ → Members → Result ScriptEvent ScriptFault
+unfoldable pub dealloc_command : ℕ → Members → Result ScriptEvent TableMistakeView
 dealloc_command ports members = do
-  _ ← needs fault.Shape (has_only (codes "port" ∷ codes "command" ∷ codes "serial" ∷ codes "alloc" ∷ []) members)
-  port ← needed_number (codes "port") members
-  serial ← needed_text (codes "serial") members
-  alloc ← needed_number (codes "alloc") members
-  port ← place_in ports port
-  serial ← serial_of serial
-  alloc ← in_range 0 last_alloc_id alloc
+  _ ← has_only (key.Port ∷ key.Command ∷ key.Serial ∷ key.Alloc ∷ []) members
+  port ← needed_number key.Port members
+  serial ← needed_text key.Serial members
+  alloc ← needed_number key.Alloc members
+  port ← at_key key.Port (place_in ports port)
+  serial ← at_key key.Serial (serial_of serial)
+  alloc ← at_key key.Alloc (in_range 0 last_alloc_id alloc)
   Ok (events.Command port (commands.Dealloc serial alloc))
 
 -- the command that the word asks for
-abbrev pub asked_event : ℕ → CommandWord → Members → Result ScriptEvent ScriptFault
+abbrev pub asked_event : ℕ → CommandWord → Members → Result ScriptEvent TableMistakeView
 asked_event ports (OfPort command) members = port_command ports command members
 asked_event ports (OfUnit command) members = unit_command ports command members
 asked_event ports Dealloc members = dealloc_command ports members
 
 -- what the operator asks is told by its word
-unfoldable pub command_event : ℕ → Members → Result ScriptEvent ScriptFault
+unfoldable pub command_event : ℕ → Members → Result ScriptEvent TableMistakeView
 command_event ports members = do
-  text ← needed_text (codes "command") members
-  word ← ok_or (command_word text) fault.Shape
+  text ← needed_text key.Command members
+  word ← ok_or (command_word text) (unmet (spots.Key key.Command) wanted.Word)
   asked_event ports word members

@@ -1,3 +1,4 @@
+pub mod Mistake
 pub mod Fault
 pub mod Keys
 pub mod Values

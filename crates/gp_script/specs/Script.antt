@@ -1,5 +1,5 @@
 -- What a text says as a script, or its first fault (this profile's own rule).
-use Rattle.std.specs.Prelude.{ℕ, ℤ, List, [], ◌∷◌, Option, Some, None, Result, Ok, Err, Bool, true, false, ◌&&◌, if◌then◌else◌, codes, nat_le}
+use Rattle.std.specs.Prelude.{ℕ, ℤ, List, [], ◌∷◌, Option, Some, None, Result, Ok, Err, Bool, true, false, if◌then◌else◌, nat_le}
 use Rattle.std.specs.Str.{is_utf8}
 use Rattle.toml.specs.Data.{Items, Members}
 use Rattle.toml.specs.Parse.{parse_document}
@@ -11,14 +11,20 @@ use Rattle.gp_onu.specs.Limits.{max_simulated_units}
 use Rattle.gp_script.specs.declared.script.ScriptEvent.{ScriptEvent}
 use Rattle.gp_script.specs.declared.script.ScriptUnit.{ScriptUnit}
 use Rattle.gp_script.specs.declared.fault.ScriptFault.{ScriptFault}
-use Rattle.gp_script.specs.declared.fault.ScriptFault.TheVariants as fault
+use Rattle.gp_script.specs.declared.place.Counted.TheVariants as counted
+use Rattle.gp_script.specs.declared.place.Key.{Key}
+use Rattle.gp_script.specs.declared.place.Key.TheVariants as key
+use Rattle.gp_script.specs.declared.place.TablePlace.TheVariants as places
+use Rattle.gp_script.specs.declared.place.Spot.TheVariants as spots
+use Rattle.gp_script.specs.declared.place.Wanted.TheVariants as wanted
 use Rattle.gp_script.specs.Fault.{◌>>=◌, needs}
+use Rattle.gp_script.specs.Mistake.{TableMistakeView, unmet, MistakeView, no_text, no_toml, at_key, in_table, without_place}
 use Rattle.gp_script.specs.Keys.{has_only, number_at, needed_number, list_at, needed_list, are_tables, is_empty, item_count}
 use Rattle.gp_script.specs.Values.{in_range, in_range_or, count_in, mask_of}
 use Rattle.gp_script.specs.Port.{ports_from}
 use Rattle.gp_script.specs.Unit.{units_from}
 use Rattle.gp_script.specs.Lose.{LossesView, losses_from, no_losses}
-use Rattle.gp_script.specs.Event.{events_of}
+use Rattle.gp_script.specs.Event.{events_from}
 
 -- how many events a script may have at most
 abbrev pub max_events : ℕ
@@ -42,34 +48,34 @@ pub record TopShape : Type 0 where
   pub events : Items
 
 -- the keys of the top
-abbrev pub top_names : List (List ℕ)
-top_names =
-    codes "licences" ∷ codes "mask" ∷ codes "journal_limit" ∷ codes "port" ∷ codes "unit" ∷ codes "lose" ∷ codes "event"
-    ∷ []
+abbrev pub top_keys : List Key
+top_keys = key.Licences ∷ key.Mask ∷ key.JournalLimit ∷ key.Port ∷ key.Unit ∷ key.Lose ∷ key.Event ∷ []
 
 -- units stand on the fibre of one port, where units may stand at all, and only beside units is there anything that
 -- could be lost
-abbrev pub fit_together : Bool → Items → Items → Items → Bool
+abbrev pub fit_together : Bool → Items → Items → Items → Result (Unit {0}) TableMistakeView
 fit_together may_have_units ports units losses =
-    if is_empty units then is_empty losses else may_have_units && nat_le (item_count ports) 1
+    if is_empty units then needs (unmet (spots.Key key.Lose) wanted.Units) (is_empty losses)
+    else if may_have_units then needs (unmet (spots.Key key.Unit) wanted.OnePort) (nat_le (item_count ports) 1)
+    else Err (unmet (spots.Key key.Unit) wanted.NoUnits)
 
 -- the top by its shape: the keys that it may have, each value of its type, nothing but tables in `port`, `unit`,
 -- `lose` and `event`, and no tables that don't fit together, with units or without any
-unfoldable pub top_shape : Bool → Members → Result TopShape ScriptFault
+unfoldable pub top_shape : Bool → Members → Result TopShape TableMistakeView
 top_shape may_have_units members = do
-  _ ← needs fault.Shape (has_only top_names members)
-  licences ← needed_number (codes "licences") members
-  mask ← number_at (codes "mask") members
-  journal_limit ← number_at (codes "journal_limit") members
-  ports ← needed_list (codes "port") members
-  units ← list_at (codes "unit") members
-  losses ← list_at (codes "lose") members
-  events ← list_at (codes "event") members
-  _ ← needs fault.Shape (are_tables ports)
-  _ ← needs fault.Shape (are_tables units)
-  _ ← needs fault.Shape (are_tables losses)
-  _ ← needs fault.Shape (are_tables events)
-  _ ← needs fault.Shape (fit_together may_have_units ports units losses)
+  _ ← has_only top_keys members
+  licences ← needed_number key.Licences members
+  mask ← number_at key.Mask members
+  journal_limit ← number_at key.JournalLimit members
+  ports ← needed_list key.Port members
+  units ← list_at key.Unit members
+  losses ← list_at key.Lose members
+  events ← list_at key.Event members
+  _ ← are_tables key.Port ports
+  _ ← are_tables key.Unit units
+  _ ← are_tables key.Lose losses
+  _ ← are_tables key.Event events
+  _ ← fit_together may_have_units ports units losses
   Ok (record {
     licences = licences;
     mask = mask;
@@ -78,6 +84,41 @@ top_shape may_have_units members = do
     units = units;
     losses = losses;
     events = events;
+  })
+
+-- what the top says, and how many ports and units there are
+pub record TopView : Type 0 where
+  pub licences : ℕ
+  pub mask : Mask
+  pub journal_limit : ℕ
+  pub port_count : ℕ
+  pub unit_count : ℕ
+  -- the tables of each list
+  pub ports : Items
+  pub units : Items
+  pub losses : Items
+  pub events : Items
+
+-- each value of the top in its range
+unfoldable pub top_of : Bool → Members → Result TopView TableMistakeView
+top_of may_have_units members = do
+  shape ← top_shape may_have_units members
+  licences ← at_key key.Licences (in_range 0 max_licences shape.licences)
+  mask ← at_key key.Mask (mask_of shape.mask)
+  journal_limit ← at_key key.JournalLimit (in_range_or max_journal_limit 1 max_journal_limit shape.journal_limit)
+  port_count ← at_key key.Port (count_in counted.Tables 1 max_ports shape.ports)
+  unit_count ← at_key key.Unit (count_in counted.Tables 0 max_simulated_units shape.units)
+  _ ← at_key key.Event (count_in counted.Tables 0 max_events shape.events)
+  Ok (record {
+    licences = licences;
+    mask = mask;
+    journal_limit = journal_limit;
+    port_count = port_count;
+    unit_count = unit_count;
+    ports = shape.ports;
+    units = shape.units;
+    losses = shape.losses;
+    events = shape.events;
   })
 
 -- what a script says
@@ -98,23 +139,17 @@ pub record ScriptView : Type 0 where
   pub events : List ScriptEvent
 
 -- the tables in their order: the top, the ports, the units, what is lost, the events
-unfoldable pub script_of_table : Bool → Members → Result ScriptView ScriptFault
+unfoldable pub script_of_table : Bool → Members → Result ScriptView MistakeView
 script_of_table may_have_units members = do
-  shape ← top_shape may_have_units members
-  licences ← in_range 0 max_licences shape.licences
-  mask ← mask_of shape.mask
-  journal_limit ← in_range_or max_journal_limit 1 max_journal_limit shape.journal_limit
-  count ← count_in 1 max_ports shape.ports
-  unit_count ← count_in 0 max_simulated_units shape.units
-  _ ← count_in 0 max_events shape.events
-  ports ← ports_from mask [] shape.ports
-  units ← units_from [] shape.units
-  losses ← losses_from no_losses shape.losses
-  events ← events_of count unit_count mask shape.events
+  top ← in_table places.Top (top_of may_have_units members)
+  ports ← ports_from top.mask [] top.ports
+  units ← units_from [] top.units
+  losses ← losses_from 0 no_losses top.losses
+  events ← events_from 0 top.port_count top.unit_count top.mask top.events
   Ok (record {
-    licences = licences;
-    mask = mask;
-    journal_limit = journal_limit;
+    licences = top.licences;
+    mask = top.mask;
+    journal_limit = top.journal_limit;
     ports = ports;
     units = units;
     losses = losses;
@@ -122,25 +157,29 @@ script_of_table may_have_units members = do
   })
 
 -- the text that bytes are
-abbrev pub text_of : List ℕ → Result (List ℕ) ScriptFault
-text_of bytes = if is_utf8 bytes then Ok bytes else Err fault.Syntax
+abbrev pub text_of : List ℕ → Result (List ℕ) MistakeView
+text_of bytes = if is_utf8 bytes then Ok bytes else Err no_text
 
 -- a table, where the text is TOML at all
-abbrev pub table_or_fault : Option Members → Result Members ScriptFault
-table_or_fault None = Err fault.Syntax
-table_or_fault (Some members) = Ok members
+abbrev pub table_or_mistake : Option Members → Result Members MistakeView
+table_or_mistake None = Err no_toml
+table_or_mistake (Some members) = Ok members
 
--- what the bytes say as a script that may have simulated units or may have none, or the first fault
-unfoldable pub script_of_bytes : Bool → List ℕ → Result ScriptView ScriptFault
+-- what the bytes say as a script that may have simulated units or may have none, or the first mistake
+unfoldable pub script_of_bytes : Bool → List ℕ → Result ScriptView MistakeView
 script_of_bytes may_have_units bytes = do
   text ← text_of bytes
-  members ← table_or_fault (parse_document text)
+  members ← table_or_mistake (parse_document text)
   script_of_table may_have_units members
 
--- what the bytes say as a script that is replayed, or the first fault
+-- what the bytes say as a script that is replayed, or the first mistake and its place
+abbrev pub script_or_mistake : List ℕ → Result ScriptView MistakeView
+script_or_mistake bytes = script_of_bytes true bytes
+
+-- the same, or the first fault
 abbrev pub script_of : List ℕ → Result ScriptView ScriptFault
-script_of bytes = script_of_bytes true bytes
+script_of bytes = without_place (script_or_mistake bytes)
 
 -- what the bytes say as a script for a storm, which has no simulated units, or the first fault
 abbrev pub storm_script_of : List ℕ → Result ScriptView ScriptFault
-storm_script_of bytes = script_of_bytes false bytes
+storm_script_of bytes = without_place (script_of_bytes false bytes)

@@ -6,10 +6,12 @@ use Rattle.gp_script.specs.declared.script.ScriptEvent.{ScriptEvent}
 use Rattle.gp_script.specs.declared.script.ScriptEvent.TheVariants.{Frames, Burst, Command, Light}
 use Rattle.gp_script.specs.declared.script.ScriptLosses.{ScriptLosses}
 use Rattle.gp_script.specs.declared.ports.PortKeys.{PortKeys}
-use Rattle.gp_script.specs.declared.reading.TopKeys.{TopKeys}
-use Rattle.gp_script.specs.Port.{PortShape}
+use Rattle.gp_script.specs.declared.ports.PortValues.{PortValues}
+use Rattle.gp_script.specs.declared.top.Top.{Top}
+use Rattle.gp_script.specs.declared.top.TopKeys.{TopKeys}
+use Rattle.gp_script.specs.Port.{PortNumbers, PortShape}
 use Rattle.gp_script.specs.Lose.{LossesView}
-use Rattle.gp_script.specs.Script.{ScriptView, TopShape}
+use Rattle.gp_script.specs.Script.{ScriptView, TopShape, TopView}
 
 -- what is lost, without where it lies in memory
 abbrev pub losses_view : ScriptLosses → LossesView
@@ -71,4 +73,31 @@ top_keys_view keys = record {
   units = items_view keys.units.now;
   losses = items_view keys.losses.now;
   events = items_view keys.events.now;
+}
+
+-- what a port table says, without where it lies in memory
+abbrev pub port_values_view : PortValues → PortNumbers
+port_values_view values = record {
+  teqd = values.teqd;
+  overhead = values.overhead;
+  max_units = values.max_units;
+  alloc_last = values.alloc_last;
+  cycles = values.cycles;
+  search_period = values.search_period;
+  quarantine = values.quarantine;
+  admit = items_view values.admit.now;
+}
+
+-- what the top says, without where it lies in memory
+abbrev pub top_view : Top → TopView
+top_view top = record {
+  licences = top.licences;
+  mask = top.mask;
+  journal_limit = top.journal_limit;
+  port_count = top.port_count;
+  unit_count = top.unit_count;
+  ports = items_view top.ports.now;
+  units = items_view top.units.now;
+  losses = items_view top.losses.now;
+  events = items_view top.events.now;
 }

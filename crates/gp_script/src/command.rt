@@ -1,12 +1,14 @@
 ghost use Rattle.std.specs.Prelude.{◌≡◌, IfOk};
 ghost use Rattle.toml.specs.View.{table_view};
+ghost use Rattle.gp_script.specs.Fault.{Sees};
 ghost use Rattle.gp_script.specs.Command as spec;
 ghost use Rattle.gp_script.specs.View.{NamesPort};
 
-use crate::fault::ScriptFault;
-use crate::keys::{has_only, needed_number, needed_text, needs};
+use crate::keys::{has_only, needed_number, needed_text};
+use crate::place::{Key, Wanted};
 use crate::script::ScriptEvent;
 use crate::values::{in_range, port_in, serial_of};
+use crate::walk::{TableFault, wanted_at};
 use gp_machine::{Command, LAST_ALLOC_ID};
 use gp_ploam::Serial;
 use toml::Table;
@@ -72,26 +74,30 @@ impl UnitCommand {
 
 /// Reads a command that names no unit.
 #[tactic(auto, unfolding(crate::specs::Command::port_command))]
-fn port_command(ports: u8, command: Command, table: &Table) -> Result<ScriptEvent, ScriptFault>
-    ensures value { result ≡ spec.port_command ports command (table_view table.now) }
+fn port_command(ports: u8, command: Command, table: &Table) -> Result<ScriptEvent, TableFault<'_>>
+    ensures value { Sees (λ e. e) result (spec.port_command ports command (table_view table.now)) }
     ensures port { IfOk result (λ e. NamesPort ports e) }
 {
-    needs(ScriptFault::Shape, has_only(table, &["port", "command"]))?;
-    let port = needed_number(table, "port")?;
+    has_only(table, &[Key::Port, Key::Command])?;
+    let port = needed_number(table, Key::Port)?;
     let port = port_in(ports, port)?;
     Ok(ScriptEvent::Command { port, command })
 }
 
 /// Reads a command to one unit.
 #[tactic(auto, unfolding(crate::specs::Command::unit_command))]
-fn unit_command(ports: u8, command: UnitCommand, table: &Table) -> Result<ScriptEvent, ScriptFault>
-    ensures value { result ≡ spec.unit_command ports command (table_view table.now) }
+fn unit_command(
+    ports: u8,
+    command: UnitCommand,
+    table: &Table,
+) -> Result<ScriptEvent, TableFault<'_>>
+    ensures value { Sees (λ e. e) result (spec.unit_command ports command (table_view table.now)) }
     ensures port { IfOk result (λ e. NamesPort ports e) }
 {
-    let names = ["port", "command", "serial"];
-    needs(ScriptFault::Shape, has_only(table, &names))?;
-    let port = needed_number(table, "port")?;
-    let serial = needed_text(table, "serial")?;
+    let keys = [Key::Port, Key::Command, Key::Serial];
+    has_only(table, &keys)?;
+    let port = needed_number(table, Key::Port)?;
+    let serial = needed_text(table, Key::Serial)?;
     let port = port_in(ports, port)?;
     let serial = serial_of(serial)?;
     let command = command.to(serial);
@@ -100,30 +106,30 @@ fn unit_command(ports: u8, command: UnitCommand, table: &Table) -> Result<Script
 
 /// Reads the command that a unit is to give an Alloc-ID back.
 #[tactic(auto, unfolding(crate::specs::Command::dealloc_command))]
-fn dealloc_command(ports: u8, table: &Table) -> Result<ScriptEvent, ScriptFault>
-    ensures value { result ≡ spec.dealloc_command ports (table_view table.now) }
+fn dealloc_command(ports: u8, table: &Table) -> Result<ScriptEvent, TableFault<'_>>
+    ensures value { Sees (λ e. e) result (spec.dealloc_command ports (table_view table.now)) }
     ensures port { IfOk result (λ e. NamesPort ports e) }
 {
-    let names = ["port", "command", "serial", "alloc"];
-    needs(ScriptFault::Shape, has_only(table, &names))?;
-    let port = needed_number(table, "port")?;
-    let serial = needed_text(table, "serial")?;
-    let alloc = needed_number(table, "alloc")?;
+    let keys = [Key::Port, Key::Command, Key::Serial, Key::Alloc];
+    has_only(table, &keys)?;
+    let port = needed_number(table, Key::Port)?;
+    let serial = needed_text(table, Key::Serial)?;
+    let alloc = needed_number(table, Key::Alloc)?;
     let port = port_in(ports, port)?;
     let serial = serial_of(serial)?;
-    let alloc = in_range(0..=u32::from(LAST_ALLOC_ID), alloc)? as u16;
+    let alloc = in_range(Key::Alloc, 0..=u32::from(LAST_ALLOC_ID), alloc)? as u16;
     let command = Command::Dealloc { serial, alloc };
     Ok(ScriptEvent::Command { port, command })
 }
 
 /// Reads what the operator asks, which is told by its word.
 #[tactic(auto, unfolding(crate::specs::Command::command_event))]
-pub(crate) fn command_event(ports: u8, table: &Table) -> Result<ScriptEvent, ScriptFault>
-    ensures value { result ≡ spec.command_event ports (table_view table.now) }
+pub(crate) fn command_event(ports: u8, table: &Table) -> Result<ScriptEvent, TableFault<'_>>
+    ensures value { Sees (λ e. e) result (spec.command_event ports (table_view table.now)) }
     ensures port { IfOk result (λ e. NamesPort ports e) }
 {
-    let text = needed_text(table, "command")?;
-    let word = CommandWord::from_text(text).ok_or(ScriptFault::Shape)?;
+    let text = needed_text(table, Key::Command)?;
+    let word = CommandWord::from_text(text).ok_or(wanted_at(Key::Command, Wanted::Word))?;
     match word {
         CommandWord::OfPort(command) => port_command(ports, command, table),
         CommandWord::OfUnit(command) => unit_command(ports, command, table),

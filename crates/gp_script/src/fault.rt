@@ -1,7 +1,6 @@
 ghost use Rattle.std.specs.Prelude.{◌≡◌};
 ghost use Rattle.gp_script.specs.declared.fault.ScriptError.TheVariants.{OutOfMemory, Fault};
 
-use gp_serial::AdmitFault;
 use std::alloc::AllocError;
 use thiserror::Error;
 
@@ -53,19 +52,5 @@ impl From<AllocError> for ScriptError {
 
     fn from(_error: AllocError) -> ScriptError {
         ScriptError::OutOfMemory
-    }
-}
-
-impl From<AdmitFault> for ScriptError {
-    ghost use Rattle.gp_script.specs.Fault.{error_of_admit};
-
-    ghost from_gives = { λ fault error. error ≡ error_of_admit fault };
-
-    fn from(fault: AdmitFault) -> ScriptError {
-        match fault {
-            AdmitFault::Duplicate => ScriptError::Fault(ScriptFault::Duplicate),
-            AdmitFault::Full => ScriptError::Fault(ScriptFault::Range),
-            AdmitFault::OutOfMemory => ScriptError::OutOfMemory,
-        }
     }
 }

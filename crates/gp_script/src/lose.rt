@@ -1,13 +1,14 @@
 ghost use Rattle.std.specs.Prelude.{◌≡◌, OnOk};
 ghost use Rattle.toml.specs.View.{table_view, items_view};
-ghost use Rattle.gp_script.specs.Fault.{Gives};
+ghost use Rattle.gp_script.specs.Fault.{Sees, Walks};
 ghost use Rattle.gp_script.specs.Lose as spec;
 ghost use Rattle.gp_script.specs.View.{losses_view};
 
-use crate::fault::{ScriptError, ScriptFault};
-use crate::keys::{has_only, needs, number_at};
+use crate::keys::{has_only, number_at};
+use crate::place::{Key, Spot, TablePlace, Wanted};
 use crate::script::ScriptLosses;
 use crate::values::number_from_0;
+use crate::walk::{TableFault, WalkError, no_table};
 use std::alloc::{AllocError, Global};
 use toml::{Table, Value};
 
@@ -35,34 +36,41 @@ impl ScriptLosses {
 
 /// Reads a table under `lose`, which names either a copy or a burst.
 #[tactic(auto, unfolding(crate::specs::Lose::loss_of))]
-fn loss_of(table: &Table) -> Result<Loss, ScriptFault>
-    ensures { result ≡ spec.loss_of (table_view table.now) }
+fn loss_of(table: &Table) -> Result<Loss, TableFault<'_>>
+    ensures { Sees (λ loss. loss) result (spec.loss_of (table_view table.now)) }
 {
-    needs(ScriptFault::Shape, has_only(table, &["copy", "burst"]))?;
-    let copy = number_at(table, "copy")?;
-    let burst = number_at(table, "burst")?;
+    has_only(table, &[Key::Copy, Key::Burst])?;
+    let copy = number_at(table, Key::Copy)?;
+    let burst = number_at(table, Key::Burst)?;
     match (copy, burst) {
-        (Some(number), None) => Ok(Loss::Copy(number_from_0(number)?)),
-        (None, Some(number)) => Ok(Loss::Burst(number_from_0(number)?)),
-        (Some(_), Some(_)) | (None, None) => Err(ScriptFault::Shape),
+        (Some(number), None) => Ok(Loss::Copy(number_from_0(Key::Copy, number)?)),
+        (None, Some(number)) => Ok(Loss::Burst(number_from_0(Key::Burst, number)?)),
+        (Some(_), Some(_)) | (None, None) => {
+            Err(TableFault::Unmet(Spot::Table, Wanted::OneLoss))
+        },
     }
 }
 
 /// Reads the tables under `lose`.
 #[tactic(auto, unfolding(crate::specs::Lose::losses_from))]
-pub(crate) fn losses_of(alloc: Global, tables: &[Value]) -> Result<ScriptLosses, ScriptError>
-    ensures { Gives losses_view result (spec.losses_from spec.no_losses (items_view tables.now)) }
+pub(crate) fn losses_of(alloc: Global, tables: &[Value]) -> Result<ScriptLosses, WalkError<'_>>
+    ensures { Walks losses_view result (spec.losses_from 0 spec.no_losses (items_view tables.now)) }
 {
     let mut losses = ScriptLosses {
         copies: Vec::new(alloc),
         bursts: Vec::new(alloc),
     };
+    let mut place = 0;
     'tables: for value in tables {
         let Some(table) = value.as_table() else {
-            return Err(ScriptError::Fault(ScriptFault::Shape));
+            return Err(no_table(Key::Lose, place));
         };
-        let loss = loss_of(table)?;
+        let loss = match loss_of(table) {
+            Ok(loss) => loss,
+            Err(fault) => return Err(WalkError::Inside(TablePlace::Lose(place), fault)),
+        };
         losses.add(loss)?;
+        place += 1;
     }
     Ok(losses)
 }

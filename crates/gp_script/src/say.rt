@@ -1,13 +1,15 @@
 ghost use Rattle.std.specs.Prelude.{◌≡◌, ℕ, ◌<◌, IfOk};
 ghost use Rattle.toml.specs.View.{table_view};
 ghost use Rattle.gp_ploam.specs.Up.{IsProperUp};
+ghost use Rattle.gp_script.specs.Fault.{Sees};
 ghost use Rattle.gp_script.specs.Say as spec;
 ghost use Rattle.gp_script.specs.View.{NamesPort};
 
-use crate::fault::ScriptFault;
-use crate::keys::{has_only, needed_number, needed_text, needs, number_at};
+use crate::keys::{has_only, needed_number, needed_text, number_at};
+use crate::place::{Key, Wanted};
 use crate::script::ScriptEvent;
 use crate::values::{delay_in, in_range_or, octet_in, port_in, serial_of};
+use crate::walk::{TableFault, wanted_at};
 use gp_ploam::{BROADCAST_ONU, Mask, Up, encode_up};
 use toml::Table;
 
@@ -37,20 +39,25 @@ fn said(mask: Mask, speaker: Speaker, message: &Up) -> ScriptEvent
 
 /// Reads an event in which a unit says its serial number.
 #[tactic(auto, unfolding(crate::specs::Say::say_serial))]
-fn say_serial(ports: u8, mask: Mask, table: &Table) -> Result<ScriptEvent, ScriptFault>
-    ensures value { result ≡ spec.say_serial ports mask (table_view table.now) }
+fn say_serial(ports: u8, mask: Mask, table: &Table) -> Result<ScriptEvent, TableFault<'_>>
+    ensures value { Sees (λ e. e) result (spec.say_serial ports mask (table_view table.now)) }
     ensures port { IfOk result (λ e. NamesPort ports e) }
 {
-    let names = ["port", "at", "say", "serial", "onu"];
-    needs(ScriptFault::Shape, has_only(table, &names))?;
-    let port = needed_number(table, "port")?;
-    let at = needed_number(table, "at")?;
-    let serial = needed_text(table, "serial")?;
-    let onu = number_at(table, "onu")?;
+    let keys = [Key::Port, Key::At, Key::Say, Key::Serial, Key::Onu];
+    has_only(table, &keys)?;
+    let port = needed_number(table, Key::Port)?;
+    let at = needed_number(table, Key::At)?;
+    let serial = needed_text(table, Key::Serial)?;
+    let onu = number_at(table, Key::Onu)?;
     let port = port_in(ports, port)?;
     let at = delay_in(at)?;
     let serial = serial_of(serial)?;
-    let onu = in_range_or(u32::from(BROADCAST_ONU), 0..=u32::from(u8::MAX), onu)? as u8;
+    let onu = in_range_or(
+        Key::Onu,
+        u32::from(BROADCAST_ONU),
+        0..=u32::from(u8::MAX),
+        onu,
+    )? as u8;
     let message = Up::SerialNumber {
         onu,
         serial,
@@ -62,25 +69,25 @@ fn say_serial(ports: u8, mask: Mask, table: &Table) -> Result<ScriptEvent, Scrip
 
 /// Reads who says something that has no key but the unit's ONU-ID.
 #[tactic(auto, unfolding(crate::specs::Say::speaker_of))]
-fn speaker_of(ports: u8, table: &Table) -> Result<Speaker, ScriptFault>
-    ensures value { result ≡ spec.speaker_of ports (table_view table.now) }
+fn speaker_of(ports: u8, table: &Table) -> Result<Speaker, TableFault<'_>>
+    ensures value { Sees (λ e. e) result (spec.speaker_of ports (table_view table.now)) }
     ensures port { IfOk result (λ speaker. speaker.port < ports) }
 {
-    let names = ["port", "at", "say", "onu"];
-    needs(ScriptFault::Shape, has_only(table, &names))?;
-    let port = needed_number(table, "port")?;
-    let at = needed_number(table, "at")?;
-    let onu = needed_number(table, "onu")?;
+    let keys = [Key::Port, Key::At, Key::Say, Key::Onu];
+    has_only(table, &keys)?;
+    let port = needed_number(table, Key::Port)?;
+    let at = needed_number(table, Key::At)?;
+    let onu = needed_number(table, Key::Onu)?;
     let port = port_in(ports, port)?;
     let at = delay_in(at)?;
-    let onu = octet_in(onu)?;
+    let onu = octet_in(Key::Onu, onu)?;
     Ok(Speaker { port, at, onu })
 }
 
 /// Reads an event in which a unit says that it is losing its power.
 #[tactic(auto, unfolding(crate::specs::Say::say_gasp))]
-fn say_gasp(ports: u8, mask: Mask, table: &Table) -> Result<ScriptEvent, ScriptFault>
-    ensures value { result ≡ spec.say_gasp ports mask (table_view table.now) }
+fn say_gasp(ports: u8, mask: Mask, table: &Table) -> Result<ScriptEvent, TableFault<'_>>
+    ensures value { Sees (λ e. e) result (spec.say_gasp ports mask (table_view table.now)) }
     ensures port { IfOk result (λ e. NamesPort ports e) }
 {
     let speaker = speaker_of(ports, table)?;
@@ -89,8 +96,8 @@ fn say_gasp(ports: u8, mask: Mask, table: &Table) -> Result<ScriptEvent, ScriptF
 
 /// Reads an event in which a unit says that it has nothing to say.
 #[tactic(auto, unfolding(crate::specs::Say::say_none))]
-fn say_none(ports: u8, mask: Mask, table: &Table) -> Result<ScriptEvent, ScriptFault>
-    ensures value { result ≡ spec.say_none ports mask (table_view table.now) }
+fn say_none(ports: u8, mask: Mask, table: &Table) -> Result<ScriptEvent, TableFault<'_>>
+    ensures value { Sees (λ e. e) result (spec.say_none ports mask (table_view table.now)) }
     ensures port { IfOk result (λ e. NamesPort ports e) }
 {
     let speaker = speaker_of(ports, table)?;
@@ -99,20 +106,20 @@ fn say_none(ports: u8, mask: Mask, table: &Table) -> Result<ScriptEvent, ScriptF
 
 /// Reads an event in which a unit acknowledges a message, of which the identifier alone is told.
 #[tactic(auto, unfolding(crate::specs::Say::say_ack))]
-fn say_ack(ports: u8, mask: Mask, table: &Table) -> Result<ScriptEvent, ScriptFault>
-    ensures value { result ≡ spec.say_ack ports mask (table_view table.now) }
+fn say_ack(ports: u8, mask: Mask, table: &Table) -> Result<ScriptEvent, TableFault<'_>>
+    ensures value { Sees (λ e. e) result (spec.say_ack ports mask (table_view table.now)) }
     ensures port { IfOk result (λ e. NamesPort ports e) }
 {
-    let names = ["port", "at", "say", "onu", "id"];
-    needs(ScriptFault::Shape, has_only(table, &names))?;
-    let port = needed_number(table, "port")?;
-    let at = needed_number(table, "at")?;
-    let onu = needed_number(table, "onu")?;
-    let id = needed_number(table, "id")?;
+    let keys = [Key::Port, Key::At, Key::Say, Key::Onu, Key::Id];
+    has_only(table, &keys)?;
+    let port = needed_number(table, Key::Port)?;
+    let at = needed_number(table, Key::At)?;
+    let onu = needed_number(table, Key::Onu)?;
+    let id = needed_number(table, Key::Id)?;
     let port = port_in(ports, port)?;
     let at = delay_in(at)?;
-    let onu = octet_in(onu)?;
-    let id = octet_in(id)?;
+    let onu = octet_in(Key::Onu, onu)?;
+    let id = octet_in(Key::Id, id)?;
     let message = Up::Acknowledge {
         onu,
         id,
@@ -123,15 +130,15 @@ fn say_ack(ports: u8, mask: Mask, table: &Table) -> Result<ScriptEvent, ScriptFa
 
 /// Reads what a unit says, which is told by its word.
 #[tactic(auto, unfolding(crate::specs::Say::say_event))]
-pub(crate) fn say_event(ports: u8, mask: Mask, table: &Table) -> Result<ScriptEvent, ScriptFault>
-    ensures value { result ≡ spec.say_event ports mask (table_view table.now) }
+pub(crate) fn say_event(ports: u8, mask: Mask, table: &Table) -> Result<ScriptEvent, TableFault<'_>>
+    ensures value { Sees (λ e. e) result (spec.say_event ports mask (table_view table.now)) }
     ensures port { IfOk result (λ e. NamesPort ports e) }
 {
-    match needed_text(table, "say")? {
+    match needed_text(table, Key::Say)? {
         "serial" => say_serial(ports, mask, table),
         "gasp" => say_gasp(ports, mask, table),
         "none" => say_none(ports, mask, table),
         "ack" => say_ack(ports, mask, table),
-        _ => Err(ScriptFault::Shape),
+        _ => Err(wanted_at(Key::Say, Wanted::Word)),
     }
 }

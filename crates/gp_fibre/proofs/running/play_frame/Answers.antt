@@ -1,11 +1,10 @@
 use Rattle.std.proofs.Common.{◌≡◌, ◌+◌, ℕ, List, length, ap, sym, subst, ◌∙◌, arith}
-use Rattle.gp_fibre.specs.declared.sent_burst.SentBurst.{SentBurst}
 use Rattle.gp_fibre.specs.Fibre.{FibreStand}
 use Rattle.gp_fibre.specs.Flights.{AreInReach}
 use Rattle.gp_fibre.specs.Parts.{Asks, Comes, PortPuts, world_state}
 use Rattle.gp_fibre.specs.Schedule.{arrivals, flights_after}
 use Rattle.gp_fibre.proofs.Coming.{left_in_reach}
-use Rattle.gp_fibre.proofs.Playing.{asks_bursts, answered_length, answered_below, left_below, played, AreBelow}
+use Rattle.gp_fibre.proofs.Playing.{answered_kept, asks_bursts, answered_length, left_kept, played}
 use Rattle.gp_fibre.proofs.running.play_frame.Goals as goal
 
 pub land-requires-clause-copies : goal.land-requires-clause-copies
@@ -36,11 +35,13 @@ land-requires-clause-entries g c =
     let capacity = c.ask.ensures.entries_capacity in
     omega arith
 
-pub land-requires-clause-numbers : goal.land-requires-clause-numbers
-land-requires-clause-numbers g c =
-    let bounds = asks_bursts c.deref.result.now c.args.fibre.now.world c.args.entries.now.items c.ask.new.entries.items c.ask.new.fibre.world c.ask.ensures.asks in
-    answered_below c.frames-frame.result (length c.args.fibre.now.world.bursts) c.args.flights.now.flights c.ask.new.flights.flights c.ask.new.fibre.world.bursts bounds.0
-    c.requires.numbers c.ask.ensures.comes
+pub land-requires-clause-kept : goal.land-requires-clause-kept
+land-requires-clause-kept g c =
+    let old = c.args.fibre.now.world in
+    let asks = c.ask.ensures.asks in
+    let bounds = asks_bursts c.deref.result.now old c.args.entries.now.items c.ask.new.entries.items c.ask.new.fibre.world asks in
+    answered_kept c.frames-frame.result old c.ask.new.fibre.world c.args.flights.now.flights c.ask.new.flights.flights c.requires.kept (asks.reaches.forgotten ∙ asks.port.forgotten) bounds.0
+    c.ask.ensures.comes
 
 pub ask-requires-clause-reach : goal.ask-requires-clause-reach
 ask-requires-clause-reach g c = subst (λ (n : ℕ). AreInReach n c.args.flights.now.flights) (sym c.frames-frame.ensures.value) c.requires.reach
@@ -67,15 +68,16 @@ returns-clause-puts g c =
     (ap (λ (s : FibreStand). s.frames) c.end_frame.ensures ∙ ap (λ (n : ℕ). n + 1) (c.land.ensures.frames ∙ c.ask.ensures.frames))
     (c.land.ensures.left ∙ ap (λ (n : ℕ). flights_after n flights) frame)
 
-pub returns-clause-numbers : goal.returns-clause-numbers
-returns-clause-numbers g c =
-    let bounds = asks_bursts c.deref.result.now c.args.fibre.now.world c.args.entries.now.items c.ask.new.entries.items c.ask.new.fibre.world c.ask.ensures.asks in
-    let flights = c.ask.new.flights.flights in
-    let bursts = c.ask.new.fibre.world.bursts in
-    let answered = answered_below c.frames-frame.result (length c.args.fibre.now.world.bursts) c.args.flights.now.flights flights bursts bounds.0 c.requires.numbers c.ask.ensures.comes in
-    let left = left_below (length bursts) c.frames-frame.result flights c.land.new.flights.flights answered c.land.ensures.left in
-    let same : c.end_frame.new.self.world.bursts ≡ bursts = ap (λ (s : FibreStand). s.world.bursts) c.end_frame.ensures ∙ c.land.ensures.puts.bursts in
-    subst (λ (bs : List SentBurst). AreBelow (length bs) c.land.new.flights.flights) (sym same) left
+pub returns-clause-kept : goal.returns-clause-kept
+returns-clause-kept g c =
+    let old = c.args.fibre.now.world in
+    let asked = c.ask.new.fibre.world in
+    let asks = c.ask.ensures.asks in
+    let bounds = asks_bursts c.deref.result.now old c.args.entries.now.items c.ask.new.entries.items asked asks in
+    let kept = answered_kept c.frames-frame.result old asked c.args.flights.now.flights c.ask.new.flights.flights c.requires.kept (asks.reaches.forgotten ∙ asks.port.forgotten) bounds.0 c.ask.ensures.comes in
+    let ended = c.end_frame.ensures in
+    left_kept c.frames-frame.result asked c.end_frame.new.self.world c.ask.new.flights.flights c.land.new.flights.flights kept
+    (ap (λ (s : FibreStand). s.world.forgotten) ended ∙ c.land.ensures.puts.forgotten) (ap (λ (s : FibreStand). s.world.bursts) ended ∙ c.land.ensures.puts.bursts) c.land.ensures.left
 
 pub returns-clause-reach : goal.returns-clause-reach
 returns-clause-reach g c =

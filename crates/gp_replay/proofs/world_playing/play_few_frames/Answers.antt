@@ -1,5 +1,6 @@
-use Rattle.std.proofs.Common.{◌+◌, length, arith, refl}
-use Rattle.gp_fibre.specs.Schedule.{FramesRun}
+use Rattle.std.proofs.Common.{◌+◌, length, arith, refl, subst, ◌∙◌}
+use Rattle.gp_fibre.specs.Forgetting.{WorldForgets}
+use Rattle.gp_fibre.specs.Schedule.{FramesRun, WorldState}
 use Rattle.gp_replay.specs.WorldPlay.{receipts_from}
 use Rattle.gp_replay.specs.WorldWriting.{Numbered, TakesSomeFrames, losses_of}
 use Rattle.gp_replay.proofs.PlayLemmas.{plays_lines, stops_at_first, stops_in_lines}
@@ -18,7 +19,7 @@ pub returns-in_err-entries-clause-plays : goal.returns-in_err-entries-clause-pla
 returns-in_err-entries-clause-plays g c =
     let losses = losses_of c.args.loss.now in
     stops_at_first c.args.mask (Numbered (FramesRun losses.copies losses.bursts c.args.frames)) (Numbered (TakesSomeFrames losses c.args.frames)) c.args.player.now _ c.args.sink.now _
-    (numbered_none (TakesSomeFrames losses c.args.frames) c.args.player.now (0, omega arith, (refl, refl))) c.from_residual.ensures.1
+    (numbered_none (TakesSomeFrames losses c.args.frames) c.args.player.now (λ w. (0, omega arith, (refl, refl)))) c.from_residual.ensures.1
 
 pub returns-in_err-write_entries-clause-plays : goal.returns-in_err-write_entries-clause-plays
 returns-in_err-write_entries-clause-plays g c =
@@ -36,9 +37,10 @@ returns-clause-plays g c =
     let mid = c.run_frames.new.self in
     let entries = c.in_ok-entries.entries.items in
     plays_lines c.args.mask (Numbered (FramesRun losses.copies losses.bursts c.args.frames)) (Numbered (TakesSomeFrames losses c.args.frames)) c.args.player.now
-    c.write_entries.new.player (receipts_from mid.next entries) _ _ _ _
-    (frames_happen losses c.args.frames entries c.args.player.now mid c.write_entries.new.player c.in_ok-entries.ensures.ran c.in_ok-entries.ensures.next c.in_ok-write_entries.ensures.world
-    (rw c.as_slice.ensures.value at c.in_ok-write_entries.ensures.next))
+    c.forget.new.self (receipts_from mid.next entries) _ _ _ _
+    (frames_happen losses c.args.frames entries c.args.player.now mid c.forget.new.self c.in_ok-entries.ensures.ran c.in_ok-entries.ensures.next
+    (subst (λ (w : WorldState). WorldForgets w c.forget.new.self.world) c.in_ok-write_entries.ensures.world c.forget.ensures.world)
+    (c.forget.ensures.next ∙ rw c.as_slice.ensures.value at c.in_ok-write_entries.ensures.next))
     (rw c.as_slice.ensures.value at c.in_ok-write_entries.ensures.hands)
 
 pub returns-clause-told : goal.returns-clause-told
@@ -46,7 +48,8 @@ returns-clause-told g c =
     let losses = losses_of c.args.loss.now in
     let mid = c.run_frames.new.self in
     let entries = c.in_ok-entries.entries.items in
-    frames_told c.args.mask entries (FramesRun losses.copies losses.bursts c.args.frames) c.args.player.now c.write_entries.new.player mid.next _ _ _
-    (frames_happen losses c.args.frames entries c.args.player.now mid c.write_entries.new.player c.in_ok-entries.ensures.ran c.in_ok-entries.ensures.next c.in_ok-write_entries.ensures.world
-    (rw c.as_slice.ensures.value at c.in_ok-write_entries.ensures.next))
+    frames_told c.args.mask entries (FramesRun losses.copies losses.bursts c.args.frames) c.args.player.now c.forget.new.self mid.next _ _ _
+    (frames_happen losses c.args.frames entries c.args.player.now mid c.forget.new.self c.in_ok-entries.ensures.ran c.in_ok-entries.ensures.next
+    (subst (λ (w : WorldState). WorldForgets w c.forget.new.self.world) c.in_ok-write_entries.ensures.world c.forget.ensures.world)
+    (c.forget.ensures.next ∙ rw c.as_slice.ensures.value at c.in_ok-write_entries.ensures.next))
     (rw c.as_slice.ensures.value at c.in_ok-write_entries.ensures.hands)

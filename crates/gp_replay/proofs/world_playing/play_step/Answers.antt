@@ -8,7 +8,7 @@ use Rattle.gp_replay.proofs.world_playing.play_step.Goals as goal
 pub returns-in_err-given : goal.returns-in_err-given
 returns-in_err-given g c =
     stops_at_first c.args.mask (Numbered (TakesStep c.args.step)) (Numbered (MayTakeStep c.args.step)) c.args.player.now _ c.args.sink.now _
-    (numbered_none (MayTakeStep c.args.step) c.args.player.now (inl (refl, refl))) c.from_residual.ensures.1
+    (numbered_none (MayTakeStep c.args.step) c.args.player.now (λ w. inl (refl, refl))) c.from_residual.ensures.1
 
 pub returns-in_err-write_entry : goal.returns-in_err-write_entry
 returns-in_err-write_entry g c =

@@ -2,4 +2,4 @@ use Rattle.toml.proofs.Views.{table_get}
 use Rattle.gp_script.proofs.keys.member.Goals as goal
 
 pub returns : goal.returns
-returns c = table_get c.get.result c.args.key.now c.args.table.now.entries c.get.ensures.value
+returns c = rw (← c.name.ensures) (table_get c.get.result c.name.result.now c.args.table.now.entries c.get.ensures.value)

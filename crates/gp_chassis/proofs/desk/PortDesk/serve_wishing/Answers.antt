@@ -15,7 +15,7 @@ invariant_of-self-2 g c =
     let kept : length d.entries + 1 ≤ d.limit = let r = rw (← c.self.view_is) at room.kept in omega (arith, r) in
     let more = one_more d e c.step_wishing-answer.new.self in
     let count = ap (λ (x : DeskState). length x.entries) made in (
-      subst DeskStands (sym made) (stepped_desk d e c.step_wishing-answer.new.self c.self.invariant.0 step),
+      subst DeskStands (sym made) (stepped_desk d e c.step_wishing-answer.new.self c.self.invariant.0 step c.step_wishing-answer.ensures.proper),
       omega (arith, count, more, kept),
       c.self.invariant.2,
     )

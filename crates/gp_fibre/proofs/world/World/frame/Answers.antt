@@ -1,15 +1,12 @@
-use Rattle.std.proofs.Common.{◌≡◌, ◌+◌, ◌<◌, List, ℕ, length, ap, sym, subst, refl, ◌∙◌}
-use Rattle.std.specs.Prelude.{All, not}
-use Rattle.std.proofs.lemmas.List.Elements.{All-filter}
+use Rattle.std.proofs.Common.{◌≡◌, ◌+◌, ℕ, ap, sym, subst, refl, ◌∙◌}
 use Rattle.gp_machine.specs.declared.event.Event.TheVariants as event
-use Rattle.gp_fibre.specs.declared.flight.Flight.{Flight}
-use Rattle.gp_fibre.specs.declared.sent_burst.SentBurst.{SentBurst}
 use Rattle.gp_fibre.specs.Fibre.{FibreStand}
 use Rattle.gp_fibre.specs.Flights.{AreInReach}
 use Rattle.gp_fibre.specs.World.{FibreWorld}
 use Rattle.gp_fibre.specs.Step.{PortTakes}
-use Rattle.gp_fibre.specs.Schedule.{flights_after, is_due}
+use Rattle.gp_fibre.specs.Schedule.{flights_after}
 use Rattle.gp_fibre.proofs.Coming.{left_in_reach}
+use Rattle.gp_fibre.proofs.Playing.{left_kept}
 use Rattle.gp_fibre.proofs.world.World.frame.Goals as goal
 
 pub remove_due-requires : goal.remove_due-requires
@@ -21,15 +18,16 @@ invariant_of-self-2 g c =
     let i = c.self.inside in
     let frame = c.frames-frame.result in
     let taken = c.take-entry.ensures.taken in
-    let same : c.end_frame.new.self.world.bursts ≡ i.fibre.world.bursts =
-    ap (λ (s : FibreStand). s.world.bursts) c.end_frame.ensures ∙ taken.bursts ∙ ap (λ (w : FibreWorld). w.bursts) c.in_ok-reserve.ensures.world in
-    let old : All (λ (f : Flight). f.number < length i.fibre.world.bursts) (flights_after frame i.flights.flights) =
-    All-filter (λ f. not (is_due frame f)) (λ (f : Flight). f.number < length i.fibre.world.bursts) i.flights.flights c.self.invariant.0 in
+    let ended = c.end_frame.ensures in
+    let reserved : c.reserve.new.self.world ≡ i.fibre.world = c.in_ok-reserve.ensures.world in
+    let bursts : c.end_frame.new.self.world.bursts ≡ i.fibre.world.bursts =
+    ap (λ (s : FibreStand). s.world.bursts) ended ∙ taken.bursts ∙ ap (λ (w : FibreWorld). w.bursts) reserved in
+    let forgotten : c.end_frame.new.self.world.forgotten ≡ i.fibre.world.forgotten =
+    ap (λ (s : FibreStand). s.world.forgotten) ended ∙ taken.forgotten ∙ ap (λ (w : FibreWorld). w.forgotten) reserved in
     let reach : AreInReach frame i.flights.flights = subst (λ (n : ℕ). AreInReach n i.flights.flights) (sym c.frames-frame.ensures.value) c.self.invariant.1 in
     let frames : c.end_frame.new.self.frames ≡ frame + 1 =
-    ap (λ (s : FibreStand). s.frames) c.end_frame.ensures ∙ ap (λ (n : ℕ). n + 1) (c.take-entry.ensures.frames ∙ c.in_ok-reserve.ensures.frames ∙ sym c.frames-frame.ensures.value) in (
-      subst (λ (bs : List SentBurst). All (λ (f : Flight). f.number < length bs) c.remove_due.new.self.flights) (sym same)
-          (subst (λ (fs : List Flight). All (λ (f : Flight). f.number < length i.fibre.world.bursts) fs) (sym c.remove_due.ensures) old),
+    ap (λ (s : FibreStand). s.frames) ended ∙ ap (λ (n : ℕ). n + 1) (c.take-entry.ensures.frames ∙ c.in_ok-reserve.ensures.frames ∙ sym c.frames-frame.ensures.value) in (
+      left_kept frame i.fibre.world c.end_frame.new.self.world i.flights.flights c.remove_due.new.self.flights c.self.invariant.0 forgotten bursts c.remove_due.ensures,
       subst (λ (n : ℕ). AreInReach n c.remove_due.new.self.flights) (sym frames) (left_in_reach frame i.flights.flights c.remove_due.new.self.flights reach c.remove_due.ensures),
     )
 
