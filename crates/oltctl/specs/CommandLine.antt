@@ -1,7 +1,7 @@
--- The command line (this profile's own rule): `oltctl replay [--summary] [--explain] [FORM] [FILE]`, `oltctl drive [FORM]
--- FILE`, `oltctl storm [FILE]`, `oltctl check FILE..`, `oltctl verify FILE [TRACE]`, `oltctl explain [--mask 0|85] [FORM]
--- [TRACE]`, `oltctl decode [--up] [--mask 0|85] [HEX..]` and `oltctl encode [--up] [--mask 0|85] WORDS..`, where FORM is
--- `[--words] [--time] [--format text|json]`, of `explain` without `--words`.
+-- The command line (this profile's own rule): `oltctl replay [--summary] [--explain] [--progress] [FORM] [FILE]`,
+-- `oltctl drive [FORM] FILE`, `oltctl storm [--progress] [FILE]`, `oltctl check FILE..`, `oltctl verify [--progress] FILE [TRACE]`,
+-- `oltctl explain [--mask 0|85] [FORM] [TRACE]`, `oltctl decode [--up] [--mask 0|85] [HEX..]` and `oltctl encode [--up]
+-- [--mask 0|85] WORDS..`, where FORM is `[--words] [--time] [--format text|json]`, of `explain` without `--words`.
 use Rattle.std.specs.Prelude.{◌≡◌, List, [], ◌∷◌, Option, None, Some, map, Bool, true, codes, if◌then◌else◌}
 use Rattle.std.specs.Borrow.{Bor}
 use Rattle.std.specs.Str.{bytes_eq}
@@ -86,7 +86,9 @@ with_words app names = with_form (with_rule app (flag_rule (codes "words"))) nam
 
 -- `replay` up to the form of its trace
 abbrev pub replay_flags : App
-replay_flags = with_rule (with_rule (new_app (codes "replay")) (flag_rule (codes "summary"))) (flag_rule (codes "explain"))
+replay_flags =
+    with_rule (with_rule (with_rule (new_app (codes "replay")) (flag_rule (codes "summary"))) (flag_rule (codes "explain")))
+    (flag_rule (codes "progress"))
 
 abbrev pub replay_command : FormatNames → App
 replay_command names = with_rule (with_words replay_flags names) file_rule
@@ -98,10 +100,11 @@ abbrev pub check_command : App
 check_command = with_rule (new_app (codes "check")) files_rule
 
 abbrev pub storm_command : App
-storm_command = with_rule (new_app (codes "storm")) file_rule
+storm_command = with_rule (with_rule (new_app (codes "storm")) (flag_rule (codes "progress"))) file_rule
 
 abbrev pub verify_command : App
-verify_command = with_rule (with_rule (new_app (codes "verify")) script_rule) trace_rule
+verify_command =
+    with_rule (with_rule (with_rule (new_app (codes "verify")) (flag_rule (codes "progress"))) script_rule) trace_rule
 
 abbrev pub decode_command : MaskNames → App
 decode_command names = with_rule (with_rule (with_rule (new_app (codes "decode")) up_rule) (mask_rule names)) code_rule

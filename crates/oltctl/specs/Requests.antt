@@ -38,6 +38,7 @@ pub record AsksForPlay (rows : List Row) (play : Play) : Type 0 where
   pub trace : AsksForTrace rows play.told
   pub summary : IsFlag rows (codes "summary") play.summary
   pub explain : IsFlag rows (codes "explain") play.explain
+  pub progress : IsFlag rows (codes "progress") play.progress
 
 abbrev pub AsksToReplay : List Row → Request → Type 0
 AsksToReplay rows (Replay file play) = (name_in file ≡ file_named (first_of (codes "file") rows)) × AsksForPlay rows play
@@ -55,13 +56,15 @@ AsksToCheck rows _ = ⊥
 
 -- the rows of `storm` ask for the storm of FILE, or of standard input where it is left out
 abbrev pub AsksToStorm : List Row → Request → Type 0
-AsksToStorm rows (Storm file) = name_in file ≡ file_named (first_of (codes "file") rows)
+AsksToStorm rows (Storm file progress) =
+    (name_in file ≡ file_named (first_of (codes "file") rows)) × IsFlag rows (codes "progress") progress
 AsksToStorm rows _ = ⊥
 
 -- the rows of `verify` ask to verify TRACE, or standard input where it is left out, against the script of FILE
 abbrev pub AsksToVerify : List Row → Request → Type 0
-AsksToVerify rows (Verify script trace) =
+AsksToVerify rows (Verify script trace progress) =
     (first_of (codes "script") rows ≡ Some script.now) × (name_in trace ≡ file_named (first_of (codes "trace") rows))
+    × IsFlag rows (codes "progress") progress
 AsksToVerify rows _ = ⊥
 
 -- the rows of `decode` ask for the words of one HEX, or of each of several or of standard input, as upstream messages
@@ -95,9 +98,9 @@ Asks None request = ⊥
 Asks (Some (name, rows)) (Replay file play) = (name ≡ codes "replay") × AsksToReplay rows (Replay file play)
 Asks (Some (name, rows)) (Drive script told) = (name ≡ codes "drive") × AsksToDrive rows (Drive script told)
 Asks (Some (name, rows)) (Check files) = (name ≡ codes "check") × AsksToCheck rows (Check files)
-Asks (Some (name, rows)) (Storm file) = (name ≡ codes "storm") × AsksToStorm rows (Storm file)
-Asks (Some (name, rows)) (Verify script trace) =
-    (name ≡ codes "verify") × AsksToVerify rows (Verify script trace)
+Asks (Some (name, rows)) (Storm file progress) = (name ≡ codes "storm") × AsksToStorm rows (Storm file progress)
+Asks (Some (name, rows)) (Verify script trace progress) =
+    (name ≡ codes "verify") × AsksToVerify rows (Verify script trace progress)
 Asks (Some (name, rows)) (Decode code upstream mask) =
     (name ≡ codes "decode") × AsksToDecode rows (Decode code upstream mask)
 Asks (Some (name, rows)) (DecodeLines many upstream mask) =

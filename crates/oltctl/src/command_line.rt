@@ -1,5 +1,5 @@
 //! The command line.
-ghost use Rattle.std.specs.Prelude.{◌≡◌, ◌≢◌, IfErr, IfOk, false, map};
+ghost use Rattle.std.specs.Prelude.{◌≡◌, ◌≢◌, IfErr, IfOk, codes, false, map};
 ghost use Rattle.clap.specs.Words.{app_of, kind_of, rule_of};
 ghost use Rattle.clap.specs.declared.builder.command.Command.TheViews.{out-Command as fields_of};
 ghost use Rattle.oltctl.specs.CommandLine.{AllNames, AreAllNames, AreFormats, AreMasks, FormatNames, IsFaultOf, IsParseOf, MaskNames, check_command, code_rule, files_rule, flag_rule, format_rule, replay_flags as spec_replay_flags, with_form as spec_form, with_words as spec_words, decode_command, drive_command, encode_command, explain_command, file_rule, line_commands, mask_rule, oltctl_command, replay_command, script_commands, script_rule, storm_command, trace_commands, trace_rule, up_rule, verify_command, words_rule};
@@ -40,6 +40,17 @@ fn flag<'a>(alloc: Global, name: &'a str, help: &'a str) -> Arg<'a>
         .long(name)
         .action(ArgAction::SetTrue)
         .help(help)
+}
+
+fn progress<'a>(alloc: Global) -> Arg<'a>
+    ensures rule { rule_of result ≡ flag_rule (codes "progress") }
+    ensures local { result.global ≡ false }
+{
+    flag(
+        alloc,
+        "progress",
+        "Tells once a second, on standard error, how far it is",
+    )
 }
 
 fn format<'a>(alloc: Global) -> Arg<'a>
@@ -98,7 +109,8 @@ fn replay_flags<'a>(alloc: Global) -> Result<Command<'a>, AllocError>
             alloc,
             "explain",
             "Tells where a script is wrong, in a second line",
-        ))
+        ))?
+        .arg(progress(alloc))
 }
 
 fn replay<'a>(alloc: Global) -> Result<Command<'a>, AllocError>
@@ -160,6 +172,7 @@ fn storm<'a>(alloc: Global) -> Result<Command<'a>, AllocError>
             "Runs a script's bursts, frames and commands at once, by threads, and writes the totals",
         )
         .after_help(STORM_HELP)
+        .arg(progress(alloc))?
         .arg(file(alloc))
 }
 
@@ -189,6 +202,7 @@ fn verify<'a>(alloc: Global) -> Result<Command<'a>, AllocError>
     Command::new(alloc, "verify")
         .about("Tells whether a trace is one that a correct line terminal could have written")
         .after_help(VERIFY_HELP)
+        .arg(progress(alloc))?
         .arg(script(alloc))?
         .arg(trace(alloc))
 }

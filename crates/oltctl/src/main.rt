@@ -19,8 +19,10 @@ mod checking;
 mod command_line;
 mod help;
 mod joined;
+mod progress;
 mod request;
 mod telling;
+mod ticking;
 
 use checking::check_files;
 use clap::Error;
@@ -41,14 +43,16 @@ use gp_storm::run_storm;
 use gp_stream::{Sink, Source, read_all};
 use gp_verify::{CheckFault, VerifyFault, verify_script};
 use joined::joined;
+use progress::Counted;
 use request::{Play, Request, Told, request_of};
 use std::io;
 use std::io::Read;
 use std::process::ExitCode;
-use std::rt::{Env, Files};
+use std::rt::{Clock, Env, Files};
 use std::sync::Wait;
 use std::thread::Threads;
 use telling::{drive_told, is_plain, replay_bytes, tell_place};
+use ticking::with_ticks;
 
 /// Says on standard error what went wrong, and answers the exit status, which says it too where
 /// standard error takes nothing.
@@ -71,7 +75,7 @@ fn report_at<R: Eprint>(rt: &R, told: (&'static str, u8), number: u64) -> u8
 
 /// Tells whether the trace alone is wanted of a replay, as it is.
 fn is_usual(play: Play) -> bool {
-    is_plain(play.told) && !play.summary && !play.explain
+    is_plain(play.told) && !play.summary && !play.explain && !play.progress
 }
 
 /// Plays the script that a reader gives, to standard output.
@@ -90,7 +94,7 @@ fn replay_from<R: AllocGlobal + Print, S: Read + Drop>(rt: &R, reader: S) -> Res
 
 /// Plays the script that a reader gives, and writes what is wanted of it to standard output. Says on standard error
 /// what went wrong, if anything did, and answers the exit status.
-fn replay_so<R: AllocGlobal + Print + Eprint, S: Read + Drop>(
+fn replay_so<R: AllocGlobal + Print + Eprint + Clock, S: Read + Drop>(
     rt: &R,
     reader: S,
     play: Play,
@@ -114,7 +118,7 @@ fn replay_so<R: AllocGlobal + Print + Eprint, S: Read + Drop>(
 }
 
 /// Does so with the script of a file, or of standard input.
-fn replay<R: AllocGlobal + Files + Print + Eprint + Input>(
+fn replay<R: AllocGlobal + Files + Print + Eprint + Input + Clock>(
     rt: &R,
     file: Option<&str>,
     play: Play,
@@ -227,6 +231,19 @@ fn storm<R: AllocGlobal + Files + Print + Input + Threads + Wait + Sync>(
     }
 }
 
+/// Does so, and tells once a second that it is going on, where that is wanted.
+fn storm_so<R: AllocGlobal + Files + Print + Eprint + Input + Clock + Threads + Wait + Sync>(
+    rt: &R,
+    file: Option<&str>,
+    progress: bool,
+) -> Result<(), RunFault> {
+    if progress {
+        with_ticks(rt, || storm(rt, file))
+    } else {
+        storm(rt, file)
+    }
+}
+
 /// Says on standard error what went wrong with a replay or a storm, if anything did, and answers the exit status.
 fn end_run<R: Eprint>(rt: &R, outcome: &Result<(), RunFault>) -> u8
     ensures { result ≡ end_status outcome.now }
@@ -252,19 +269,33 @@ fn verify_from<R: AllocGlobal + Print, S: Read + Drop, T: Read + Drop>(
     verify_script(rt.alloc(), &mut script, &mut trace, &mut sink)
 }
 
+/// Has the lines of a reader counted, and told once a second, where that is wanted.
+fn counted<'r, R: Eprint + Clock, T: Read>(
+    rt: &'r R,
+    reader: T,
+    progress: bool,
+) -> Counted<'r, R, T> {
+    if progress {
+        Counted::new(rt, reader, None)
+    } else {
+        Counted::silent(reader)
+    }
+}
+
 /// Verifies the trace of a file, or of standard input, against the script of a file.
-fn verify<R: AllocGlobal + Files + Print + Input>(
+fn verify<R: AllocGlobal + Files + Print + Eprint + Input + Clock>(
     rt: &R,
     script: &str,
     trace: Option<&str>,
+    progress: bool,
 ) -> Result<u64, CheckFault> {
     let Ok(script) = std::fs::open(rt, script) else {
         return Err(CheckFault::Script(RunFault::Read));
     };
     match trace {
-        None => verify_from(rt, script, rt.reader()),
+        None => verify_from(rt, script, counted(rt, rt.reader(), progress)),
         Some(path) => match std::fs::open(rt, path) {
-            Ok(trace) => verify_from(rt, script, trace),
+            Ok(trace) => verify_from(rt, script, counted(rt, trace, progress)),
             Err(_) => Err(CheckFault::Trace(VerifyFault::Lines(LinesFault::Read))),
         },
     }
@@ -411,7 +442,7 @@ fn end_explain<R: Eprint>(rt: &R, outcome: &Result<u64, ExplainFault>) -> u8
 }
 
 /// Does what is asked for, and answers the exit status.
-fn serve<R: AllocGlobal + Files + Print + Eprint + Input + Threads + Wait + Sync>(
+fn serve<R: AllocGlobal + Files + Print + Eprint + Input + Clock + Threads + Wait + Sync>(
     rt: &R,
     request: Request<'_, '_>,
 ) -> u8
@@ -421,8 +452,12 @@ fn serve<R: AllocGlobal + Files + Print + Eprint + Input + Threads + Wait + Sync
         Request::Replay { file, play } => replay(rt, file, play),
         Request::Drive { script, told } => end_drive(rt, &drive(rt, script, told)),
         Request::Check { files } => end_check(rt, &check_files(rt, files)),
-        Request::Storm { file } => end_run(rt, &storm(rt, file)),
-        Request::Verify { script, trace } => end_verify(rt, &verify(rt, script, trace)),
+        Request::Storm { file, progress } => end_run(rt, &storm_so(rt, file, progress)),
+        Request::Verify {
+            script,
+            trace,
+            progress,
+        } => end_verify(rt, &verify(rt, script, trace, progress)),
         Request::Decode {
             code,
             upstream,
@@ -477,7 +512,7 @@ fn words_report(error: &io::Error) -> (&'static str, u8)
 }
 
 /// Does what the words of a command line ask for, and answers the exit status. The first word is the program's name.
-fn run_words<R: AllocGlobal + Files + Print + Eprint + Input + Threads + Wait + Sync>(
+fn run_words<R: AllocGlobal + Files + Print + Eprint + Input + Clock + Threads + Wait + Sync>(
     rt: &R,
     words: &[String],
 ) -> u8
@@ -494,7 +529,9 @@ fn run_words<R: AllocGlobal + Files + Print + Eprint + Input + Threads + Wait + 
 }
 
 /// Runs the command line, and answers the exit status.
-fn run<R: AllocGlobal + Env + Files + Print + Eprint + Input + Threads + Wait + Sync>(rt: &R) -> u8
+fn run<R: AllocGlobal + Env + Files + Print + Eprint + Input + Clock + Threads + Wait + Sync>(
+    rt: &R,
+) -> u8
     ensures { result ≤ greatest_status }
 {
     match arguments_of(rt) {

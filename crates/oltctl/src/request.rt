@@ -26,6 +26,8 @@ pub struct Play {
     pub summary: bool,
     /// Of a script that is wrong, where.
     pub explain: bool,
+    /// Once a second, how many lines were written.
+    pub progress: bool,
 }
 
 /// What the program is to do.
@@ -45,14 +47,17 @@ pub enum Request<'m, 'a> {
     Check {
         files: &'m [&'a str],
     },
-    /// Run the storm of this file's script, or of standard input's.
+    /// Run the storm of this file's script, or of standard input's; where `progress`, tell once a second for how long.
     Storm {
         file: Option<&'a str>,
+        progress: bool,
     },
-    /// Verify this trace, or that of standard input, against the script of this file.
+    /// Verify this trace, or that of standard input, against the script of this file; where `progress`, tell once a
+    /// second how many lines were read.
     Verify {
         script: &'a str,
         trace: Option<&'a str>,
+        progress: bool,
     },
     /// Say which message this code is, in hexadecimal digits: one of a unit where `upstream`, else one of the
     /// line terminal.
@@ -146,6 +151,7 @@ fn play_in(found: &ArgMatches<'_>) -> Play
         told: told_in(found),
         summary: found.get_flag("summary"),
         explain: found.get_flag("explain"),
+        progress: found.get_flag("progress"),
     }
 }
 
@@ -180,16 +186,17 @@ fn drive_of<'m, 'a>(found: &'m ArgMatches<'a>) -> Option<Request<'m, 'a>>
     })
 }
 
-#[tactic(auto, using(crate::proofs::Rows::value_by_rows))]
+#[tactic(auto, using(crate::proofs::Rows::value_by_rows, crate::proofs::Rows::flag_by_rows))]
 fn storm_of<'m, 'a>(found: &'m ArgMatches<'a>) -> Request<'m, 'a>
     ensures { AsksToStorm (rows_of (found_of found.now)) result }
 {
     Request::Storm {
         file: file_of(found.get_str("file")),
+        progress: found.get_flag("progress"),
     }
 }
 
-#[tactic(auto, using(crate::proofs::Rows::value_by_rows))]
+#[tactic(auto, using(crate::proofs::Rows::value_by_rows, crate::proofs::Rows::flag_by_rows))]
 fn verify_of<'m, 'a>(found: &'m ArgMatches<'a>) -> Option<Request<'m, 'a>>
     ensures asks { IfSome result (AsksToVerify (rows_of (found_of found.now))) }
     ensures nothing { IfNone result (first_of (codes "script") (rows_of (found_of found.now)) ≡ None) }
@@ -197,6 +204,7 @@ fn verify_of<'m, 'a>(found: &'m ArgMatches<'a>) -> Option<Request<'m, 'a>>
     Some(Request::Verify {
         script: found.get_str("script")?,
         trace: file_of(found.get_str("trace")),
+        progress: found.get_flag("progress"),
     })
 }
 

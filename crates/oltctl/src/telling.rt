@@ -1,6 +1,7 @@
 //! Traces that are told otherwise than they are, and replays that are summed up.
 ghost use Rattle.std.specs.Prelude.{◌≡◌, ◌≢◌, Err};
 
+use crate::progress::Counted;
 use crate::request::{Play, Told};
 use gp_check::mistake_line;
 use gp_explain::{Form, Telling};
@@ -8,14 +9,15 @@ use gp_drive::{DriveFault, Driven, run_drive};
 use gp_flow::{LineFault, LinesFault};
 use gp_ploam::Mask;
 use gp_replay::{RunFault, run_replay};
-use gp_script::{PlacedError, read_script, read_script_at};
+use gp_script::{PlacedError, ScriptEvent, read_script, read_script_at};
 use gp_stream::{Sink, Source, read_all};
 use gp_summary::run_summary;
 use gp_tell::{TellFault, Teller};
 use std::alloc::Global;
 use std::io;
-use std::io::Read;
+use std::io::{Read, Write};
 use std::marker::Brand;
+use std::rt::Clock;
 
 /// Tells whether lines are written as they are.
 pub fn is_plain(told: Told) -> bool {
@@ -23,10 +25,46 @@ pub fn is_plain(told: Told) -> bool {
 }
 
 /// Gives the mask of the script that bytes are, and the plain one where they are none.
-pub fn mask_in(alloc: Global, bytes: &[u8]) -> Mask {
+fn mask_in(alloc: Global, bytes: &[u8]) -> Mask {
     match read_script(alloc, bytes) {
         Ok(script) => script.mask,
         Err(_) => Mask::Plain,
+    }
+}
+
+/// How many lines an event of a script without simulated units makes.
+fn lines_of(event: &ScriptEvent) -> u64 {
+    match event {
+        ScriptEvent::Frames { port: _, count } => u64::from(*count),
+        ScriptEvent::Burst { .. } | ScriptEvent::Command { .. } => 1,
+        ScriptEvent::Light { .. } => 0,
+    }
+}
+
+/// How many lines the trace has of the script that bytes are, where that is known: with simulated units it isn't.
+fn expected_lines(alloc: Global, bytes: &[u8]) -> Option<u64> {
+    let script = read_script(alloc, bytes).ok()?;
+    if !script.units.is_empty() {
+        return None;
+    }
+    let mut lines: u64 = 0;
+    for event in script.events.as_slice() {
+        lines = lines.saturating_add(lines_of(event));
+    }
+    Some(lines)
+}
+
+/// Gives standard output, whose lines are counted and told once a second where that is wanted.
+fn output<'r, R: AllocGlobal + Print + Eprint + Clock>(
+    rt: &'r R,
+    bytes: &[u8],
+    progress: bool,
+) -> Counted<'r, R, io::Printer<'r, R>> {
+    let writer = io::writer(rt);
+    if progress {
+        Counted::new(rt, writer, expected_lines(rt.alloc(), bytes))
+    } else {
+        Counted::silent(writer)
     }
 }
 
@@ -44,28 +82,38 @@ fn ended(told: Option<TellFault>, played: Result<(), RunFault>) -> Result<(), Ru
 }
 
 /// Plays the script that bytes are, and writes its trace so.
-fn replay_told<R: AllocGlobal + Print>(rt: &R, bytes: &[u8], told: Told) -> Result<(), RunFault>
+fn replay_told<W: Write + Drop>(
+    alloc: Global,
+    bytes: &[u8],
+    told: Told,
+    writer: W,
+) -> Result<(), RunFault>
     ensures mismatch { result ≢ Err RunFault.Mismatch }
     ensures journal_full { result ≢ Err RunFault.JournalFull }
 {
-    let mask = mask_in(rt.alloc(), bytes);
-    let telling = Telling::new(rt.alloc(), mask, told.form, told.timed);
-    let teller = Teller::<Brand, _>::new(rt.alloc(), telling, io::writer(rt))?;
-    let mut sink = Sink::new(rt.alloc(), teller)?;
+    let mask = mask_in(alloc, bytes);
+    let telling = Telling::new(alloc, mask, told.form, told.timed);
+    let teller = Teller::<Brand, W>::new(alloc, telling, writer)?;
+    let mut sink = Sink::new(alloc, teller)?;
     let mut source = Source::new(bytes);
-    let played = run_replay(rt.alloc(), &mut source, &mut sink);
+    let played = run_replay(alloc, &mut source, &mut sink);
     ended(sink.into_inner().fault(), played)
 }
 
 /// Plays the script that bytes are, and writes its trace, or what it comes to.
-pub fn replay_bytes<R: AllocGlobal + Print>(rt: &R, bytes: &[u8], play: Play) -> Result<(), RunFault>
+pub fn replay_bytes<R: AllocGlobal + Print + Eprint + Clock>(
+    rt: &R,
+    bytes: &[u8],
+    play: Play,
+) -> Result<(), RunFault>
     ensures mismatch { result ≢ Err RunFault.Mismatch }
     ensures journal_full { result ≢ Err RunFault.JournalFull }
 {
+    let writer = output(rt, bytes, play.progress);
     if !play.summary && !is_plain(play.told) {
-        return replay_told(rt, bytes, play.told);
+        return replay_told(rt.alloc(), bytes, play.told, writer);
     }
-    let mut sink = Sink::new(rt.alloc(), io::writer(rt))?;
+    let mut sink = Sink::new(rt.alloc(), writer)?;
     let mut source = Source::new(bytes);
     if play.summary {
         run_summary(rt.alloc(), &mut source, &mut sink)
