@@ -9,7 +9,7 @@ use gp_licence::MAX_LICENCES;
 use gp_machine::{Admitted, Command, Entry, PortConfig, Reply};
 use gp_ploam::Mask;
 use runs::{
-    A, ACTS, Act, LOSSES, NEAR, POPUP_AND_TIMERS, Plan, Run, SHORT_OF_MEMORY, TOLD, Told,
+    A, ACTS, Act, FORGOTTEN, LOSSES, NEAR, POPUP_AND_TIMERS, Plan, Run, SHORT_OF_MEMORY, TOLD, Told,
     UNITS_AND_STEPS,
 };
 use std::alloc::{AllocError, Global};
@@ -52,6 +52,10 @@ fn done<L: Ledger>(
             Some(entry) => Ok([entry].to_vec(alloc)?),
             None => Ok(Vec::new(alloc)),
         },
+        Act::Forget => {
+            world.forget();
+            Ok(Vec::new(alloc))
+        }
     }
 }
 
@@ -304,6 +308,10 @@ fn reply_to<L: Ledger>(
             Some(entry) => Ok(Some(entry.answer.reply)),
             None => Ok(None),
         },
+        Act::Forget => {
+            world.forget();
+            Ok(None)
+        }
     }
 }
 
@@ -360,5 +368,12 @@ fn memory_short_or_ample(rt: HostRuntime) {
             found => found,
         };
         assert_eq!(rt; found, Some(Ok(reply)));
+    }
+}
+
+#[test]
+fn nothing_asks_for_what_is_forgotten(rt: HostRuntime) {
+    for (acts, fault) in FORGOTTEN {
+        assert_eq!(rt; outcome(rt.alloc(), &acts), Some(Err(fault)));
     }
 }

@@ -1,11 +1,12 @@
 -- How lines are told, one after another (this profile's own rule).
-use Rattle.std.specs.Prelude.{◌≡◌, ◌⊎◌, ℕ, ◌+◌, ◌-◌, ◌*◌, ◌/◌, ◌%◌, ◌^◌, Bool, true, false, List, [], ◌∷◌, ◌++◌, codes, decimal, min, slice_index, slice_set}
+use Rattle.std.specs.Prelude.{◌≡◌, ◌⊎◌, ℕ, ◌+◌, ◌-◌, ◌*◌, ◌/◌, ◌%◌, ◌^◌, Bool, true, false, Option, None, Some, List, [], ◌∷◌, ◌++◌, codes, decimal, min, slice_index, slice_set}
 use Rattle.gp_ploam.specs.declared.check.Mask.{Mask}
 use Rattle.gp_machine.specs.declared.event.Event.{Event}
 use Rattle.gp_machine.specs.declared.event.Event.TheVariants as events
 use Rattle.gp_lines.specs.Trace.{SplitsLine}
+use Rattle.gp_json.specs.Object.{TellsObject, other_object}
 use Rattle.gp_explain.specs.declared.form.Form.{Form}
-use Rattle.gp_explain.specs.declared.form.Form.TheVariants.{Plain, Words}
+use Rattle.gp_explain.specs.declared.form.Form.TheVariants.{Plain, Words, Json}
 use Rattle.gp_explain.specs.Words.{IsTraceLine, TellsLine}
 
 -- what the next line is told by
@@ -40,15 +41,26 @@ abbrev pub time_of : Bool → ℕ → List ℕ
 time_of false frames = []
 time_of true frames = time_text frames
 
--- a line of a trace, by its form
-abbrev pub TellsAs : Form → Mask → List ℕ → List ℕ → Type 0
-TellsAs Plain mask text line = line ≡ text ++ codes "\n"
-TellsAs Words mask text line = TellsLine mask text line
+-- the frames, if the time is told
+abbrev pub shown : Bool → ℕ → Option ℕ
+shown false frames = None
+shown true frames = Some frames
 
--- the same behind the time, if that is told
+-- a line of a trace, by its form, with the time if that is told
+abbrev pub TellsAs : Form → Mask → Bool → ℕ → List ℕ → List ℕ → Type 0
+TellsAs Plain mask timed frames text said = said ≡ time_of timed frames ++ (text ++ codes "\n")
+TellsAs Words mask timed frames text said =
+    (line : List ℕ) × TellsLine mask text line × (said ≡ time_of timed frames ++ line)
+TellsAs Json mask timed frames text said = TellsObject mask (shown timed frames) text said
+
 abbrev pub TellsAt : Manner → ℕ → List ℕ → List ℕ → Type 0
-TellsAt manner frames text said =
-    (line : List ℕ) × TellsAs manner.form manner.mask text line × (said ≡ time_of manner.timed frames ++ line)
+TellsAt manner frames text said = TellsAs manner.form manner.mask manner.timed frames text said
+
+-- any other line, by its form
+abbrev pub other_of : Form → List ℕ → List ℕ
+other_of Plain text = text ++ codes "\n"
+other_of Words text = text ++ codes "\n"
+other_of Json text = other_object text
 
 -- a line of a trace is told at its port's time
 pub record TellsTraceLine (old : Manner) (text said : List ℕ) (new : Manner) : Type 0 where
@@ -63,10 +75,10 @@ pub record TellsTraceLine (old : Manner) (text said : List ℕ) (new : Manner) :
   pub told : TellsAt old frames text said
   pub next : new ≡ record old { frames = slice_set old.frames port frames }
 
--- from the old manner, to this line, these octets, to the new manner: any other line stays as it is
+-- from the old manner, to this line, these octets, to the new manner
 abbrev pub Tells : Manner → List ℕ → List ℕ → Manner → Type 0
 Tells old text said new =
-    TellsTraceLine old text said new ⊎ ((IsTraceLine text → ⊥) × (said ≡ text ++ codes "\n") × (new ≡ old))
+    TellsTraceLine old text said new ⊎ ((IsTraceLine text → ⊥) × (said ≡ other_of old.form text) × (new ≡ old))
 
 -- no port has had a frame
 abbrev pub no_frames : List ℕ

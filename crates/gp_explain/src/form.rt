@@ -7,4 +7,6 @@ pub enum Form {
     Plain,
     /// With the words of their codes.
     Words,
+    /// As JSON objects.
+    Json,
 }

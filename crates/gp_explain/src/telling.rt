@@ -1,11 +1,12 @@
 //! How lines are told, one after another.
-ghost use Rattle.std.specs.Prelude.{◌≡◌, ◌++◌, ℕ, List, [], OnErr, OnOk, codes};
+ghost use Rattle.std.specs.Prelude.{◌≡◌, ◌++◌, [], OnErr, OnOk, codes};
 ghost use Rattle.gp_lines.specs.Trace.{SplitsLine};
-ghost use Rattle.gp_explain.specs.Telling.{Tells, TellsAs, TellsAt, TellsTraceLine, no_frames};
+ghost use Rattle.gp_explain.specs.Telling.{Tells, TellsAt, TellsTraceLine, no_frames, other_of, shown, time_of};
 
 use crate::form::Form;
 use crate::line::push_words;
 use crate::time::{frames_with, push_time};
+use gp_json::{write_object, write_other};
 use gp_lines::{TraceLine, split_line};
 use gp_ploam::Mask;
 use std::alloc::{AllocError, Global};
@@ -40,8 +41,36 @@ fn push_plain(text: &[u8], out: &mut Vec<u8>) -> Result<(), AllocError>
     out.extend_from_slice(b"\n")
 }
 
+/// Appends a port's time, if it is told.
+fn push_time_if(timed: bool, frames: u64, out: &mut Vec<u8>) -> Result<(), AllocError>
+    ensures { OnOk result (out.new.items ≡ out.old.items ++ time_of timed frames) }
+{
+    if timed {
+        push_time(out, frames)?;
+    }
+    Ok(())
+}
+
+/// Gives the frames, if the time is told.
+fn shown(timed: bool, frames: u64) -> Option<u64>
+    ensures { result ≡ shown timed frames }
+{
+    if timed { Some(frames) } else { None }
+}
+
+/// Writes a line that is none of a trace in this form, into an empty buffer.
+fn push_other(form: Form, text: &[u8], out: &mut Vec<u8>) -> Result<(), AllocError>
+    requires { out.old.items ≡ [] }
+    ensures { OnOk result (out.new.items ≡ other_of form text.now) }
+{
+    match form {
+        Form::Plain | Form::Words => push_plain(text, out),
+        Form::Json => write_other(text, out),
+    }
+}
+
 impl Telling {
-    /// Tells lines of traces in this form, with the port's time before each if that is wanted. The mask is that of
+    /// Tells lines of traces in this form, with the port's time if that is wanted. The mask is that of
     /// their codes. No port has had a frame.
     pub fn new(alloc: Global, mask: Mask, form: Form, timed: bool) -> Telling
         ensures { result ≡ record { mask = mask; form = form; timed = timed; frames = no_frames } }
@@ -67,7 +96,7 @@ impl Telling {
         out.clear();
         match split_line(text) {
             Some(line) => self.tell_line(text, &line, out),
-            None => push_plain(text, out),
+            None => push_other(self.form, text, out),
         }
     }
 
@@ -90,31 +119,27 @@ impl Telling {
         Ok(())
     }
 
-    /// Appends a line of a trace behind its port's time.
+    /// Writes a line of a trace in its form, with its port's time if that is told.
     fn push_at(&self, frames: u64, text: &[u8], out: &mut Vec<u8>) -> Result<(), AllocError>
         requires { out.old.items ≡ [] }
         ensures { OnOk result (TellsAt self.now frames text.now out.new.items) }
     {
-        if self.timed {
-            push_time(out, frames)?;
+        match self.form {
+            Form::Plain => {
+                push_time_if(self.timed, frames, out)?;
+                push_plain(text, out)
+            }
+            Form::Words => {
+                push_time_if(self.timed, frames, out)?;
+                push_words(self.alloc, self.mask, text, out)
+            }
+            Form::Json => write_object(
+                self.alloc,
+                self.mask,
+                shown(self.timed, frames),
+                text,
+                out,
+            ),
         }
-        push_as(self.alloc, self.form, self.mask, text, out)
-    }
-}
-
-/// Appends a line of a trace in this form.
-fn push_as(
-    alloc: Global,
-    form: Form,
-    mask: Mask,
-    text: &[u8],
-    out: &mut Vec<u8>,
-) -> Result<(), AllocError>
-    ensures { OnOk result ((line : List ℕ) × TellsAs form mask text.now line
-        × (out.new.items ≡ out.old.items ++ line)) }
-{
-    match form {
-        Form::Plain => push_plain(text, out),
-        Form::Words => push_words(alloc, mask, text, out),
     }
 }

@@ -277,10 +277,10 @@ impl<L: Ledger> World<L> {
         Ok(())
     }
 
-    /// Forgets the copies, grants and bursts that were sent, but for the bursts that are still to come in a run: no step
-    /// can ask for them any more, which is then `NoCopy`, `NoGrant` or `NoBurst`. Their numbers aren't given anew, and
-    /// port, units, licences and what is still to come stay as they are. So a long run that forgets after each of its
-    /// parts needs no more memory than one part.
+    /// Forgets the copies, grants and bursts that were sent, but for the bursts that are still to come in a run: a step
+    /// that asks for one of them is then `NoCopy`, `NoGrant` or `NoBurst`. Numbers go on and are not given anew; port,
+    /// units, licences and what is still to come stay as they are. So a long run that forgets after each of its parts
+    /// needs no more memory than one part.
     pub fn forget(&mut self)
         ensures forgets { WorldForgets self.old self.new }
         ensures forgotten { self.new.fibre.forgotten ≡ all_but_coming self.old }

@@ -1,12 +1,13 @@
-//! The tests of `gp_stream`, `gp_script`, `gp_decode`, `gp_encode`, `gp_explain`, `gp_trace`, `gp_lines`, `gp_replay`,
-//! `gp_verify`, `gp_drive`, `gp_storm` and `gp_report`: what no clause says of them. They stand here, since a crate with
-//! tests is proved twice.
+//! The tests of `gp_stream`, `gp_script`, `gp_check`, `gp_decode`, `gp_encode`, `gp_explain`, `gp_json`, `gp_tell`,
+//! `gp_trace`, `gp_lines`, `gp_replay`, `gp_verify`, `gp_drive`, `gp_storm` and `gp_report`: what no clause says of them.
+//! They stand here, since a crate with tests is proved twice.
 //!
 //! - `stream.rt`: readers and writers that fail, or take an octet a call.
 //! - `script.rt`: scripts that are read; `script/ranges.rt` has the ends of each range, `script/faults.rt` what is
 //!   refused.
+//! - `places.rt`: where a script is wrong, and what is wanted there; `places/rows.rt` has the scripts.
 //! - `decode.rt`, `trace.rt`: lines as they are printed; a code is decoded also where memory is refused.
-//! - `encode.rt`, `explain.rt`: codes of messages in words; traces in words.
+//! - `encode.rt`, `explain.rt`: codes of messages in words; traces in words. `tell.rt`: the same while a trace is written.
 //! - `lines.rt`: events and turns that are read, the first fault of each text that is refused, and lines of a trace.
 //! - `replay.rt`, `storm.rt`: whole scripts to their trace or their totals, readers and writers that fail, and memory
 //!   that is refused; `storm/plans.rt` storms plans.
@@ -26,6 +27,8 @@ mod explain;
 #[cfg(test)]
 mod lines;
 #[cfg(test)]
+mod places;
+#[cfg(test)]
 mod replay;
 #[cfg(test)]
 mod report;
@@ -35,6 +38,8 @@ mod script;
 mod storm;
 #[cfg(test)]
 mod stream;
+#[cfg(test)]
+mod tell;
 #[cfg(test)]
 mod trace;
 #[cfg(test)]

@@ -176,10 +176,14 @@ script_of_bytes may_have_units bytes = do
 abbrev pub script_or_mistake : List ℕ → Result ScriptView MistakeView
 script_or_mistake bytes = script_of_bytes true bytes
 
--- the same, or the first fault
+-- the same, or the first fault, wherever it is
+unfoldable pub script_or_fault : Bool → List ℕ → Result ScriptView ScriptFault
+script_or_fault may_have_units bytes = without_place (script_of_bytes may_have_units bytes)
+
+-- what the bytes say as a script that is replayed, or the first fault
 abbrev pub script_of : List ℕ → Result ScriptView ScriptFault
-script_of bytes = without_place (script_or_mistake bytes)
+script_of bytes = script_or_fault true bytes
 
 -- what the bytes say as a script for a storm, which has no simulated units, or the first fault
 abbrev pub storm_script_of : List ℕ → Result ScriptView ScriptFault
-storm_script_of bytes = without_place (script_of_bytes false bytes)
+storm_script_of bytes = script_or_fault false bytes

@@ -35,5 +35,5 @@ mod walk;
 pub use fault::{ScriptError, ScriptFault};
 pub use mistake::{Mistake, PlacedError, SyntaxMistake, TableMistake};
 pub use place::{Counted, Key, Spot, TablePlace, Wanted};
-pub use reading::{read_script, read_script_at, read_storm_script};
+pub use reading::{faults_are_mistakes, read_script, read_script_at, read_storm_script};
 pub use script::{Script, ScriptEvent, ScriptLosses, ScriptUnit};

@@ -1,9 +1,10 @@
-ghost use Rattle.std.specs.Prelude.{◌≡◌, [], Err, IfOk, IsTrue, false};
+ghost use Rattle.std.specs.Prelude.{◌≡◌, ℕ, List, [], Err, IfOk, IsTrue, false};
 ghost use Rattle.std.specs.Str.{is_utf8};
 ghost use Rattle.toml.specs.Parse.{parse_document};
 ghost use Rattle.toml.specs.View.{table_view};
 ghost use Rattle.gp_script.specs.Fault.{Gives, GivesPlaced, IsSyntax, Walks};
 ghost use Rattle.gp_script.specs.Script.{script_of_table, script_of_bytes, script_of, script_or_mistake, storm_script_of, text_of, table_or_mistake};
+ghost use Rattle.gp_script.specs.Mistake.{without_place};
 ghost use Rattle.gp_script.specs.Playable.{IsPlayable};
 ghost use Rattle.gp_script.specs.Lose.{no_losses};
 ghost use Rattle.gp_script.specs.View.{losses_view, script_view};
@@ -129,10 +130,18 @@ pub fn read_script_at(alloc: Global, bytes: &[u8]) -> Result<Script, PlacedError
     read_bytes(alloc, true, bytes)
 }
 
+/// States that the fault which `read_script` tells of bytes is the mistake that `read_script_at` tells of them, without
+/// its place.
+#[tactic(auto, unfolding(crate::specs::Script::script_or_fault))]
+pub fn faults_are_mistakes()
+    ensures { (bytes : List ℕ) → script_of bytes ≡ without_place (script_or_mistake bytes) }
+{}
+
 /// Reads what the bytes say as a script, or the first fault, before any event runs.
 ///
 /// Of a script that is read, each number is within its range, each serial number is admitted once,
 /// units stand beside one port alone, and each event names a port or a unit that is there.
+#[tactic(auto, unfolding(crate::specs::Script::script_or_fault))]
 pub fn read_script(alloc: Global, bytes: &[u8]) -> Result<Script, ScriptError>
     ensures value { Gives script_view result (script_of bytes.now) }
     ensures memory_only_of_utf8 { result ≡ Err ScriptError.OutOfMemory → IsTrue (is_utf8 bytes.now) }
@@ -145,6 +154,7 @@ pub fn read_script(alloc: Global, bytes: &[u8]) -> Result<Script, ScriptError>
 ///
 /// A storm has no simulated units: a unit table is a fault of the top's shape, and so is a table of what is
 /// lost, as in any script without units. All else is as in `read_script`.
+#[tactic(auto, unfolding(crate::specs::Script::script_or_fault))]
 pub fn read_storm_script(alloc: Global, bytes: &[u8]) -> Result<Script, ScriptError>
     ensures value { Gives script_view result (storm_script_of bytes.now) }
     ensures memory_only_of_utf8 { result ≡ Err ScriptError.OutOfMemory → IsTrue (is_utf8 bytes.now) }

@@ -1,11 +1,9 @@
 -- How the timers are kept (this profile's own rule): a tree in which each node has the earlier of its two children. No
 -- statement of another crate cites it.
-use Rattle.std.specs.Prelude.{ℕ, suc, ◌+◌, ◌*◌, ◌^◌, ◌≡◌, ◌<◌, ◌==◌, ◌||◌, ◌&&◌, nat_lt, Bool, if◌then◌else◌, List, [], ◌∷◌, length, Option, None, Some, ◌≢◌}
+use Rattle.std.specs.Prelude.{ℕ, ◌+◌, ◌*◌, ◌^◌, ◌≡◌, ◌<◌, ◌==◌, ◌||◌, ◌&&◌, nat_lt, Bool, if◌then◌else◌, List, length, Option, None, Some, ◌≢◌}
 use Rattle.std.specs.Option.{ForSome}
 use Rattle.std.specs.List.{slice_index_or}
-use Rattle.std.specs.FinMap.{empty, insert}
 use Rattle.gp_timers.specs.declared.tournament.Timer.{Timer}
-use Rattle.gp_timers.specs.Timers.{DueFrames}
 
 -- due in an earlier frame, or in the same frame under a lesser name
 abbrev pub is_earlier : Timer → Timer → Bool
@@ -29,12 +27,6 @@ pub record IsTournament (names : ℕ) (nodes : List (Option Timer)) : Type 0 whe
   pub leaf : (name : ℕ) → name < names → ForSome (timer_at nodes (names + name)) (λ timer. timer.name ≡ name)
   pub inner : (place : ℕ) → 0 < place → place < names
       → timer_at nodes place ≡ earlier_of (timer_at nodes (2 * place)) (timer_at nodes (2 * place + 1))
-
--- the frames of the leaves, whose names count from this one
-abbrev pub frames_from : ℕ → List (Option Timer) → DueFrames
-frames_from name [] = empty
-frames_from name (None ∷ leaves) = frames_from (suc name) leaves
-frames_from name (Some timer ∷ leaves) = insert (frames_from (suc name) leaves) name timer.frame
 
 -- a tournament again, with another timer at one leaf
 pub record IsRewritten (names : ℕ) (old new : List (Option Timer)) (name : ℕ) (timer : Option Timer) : Type 0 where

@@ -1,9 +1,8 @@
 ghost use Rattle.std.specs.Prelude.{◌≡◌, ◌<◌, ◌↔◌, IfOk, IfSome, IfNone, IsNone, is_some};
 ghost use Rattle.std.specs.FinMap as map;
-ghost use Rattle.std.specs.Option.{ForSome};
 ghost use Rattle.gp_timers.specs.Timers.{IsFirstDue, NoneIsDue};
 
-use super::tournament::{Timer, rewrite, winner};
+use super::queue::Queue;
 use std::alloc::{AllocError, Global};
 use std::marker::Model;
 use thiserror::Error;
@@ -28,12 +27,12 @@ impl From<AllocError> for TimerFault {
 
 /// Timers under names from 0 on, each set for a frame or not set.
 ///
-/// To set or cancel a timer takes time in the logarithm of the number of names, and so does taking out one that is
-/// due. To learn that none is due takes one comparison.
+/// To set a timer for one of the eight frames that come next, to cancel it and to take it out touches a few words. For
+/// another frame that takes time in the logarithm of the number of names. To learn that none is due takes a few
+/// comparisons.
 #[derive(Drop)]
 pub struct Wheel {
-    names: u16,
-    nodes: Vec<Option<Timer>>,
+    queue: Queue,
 }
 
 impl Model for Wheel {
@@ -41,16 +40,15 @@ impl Model for Wheel {
     ghost use Rattle.std.specs.Coded.{codes, coded_ℕ};
     ghost use Rattle.std.specs.Ordering.{nat_cmp};
     ghost use Rattle.std.specs.FinMap as map;
-    ghost use Rattle.gp_timers.specs.Tournament.{IsTournament, frames_from};
-    ghost use Rattle.std.specs.Prelude.{drop};
+    ghost use Rattle.gp_timers.specs.Queues.{IsInOrder, timers_at};
 
     ghost Value = { Timers };
 
     ghost coded = { Prim.hlevel (codes, map.code {R = nat_cmp} coded_ℕ coded_ℕ) };
 
-    ghost view = { λ a. record { names = a.names; frames = frames_from 0 (drop a.names a.nodes.items) } };
+    ghost view = { λ a. timers_at a.queue.places.items };
 
-    ghost invariant = { λ a. IsTournament a.names a.nodes.items };
+    ghost invariant = { λ a. IsInOrder a.queue };
 }
 
 impl Wheel {
@@ -58,8 +56,8 @@ impl Wheel {
     pub fn begin(alloc: Global, names: u16) -> Result<Wheel, TimerFault>
         ensures { IfOk result (λ w. w ≡ record { names = names; frames = map.empty }) }
     {
-        let nodes = vec![in alloc; None; 2 * usize::from(names)]?;
-        Ok(Wheel { names, nodes })
+        let queue = Queue::begin(alloc, names)?;
+        Ok(Wheel { queue })
     }
 
     /// Sets a timer for a frame, in place of the one that it was set for.
@@ -67,7 +65,14 @@ impl Wheel {
         requires { name < self.old.names }
         ensures { self.new ≡ record self.old { frames = map.insert self.old.frames name frame } }
     {
-        self.write(name, Some(Timer { frame, name }));
+        let queue = &mut self.queue;
+        if queue.is_near(frame) {
+            queue.lift(name);
+            queue.put_near(name, frame);
+        } else {
+            queue.lift_unless_far(name);
+            queue.put_far(name, frame);
+        }
     }
 
     /// Makes sure that a timer is not set, and tells whether it was.
@@ -75,12 +80,11 @@ impl Wheel {
         ensures was_set { result ≡ is_some (map.get self.old.frames name) }
         ensures removed { self.new ≡ record self.old { frames = map.remove self.old.frames name } }
     {
-        if name >= self.names {
+        if usize::from(name) >= self.queue.places.len() {
             return false;
         }
-        let leaf = usize::from(self.names) + usize::from(name);
-        let was_set = self.nodes[leaf].is_some();
-        self.write(name, None);
+        let was_set = self.queue.places[usize::from(name)].is_set();
+        self.queue.lift(name);
         was_set
     }
 
@@ -88,26 +92,12 @@ impl Wheel {
     pub fn due(&mut self, frame: u64) -> Option<u16>
         ensures none { IsNone result ↔ NoneIsDue self.old.frames frame }
         ensures first { IfSome result (IsFirstDue self.old.frames frame) }
-        ensures taken { IfSome result
-            (λ name. self.new ≡ record self.old { frames = map.remove self.old.frames name }) }
+        ensures taken { IfSome result (λ name. self.new ≡ record self.old { frames = map.remove self.old.frames name }) }
         ensures kept { IfNone result (self.new ≡ self.old) }
     {
-        let first = winner(&self.nodes)?;
-        if first.frame > frame {
-            return None;
-        }
-        self.write(first.name, None);
-        Some(first.name)
-    }
-
-    /// Writes what a name has from now on: a timer under that name, or none.
-    fn write(&mut self, name: u16, timer: Option<Timer>)
-        requires in_range { name < self.old.names }
-        requires named { ForSome timer (λ t. t.name ≡ name) }
-        ensures set { IfSome timer
-            (λ t. self.new ≡ record self.old { frames = map.insert self.old.frames name t.frame }) }
-        ensures cleared { IfNone timer (self.new ≡ record self.old { frames = map.remove self.old.frames name }) }
-    {
-        rewrite(&mut self.nodes, name, timer);
+        self.queue.advance(frame);
+        let first = self.queue.first_due(frame)?;
+        self.queue.lift(first);
+        Some(first)
     }
 }

@@ -1,6 +1,6 @@
 //! The worked runs: what each is played with, what is done, and what the entries have to have.
 use gp_alarms::{Alarm, AlarmKind};
-use gp_fibre::{UnitPlan, WorldStep};
+use gp_fibre::{UnitPlan, WorldFault, WorldStep};
 use gp_machine::{Command, Refusal, Reply};
 use gp_ploam::Serial;
 use gp_ranging::Grant;
@@ -45,6 +45,10 @@ pub(super) enum Run {
     /// Two bursts that come in one frame, the first of them answered four frames earlier by the later unit, arrive in
     /// the order of their numbers.
     BurstsOfOneFrame,
+    /// What was sent is forgotten while a burst is in flight, which comes as it would have come.
+    ForgetsInFlight,
+    /// The first burst is lost and then forgotten, and the next has the next number, so that it is not lost.
+    NumbersGoOn,
 }
 
 /// What a run is played with: one unit, which is the first, or both.
@@ -104,7 +108,7 @@ const NO_LOSS: Plan = Plan {
 };
 
 /// A number that stands twice in a plan is lost once, and one that never comes changes nothing.
-pub(super) const LOSSES: [Plan; 4] = [
+pub(super) const LOSSES: [Plan; 5] = [
     Plan {
         run: Run::LostCopies,
         cycles: 2,
@@ -129,6 +133,12 @@ pub(super) const LOSSES: [Plan; 4] = [
         cycles: 2,
         copies: &[1_000_000],
         bursts: &[0, 99, 0],
+        ..NO_LOSS
+    },
+    Plan {
+        run: Run::NumbersGoOn,
+        cycles: 2,
+        bursts: &[0],
         ..NO_LOSS
     },
 ];
@@ -156,7 +166,7 @@ pub(super) const POPUP_AND_TIMERS: [Plan; 4] = [
     },
 ];
 
-pub(super) const UNITS_AND_STEPS: [Plan; 9] = [
+pub(super) const UNITS_AND_STEPS: [Plan; 10] = [
     Plan {
         run: Run::DistantUnit,
         units: [FAR, FAR],
@@ -205,13 +215,19 @@ pub(super) const UNITS_AND_STEPS: [Plan; 9] = [
         units: [STRANGER, FARTHEST],
         ..NO_LOSS
     },
+    Plan {
+        run: Run::ForgetsInFlight,
+        units: [FAR, FAR],
+        ..NO_LOSS
+    },
 ];
 
-/// What is done with a world: a step, or so many frames.
+/// What is done with a world: a step, or so many frames, or that it forgets.
 #[derive(Clone, Copy)]
 pub(super) enum Act {
     Step(WorldStep),
     Run(u32),
+    Forget,
 }
 
 const SEARCH: Act = Act::Step(WorldStep::Command(Command::Search));
@@ -238,7 +254,7 @@ const BYTES: Act = Act::Step(WorldStep::Bytes {
 const A_FRAME_OF_A_RUN: Act = Act::Run(1);
 
 /// What is done in each run, in this order.
-pub(super) const ACTS: [(Run, Act); 55] = [
+pub(super) const ACTS: [(Run, Act); 63] = [
     (Run::LostCopies, SEARCH),
     (Run::LostCopies, Act::Run(13)),
     (Run::LostBursts, SEARCH),
@@ -294,6 +310,21 @@ pub(super) const ACTS: [(Run, Act); 55] = [
     (Run::BeyondTheWindow, Act::Run(9)),
     (Run::BurstsOfOneFrame, SEARCH),
     (Run::BurstsOfOneFrame, Act::Run(9)),
+    (Run::ForgetsInFlight, SEARCH),
+    (Run::ForgetsInFlight, Act::Run(5)),
+    (Run::ForgetsInFlight, Act::Forget),
+    (Run::ForgetsInFlight, Act::Run(6)),
+    (Run::NumbersGoOn, SEARCH),
+    (Run::NumbersGoOn, Act::Run(7)),
+    (Run::NumbersGoOn, Act::Forget),
+    (Run::NumbersGoOn, Act::Run(6)),
+];
+
+/// What is done in a new world, the last of it a step that asks for what was forgotten, and its fault.
+pub(super) const FORGOTTEN: [([Act; 4], WorldFault); 3] = [
+    ([SEARCH, Act::Run(5), Act::Forget, DELIVER], WorldFault::NoCopy),
+    ([SEARCH, Act::Run(5), Act::Forget, GIVE], WorldFault::NoGrant),
+    ([SEARCH, Act::Run(5), Act::Forget, ARRIVE], WorldFault::NoBurst),
 ];
 
 /// What is done in a new world, and the last reply. The first step of a world takes memory, be it a frame, a command
@@ -358,7 +389,7 @@ const FAR_RANGED: Told = Told::Replied(Reply::Ranged {
 });
 
 /// What the entries of each run have, by their places.
-pub(super) const TOLD: [(Run, usize, Told); 59] = [
+pub(super) const TOLD: [(Run, usize, Told); 65] = [
     (Run::LostCopies, 6, FOUND),
     (Run::LostCopies, 10, SEARCHES),
     (Run::LostCopies, 11, Told::Replied(Reply::Again(0))),
@@ -425,4 +456,10 @@ pub(super) const TOLD: [(Run, usize, Told); 59] = [
     (Run::BurstsOfOneFrame, 10, FOUND),
     (Run::BurstsOfOneFrame, 11, NOT_ADMITTED),
     (Run::BurstsOfOneFrame, 12, Told::Ended),
+    (Run::ForgetsInFlight, 7, FOUND),
+    (Run::ForgetsInFlight, 13, FAR_RANGED),
+    (Run::ForgetsInFlight, 14, Told::Ended),
+    (Run::NumbersGoOn, 9, SEARCHES),
+    (Run::NumbersGoOn, 10, FOUND),
+    (Run::NumbersGoOn, 15, RANGED),
 ];

@@ -6,4 +6,4 @@ use Rattle.gp_explain.proofs.telling.Telling.tell.Goals as goal
 pub returns-in-None-clause-ok : goal.returns-in-None-clause-ok
 returns-in-None-clause-ok c =
     let uncut : IsUncut c.args.text.now = c.in-None.ensures.none in
-    passed c.push_plain.result c.args.self.now c.args.text.now c.push_plain.new.out.items uncut (search rules)
+    passed c.push_other.result c.args.self.now c.args.text.now c.push_other.new.out.items uncut (search rules)

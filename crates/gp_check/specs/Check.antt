@@ -1,0 +1,80 @@
+-- What is told of a file that may be a script (this profile's own rule).
+use Rattle.std.specs.Prelude.{◌≡◌, ◌≤◌, ◌⊎◌, ℕ, Bool, true, false, List, [], ◌∷◌, ◌++◌, codes, decimal, length, Result, Ok, Err, IfOk}
+use Rattle.gp_stream.specs.Sink.{SinkState, WritesWhole}
+use Rattle.gp_stream.specs.Source.{SourceState, ReadsWhole, ReadsTooMuch, max_bytes}
+use Rattle.gp_script.specs.Fault.{mistake_view}
+use Rattle.gp_script.specs.Script.{ScriptView, script_or_mistake}
+use Rattle.gp_check.specs.declared.fault.ScriptCheckFault.{ScriptCheckFault}
+use Rattle.gp_check.specs.declared.fault.ScriptCheckFault.TheVariants as ends
+use Rattle.gp_check.specs.declared.found.Found.{Found}
+use Rattle.gp_check.specs.declared.found.Found.TheVariants as found
+use Rattle.gp_check.specs.Words.{mistake_text}
+
+-- how many there are
+abbrev pub count_text : ℕ → List ℕ → List ℕ
+count_text count what = decimal count ++ codes " " ++ what
+
+-- what is told of a file, but for its name
+abbrev pub found_text : Found → List ℕ
+found_text (found.Script ports units events) =
+    count_text ports (codes "ports") ++ codes ", " ++ count_text units (codes "units") ++ codes ", "
+    ++ count_text events (codes "events")
+found_text found.Unread = codes "can't be read"
+found_text found.TooLong = codes "more than 1048576 bytes"
+found_text (found.Wrong mistake) = mistake_text mistake
+
+-- the line of a file
+abbrev pub line_of : List ℕ → Found → List ℕ
+line_of name found = name ++ codes ": " ++ found_text found ++ 10 ∷ []
+
+-- the file is a script
+abbrev pub is_script : Found → Bool
+is_script (found.Script ports units events) = true
+is_script found.Unread = false
+is_script found.TooLong = false
+is_script (found.Wrong mistake) = false
+
+-- the bytes say a script with so many ports, units and events
+pub record SaysScript (bytes : List ℕ) (ports units events : ℕ) : Type 0 where
+  pub script : ScriptView
+  pub says : script_or_mistake bytes ≡ Ok script
+  pub ports_are : ports ≡ length script.ports
+  pub units_are : units ≡ length script.units
+  pub events_are : events ≡ length script.events
+
+-- what was found is what bytes say: a script, or a mistake
+abbrev pub IsOfBytes : List ℕ → Found → Type 0
+IsOfBytes bytes (found.Script ports units events) = SaysScript bytes ports units events
+IsOfBytes bytes found.Unread = ⊥
+IsOfBytes bytes found.TooLong = ⊥
+IsOfBytes bytes (found.Wrong mistake) = script_or_mistake bytes ≡ Err (mistake_view mistake)
+
+-- the source was read to its end without a failed read, it is not too long, and this is what its bytes say; which bytes
+-- came is said of a reader that tells its bytes
+pub record IsOfSource {R : Type 0} (before after : SourceState R) (found : Found) : Type 0 where
+  pub bytes : List ℕ
+  pub read : ReadsWhole before after bytes
+  pub short : length bytes ≤ max_bytes
+  pub says : IsOfBytes bytes found
+
+-- what was found in a source
+abbrev pub IsFound : {R : Type 0} → SourceState R → SourceState R → Found → Type 0
+IsFound before after found.Unread = (after.failed ≡ true) ⊎ (after.left ≡ 0)
+IsFound before after found.TooLong = ReadsTooMuch max_bytes before after
+IsFound before after said = IsOfSource before after said
+
+-- something was found in a source and told by its line: all of the line went to the sink, or a prefix of it where
+-- writing stopped, and the answer is whether it is a script
+pub record Tells {R W : Type 0} (name : List ℕ) (before after : SourceState R) (old new : SinkState W)
+    (answer : Result Bool ScriptCheckFault) : Type 0 where
+  pub found : Found
+  pub is : IsFound before after found
+  pub writes : WritesWhole old new (line_of name found) answer
+  pub tells : IfOk answer (λ told. told ≡ is_script found)
+
+-- how checking a source ends, by its answer: where memory ran out nothing was written
+abbrev pub Checks : {R W : Type 0} → List ℕ → SourceState R → SourceState R → SinkState W → SinkState W
+    → Result Bool ScriptCheckFault → Type 0
+Checks name before after old new (Ok answer) = Tells name before after old new (Ok answer)
+Checks name before after old new (Err ends.Write) = Tells name before after old new (Err ends.Write)
+Checks name before after old new (Err ends.OutOfMemory) = new ≡ old

@@ -1,0 +1,59 @@
+ghost use Rattle.std.specs.Prelude.{◌≡◌, IfOk, string_bytes};
+ghost use Rattle.gp_check.specs.Check.{found_text as text_of_found, is_script as found_a_script, line_of};
+
+use crate::text::mistake_line;
+use gp_script::Mistake;
+use std::alloc::{AllocError, Global};
+
+/// What was found in a source.
+#[derive(Debug, Drop)]
+pub enum Found {
+    /// A script, with so many ports, simulated units and events.
+    Script {
+        ports: usize,
+        units: usize,
+        events: usize,
+    },
+    /// A read failed, or the source took too many reads.
+    Unread,
+    /// More bytes than a script may have.
+    TooLong,
+    /// Bytes that are no script.
+    Wrong(Mistake),
+}
+
+impl Found {
+    /// Tells whether it is a script.
+    pub fn is_script(&self) -> bool
+        ensures { result ≡ found_a_script self.now }
+    {
+        match self {
+            Found::Script { .. } => true,
+            Found::Unread | Found::TooLong | Found::Wrong(_) => false,
+        }
+    }
+}
+
+/// Gives what is told of it, but for the name of the file.
+fn found_text(alloc: Global, found: &Found) -> Result<String, AllocError>
+    ensures { IfOk result (λ text. string_bytes text ≡ text_of_found found.now) }
+{
+    match found {
+        Found::Script {
+            ports,
+            units,
+            events,
+        } => format!(in alloc; "{ports} ports, {units} units, {events} events"),
+        Found::Unread => String::from_str(alloc, "can't be read"),
+        Found::TooLong => String::from_str(alloc, "more than 1048576 bytes"),
+        Found::Wrong(mistake) => mistake_line(alloc, mistake),
+    }
+}
+
+/// Gives the line of a file with this name.
+pub(crate) fn found_line(alloc: Global, name: &str, found: &Found) -> Result<String, AllocError>
+    ensures { IfOk result (λ line. string_bytes line ≡ line_of name.now found.now) }
+{
+    let text = found_text(alloc, found)?;
+    format!(in alloc; "{name}: {text}\n")
+}

@@ -1,0 +1,4 @@
+pub mod Slots
+pub mod Spelling
+pub mod Fields
+pub mod Object

@@ -1,0 +1,121 @@
+//! The field that a part of a line makes.
+ghost use Rattle.std.specs.Prelude.{◌≡◌, ◌++◌, ℕ, List, OnOk, IfOk, MatchBool, false, true};
+ghost use Rattle.gp_json.specs.Spelling.{is_number, quoted};
+ghost use Rattle.gp_json.specs.Fields.{TellsCode, TellsMessage, TellsPart, message_opening, opening};
+
+use crate::slot::{Kind, Slot};
+use crate::text::{is_number, push_quoted};
+use gp_decode::{LineFault, words_of};
+use gp_ploam::Mask;
+use hex::FromHex;
+use std::alloc::{AllocError, Global};
+
+/// Appends the name of a field.
+fn push_opening(out: &mut Vec<u8>, slot: Slot) -> Result<(), AllocError>
+    ensures { OnOk result (out.new.items ≡ out.old.items ++ opening slot) }
+{
+    if slot != Slot::Port {
+        out.extend_from_slice(b",")?;
+    }
+    out.extend_from_slice(b"\"")?;
+    out.extend_from_slice(slot.key().as_bytes())?;
+    out.extend_from_slice(b"\":")
+}
+
+/// Appends the message of a code: its words, or `null` where the check octet is wrong.
+fn push_message(
+    alloc: Global,
+    out: &mut Vec<u8>,
+    octets: &[u8; 13],
+    upstream: bool,
+    mask: Mask,
+) -> Result<(), AllocError>
+    ensures { OnOk result ((said : List ℕ) × TellsMessage upstream mask octets.now said
+        × (out.new.items ≡ out.old.items ++ said)) }
+{
+    match words_of(alloc, octets, upstream, mask) {
+        Ok(words) => push_quoted(out, words.as_bytes()),
+        Err(LineFault::OutOfMemory) => Err(AllocError),
+        Err(_) => out.extend_from_slice(b"null"),
+    }
+}
+
+/// Gives the name of a message.
+fn message_opening(upstream: bool) -> &'static str
+    ensures { result.now ≡ message_opening upstream }
+{
+    if upstream {
+        ",\"message\":"
+    } else {
+        ",\"sent_message\":"
+    }
+}
+
+/// Appends a code and its message, if it is one.
+fn push_code(
+    alloc: Global,
+    out: &mut Vec<u8>,
+    slot: Slot,
+    part: &[u8],
+    upstream: bool,
+    mask: Mask,
+) -> Result<bool, AllocError>
+    ensures { IfOk result (λ told. MatchBool told
+        ((said : List ℕ) × TellsCode upstream mask slot part.now said × (out.new.items ≡ out.old.items ++ said))
+        ((said : List ℕ) → TellsCode upstream mask slot part.now said → ⊥)) }
+{
+    let Ok(octets) = <[u8; 13] as FromHex>::from_hex(part) else {
+        return Ok(false);
+    };
+    push_opening(out, slot)?;
+    push_quoted(out, part)?;
+    out.extend_from_slice(message_opening(upstream).as_bytes())?;
+    push_message(alloc, out, &octets, upstream, mask)?;
+    Ok(true)
+}
+
+/// Appends a number, if it is one.
+fn push_number(out: &mut Vec<u8>, slot: Slot, part: &[u8]) -> Result<bool, AllocError>
+    ensures { IfOk result (λ told. MatchBool told
+        ((is_number part.now ≡ true) × (out.new.items ≡ out.old.items ++ (opening slot ++ part.now)))
+        (is_number part.now ≡ false)) }
+{
+    if !is_number(part) {
+        return Ok(false);
+    }
+    push_opening(out, slot)?;
+    out.extend_from_slice(part)?;
+    Ok(true)
+}
+
+/// Appends a text.
+fn push_text(out: &mut Vec<u8>, slot: Slot, part: &[u8]) -> Result<bool, AllocError>
+    ensures { IfOk result (λ told. (told ≡ true)
+        × (out.new.items ≡ out.old.items ++ (opening slot ++ quoted part.now))) }
+{
+    push_opening(out, slot)?;
+    push_quoted(out, part)?;
+    Ok(true)
+}
+
+/// Appends the field that a part makes, if it can stand there.
+pub(crate) fn push_part(
+    alloc: Global,
+    out: &mut Vec<u8>,
+    slot: Slot,
+    part: &[u8],
+    mask: Mask,
+) -> Result<bool, AllocError>
+    ensures { IfOk result (λ told. MatchBool told
+        ((said : List ℕ) × TellsPart mask slot part.now said × (out.new.items ≡ out.old.items ++ said))
+        ((said : List ℕ) → TellsPart mask slot part.now said → ⊥)) }
+{
+    match slot.kind() {
+        Kind::Number => push_number(out, slot, part),
+        Kind::Text | Kind::Allocs => push_text(out, slot, part),
+        Kind::UnitCode => push_code(alloc, out, slot, part, true, mask),
+        Kind::TerminalCode => push_code(alloc, out, slot, part, false, mask),
+        Kind::Silent => Ok(true),
+        Kind::Unknown => Ok(false),
+    }
+}

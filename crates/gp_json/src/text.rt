@@ -1,0 +1,75 @@
+//! Texts and numbers as JSON spells them.
+ghost use Rattle.std.specs.Prelude.{◌≡◌, ◌<◌, ◌++◌, OnOk};
+ghost use Rattle.std.specs.List.{list_all};
+ghost use Rattle.gp_json.specs.Spelling as spec;
+
+use std::alloc::AllocError;
+
+/// Gives a hexadecimal digit.
+fn hex_digit(number: u8) -> u8
+    requires { number < 16 }
+    ensures { result ≡ spec.hex_digit number }
+{
+    if number < 10 {
+        b'0' + number
+    } else {
+        b'a' - 10 + number
+    }
+}
+
+/// Appends an octet within a text.
+fn push_octet(out: &mut Vec<u8>, octet: u8) -> Result<(), AllocError>
+    ensures { OnOk result (out.new.items ≡ out.old.items ++ spec.escaped octet) }
+{
+    if octet == b'"' || octet == b'\\' {
+        return out.extend_from_slice(&[b'\\', octet]);
+    }
+    if octet >= b' ' && octet <= b'~' {
+        return out.extend_from_slice(&[octet]);
+    }
+    out.extend_from_slice(b"\\u00")?;
+    out.extend_from_slice(&[hex_digit(octet / 16), hex_digit(octet % 16)])
+}
+
+/// Appends a text, between quotation marks.
+pub(crate) fn push_quoted(out: &mut Vec<u8>, text: &[u8]) -> Result<(), AllocError>
+    ensures { OnOk result (out.new.items ≡ out.old.items ++ spec.quoted text.now) }
+{
+    out.extend_from_slice(b"\"")?;
+    'octets: for octet in text {
+        push_octet(out, *octet)?;
+    }
+    out.extend_from_slice(b"\"")
+}
+
+/// Tells whether there is a digit, and no zero before another.
+fn begins_well(part: &[u8]) -> bool
+    ensures { result ≡ spec.begins_well part.now }
+{
+    match part {
+        [] => false,
+        [_] => true,
+        [first, ..] => *first != b'0',
+    }
+}
+
+/// Tells whether this is a decimal digit.
+fn is_digit(octet: u8) -> bool
+    ensures { result ≡ spec.is_digit octet }
+{
+    octet >= b'0' && octet <= b'9'
+}
+
+/// Tells whether these are decimal digits, if they are any.
+fn are_digits(part: &[u8]) -> bool
+    ensures { result ≡ list_all spec.is_digit part.now }
+{
+    part.iter().all(|octet| is_digit(*octet))
+}
+
+/// Tells whether these are decimal digits as JSON spells a number.
+pub(crate) fn is_number(part: &[u8]) -> bool
+    ensures { result ≡ spec.is_number part.now }
+{
+    begins_well(part) && are_digits(part)
+}

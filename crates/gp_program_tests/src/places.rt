@@ -1,0 +1,155 @@
+//! What is told of a file that may be a script: its counts, or where it is wrong and what is wanted there.
+mod rows;
+
+use gp_check::{ScriptCheckFault, check_script};
+use gp_script::{PlacedError, ScriptError, read_script, read_script_at};
+use gp_stream::{Sink, Source};
+use std::alloc::{AllocError, Global};
+use std::io::{self, ErrorKind, Read};
+
+/// Scripts that differ in what stands between two texts, and what is told of each.
+#[derive(Clone, Copy)]
+struct Table {
+    before: &'static str,
+    behind: &'static str,
+    rows: &'static [(&'static str, &'static str)],
+}
+
+/// A reader that fails.
+#[derive(Drop)]
+struct Failing;
+
+impl Read for Failing {
+    fn read(&mut self, _buffer: &mut [u8]) -> io::Result<usize> {
+        Err(io::Error::from(ErrorKind::Other))
+    }
+}
+
+/// What is answered of the bytes of a file `s`, and what is written.
+fn told<R: Read>(
+    alloc: Global,
+    reader: R,
+) -> Result<(Result<bool, ScriptCheckFault>, Vec<u8>), AllocError>
+where
+    R: Drop,
+{
+    let mut source = Source::new(reader);
+    let mut sink = Sink::new(alloc, Vec::new(alloc))?;
+    let answer = check_script(alloc, "s", &mut source, &mut sink);
+    Ok((answer, sink.into_inner()))
+}
+
+/// Tells whether this is the line that is written of a text, and the answer.
+fn is_told(alloc: Global, text: &str, line: &str, is_script: bool) -> Result<bool, AllocError> {
+    let (answer, written) = told(alloc, text.as_bytes())?;
+    let wanted = format!(in alloc; "s: {line}\n")?;
+    Ok(answer == Ok(is_script) && written.as_slice() == wanted.as_bytes())
+}
+
+/// The first text of these tables of which another line is written.
+fn first_other(alloc: Global, tables: &[Table]) -> Result<Option<&'static str>, AllocError> {
+    for table in tables {
+        for (value, line) in table.rows {
+            let text = format!(in alloc; "{}{value}{}", table.before, table.behind)?;
+            if !is_told(alloc, text.as_str(), line, false)? {
+                return Ok(Some(*value));
+            }
+        }
+    }
+    Ok(None)
+}
+
+#[test]
+fn places_of_mistakes(rt: HostRuntime) -> Result<(), AllocError> {
+    assert_eq!(rt; first_other(rt.alloc(), &rows::TABLES)?, None);
+    Ok(())
+}
+
+#[test]
+fn scripts_are_counted(rt: HostRuntime) -> Result<(), AllocError> {
+    for (text, line) in rows::SCRIPTS {
+        assert!(rt; is_told(rt.alloc(), text, line, true)?, "{line}");
+    }
+    Ok(())
+}
+
+/// The line and the column of a syntax fault, both from 1; what the library says of it is left open.
+#[test]
+fn lines_and_columns(rt: HostRuntime) -> Result<(), AllocError> {
+    for (text, place) in rows::SYNTAX {
+        let (answer, written) = told(rt.alloc(), text.as_bytes())?;
+        assert_eq!(rt; answer, Ok(false), "{text}");
+        let wanted = format!(in rt.alloc(); "s: {place}: 1 syntax, ")?;
+        assert!(rt; written.as_slice().starts_with(wanted.as_bytes()), "{text}");
+        assert!(rt; written.as_slice().ends_with(b"\n"), "{text}");
+    }
+    Ok(())
+}
+
+#[test]
+fn files_that_are_no_text(rt: HostRuntime) -> Result<(), AllocError> {
+    let (answer, written) = told(rt.alloc(), b"\xff".as_slice())?;
+    assert_eq!(rt; answer, Ok(false));
+    assert_eq!(rt; written.as_slice(), b"s: 1 syntax, not UTF-8\n".as_slice());
+    let (answer, written) = told(rt.alloc(), Failing)?;
+    assert_eq!(rt; answer, Ok(false));
+    assert_eq!(rt; written.as_slice(), b"s: can't be read\n".as_slice());
+    let (answer, written) = told(rt.alloc(), io::repeat(b' ').take(1_048_577))?;
+    assert_eq!(rt; answer, Ok(false));
+    assert_eq!(rt; written.as_slice(), b"s: more than 1048576 bytes\n".as_slice());
+    Ok(())
+}
+
+/// So many tables in a list.
+fn tables(alloc: Global, before: &str, count: usize, behind: &str) -> Result<String, AllocError> {
+    let mut text = String::from_str(alloc, before)?;
+    for _ in 0..count {
+        text.push_str("{},")?;
+    }
+    text.push_str(behind)?;
+    Ok(text)
+}
+
+#[test]
+fn too_many_tables(rt: HostRuntime) -> Result<(), AllocError> {
+    let text = tables(rt.alloc(), "licences = 1\nport = [", 17, "]")?;
+    let line = "port: 3 range, 1 to 16 tables";
+    assert!(rt; is_told(rt.alloc(), text.as_str(), line, false)?);
+    let text = tables(rt.alloc(), "licences = 1\nport = [{}]\nunit = [", 1_025, "]")?;
+    let line = "unit: 3 range, 0 to 1024 tables";
+    assert!(rt; is_told(rt.alloc(), text.as_str(), line, false)?);
+    Ok(())
+}
+
+/// What is told of a place is the fault that is told without it.
+#[test]
+fn faults_of_mistakes(rt: HostRuntime) -> Result<(), AllocError> {
+    for table in &rows::TABLES {
+        for (value, _) in table.rows {
+            let text = format!(in rt.alloc(); "{}{value}{}", table.before, table.behind)?;
+            let fault = match read_script_at(rt.alloc(), text.as_bytes()) {
+                Err(PlacedError::Wrong(mistake)) => Some(mistake.fault()),
+                Ok(_) | Err(PlacedError::OutOfMemory) => None,
+            };
+            let told = match read_script(rt.alloc(), text.as_bytes()) {
+                Err(ScriptError::Fault(fault)) => Some(fault),
+                Ok(_) | Err(ScriptError::OutOfMemory) => None,
+            };
+            assert!(rt; fault.is_some() && fault == told, "{value}");
+        }
+    }
+    Ok(())
+}
+
+/// What was gathered before goes out first, and a writer that takes no more ends it.
+#[test]
+fn writers_that_end(rt: HostRuntime) -> Result<(), AllocError> {
+    let mut source = Source::new(b"".as_slice());
+    let mut room = [0; 12];
+    let mut sink = Sink::new(rt.alloc(), &mut room[..])?;
+    let answer = check_script(rt.alloc(), "s", &mut source, &mut sink);
+    drop(sink);
+    assert_eq!(rt; answer, Err(ScriptCheckFault::Write));
+    assert_eq!(rt; room.as_slice(), b"s: licences:".as_slice());
+    Ok(())
+}
