@@ -1,4 +1,4 @@
--- The command line (this profile's own rule): `oltctl replay [--summary] [--explain] [--progress] [FORM] [FILE]`,
+-- The command line (this profile's own rule): `oltctl replay [--explain] [--progress] [FORM] [FILE]`,
 -- `oltctl drive [FORM] FILE`, `oltctl storm [--progress] [FILE]`, `oltctl check FILE..`, `oltctl verify [--progress] FILE [TRACE]`,
 -- `oltctl explain [--mask 0|85] [FORM] [TRACE]`, `oltctl decode [--up] [--mask 0|85] [HEX..]` and `oltctl encode [--up]
 -- [--mask 0|85] WORDS..`, where FORM is `[--words] [--time] [--format text|json]`, of `explain` without `--words`.
@@ -86,9 +86,7 @@ with_words app names = with_form (with_rule app (flag_rule (codes "words"))) nam
 
 -- `replay` up to the form of its trace
 abbrev pub replay_flags : App
-replay_flags =
-    with_rule (with_rule (with_rule (new_app (codes "replay")) (flag_rule (codes "summary"))) (flag_rule (codes "explain")))
-    (flag_rule (codes "progress"))
+replay_flags = with_rule (with_rule (new_app (codes "replay")) (flag_rule (codes "explain"))) (flag_rule (codes "progress"))
 
 abbrev pub replay_command : FormatNames → App
 replay_command names = with_rule (with_words replay_flags names) file_rule

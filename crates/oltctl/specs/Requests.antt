@@ -33,10 +33,9 @@ pub record AsksForTrace (rows : List Row) (told : Told) : Type 0 where
   pub in_words : IsFlag rows (codes "words") words
   pub form : AsksForForm rows words told
 
--- the rows of `replay` ask to play FILE, or standard input where it is left out: for its summary, or for its trace
+-- the rows of `replay` ask to play FILE, or standard input where it is left out
 pub record AsksForPlay (rows : List Row) (play : Play) : Type 0 where
   pub trace : AsksForTrace rows play.told
-  pub summary : IsFlag rows (codes "summary") play.summary
   pub explain : IsFlag rows (codes "explain") play.explain
   pub progress : IsFlag rows (codes "progress") play.progress
 

@@ -102,11 +102,6 @@ fn replay_flags<'a>(alloc: Global) -> Result<Command<'a>, AllocError>
         .after_help(REPLAY_HELP)
         .arg(flag(
             alloc,
-            "summary",
-            "Writes, in place of the trace, what it comes to: ports, units, licences",
-        ))?
-        .arg(flag(
-            alloc,
             "explain",
             "Tells where a script is wrong, in a second line",
         ))?

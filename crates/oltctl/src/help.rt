@@ -21,10 +21,10 @@ pub const REPLAY_HELP: &str = "\
 Examples:
   oltctl replay script.toml
   oltctl replay --words --time script.toml
-  oltctl replay --summary script.toml
+  oltctl replay --explain --progress script.toml
 
 Exit status:
-  0  the whole trace, or the summary, was written
+  0  the whole trace was written
   1  the script is wrong, too long, or was not read
   2  the command line is wrong
   3  out of memory

@@ -22,8 +22,6 @@ pub struct Told {
 pub struct Play {
     /// How its trace is written.
     pub told: Told,
-    /// In place of the trace, what it comes to.
-    pub summary: bool,
     /// Of a script that is wrong, where.
     pub explain: bool,
     /// Once a second, how many lines were written.
@@ -149,7 +147,6 @@ fn play_in(found: &ArgMatches<'_>) -> Play
 {
     Play {
         told: told_in(found),
-        summary: found.get_flag("summary"),
         explain: found.get_flag("explain"),
         progress: found.get_flag("progress"),
     }

@@ -1,4 +1,4 @@
-//! Traces that are told otherwise than they are, and replays that are summed up.
+//! Traces that are told otherwise than they are.
 ghost use Rattle.std.specs.Prelude.{◌≡◌, ◌≢◌, Err};
 
 use crate::progress::Counted;
@@ -11,7 +11,6 @@ use gp_ploam::Mask;
 use gp_replay::{RunFault, run_replay};
 use gp_script::{PlacedError, ScriptEvent, read_script, read_script_at};
 use gp_stream::{Sink, Source, read_all};
-use gp_summary::run_summary;
 use gp_tell::{TellFault, Teller};
 use std::alloc::Global;
 use std::io;
@@ -100,7 +99,7 @@ fn replay_told<W: Write + Drop>(
     ended(sink.into_inner().fault(), played)
 }
 
-/// Plays the script that bytes are, and writes its trace, or what it comes to.
+/// Plays the script that bytes are, and writes its trace as it is wanted.
 pub fn replay_bytes<R: AllocGlobal + Print + Eprint + Clock>(
     rt: &R,
     bytes: &[u8],
@@ -110,16 +109,12 @@ pub fn replay_bytes<R: AllocGlobal + Print + Eprint + Clock>(
     ensures journal_full { result ≢ Err RunFault.JournalFull }
 {
     let writer = output(rt, bytes, play.progress);
-    if !play.summary && !is_plain(play.told) {
+    if !is_plain(play.told) {
         return replay_told(rt.alloc(), bytes, play.told, writer);
     }
     let mut sink = Sink::new(rt.alloc(), writer)?;
     let mut source = Source::new(bytes);
-    if play.summary {
-        run_summary(rt.alloc(), &mut source, &mut sink)
-    } else {
-        run_replay(rt.alloc(), &mut source, &mut sink)
-    }
+    run_replay(rt.alloc(), &mut source, &mut sink)
 }
 
 /// Plays the script that a reader gives, and answers the lines that another gives, by trace lines that are told so.
