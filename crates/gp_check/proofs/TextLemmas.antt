@@ -1,5 +1,5 @@
 -- Texts that are put together in another order.
-use Rattle.std.proofs.Common.{◌≡◌, ℕ, Bool, true, false, List, ◌++◌, codes, refl, sym, ap, ◌∙◌, append_assoc}
+use Rattle.std.proofs.Common.{◌≡◌, ℕ, false, List, ◌++◌, codes, append_assoc}
 use Rattle.gp_script.specs.declared.place.TablePlace.{TablePlace}
 use Rattle.gp_script.specs.declared.place.TablePlace.TheVariants as places
 use Rattle.gp_check.specs.Words.{is_top, key_text, table_text}

@@ -1,5 +1,5 @@
--- How a mistake of a script is told: where it is, the kind of fault, and what is wanted there (this profile's own rule).
-use Rattle.std.specs.Prelude.{ℕ, ◌==◌, ◌&&◌, ◌||◌, Bool, true, false, List, [], ◌++◌, if◌then◌else◌, codes, decimal, length, nat_le, string_bytes}
+-- How a mistake of a script is told: where it is, its kind, and what is wanted there (this profile's own rule).
+use Rattle.std.specs.Prelude.{ℕ, ◌==◌, ◌&&◌, ◌||◌, Bool, true, false, List, ◌++◌, if◌then◌else◌, codes, decimal, length, nat_le, string_bytes}
 use Rattle.std.specs.Char.{is_ascii_alphanumeric}
 use Rattle.std.specs.List.{list_all}
 use Rattle.gp_script.specs.declared.fault.ScriptFault.{ScriptFault}
@@ -106,7 +106,8 @@ unknown_text table key = if is_shown key then key_text table key else table_text
 
 -- what is wrong in a table
 abbrev pub table_mistake_text : TablePlace → TableMistake → List ℕ
-table_mistake_text table (inner.UnknownKey key) = unknown_text table (string_bytes key) ++ codes ": 2 shape, unknown key"
+table_mistake_text table (inner.UnknownKey key) =
+    unknown_text table (string_bytes key) ++ codes ": 2 shape, unknown key"
 table_mistake_text table (inner.Unmet spot want) =
     place_text table spot ++ codes ": " ++ fault_text (fault_of_wanted want) ++ codes ", " ++ wanted_text want
 

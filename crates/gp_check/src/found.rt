@@ -50,8 +50,8 @@ fn found_text(alloc: Global, found: &Found) -> Result<String, AllocError>
     }
 }
 
-/// Gives the line of a file with this name.
-pub(crate) fn found_line(alloc: Global, name: &str, found: &Found) -> Result<String, AllocError>
+/// Gives the line of a file with this name, its line feed with it.
+pub fn found_line(alloc: Global, name: &str, found: &Found) -> Result<String, AllocError>
     ensures { IfOk result (λ line. string_bytes line ≡ line_of name.now found.now) }
 {
     let text = found_text(alloc, found)?;

@@ -15,5 +15,5 @@ mod text;
 
 pub use checking::check_script;
 pub use fault::ScriptCheckFault;
-pub use found::Found;
+pub use found::{Found, found_line};
 pub use text::mistake_line;

@@ -2,7 +2,9 @@ ghost use Rattle.std.specs.Prelude.{◌≡◌, IfOk, string_bytes};
 ghost use Rattle.std.specs.List.{list_all};
 ghost use Rattle.gp_check.specs.Words as spec;
 
-use gp_script::{Counted, Mistake, ScriptFault, Spot, SyntaxMistake, TableMistake, TablePlace, Wanted};
+use gp_script::{
+    Counted, Mistake, ScriptFault, Spot, SyntaxMistake, TableMistake, TablePlace, Wanted,
+};
 use std::alloc::{AllocError, Global};
 
 /// How many octets of an unknown key are shown at most.
@@ -126,8 +128,7 @@ fn is_shown(key: &str) -> bool
 fn is_bare(key: &[u8]) -> bool
     ensures { result ≡ list_all spec.is_bare_octet key.now }
 {
-    key.iter()
-        .all(|octet| octet.is_ascii_alphanumeric() || *octet == b'_' || *octet == b'-')
+    key.iter().all(|octet| octet.is_ascii_alphanumeric() || *octet == b'_' || *octet == b'-')
 }
 
 /// Gives a table, and an unknown key of it where it is shown.

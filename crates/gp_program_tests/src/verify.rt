@@ -106,17 +106,72 @@ fn lines_behind_a_search(rt: HostRuntime) {
     }
 }
 
+/// What comes behind a ranged unit, and what is written of the whole.
+const TOLD: [(&'static str, &'static str); 9] = [
+    ("", ""),
+    ("0 16 frame = ok\n", ""),
+    ("0 16 frame = ok", ""),
+    ("found 7\n", "line 17: found 7\n"),
+    ("\n", "line 17: \n"),
+    ("1 0 frame = ok\n", "line 17: 1 0 frame = ok\n"),
+    (
+        "0 17 frame = ok\n",
+        "line 17: 0 17 frame = ok\nmachine: 0 16 frame = ok\n",
+    ),
+    (
+        "0 16 search = found 0\n0 17 frame = ok\n",
+        "line 17: 0 16 search = found 0\nmachine: 0 16 search = searching\n",
+    ),
+    (
+        "0 16 alloc ABCD00000001 = allocated 4096\n",
+        "line 17: 0 16 alloc ABCD00000001 = allocated 4096\n\
+machine: 0 16 alloc ABCD00000001 = allocated 256\nany free Alloc-ID would do\n",
+    ),
+];
+
+/// What comes behind a search, and what is written of the whole.
+const TOLD_FOUND: [(&'static str, &'static str); 4] = [
+    (FOUND, ""),
+    (
+        "0 6 burst 100000 ff01414243440000000100002c = found 254\n",
+        "line 7: 0 6 burst 100000 ff01414243440000000100002c = found 254\n\
+machine: 0 6 burst 100000 ff01414243440000000100002c = found 0\nany free ONU-ID would do\n",
+    ),
+    (
+        "0 6 burst 100000 ff01414243440000000100002c = found 007\n",
+        "line 7: 0 6 burst 100000 ff01414243440000000100002c = found 007\n\
+machine: 0 6 burst 100000 ff01414243440000000100002c = found 7\nany free ONU-ID would do\n",
+    ),
+    (
+        "0 5 burst 100000 ff01414243440000000100002c = stray\n",
+        "line 7: 0 5 burst 100000 ff01414243440000000100002c = stray\n\
+machine: 0 6 burst 100000 ff01414243440000000100002c = found 0\nany free ONU-ID would do\n",
+    ),
+];
+
+/// Tells whether this is what is written of a search and these behind it.
+fn writes(alloc: Global, behind: &str, last: &str, told: &str) -> bool {
+    let Ok(text) = format!(in alloc; "{behind}{last}") else {
+        return false;
+    };
+    found_behind(alloc, text.as_bytes()).is_some_and(|found| found.1.as_slice() == told.as_bytes())
+}
+
 #[test]
-fn the_line_in_its_place(rt: HostRuntime) {
-    let line = "0 6 burst 100000 ff01414243440000000100002c = found 254\n";
-    let said = found_behind(rt.alloc(), line.as_bytes()).map(|found| found.1);
-    assert!(rt; said.is_some_and(|said| said.as_slice() == FOUND.as_bytes()));
+fn what_is_told(rt: HostRuntime) {
+    for (last, told) in TOLD {
+        assert!(rt; writes(rt.alloc(), RANGED, last, told), "{last}");
+    }
+    for (last, told) in TOLD_FOUND {
+        assert!(rt; writes(rt.alloc(), "", last, told), "{last}");
+    }
 }
 
 #[test]
 fn a_long_line(rt: HostRuntime) {
-    let outcome = found_behind(rt.alloc(), &[b'0'; 4_097]).map(|found| found.0);
-    assert_eq!(rt; outcome, Some(refused(Verdict::TooLong)));
+    let outcome = found_behind(rt.alloc(), &[b'0'; 4_097]);
+    assert!(rt; outcome.as_ref().is_some_and(|found| found.1.is_empty()));
+    assert_eq!(rt; outcome.map(|found| found.0), Some(refused(Verdict::TooLong)));
     let outcome = found_behind(rt.alloc(), &[b'0'; 4_096]).map(|found| found.0);
     assert_eq!(rt; outcome, Some(refused(Verdict::NotALine)));
 }

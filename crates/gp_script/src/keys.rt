@@ -90,7 +90,8 @@ pub(crate) fn needed_bool(table: &Table, key: Key) -> Result<bool, TableFault<'_
 
 /// Gives the items of a value that has to be a list.
 fn items_of(key: Key, value: &Value) -> Result<&[Value], TableFault<'_>>
-    ensures { Sees (λ items. Some (items_view items.now)) result (at_key key (spec.list_or_none (Some (view value.now)))) }
+    ensures { Sees (λ items. Some (items_view items.now)) result
+        (at_key key (spec.list_or_none (Some (view value.now)))) }
 {
     value
         .as_array()

@@ -5,6 +5,7 @@ ghost use Rattle.gp_script.specs.Mistake.{fault_of, fault_of_wanted};
 
 use crate::fault::{ScriptError, ScriptFault};
 use crate::place::{Spot, TablePlace, Wanted};
+use thiserror::Error;
 
 /// What is wrong in a table.
 #[derive(Debug, Drop)]
@@ -66,11 +67,13 @@ impl Mistake {
 }
 
 /// Why a script was not read, and where it is wrong.
-#[derive(Debug, Drop)]
+#[derive(Debug, Drop, Error)]
 pub enum PlacedError {
     /// Out of memory for the tables, for the script or for what is told of a mistake.
+    #[error("out of memory")]
     OutOfMemory,
     /// What the bytes say is no script.
+    #[error("the script is wrong")]
     Wrong(Mistake),
 }
 

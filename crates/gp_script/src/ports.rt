@@ -102,7 +102,8 @@ fn port_values(table: &Table) -> Result<PortValues<'_>, TableFault<'_>>
     ensures value { Sees port_values_view result (spec.port_numbers (table_view table.now)) }
     ensures few { IfOk result (λ values. length values.admit.now ≤ MAX_ON_A_PORT) }
     ensures units { IfOk result (λ values. (1 ≤ values.max_units) × (values.max_units ≤ MAX_UNITS)) }
-    ensures allocs { IfOk result (λ values. (FIRST_ALLOC_ID ≤ values.alloc_last) × (values.alloc_last ≤ LAST_ALLOC_ID)) }
+    ensures allocs { IfOk result (λ values.
+        (FIRST_ALLOC_ID ≤ values.alloc_last) × (values.alloc_last ≤ LAST_ALLOC_ID)) }
     ensures cycles { IfOk result (λ values. (1 ≤ values.cycles) × (values.cycles ≤ MAX_CYCLES)) }
     ensures period { IfOk result (λ values. values.search_period ≤ MAX_SEARCH_PERIOD) }
     ensures quarantine { IfOk result (λ values. values.quarantine ≤ MAX_QUARANTINE) }

@@ -120,8 +120,10 @@ pub(crate) fn top_of(may_have_units: bool, table: &Table) -> Result<Top<'_>, Tab
     ensures value { Sees top_view result (top_or_mistake may_have_units (table_view table.now)) }
     ensures licences { IfOk result (λ top. top.licences ≤ MAX_LICENCES) }
     ensures journal { IfOk result (λ top. (1 ≤ top.journal_limit) × (top.journal_limit ≤ MAX_JOURNAL_LIMIT)) }
-    ensures ports { IfOk result (λ top. (top.port_count ≡ length top.ports.now) × (1 ≤ top.port_count) × (top.port_count ≤ MAX_PORTS)) }
-    ensures units { IfOk result (λ top. (top.unit_count ≡ length top.units.now) × (top.unit_count ≤ MAX_SIMULATED_UNITS)) }
+    ensures port_count { IfOk result (λ top. top.port_count ≡ length top.ports.now) }
+    ensures ports { IfOk result (λ top. (1 ≤ top.port_count) × (top.port_count ≤ MAX_PORTS)) }
+    ensures unit_count { IfOk result (λ top. top.unit_count ≡ length top.units.now) }
+    ensures units { IfOk result (λ top. top.unit_count ≤ MAX_SIMULATED_UNITS) }
     ensures events { IfOk result (λ top. length top.events.now ≤ MAX_EVENTS) }
     ensures one_port { IfOk result (λ top. 0 < length top.units.now → length top.ports.now ≤ 1) }
     ensures no_units { may_have_units ≡ false → IfOk result (λ top. (top.units.now ≡ []) × (top.losses.now ≡ [])) }

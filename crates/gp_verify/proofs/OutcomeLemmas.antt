@@ -17,8 +17,9 @@ use Rattle.gp_verify.specs.declared.outcome.VerifyFault.{VerifyFault}
 use Rattle.gp_verify.specs.declared.outcome.VerifyFault.TheVariants.{Lines}
 use Rattle.gp_verify.specs.declared.verdict.Verdict.{Verdict}
 use Rattle.gp_verify.specs.declared.verdict.Verdict.TheVariants as verdict
-use Rattle.gp_verify.specs.Following.{Following, Follows, has_ended}
-use Rattle.gp_verify.specs.Outcome.{Condemns, IsRefused, IsRun, IsUnended, Verifies, finding, longest_line}
+use Rattle.gp_verify.specs.Following.{Following, has_ended, told_from}
+use Rattle.gp_verify.specs.Outcome.{Condemns, IsRefused, IsRun, IsUnended, RunsVerify, WritesAll, finding, longest_line}
+use Rattle.gp_verify.specs.Report.{report_at, report_of}
 use Rattle.gp_verify.specs.Tells.{AreTrace, IsTraceText, TellsNothing}
 use Rattle.gp_verify.specs.Verdicts.{Judges, VerifyState}
 use Rattle.gp_verify.proofs.CourseLemmas.{Course, Fails, Halts, Runs, course, wholes}
@@ -88,8 +89,8 @@ in_lines mask old text h =
 
 module _ {R : Type 0} (limit : ℕ) (from to : SourceState R) (old new : VerifyState) where
   run_found : (text : List ℕ) → ReadsWhole from to text → text ≡ with_feeds (lines_of text)
-      → Runs old.mask old.play (map (handed limit) (lines_of text)) new → IsRun old from to new.lines
-  run_found text read feeds runs =
+      → (told : List ℕ) → Runs old.mask old.play (map (handed limit) (lines_of text)) new told → IsRun old from to new.lines
+  run_found text read feeds told runs =
       let same : lines_of text ≡ runs.texts = handed_all limit (lines_of text) runs.texts runs.all_is in
       let trace = stage_trace old.mask old.play new.play runs.texts (lines_of text) same runs.stage in
       record { text = text; read = read; trace = (traces_are_lines old.mask old.play text).1 (lines_of text, feeds, trace); count = ap length same ∙ sym runs.lines }
@@ -107,8 +108,8 @@ module _ {R : Type 0} (limit : ℕ) (from to : SourceState R) (old new : VerifyS
   if_some (Some xs) P h = h xs refl
 
   unended_found : (text : List ℕ) → ReadsWhole from to text → (text ≡ with_feeds (lines_of text) → ⊥)
-      → Runs old.mask old.play (map (handed limit) (lines_of text)) new → IsUnended old from to new.lines
-  unended_found text read unfed runs =
+      → (told : List ℕ) → Runs old.mask old.play (map (handed limit) (lines_of text)) new told → IsUnended old from to new.lines
+  unended_found text read unfed told runs =
       let same : lines_of text ≡ runs.texts = handed_all limit (lines_of text) runs.texts runs.all_is in
       record {
         text = text;
@@ -135,10 +136,18 @@ module _ {R : Type 0} (limit : ℕ) (from to : SourceState R) (old new : VerifyS
   told_nothing v (Some text) mid raw short is fails =
       subst (TellsNothing old.mask mid) (sym (handed_whole longest_line raw text is)) (refused v old.mask mid new.play text new.said fails.1 fails.0)
 
-  refused_found : (v : Verdict) (bytes : List ℕ) (ls others : List (List ℕ)) → Consumes from.remaining to.remaining bytes → lines_of bytes ≡ ls ++ others
+  -- what is told of it
+  told_report : (v : Verdict) (line : Option (List ℕ)) (mid : PlayState) (raw told : List ℕ) → handed longest_line raw ≡ line → Fails v line old.mask mid new.play new.said
+      → new.ended ≡ Some v → told ≡ told_from None line new → told ≡ report_of v new.lines raw new.said
+  told_report v None mid raw told is fails ended h = h ∙ ap (λ (x : Verdict). report_of x new.lines raw new.said) (sym fails)
+  told_report v (Some text) mid raw told is fails ended h =
+      h ∙ ap (λ (e : Option Verdict). report_at e new.lines text new.said) ended
+      ∙ ap (λ (t : List ℕ). report_of v new.lines t new.said) (sym (handed_whole longest_line raw text is))
+
+  refused_found : (v : Verdict) (told bytes : List ℕ) (ls others : List (List ℕ)) → Consumes from.remaining to.remaining bytes → lines_of bytes ≡ ls ++ others
       → ((xs : List ℕ) → from.remaining ≡ Some xs → (o : List (List ℕ)) × (lines_of xs ≡ ls ++ o))
-      → Halts v old.mask old.play (map (handed longest_line) ls) new → IsRefused old new from to new.lines v
-  refused_found v bytes ls others came is first halts =
+      → Halts v old.mask old.play (map (handed longest_line) ls) new told → IsRefused old new from to new.lines v told
+  refused_found v told bytes ls others came is first halts =
       let p = parted longest_line ls halts.before halts.line halts.rest halts.all_is in
       let behind : (o : List (List ℕ)) → ls ++ o ≡ halts.before ++ p.raw ∷ (p.others ++ o) =
       λ o. ap (λ (l : List (List ℕ)). l ++ o) p.parts ∙ append_assoc halts.before (p.raw ∷ p.others) o in
@@ -154,6 +163,7 @@ module _ {R : Type 0} (limit : ℕ) (from to : SourceState R) (old new : VerifyS
         mid = halts.mid;
         run = tells_lines old.mask old.play halts.before halts.stage.receipts halts.mid halts.stage.tells;
         condemned = condemned v halts.line halts.mid p.raw p.is halts.fails;
+        told_is = told_report v halts.line halts.mid p.raw told p.is halts.fails halts.ended halts.told_is;
         none = λ short. if_some from.remaining (λ (xs : List ℕ). IsTraceText old.mask old.play xs → ⊥)
             (λ xs here trace.
             let o = first xs here in
@@ -172,47 +182,64 @@ module _ {R : Type 0} (limit : ℕ) (from to : SourceState R) (old new : VerifyS
 
 -- ---- what was found
 
-started : (old new : VerifyState) (ls : List (Option (List ℕ))) (said : List ℕ) → old.ended ≡ None → old.lines ≡ 0 → DoesAll Following old ls said new → Course new.ended old.mask old.play ls new
+started : (old new : VerifyState) (ls : List (Option (List ℕ))) (said : List ℕ) → old.ended ≡ None → old.lines ≡ 0 → DoesAll Following old ls said new
+    → Course new.ended old.mask old.play ls new said
 started old new ls said none first h = course old.mask old.play [] ls old new said refl none (stage_begun old.mask old.play) first h
 
 never : false ≡ true → ⊥
 never h = cc
 
-module _ {R W : Type 0} (from to : SourceState R) (old new : VerifyState) (before after : SinkState W) where
+module _ {R W : Type 0} (from to : SourceState R) (old new : VerifyState) (before after : SinkState W) (told : List ℕ) (written : WritesAll before after told) where
   whole : (ended : Option Verdict) → (text : List ℕ) → ReadsWhole from to text → text ≡ with_feeds (lines_of text)
-      → Course ended old.mask old.play (map (handed longest_line) (lines_of text)) new → Verifies old new from to (finding Whole ended new.lines)
-  whole None text read feeds c = run_found longest_line from to old new text read feeds c
-  whole (Some v) text read feeds c =
-      refused_found longest_line from to old new v text (lines_of text) [] read.consumed (sym (append-nil (lines_of text)))
-      (λ xs is. ([], ap lines_of (whole_text longest_line from to old new from.remaining to.remaining text xs read.consumed read.end is) ∙ sym (append-nil (lines_of text)))) c
+      → Course ended old.mask old.play (map (handed longest_line) (lines_of text)) new told → RunsVerify old new from to before after (finding Whole ended new.lines)
+  whole None text read feeds c = record { told = told; verified = (run_found longest_line from to old new text read feeds told c, c.silent); written = written }
+  whole (Some v) text read feeds c = record {
+    told = told;
+    verified = refused_found longest_line from to old new v told text (lines_of text) [] read.consumed (sym (append-nil (lines_of text)))
+        (λ xs is. ([], ap lines_of (whole_text longest_line from to old new from.remaining to.remaining text xs read.consumed read.end is) ∙ sym (append-nil (lines_of text)))) c;
+    written = written;
+  }
 
   unended : (ended : Option Verdict) → (text : List ℕ) → ReadsWhole from to text → (text ≡ with_feeds (lines_of text) → ⊥)
-      → Course ended old.mask old.play (map (handed longest_line) (lines_of text)) new → Verifies old new from to (finding Open ended new.lines)
-  unended None text read unfed c = unended_found longest_line from to old new text read unfed c
-  unended (Some v) text read unfed c =
-      refused_found longest_line from to old new v text (lines_of text) [] read.consumed (sym (append-nil (lines_of text)))
-      (λ xs is. ([], ap lines_of (whole_text longest_line from to old new from.remaining to.remaining text xs read.consumed read.end is) ∙ sym (append-nil (lines_of text)))) c
+      → Course ended old.mask old.play (map (handed longest_line) (lines_of text)) new told → RunsVerify old new from to before after (finding Open ended new.lines)
+  unended None text read unfed c = record { told = told; verified = (unended_found longest_line from to old new text read unfed told c, c.silent); written = written }
+  unended (Some v) text read unfed c = record {
+    told = told;
+    verified = refused_found longest_line from to old new v told text (lines_of text) [] read.consumed (sym (append-nil (lines_of text)))
+        (λ xs is. ([], ap lines_of (whole_text longest_line from to old new from.remaining to.remaining text xs read.consumed read.end is) ∙ sym (append-nil (lines_of text)))) c;
+    written = written;
+  }
 
   over : (ended : Option Verdict) → is_some ended ≡ true → (bytes : List ℕ) → Consumes from.remaining to.remaining bytes
-      → Course ended old.mask old.play (map (handed longest_line) (ended_lines bytes)) new → Verifies old new from to (finding Over ended new.lines)
+      → Course ended old.mask old.play (map (handed longest_line) (ended_lines bytes)) new told → RunsVerify old new from to before after (finding Over ended new.lines)
   over None is bytes came c = absurd (never is)
   over (Some v) is bytes came c =
       let e = ended_first bytes [] in
-      refused_found longest_line from to old new v bytes (ended_lines bytes) e.0 came (ap lines_of (sym (append-nil bytes)) ∙ e.1)
-      (λ xs here. first_lines longest_line from to old new from.remaining to.remaining bytes xs came here) c
+      record {
+        told = told;
+        verified = refused_found longest_line from to old new v told bytes (ended_lines bytes) e.0 came (ap lines_of (sym (append-nil bytes)) ∙ e.1)
+            (λ xs here. first_lines longest_line from to old new from.remaining to.remaining bytes xs came here) c;
+        written = written;
+      }
 
-  pub verified : (end : LinesEnd) → old.ended ≡ None → old.lines ≡ 0 → ServesTo Following has_ended longest_line end from to old new before after
-      → Verifies old new from to (finding end new.ended new.lines)
-  verified Whole none first s = whole new.ended s.bytes s.read (s.feeds.0 refl) (started old new (map (handed longest_line) (lines_of s.bytes)) s.said none first s.spoken)
-  verified Open none first s = unended new.ended s.bytes s.read (λ e. never (s.feeds.1 e)) (started old new (map (handed longest_line) (lines_of s.bytes)) s.said none first s.spoken)
-  verified Over none first s = over new.ended s.1 s.0.bytes s.0.read (started old new (map (handed longest_line) (ended_lines s.0.bytes)) s.0.said none first s.0.spoken)
+module _ {R W : Type 0} (from to : SourceState R) (old new : VerifyState) (before after : SinkState W) where
+  verified : (end : LinesEnd) → old.ended ≡ None → old.lines ≡ 0 → ServesTo Following has_ended longest_line end from to old new before after
+      → RunsVerify old new from to before after (finding end new.ended new.lines)
+  verified Whole none first s =
+      whole from to old new before after s.said (s.written, s.kept) new.ended s.bytes s.read (s.feeds.0 refl) (started old new (map (handed longest_line) (lines_of s.bytes)) s.said none first s.spoken)
+  verified Open none first s =
+      unended from to old new before after s.said (s.written, s.kept) new.ended s.bytes s.read (λ e. never (s.feeds.1 e))
+      (started old new (map (handed longest_line) (lines_of s.bytes)) s.said none first s.spoken)
+  verified Over none first s =
+      over from to old new before after s.0.said (s.0.written, s.0.kept) new.ended s.1 s.0.bytes s.0.read
+      (started old new (map (handed longest_line) (ended_lines s.0.bytes)) s.0.said none first s.0.spoken)
 
   pub verified_as : (end : LinesEnd) (found : Option Verdict) (line : ℕ) (answer : Result ℕ VerifyFault) → found ≡ new.ended → line ≡ new.lines → answer ≡ finding end found line
-      → old.ended ≡ None → old.lines ≡ 0 → ServesTo Following has_ended longest_line end from to old new before after → Verifies old new from to answer
+      → old.ended ≡ None → old.lines ≡ 0 → ServesTo Following has_ended longest_line end from to old new before after → RunsVerify old new from to before after answer
   verified_as end found line answer is many same none first s =
       let told : answer ≡ finding end new.ended new.lines = same ∙ ap (λ (f : Option Verdict). finding end f line) is ∙ ap (λ (n : ℕ). finding end new.ended n) many in
-      subst (λ (a : Result ℕ VerifyFault). Verifies old new from to a) (sym told) (verified end none first s)
+      subst (λ (a : Result ℕ VerifyFault). RunsVerify old new from to before after a) (sym told) (verified end none first s)
 
-  pub unread : (fault : LinesFault) → Serves Following has_ended longest_line from to old new before after (Err fault) → Verifies old new from to (Err (Lines fault))
-  unread faults.Read s = s.failed refl
-  unread (faults.Line fault) s = tt
+  pub unread : (fault : LinesFault) → Serves Following has_ended longest_line from to old new before after (Err fault) → RunsVerify old new from to before after (Err (Lines fault))
+  unread faults.Read s = record { told = []; verified = s.failed refl; written = tt }
+  unread (faults.Line fault) s = record { told = []; verified = tt; written = tt }

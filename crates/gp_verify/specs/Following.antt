@@ -3,6 +3,7 @@ use Rattle.std.specs.Prelude.{◌≡◌, ℕ, ◌+◌, Bool, List, [], Option, N
 use Rattle.gp_flow.specs.Lines.{Speech, WholeLines}
 use Rattle.gp_verify.specs.declared.verdict.Verdict.{Verdict}
 use Rattle.gp_verify.specs.declared.verdict.Verdict.TheVariants.{TooLong}
+use Rattle.gp_verify.specs.Report.{report_at}
 use Rattle.gp_verify.specs.Verdicts.{Judges, VerifyState, ending}
 
 -- the line was judged
@@ -19,9 +20,15 @@ TakesFrom (Some verdict) old line new = new ≡ old
 TakesFrom None old None new = new ≡ record old { lines = old.lines + 1; ended = Some TooLong }
 TakesFrom None old (Some text) new = JudgesLine old text new
 
--- to no line anything is said
+-- what is told of it, by what ended it before: nothing, but of the line that ends it
+abbrev pub told_from : Option Verdict → Option (List ℕ) → VerifyState → List ℕ
+told_from (Some verdict) line new = []
+told_from None None new = []
+told_from None (Some text) new = report_at new.ended new.lines text new.said
+
+-- the line is taken, and that is told of it
 abbrev pub Follows : VerifyState → Option (List ℕ) → List ℕ → VerifyState → Type 0
-Follows old line said new = (said ≡ []) × TakesFrom old.ended old line new
+Follows old line told new = (told ≡ told_from old.ended line new) × TakesFrom old.ended old line new
 
 -- what a verifier does with a line, which it answers whole or not at all
 abbrev pub Following : Speech VerifyState

@@ -2,5 +2,6 @@ pub mod Checking
 pub mod Faults
 pub mod Following
 pub mod Outcome
+pub mod Report
 pub mod Tells
 pub mod Verdicts

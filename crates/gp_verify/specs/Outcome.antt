@@ -1,11 +1,12 @@
 -- How the verification of a text may end (this profile's own rule).
-use Rattle.std.specs.Prelude.{◌≡◌, ◌≢◌, ◌<◌, ◌⊎◌, ℕ, ◌+◌, true, List, ◌∷◌, ◌++◌, length, IfSome, Option, Some, None, Result, Ok, Err}
-use Rattle.std.specs.Io.KnownBytes.{Consumes}
+use Rattle.std.specs.Prelude.{◌≡◌, ◌≢◌, ◌<◌, ◌⊎◌, ℕ, ◌+◌, true, List, [], ◌∷◌, ◌++◌, length, IfSome, Option, Some, None, Result, Ok, Err}
+use Rattle.std.specs.Io.KnownBytes.{Appends, Consumes}
 use Rattle.gp_flow.specs.declared.fault.LinesFault.{LinesFault}
 use Rattle.gp_flow.specs.declared.fault.LinesFault.TheVariants as faults
 use Rattle.gp_flow.specs.declared.lines.LinesEnd.{LinesEnd}
 use Rattle.gp_flow.specs.declared.lines.LinesEnd.TheVariants.{Whole, Open, Over}
 use Rattle.gp_flow.specs.Lines.{lines_of}
+use Rattle.gp_stream.specs.Sink.{SinkState, KeepsNothing}
 use Rattle.gp_stream.specs.Source.{SourceState, ReadsWhole}
 use Rattle.gp_ploam.specs.declared.check.Mask.{Mask}
 use Rattle.gp_machine.specs.declared.entry.Receipt.{Receipt}
@@ -14,6 +15,7 @@ use Rattle.gp_verify.specs.declared.outcome.VerifyFault.{VerifyFault}
 use Rattle.gp_verify.specs.declared.outcome.VerifyFault.TheVariants.{Refused, Unended, Lines}
 use Rattle.gp_verify.specs.declared.verdict.Verdict.{Verdict}
 use Rattle.gp_verify.specs.declared.verdict.Verdict.TheVariants.{TooLong}
+use Rattle.gp_verify.specs.Report.{report_of}
 use Rattle.gp_verify.specs.Tells.{AreLinesOf, IsTraceText}
 use Rattle.gp_verify.specs.Verdicts.{Judges, VerifyState}
 
@@ -39,7 +41,7 @@ IsNoRun old from = IfSome from.remaining (λ text. IsTraceText old.mask old.play
 
 -- the lines before this one are those of a run, and this one can't follow, for this reason
 pub record IsRefused {R : Type 0} (old new : VerifyState) (from to : SourceState R) (line : ℕ)
-    (verdict : Verdict) : Type 0 where
+    (verdict : Verdict) (told : List ℕ) : Type 0 where
   -- what was read of the text
   pub bytes : List ℕ
   pub came : Consumes from.remaining to.remaining bytes
@@ -54,6 +56,8 @@ pub record IsRefused {R : Type 0} (old new : VerifyState) (from to : SourceState
   pub mid : PlayState
   pub run : AreLinesOf old.mask old.play before receipts mid
   pub condemned : Condemns verdict old.mask mid text new.play new.said
+  -- what is told of it
+  pub told_is : told ≡ report_of verdict line text new.said
   -- so no run has this trace, whatever comes behind what was read
   pub none : verdict ≢ TooLong → IsNoRun old from
 
@@ -69,13 +73,29 @@ abbrev pub IsUnread : {R : Type 0} → LinesFault → SourceState R → Type 0
 IsUnread faults.Read to = (to.failed ≡ true) ⊎ (to.left ≡ 0)
 IsUnread (faults.Line fault) to = Unit {0}
 
--- how a verification may end
-abbrev pub Verifies : {R : Type 0} → VerifyState → VerifyState → SourceState R → SourceState R
+-- how a verification may end, and what is told of it: nothing, but of the line that can't be
+abbrev pub Verifies : {R : Type 0} → VerifyState → VerifyState → SourceState R → SourceState R → List ℕ
     → Result ℕ VerifyFault → Type 0
-Verifies old new from to (Ok lines) = IsRun old from to lines
-Verifies old new from to (Err (Refused line verdict)) = IsRefused old new from to line verdict
-Verifies old new from to (Err (Unended line)) = IsUnended old from to line
-Verifies old new from to (Err (Lines fault)) = IsUnread fault to
+Verifies old new from to told (Ok lines) = IsRun old from to lines × (told ≡ [])
+Verifies old new from to told (Err (Refused line verdict)) = IsRefused old new from to line verdict told
+Verifies old new from to told (Err (Unended line)) = IsUnended old from to line × (told ≡ [])
+Verifies old new from to told (Err (Lines fault)) = IsUnread fault to
+
+-- the writer got all of it behind what was gathered before, and nothing is kept back
+abbrev pub WritesAll : {W : Type 0} → SinkState W → SinkState W → List ℕ → Type 0
+WritesAll before after told = Appends before.held after.held (before.gathered ++ told) × KeepsNothing after
+
+-- what is told is written, but where the text was not read or a line not judged
+abbrev pub Writes : {W : Type 0} → SinkState W → SinkState W → List ℕ → Result ℕ VerifyFault → Type 0
+Writes before after told (Err (Lines fault)) = Unit {0}
+Writes before after told _ = WritesAll before after told
+
+-- the text was verified, what is told of it was written
+pub record RunsVerify {R W : Type 0} (old new : VerifyState) (from to : SourceState R) (before after : SinkState W)
+    (answer : Result ℕ VerifyFault) : Type 0 where
+  pub told : List ℕ
+  pub verified : Verifies old new from to told answer
+  pub written : Writes before after told answer
 
 -- what was found, by how far the text was read, what ended the verification, and how many lines were judged
 abbrev pub finding : LinesEnd → Option Verdict → ℕ → Result ℕ VerifyFault

@@ -1,41 +1,21 @@
-ghost use Rattle.std.specs.Prelude.{◌≡◌, true};
+ghost use Rattle.std.specs.Prelude.{◌≡◌, ℕ, List, true};
 ghost use Rattle.gp_script.specs.Playable.{IsPlayable};
 ghost use Rattle.gp_script.specs.View.{script_view};
-ghost use Rattle.gp_stream.specs.Sink.{WritesWhole};
-ghost use Rattle.gp_verify.specs.Checking.{ChecksScript, ChecksTrace, said_instead};
+ghost use Rattle.gp_verify.specs.Checking.{Checks, ChecksTrace};
+ghost use Rattle.gp_verify.specs.Outcome.{Writes};
 
 use super::outcome::{CheckFault, VerifyFault};
 use super::running::run_verify;
-use super::verdict::Verdict;
 use super::verifier::Verifier;
 use gp_chassis::ChassisConfig;
 use gp_licence::MAX_LICENCES;
 use gp_replay::MAX_KEPT;
 use gp_script::Script;
-use gp_stream::{Sink, Source, WriteStopped};
+use gp_stream::{Sink, Source};
 use std::alloc::Global;
 use std::io::{Read, Write};
 use std::marker::Brand;
 use std::sync::ledger::{Blank, Ledger};
-
-/// Writes the line that the machine says in the place of the one that can't be, where there is one.
-fn say_instead<W: Write>(
-    sink: &mut Sink<W>,
-    found: &Result<u64, VerifyFault>,
-    said: &[u8],
-) -> Result<(), WriteStopped>
-    ensures { WritesWhole sink.old sink.new (said_instead found.now said.now) result }
-{
-    match found {
-        Err(
-            VerifyFault::Refused {
-                line: _,
-                verdict: Verdict::NotAStep | Verdict::WrongNumber,
-            },
-        ) => sink.write_whole(said),
-        _ => sink.write_whole(b""),
-    }
-}
 
 /// Tells whether a text is the trace of a run on the chassis of a script that was read, whose ledger is the blank.
 fn verify_on<L: Ledger, T: Read, W: Write>(
@@ -49,7 +29,8 @@ fn verify_on<L: Ledger, T: Read, W: Write>(
     requires parts { (blank.parts ≡ L.parts) × (L.parts ≡ MAX_LICENCES) }
     requires playable { IsPlayable (script_view script) }
     requires flushed { sink.old.flushed ≡ true }
-    ensures { ChecksTrace trace.old trace.new result (script_view script) }
+    ensures { (told : List ℕ) × ChecksTrace trace.old trace.new told result (script_view script)
+        × Writes sink.old sink.new told result }
 {
     let Script {
         licences,
@@ -67,9 +48,7 @@ fn verify_on<L: Ledger, T: Read, W: Write>(
     };
     let mut verifier = Verifier::<L>::begin(alloc, blank, &config, mask)?;
     let found = run_verify(alloc, trace, sink, &mut verifier);
-    let told = say_instead(sink, &found, verifier.said());
     verifier.close();
-    told?;
     found
 }
 
@@ -77,8 +56,8 @@ fn verify_on<L: Ledger, T: Read, W: Write>(
 /// free ONU-IDs and Alloc-IDs, and how many lines it has. Of the script its ports, licences and mask count; its
 /// events and units are passed over.
 ///
-/// Where a line can't be for its answer or its number, the line that the machine says in its place is written to the
-/// sink. The script is read to its end, at most 1,048,576 bytes; the trace without bound, to its end or to the first
+/// Of the first line that can't be, if it is not too long, its number and text are written to the sink, and where
+/// its answer or its number is another, what the machine says in its place. Of a run nothing is written. The script is read to its end, at most 1,048,576 bytes; the trace without bound, to its end or to the first
 /// line that can't be, and a little further.
 pub fn verify_script<R: Read, T: Read, W: Write>(
     alloc: Global,
@@ -87,7 +66,7 @@ pub fn verify_script<R: Read, T: Read, W: Write>(
     sink: &mut Sink<W>,
 ) -> Result<u64, CheckFault>
     requires { sink.old.flushed ≡ true }
-    ensures { ChecksScript script.old script.new trace.old trace.new result }
+    ensures { Checks script.old script.new trace.old trace.new sink.old sink.new result }
 {
     let bytes = gp_stream::read_all(alloc, script)?;
     let read = gp_script::read_script(alloc, bytes.as_slice())?;

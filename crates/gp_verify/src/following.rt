@@ -1,3 +1,4 @@
+use super::verdict::Verdict;
 use super::verifier::Verifier;
 use gp_flow::{LineFault, LineWork};
 use gp_stream::Sink;
@@ -15,9 +16,18 @@ impl<L: Ledger> LineWork for Verifier<L> {
         self.ended().is_some()
     }
 
-    fn line<W: Write>(&mut self, text: &[u8], _sink: &mut Sink<W>) -> Result<(), LineFault> {
-        self.judge(text)?;
-        Ok(())
+    fn line<W: Write>(&mut self, text: &[u8], sink: &mut Sink<W>) -> Result<(), LineFault> {
+        if self.ended().is_some() {
+            return Ok(());
+        }
+        match self.judge(text)? {
+            Verdict::Follows => Ok(()),
+            verdict => {
+                let report = self.report(verdict, text)?;
+                sink.put(report.as_slice())?;
+                Ok(())
+            }
+        }
     }
 
     fn long_line<W: Write>(&mut self, _sink: &mut Sink<W>) -> Result<(), LineFault> {

@@ -7,10 +7,12 @@
 //!   lines.
 //! - `judging.rt`: takes the turn that a line tells of, and tells whether the line is that turn's.
 //! - `laws.rt`: what lines and the whole text have to do with each other.
+//! - `report.rt`: what is told of the line that can't be.
 //! - `verdict.rt`: what is said of a line. `fault.rt`: why a line was not judged, and how a verification ends.
 //!
 //! Where to make which change: what it means that a text is a trace stands in `specs/Tells.antt`, what a verdict
-//! means in `specs/Verdicts.antt`, and how a verification may end in `specs/Outcome.antt`.
+//! means in `specs/Verdicts.antt`, how a verification may end in `specs/Outcome.antt`, and what is told of the line that
+//! can't be in `specs/Report.antt`.
 #![tactic(auto)]
 
 mod checking;
@@ -19,6 +21,7 @@ mod following;
 mod judging;
 mod laws;
 mod outcome;
+mod report;
 mod running;
 mod verdict;
 mod verifier;

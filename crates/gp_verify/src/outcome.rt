@@ -10,7 +10,7 @@ use super::verdict::Verdict;
 use gp_flow::{LineFault, LinesFault};
 use gp_replay::RunFault;
 use gp_script::ScriptError;
-use gp_stream::{SourceFault, WriteStopped};
+use gp_stream::SourceFault;
 use std::alloc::AllocError;
 use thiserror::Error;
 
@@ -49,14 +49,6 @@ impl From<AllocError> for VerifyFault {
 
     fn from(_error: AllocError) -> VerifyFault {
         VerifyFault::Lines(LinesFault::Line(LineFault::OutOfMemory))
-    }
-}
-
-impl From<WriteStopped> for VerifyFault {
-    ghost from_gives = { λ _ outcome. outcome ≡ Lines (Line lines.Write) };
-
-    fn from(_error: WriteStopped) -> VerifyFault {
-        VerifyFault::Lines(LinesFault::Line(LineFault::Write))
     }
 }
 

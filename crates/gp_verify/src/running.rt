@@ -1,5 +1,5 @@
 ghost use Rattle.std.specs.Prelude.{◌≡◌, None, true};
-ghost use Rattle.gp_verify.specs.Outcome.{Verifies, finding};
+ghost use Rattle.gp_verify.specs.Outcome.{RunsVerify, finding};
 
 use super::outcome::VerifyFault;
 use super::verdict::Verdict;
@@ -13,7 +13,8 @@ use std::sync::ledger::Ledger;
 /// Tells whether a text is the trace of some run, from where the verifier stands, and how many lines it has. It is
 /// read to its end, or to the first line that can't be, and a little further.
 ///
-/// The sink is what the finding may be written to behind it; nothing is written here.
+/// Of the first line that can't be, if it is not too long, its number and text are written to the sink, and where
+/// its answer or its number is another, what the machine says in its place. Of a run nothing is written.
 pub fn run_verify<L: Ledger, R: Read, W: Write>(
     alloc: Global,
     source: &mut Source<R>,
@@ -23,7 +24,7 @@ pub fn run_verify<L: Ledger, R: Read, W: Write>(
     requires begins { verifier.old.ended ≡ None }
     requires first { verifier.old.lines ≡ 0 }
     requires flushed { sink.old.flushed ≡ true }
-    ensures { Verifies verifier.old verifier.new source.old source.new result }
+    ensures { RunsVerify verifier.old verifier.new source.old source.new sink.old sink.new result }
 {
     let end = run_lines(alloc, source, sink, verifier)?;
     let found = verifier.ended();

@@ -4,10 +4,12 @@ ghost use Rattle.gp_chassis.specs.World.{IsBalanced};
 ghost use Rattle.gp_verify.specs.declared.fault.LineRefusal.TheVariants.{Full};
 ghost use Rattle.gp_verify.specs.declared.verdict.Verdict.{Verdict as AnyVerdict};
 ghost use Rattle.gp_verify.specs.declared.verdict.Verdict.TheVariants.{TooLong};
+ghost use Rattle.gp_verify.specs.Report.{report_of};
 ghost use Rattle.gp_verify.specs.Verdicts.{Judges, ending, most_lines, opened_verify};
 
 use super::fault::LineRefusal;
 use super::judging::judge_line;
+use super::report::report_of;
 use super::verdict::Verdict;
 use gp_chassis::ChassisConfig;
 use gp_licence::MAX_LICENCES;
@@ -23,6 +25,7 @@ use std::sync::ledger::{Blank, Ledger};
 ///
 /// It has no `Drop`: its licences are gathered by `close`.
 pub struct Verifier<L: Ledger> {
+    alloc: Global,
     player: Player<L>,
     buffer: LineBuffer,
     mask: Mask,
@@ -71,6 +74,7 @@ impl<L: Ledger> Verifier<L> {
         let buffer = LineBuffer::new(alloc)?;
         let player = Player::begin(alloc, blank, config)?;
         Ok(Verifier {
+            alloc,
             player,
             buffer,
             mask,
@@ -149,12 +153,20 @@ impl<L: Ledger> Verifier<L> {
         self.buffer.as_bytes()
     }
 
+    /// Makes what is told of the line that was judged last, by its verdict and its text.
+    pub(crate) fn report(&self, verdict: Verdict, text: &[u8]) -> Result<Vec<u8>, AllocError>
+        ensures { IfOk result (λ report. report.items ≡ report_of verdict self.now.lines text.now self.now.said) }
+    {
+        report_of(self.alloc, verdict, self.lines, text, self.said())
+    }
+
     /// Ends the chassis, and answers how many licences it was opened with: those that are free, in hands or with
     /// active units.
     pub fn close(self) -> u32
         ensures { IsBalanced result self.play.world }
     {
         let Verifier {
+            alloc: _,
             player,
             buffer: _,
             mask: _,

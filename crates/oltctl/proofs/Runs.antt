@@ -1,5 +1,5 @@
 -- What a run found in its input, from how it ended.
-use Rattle.std.proofs.Common.{◌≡◌, ℕ, List, Option, Result, Ok, Err, OnOk, IsErrAnd, subst, sym, refl, ap, ◌∙◌}
+use Rattle.std.proofs.Common.{◌≡◌, ℕ, List, [], Option, Result, Ok, Err, OnOk, IsErrAnd, subst, sym, refl, ap, ◌∙◌}
 use Rattle.gp_script.specs.declared.fault.ScriptFault.{ScriptFault}
 use Rattle.gp_script.specs.Script.{ScriptView, script_of}
 use Rattle.gp_stream.specs.Source.{SourceState, ReadsTooMuch, max_bytes}
@@ -44,17 +44,18 @@ pub unchecked : {S T : Type 0} (script : S) (of_script : Option (List ℕ)) (tra
 unchecked script of_script trace of_trace (Ok lines) same = absurd same
 unchecked script of_script trace of_trace (Err told) same =
     subst (λ (e : CheckFault). IsCheckedBy script of_script trace of_trace (Err e)) (sym same)
-    (unread script of_script, unread_endless trace of_trace, (tt, refl))
+    (unread script of_script, unread_endless trace of_trace, [], (tt, refl, refl))
 
 -- both were checked from where sources stand of which nothing was read
 pub checked_from : {S T : Type 0} (script : S) (of_script : Option (List ℕ)) (trace : T) (of_trace : Option (List ℕ)) (before after : SourceState S)
-    (from to : SourceState T) (r : Result ℕ CheckFault) → before ≡ unread script of_script → from ≡ unread_endless trace of_trace
-    → ChecksScript before after from to r → IsCheckedBy script of_script trace of_trace r
-checked_from {S = S} {T = T} script of_script trace of_trace before after from to r is also checked = (
+    (from to : SourceState T) (told : List ℕ) (r : Result ℕ CheckFault) → before ≡ unread script of_script → from ≡ unread_endless trace of_trace
+    → ChecksScript before after from to told r → IsCheckedBy script of_script trace of_trace r
+checked_from {S = S} {T = T} script of_script trace of_trace before after from to told r is also checked = (
   after,
   to,
-  subst (λ (s : SourceState S). ChecksScript s after (unread_endless trace of_trace) to r) is
-      (subst (λ (s : SourceState T). ChecksScript before after s to r) also checked),
+  told,
+  subst (λ (s : SourceState S). ChecksScript s after (unread_endless trace of_trace) to told r) is
+      (subst (λ (s : SourceState T). ChecksScript before after s to told r) also checked),
 )
 
 -- ---- a drive

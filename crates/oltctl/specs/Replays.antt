@@ -27,8 +27,9 @@ abbrev pub unread_endless : {R : Type 0} → R → Option (List ℕ) → SourceS
 unread_endless reader remaining =
     record { reader = reader; remaining = remaining; left = 18446744073709551615; failed = false }
 
--- a trace that one reader had to give was verified against the script that another had to give
+-- a trace that one reader had to give was verified against the script that another had to give, and this was told of
+-- it
 abbrev pub IsCheckedBy : {S T : Type 0} → S → Option (List ℕ) → T → Option (List ℕ) → Result ℕ CheckFault → Type 0
 IsCheckedBy {S = S} {T = T} script of_script trace of_trace answer =
-    (after : SourceState S) × (to : SourceState T)
-    × ChecksScript (unread script of_script) after (unread_endless trace of_trace) to answer
+    (after : SourceState S) × (to : SourceState T) × (told : List ℕ)
+    × ChecksScript (unread script of_script) after (unread_endless trace of_trace) to told answer

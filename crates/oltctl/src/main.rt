@@ -254,8 +254,8 @@ fn end_run<R: Eprint>(rt: &R, outcome: &Result<(), RunFault>) -> u8
     }
 }
 
-/// Verifies the trace that a reader gives against the script that another gives. What the machine says in the place of
-/// a line that can't be goes to standard output.
+/// Verifies the trace that a reader gives against the script that another gives. The line that can't be goes to
+/// standard output, and what the machine says in its place.
 fn verify_from<R: AllocGlobal + Print, S: Read + Drop, T: Read + Drop>(
     rt: &R,
     script: S,

@@ -96,7 +96,10 @@ fn files_that_are_no_text(rt: HostRuntime) -> Result<(), AllocError> {
     assert_eq!(rt; written.as_slice(), b"s: can't be read\n".as_slice());
     let (answer, written) = told(rt.alloc(), io::repeat(b' ').take(1_048_577))?;
     assert_eq!(rt; answer, Ok(false));
-    assert_eq!(rt; written.as_slice(), b"s: more than 1048576 bytes\n".as_slice());
+    assert_eq!(rt;
+        written.as_slice(),
+        b"s: more than 1048576 bytes\n".as_slice()
+    );
     Ok(())
 }
 
@@ -115,7 +118,12 @@ fn too_many_tables(rt: HostRuntime) -> Result<(), AllocError> {
     let text = tables(rt.alloc(), "licences = 1\nport = [", 17, "]")?;
     let line = "port: 3 range, 1 to 16 tables";
     assert!(rt; is_told(rt.alloc(), text.as_str(), line, false)?);
-    let text = tables(rt.alloc(), "licences = 1\nport = [{}]\nunit = [", 1_025, "]")?;
+    let text = tables(
+        rt.alloc(),
+        "licences = 1\nport = [{}]\nunit = [",
+        1_025,
+        "]",
+    )?;
     let line = "unit: 3 range, 0 to 1024 tables";
     assert!(rt; is_told(rt.alloc(), text.as_str(), line, false)?);
     Ok(())
