@@ -6,7 +6,7 @@ use std::io;
 use std::io::{ErrorKind, Read, Write};
 use std::test::Fail;
 
-const ONE_UNIT: &str = r#"
+pub(crate) const ONE_UNIT: &str = r#"
 licences = 1
 [[port]]
 cycles = 1
@@ -36,7 +36,7 @@ port = 0
 frames = 4
 "#;
 
-const ONE_UNIT_TRACE: &str = "\
+pub(crate) const ONE_UNIT_TRACE: &str = "\
 0 0 search = searching
 0 1 frame = ok
 0 2 frame = ok sent ff010000000000000000000058

@@ -1,6 +1,7 @@
 //! Traces that are told otherwise while they are written.
 ghost use Rattle.std.specs.Prelude.{◌≡◌};
 
+use crate::replay::{ONE_UNIT, ONE_UNIT_TRACE};
 use gp_explain::{Form, Telling};
 use gp_ploam::Mask;
 use gp_replay::run_replay;
@@ -94,6 +95,68 @@ fn rows() -> [Row; 7] {
     ]
 }
 
+/// The same as JSON.
+fn objects() -> [Row; 9] {
+    [
+        (
+            "0 6 burst 100000 ff01414243440000000100002c = found 0\n",
+            Form::Json,
+            false,
+            "{\"port\":0,\"number\":6,\"event\":\"burst\",\"at\":100000,\"code\":\"ff01414243440000000100002c\",\
+             \"message\":\"Serial_Number_ONU 255 ABCD00000001 0 0\",\"reply\":\"found\",\"onu\":0}\n",
+        ),
+        (
+            "0 7 frame = ok sent ff03004142434400000001001b\n",
+            Form::Json,
+            true,
+            "{\"frames\":1,\"port\":0,\"number\":7,\"event\":\"frame\",\"reply\":\"ok\",\
+             \"sent\":\"ff03004142434400000001001b\",\"sent_message\":\"Assign_ONU-ID 0 ABCD00000001\"}\n",
+        ),
+        (
+            "0 5 frame = ok grant range 0\n",
+            Form::Json,
+            false,
+            "{\"port\":0,\"number\":5,\"event\":\"frame\",\"reply\":\"ok\",\"grant\":\"range\",\"grant_onu\":0}\n",
+        ),
+        (
+            "2 9 frame = ok grant search alarm LOS ABCD00000001\n",
+            Form::Json,
+            false,
+            "{\"port\":2,\"number\":9,\"event\":\"frame\",\"reply\":\"ok\",\"grant\":\"search\",\
+             \"alarm\":\"LOS\",\"alarm_serial\":\"ABCD00000001\"}\n",
+        ),
+        (
+            "3 1 burst 5 ff01414243440000000100002d = refused 2 garbled\n",
+            Form::Json,
+            false,
+            "{\"port\":3,\"number\":1,\"event\":\"burst\",\"at\":5,\"code\":\"ff01414243440000000100002d\",\
+             \"message\":null,\"reply\":\"refused\",\"refusal\":2,\"reason\":\"garbled\"}\n",
+        ),
+        (
+            "0 23 dealloc ABCD00000001 256 = releasing 256\n",
+            Form::Json,
+            false,
+            "{\"port\":0,\"number\":23,\"event\":\"dealloc\",\"serial\":\"ABCD00000001\",\"alloc\":256,\
+             \"reply\":\"releasing\",\"reply_alloc\":256}\n",
+        ),
+        (
+            "0 11 burst 100000 0001414243440000000100006b = ranged 0 211040\n",
+            Form::Json,
+            false,
+            "{\"port\":0,\"number\":11,\"event\":\"burst\",\"at\":100000,\"code\":\"0001414243440000000100006b\",\
+             \"message\":\"Serial_Number_ONU 0 ABCD00000001 0 0\",\"reply\":\"ranged\",\"onu\":0,\"eqd\":211040}\n",
+        ),
+        ("error 3 word\n", Form::Json, true, "{\"error\":\"word\",\"line\":3}\n"),
+        // what no trace spells so
+        (
+            "0 07 frame = ok\nsay \"a\\b\"\t\n",
+            Form::Json,
+            false,
+            "{\"line\":\"0 07 frame = ok\"}\n{\"line\":\"say \\\"a\\\\b\\\"\\u0009\"}\n",
+        ),
+    ]
+}
+
 /// Whatever pieces the octets come in.
 #[test]
 fn traces(rt: HostRuntime) -> Result<(), AllocError> {
@@ -104,6 +167,17 @@ fn traces(rt: HostRuntime) -> Result<(), AllocError> {
             assert_eq!(rt; ended, Ok(()), "{trace}");
             assert!(rt; written.as_slice() == wanted.as_bytes(), "{trace}");
         }
+    }
+    Ok(())
+}
+
+#[test]
+fn json(rt: HostRuntime) -> Result<(), AllocError> {
+    for (trace, form, timed, wanted) in objects() {
+        let telling = Telling::new(rt.alloc(), Mask::Plain, form, timed);
+        let (ended, written) = told(rt.alloc(), telling, trace.as_bytes(), 100_000)?;
+        assert_eq!(rt; ended, Ok(()), "{trace}");
+        assert!(rt; written.as_slice() == wanted.as_bytes(), "{trace}");
     }
     Ok(())
 }
@@ -129,5 +203,83 @@ fn long_lines(rt: HostRuntime) -> Result<(), AllocError> {
         let wanted: &[u8] = if is_told { text.as_slice() } else { b"" };
         assert!(rt; written.as_slice() == wanted, "{spaces}");
     }
+    Ok(())
+}
+
+/// Takes so many octets, and then fails.
+#[derive(Drop)]
+struct ShortWriter {
+    taken: Vec<u8>,
+    room: usize,
+}
+
+impl Write for ShortWriter {
+    fn write(&mut self, buffer: &[u8]) -> io::Result<usize> {
+        match buffer.first() {
+            Some(first) if self.taken.len() < self.room => {
+                self.taken.push(*first)?;
+                Ok(1)
+            }
+            _ => Err(io::Error::from(ErrorKind::Other)),
+        }
+    }
+
+    fn flush(&mut self) -> io::Result<()> {
+        Ok(())
+    }
+}
+
+/// A writer below that fails has a prefix of what is told, and the fault stays.
+#[test]
+fn a_write_below_fails(rt: HostRuntime) -> Result<(), AllocError> {
+    let trace = b"0 7 frame = ok sent ff03004142434400000001001b\n0 8 frame = ok\n";
+    let words = b"0 7 frame = ok sent [Assign_ONU-ID 0 ABCD00000001]\n0 8 frame = ok\n";
+    for room in 0..words.len() + 2 {
+        let telling = Telling::new(rt.alloc(), Mask::Plain, Form::Words, false);
+        let writer = ShortWriter {
+            taken: Vec::new(rt.alloc()),
+            room,
+        };
+        let (ended, writer) = told_by::<Brand, ShortWriter>(rt.alloc(), telling, trace, 9, writer)?;
+        let fails = room < words.len();
+        assert!(rt; ended.is_err() == fails, "{room}");
+        assert!(rt; words.starts_with(writer.taken.as_slice()), "{room}");
+        assert!(rt; writer.taken.len() == room.min(words.len()), "{room}");
+    }
+    Ok(())
+}
+
+/// How a replay ended whose trace is told, how the telling did, and what the writer below got.
+fn replayed<B: Began, W: Write + Drop>(
+    alloc: Global,
+    telling: Telling,
+    script: &[u8],
+    writer: W,
+) -> Result<(bool, Told<W>), AllocError>
+    requires manner { telling ≡ B.manner }
+    requires held { W.contents writer ≡ B.held }
+{
+    let teller = Teller::<B, W>::new(alloc, telling, writer)?;
+    let mut sink = Sink::new(alloc, teller)?;
+    let outcome = run_replay(alloc, &mut Source::new(script), &mut sink);
+    let mut teller = sink.into_inner();
+    let ended = teller.finish();
+    Ok((outcome.is_ok(), (ended, teller.into_inner())))
+}
+
+/// A replay that is told has the words of its trace.
+#[test]
+fn a_replay_in_words(rt: HostRuntime) -> Result<(), AllocError> {
+    let script = ONE_UNIT.as_bytes();
+    let trace = ONE_UNIT_TRACE.as_bytes();
+    let telling = Telling::new(rt.alloc(), Mask::Plain, Form::Words, true);
+    let writer = Vec::new(rt.alloc());
+    let (is_played, (ended, told_replay)) =
+        replayed::<Brand, Vec<u8>>(rt.alloc(), telling, script, writer)?;
+    let telling = Telling::new(rt.alloc(), Mask::Plain, Form::Words, true);
+    let (_, told_trace) = told(rt.alloc(), telling, trace, 1_000)?;
+    assert!(rt; is_played && ended.is_ok());
+    assert!(rt; told_replay.as_slice() == told_trace.as_slice());
+    assert!(rt; !told_replay.is_empty());
     Ok(())
 }

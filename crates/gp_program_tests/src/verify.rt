@@ -109,14 +109,14 @@ fn lines_behind_a_search(rt: HostRuntime) {
 /// What comes behind a ranged unit, and what is written of the whole.
 const TOLD: [(&'static str, &'static str); 9] = [
     ("", ""),
-    ("0 16 frame = ok\n", ""),
-    ("0 16 frame = ok", ""),
+    ("0 16 frame = ok grant poll 0\n", ""),
+    ("0 16 frame = ok grant poll 0", ""),
     ("found 7\n", "line 17: found 7\n"),
     ("\n", "line 17: \n"),
     ("1 0 frame = ok\n", "line 17: 1 0 frame = ok\n"),
     (
         "0 17 frame = ok\n",
-        "line 17: 0 17 frame = ok\nmachine: 0 16 frame = ok\n",
+        "line 17: 0 17 frame = ok\nmachine: 0 16 frame = ok grant poll 0\n",
     ),
     (
         "0 16 search = found 0\n0 17 frame = ok\n",
