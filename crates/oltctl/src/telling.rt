@@ -118,7 +118,7 @@ pub fn replay_bytes<R: AllocGlobal + Print + Eprint + Clock>(
 }
 
 /// Plays the script that a reader gives, and answers the lines that another gives, by trace lines that are told so.
-pub fn drive_told<R: AllocGlobal + Print, S: Read, T: Read>(
+pub fn drive_told<R: AllocGlobal + Print, S: Read + Drop, T: Read + Drop>(
     rt: &R,
     script: S,
     turns: T,
