@@ -69,7 +69,7 @@ fn format<'a>(alloc: Global) -> Arg<'a>
 fn with_form<'a>(alloc: Global, command: Command<'a>) -> Result<Command<'a>, AllocError>
     requires { (fields_of command).has_globals ≡ false }
     ensures app { IfOk result
-        (λ c. (names : FormatNames) × AreFormats names × (app_of c ≡ spec_form (app_of command) names)) }
+        (λ c. (names : FormatNames) × AreFormats names × (app_of c ≡ spec_form (app_of command.entry) names)) }
     ensures local { IfOk result (λ c. (fields_of c).has_globals ≡ false) }
 {
     command
@@ -85,7 +85,7 @@ fn with_form<'a>(alloc: Global, command: Command<'a>) -> Result<Command<'a>, All
 fn with_words<'a>(alloc: Global, command: Command<'a>) -> Result<Command<'a>, AllocError>
     requires { (fields_of command).has_globals ≡ false }
     ensures app { IfOk result
-        (λ c. (names : FormatNames) × AreFormats names × (app_of c ≡ spec_words (app_of command) names)) }
+        (λ c. (names : FormatNames) × AreFormats names × (app_of c ≡ spec_words (app_of command.entry) names)) }
     ensures local { IfOk result (λ c. (fields_of c).has_globals ≡ false) }
 {
     let words = flag(alloc, "words", "Writes codes in words, as explain does");

@@ -269,19 +269,6 @@ fn verify_from<R: AllocGlobal + Print, S: Read + Drop, T: Read + Drop>(
     verify_script(rt.alloc(), &mut script, &mut trace, &mut sink)
 }
 
-/// Has the lines of a reader counted, and told once a second, where that is wanted.
-fn counted<'r, R: Eprint + Clock, T: Read>(
-    rt: &'r R,
-    reader: T,
-    progress: bool,
-) -> Counted<'r, R, T> {
-    if progress {
-        Counted::new(rt, reader, None)
-    } else {
-        Counted::silent(reader)
-    }
-}
-
 /// Verifies the trace of a file, or of standard input, against the script of a file.
 fn verify<R: AllocGlobal + Files + Print + Eprint + Input + Clock>(
     rt: &R,
@@ -293,9 +280,9 @@ fn verify<R: AllocGlobal + Files + Print + Eprint + Input + Clock>(
         return Err(CheckFault::Script(RunFault::Read));
     };
     match trace {
-        None => verify_from(rt, script, counted(rt, rt.reader(), progress)),
+        None => verify_from(rt, script, Counted::new(rt, rt.reader(), progress, None)),
         Some(path) => match std::fs::open(rt, path) {
-            Ok(trace) => verify_from(rt, script, counted(rt, trace, progress)),
+            Ok(trace) => verify_from(rt, script, Counted::new(rt, trace, progress, None)),
             Err(_) => Err(CheckFault::Trace(VerifyFault::Lines(LinesFault::Read))),
         },
     }

@@ -9,7 +9,7 @@ use std::time::Instant;
 /// How often it is told, in seconds.
 const PERIOD: u64 = 1;
 
-/// Counts lines, and tells their number once a second.
+/// Counts lines, and tells their number once a second, unless it is silent: then it was told at no time.
 #[derive(Drop)]
 struct Ticker<'r, R> {
     rt: &'r R,
@@ -19,8 +19,12 @@ struct Ticker<'r, R> {
 }
 
 impl<R: Eprint + Clock> Ticker<'_, R> {
-    /// Counts the line feeds of octets that went by, and tells how many lines there were, if it is time.
+    /// Counts the line feeds of octets that went by, and tells how many lines there were, if it is time. Where nothing is
+    /// to be told, nothing is counted.
     fn note(&mut self, octets: &[u8]) {
+        if self.told.is_none() {
+            return;
+        }
         let count = octets.iter().filter(|octet| **octet == b'\n').count();
         self.lines = self.lines.saturating_add(count as u64);
         if self.is_due() {
@@ -55,42 +59,28 @@ impl<R: Eprint + Clock> Ticker<'_, R> {
 #[derive(Drop)]
 pub struct Counted<'r, R, T> {
     inner: T,
-    ticker: Option<Ticker<'r, R>>,
+    ticker: Ticker<'r, R>,
 }
 
 impl<'r, R: Eprint + Clock, T> Counted<'r, R, T> {
-    /// Counts the lines that go through this reader or writer, of which so many are expected, where that is known.
-    pub fn new(rt: &'r R, inner: T, expected: Option<u64>) -> Counted<'r, R, T>
+    /// Counts the lines that go through this reader or writer where that is wanted; so many are expected, where that is
+    /// known.
+    pub fn new(rt: &'r R, inner: T, is_wanted: bool, expected: Option<u64>) -> Counted<'r, R, T>
         ensures { result.inner ≡ inner }
     {
-        let ticker = Ticker {
-            rt,
-            lines: 0,
-            expected,
-            told: Instant::now(rt).ok(),
+        let told = if is_wanted {
+            Instant::now(rt).ok()
+        } else {
+            None
         };
         Counted {
             inner,
-            ticker: Some(ticker),
-        }
-    }
-
-    /// Lets the lines go through uncounted.
-    pub fn silent(inner: T) -> Counted<'r, R, T>
-        ensures { result.inner ≡ inner }
-    {
-        Counted {
-            inner,
-            ticker: None,
-        }
-    }
-
-    /// Counts octets that went by, where they are counted.
-    fn note(&mut self, octets: &[u8])
-        ensures { self.new.inner ≡ self.old.inner }
-    {
-        if let Some(ticker) = &mut self.ticker {
-            ticker.note(octets);
+            ticker: Ticker {
+                rt,
+                lines: 0,
+                expected,
+                told,
+            },
         }
     }
 }
@@ -100,7 +90,7 @@ impl<R: Eprint + Clock, W: Write> Write for Counted<'_, R, W> {
 
     fn write(&mut self, bytes: &[u8]) -> io::Result<usize> {
         let count = self.inner.write(bytes)?;
-        self.note(&bytes[..count]);
+        self.ticker.note(&bytes[..count]);
         Ok(count)
     }
 
@@ -114,7 +104,7 @@ impl<R: Eprint + Clock, T: Read> Read for Counted<'_, R, T> {
 
     fn read(&mut self, buffer: &mut [u8]) -> io::Result<usize> {
         let count = self.inner.read(buffer)?;
-        self.note(&buffer[..count]);
+        self.ticker.note(&buffer[..count]);
         Ok(count)
     }
 }

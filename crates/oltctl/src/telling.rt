@@ -59,12 +59,12 @@ fn output<'r, R: AllocGlobal + Print + Eprint + Clock>(
     bytes: &[u8],
     progress: bool,
 ) -> Counted<'r, R, io::Printer<'r, R>> {
-    let writer = io::writer(rt);
-    if progress {
-        Counted::new(rt, writer, expected_lines(rt.alloc(), bytes))
+    let expected = if progress {
+        expected_lines(rt.alloc(), bytes)
     } else {
-        Counted::silent(writer)
-    }
+        None
+    };
+    Counted::new(rt, io::writer(rt), progress, expected)
 }
 
 /// How a replay ended, where what was told of it may have had a fault.
