@@ -1,4 +1,5 @@
 -- What an answer of the chassis behind a handle says to the one who asked.
+-- Inside: no public contract cites this.
 use Rattle.std.specs.Prelude.{ℕ, Result, Ok, Err}
 use Rattle.gp_c.specs.declared.answer.AnswerNumbers.{AnswerNumbers}
 use Rattle.gp_c.specs.declared.counts.PortCounts.{PortCounts}

@@ -1,4 +1,5 @@
 -- Which units each grant asks, by their places (this profile's own rule).
+-- Inside: no public contract cites this.
 use Rattle.std.specs.Prelude.{◌≡◌, ℕ, ◌==◌, Bool, false, true, List, ◌<◌, length, slice_index_or, slice_set}
 use Rattle.std.specs.FinSet.{FinSet, contains, empty, insert, remove}
 use Rattle.std.specs.Ordering.{nat_cmp}

@@ -1,4 +1,5 @@
 -- The bursts that are to come, and the flags that tell in which frames they may (this profile's own rule).
+-- Inside: no public contract cites this.
 use Rattle.std.specs.Prelude.{ℕ, ◌+◌, ◌%◌, ◌<◌, ◌≤◌, ◌≡◌, Bool, false, true, List, All, length, slice_index_or}
 use Rattle.gp_fibre.specs.declared.flight.Flight.{Flight}
 use Rattle.gp_fibre.specs.World.{FibreWorld}

@@ -1,5 +1,6 @@
 -- What the units of a world stand for (this profile's own rule): a unit is brought up to date only where something
 -- other than a frame happens to it, and in the frame that ends its state.
+-- Inside: no public contract cites this.
 use Rattle.std.specs.Prelude.{◌≡◌, ℕ, ◌+◌, ◌-◌, ◌≤◌, ◌<◌, ◌==◌, if◌then◌else◌, Bool, true, false, List, Option, None, Some, All, length, map, slice_get}
 use Rattle.std.specs.Option.{ForSome, option_map}
 use Rattle.std.specs.FinMap.{get, insert, remove}

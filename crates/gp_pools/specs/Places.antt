@@ -1,4 +1,5 @@
 -- One place for a further Alloc-ID of a unit (this profile's own rule).
+-- Inside: no public contract cites this.
 use Rattle.std.proofs.Common.{◌≡◌, ℕ, Bool, true, false, Option, None, Some, refl}
 use Rattle.gp_pools.specs.declared.place.Content.{Content}
 use Rattle.gp_pools.specs.declared.place.Content.TheVariants.{Nothing, Held, Leaving}

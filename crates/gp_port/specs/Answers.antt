@@ -1,4 +1,5 @@
 -- The answers that what a frame or a burst gives stands for (this profile's own rule).
+-- Inside: no public contract cites this.
 use Rattle.std.specs.Prelude.{ℕ, None}
 use Rattle.gp_port.specs.declared.answers.FrameAnswer.{FrameAnswer}
 use Rattle.gp_port.specs.declared.answers.BurstAnswer.{BurstAnswer}

@@ -1,4 +1,5 @@
 -- What the admission list has of the port tables that were read (this profile's own rule).
+-- Inside: no public contract cites this.
 use Rattle.std.specs.Prelude.{◌≡◌, ℕ, ◌<◌, ◌||◌, List, Option, Some, None, is_some, length}
 use Rattle.std.specs.FinMap.{get}
 use Rattle.gp_ploam.specs.declared.message.Serial.{Serial}

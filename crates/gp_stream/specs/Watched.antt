@@ -1,4 +1,5 @@
 -- The state of a watched writer (this profile's own rule).
+-- Inside: no public contract cites this.
 use Rattle.std.specs.Prelude.{ℕ, Bool, true, false, List, [], ◌∷◌, Result, Ok, Err, ◌==◌}
 use Rattle.gp_stream.specs.declared.watched.Watched.{Watched}
 

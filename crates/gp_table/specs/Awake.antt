@@ -1,4 +1,5 @@
 -- A unit that was made of its record again, in either phase.
+-- Inside: no public contract cites this.
 use Rattle.std.specs.Prelude.{◌≡◌}
 use Rattle.gp_unit.specs.declared.record.Awake.{Awake}
 use Rattle.gp_unit.specs.declared.record.Awake.TheVariants.{Ranging, Operating}

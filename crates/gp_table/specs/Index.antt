@@ -1,4 +1,5 @@
 -- An index over the admitted serial numbers, kept in their order (this profile's own rule).
+-- Inside: no public contract cites this.
 use Rattle.std.specs.Prelude.{◌≡◌, ℕ, ◌^◌, ◌<◌, ◌≤◌, Bool, false, List, length, map, Option, None, Some, is_some, slice_index_or, if◌then◌else◌}
 use Rattle.std.specs.Int.{to_be_bytes, w64}
 use Rattle.std.specs.FinMap.{FinMap, from_entries, get, insert, keys, retain_keys}

@@ -1,5 +1,6 @@
 -- How the unit table is kept: a slab of records, an index by serial number, one by ONU-ID, and the sets of the
 -- ranging and the operating ONU-IDs (this profile's own rule). No public clause cites this module.
+-- Inside: no public contract cites this.
 use Rattle.std.specs.Prelude.{◌≡◌, ℕ, ◌≤◌, Bool, true, false, IsTrue, List, length, Option, None, Some, is_some, count_by, slice_index_or}
 use Rattle.std.specs.Ordering.{nat_cmp}
 use Rattle.std.specs.FinMap as map

@@ -1,4 +1,5 @@
 -- What a unit table stands for: the admitted serial numbers of a port, its active units, and the disabled ones.
+-- Inside: no public contract cites this.
 use Rattle.std.specs.Prelude.{List, Option, None, Some, if◌then◌else◌}
 use Rattle.std.specs.FinMap as map
 use Rattle.std.specs.FinSet as set

@@ -1,4 +1,5 @@
 -- What is handed on at a line feed (this profile's own rule).
+-- Inside: no public contract cites this.
 use Rattle.std.specs.Prelude.{◌≡◌, ℕ, Bool, true, false, List, [], ◌∷◌, Result, Ok, Err}
 use Rattle.gp_stream.specs.Sink.{SinkState, Takes, TakesPrefix}
 use Rattle.gp_explain.specs.Telling.{Manner, Tells}

@@ -1,5 +1,6 @@
 -- How a set of names is kept (this profile's own rule): a bit for each name, and the span of the words that may have a
 -- 1. No statement of another crate cites it.
+-- Inside: no public contract cites this.
 use Rattle.std.specs.Prelude.{ℕ, ◌+◌, ◌*◌, ◌^◌, ◌≡◌, ◌<◌, ◌≤◌, ◌⊎◌, List, length, slice_index}
 use Rattle.std.specs.Ordering.{nat_cmp}
 use Rattle.std.specs.FinSet.{FinSet}

@@ -1,5 +1,6 @@
 -- How timers are kept (this profile's own rule): near ones in slots, each of one frame, and all others in a tournament.
 -- No statement of another crate cites it.
+-- Inside: no public contract cites this.
 use Rattle.std.specs.Prelude.{ℕ, suc, ◌+◌, ◌%◌, ◌≡◌, ◌≢◌, ◌<◌, ◌≤◌, ◌==◌, Bool, true, false, List, [], ◌∷◌, length, slice_index_or, Option, None, Some}
 use Rattle.std.specs.FinSet as set
 use Rattle.std.specs.FinMap.{empty, insert}

@@ -1,5 +1,6 @@
 -- How the timers are kept (this profile's own rule): a tree in which each node has the earlier of its two children. No
 -- statement of another crate cites it.
+-- Inside: no public contract cites this.
 use Rattle.std.specs.Prelude.{ℕ, ◌+◌, ◌*◌, ◌^◌, ◌≡◌, ◌<◌, ◌==◌, ◌||◌, ◌&&◌, nat_lt, Bool, if◌then◌else◌, List, length, Option, None, Some, ◌≢◌}
 use Rattle.std.specs.Option.{ForSome}
 use Rattle.std.specs.List.{slice_index_or}

@@ -1,4 +1,5 @@
 -- What appending a text to a buffer means (this profile's own rule).
+-- Inside: no public contract cites this.
 use Rattle.std.specs.Prelude.{◌≡◌, ◌≤◌, ◌++◌, ℕ, List, length, vec_capacity}
 use Rattle.std.specs.declared.alloc.Global.{Global}
 use Rattle.std.specs.declared.vec.Vec.{Vec}

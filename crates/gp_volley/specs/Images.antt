@@ -1,4 +1,5 @@
 -- A volley kept as plain data (this profile's own rule). No statement of another crate cites it.
+-- Inside: no public contract cites this.
 use Rattle.gp_volley.specs.Volley.{VolleyState}
 use Rattle.gp_volley.specs.declared.owed_image.VolleyImage.{VolleyImage}
 

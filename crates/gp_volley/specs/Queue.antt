@@ -1,5 +1,6 @@
 -- How the copies that are owed are kept: as volleys, of which only the first may have been begun (this profile's own
 -- rule: the copies of a message go out in a row). No statement of another crate cites it.
+-- Inside: no public contract cites this.
 use Rattle.std.specs.Prelude.{◌≡◌, ◌≤◌, List, [], ◌∷◌, ◌++◌, replicate}
 use Rattle.gp_volley.specs.Copies.{copies_each}
 use Rattle.gp_ploam.specs.declared.message.Down.{Down}

@@ -6,7 +6,7 @@ use Rattle.clap.specs.declared.builder.command.Command.TheViews.{out-Command as 
 use Rattle.clap.specs.declared.error.Error.{Error}
 use Rattle.clap.specs.declared.error.kind.ErrorKind.TheVariants as kinds
 use Rattle.clap.specs.declared.parser.matches.ArgMatches.{ArgMatches}
-use Rattle.oltctl.specs.CommandLine.{AllNames, AreAllMasks, IsFaultOf, oltctl_command}
+use Rattle.oltctl.specs.CommandLine.{AllNames, AreAllNames, IsFaultOf, oltctl_command}
 
 -- one command more
 pub added : (old sub new : Command) (before of : App) → AddsSubcommand old sub new → (fields_of sub).has_globals ≡ false → app_of old ≡ before → app_of sub ≡ of
@@ -15,19 +15,19 @@ added old sub new before of adds local was is =
     adds.shape local ∙ ap (λ (a : App). with_subcommand a (shape_of sub)) was ∙ ap (λ (a : App). with_subcommand before a.top) is
 
 -- the last one, and with it all of them, with the names of their masks
-pub named : {E : Type 0} (r : Result Command E) (names : AllNames) (old sub : Command) (before of : App) → AreAllMasks names → IfOk r (λ new. AddsSubcommand old sub new)
+pub named : {E : Type 0} (r : Result Command E) (names : AllNames) (old sub : Command) (before of : App) → AreAllNames names → IfOk r (λ new. AddsSubcommand old sub new)
     → (fields_of sub).has_globals ≡ false → app_of old ≡ before → app_of sub ≡ of → with_subcommand before of.top ≡ oltctl_command names
-    → IfOk r (λ c. (n : AllNames) × AreAllMasks n × (app_of c ≡ oltctl_command n))
+    → IfOk r (λ c. (n : AllNames) × AreAllNames n × (app_of c ≡ oltctl_command n))
 named (Ok c) names old sub before of masks adds local was is all = (names, masks, added old sub c before of adds local was is ∙ all)
 named (Err e) names old sub before of masks adds local was is all = tt
 
 -- what is wrong with the words
-pub failed_by : (names : AllNames) → AreAllMasks names → (app : App) → app ≡ oltctl_command names → (words : List Text) (r : Result ArgMatches Error)
+pub failed_by : (names : AllNames) → AreAllNames names → (app : App) → app ≡ oltctl_command names → (words : List Text) (r : Result ArgMatches Error)
     → is_simple_and_free (oltctl_command names) ≡ true → (is_simple_and_free app ≡ true → FailsBy (fault_of app words) r)
     → IfErr r (λ e. kind_of e ≢ kinds.OutOfMemory → IsFaultOf words (kind_of e))
 failed_by names masks app same words (Ok m) plain fails = tt
 failed_by names masks app same words (Err e) plain fails = λ other.
     elim (fails (ap is_simple_and_free same ∙ plain)) [
       | inl memory ↦ absurd (other memory)
-      | inr among ↦ record { names = names; masks = masks; among = subst (λ (a : App). IsAmong (kind_of e) (fault_of a words)) same among }
+      | inr among ↦ record { names = names; are = masks; among = subst (λ (a : App). IsAmong (kind_of e) (fault_of a words)) same among }
     ]

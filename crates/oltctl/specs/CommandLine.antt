@@ -1,7 +1,8 @@
--- The command line: `oltctl replay [FILE]`, `oltctl drive FILE`, `oltctl storm [FILE]`, `oltctl verify FILE [TRACE]`, `oltctl explain
--- [--mask 0|85] [TRACE]`, `oltctl decode [--up] [--mask 0|85] [HEX..]` and `oltctl encode [--up] [--mask 0|85] WORDS..`
--- (this profile's own rule).
-use Rattle.std.specs.Prelude.{◌≡◌, List, [], ◌∷◌, Option, None, Some, map, true, codes, if◌then◌else◌}
+-- The command line (this profile's own rule): `oltctl replay [--explain] [--progress] [FORM] [FILE]`,
+-- `oltctl drive [FORM] FILE`, `oltctl storm [--progress] [FILE]`, `oltctl check FILE..`, `oltctl verify [--progress] FILE [TRACE]`,
+-- `oltctl explain [--mask 0|85] [FORM] [TRACE]`, `oltctl decode [--up] [--mask 0|85] [HEX..]` and `oltctl encode [--up]
+-- [--mask 0|85] WORDS..`, where FORM is `[--words] [--time] [--format text|json]`, of `explain` without `--words`.
+use Rattle.std.specs.Prelude.{◌≡◌, List, [], ◌∷◌, Option, None, Some, map, Bool, true, codes, if◌then◌else◌}
 use Rattle.std.specs.Borrow.{Bor}
 use Rattle.std.specs.Str.{bytes_eq}
 use Rattle.clap.specs.Simple.{on_top}
@@ -11,7 +12,9 @@ use Rattle.clap.specs.declared.builder.value_parser.ValueParser.TheVariants.{Nam
 use Rattle.clap.specs.declared.error.kind.ErrorKind.{ErrorKind}
 use Rattle.clap.specs.declared.parser.matches.ArgMatches.{ArgMatches}
 use Rattle.gp_ploam.specs.declared.check.Mask.{Mask}
-use Rattle.gp_ploam.specs.declared.check.Mask.TheVariants.{Plain, Coset}
+use Rattle.gp_ploam.specs.declared.check.Mask.TheVariants as masks
+use Rattle.gp_explain.specs.declared.form.Form.{Form}
+use Rattle.gp_explain.specs.declared.form.Form.TheVariants.{Plain, Words, Json}
 
 -- the names of the masks that a code may be read with, as clap holds them
 abbrev pub MaskNames : Type 0
@@ -21,13 +24,35 @@ MaskNames = Bor (List (Bor Text))
 abbrev pub AreMasks : MaskNames → Type 0
 AreMasks names = map (λ name. name.now) names.now ≡ codes "0" ∷ codes "85" ∷ []
 
+-- the names of the formats in which a trace may be written, as clap holds them
+abbrev pub FormatNames : Type 0
+FormatNames = Bor (List (Bor Text))
+
+-- they are these two
+abbrev pub AreFormats : FormatNames → Type 0
+AreFormats names = map (λ name. name.now) names.now ≡ codes "text" ∷ codes "json" ∷ []
+
+-- a flag of this name
+abbrev pub flag_rule : Text → Rule
+flag_rule name = record (new_rule name) { long = Some name; action = Some SetTrue }
+
+-- `--format`, text where it is left out
+abbrev pub format_rule : FormatNames → Rule
+format_rule names =
+    record (new_rule (codes "format"))
+    { long = Some (codes "format"); value_names = 1; parser = Some (Names names); defaults = codes "text" ∷ [] }
+
+-- FILE, one at least
+abbrev pub files_rule : Rule
+files_rule = record (new_rule (codes "files")) { value_names = 1; required = true; action = Some Append }
+
 -- FILE, which may be left out
 abbrev pub file_rule : Rule
 file_rule = record (new_rule (codes "file")) { value_names = 1 }
 
 -- `--up`
 abbrev pub up_rule : Rule
-up_rule = record (new_rule (codes "up")) { long = Some (codes "up"); action = Some SetTrue }
+up_rule = flag_rule (codes "up")
 
 -- `--mask`, 0 where it is left out
 abbrev pub mask_rule : MaskNames → Rule
@@ -51,17 +76,33 @@ script_rule = record (new_rule (codes "script")) { value_names = 1; required = t
 abbrev pub trace_rule : Rule
 trace_rule = record (new_rule (codes "trace")) { value_names = 1 }
 
-abbrev pub replay_command : App
-replay_command = with_rule (new_app (codes "replay")) file_rule
+-- a command with `--time` and `--format`
+abbrev pub with_form : App → FormatNames → App
+with_form app names = with_rule (with_rule app (flag_rule (codes "time"))) (format_rule names)
 
-abbrev pub drive_command : App
-drive_command = with_rule (new_app (codes "drive")) script_rule
+-- a command with `--words` too
+abbrev pub with_words : App → FormatNames → App
+with_words app names = with_form (with_rule app (flag_rule (codes "words"))) names
+
+-- `replay` up to the form of its trace
+abbrev pub replay_flags : App
+replay_flags = with_rule (with_rule (new_app (codes "replay")) (flag_rule (codes "explain"))) (flag_rule (codes "progress"))
+
+abbrev pub replay_command : FormatNames → App
+replay_command names = with_rule (with_words replay_flags names) file_rule
+
+abbrev pub drive_command : FormatNames → App
+drive_command names = with_rule (with_words (new_app (codes "drive")) names) script_rule
+
+abbrev pub check_command : App
+check_command = with_rule (new_app (codes "check")) files_rule
 
 abbrev pub storm_command : App
-storm_command = with_rule (new_app (codes "storm")) file_rule
+storm_command = with_rule (with_rule (new_app (codes "storm")) (flag_rule (codes "progress"))) file_rule
 
 abbrev pub verify_command : App
-verify_command = with_rule (with_rule (new_app (codes "verify")) script_rule) trace_rule
+verify_command =
+    with_rule (with_rule (with_rule (new_app (codes "verify")) (flag_rule (codes "progress"))) script_rule) trace_rule
 
 abbrev pub decode_command : MaskNames → App
 decode_command names = with_rule (with_rule (with_rule (new_app (codes "decode")) up_rule) (mask_rule names)) code_rule
@@ -70,55 +111,81 @@ abbrev pub encode_command : MaskNames → App
 encode_command names =
     with_rule (with_rule (with_rule (new_app (codes "encode")) up_rule) (mask_rule names)) words_rule
 
-abbrev pub explain_command : MaskNames → App
-explain_command names = with_rule (with_rule (new_app (codes "explain")) (mask_rule names)) trace_rule
+abbrev pub explain_command : MaskNames → FormatNames → App
+explain_command masks formats =
+    with_rule (with_form (with_rule (new_app (codes "explain")) (mask_rule masks)) formats) trace_rule
 
--- the names of the masks of each command that takes one
+-- the names of the formats and of the masks of each command that takes one
 pub record AllNames : Type 0 where
+  pub replay : FormatNames
+  pub drive : FormatNames
+  pub explain_format : FormatNames
   pub explain : MaskNames
   pub decode : MaskNames
   pub encode : MaskNames
 
-abbrev pub AreAllMasks : AllNames → Type 0
-AreAllMasks names = AreMasks names.explain × AreMasks names.decode × AreMasks names.encode
+pub record AreAllNames (names : AllNames) : Type 0 where
+  pub replay : AreFormats names.replay
+  pub drive : AreFormats names.drive
+  pub explain_format : AreFormats names.explain_format
+  pub explain : AreMasks names.explain
+  pub decode : AreMasks names.decode
+  pub encode : AreMasks names.encode
 
--- the program as far as it is about scripts: one of its commands has to be named; with no words at all the help is
--- shown
-abbrev pub script_commands : App
-script_commands =
+-- the program as far as it is about scripts: one of its commands has to be named, or `--version`; with no words at all
+-- the help is shown
+abbrev pub script_commands : FormatNames → App
+script_commands names =
     with_subcommand
-    (with_subcommand (on_top (λ s. record s { subcommand_required = true; arg_required_else_help = true })
-    (new_app (codes "oltctl"))) replay_command.top) storm_command.top
+    (with_subcommand (on_top (λ s. record s {
+      has_version = true;
+      subcommand_required = true;
+      arg_required_else_help = true;
+    })
+    (new_app (codes "oltctl"))) (replay_command names).top) storm_command.top
 
 -- the program as far as it is about scripts and lines that ask for something
-abbrev pub line_commands : App
-line_commands = with_subcommand script_commands drive_command.top
+abbrev pub line_commands : FormatNames → FormatNames → App
+line_commands replay drive = with_subcommand (script_commands replay) (drive_command drive).top
 
 -- the program as far as it is about scripts, lines and traces
-abbrev pub trace_commands : App
-trace_commands = with_subcommand line_commands verify_command.top
+abbrev pub trace_commands : FormatNames → FormatNames → App
+trace_commands replay drive =
+    with_subcommand (with_subcommand (line_commands replay drive) check_command.top) verify_command.top
 
 -- the whole program
 abbrev pub oltctl_command : AllNames → App
 oltctl_command names =
     with_subcommand
-    (with_subcommand (with_subcommand trace_commands (explain_command names.explain).top)
+    (with_subcommand
+    (with_subcommand (trace_commands names.replay names.drive) (explain_command names.explain names.explain_format).top)
     (decode_command names.decode).top) (encode_command names.encode).top
 
 -- the words have no fault, and what was parsed is the subcommand that they name, with the values that they give it
 pub record IsParseOf (words : List Text) (m : ArgMatches) : Type 0 where
   pub names : AllNames
-  pub masks : AreAllMasks names
+  pub are : AreAllNames names
   pub faultless : fault_of (oltctl_command names) words ≡ []
   pub found : subcommand_rows_of m ≡ subcommand_of (oltctl_command names) words
 
 -- this is what is wrong with the words, or that help was asked for
 pub record IsFaultOf (words : List Text) (kind : ErrorKind) : Type 0 where
   pub names : AllNames
-  pub masks : AreAllMasks names
+  pub are : AreAllNames names
   pub among : IsAmong kind (fault_of (oltctl_command names) words)
 
 -- the mask that a name stands for: 85 is the other mask, and everything else the plain one, as where there is none
 abbrev pub mask_named : Option Text → Mask
-mask_named None = Plain
-mask_named (Some name) = if bytes_eq name (codes "85") then Coset else Plain
+mask_named None = masks.Plain
+mask_named (Some name) = if bytes_eq name (codes "85") then masks.Coset else masks.Plain
+
+-- the form of a trace that is written in words or is not, by the name of its format
+abbrev pub form_named : Bool → Option Text → Form
+form_named words None = if words then Words else Plain
+form_named words (Some name) =
+    if bytes_eq name (codes "json") then Json else if words then Words else Plain
+
+-- the file that a name stands for: `-` stands for standard input, as no name does
+abbrev pub file_named : Option Text → Option Text
+file_named None = None
+file_named (Some name) = if bytes_eq name (codes "-") then None else Some name

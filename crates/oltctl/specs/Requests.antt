@@ -2,9 +2,11 @@
 use Rattle.std.specs.Prelude.{◌≡◌, ◌≢◌, List, [], ◌∷◌, Bool, true, false, Option, None, Some, map, option_map, codes}
 use Rattle.std.specs.Borrow.{Bor}
 use Rattle.clap.specs.Words.{Row, Text, all_of, first_of, one_of}
-use Rattle.oltctl.specs.CommandLine.{mask_named}
+use Rattle.oltctl.specs.CommandLine.{file_named, form_named, mask_named}
 use Rattle.oltctl.specs.declared.request.Request.{Request}
-use Rattle.oltctl.specs.declared.request.Request.TheVariants.{Replay, Drive, Storm, Verify, Decode, DecodeLines, Encode, Explain}
+use Rattle.oltctl.specs.declared.request.Request.TheVariants.{Replay, Drive, Storm, Check, Verify, Decode, DecodeLines, Encode, Explain}
+use Rattle.oltctl.specs.declared.request.Play.{Play}
+use Rattle.oltctl.specs.declared.request.Told.{Told}
 
 -- a flag is given or not, as its text says, and is not where it has none
 pub record IsFlag (rows : List Row) (id : Text) (is_given : Bool) : Type 0 where
@@ -16,26 +18,52 @@ pub record IsFlag (rows : List Row) (id : Text) (is_given : Bool) : Type 0 where
 abbrev pub texts : Bor (List (Bor Text)) → List Text
 texts words = map (λ word. word.now) words.now
 
+-- the name of a file, as clap holds it
+abbrev pub name_in : Option (Bor Text) → Option Text
+name_in file = option_map (λ name. name.now) file
+
+-- the rows ask for a trace in this form: in words, with each port's time, as JSON
+pub record AsksForForm (rows : List Row) (words : Bool) (told : Told) : Type 0 where
+  pub form : told.form ≡ form_named words (first_of (codes "format") rows)
+  pub time : IsFlag rows (codes "time") told.timed
+
+-- in words where `--words` stands
+pub record AsksForTrace (rows : List Row) (told : Told) : Type 0 where
+  pub words : Bool
+  pub in_words : IsFlag rows (codes "words") words
+  pub form : AsksForForm rows words told
+
 -- the rows of `replay` ask to play FILE, or standard input where it is left out
+pub record AsksForPlay (rows : List Row) (play : Play) : Type 0 where
+  pub trace : AsksForTrace rows play.told
+  pub explain : IsFlag rows (codes "explain") play.explain
+  pub progress : IsFlag rows (codes "progress") play.progress
+
 abbrev pub AsksToReplay : List Row → Request → Type 0
-AsksToReplay rows (Replay file) = option_map (λ name. name.now) file ≡ first_of (codes "file") rows
+AsksToReplay rows (Replay file play) = (name_in file ≡ file_named (first_of (codes "file") rows)) × AsksForPlay rows play
 AsksToReplay rows _ = ⊥
 
 -- the rows of `drive` ask to drive the script of FILE
 abbrev pub AsksToDrive : List Row → Request → Type 0
-AsksToDrive rows (Drive script) = first_of (codes "script") rows ≡ Some script.now
+AsksToDrive rows (Drive script told) = (first_of (codes "script") rows ≡ Some script.now) × AsksForTrace rows told
 AsksToDrive rows _ = ⊥
+
+-- the rows of `check` ask whether each FILE is a script
+abbrev pub AsksToCheck : List Row → Request → Type 0
+AsksToCheck rows (Check files) = all_of (codes "files") rows ≡ Some (texts files)
+AsksToCheck rows _ = ⊥
 
 -- the rows of `storm` ask for the storm of FILE, or of standard input where it is left out
 abbrev pub AsksToStorm : List Row → Request → Type 0
-AsksToStorm rows (Storm file) = option_map (λ name. name.now) file ≡ first_of (codes "file") rows
+AsksToStorm rows (Storm file progress) =
+    (name_in file ≡ file_named (first_of (codes "file") rows)) × IsFlag rows (codes "progress") progress
 AsksToStorm rows _ = ⊥
 
 -- the rows of `verify` ask to verify TRACE, or standard input where it is left out, against the script of FILE
 abbrev pub AsksToVerify : List Row → Request → Type 0
-AsksToVerify rows (Verify script trace) =
-    (first_of (codes "script") rows ≡ Some script.now)
-    × (option_map (λ name. name.now) trace ≡ first_of (codes "trace") rows)
+AsksToVerify rows (Verify script trace progress) =
+    (first_of (codes "script") rows ≡ Some script.now) × (name_in trace ≡ file_named (first_of (codes "trace") rows))
+    × IsFlag rows (codes "progress") progress
 AsksToVerify rows _ = ⊥
 
 -- the rows of `decode` ask for the words of one HEX, or of each of several or of standard input, as upstream messages
@@ -58,32 +86,35 @@ AsksToEncode rows _ = ⊥
 
 -- the rows of `explain` ask for TRACE in words, or for standard input where it is left out, under the mask of `--mask`
 abbrev pub AsksToExplain : List Row → Request → Type 0
-AsksToExplain rows (Explain trace mask) =
-    (option_map (λ name. name.now) trace ≡ first_of (codes "trace") rows)
-    × (mask ≡ mask_named (first_of (codes "mask") rows))
+AsksToExplain rows (Explain trace mask told) =
+    (name_in trace ≡ file_named (first_of (codes "trace") rows))
+    × (mask ≡ mask_named (first_of (codes "mask") rows)) × AsksForForm rows true told
 AsksToExplain rows _ = ⊥
 
 -- the subcommand that was parsed, with its rows, asks for this
 abbrev pub Asks : Option (Text × List Row) → Request → Type 0
 Asks None request = ⊥
-Asks (Some (name, rows)) (Replay file) = (name ≡ codes "replay") × AsksToReplay rows (Replay file)
-Asks (Some (name, rows)) (Drive script) = (name ≡ codes "drive") × AsksToDrive rows (Drive script)
-Asks (Some (name, rows)) (Storm file) = (name ≡ codes "storm") × AsksToStorm rows (Storm file)
-Asks (Some (name, rows)) (Verify script trace) =
-    (name ≡ codes "verify") × AsksToVerify rows (Verify script trace)
+Asks (Some (name, rows)) (Replay file play) = (name ≡ codes "replay") × AsksToReplay rows (Replay file play)
+Asks (Some (name, rows)) (Drive script told) = (name ≡ codes "drive") × AsksToDrive rows (Drive script told)
+Asks (Some (name, rows)) (Check files) = (name ≡ codes "check") × AsksToCheck rows (Check files)
+Asks (Some (name, rows)) (Storm file progress) = (name ≡ codes "storm") × AsksToStorm rows (Storm file progress)
+Asks (Some (name, rows)) (Verify script trace progress) =
+    (name ≡ codes "verify") × AsksToVerify rows (Verify script trace progress)
 Asks (Some (name, rows)) (Decode code upstream mask) =
     (name ≡ codes "decode") × AsksToDecode rows (Decode code upstream mask)
 Asks (Some (name, rows)) (DecodeLines many upstream mask) =
     (name ≡ codes "decode") × AsksToDecode rows (DecodeLines many upstream mask)
 Asks (Some (name, rows)) (Encode words upstream mask) =
     (name ≡ codes "encode") × AsksToEncode rows (Encode words upstream mask)
-Asks (Some (name, rows)) (Explain trace mask) = (name ≡ codes "explain") × AsksToExplain rows (Explain trace mask)
+Asks (Some (name, rows)) (Explain trace mask told) =
+    (name ≡ codes "explain") × AsksToExplain rows (Explain trace mask told)
 
 -- it asks for nothing that is known: there is none, or another one, or one that has no script or no words
 abbrev pub AsksNothing : Option (Text × List Row) → Type 0
 AsksNothing None = Unit {0}
 AsksNothing (Some (name, rows)) =
     (name ≢ codes "replay") × (name ≢ codes "storm") × (name ≢ codes "decode") × (name ≢ codes "explain")
+    × (name ≡ codes "check" → all_of (codes "files") rows ≡ None)
     × (name ≡ codes "drive" → first_of (codes "script") rows ≡ None)
     × (name ≡ codes "verify" → first_of (codes "script") rows ≡ None)
     × (name ≡ codes "encode" → all_of (codes "words") rows ≡ None)

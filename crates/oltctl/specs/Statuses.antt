@@ -1,5 +1,5 @@
 -- The exit statuses of the program (this profile's own rule).
-use Rattle.std.specs.Prelude.{◌≡◌, ◌≢◌, ◌==◌, if◌then◌else◌, ℕ, Bool, List, ◌⊎◌, Option, None, Some, Result, Ok, Err}
+use Rattle.std.specs.Prelude.{◌≡◌, ◌≢◌, ◌==◌, if◌then◌else◌, ℕ, Bool, true, false, List, ◌⊎◌, Option, None, Some, Result, Ok, Err}
 use Rattle.std.specs.declared.io.ErrorKind.{ErrorKind as IoErrorKind}
 use Rattle.std.specs.declared.io.ErrorKind.TheVariants as io_error
 use Rattle.clap.specs.declared.error.kind.ErrorKind.{ErrorKind}
@@ -18,6 +18,8 @@ use Rattle.gp_replay.specs.declared.fault.RunFault.TheVariants as run
 use Rattle.gp_report.specs.declared.status.TheConstants.{BAD_ARGUMENTS, BAD_INPUT, NOT_A_RUN, NOT_WRITTEN, OUT_OF_MEMORY, SUCCESS}
 use Rattle.gp_report.specs.Report.{arguments_line, code_status, memory_line, run_status, verify_status}
 use Rattle.gp_report.specs.Words.{explain_status, input_status}
+use Rattle.gp_check.specs.declared.fault.ScriptCheckFault.{ScriptCheckFault}
+use Rattle.gp_check.specs.declared.fault.ScriptCheckFault.TheVariants as checks
 use Rattle.gp_verify.specs.declared.outcome.CheckFault.{CheckFault}
 use Rattle.gp_verify.specs.declared.outcome.CheckFault.TheVariants as check
 use Rattle.clap.specs.Words.{Text, subcommand_rows_of}
@@ -25,7 +27,7 @@ use Rattle.clap.specs.declared.parser.matches.ArgMatches.{ArgMatches}
 use Rattle.oltctl.specs.CommandLine.{IsFaultOf, IsParseOf}
 use Rattle.oltctl.specs.Requests.{Asks, AsksNothing}
 use Rattle.oltctl.specs.declared.request.Request.{Request}
-use Rattle.oltctl.specs.declared.request.Request.TheVariants.{Replay, Drive, Storm, Verify, Decode, DecodeLines, Encode, Explain}
+use Rattle.oltctl.specs.declared.request.Request.TheVariants.{Replay, Drive, Storm, Check, Verify, Decode, DecodeLines, Encode, Explain}
 
 -- no status is greater
 abbrev pub greatest_status : ℕ
@@ -120,16 +122,28 @@ told_status (Err fault) = explain_status fault
 abbrev pub IsExplained : ℕ → Type 0
 IsExplained status = (outcome : Result ℕ ExplainFault) × (status ≡ told_status outcome)
 
+-- the status after files were checked, by whether all are scripts
+abbrev pub check_status : Result Bool ScriptCheckFault → ℕ
+check_status (Ok true) = SUCCESS
+check_status (Ok false) = BAD_INPUT
+check_status (Err checks.OutOfMemory) = OUT_OF_MEMORY
+check_status (Err checks.Write) = NOT_WRITTEN
+
+-- what files hold no contract can tell, so it is that of some files
+abbrev pub IsChecked : ℕ → Type 0
+IsChecked status = (outcome : Result Bool ScriptCheckFault) × (status ≡ check_status outcome)
+
 -- the status after what was asked for
 abbrev pub IsServed : Request → ℕ → Type 0
-IsServed (Replay file) status = IsPlayed status
-IsServed (Drive script) status = IsDriven status
-IsServed (Storm file) status = IsStormed status
-IsServed (Verify script trace) status = IsVerified status
+IsServed (Replay file play) status = IsPlayed status
+IsServed (Drive script told) status = IsDriven status
+IsServed (Check files) status = IsChecked status
+IsServed (Storm file progress) status = IsStormed status
+IsServed (Verify script trace progress) status = IsVerified status
 IsServed (Decode code upstream mask) status = IsDecoded code.now upstream mask status
 IsServed (DecodeLines many upstream mask) status = AreDecoded status
 IsServed (Encode words upstream mask) status = IsEncoded status
-IsServed (Explain trace mask) status = IsExplained status
+IsServed (Explain trace mask told) status = IsExplained status
 
 -- how a run over the words of a command line may end, with this status
 pub data IsRun (words : List Text) (status : ℕ) : Type 0 where

@@ -1,10 +1,14 @@
 //! The command line.
-ghost use Rattle.std.specs.Prelude.{◌≡◌, ◌≢◌, IfErr, IfOk, false, map};
+ghost use Rattle.std.specs.Prelude.{◌≡◌, ◌≢◌, IfErr, IfOk, codes, false, map};
 ghost use Rattle.clap.specs.Words.{app_of, kind_of, rule_of};
 ghost use Rattle.clap.specs.declared.builder.command.Command.TheViews.{out-Command as fields_of};
-ghost use Rattle.oltctl.specs.CommandLine.{AllNames, AreAllMasks, AreMasks, IsFaultOf, IsParseOf, MaskNames, code_rule, decode_command, drive_command, encode_command, explain_command, file_rule, line_commands, mask_rule, oltctl_command, replay_command, script_commands, script_rule, storm_command, trace_commands, trace_rule, up_rule, verify_command, words_rule};
+ghost use Rattle.oltctl.specs.CommandLine.{AllNames, AreAllNames, AreFormats, AreMasks, FormatNames, IsFaultOf, IsParseOf, MaskNames, check_command, code_rule, files_rule, flag_rule, format_rule, replay_flags as spec_replay_flags, with_form as spec_form, with_words as spec_words, decode_command, drive_command, encode_command, explain_command, file_rule, line_commands, mask_rule, oltctl_command, replay_command, script_commands, script_rule, storm_command, trace_commands, trace_rule, up_rule, verify_command, words_rule};
 ghost use Rattle.std.specs.String.{string_bytes};
 
+use crate::help::{
+    ABOUT_HELP, CHECK_HELP, DECODE_HELP, DRIVE_HELP, ENCODE_HELP, EXPLAIN_HELP, REPLAY_HELP, STORM_HELP,
+    VERIFY_HELP,
+};
 use clap::error::ErrorKind;
 use clap::{Arg, ArgAction, ArgMatches, Command, Error};
 use std::alloc::{AllocError, Global};
@@ -12,66 +16,11 @@ use std::alloc::{AllocError, Global};
 /// The masks that a code may be read with.
 static MASKS: [&str; 2] = ["0", "85"];
 
-/// What stands at the end of the help of `drive`.
-const DRIVE_HELP: &str = "\
-Lines:
-  PORT EVENT          once, as a trace tells it: 0 search, 0 show ABCD00000001
-  PORT frame COUNT    so many frames, 1 to 1000000
-  PORT until GRANT    frames up to this grant: search, range ONU-ID, poll ONU-ID
-  unit I light        the light of a simulated unit comes; dark: it goes
-  # ..                a remark; empty lines too are passed over
+/// The formats in which a trace may be written.
+static FORMATS: [&str; 2] = ["text", "json"];
 
-A line that is no turn is answered by: error LINE KIND
-
-Examples:
-  oltctl drive script.toml
-  printf '0 search\\n0 frame 4\\n' | oltctl drive script.toml
-
-Exit status:
-  0  all lines were answered by their entries
-  1  a line was no turn, or the script is wrong, or the input was not read
-  2  the command line is wrong
-  3  out of memory
-  4  the output takes no more";
-
-/// What stands at the end of the help of `explain`.
-const EXPLAIN_HELP: &str = "\
-Examples:
-  oltctl explain trace.txt
-  oltctl replay script.toml | oltctl explain -
-
-Exit status:
-  0  all lines were told
-  1  a line is none of a trace, or the trace was not read
-  2  the command line is wrong
-  3  out of memory
-  4  the output takes no more";
-
-/// What stands at the end of the help of `decode`.
-const DECODE_HELP: &str = "\
-Examples:
-  oltctl decode ff03004142434400000001001b
-  oltctl decode --up - < codes.txt
-
-Exit status, that of the first fault:
-  0  all codes were told
-  1  a code is wrong, or the input was not read
-  2  the command line is wrong
-  3  out of memory
-  4  the output takes no more";
-
-/// What stands at the end of the help of `encode`.
-const ENCODE_HELP: &str = "\
-Examples:
-  oltctl encode Assign_ONU-ID 0 ABCD00000001
-  oltctl encode --up --mask 85 Acknowledge 0 10
-
-Exit status:
-  0  the code was written
-  1  the words have no code
-  2  the command line is wrong
-  3  out of memory
-  4  the output takes no more";
+/// The version of the program, and of all crates of this repository.
+pub const VERSION: &str = "1.0.0";
 
 fn file<'a>(alloc: Global) -> Arg<'a>
     ensures rule { rule_of result ≡ file_rule }
@@ -79,16 +28,112 @@ fn file<'a>(alloc: Global) -> Arg<'a>
 {
     Arg::new(alloc, "file")
         .value_name("FILE")
-        .help("The script; standard input if left out")
+        .help("The script; standard input if left out, or for -")
 }
 
-fn replay<'a>(alloc: Global) -> Result<Command<'a>, AllocError>
-    ensures app { IfOk result (λ c. app_of c ≡ replay_command) }
+/// Makes a flag that is named as it is written.
+fn flag<'a>(alloc: Global, name: &'a str, help: &'a str) -> Arg<'a>
+    ensures rule { rule_of result ≡ flag_rule name.entry.now }
+    ensures local { result.global ≡ false }
+{
+    Arg::new(alloc, name)
+        .long(name)
+        .action(ArgAction::SetTrue)
+        .help(help)
+}
+
+fn progress<'a>(alloc: Global) -> Arg<'a>
+    ensures rule { rule_of result ≡ flag_rule (codes "progress") }
+    ensures local { result.global ≡ false }
+{
+    flag(
+        alloc,
+        "progress",
+        "Tells once a second, on standard error, how far it is",
+    )
+}
+
+fn format<'a>(alloc: Global) -> Arg<'a>
+    ensures rule { (names : FormatNames) × AreFormats names × (rule_of result ≡ format_rule names) }
+    ensures local { result.global ≡ false }
+{
+    Arg::new(alloc, "format")
+        .long("format")
+        .value_name("FORMAT")
+        .value_parser(FORMATS.as_slice())
+        .default_value("text")
+        .help("How each line is written; json: one object a line")
+}
+
+/// Adds how a trace is written.
+fn with_form<'a>(alloc: Global, command: Command<'a>) -> Result<Command<'a>, AllocError>
+    requires { (fields_of command).has_globals ≡ false }
+    ensures app { IfOk result
+        (λ c. (names : FormatNames) × AreFormats names × (app_of c ≡ spec_form (app_of command.entry) names)) }
+    ensures local { IfOk result (λ c. (fields_of c).has_globals ≡ false) }
+{
+    command
+        .arg(flag(
+            alloc,
+            "time",
+            "Puts its port's time before each line, in frames and milliseconds",
+        ))?
+        .arg(format(alloc))
+}
+
+/// Adds how a trace is written, also that its codes may be in words.
+fn with_words<'a>(alloc: Global, command: Command<'a>) -> Result<Command<'a>, AllocError>
+    requires { (fields_of command).has_globals ≡ false }
+    ensures app { IfOk result
+        (λ c. (names : FormatNames) × AreFormats names × (app_of c ≡ spec_words (app_of command.entry) names)) }
+    ensures local { IfOk result (λ c. (fields_of c).has_globals ≡ false) }
+{
+    let words = flag(alloc, "words", "Writes codes in words, as explain does");
+    with_form(alloc, command.arg(words)?)
+}
+
+/// Begins `replay`, up to the form of its trace.
+fn replay_flags<'a>(alloc: Global) -> Result<Command<'a>, AllocError>
+    ensures app { IfOk result (λ c. app_of c ≡ spec_replay_flags) }
     ensures local { IfOk result (λ c. (fields_of c).has_globals ≡ false) }
 {
     Command::new(alloc, "replay")
         .about("Plays a script and writes its trace, one line for each entry")
-        .arg(file(alloc))
+        .after_help(REPLAY_HELP)
+        .arg(flag(
+            alloc,
+            "explain",
+            "Tells where a script is wrong, in a second line",
+        ))?
+        .arg(progress(alloc))
+}
+
+fn replay<'a>(alloc: Global) -> Result<Command<'a>, AllocError>
+    ensures app { IfOk result (λ c. (names : FormatNames) × AreFormats names × (app_of c ≡ replay_command names)) }
+    ensures local { IfOk result (λ c. (fields_of c).has_globals ≡ false) }
+{
+    with_words(alloc, replay_flags(alloc)?)?.arg(file(alloc))
+}
+
+fn files<'a>(alloc: Global) -> Arg<'a>
+    ensures rule { rule_of result ≡ files_rule }
+    ensures local { result.global ≡ false }
+{
+    Arg::new(alloc, "files")
+        .value_name("FILE")
+        .required(true)
+        .action(ArgAction::Append)
+        .help("The scripts; - for standard input")
+}
+
+fn check<'a>(alloc: Global) -> Result<Command<'a>, AllocError>
+    ensures app { IfOk result (λ c. app_of c ≡ check_command) }
+    ensures local { IfOk result (λ c. (fields_of c).has_globals ≡ false) }
+{
+    Command::new(alloc, "check")
+        .about("Says of each file that it is a script, or where it is wrong")
+        .after_help(CHECK_HELP)
+        .arg(files(alloc))
 }
 
 fn driven<'a>(alloc: Global) -> Arg<'a>
@@ -102,15 +147,15 @@ fn driven<'a>(alloc: Global) -> Arg<'a>
 }
 
 fn drive<'a>(alloc: Global) -> Result<Command<'a>, AllocError>
-    ensures app { IfOk result (λ c. app_of c ≡ drive_command) }
+    ensures app { IfOk result (λ c. (names : FormatNames) × AreFormats names × (app_of c ≡ drive_command names)) }
     ensures local { IfOk result (λ c. (fields_of c).has_globals ≡ false) }
 {
-    Command::new(alloc, "drive")
+    let command = Command::new(alloc, "drive")
         .about(
             "Answers lines of standard input, each at once by the trace lines of what it asks for",
         )
-        .after_help(DRIVE_HELP)
-        .arg(driven(alloc))
+        .after_help(DRIVE_HELP);
+    with_words(alloc, command)?.arg(driven(alloc))
 }
 
 fn storm<'a>(alloc: Global) -> Result<Command<'a>, AllocError>
@@ -121,6 +166,8 @@ fn storm<'a>(alloc: Global) -> Result<Command<'a>, AllocError>
         .about(
             "Runs a script's bursts, frames and commands at once, by threads, and writes the totals",
         )
+        .after_help(STORM_HELP)
+        .arg(progress(alloc))?
         .arg(file(alloc))
 }
 
@@ -140,7 +187,7 @@ fn trace<'a>(alloc: Global) -> Arg<'a>
 {
     Arg::new(alloc, "trace")
         .value_name("TRACE")
-        .help("The trace; standard input if left out")
+        .help("The trace; standard input if left out, or for -")
 }
 
 fn verify<'a>(alloc: Global) -> Result<Command<'a>, AllocError>
@@ -149,6 +196,8 @@ fn verify<'a>(alloc: Global) -> Result<Command<'a>, AllocError>
 {
     Command::new(alloc, "verify")
         .about("Tells whether a trace is one that a correct line terminal could have written")
+        .after_help(VERIFY_HELP)
+        .arg(progress(alloc))?
         .arg(script(alloc))?
         .arg(trace(alloc))
 }
@@ -157,10 +206,7 @@ fn up<'a>(alloc: Global) -> Arg<'a>
     ensures rule { rule_of result ≡ up_rule }
     ensures local { result.global ≡ false }
 {
-    Arg::new(alloc, "up")
-        .long("up")
-        .action(ArgAction::SetTrue)
-        .help("The message is an upstream one")
+    flag(alloc, "up", "The message is an upstream one")
 }
 
 fn mask<'a>(alloc: Global) -> Arg<'a>
@@ -223,22 +269,25 @@ fn encode<'a>(alloc: Global) -> Result<Command<'a>, AllocError>
 }
 
 fn explain<'a>(alloc: Global) -> Result<Command<'a>, AllocError>
-    ensures app { IfOk result (λ c. (names : MaskNames) × AreMasks names × (app_of c ≡ explain_command names)) }
+    ensures app { IfOk result (λ c. (masks : MaskNames) × (formats : FormatNames)
+        × AreMasks masks × AreFormats formats × (app_of c ≡ explain_command masks formats)) }
     ensures local { IfOk result (λ c. (fields_of c).has_globals ≡ false) }
 {
-    Command::new(alloc, "explain")
+    let command = Command::new(alloc, "explain")
         .about("Writes a trace again with its codes in words, line by line as it comes")
         .after_help(EXPLAIN_HELP)
-        .arg(mask(alloc))?
-        .arg(trace(alloc))
+        .arg(mask(alloc))?;
+    with_form(alloc, command)?.arg(trace(alloc))
 }
 
 /// Makes the program's command line as far as it is about scripts.
 fn of_scripts<'a>(alloc: Global) -> Result<Command<'a>, AllocError>
-    ensures { IfOk result (λ c. app_of c ≡ script_commands) }
+    ensures { IfOk result (λ c. (names : FormatNames) × AreFormats names × (app_of c ≡ script_commands names)) }
 {
     Command::new(alloc, "oltctl")
         .about("The activation side of a GPON line terminal (ITU-T G.984.3)")
+        .after_help(ABOUT_HELP)
+        .version(VERSION)
         .subcommand_required(true)
         .arg_required_else_help(true)
         .subcommand(replay(alloc)?)?
@@ -247,20 +296,24 @@ fn of_scripts<'a>(alloc: Global) -> Result<Command<'a>, AllocError>
 
 /// Makes the program's command line as far as it is about scripts and lines that ask for something.
 fn of_lines<'a>(alloc: Global) -> Result<Command<'a>, AllocError>
-    ensures { IfOk result (λ c. app_of c ≡ line_commands) }
+    ensures { IfOk result (λ c. (replay drive : FormatNames) × AreFormats replay × AreFormats drive
+        × (app_of c ≡ line_commands replay drive)) }
 {
     of_scripts(alloc)?.subcommand(drive(alloc)?)
 }
 
 /// Makes the program's command line as far as it is about scripts, lines and traces.
 fn of_traces<'a>(alloc: Global) -> Result<Command<'a>, AllocError>
-    ensures { IfOk result (λ c. app_of c ≡ trace_commands) }
+    ensures { IfOk result (λ c. (replay drive : FormatNames) × AreFormats replay × AreFormats drive
+        × (app_of c ≡ trace_commands replay drive)) }
 {
-    of_lines(alloc)?.subcommand(verify(alloc)?)
+    of_lines(alloc)?
+        .subcommand(check(alloc)?)?
+        .subcommand(verify(alloc)?)
 }
 
 fn command<'a>(alloc: Global) -> Result<Command<'a>, AllocError>
-    ensures { IfOk result (λ c. (names : AllNames) × AreAllMasks names × (app_of c ≡ oltctl_command names)) }
+    ensures { IfOk result (λ c. (names : AllNames) × AreAllNames names × (app_of c ≡ oltctl_command names)) }
 {
     of_traces(alloc)?
         .subcommand(explain(alloc)?)?

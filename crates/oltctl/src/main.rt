@@ -13,18 +13,25 @@ ghost use Rattle.gp_script.specs.declared.fault.ScriptFault.{ScriptFault};
 ghost use Rattle.gp_script.specs.Script.{ScriptView, script_of, storm_script_of};
 ghost use Rattle.oltctl.specs.Replays.{IsCheckedBy, IsReadBy, IsTooLong};
 ghost use Rattle.gp_report.specs.Report.{verify_status};
-ghost use Rattle.oltctl.specs.Statuses.{IsArgumentsReport, IsEncoded, IsRun, IsServed, IsStatusOf, IsVerifyStatus, drive_status, end_status, greatest_status, lines_status, told_status};
+ghost use Rattle.oltctl.specs.Statuses.{IsArgumentsReport, IsEncoded, IsPlayed, IsRun, IsServed, IsStatusOf, IsVerifyStatus, check_status, drive_status, end_status, greatest_status, lines_status, told_status};
 
+mod checking;
 mod command_line;
+mod help;
 mod joined;
+mod progress;
 mod request;
+mod telling;
+mod ticking;
 
+use checking::check_files;
 use clap::Error;
 use clap::error::ErrorKind;
 use gp_decode::{FaultAt, LineFault, decode_line, decode_lines};
 use gp_drive::{DriveFault, Driven, run_drive};
 use gp_encode::{EncodeFault, encode_line};
-use gp_explain::{ExplainFault, Form, Telling, explain_trace};
+use gp_check::ScriptCheckFault;
+use gp_explain::{ExplainFault, Telling, explain_trace};
 use gp_flow::LinesFault;
 use gp_ploam::Mask;
 use gp_replay::{RunFault, run_replay};
@@ -33,16 +40,19 @@ use gp_report::{
     input_report, line_report, memory_report, run_report, verify_report, write_report,
 };
 use gp_storm::run_storm;
-use gp_stream::{Sink, Source};
+use gp_stream::{Sink, Source, read_all};
 use gp_verify::{CheckFault, VerifyFault, verify_script};
 use joined::joined;
-use request::{Request, request_of};
+use progress::Counted;
+use request::{Play, Request, Told, request_of};
 use std::io;
 use std::io::Read;
 use std::process::ExitCode;
-use std::rt::{Env, Files};
+use std::rt::{Clock, Env, Files};
 use std::sync::Wait;
 use std::thread::Threads;
+use telling::{drive_told, is_plain, replay_bytes, tell_place};
+use ticking::with_ticks;
 
 /// Says on standard error what went wrong, and answers the exit status, which says it too where
 /// standard error takes nothing.
@@ -63,6 +73,11 @@ fn report_at<R: Eprint>(rt: &R, told: (&'static str, u8), number: u64) -> u8
     status
 }
 
+/// Tells whether the trace alone is wanted of a replay, as it is.
+fn is_usual(play: Play) -> bool {
+    is_plain(play.told) && !play.explain && !play.progress
+}
+
 /// Plays the script that a reader gives, to standard output.
 fn replay_from<R: AllocGlobal + Print, S: Read + Drop>(rt: &R, reader: S) -> Result<(), RunFault>
     ensures ok { OnOk result ((script : ScriptView) × IsReadBy script_of reader (S.remaining reader) (Ok script)) }
@@ -77,19 +92,44 @@ fn replay_from<R: AllocGlobal + Print, S: Read + Drop>(rt: &R, reader: S) -> Res
     run_replay(rt.alloc(), &mut source, &mut sink)
 }
 
-/// Plays the script of a file, or of standard input.
-fn replay<R: AllocGlobal + Files + Print + Input>(
+/// Plays the script that a reader gives, and writes what is wanted of it to standard output. Says on standard error
+/// what went wrong, if anything did, and answers the exit status.
+fn replay_so<R: AllocGlobal + Print + Eprint + Clock, S: Read + Drop>(
+    rt: &R,
+    reader: S,
+    play: Play,
+) -> u8
+    ensures { IsPlayed result }
+{
+    if is_usual(play) {
+        return end_run(rt, &replay_from(rt, reader));
+    }
+    let mut source = Source::new(reader);
+    let bytes = match read_all(rt.alloc(), &mut source) {
+        Ok(bytes) => bytes,
+        Err(fault) => return end_run(rt, &Err(RunFault::from(fault))),
+    };
+    let played = replay_bytes(rt, bytes.as_slice(), play);
+    let status = end_run(rt, &played);
+    if play.explain && status == BAD_INPUT {
+        tell_place(rt, bytes.as_slice());
+    }
+    status
+}
+
+/// Does so with the script of a file, or of standard input.
+fn replay<R: AllocGlobal + Files + Print + Eprint + Input + Clock>(
     rt: &R,
     file: Option<&str>,
-) -> Result<(), RunFault>
-    ensures mismatch { result ≢ Err RunFault.Mismatch }
-    ensures journal_full { result ≢ Err RunFault.JournalFull }
+    play: Play,
+) -> u8
+    ensures { IsPlayed result }
 {
     match file {
-        None => replay_from(rt, rt.reader()),
+        None => replay_so(rt, rt.reader(), play),
         Some(path) => match std::fs::open(rt, path) {
-            Ok(file) => replay_from(rt, file),
-            Err(_) => Err(RunFault::Read),
+            Ok(file) => replay_so(rt, file, play),
+            Err(_) => end_run(rt, &Err(RunFault::Read)),
         },
     }
 }
@@ -115,9 +155,11 @@ fn drive_from<R: AllocGlobal + Print, S: Read + Drop, T: Read + Drop>(
 fn drive<R: AllocGlobal + Files + Print + Input>(
     rt: &R,
     script: &str,
+    told: Told,
 ) -> Result<Driven, DriveFault> {
     match std::fs::open(rt, script) {
-        Ok(script) => drive_from(rt, script, rt.reader()),
+        Ok(script) if is_plain(told) => drive_from(rt, script, rt.reader()),
+        Ok(script) => drive_told(rt, script, rt.reader(), told),
         Err(_) => Err(DriveFault::Script(RunFault::Read)),
     }
 }
@@ -144,6 +186,18 @@ fn end_drive<R: Eprint>(rt: &R, outcome: &Result<Driven, DriveFault>) -> u8
         }
         Err(DriveFault::Script(fault)) => report(rt, run_report(fault)),
         Err(DriveFault::Turns(fault)) => report(rt, input_report(fault)),
+    }
+}
+
+/// Says why files were not all checked, if they weren't, and answers the exit status.
+fn end_check<R: Eprint>(rt: &R, outcome: &Result<bool, ScriptCheckFault>) -> u8
+    ensures { result ≡ check_status outcome.now }
+{
+    match outcome {
+        Ok(true) => SUCCESS,
+        Ok(false) => BAD_INPUT,
+        Err(ScriptCheckFault::OutOfMemory) => report(rt, memory_report()),
+        Err(ScriptCheckFault::Write) => report(rt, write_report()),
     }
 }
 
@@ -177,6 +231,19 @@ fn storm<R: AllocGlobal + Files + Print + Input + Threads + Wait + Sync>(
     }
 }
 
+/// Does so, and tells once a second that it is going on, where that is wanted.
+fn storm_so<R: AllocGlobal + Files + Print + Eprint + Input + Clock + Threads + Wait + Sync>(
+    rt: &R,
+    file: Option<&str>,
+    progress: bool,
+) -> Result<(), RunFault> {
+    if progress {
+        with_ticks(rt, || storm(rt, file))
+    } else {
+        storm(rt, file)
+    }
+}
+
 /// Says on standard error what went wrong with a replay or a storm, if anything did, and answers the exit status.
 fn end_run<R: Eprint>(rt: &R, outcome: &Result<(), RunFault>) -> u8
     ensures { result ≡ end_status outcome.now }
@@ -203,18 +270,19 @@ fn verify_from<R: AllocGlobal + Print, S: Read + Drop, T: Read + Drop>(
 }
 
 /// Verifies the trace of a file, or of standard input, against the script of a file.
-fn verify<R: AllocGlobal + Files + Print + Input>(
+fn verify<R: AllocGlobal + Files + Print + Eprint + Input + Clock>(
     rt: &R,
     script: &str,
     trace: Option<&str>,
+    progress: bool,
 ) -> Result<u64, CheckFault> {
     let Ok(script) = std::fs::open(rt, script) else {
         return Err(CheckFault::Script(RunFault::Read));
     };
     match trace {
-        None => verify_from(rt, script, rt.reader()),
+        None => verify_from(rt, script, Counted::new(rt, rt.reader(), progress, None)),
         Some(path) => match std::fs::open(rt, path) {
-            Ok(trace) => verify_from(rt, script, trace),
+            Ok(trace) => verify_from(rt, script, Counted::new(rt, trace, progress, None)),
             Err(_) => Err(CheckFault::Trace(VerifyFault::Lines(LinesFault::Read))),
         },
     }
@@ -322,10 +390,11 @@ fn explain_from<R: AllocGlobal + Print, T: Read + Drop>(
     rt: &R,
     trace: T,
     mask: Mask,
+    told: Told,
 ) -> Result<u64, ExplainFault> {
     let mut source = Source::endless(trace);
     let mut sink = Sink::new(rt.alloc(), io::writer(rt))?;
-    let telling = Telling::new(rt.alloc(), mask, Form::Words, false);
+    let telling = Telling::new(rt.alloc(), mask, told.form, told.timed);
     explain_trace(rt.alloc(), telling, &mut source, &mut sink)
 }
 
@@ -334,11 +403,12 @@ fn explain<R: AllocGlobal + Files + Print + Input>(
     rt: &R,
     trace: Option<&str>,
     mask: Mask,
+    told: Told,
 ) -> Result<u64, ExplainFault> {
     match trace {
-        None | Some("-") => explain_from(rt, rt.reader(), mask),
+        None => explain_from(rt, rt.reader(), mask, told),
         Some(path) => match std::fs::open(rt, path) {
-            Ok(trace) => explain_from(rt, trace, mask),
+            Ok(trace) => explain_from(rt, trace, mask, told),
             Err(_) => Err(ExplainFault::Lines(LinesFault::Read)),
         },
     }
@@ -359,17 +429,22 @@ fn end_explain<R: Eprint>(rt: &R, outcome: &Result<u64, ExplainFault>) -> u8
 }
 
 /// Does what is asked for, and answers the exit status.
-fn serve<R: AllocGlobal + Files + Print + Eprint + Input + Threads + Wait + Sync>(
+fn serve<R: AllocGlobal + Files + Print + Eprint + Input + Clock + Threads + Wait + Sync>(
     rt: &R,
     request: Request<'_, '_>,
 ) -> u8
     ensures { IsServed request.entry result }
 {
     match request {
-        Request::Replay { file } => end_run(rt, &replay(rt, file)),
-        Request::Drive { script } => end_drive(rt, &drive(rt, script)),
-        Request::Storm { file } => end_run(rt, &storm(rt, file)),
-        Request::Verify { script, trace } => end_verify(rt, &verify(rt, script, trace)),
+        Request::Replay { file, play } => replay(rt, file, play),
+        Request::Drive { script, told } => end_drive(rt, &drive(rt, script, told)),
+        Request::Check { files } => end_check(rt, &check_files(rt, files)),
+        Request::Storm { file, progress } => end_run(rt, &storm_so(rt, file, progress)),
+        Request::Verify {
+            script,
+            trace,
+            progress,
+        } => end_verify(rt, &verify(rt, script, trace, progress)),
         Request::Decode {
             code,
             upstream,
@@ -388,7 +463,7 @@ fn serve<R: AllocGlobal + Files + Print + Eprint + Input + Threads + Wait + Sync
             upstream,
             mask,
         } => encode(rt, words, upstream, mask),
-        Request::Explain { trace, mask } => end_explain(rt, &explain(rt, trace, mask)),
+        Request::Explain { trace, mask, told } => end_explain(rt, &explain(rt, trace, mask, told)),
     }
 }
 
@@ -424,7 +499,7 @@ fn words_report(error: &io::Error) -> (&'static str, u8)
 }
 
 /// Does what the words of a command line ask for, and answers the exit status. The first word is the program's name.
-fn run_words<R: AllocGlobal + Files + Print + Eprint + Input + Threads + Wait + Sync>(
+fn run_words<R: AllocGlobal + Files + Print + Eprint + Input + Clock + Threads + Wait + Sync>(
     rt: &R,
     words: &[String],
 ) -> u8
@@ -441,7 +516,9 @@ fn run_words<R: AllocGlobal + Files + Print + Eprint + Input + Threads + Wait + 
 }
 
 /// Runs the command line, and answers the exit status.
-fn run<R: AllocGlobal + Env + Files + Print + Eprint + Input + Threads + Wait + Sync>(rt: &R) -> u8
+fn run<R: AllocGlobal + Env + Files + Print + Eprint + Input + Clock + Threads + Wait + Sync>(
+    rt: &R,
+) -> u8
     ensures { result ≤ greatest_status }
 {
     match arguments_of(rt) {

@@ -1,14 +1,30 @@
 use Rattle.std.proofs.Common.{refl}
-use Rattle.oltctl.specs.CommandLine.{AllNames}
+use Rattle.oltctl.specs.CommandLine.{AllNames, AreAllNames}
 use Rattle.oltctl.proofs.Commands.{added, named}
 use Rattle.oltctl.proofs.command_line.command.Goals as goal
 
 pub returns : goal.returns
 returns c =
+    let traces = c.in_ok-of_traces.ensures in
     let explain = c.in_ok-explain.ensures.app in
     let decode = c.in_ok-decode.ensures.app in
     let encode = c.in_ok-encode.ensures.app in
-    let names : AllNames = record { explain = explain.0; decode = decode.0; encode = encode.0 } in
-    let first = added _ _ _ _ _ c.in_ok-subcommand.ensures c.in_ok-explain.ensures.local c.in_ok-of_traces.ensures explain.2 in
+    let names : AllNames = record {
+      replay = traces.0;
+      drive = traces.1;
+      explain_format = explain.1;
+      explain = explain.0;
+      decode = decode.0;
+      encode = encode.0;
+    } in
+    let are : AreAllNames names = record {
+      replay = traces.2;
+      drive = traces.3;
+      explain_format = explain.3;
+      explain = explain.2;
+      decode = decode.1;
+      encode = encode.1;
+    } in
+    let first = added _ _ _ _ _ c.in_ok-subcommand.ensures c.in_ok-explain.ensures.local traces.4 explain.4 in
     let second = added _ _ _ _ _ c.in_ok-subcommand-2.ensures c.in_ok-decode.ensures.local first decode.2 in
-    named c.subcommand-3.result names _ _ _ _ (explain.1, decode.1, encode.1) c.subcommand-3.ensures c.in_ok-encode.ensures.local second encode.2 refl
+    named c.subcommand-3.result names _ _ _ _ are c.subcommand-3.ensures c.in_ok-encode.ensures.local second encode.2 refl

@@ -3,7 +3,7 @@ use Rattle.clap.proofs.OnLiterals.{clap_on_literals}
 use Rattle.clap.specs.Words.{App, FailsBy, HasMatchesOf, Text, fault_of, is_simple, is_simple_and_free, subcommand_of}
 use Rattle.clap.specs.declared.error.Error.{Error}
 use Rattle.clap.specs.declared.parser.matches.ArgMatches.{ArgMatches}
-use Rattle.oltctl.specs.CommandLine.{AllNames, AreAllMasks, IsParseOf, oltctl_command}
+use Rattle.oltctl.specs.CommandLine.{AllNames, AreAllNames, IsParseOf, oltctl_command}
 use Rattle.oltctl.proofs.Commands.{failed_by}
 use Rattle.oltctl.proofs.command_line.parse.Goals as goal
 
@@ -16,11 +16,11 @@ is_plain_and_free : (names : AllNames) → is_simple_and_free (oltctl_command na
 unfolding clap_on_literals
 is_plain_and_free names = refl
 
-parsed_by : (names : AllNames) → AreAllMasks names → (app : App) → app ≡ oltctl_command names → (words : List Text) (r : Result ArgMatches Error)
+parsed_by : (names : AllNames) → AreAllNames names → (app : App) → app ≡ oltctl_command names → (words : List Text) (r : Result ArgMatches Error)
     → IfOk r (HasMatchesOf app words) → (is_simple_and_free app ≡ true → FailsBy (fault_of app words) r) → IfOk r (IsParseOf words)
 parsed_by names masks app same words (Ok m) matches fails = record {
   names = names;
-  masks = masks;
+  are = masks;
   faultless = ap (λ (a : App). fault_of a words) (sym same) ∙ fails (ap is_simple_and_free same ∙ is_plain_and_free names);
   found = (matches (ap is_simple same ∙ is_plain names)).1 ∙ ap (λ (a : App). subcommand_of a words) same;
 }

@@ -1,0 +1,134 @@
+//! What stands at the end of the help of each command: examples, and its exit statuses.
+
+/// What stands at the end of the help of the program.
+pub const ABOUT_HELP: &str = "\
+Examples:
+  oltctl replay script.toml
+  oltctl COMMAND --help
+
+Exit status:
+  0  done, or help that was asked for
+  1  the input was not read, is too long, or is no script, trace, code or turn
+  2  the command line is wrong
+  3  out of memory
+  4  the output takes no more
+  5  a storm's threads and journals do not agree
+  6  a port of a storm has more entries than its journal keeps
+  7  the trace is not a run";
+
+/// What stands at the end of the help of `replay`.
+pub const REPLAY_HELP: &str = "\
+Examples:
+  oltctl replay script.toml
+  oltctl replay --words --time script.toml
+  oltctl replay --explain --progress script.toml
+
+Exit status:
+  0  the whole trace was written
+  1  the script is wrong, too long, or was not read
+  2  the command line is wrong
+  3  out of memory
+  4  the output takes no more";
+
+/// What stands at the end of the help of `check`.
+pub const CHECK_HELP: &str = "\
+Examples:
+  oltctl check script.toml
+  oltctl check scripts/*.toml
+
+Exit status:
+  0  all files are scripts
+  1  one is wrong, too long, or was not read: the line says where
+  2  the command line is wrong
+  3  out of memory
+  4  the output takes no more";
+
+/// What stands at the end of the help of `storm`.
+pub const STORM_HELP: &str = "\
+Examples:
+  oltctl storm script.toml
+  oltctl storm - < script.toml
+
+Exit status:
+  0  the totals were written
+  1  the script is wrong, too long, has simulated units, or was not read
+  2  the command line is wrong
+  3  out of memory
+  4  the output takes no more
+  5  a thread was not started, or receipts and journals do not agree
+  6  a port has more entries than its journal keeps";
+
+/// What stands at the end of the help of `verify`.
+pub const VERIFY_HELP: &str = "\
+Examples:
+  oltctl verify script.toml my-own.trace
+  oltctl replay script.toml | oltctl verify script.toml
+
+Exit status:
+  0  the trace is a run
+  1  a line is none of a trace, or the script or the trace was not read
+  2  the command line is wrong
+  3  out of memory
+  4  the output takes no more
+  7  the trace is not a run: the first line that can't be is told";
+
+/// What stands at the end of the help of `drive`.
+pub const DRIVE_HELP: &str = "\
+Lines:
+  PORT EVENT          once, as a trace tells it: 0 search, 0 show ABCD00000001
+  PORT frame COUNT    so many frames, 1 to 1000000
+  PORT until GRANT    frames up to this grant: search, range ONU-ID, poll ONU-ID
+  unit I light        the light of a simulated unit comes; dark: it goes
+  # ..                a remark; empty lines too are passed over
+
+A line that is no turn is answered by: error LINE KIND
+
+Examples:
+  oltctl drive script.toml
+  printf '0 search\\n0 frame 4\\n' | oltctl drive script.toml
+
+Exit status:
+  0  all lines were answered by their entries
+  1  a line was no turn, or the script is wrong, or the input was not read
+  2  the command line is wrong
+  3  out of memory
+  4  the output takes no more";
+
+/// What stands at the end of the help of `explain`.
+pub const EXPLAIN_HELP: &str = "\
+Examples:
+  oltctl explain trace.txt
+  oltctl replay script.toml | oltctl explain -
+
+Exit status:
+  0  all lines were told
+  1  a line is none of a trace, or the trace was not read
+  2  the command line is wrong
+  3  out of memory
+  4  the output takes no more";
+
+/// What stands at the end of the help of `decode`.
+pub const DECODE_HELP: &str = "\
+Examples:
+  oltctl decode ff03004142434400000001001b
+  oltctl decode --up - < codes.txt
+
+Exit status, that of the first fault:
+  0  all codes were told
+  1  a code is wrong, or the input was not read
+  2  the command line is wrong
+  3  out of memory
+  4  the output takes no more";
+
+/// What stands at the end of the help of `encode`.
+pub const ENCODE_HELP: &str = "\
+Examples:
+  oltctl encode Assign_ONU-ID 0 ABCD00000001
+  oltctl encode --up --mask 85 Acknowledge 0 10
+
+Exit status:
+  0  the code was written
+  1  the words have no code
+  2  the command line is wrong
+  3  out of memory
+  4  the output takes no more";
