@@ -2,7 +2,6 @@
 mod rows;
 
 use gp_check::{ScriptCheckFault, check_script};
-use gp_script::{PlacedError, ScriptError, read_script, read_script_at};
 use gp_stream::{Sink, Source};
 use std::alloc::{AllocError, Global};
 use std::io::{self, ErrorKind, Read};
@@ -126,26 +125,6 @@ fn too_many_tables(rt: HostRuntime) -> Result<(), AllocError> {
     )?;
     let line = "unit: 3 range, 0 to 1024 tables";
     assert!(rt; is_told(rt.alloc(), text.as_str(), line, false)?);
-    Ok(())
-}
-
-/// What is told of a place is the fault that is told without it.
-#[test]
-fn faults_of_mistakes(rt: HostRuntime) -> Result<(), AllocError> {
-    for table in &rows::TABLES {
-        for (value, _) in table.rows {
-            let text = format!(in rt.alloc(); "{}{value}{}", table.before, table.behind)?;
-            let fault = match read_script_at(rt.alloc(), text.as_bytes()) {
-                Err(PlacedError::Wrong(mistake)) => Some(mistake.fault()),
-                Ok(_) | Err(PlacedError::OutOfMemory) => None,
-            };
-            let told = match read_script(rt.alloc(), text.as_bytes()) {
-                Err(ScriptError::Fault(fault)) => Some(fault),
-                Ok(_) | Err(ScriptError::OutOfMemory) => None,
-            };
-            assert!(rt; fault.is_some() && fault == told, "{value}");
-        }
-    }
     Ok(())
 }
 
