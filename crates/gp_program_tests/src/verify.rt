@@ -171,7 +171,10 @@ fn what_is_told(rt: HostRuntime) {
 fn a_long_line(rt: HostRuntime) {
     let outcome = found_behind(rt.alloc(), &[b'0'; 4_097]);
     assert!(rt; outcome.as_ref().is_some_and(|found| found.1.is_empty()));
-    assert_eq!(rt; outcome.map(|found| found.0), Some(refused(Verdict::TooLong)));
+    assert_eq!(rt;
+        outcome.map(|found| found.0),
+        Some(refused(Verdict::TooLong))
+    );
     let outcome = found_behind(rt.alloc(), &[b'0'; 4_096]).map(|found| found.0);
     assert_eq!(rt; outcome, Some(refused(Verdict::NotALine)));
 }
