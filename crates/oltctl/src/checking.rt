@@ -41,7 +41,7 @@ fn check_file<R: AllocGlobal + Files + Input, W: Write>(
 }
 
 /// Says so of each of these files, on standard output, and tells whether all are scripts.
-pub fn check_files<R: AllocGlobal + Files + Print + Input>(
+pub(crate) fn check_files<R: AllocGlobal + Files + Print + Input>(
     rt: &R,
     files: &[&str],
 ) -> Result<bool, ScriptCheckFault> {

@@ -1,5 +1,5 @@
 //! Traces that are told otherwise than they are.
-ghost use Rattle.std.specs.Prelude.{◌≡◌, ◌≢◌, Err};
+ghost use Rattle.std.specs.Prelude.{◌≡◌, ◌≢◌, ◌↔◌, Err, IsTrue, false};
 
 use crate::progress::Counted;
 use crate::request::{Play, Told};
@@ -11,7 +11,7 @@ use gp_ploam::Mask;
 use gp_replay::{RunFault, run_replay};
 use gp_script::{PlacedError, ScriptEvent, read_script, read_script_at};
 use gp_stream::{Sink, Source, read_all};
-use gp_tell::{TellFault, Teller};
+use gp_tell::{Began, TellFault, Teller};
 use std::alloc::Global;
 use std::io;
 use std::io::{Read, Write};
@@ -19,7 +19,9 @@ use std::marker::Brand;
 use std::rt::Clock;
 
 /// Tells whether lines are written as they are.
-pub fn is_plain(told: Told) -> bool {
+pub(crate) fn is_plain(told: Told) -> bool
+    ensures { IsTrue result ↔ ((told.form ≡ Form.Plain) × (told.timed ≡ false)) }
+{
     told.form == Form::Plain && !told.timed
 }
 
@@ -80,6 +82,25 @@ fn ended(told: Option<TellFault>, played: Result<(), RunFault>) -> Result<(), Ru
     }
 }
 
+/// Plays the script that bytes are, and writes its trace as it is told.
+fn replay_by<B: Began, W: Write + Drop>(
+    alloc: Global,
+    bytes: &[u8],
+    telling: Telling,
+    writer: W,
+) -> Result<(), RunFault>
+    requires manner { telling ≡ B.manner }
+    requires held { W.contents writer ≡ B.held }
+    ensures mismatch { result ≢ Err RunFault.Mismatch }
+    ensures journal_full { result ≢ Err RunFault.JournalFull }
+{
+    let teller = Teller::<B, W>::new(alloc, telling, writer)?;
+    let mut sink = Sink::new(alloc, teller)?;
+    let mut source = Source::new(bytes);
+    let played = run_replay(alloc, &mut source, &mut sink);
+    ended(sink.into_inner().fault(), played)
+}
+
 /// Plays the script that bytes are, and writes its trace so.
 fn replay_told<W: Write + Drop>(
     alloc: Global,
@@ -92,15 +113,11 @@ fn replay_told<W: Write + Drop>(
 {
     let mask = mask_in(alloc, bytes);
     let telling = Telling::new(alloc, mask, told.form, told.timed);
-    let teller = Teller::<Brand, W>::new(alloc, telling, writer)?;
-    let mut sink = Sink::new(alloc, teller)?;
-    let mut source = Source::new(bytes);
-    let played = run_replay(alloc, &mut source, &mut sink);
-    ended(sink.into_inner().fault(), played)
+    replay_by::<Brand, W>(alloc, bytes, telling, writer)
 }
 
 /// Plays the script that bytes are, and writes its trace as it is wanted.
-pub fn replay_bytes<R: AllocGlobal + Print + Eprint + Clock>(
+pub(crate) fn replay_bytes<R: AllocGlobal + Print + Eprint + Clock>(
     rt: &R,
     bytes: &[u8],
     play: Play,
@@ -117,22 +134,21 @@ pub fn replay_bytes<R: AllocGlobal + Print + Eprint + Clock>(
     run_replay(rt.alloc(), &mut source, &mut sink)
 }
 
-/// Plays the script that a reader gives, and answers the lines that another gives, by trace lines that are told so.
-pub fn drive_told<R: AllocGlobal + Print, S: Read + Drop, T: Read + Drop>(
-    rt: &R,
-    script: S,
-    turns: T,
-    told: Told,
-) -> Result<Driven, DriveFault> {
-    let mut source = Source::new(script);
-    let bytes = read_all(rt.alloc(), &mut source)?;
-    let mask = mask_in(rt.alloc(), bytes.as_slice());
-    let telling = Telling::new(rt.alloc(), mask, told.form, told.timed);
-    let teller = Teller::<Brand, _>::new(rt.alloc(), telling, io::writer(rt))?;
-    let mut sink = Sink::new(rt.alloc(), teller)?;
-    let mut script = Source::new(bytes.as_slice());
-    let mut turns = Source::endless(turns);
-    let driven = run_drive(rt.alloc(), &mut script, &mut turns, &mut sink);
+/// Plays the script that bytes are, and answers lines, by trace lines as they are told.
+fn drive_by<B: Began, T: Read, W: Write + Drop>(
+    alloc: Global,
+    bytes: &[u8],
+    turns: &mut Source<T>,
+    telling: Telling,
+    writer: W,
+) -> Result<Driven, DriveFault>
+    requires manner { telling ≡ B.manner }
+    requires held { W.contents writer ≡ B.held }
+{
+    let teller = Teller::<B, W>::new(alloc, telling, writer)?;
+    let mut sink = Sink::new(alloc, teller)?;
+    let mut script = Source::new(bytes);
+    let driven = run_drive(alloc, &mut script, turns, &mut sink);
     match sink.into_inner().fault() {
         Some(TellFault::OutOfMemory) => {
             let fault = LinesFault::Line(LineFault::OutOfMemory);
@@ -142,8 +158,29 @@ pub fn drive_told<R: AllocGlobal + Print, S: Read + Drop, T: Read + Drop>(
     }
 }
 
+/// Plays the script that a reader gives, and answers the lines that another gives, by trace lines that are told so.
+pub(crate) fn drive_told<R: AllocGlobal + Print, S: Read + Drop, T: Read + Drop>(
+    rt: &R,
+    script: S,
+    turns: T,
+    told: Told,
+) -> Result<Driven, DriveFault> {
+    let mut source = Source::new(script);
+    let bytes = read_all(rt.alloc(), &mut source)?;
+    let mask = mask_in(rt.alloc(), bytes.as_slice());
+    let telling = Telling::new(rt.alloc(), mask, told.form, told.timed);
+    let mut turns = Source::endless(turns);
+    drive_by::<Brand, T, io::Printer<'_, R>>(
+        rt.alloc(),
+        bytes.as_slice(),
+        &mut turns,
+        telling,
+        io::writer(rt),
+    )
+}
+
 /// Says on standard error where bytes are no script, if they are none.
-pub fn tell_place<R: AllocGlobal + Eprint>(rt: &R, bytes: &[u8]) {
+pub(crate) fn tell_place<R: AllocGlobal + Eprint>(rt: &R, bytes: &[u8]) {
     let Err(PlacedError::Wrong(mistake)) = read_script_at(rt.alloc(), bytes) else {
         return;
     };

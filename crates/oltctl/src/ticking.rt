@@ -47,7 +47,7 @@ fn tick<R: Eprint + Wait + Clock>(rt: &R, ending: &Ending) {
 }
 
 /// Does work, and tells meanwhile once a second that it is going on, where a thread for that can be made.
-pub fn with_ticks<R: Eprint + Wait + Clock + Threads + Sync, T: Drop, F: FnOnce() -> T + Drop>(
+pub(crate) fn with_ticks<R: Eprint + Wait + Clock + Threads + Sync, T: Drop, F: FnOnce() -> T + Drop>(
     rt: &R,
     work: F,
 ) -> T

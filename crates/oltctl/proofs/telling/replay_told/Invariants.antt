@@ -1,5 +1,5 @@
--- the teller began with the manner that it is given, over standard output
+-- the teller begins with what it tells by, over what the writer holds
 use Rattle.oltctl.proofs.telling.replay_told.Given as goal
 
-abbrev pub ghosts-new-teller : goal.ghosts-new-teller
-ghosts-new-teller a = record { held = None; manner = a.telling }
+abbrev pub ghosts-replay_by : goal.ghosts-replay_by
+ghosts-replay_by g a = record { held = g.W.Write.contents a.writer; manner = a.telling }
