@@ -143,7 +143,7 @@ chassis_drives runs script receipts mid lines said end none opened spoken =
     let whole = followed_by script more in
     let all = receipts ++ entries_of lines.answers in
     let took = chassis_all whole.events (opening_play script) end.player all
-        (all_append chassis_playing script.events more (opening_play script) mid end.player receipts (entries_of lines.answers) opened lines.plays.played) in
+    (all_append chassis_playing script.events more (opening_play script) mid end.player receipts (entries_of lines.answers) opened lines.plays.played) in
     let stands = (chassis_stands runs whole none).all all end.player took in
     record { more = more; answers = lines.answers; said_is = lines.said_is; plays = stands.0; runs = stands.1 }
 
@@ -154,7 +154,7 @@ fibre_drives script start receipts mid lines said end some opens opened spoken =
     let whole = followed_by script more in
     let all = receipts ++ entries_of lines.answers in
     let took = fibre_all whole.events start end.player all
-        (all_append fibre_playing script.events more start mid end.player receipts (entries_of lines.answers) opened lines.plays.played) in
+    (all_append fibre_playing script.events more start mid end.player receipts (entries_of lines.answers) opened lines.plays.played) in
     let numbered = subst (λ (l : LossesView). Numbered (WorldTakesAll l whole.events) start.play all end.player.play) opens.losses took.happened in
     let stands = (world_stands whole opens.config start.play some opens.one_port opens.world opens.next).all all end.player.play numbered in
     record { more = more; answers = lines.answers; said_is = lines.said_is; plays = stands.0; runs = stands.1 }

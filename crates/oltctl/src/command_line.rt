@@ -6,8 +6,8 @@ ghost use Rattle.oltctl.specs.CommandLine.{AllNames, AreAllNames, AreFormats, Ar
 ghost use Rattle.std.specs.String.{string_bytes};
 
 use crate::help::{
-    ABOUT_HELP, CHECK_HELP, DECODE_HELP, DRIVE_HELP, ENCODE_HELP, EXPLAIN_HELP, REPLAY_HELP, STORM_HELP,
-    VERIFY_HELP,
+    ABOUT_HELP, CHECK_HELP, DECODE_HELP, DRIVE_HELP, ENCODE_HELP, EXPLAIN_HELP, REPLAY_HELP,
+    STORM_HELP, VERIFY_HELP,
 };
 use clap::error::ErrorKind;
 use clap::{Arg, ArgAction, ArgMatches, Command, Error};

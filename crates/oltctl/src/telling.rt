@@ -4,8 +4,8 @@ ghost use Rattle.std.specs.Prelude.{◌≡◌, ◌≢◌, ◌↔◌, Err, IsTrue
 use crate::progress::Counted;
 use crate::request::{Play, Told};
 use gp_check::mistake_line;
-use gp_explain::{Form, Telling};
 use gp_drive::{DriveFault, Driven, run_drive};
+use gp_explain::{Form, Telling};
 use gp_flow::{LineFault, LinesFault};
 use gp_ploam::Mask;
 use gp_replay::{RunFault, run_replay};

@@ -47,10 +47,11 @@ fn tick<R: Eprint + Wait + Clock>(rt: &R, ending: &Ending) {
 }
 
 /// Does work, and tells meanwhile once a second that it is going on, where a thread for that can be made.
-pub(crate) fn with_ticks<R: Eprint + Wait + Clock + Threads + Sync, T: Drop, F: FnOnce() -> T + Drop>(
-    rt: &R,
-    work: F,
-) -> T
+pub(crate) fn with_ticks<
+    R: Eprint + Wait + Clock + Threads + Sync,
+    T: Drop,
+    F: FnOnce() -> T + Drop,
+>(rt: &R, work: F) -> T
     requires { F.pre work }
 {
     let ending = Ending {
