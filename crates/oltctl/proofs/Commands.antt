@@ -31,3 +31,10 @@ failed_by names masks app same words (Err e) plain fails = λ other.
       | inl memory ↦ absurd (other memory)
       | inr among ↦ record { names = names; are = masks; among = subst (λ (a : App). IsAmong (kind_of e) (fault_of a words)) same among }
     ]
+
+-- the last one of some, with whatever holds of all of them
+pub last_added : {E : Type 0} (P : Command → Type 0) (r : Result Command E) (old sub : Command) (before of whole : App) → IfOk r (λ new. AddsSubcommand old sub new)
+    → (fields_of sub).has_globals ≡ false → app_of old ≡ before → app_of sub ≡ of → with_subcommand before of.top ≡ whole
+    → ((new : Command) → app_of new ≡ whole → P new) → IfOk r P
+last_added P (Ok c) old sub before of whole adds local was is all holds = holds c (added old sub c before of adds local was is ∙ all)
+last_added P (Err e) old sub before of whole adds local was is all holds = tt

@@ -40,7 +40,7 @@ use gp_report::{
     input_report, line_report, memory_report, run_report, verify_report, write_report,
 };
 use gp_storm::run_storm;
-use gp_stream::{Sink, Source, read_all};
+use gp_stream::{Sink, Source, SourceFault, read_all};
 use gp_verify::{CheckFault, VerifyFault, verify_script};
 use joined::joined;
 use progress::Counted;
@@ -92,6 +92,26 @@ fn replay_from<R: AllocGlobal + Print, S: Read + Drop>(rt: &R, reader: S) -> Res
     run_replay(rt.alloc(), &mut source, &mut sink)
 }
 
+/// Says on standard error what went wrong with a replay, if anything did, and answers the exit status.
+fn end_replay<R: Eprint>(rt: &R, outcome: &Result<(), RunFault>) -> u8
+    requires mismatch { outcome.now ≢ Err RunFault.Mismatch }
+    requires journal_full { outcome.now ≢ Err RunFault.JournalFull }
+    ensures { IsPlayed result }
+{
+    end_run(rt, outcome)
+}
+
+/// Says on standard error why a script was not read, and answers the exit status.
+fn end_unread<R: Eprint>(rt: &R, fault: SourceFault) -> u8
+    ensures { IsPlayed result }
+{
+    match fault {
+        SourceFault::Read => end_replay(rt, &Err(RunFault::Read)),
+        SourceFault::TooLong => end_replay(rt, &Err(RunFault::TooLong)),
+        SourceFault::OutOfMemory => end_replay(rt, &Err(RunFault::OutOfMemory)),
+    }
+}
+
 /// Plays the script that a reader gives, and writes what is wanted of it to standard output. Says on standard error
 /// what went wrong, if anything did, and answers the exit status.
 fn replay_so<R: AllocGlobal + Print + Eprint + Clock, S: Read + Drop>(
@@ -102,15 +122,15 @@ fn replay_so<R: AllocGlobal + Print + Eprint + Clock, S: Read + Drop>(
     ensures { IsPlayed result }
 {
     if is_usual(play) {
-        return end_run(rt, &replay_from(rt, reader));
+        return end_replay(rt, &replay_from(rt, reader));
     }
     let mut source = Source::new(reader);
     let bytes = match read_all(rt.alloc(), &mut source) {
         Ok(bytes) => bytes,
-        Err(fault) => return end_run(rt, &Err(RunFault::from(fault))),
+        Err(fault) => return end_unread(rt, fault),
     };
     let played = replay_bytes(rt, bytes.as_slice(), play);
-    let status = end_run(rt, &played);
+    let status = end_replay(rt, &played);
     if play.explain && status == BAD_INPUT {
         tell_place(rt, bytes.as_slice());
     }
@@ -129,7 +149,7 @@ fn replay<R: AllocGlobal + Files + Print + Eprint + Input + Clock>(
         None => replay_so(rt, rt.reader(), play),
         Some(path) => match std::fs::open(rt, path) {
             Ok(file) => replay_so(rt, file, play),
-            Err(_) => end_run(rt, &Err(RunFault::Read)),
+            Err(_) => end_unread(rt, SourceFault::Read),
         },
     }
 }
