@@ -1,5 +1,5 @@
 -- The parts of a frame of a run, one input after the other.
-use Rattle.std.proofs.Common.{◌≡◌, ℕ, zero, suc, ◌+◌, ◌-◌, ◌/◌, ◌<◌, ◌≤◌, get_or, Bool, true, false, cond, List, [], ◌∷◌, ◌++◌, length, take, drop, Option, None, Some, refl, sym, ap, subst, ◌∙◌, arith, append_assoc, Vec, Global, vec_len, vec_capacity}
+use Rattle.std.proofs.Common.{◌≡◌, ℕ, zero, suc, ◌+◌, ◌-◌, ◌/◌, ◌<◌, ◌≤◌, get_or, Bool, true, false, cond, List, [], ◌∷◌, ◌++◌, length, take, drop, Option, None, Some, refl, sym, ap, subst, ◌∙◌, arith, append_assoc, Vec, Global}
 use Rattle.std.specs.Prelude.{◌&&◌, All, not, map, slice_get, slice_set}
 use Rattle.std.proofs.lemmas.Option.{slice_get_within, get_or_from_slice_get}
 use Rattle.std.proofs.lemmas.List.Elements.{All-nil, All-cons, All-append, All-same, filter-append}
@@ -30,6 +30,7 @@ use Rattle.gp_fibre.specs.Flights.{AreInReach, FlightsState}
 use Rattle.gp_fibre.specs.Parts.{Comes, PortPuts, UnitsTake}
 use Rattle.gp_fibre.specs.UnitStore.{IsNextOf, is_asked_at, onu_id_meant}
 use Rattle.gp_fibre.specs.Schedule.{IsProperEntry, arrivals, deliveries, flights_of, grants_given, is_due, is_lost}
+use Rattle.gp_fibre.specs.Room.{KeepsCounts, TakesEventRoom}
 use Rattle.gp_fibre.proofs.Asking.{IsLeft, deaf_to_others, unasked}
 use Rattle.gp_fibre.proofs.Steps.{one_step, runs_in_parts}
 use Rattle.gp_fibre.proofs.StoredUnits.{asked_within}
@@ -319,12 +320,8 @@ arrives_one lost frame flight due kept =
 -- what the loop over the bursts to come keeps
 pub record ArrivesSoFar (old new : FibreStand) (before after : Vec Entry Global) (lost : List ℕ) (frame : ℕ) (flights : List Flight) (place : ℕ) : Type 0 where
   pub puts : PortPuts old.world (arrivals lost frame (take place flights)) before.items after.items new.world
-  pub total : new.total ≡ old.total
-  pub frames : new.frames ≡ old.frames
-  pub copies : old.copies_room ≤ new.copies_room + place
-  pub grants : old.grants_room ≤ new.grants_room + place
-  pub len : vec_len after ≤ vec_len before + place
-  pub capacity : vec_capacity after ≡ vec_capacity before
+  pub counts : KeepsCounts old new
+  pub room : TakesEventRoom place old new before after
   pub proper : All IsProperEntry after.items
 
 -- an entry that is proper was put behind others that are

@@ -12,3 +12,4 @@ pub mod Flights
 pub mod Schedule
 pub mod Forgetting
 pub mod Parts
+pub mod Room

@@ -1,11 +1,12 @@
 //! The parts of a frame of `World::run`, in their order: the port's frame, the copy, the grant, the bursts that come,
 //! and the frame of each unit.
-ghost use Rattle.std.specs.Prelude.{◌≡◌, ◌+◌, ◌-◌, ◌*◌, ◌<◌, ◌≤◌, ◌++◌, ◌∷◌, [], All, Some, drop, length, slice_get, vec_capacity, vec_len};
+ghost use Rattle.std.specs.Prelude.{◌≡◌, ◌+◌, ◌-◌, ◌*◌, ◌<◌, ◌≤◌, ◌++◌, ◌∷◌, [], All, Some, drop, length, slice_get};
 ghost use Rattle.std.specs.Option.{ForSome};
 ghost use Rattle.gp_ploam.specs.Down.{IsProperDown};
 ghost use Rattle.gp_fibre.specs.declared.world.TheConstants.{MAX_FRAMES};
 ghost use Rattle.gp_fibre.specs.Flights.{AreInReach, AreKept};
 ghost use Rattle.gp_fibre.specs.World.{kept_at};
+ghost use Rattle.gp_fibre.specs.Room.{HasAnswerRoom, HasEventRoom, KeepsCounts, TakesEventRoom};
 ghost use Rattle.gp_fibre.specs.Parts.{Asks, Comes, PortPuts, UnitsTake, events_of, world_state};
 ghost use Rattle.gp_fibre.specs.Step.{UnitAnswers};
 ghost use Rattle.gp_fibre.specs.Schedule.{IsProperEntry};
@@ -83,8 +84,7 @@ fn give_all<L: Ledger>(
     frame: u64,
 )
     requires issued { kept_at fibre.old.world.forgotten.grants fibre.old.world.grants grant ≡ Some issued }
-    requires room { length fibre.old.world.units ≤ fibre.old.bursts_room }
-    requires flights { length fibre.old.world.units ≤ flights.old.room }
+    requires room { HasAnswerRoom fibre.old flights.old }
     requires frame { frame < MAX_FRAMES }
     requires reach { AreInReach frame flights.old.flights }
     ensures taken { UnitsTake fibre.old.world (spec.grants_given grant (length fibre.old.world.units)) fibre.new.world }
@@ -128,8 +128,7 @@ pub(super) fn give_on<L: Ledger>(
 )
     requires issued { ForSome issued (λ asked.
         kept_at fibre.old.world.forgotten.grants fibre.old.world.grants grant ≡ Some asked) }
-    requires room { length fibre.old.world.units ≤ fibre.old.bursts_room }
-    requires flights { length fibre.old.world.units ≤ flights.old.room }
+    requires room { HasAnswerRoom fibre.old flights.old }
     requires frame { frame < MAX_FRAMES }
     requires reach { AreInReach frame flights.old.flights }
     ensures taken { UnitsTake fibre.old.world
@@ -152,15 +151,12 @@ fn arrive_all<L: Ledger>(
     lost: &[u64],
     frame: u64,
 )
-    requires copies { length flights.now ≤ fibre.old.copies_room }
-    requires grants { length flights.now ≤ fibre.old.grants_room }
-    requires entries { vec_len entries.old + length flights.now ≤ vec_capacity entries.old }
+    requires room { HasEventRoom (length flights.now) fibre.old entries.old }
     requires kept { AreKept fibre.old.world flights.now }
     requires proper { All IsProperEntry entries.old.items }
     ensures puts { PortPuts fibre.old.world
         (spec.arrivals lost.now frame flights.now) entries.old.items entries.new.items fibre.new.world }
-    ensures total { fibre.new.total ≡ fibre.old.total }
-    ensures frames { fibre.new.frames ≡ fibre.old.frames }
+    ensures counts { KeepsCounts fibre.old fibre.new }
     ensures proper { All IsProperEntry entries.new.items }
 {
     for place in 0..flights.len() {
@@ -176,20 +172,14 @@ fn arrive<L: Ledger>(
     lost: &[u64],
     frame: u64,
 )
-    requires copies { 0 < fibre.old.copies_room }
-    requires grants { 0 < fibre.old.grants_room }
-    requires entries { vec_len entries.old < vec_capacity entries.old }
+    requires room { HasEventRoom 1 fibre.old entries.old }
     requires kept { fibre.old.world.forgotten.bursts ≤ flight.number }
     requires number { flight.number < length fibre.old.world.bursts }
     requires proper { All IsProperEntry entries.old.items }
     ensures puts { PortPuts fibre.old.world
         (spec.arrivals lost.now frame (flight ∷ [])) entries.old.items entries.new.items fibre.new.world }
-    ensures total { fibre.new.total ≡ fibre.old.total }
-    ensures frames { fibre.new.frames ≡ fibre.old.frames }
-    ensures copies_room { fibre.old.copies_room ≤ fibre.new.copies_room + 1 }
-    ensures grants_room { fibre.old.grants_room ≤ fibre.new.grants_room + 1 }
-    ensures entries_room { vec_len entries.new ≤ vec_len entries.old + 1 }
-    ensures entries_capacity { vec_capacity entries.new ≡ vec_capacity entries.old }
+    ensures counts { KeepsCounts fibre.old fibre.new }
+    ensures room { TakesEventRoom 1 fibre.old fibre.new entries.old entries.new }
     ensures proper { All IsProperEntry entries.new.items }
 {
     if !flight.is_due(frame) || is_lost(lost, flight.number) {
@@ -211,17 +201,14 @@ fn land<L: Ledger>(
     lost: &[u64],
     frame: u64,
 )
-    requires copies { length flights.old.flights ≤ fibre.old.copies_room }
-    requires grants { length flights.old.flights ≤ fibre.old.grants_room }
-    requires entries { vec_len entries.old + length flights.old.flights ≤ vec_capacity entries.old }
+    requires room { HasEventRoom (length flights.old.flights) fibre.old entries.old }
     requires kept { AreKept fibre.old.world flights.old.flights }
     requires reach { AreInReach frame flights.old.flights }
     requires proper { All IsProperEntry entries.old.items }
     ensures puts { PortPuts fibre.old.world
         (spec.arrivals lost.now frame flights.old.flights) entries.old.items entries.new.items fibre.new.world }
     ensures left { flights.new.flights ≡ spec.flights_after frame flights.old.flights }
-    ensures total { fibre.new.total ≡ fibre.old.total }
-    ensures frames { fibre.new.frames ≡ fibre.old.frames }
+    ensures counts { KeepsCounts fibre.old fibre.new }
     ensures proper { All IsProperEntry entries.new.items }
 {
     if !flights.comes_in(frame) {
@@ -239,23 +226,16 @@ fn ask<L: Ledger>(
     lost: &[u64],
     frame: u64,
 )
-    requires copies { 0 < fibre.old.copies_room }
-    requires grants { 0 < fibre.old.grants_room }
-    requires bursts { length fibre.old.world.units ≤ fibre.old.bursts_room }
-    requires flights { length fibre.old.world.units ≤ flights.old.room }
-    requires entries { vec_len entries.old < vec_capacity entries.old }
+    requires room { HasEventRoom 1 fibre.old entries.old }
+    requires answers { HasAnswerRoom fibre.old flights.old }
     requires frame { frame < MAX_FRAMES }
     requires reach { AreInReach frame flights.old.flights }
     requires proper { All IsProperEntry entries.old.items }
     ensures asks { Asks lost.now fibre.old.world entries.old.items entries.new.items fibre.new.world }
     ensures comes { Comes frame fibre.old.world flights.old.flights fibre.new.world flights.new.flights }
     ensures reach { AreInReach frame flights.new.flights }
-    ensures total { fibre.new.total ≡ fibre.old.total }
-    ensures frames { fibre.new.frames ≡ fibre.old.frames }
-    ensures copies_room { fibre.old.copies_room ≤ fibre.new.copies_room + 1 }
-    ensures grants_room { fibre.old.grants_room ≤ fibre.new.grants_room + 1 }
-    ensures entries_room { vec_len entries.new ≡ vec_len entries.old + 1 }
-    ensures entries_capacity { vec_capacity entries.new ≡ vec_capacity entries.old }
+    ensures counts { KeepsCounts fibre.old fibre.new }
+    ensures room { TakesEventRoom 1 fibre.old fibre.new entries.old entries.new }
     ensures proper { All IsProperEntry entries.new.items }
 {
     let copy = fibre.copies();
@@ -277,11 +257,8 @@ pub(super) fn play_frame<L: Ledger>(
     requires frames { fibre.old.frames < MAX_FRAMES }
     requires kept { AreKept fibre.old.world flights.old.flights }
     requires reach { AreInReach fibre.old.frames flights.old.flights }
-    requires copies { events_of fibre.old flights.old ≤ fibre.old.copies_room }
-    requires grants { events_of fibre.old flights.old ≤ fibre.old.grants_room }
-    requires bursts { length fibre.old.world.units ≤ fibre.old.bursts_room }
-    requires flights { length fibre.old.world.units ≤ flights.old.room }
-    requires entries { vec_len entries.old + events_of fibre.old flights.old ≤ vec_capacity entries.old }
+    requires room { HasEventRoom (events_of fibre.old flights.old) fibre.old entries.old }
+    requires answers { HasAnswerRoom fibre.old flights.old }
     requires proper { All IsProperEntry entries.old.items }
     ensures puts { spec.PutsFrame loss.now.copies.items loss.now.bursts.items
         (world_state fibre.old flights.old) entries.old.items entries.new.items (world_state fibre.new flights.new) }

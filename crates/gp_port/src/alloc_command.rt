@@ -3,10 +3,9 @@ ghost use Rattle.gp_pools.specs.Limits.{last_alloc_id};
 ghost use Rattle.gp_machine.specs.declared.event.Command.TheVariants as command;
 ghost use Rattle.gp_machine.specs.State.{HasRow};
 ghost use Rattle.gp_machine.specs.Sound.{IsSound};
-ghost use Rattle.gp_machine.specs.Changes.{step_result_of};
-ghost use Rattle.gp_machine.specs.Responses.{MayPick, step_result_with};
 ghost use Rattle.gp_machine.specs.Commands.{alloc_response, command_response, dealloc_response};
-ghost use Rattle.gp_port.specs.Numbers.{PicksWished, number_in};
+ghost use Rattle.gp_port.specs.Numbers.{PicksWished, number_handed_out};
+ghost use Rattle.gp_port.specs.Answers.{AnswersCommand};
 
 use super::command::refused;
 use super::port_machine::PortMachine;
@@ -24,12 +23,10 @@ impl PortMachine {
     ) -> (Answer, u64)
         requires sound { IsSound self.old }
         requires last { self.old.config.alloc_last ≤ last_alloc_id }
-        ensures free { MayPick self.old (command_response self.old (command.Alloc serial)) (number_in result.0.reply) }
         ensures wished { PicksWished self.old (command_response self.old (command.Alloc serial)) wished
-            (number_in result.0.reply) }
-        ensures outcome { step_result_of result self.new
-            ≡ step_result_with purse self.old None (command_response self.old (command.Alloc serial))
-            (number_in result.0.reply) }
+            (number_handed_out result.0.reply) }
+        ensures outcome { AnswersCommand purse self.old
+            (command_response self.old (command.Alloc serial)) result self.new }
     {
         let Some(known) = self.look_up(&serial) else {
             return (refused(Refusal::NotAdmitted), purse);
@@ -45,10 +42,8 @@ impl PortMachine {
         requires sound { IsSound self.old }
         requires last { self.old.config.alloc_last ≤ last_alloc_id }
         requires has { HasRow self.old.rows serial row }
-        ensures free { MayPick self.old (alloc_response self.old serial row) (number_in result.0.reply) }
-        ensures wished { PicksWished self.old (alloc_response self.old serial row) wished (number_in result.0.reply) }
-        ensures outcome { step_result_of result self.new
-            ≡ step_result_with purse self.old None (alloc_response self.old serial row) (number_in result.0.reply) }
+        ensures wished { PicksWished self.old (alloc_response self.old serial row) wished (number_handed_out result.0.reply) }
+        ensures outcome { AnswersCommand purse self.old (alloc_response self.old serial row) result self.new }
     {
         if row.phase.is_ranging() {
             return (refused(Refusal::NotOperating), purse);
@@ -84,11 +79,8 @@ impl PortMachine {
     ) -> (Answer, u64)
         requires sound { IsSound self.old }
         requires last { self.old.config.alloc_last ≤ last_alloc_id }
-        ensures free { MayPick self.old (command_response self.old (command.Dealloc serial alloc))
-            (number_in result.0.reply) }
-        ensures outcome { step_result_of result self.new
-            ≡ step_result_with purse self.old None (command_response self.old (command.Dealloc serial alloc))
-            (number_in result.0.reply) }
+        ensures { AnswersCommand purse self.old
+            (command_response self.old (command.Dealloc serial alloc)) result self.new }
     {
         let Some(known) = self.look_up(&serial) else {
             return (refused(Refusal::NotAdmitted), purse);
@@ -104,10 +96,7 @@ impl PortMachine {
         requires sound { IsSound self.old }
         requires last { self.old.config.alloc_last ≤ last_alloc_id }
         requires has { HasRow self.old.rows serial row }
-        ensures free { MayPick self.old (dealloc_response self.old serial alloc row) (number_in result.0.reply) }
-        ensures outcome { step_result_of result self.new
-            ≡ step_result_with purse self.old None (dealloc_response self.old serial alloc row)
-            (number_in result.0.reply) }
+        ensures { AnswersCommand purse self.old (dealloc_response self.old serial alloc row) result self.new }
     {
         if row.phase.is_ranging() {
             return (refused(Refusal::NotOperating), purse);

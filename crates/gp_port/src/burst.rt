@@ -6,10 +6,9 @@ ghost use Rattle.gp_machine.specs.declared.event.Event.TheVariants as event;
 ghost use Rattle.gp_machine.specs.State.{Operates};
 ghost use Rattle.gp_machine.specs.Sound.{IsSound};
 ghost use Rattle.gp_machine.specs.Changes.{step_result_of};
-ghost use Rattle.gp_machine.specs.Responses.{MayPick, step_result_with};
 ghost use Rattle.gp_machine.specs.Burst.{burst_response, message_response};
 ghost use Rattle.gp_machine.specs.Step.{Step};
-ghost use Rattle.gp_port.specs.Answers.{burst_result_of, number_given};
+ghost use Rattle.gp_port.specs.Answers.{AnswersBurst, number_given};
 ghost use Rattle.gp_port.specs.Numbers.{GrantsWish, PicksWished};
 
 use super::answers::BurstAnswer;
@@ -52,10 +51,8 @@ impl PortMachine {
         requires sound { IsSound self.old }
         requires units { self.old.config.max_units ≤ onu_ids }
         requires purse { purse < 2 ^ 32 }
-        ensures free { MayPick self.old (burst_response purse self.old at heard) (number_given result.0) }
         ensures wished { PicksWished self.old (burst_response purse self.old at heard) wished (number_given result.0) }
-        ensures outcome { burst_result_of result self.new
-            ≡ step_result_with purse self.old None (burst_response purse self.old at heard) (number_given result.0) }
+        ensures outcome { AnswersBurst purse self.old (burst_response purse self.old at heard) result self.new }
     {
         let Some(window) = &self.window else {
             return self.refuse(purse, Refusal::Stray);
@@ -74,11 +71,8 @@ impl PortMachine {
     /// Hears a message in the window of a ranging unit: octet 1 has to be its ONU-ID.
     fn in_range(&mut self, purse: u64, at: u32, onu: u8, message: Up) -> (BurstAnswer, u64)
         requires sound { IsSound self.old }
-        ensures free { MayPick self.old (message_response purse self.old at (grant.Range onu) message)
-            (number_given result.0) }
-        ensures outcome { burst_result_of result self.new
-            ≡ step_result_with purse self.old None (message_response purse self.old at (grant.Range onu) message)
-            (number_given result.0) }
+        ensures { AnswersBurst purse self.old
+            (message_response purse self.old at (grant.Range onu) message) result self.new }
     {
         match self.unit_with(onu) {
             Some((serial, row)) => {
@@ -97,11 +91,8 @@ impl PortMachine {
         requires purse { purse < 2 ^ 32 }
         requires room { length self.old.owed + copies_each ≤ max_copies }
         requires asked { Operates self.old.rows onu }
-        ensures free { MayPick self.old (message_response purse self.old at (grant.Poll onu) message)
-            (number_given result.0) }
-        ensures outcome { burst_result_of result self.new
-            ≡ step_result_with purse self.old None (message_response purse self.old at (grant.Poll onu) message)
-            (number_given result.0) }
+        ensures { AnswersBurst purse self.old
+            (message_response purse self.old at (grant.Poll onu) message) result self.new }
     {
         match self.unit_with(onu) {
             Some((serial, row)) => {

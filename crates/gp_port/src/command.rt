@@ -4,10 +4,10 @@ ghost use Rattle.gp_pools.specs.Limits.{last_alloc_id};
 ghost use Rattle.gp_machine.specs.declared.event.Command.TheVariants as command;
 ghost use Rattle.gp_machine.specs.declared.reply.Reply.TheVariants as reply;
 ghost use Rattle.gp_machine.specs.Sound.{IsSound};
-ghost use Rattle.gp_machine.specs.Changes.{step_result_of};
-ghost use Rattle.gp_machine.specs.Responses.{MayPick, bare_answer, step_result_with};
+ghost use Rattle.gp_machine.specs.Responses.{bare_answer};
 ghost use Rattle.gp_machine.specs.Commands.{command_response};
-ghost use Rattle.gp_port.specs.Numbers.{PicksWished, number_in};
+ghost use Rattle.gp_port.specs.Numbers.{PicksWished, number_handed_out};
+ghost use Rattle.gp_port.specs.Answers.{AnswersCommand};
 
 use super::port_machine::PortMachine;
 use gp_common::Common;
@@ -28,10 +28,8 @@ impl PortMachine {
         requires units { self.old.config.max_units ≤ onu_ids }
         requires last { self.old.config.alloc_last ≤ last_alloc_id }
         requires purse { purse < 2 ^ 32 }
-        ensures free { MayPick self.old (command_response self.old command) (number_in result.0.reply) }
-        ensures wished { PicksWished self.old (command_response self.old command) wished (number_in result.0.reply) }
-        ensures outcome { step_result_of result self.new
-            ≡ step_result_with purse self.old None (command_response self.old command) (number_in result.0.reply) }
+        ensures wished { PicksWished self.old (command_response self.old command) wished (number_handed_out result.0.reply) }
+        ensures outcome { AnswersCommand purse self.old (command_response self.old command) result self.new }
     {
         match command {
             Command::Search => self.command_search(purse),
@@ -49,10 +47,7 @@ impl PortMachine {
 
     /// Carries out the command search.
     fn command_search(&mut self, purse: u64) -> (Answer, u64)
-        ensures free { MayPick self.old (command_response self.old command.Search) (number_in result.0.reply) }
-        ensures outcome { step_result_of result self.new
-            ≡ step_result_with purse self.old None (command_response self.old command.Search)
-            (number_in result.0.reply) }
+        ensures { AnswersCommand purse self.old (command_response self.old command.Search) result self.new }
     {
         if self.wanted || matches!(self.common, Common::Acquisition(_)) {
             return (refused(Refusal::AlreadySearching), purse);
@@ -64,10 +59,7 @@ impl PortMachine {
     /// Carries out the command enable all.
     fn command_enable_all(&mut self, purse: u64) -> (Answer, u64)
         requires sound { IsSound self.old }
-        ensures free { MayPick self.old (command_response self.old command.EnableAll) (number_in result.0.reply) }
-        ensures outcome { step_result_of result self.new
-            ≡ step_result_with purse self.old None (command_response self.old command.EnableAll)
-            (number_in result.0.reply) }
+        ensures { AnswersCommand purse self.old (command_response self.old command.EnableAll) result self.new }
     {
         if !self.has_room() {
             return (refused(Refusal::Busy), purse);
@@ -81,10 +73,7 @@ impl PortMachine {
     fn command_popup_all(&mut self, purse: u64) -> (Answer, u64)
         requires sound { IsSound self.old }
         requires units { self.old.config.max_units ≤ onu_ids }
-        ensures free { MayPick self.old (command_response self.old command.PopupAll) (number_in result.0.reply) }
-        ensures outcome { step_result_of result self.new
-            ≡ step_result_with purse self.old None (command_response self.old command.PopupAll)
-            (number_in result.0.reply) }
+        ensures { AnswersCommand purse self.old (command_response self.old command.PopupAll) result self.new }
     {
         if !self.has_room() {
             return (refused(Refusal::Busy), purse);
@@ -96,10 +85,7 @@ impl PortMachine {
 
     /// Carries out the command show.
     fn command_show(&mut self, purse: u64, serial: Serial) -> (Answer, u64)
-        ensures free { MayPick self.old (command_response self.old (command.Show serial)) (number_in result.0.reply) }
-        ensures outcome { step_result_of result self.new
-            ≡ step_result_with purse self.old None (command_response self.old (command.Show serial))
-            (number_in result.0.reply) }
+        ensures { AnswersCommand purse self.old (command_response self.old (command.Show serial)) result self.new }
     {
         let Some(known) = self.look_up(&serial) else {
             return (refused(Refusal::NotAdmitted), purse);

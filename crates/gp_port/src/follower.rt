@@ -67,7 +67,7 @@ impl PortFollower {
         ensures alone { (after : PortState) → IsStep self.old entry.now after → after ≡ self.new }
     {
         sound_step();
-        let wished = number_in(&entry.answer.reply);
+        let wished = number_handed_out(&entry.answer.reply);
         let (answer, left) = self
             .machine
             .step(u64::from(entry.purse_in), entry.event, wished);
@@ -89,7 +89,7 @@ impl PortFollower {
 }
 
 /// The number that a reply hands out, if it hands out one.
-fn number_in(reply: &Reply) -> Option<u16>
+fn number_handed_out(reply: &Reply) -> Option<u16>
     ensures { result ≡ number_named reply.now }
 {
     match reply {

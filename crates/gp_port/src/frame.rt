@@ -9,13 +9,12 @@ ghost use Rattle.gp_ploam.specs.Down.{IsProperDown};
 ghost use Rattle.gp_unit.specs.Rows.{alarm_polled, row_unranged};
 ghost use Rattle.gp_unit.specs.Sound.{IsSoundRow};
 ghost use Rattle.gp_machine.specs.State.{HasRow};
-ghost use Rattle.gp_machine.specs.Responses.{MayPick, step_result_with};
 ghost use Rattle.gp_machine.specs.Changes.{step_result_of};
 ghost use Rattle.gp_machine.specs.Frame as spec;
 ghost use Rattle.gp_machine.specs.Frame.{decided_response, frame_response, state_begun, window_response};
-ghost use Rattle.gp_port.specs.Answers.{frame_result_of};
 ghost use Rattle.gp_port.specs.Parts.{AreCandidates};
 ghost use Rattle.gp_machine.specs.Closes.{poll_ended, suf_alarm, unpolled_response, unranged_response};
+ghost use Rattle.gp_port.specs.Answers.{AnswersFrame};
 
 use super::answers::{FrameAnswer, ticked};
 use super::port_machine::PortMachine;
@@ -57,10 +56,8 @@ impl PortMachine {
         requires sound { IsSound self.old }
         requires purse { purse < 2 ^ 32 }
         requires period { self.old.config.search_period ≤ max_search_period }
-        ensures free { MayPick (state_begun self.old) (frame_response self.old ranging next) 0 }
-        ensures outcome { frame_result_of result self.new
-            ≡ step_result_with purse (state_begun self.old) (first_of self.old.owed)
-            (frame_response self.old ranging next) 0 }
+        ensures { AnswersFrame purse (state_begun self.old) (first_of self.old.owed)
+            (frame_response self.old ranging next) result self.new }
     {
         let quiet = self.owed.len_copies() == 0;
         let sent = self.begin_frame();
@@ -122,11 +119,8 @@ impl PortMachine {
         requires sound { IsSound self.old }
         requires purse { purse < 2 ^ 32 }
         requires window { self.old.window ≡ Some (record { grant = grant; left = left; seen = seen }) }
-        ensures free { MayPick self.old
-            (window_response self.old (record { grant = grant; left = left; seen = seen })) 0 }
-        ensures outcome { frame_result_of result self.new
-            ≡ step_result_with purse self.old sent
-            (window_response self.old (record { grant = grant; left = left; seen = seen })) 0 }
+        ensures { AnswersFrame purse self.old sent
+            (window_response self.old (record { grant = grant; left = left; seen = seen })) result self.new }
     {
         if left > 1 {
             self.count_down();
@@ -163,9 +157,7 @@ impl PortMachine {
         decision: Decision,
     ) -> (FrameAnswer, u64)
         requires idle { length self.old.owed + copies_each ≤ max_copies }
-        ensures free { MayPick self.old (decided_response self.old (common, decision)) 0 }
-        ensures outcome { frame_result_of result self.new
-            ≡ step_result_with purse self.old sent (decided_response self.old (common, decision)) 0 }
+        ensures { AnswersFrame purse self.old sent (decided_response self.old (common, decision)) result self.new }
     {
         self.enter(common);
         match decision {
@@ -201,10 +193,8 @@ impl PortMachine {
         requires purse { purse < 2 ^ 32 }
         requires has { HasRow self.old.rows serial row }
         requires room { length self.old.owed + copies_each ≤ max_copies }
-        ensures free { MayPick self.old (unranged_response serial row heard (row_unranged row heard row.phase)) 0 }
-        ensures outcome { frame_result_of result self.new
-            ≡ step_result_with purse self.old sent
-            (unranged_response serial row heard (row_unranged row heard row.phase)) 0 }
+        ensures { AnswersFrame purse self.old sent
+            (unranged_response serial row heard (row_unranged row heard row.phase)) result self.new }
     {
         let onu = row.onu;
         self.close_window();
@@ -235,11 +225,8 @@ impl PortMachine {
         requires purse { purse < 2 ^ 32 }
         requires has { HasRow self.old.rows serial row }
         requires room { length self.old.owed + copies_each ≤ max_copies }
-        ensures free { MayPick self.old
-            (unpolled_response serial row (poll_ended heard) (alarm_polled row (poll_ended heard))) 0 }
-        ensures outcome { frame_result_of result self.new
-            ≡ step_result_with purse self.old sent
-            (unpolled_response serial row (poll_ended heard) (alarm_polled row (poll_ended heard))) 0 }
+        ensures { AnswersFrame purse self.old sent
+            (unpolled_response serial row (poll_ended heard) (alarm_polled row (poll_ended heard))) result self.new }
     {
         let onu = row.onu;
         let (counts, alarm) = row.count_poll(ended(heard));

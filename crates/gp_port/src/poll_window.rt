@@ -4,9 +4,8 @@ ghost use Rattle.gp_alarms.specs.declared.poll.Outcome.TheVariants as poll;
 ghost use Rattle.gp_unit.specs.Rows.{alarm_polled, is_ranging};
 ghost use Rattle.gp_machine.specs.State.{HasRow};
 ghost use Rattle.gp_machine.specs.Sound.{IsSound};
-ghost use Rattle.gp_machine.specs.Responses.{MayPick, step_result_with};
 ghost use Rattle.gp_machine.specs.PollWindow.{acknowledged_response, alive_response, operating_response};
-ghost use Rattle.gp_port.specs.Answers.{burst_result_of, number_given};
+ghost use Rattle.gp_port.specs.Answers.{AnswersBurst};
 
 use super::answers::{BurstAnswer, BurstReply, raises, replies};
 use super::port_machine::PortMachine;
@@ -28,9 +27,7 @@ impl PortMachine {
         requires has { HasRow self.old.rows serial row }
         requires room { length self.old.owed + copies_each ≤ max_copies }
         requires operating { is_ranging row.phase ≡ false }
-        ensures free { MayPick self.old (operating_response serial row message) (number_given result.0) }
-        ensures outcome { burst_result_of result self.new
-            ≡ step_result_with purse self.old None (operating_response serial row message) (number_given result.0) }
+        ensures { AnswersBurst purse self.old (operating_response serial row message) result self.new }
     {
         match message {
             Up::Acknowledge { id, .. } if id == ASSIGN_ALLOC_ID => {
@@ -54,10 +51,7 @@ impl PortMachine {
         requires has { HasRow self.old.rows serial row }
         requires room { length self.old.owed + copies_each ≤ max_copies }
         requires operating { is_ranging row.phase ≡ false }
-        ensures free { MayPick self.old (acknowledged_response serial row row.pending) (number_given result.0) }
-        ensures outcome { burst_result_of result self.new
-            ≡ step_result_with purse self.old None (acknowledged_response serial row row.pending)
-            (number_given result.0) }
+        ensures { AnswersBurst purse self.old (acknowledged_response serial row row.pending) result self.new }
     {
         let Some(alloc) = row.pending else {
             return self.alive(purse, serial, row);
@@ -73,11 +67,8 @@ impl PortMachine {
         requires purse { purse < 2 ^ 32 }
         requires has { HasRow self.old.rows serial row }
         requires room { length self.old.owed + copies_each ≤ max_copies }
-        ensures free { MayPick self.old (alive_response serial row (alarm_polled row poll.Good))
-            (number_given result.0) }
-        ensures outcome { burst_result_of result self.new
-            ≡ step_result_with purse self.old None (alive_response serial row (alarm_polled row poll.Good))
-            (number_given result.0) }
+        ensures { AnswersBurst purse self.old
+            (alive_response serial row (alarm_polled row poll.Good)) result self.new }
     {
         let onu = row.onu;
         let (counts, alarm) = row.count_poll(Outcome::Good);

@@ -1,10 +1,9 @@
 ghost use Rattle.std.specs.Prelude.{◌≡◌, None};
 ghost use Rattle.gp_machine.specs.State.{HasRow};
 ghost use Rattle.gp_machine.specs.Sound.{IsSound};
-ghost use Rattle.gp_machine.specs.Responses.{MayPick, step_result_with};
 ghost use Rattle.gp_machine.specs.RangeWindow.{measured_response, ranging_response};
 ghost use Rattle.gp_ranging.specs.Delay.{equalization_delay};
-ghost use Rattle.gp_port.specs.Answers.{burst_result_of, number_given};
+ghost use Rattle.gp_port.specs.Answers.{AnswersBurst};
 
 use super::answers::{BurstAnswer, BurstReply, raises, replies};
 use super::port_machine::PortMachine;
@@ -25,10 +24,7 @@ impl PortMachine {
     ) -> (BurstAnswer, u64)
         requires sound { IsSound self.old }
         requires has { HasRow self.old.rows serial row }
-        ensures free { MayPick self.old (ranging_response self.old at serial row message) (number_given result.0) }
-        ensures outcome { burst_result_of result self.new
-            ≡ step_result_with purse self.old None (ranging_response self.old at serial row message)
-            (number_given result.0) }
+        ensures { AnswersBurst purse self.old (ranging_response self.old at serial row message) result self.new }
     {
         let onu = row.onu;
         match message {
@@ -53,13 +49,8 @@ impl PortMachine {
     fn measured(&mut self, purse: u64, at: u32, serial: Serial, row: Row) -> (BurstAnswer, u64)
         requires sound { IsSound self.old }
         requires has { HasRow self.old.rows serial row }
-        ensures free { MayPick self.old
-            (measured_response self.old serial row (equalization_delay self.old.config.teqd at))
-            (number_given result.0) }
-        ensures outcome { burst_result_of result self.new
-            ≡ step_result_with purse self.old None
-            (measured_response self.old serial row (equalization_delay self.old.config.teqd at))
-            (number_given result.0) }
+        ensures { AnswersBurst purse self.old
+            (measured_response self.old serial row (equalization_delay self.old.config.teqd at)) result self.new }
     {
         let onu = row.onu;
         let Some(eqd) = equalize(self.config.teqd, at) else {

@@ -6,10 +6,9 @@ ghost use Rattle.gp_ploam.specs.Serials.{is_among};
 ghost use Rattle.gp_unit.specs.declared.row.Row.{Row};
 ghost use Rattle.gp_machine.specs.State.{HasRow};
 ghost use Rattle.gp_machine.specs.Sound.{IsSound};
-ghost use Rattle.gp_machine.specs.Responses.{MayPick, step_result_with};
 ghost use Rattle.gp_machine.specs.SearchWindow.{active_response, admitted_response, again_response, enabled_response, newcomer_response, refuses_burst, search_response};
 ghost use Rattle.gp_port.specs.Numbers.{PicksWished};
-ghost use Rattle.gp_port.specs.Answers.{burst_result_of, number_given};
+ghost use Rattle.gp_port.specs.Answers.{AnswersBurst, number_given};
 
 use super::answers::{BurstAnswer, BurstReply, raises, replies};
 use super::port_machine::PortMachine;
@@ -21,9 +20,7 @@ use gp_table::UnitEntry;
 impl PortMachine {
     /// Refuses a burst: the window has seen it, and nothing else changes.
     pub(super) fn refuse(&mut self, purse: u64, refusal: Refusal) -> (BurstAnswer, u64)
-        ensures free { MayPick self.old (refuses_burst refusal) (number_given result.0) }
-        ensures outcome { burst_result_of result self.new
-            ≡ step_result_with purse self.old None (refuses_burst refusal) (number_given result.0) }
+        ensures { AnswersBurst purse self.old (refuses_burst refusal) result self.new }
     {
         self.mark_seen();
         (replies(BurstReply::Refused(refusal)), purse)
@@ -39,10 +36,8 @@ impl PortMachine {
         requires sound { IsSound self.old }
         requires units { self.old.config.max_units ≤ onu_ids }
         requires purse { purse < 2 ^ 32 }
-        ensures free { MayPick self.old (search_response purse self.old message) (number_given result.0) }
         ensures wished { PicksWished self.old (search_response purse self.old message) wished (number_given result.0) }
-        ensures outcome { burst_result_of result self.new
-            ≡ step_result_with purse self.old None (search_response purse self.old message) (number_given result.0) }
+        ensures outcome { AnswersBurst purse self.old (search_response purse self.old message) result self.new }
     {
         let Up::SerialNumber { onu, serial, .. } = message else {
             return self.refuse(purse, Refusal::WrongWindow);
@@ -70,10 +65,8 @@ impl PortMachine {
         requires admitted { is_among serial self.old.config.admitted ≡ true }
         requires disabled { known.disabled ≡ set.contains self.old.disabled serial }
         requires row { known.row ≡ map.get self.old.rows serial }
-        ensures free { MayPick self.old (admitted_response purse self.old serial) (number_given result.0) }
         ensures wished { PicksWished self.old (admitted_response purse self.old serial) wished (number_given result.0) }
-        ensures outcome { burst_result_of result self.new
-            ≡ step_result_with purse self.old None (admitted_response purse self.old serial) (number_given result.0) }
+        ensures outcome { AnswersBurst purse self.old (admitted_response purse self.old serial) result self.new }
     {
         if known.disabled {
             return (
@@ -93,10 +86,8 @@ impl PortMachine {
         requires units { self.old.config.max_units ≤ onu_ids }
         requires admitted { is_among serial self.old.config.admitted ≡ true }
         requires unknown { map.get self.old.rows serial ≡ None }
-        ensures free { MayPick self.old (newcomer_response purse self.old serial) (number_given result.0) }
         ensures wished { PicksWished self.old (newcomer_response purse self.old serial) wished (number_given result.0) }
-        ensures outcome { burst_result_of result self.new
-            ≡ step_result_with purse self.old None (newcomer_response purse self.old serial) (number_given result.0) }
+        ensures outcome { AnswersBurst purse self.old (newcomer_response purse self.old serial) result self.new }
     {
         let Some(onu) = self.free_onu(wished) else {
             return self.refuse(purse, Refusal::NoId);
@@ -117,10 +108,7 @@ impl PortMachine {
         requires sound { IsSound self.old }
         requires purse { purse < 2 ^ 32 }
         requires has { HasRow self.old.rows serial row }
-        ensures free { MayPick self.old (active_response self.old serial row.onu row.phase) (number_given result.0) }
-        ensures outcome { burst_result_of result self.new
-            ≡ step_result_with purse self.old None (active_response self.old serial row.onu row.phase)
-            (number_given result.0) }
+        ensures { AnswersBurst purse self.old (active_response self.old serial row.onu row.phase) result self.new }
     {
         let onu = row.onu;
         match row.phase {
@@ -140,9 +128,7 @@ impl PortMachine {
     fn again(&mut self, purse: u64, serial: Serial, row: Row) -> (BurstAnswer, u64)
         requires sound { IsSound self.old }
         requires has { HasRow self.old.rows serial row }
-        ensures free { MayPick self.old (again_response self.old serial row.onu) (number_given result.0) }
-        ensures outcome { burst_result_of result self.new
-            ≡ step_result_with purse self.old None (again_response self.old serial row.onu) (number_given result.0) }
+        ensures { AnswersBurst purse self.old (again_response self.old serial row.onu) result self.new }
     {
         let onu = row.onu;
         if self.owes_assign(onu, serial) {

@@ -3,10 +3,8 @@ ghost use Rattle.std.specs.FinMap as map;
 ghost use Rattle.gp_machine.specs.declared.event.Command.TheVariants as command;
 ghost use Rattle.gp_machine.specs.State.{HasRow};
 ghost use Rattle.gp_machine.specs.Sound.{IsSound};
-ghost use Rattle.gp_machine.specs.Changes.{step_result_of};
-ghost use Rattle.gp_machine.specs.Responses.{MayPick, step_result_with};
 ghost use Rattle.gp_machine.specs.Commands.{command_response, deactivate_response, disable_response, popup_response};
-ghost use Rattle.gp_port.specs.Numbers.{number_in};
+ghost use Rattle.gp_port.specs.Answers.{AnswersCommand};
 
 use super::command::refused;
 use super::port_machine::PortMachine;
@@ -18,11 +16,8 @@ impl PortMachine {
     pub(super) fn command_deactivate(&mut self, purse: u64, serial: Serial) -> (Answer, u64)
         requires sound { IsSound self.old }
         requires purse { purse < 2 ^ 32 }
-        ensures free { MayPick self.old (command_response self.old (command.Deactivate serial))
-            (number_in result.0.reply) }
-        ensures outcome { step_result_of result self.new
-            ≡ step_result_with purse self.old None (command_response self.old (command.Deactivate serial))
-            (number_in result.0.reply) }
+        ensures { AnswersCommand purse self.old
+            (command_response self.old (command.Deactivate serial)) result self.new }
     {
         let Some(known) = self.look_up(&serial) else {
             return (refused(Refusal::NotAdmitted), purse);
@@ -38,10 +33,7 @@ impl PortMachine {
         requires sound { IsSound self.old }
         requires purse { purse < 2 ^ 32 }
         requires has { HasRow self.old.rows serial row }
-        ensures free { MayPick self.old (deactivate_response self.old serial row) (number_in result.0.reply) }
-        ensures outcome { step_result_of result self.new
-            ≡ step_result_with purse self.old None (deactivate_response self.old serial row)
-            (number_in result.0.reply) }
+        ensures { AnswersCommand purse self.old (deactivate_response self.old serial row) result self.new }
     {
         if !self.has_room() {
             return (refused(Refusal::Busy), purse);
@@ -56,11 +48,7 @@ impl PortMachine {
     pub(super) fn command_disable(&mut self, purse: u64, serial: Serial) -> (Answer, u64)
         requires sound { IsSound self.old }
         requires purse { purse < 2 ^ 32 }
-        ensures free { MayPick self.old (command_response self.old (command.Disable serial))
-            (number_in result.0.reply) }
-        ensures outcome { step_result_of result self.new
-            ≡ step_result_with purse self.old None (command_response self.old (command.Disable serial))
-            (number_in result.0.reply) }
+        ensures { AnswersCommand purse self.old (command_response self.old (command.Disable serial)) result self.new }
     {
         let Some(known) = self.look_up(&serial) else {
             return (refused(Refusal::NotAdmitted), purse);
@@ -83,10 +71,7 @@ impl PortMachine {
     /// Carries out the command enable.
     pub(super) fn command_enable(&mut self, purse: u64, serial: Serial) -> (Answer, u64)
         requires sound { IsSound self.old }
-        ensures free { MayPick self.old (command_response self.old (command.Enable serial)) (number_in result.0.reply) }
-        ensures outcome { step_result_of result self.new
-            ≡ step_result_with purse self.old None (command_response self.old (command.Enable serial))
-            (number_in result.0.reply) }
+        ensures { AnswersCommand purse self.old (command_response self.old (command.Enable serial)) result self.new }
     {
         if self.look_up(&serial).is_none() {
             return (refused(Refusal::NotAdmitted), purse);
@@ -102,10 +87,7 @@ impl PortMachine {
     /// Carries out the command popup.
     pub(super) fn command_popup(&mut self, purse: u64, serial: Serial) -> (Answer, u64)
         requires sound { IsSound self.old }
-        ensures free { MayPick self.old (command_response self.old (command.Popup serial)) (number_in result.0.reply) }
-        ensures outcome { step_result_of result self.new
-            ≡ step_result_with purse self.old None (command_response self.old (command.Popup serial))
-            (number_in result.0.reply) }
+        ensures { AnswersCommand purse self.old (command_response self.old (command.Popup serial)) result self.new }
     {
         let Some(known) = self.look_up(&serial) else {
             return (refused(Refusal::NotAdmitted), purse);
@@ -119,9 +101,7 @@ impl PortMachine {
     /// Tells an operating unit to leave the POPUP state.
     fn popup(&mut self, purse: u64, row: Row) -> (Answer, u64)
         requires sound { IsSound self.old }
-        ensures free { MayPick self.old (popup_response self.old row) (number_in result.0.reply) }
-        ensures outcome { step_result_of result self.new
-            ≡ step_result_with purse self.old None (popup_response self.old row) (number_in result.0.reply) }
+        ensures { AnswersCommand purse self.old (popup_response self.old row) result self.new }
     {
         if row.phase.is_ranging() {
             return (refused(Refusal::NotOperating), purse);

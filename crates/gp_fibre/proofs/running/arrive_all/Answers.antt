@@ -11,11 +11,12 @@ loop-place-preserved g c =
     record {
       puts = puts_more c.args.fibre.now.world c.loop-place.fibre.world c.arrive.new.fibre.world c.args.lost.now c.args.frame c.loop-place.place c.args.flights.now _
           c.args.entries.now.items c.loop-place.entries.items c.arrive.new.entries.items (slice_get-get_or c.args.flights.now c.loop-place.place _ low) so_far.puts now.puts;
-      total = now.total ∙ so_far.total;
-      frames = now.frames ∙ so_far.frames;
-      copies = let a = so_far.copies in let b = now.copies_room in omega arith;
-      grants = let a = so_far.grants in let b = now.grants_room in omega arith;
-      len = let a = so_far.len in let b = now.entries_room in omega arith;
-      capacity = now.entries_capacity ∙ so_far.capacity;
+      counts = record { total = now.counts.total ∙ so_far.counts.total; frames = now.counts.frames ∙ so_far.counts.frames };
+      room = record {
+        copies = let a = so_far.room.copies in let b = now.room.copies in omega arith;
+        grants = let a = so_far.room.grants in let b = now.room.grants in omega arith;
+        entries = let a = so_far.room.entries in let b = now.room.entries in omega arith;
+        capacity = now.room.capacity ∙ so_far.room.capacity;
+      };
       proper = now.proper;
     }

@@ -7,33 +7,18 @@ use Rattle.gp_fibre.proofs.Coming.{left_in_reach}
 use Rattle.gp_fibre.proofs.Playing.{answered_kept, asks_bursts, answered_length, left_kept, played}
 use Rattle.gp_fibre.proofs.running.play_frame.Goals as goal
 
-pub land-requires-clause-copies : goal.land-requires-clause-copies
-land-requires-clause-copies g c =
+pub land-requires-clause-room : goal.land-requires-clause-room
+land-requires-clause-room g c =
     let bounds = asks_bursts c.deref.result.now c.args.fibre.now.world c.args.entries.now.items c.ask.new.entries.items c.ask.new.fibre.world c.ask.ensures.asks in
     let most = bounds.1 in
     let many = answered_length c.frames-frame.result (length c.args.fibre.now.world.bursts) c.args.flights.now.flights c.ask.new.flights.flights c.ask.new.fibre.world.bursts c.ask.ensures.comes in
-    let room = c.requires.copies in
-    let left = c.ask.ensures.copies_room in
-    omega arith
-
-pub land-requires-clause-grants : goal.land-requires-clause-grants
-land-requires-clause-grants g c =
-    let bounds = asks_bursts c.deref.result.now c.args.fibre.now.world c.args.entries.now.items c.ask.new.entries.items c.ask.new.fibre.world c.ask.ensures.asks in
-    let most = bounds.1 in
-    let many = answered_length c.frames-frame.result (length c.args.fibre.now.world.bursts) c.args.flights.now.flights c.ask.new.flights.flights c.ask.new.fibre.world.bursts c.ask.ensures.comes in
-    let room = c.requires.grants in
-    let left = c.ask.ensures.grants_room in
-    omega arith
-
-pub land-requires-clause-entries : goal.land-requires-clause-entries
-land-requires-clause-entries g c =
-    let bounds = asks_bursts c.deref.result.now c.args.fibre.now.world c.args.entries.now.items c.ask.new.entries.items c.ask.new.fibre.world c.ask.ensures.asks in
-    let most = bounds.1 in
-    let many = answered_length c.frames-frame.result (length c.args.fibre.now.world.bursts) c.args.flights.now.flights c.ask.new.flights.flights c.ask.new.fibre.world.bursts c.ask.ensures.comes in
-    let room = c.requires.entries in
-    let len = c.ask.ensures.entries_room in
-    let capacity = c.ask.ensures.entries_capacity in
-    omega arith
+    let room = c.requires.room in
+    let took = c.ask.ensures.room in
+    record {
+      copies = let a = room.copies in let b = took.copies in omega arith;
+      grants = let a = room.grants in let b = took.grants in omega arith;
+      entries = let a = room.entries in let b = took.entries in let e = took.capacity in omega arith;
+    }
 
 pub land-requires-clause-kept : goal.land-requires-clause-kept
 land-requires-clause-kept g c =
@@ -64,8 +49,8 @@ returns-clause-puts g c =
     c.deref-2.ensures.value c.land.ensures.puts) in
     played lc lb old new c.args.entries.now.items mid c.land.new.entries.items c.ask.new.fibre.world c.land.new.fibre.world flights asks comes puts
     (ap (λ (s : FibreStand). s.world) c.end_frame.ensures)
-    (ap (λ (s : FibreStand). s.total) c.end_frame.ensures ∙ c.land.ensures.total ∙ c.ask.ensures.total)
-    (ap (λ (s : FibreStand). s.frames) c.end_frame.ensures ∙ ap (λ (n : ℕ). n + 1) (c.land.ensures.frames ∙ c.ask.ensures.frames))
+    (ap (λ (s : FibreStand). s.total) c.end_frame.ensures ∙ c.land.ensures.counts.total ∙ c.ask.ensures.counts.total)
+    (ap (λ (s : FibreStand). s.frames) c.end_frame.ensures ∙ ap (λ (n : ℕ). n + 1) (c.land.ensures.counts.frames ∙ c.ask.ensures.counts.frames))
     (c.land.ensures.left ∙ ap (λ (n : ℕ). flights_after n flights) frame)
 
 pub returns-clause-kept : goal.returns-clause-kept
@@ -84,5 +69,5 @@ returns-clause-reach g c =
     let flights = c.ask.new.flights.flights in
     let left : AreInReach (c.frames-frame.result + 1) c.land.new.flights.flights = left_in_reach c.frames-frame.result flights c.land.new.flights.flights c.ask.ensures.reach c.land.ensures.left in
     let frames : c.end_frame.new.self.frames ≡ c.frames-frame.result + 1 =
-    ap (λ (s : FibreStand). s.frames) c.end_frame.ensures ∙ ap (λ (n : ℕ). n + 1) (c.land.ensures.frames ∙ c.ask.ensures.frames ∙ sym c.frames-frame.ensures.value) in
+    ap (λ (s : FibreStand). s.frames) c.end_frame.ensures ∙ ap (λ (n : ℕ). n + 1) (c.land.ensures.counts.frames ∙ c.ask.ensures.counts.frames ∙ sym c.frames-frame.ensures.value) in
     subst (λ (n : ℕ). AreInReach n c.land.new.flights.flights) (sym frames) left

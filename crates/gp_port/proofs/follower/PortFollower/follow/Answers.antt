@@ -29,17 +29,17 @@ returns-clause-made c =
 pub returns-clause-refused : goal.returns-clause-refused
 returns-clause-refused c =
     let o = step_result_of c.step-answer.result c.step-answer.new.self in
-    let wished = subst (λ (n : ℕ). GrantsWish n c.self.inside.machine c.args.entry.now.event c.number_in-wished.result o) c.from.ensures c.step-answer.ensures.wished in
+    let wished = subst (λ (n : ℕ). GrantsWish n c.self.inside.machine c.args.entry.now.event c.number_handed_out-wished.result o) c.from.ensures c.step-answer.ensures.wished in
     rw (← c.self.view_is)
     (λ after denied step.
-    let same = followed c.self.inside.machine c.step-answer.new.self after c.args.entry.now c.number_in-wished.result c.step-answer.result.0 c.step-answer.result.1 c.number_in-wished.ensures wished step in
+    let same = followed c.self.inside.machine c.step-answer.new.self after c.args.entry.now c.number_handed_out-wished.result c.step-answer.result.0 c.step-answer.result.1 c.number_handed_out-wished.ensures wished step in
     false≢true (sym denied ∙ c.same_outcome.ensures.1 (ap (λ (o : StepResult). o.answer) same, ap (λ (o : StepResult). o.purse) same)))
 
 pub returns-clause-alone : goal.returns-clause-alone
 returns-clause-alone c =
     let o = step_result_of c.step-answer.result c.step-answer.new.self in
-    let wished = subst (λ (n : ℕ). GrantsWish n c.self.inside.machine c.args.entry.now.event c.number_in-wished.result o) c.from.ensures c.step-answer.ensures.wished in
+    let wished = subst (λ (n : ℕ). GrantsWish n c.self.inside.machine c.args.entry.now.event c.number_handed_out-wished.result o) c.from.ensures c.step-answer.ensures.wished in
     rw (← c.self.view_is)
     (λ after step.
     sym (ap (λ (o : StepResult). o.state)
-    (followed c.self.inside.machine c.step-answer.new.self after c.args.entry.now c.number_in-wished.result c.step-answer.result.0 c.step-answer.result.1 c.number_in-wished.ensures wished step)))
+    (followed c.self.inside.machine c.step-answer.new.self after c.args.entry.now c.number_handed_out-wished.result c.step-answer.result.0 c.step-answer.result.1 c.number_handed_out-wished.ensures wished step)))

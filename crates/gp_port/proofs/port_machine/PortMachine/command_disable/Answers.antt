@@ -8,5 +8,5 @@ remove_unit-requires c =
     let has = sym known ∙ c.in-Some-row.is in
     (c.in-Some-row.row, has, sym (ap (λ (r : Row). r.onu) c.in-Some-row.row-is), (c.requires.sound.units.each c.args.serial c.in-Some-row.row has).fits)
 
-pub returns-clause-outcome : goal.returns-clause-outcome
-returns-clause-outcome c = search rules
+pub returns : goal.returns
+returns c = search rules

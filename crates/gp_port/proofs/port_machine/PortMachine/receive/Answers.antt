@@ -18,9 +18,6 @@ returns-in-Poll-clause-wished c =
     heard_wish c.args.purse c.args.self.now c.args.at c.args.heard c.in-Some.window (Poll n) m c.args.wished (number_given c.in_poll.result.0) (rw (← c.self.view_is) c.in-Some.is) c.in-Some-heard.is (sym c.in-Poll.ensures)
     (poll_gives c.args.purse c.args.self.now c.args.at n m)
 
-pub returns-in-Search-clause-free : goal.returns-in-Search-clause-free
-returns-in-Search-clause-free c = search rules
-
 pub returns-in-Search-clause-wished : goal.returns-in-Search-clause-wished
 returns-in-Search-clause-wished c = search rules
 
