@@ -8,15 +8,15 @@ use Rattle.gp_fibre.specs.Fibre.{FibreStand}
 use Rattle.gp_fibre.specs.Flights.{FlightsState}
 
 -- there is room for what so many events of the port may send and grant, and for as many entries
-pub record HasEventRoom (events : ℕ) (fibre : FibreStand) (entries : Vec Entry Global) : Type 0 where
+pub record HasEventRoom (events : ℕ) (fibre : FibreStand) (kept : Vec Entry Global) : Type 0 where
   pub copies : events ≤ fibre.copies_room
   pub grants : events ≤ fibre.grants_room
-  pub entries : vec_len entries + events ≤ vec_capacity entries
+  pub entries : vec_len kept + events ≤ vec_capacity kept
 
 -- there is room for a burst of each unit, and for its flight
-pub record HasAnswerRoom (fibre : FibreStand) (flights : FlightsState) : Type 0 where
+pub record HasAnswerRoom (fibre : FibreStand) (coming : FlightsState) : Type 0 where
   pub bursts : length fibre.world.units ≤ fibre.bursts_room
-  pub flights : length fibre.world.units ≤ flights.room
+  pub flights : length fibre.world.units ≤ coming.room
 
 -- so many events, or fewer, took their room
 pub record TakesEventRoom (events : ℕ) (old new : FibreStand) (before after : Vec Entry Global) : Type 0 where
