@@ -1,3 +1,4 @@
 pub mod Marks
 pub mod Reconciles
 pub mod Numbers
+pub mod Standing

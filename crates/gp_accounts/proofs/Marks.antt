@@ -1,15 +1,14 @@
-use Rattle.std.proofs.Common.{◌≡◌, ◌≢◌, ◌<◌, ◌≤◌, ◌+◌, ◌-◌, ℕ, Bool, true, false, List, length, count_by, sum_by, map, take, get_or, set, inl, inr, sym, ap, ◌∙◌, arith}
+use Rattle.std.proofs.Common.{◌≡◌, ◌≢◌, ◌<◌, ◌≤◌, ◌+◌, ◌-◌, ℕ, Bool, true, false, List, length, count_by, sum_by, map, take, get_or, inl, inr, sym, ap, ◌∙◌, arith}
 use Rattle.std.proofs.lemmas.List.Sums.{count_by_more_yes, count_by_more_no, sum_by_more, sum_by-take-drop}
-use Rattle.std.proofs.lemmas.Bool.Decides.{nat_tests, eqb_tells}
+use Rattle.std.proofs.lemmas.Bool.Decides.{nat_tests}
 use Rattle.std.proofs.lemmas.Bool.{cases_lt}
-use Rattle.std.proofs.lemmas.List.{get_or-set_other, take-map, get_or-map, length-map, take_all}
-use Rattle.std.proofs.lemmas.Grind.{get_or-set_at}
+use Rattle.std.proofs.lemmas.List.{take-map, get_or-map, length-map}
 use Rattle.std.proofs.lemmas.Option.{slice_get_within}
-use Rattle.std.specs.Prelude.{cond, slice_index, slice_index_or, slice_get, IsTrue, ◌↔◌, All, Option, Some, None, nat_lt, if◌then◌else◌}
+use Rattle.std.specs.Prelude.{cond, slice_get, Option, Some, None, nat_lt, if◌then◌else◌}
 use Rattle.gp_machine.specs.declared.entry.Entry.{Entry}
 use Rattle.gp_journal.specs.Kept.{History, entry_in}
 use Rattle.gp_machine.specs.declared.entry.Receipt.{Receipt}
-use Rattle.gp_accounts.specs.Accounted.{names, times_named, IsNamed}
+use Rattle.gp_accounts.specs.Accounted.{names, times_named}
 
 pub some_same : {X : Type 0} (o : Option X) (x y : X) → o ≡ Some x → o ≡ Some y → x ≡ y
 some_same o x y p q = let e = sym p ∙ q in cc
@@ -38,33 +37,6 @@ count_no_number rs i d port k l p = count_by_more_no (names port k) rs i d l (na
 pub count_front : (rs : List Receipt) (i port k : ℕ) → count_by (names port k) (take i rs) ≤ count_by (names port k) rs
 count_front rs i port k = omega (arith, sum_by-take-drop (λ (r : Receipt). cond (names port k r) 1 0) rs i)
 
--- each mark is what it was, and as many as the receipts that name its entry
-abbrev pub Marked : List ℕ → List ℕ → ℕ → ℕ → List Receipt → Type 0
-Marked before now port first rs = (k : ℕ) → k < length before → get_or now k 0 ≡ get_or before k 0 + count_by (names port (first + k)) rs
-
-pub marked_hit : (before now : List ℕ) (rs : List Receipt) (i port first at : ℕ) (d : Receipt) → i < length rs → at < length now → (get_or rs i d).port ≡ port → (get_or rs i d).number ≡ first + at → get_or now at 0 ≡ 0
-    → Marked before now port first (take i rs) → Marked before (set now at 1) port first (take (i + 1) rs)
-marked_hit before now rs i port first at d l within p q zero h k lk =
-    elim (eqb_tells k at) [
-      | inl e ↦
-          let at_k : get_or now k 0 ≡ 0 = ap (λ (n : ℕ). get_or now n 0) e.1 ∙ zero in
-          let here : (get_or rs i d).number ≡ first + k = q ∙ ap (λ (n : ℕ). first + n) (sym e.1) in
-          omega (arith, get_or-set_at now at k 1 0 e.1 within, count_yes rs i d port (first + k) l p here, h k lk, at_k)
-      | inr e ↦
-          let differs : (get_or rs i d).number ≢ first + k = λ same. e.1 (omega (arith, same, q)) in
-          omega (arith, get_or-set_other now at k 1 0 e.1, count_no_number rs i d port (first + k) l differs, h k lk)
-    ]
-
-pub marked_miss : (before now : List ℕ) (rs : List Receipt) (i port first : ℕ) (d : Receipt) → i < length rs → (get_or rs i d).port ≢ port
-    → Marked before now port first (take i rs) → Marked before now port first (take (i + 1) rs)
-marked_miss before now rs i port first d l p h k lk = omega (arith, count_no_port rs i d port (first + k) l p, h k lk)
-
--- a mark that is made already is of an entry that is named again
-pub marked_twice : (before now : List ℕ) (rs : List Receipt) (i port first at : ℕ) (d : Receipt) → i < length rs → at < length before → (get_or rs i d).port ≡ port → (get_or rs i d).number ≡ first + at → (get_or now at 0 ≡ 0 → ⊥)
-    → Marked before now port first (take i rs) → (k : ℕ) × (k < length before) × (1 < get_or before k 0 + count_by (names port (first + k)) rs)
-marked_twice before now rs i port first at d l within p q some h =
-    (at, within, omega (arith, some, h at within, count_yes rs i d port (first + at) l p q, count_front rs (i + 1) port (first + at)))
-
 -- what the first workers and the next one name is at most what all name
 pub times_front : {W : Type 0} (f : W → List Receipt) (ws : List W) (i : ℕ) (d : W) (port k : ℕ) → i < length ws
     → times_named (map f (take i ws)) port k + count_by (names port k) (f (get_or ws i d)) ≤ times_named (map f ws) port k
@@ -83,17 +55,6 @@ twice_refutes f ws i d port k m rs l is same marked two one =
     let item : count_by (names port k) (f (get_or ws i d)) ≡ count_by (names port k) rs = ap (λ w. count_by (names port k) (f w)) (sym is) ∙ sym (ap (count_by (names port k)) same) in
     omega (arith, times_front f ws i d port k l, item)
 
--- once all workers are counted, the marks are all one just where each entry is named once
-pub ones_tell : {W : Type 0} (f : W → List Receipt) (ws : List W) (i : ℕ) (ms : List ℕ) (port first n : ℕ) (b : Bool) → length ws ≤ i → length ms ≡ n
-    → ((k : ℕ) → k < n → slice_index ms k ≡ times_named (map f (take i ws)) port (first + k)) → (IsTrue b ↔ ((k : ℕ) → k < length ms → slice_index ms k ≡ 1))
-    → (IsTrue b ↔ ((k : ℕ) → k < n → times_named (map f ws) port (first + k) ≡ 1))
-ones_tell f ws i ms port first n b long len marked tells =
-    let all : take i ws ≡ ws = take_all i ws long in
-    let count : (k : ℕ) → k < n → slice_index ms k ≡ times_named (map f ws) port (first + k) = λ k l. marked k l ∙ ap (λ w. times_named (map f w) port (first + k)) all in (
-      λ t k l. sym (count k l) ∙ tells.0 t k (rw len l),
-      λ once. tells.1 (λ k l. count k (rw len at l) ∙ once k (rw len at l)),
-    )
-
 -- an entry that is found lies within the history
 pub entry_within : (h : History) (n : ℕ) (e : Entry) → entry_in h n ≡ Some e → (h.first ≤ n) × (n < h.first + length h.entries)
 entry_within h n e is =
@@ -108,13 +69,3 @@ entry_within h n e is =
           let within = slice_get_within h.entries (n - h.first) e some in
           (high, omega (arith, within, high))
     ]
-
--- a receipt that names an entry is within the port's history
-pub named_within : (hs : List History) (rs : List Receipt) (port : ℕ) (h : History) → slice_get hs port ≡ Some h → All (IsNamed hs) rs
-    → All (λ (r : Receipt). r.port ≡ port → (h.first ≤ r.number) × (r.number < h.first + length h.entries)) rs
-named_within hs rs port h is named k d l same =
-    let r : Receipt = slice_index_or rs k d in
-    let n : IsNamed hs r = named k d l in
-    let there : slice_get hs port ≡ Some n.history = ap (slice_get hs) (sym same) ∙ n.of in
-    let same_history : n.history ≡ h = some_same (slice_get hs port) n.history h there is in
-    entry_within h r.number r.entry (ap (λ (w : History). entry_in w r.number) (sym same_history) ∙ n.entry)

@@ -1,1 +1,2 @@
 pub mod Accounted
+pub mod Places

@@ -1,11 +1,10 @@
-ghost use Rattle.std.specs.Prelude.{◌≡◌, ◌≤◌, ◌↔◌, All, IsTrue, OnOk, length, map};
+ghost use Rattle.std.specs.Prelude.{◌≡◌, OnOk, map};
 ghost use Rattle.gp_accounts.specs.Accounted.{Accounted};
 
 use super::fault::CloseFault;
-use super::marking::{blank_marks, each_once};
-use super::naming::each_named;
+use super::marking::are_accounted;
+use super::places::places_of;
 use super::recorded::Recorded;
-use super::rising::each_rises;
 use super::told::Told;
 use std::alloc::Global;
 
@@ -23,26 +22,15 @@ pub fn reconcile<J: Recorded, W: Told>(
         → Accounted (map J.history journals.now) (map W.told workers.now) → ⊥ }
     ensures ended { result ≡ Err CloseFault.WorkerMissing → ⊥ }
 {
-    let Ok(mut marks) = blank_marks(alloc, journals) else {
+    let Some(places) = places_of(alloc, journals) else {
         return Err(CloseFault::OutOfMemory);
     };
-    if are_accounted(&mut marks, journals, workers) {
+    let Ok(mut marks) = vec![in alloc; 0u8; places.count] else {
+        return Err(CloseFault::OutOfMemory);
+    };
+    if are_accounted(journals, workers, &places.starts, &mut marks) {
         Ok(())
     } else {
         Err(CloseFault::Mismatch)
     }
-}
-
-/// Tells whether they tell of the same steps. There is a mark for each entry of a port.
-fn are_accounted<J: Recorded, W: Told>(marks: &mut [u8], journals: &[J], workers: &[W]) -> bool
-    requires { All (λ j. length (J.history j).entries ≤ length marks.old) journals.now }
-    ensures { IsTrue result ↔ Accounted (map J.history journals.now) (map W.told workers.now) }
-{
-    if !each_named(journals, workers) {
-        return false;
-    }
-    if !each_rises(workers) {
-        return false;
-    }
-    each_once(marks, journals, workers)
 }

@@ -1,5 +1,5 @@
-ghost use Rattle.std.specs.Prelude.{◌≡◌, length};
-ghost use Rattle.gp_journal.specs.Kept.{History, entry_in, history_of};
+ghost use Rattle.std.specs.Prelude.{◌≡◌};
+ghost use Rattle.gp_journal.specs.Kept.{History, history_of};
 
 use gp_journal::Journal;
 use gp_machine::Entry;
@@ -12,13 +12,9 @@ pub trait Recorded {
     fn first(&self) -> u64
         ensures { result ≡ (history self.now).first };
 
-    /// Tells how many entries are kept.
-    fn count(&self) -> usize
-        ensures { result ≡ length (history self.now).entries };
-
-    /// Gives the entry with this number, if it is kept.
-    fn entry_at(&self, number: u64) -> Option<Entry>
-        ensures { result ≡ entry_in (history self.now) number };
+    /// Gives the entries that are kept, in order.
+    fn entries(&self) -> &[Entry]
+        ensures { result.now ≡ (history self.now).entries };
 }
 
 impl Recorded for Journal {
@@ -28,11 +24,7 @@ impl Recorded for Journal {
         Journal::first(self)
     }
 
-    fn count(&self) -> usize {
-        self.entries().len()
-    }
-
-    fn entry_at(&self, number: u64) -> Option<Entry> {
-        Journal::entry_at(self, number)
+    fn entries(&self) -> &[Entry] {
+        Journal::entries(self)
     }
 }

@@ -45,12 +45,8 @@ impl<L: Ledger> Recorded for Unlocked<L> {
         self.desk.journal().first()
     }
 
-    fn count(&self) -> usize {
-        self.desk.journal().entries().len()
-    }
-
-    fn entry_at(&self, number: u64) -> Option<Entry> {
-        self.desk.journal().entry_at(number)
+    fn entries(&self) -> &[Entry] {
+        self.desk.journal().entries()
     }
 }
 

@@ -1,5 +1,0 @@
-use Rattle.std.proofs.Common.{rules}
-use Rattle.gp_accounts.proofs.recorded.JournalRecorded.entry_at.Goals as goal
-
-pub returns : goal.returns
-returns c = search rules
