@@ -65,6 +65,7 @@ impl<L: Ledger> Engine<L> {
     }
 
     /// Tells what a port knows of the unit with this serial number. The faults are `NoPort` and `NoUnit`.
+    #[inline(always)]
     pub(crate) fn show(&self, port: u8, serial: &Serial) -> Result<RowNumbers, Fault>
         ensures { result ≡ row_at self.now port serial.now }
     {
@@ -137,12 +138,7 @@ impl<L: Ledger> Engine<L> {
     }
 
     /// Gives its line of the trace.
-    pub(crate) fn entry_line(
-        &self,
-        alloc: Global,
-        port: u8,
-        number: u64,
-    ) -> Result<Vec<u8>, Fault>
+    pub(crate) fn entry_line(&self, alloc: Global, port: u8, number: u64) -> Result<Vec<u8>, Fault>
         ensures { GivesLine self.now port number result }
     {
         match self.entry(port, number) {
