@@ -1,7 +1,6 @@
 -- What a call from C answers, and what it leaves.
 use Rattle.std.specs.Prelude.{ℕ, ◌≡◌, ◌++◌, nat_le, if◌then◌else◌, length, drop, List, Option, None, Some, Result, Ok, Err, OnOk, OnErr, ◌⊎◌}
 use Rattle.gp_ploam.specs.declared.message.Serial.{Serial}
-use Rattle.gp_trace.specs.Text.{line_of}
 use Rattle.gp_machine.specs.declared.config.PortConfig.{PortConfig}
 use Rattle.gp_machine.specs.declared.event.Event.{Event}
 use Rattle.gp_chassis.specs.declared.config.ChassisConfig.{ChassisConfig}
@@ -18,7 +17,7 @@ use Rattle.gp_c.specs.declared.settings.SerialNumber.{SerialNumber}
 use Rattle.gp_c.specs.Faults.{fault_number}
 use Rattle.gp_c.specs.Settings.{ports_of}
 use Rattle.gp_c.specs.declared.kept.KeptEntry.{KeptEntry}
-use Rattle.gp_c.specs.Entries.{entry_at}
+use Rattle.gp_c.specs.Entries.{entry_at, told_by, line_told}
 use Rattle.gp_c.specs.Serves.{Answers, Cuts, StaysOpen, row_at, counts_at}
 
 -- ---- what crosses
@@ -122,15 +121,6 @@ tallied_at (Some core) port = counts_at core port
 abbrev pub kept_at : Option CoreState → ℕ → ℕ → Result KeptEntry Fault
 kept_at None port number = Err NotOpen
 kept_at (Some core) port number = entry_at core port number
-
--- what is told of it, where it is kept
-abbrev pub told_by : {A : Type 0} → (KeptEntry → A) → Result KeptEntry Fault → Result A Fault
-told_by tell (Ok kept) = Ok (tell kept)
-told_by tell (Err fault) = Err fault
-
--- its line of the trace
-abbrev pub line_told : KeptEntry → List ℕ
-line_told kept = line_of kept.mask kept.receipt
 
 -- the journal of a port was cut, or nothing changed
 abbrev pub CutsJournal : Option CoreState → ℕ → Option CoreState → Result Unit Fault → Type 0

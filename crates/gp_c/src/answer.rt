@@ -5,9 +5,9 @@ ghost use Rattle.gp_ploam.specs.Down.{IsProperDown};
 ghost use Rattle.gp_ploam.specs.Mask.{mask_value};
 ghost use Rattle.gp_c.specs.Answers as spec;
 
-use gp_alarms::{Alarm, AlarmKind};
+use gp_alarms::AlarmKind;
 use gp_machine::{Answer, Receipt, Reply};
-use gp_ploam::{Down, Mask, encode_down};
+use gp_ploam::{Mask, encode_down};
 use gp_ranging::Grant;
 
 /// What an event gave. A number that its kind has no use for is 0.
@@ -147,28 +147,8 @@ fn kind_number(kind: AlarmKind) -> u8
     }
 }
 
-/// Tells an alarm by its kind and the octets of its serial number.
-fn alarm_numbers(alarm: &Option<Alarm>) -> (u8, [u8; 8])
-    ensures { result ≡ spec.alarm_numbers alarm.now }
-{
-    match alarm {
-        None => (0, [0; 8]),
-        Some(alarm) => (kind_number(alarm.kind), alarm.serial.0),
-    }
-}
-
-/// Tells whether a message is sent, and its octets.
-fn sent_numbers(mask: Mask, sent: &Option<Down>) -> (u8, [u8; 13])
-    requires { ForSome sent.now IsProperDown }
-    ensures { result ≡ spec.sent_numbers (mask_value mask) sent.now }
-{
-    match sent {
-        None => (0, [0; 13]),
-        Some(message) => (1, encode_down(message, mask)),
-    }
-}
-
 /// Tells by numbers what an event gave.
+// An alarm and a message are written where they stand, if they are there: most answers have neither.
 #[inline(always)]
 pub(crate) fn answer_of(mask: Mask, receipt: &Receipt) -> AnswerNumbers
     requires { ForSome receipt.now.entry.answer.sent IsProperDown }
@@ -177,9 +157,7 @@ pub(crate) fn answer_of(mask: Mask, receipt: &Receipt) -> AnswerNumbers
     let answer: &Answer = &receipt.entry.answer;
     let reply = reply_numbers(&answer.reply);
     let (grant, grant_onu) = grant_numbers(&answer.grant);
-    let (alarm, alarm_serial) = alarm_numbers(&answer.alarm);
-    let (is_sent, sent) = sent_numbers(mask, &answer.sent);
-    AnswerNumbers {
+    let mut numbers = AnswerNumbers {
         number: receipt.number,
         eqd: reply.eqd,
         alloc: reply.alloc,
@@ -189,9 +167,20 @@ pub(crate) fn answer_of(mask: Mask, receipt: &Receipt) -> AnswerNumbers
         count: reply.count,
         grant,
         grant_onu,
-        alarm,
-        alarm_serial,
-        is_sent,
-        sent,
+        alarm: 0,
+        alarm_serial: [0; 8],
+        is_sent: 0,
+        sent: [0; 13],
+    };
+    if let Some(alarm) = &answer.alarm {
+        numbers.alarm = kind_number(alarm.kind);
+        let octets = alarm.serial.0;
+        numbers.alarm_serial = octets;
     }
+    if let Some(message) = &answer.sent {
+        numbers.is_sent = 1;
+        let octets = encode_down(message, mask);
+        numbers.sent = octets;
+    }
+    numbers
 }

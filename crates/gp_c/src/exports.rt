@@ -5,16 +5,17 @@ ghost use Rattle.gp_machine.specs.declared.event.Event.{Event as AnyEvent};
 ghost use Rattle.gp_machine.specs.declared.event.Event.TheVariants.{Frame, Burst, Command as Commanded};
 ghost use Rattle.gp_c.specs.declared.fault.Fault.{Fault as AnyFault};
 ghost use Rattle.gp_c.specs.Faults.{fault_number, status_text};
-ghost use Rattle.gp_c.specs.Events.{event_numbers, event_of};
-ghost use Rattle.gp_c.specs.Answers.{answer_numbers};
-ghost use Rattle.gp_ploam.specs.Mask.{mask_value};
+ghost use Rattle.gp_c.specs.Events.{event_of};
+ghost use Rattle.gp_c.specs.Entries.{told_by, event_told, answer_told};
 ghost use Rattle.gp_c.specs.Turns.{turn_of};
 ghost use Rattle.gp_c.specs.Commands as spec;
 ghost use Rattle.gp_c.specs.Settings.{serial_of};
-ghost use Rattle.gp_c.specs.Calls.{asked_for, TellsOpen, Tells, TellsCut, TellsLine, kept_at, told_by, line_told, shown_at, free_at, closed_at, tallied_at, status_of, written, text_in};
+ghost use Rattle.gp_c.specs.Calls.{asked_for, TellsOpen, Tells, TellsCut, TellsLine, kept_at, shown_at, free_at, closed_at, tallied_at, status_of, written, text_in};
 
 use crate::answer::AnswerNumbers;
-use crate::calls::{apply, close, cut, entry, free, open, show, tally};
+use crate::calls::{
+    apply, close, cut, entry_answer, entry_event, entry_line, free, open, show, tally,
+};
 use crate::command::command_of;
 use crate::counts::PortCounts;
 use crate::event::{EventNumbers, event_of as event_in};
@@ -192,16 +193,17 @@ pub extern "C" fn wp_entry(
 ) -> u32
     ensures unchanged { handle.new.value ≡ handle.old.value }
     ensures status { result ≡ status_of (kept_at handle.old.value port number) }
-    ensures event { event.new ≡ written event.old
-        (told_by (λ kept. event_numbers kept.receipt.entry.event) (kept_at handle.old.value port number)) }
-    ensures answer { answer.new ≡ written answer.old
-        (told_by (λ kept. answer_numbers (mask_value kept.mask) kept.receipt.number kept.receipt.entry.answer)
-        (kept_at handle.old.value port number)) }
+    ensures event { event.new ≡ written event.old (told_by event_told (kept_at handle.old.value port number)) }
+    ensures answer { answer.new ≡ written answer.old (told_by answer_told (kept_at handle.old.value port number)) }
 {
-    match entry(handle, alloc, port, number) {
-        Ok(kept) => {
-            *event = kept.event();
-            *answer = kept.answer();
+    let happened = match entry_event(handle, alloc, port, number) {
+        Ok(happened) => happened,
+        Err(fault) => return fault.number(),
+    };
+    match entry_answer(handle, alloc, port, number) {
+        Ok(told) => {
+            *event = happened;
+            *answer = told;
             DONE
         }
         Err(fault) => fault.number(),
@@ -222,28 +224,12 @@ pub extern "C" fn wp_line(
     ensures unchanged { handle.new.value ≡ handle.old.value }
     ensures told { TellsLine handle.old.value port number result buffer.old buffer.new length.old length.new }
 {
-    match line_of(handle, alloc, port, number) {
+    match entry_line(handle, alloc, port, number) {
         Ok(line) => {
             *length = write_text(line.as_slice(), buffer);
             DONE
         }
         Err(fault) => fault.number(),
-    }
-}
-
-/// Gives the trace line of an entry that a port's journal keeps.
-fn line_of(handle: &mut Handle, alloc: Global, port: u8, number: u64) -> Result<Vec<u8>, Fault>
-    ensures unchanged { handle.new.value ≡ handle.old.value }
-    ensures line { IfOk result (λ line. told_by line_told (kept_at handle.old.value port number) ≡ Ok line.items) }
-    ensures fault { IfErr result
-        (λ fault. (told_by line_told (kept_at handle.old.value port number) ≡ Err fault) ⊎ (fault ≡ AnyFault.OutOfMemory)) }
-{
-    match entry(handle, alloc, port, number) {
-        Ok(kept) => match kept.line(alloc) {
-            Ok(line) => Ok(line),
-            Err(_) => Err(Fault::OutOfMemory),
-        },
-        Err(fault) => Err(fault),
     }
 }
 
