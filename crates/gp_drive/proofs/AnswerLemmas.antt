@@ -6,7 +6,7 @@ use Rattle.gp_flow.specs.Lines.Starts.{PartSaid}
 use Rattle.gp_flow.proofs.AnswerLemmas.{answers_as}
 use Rattle.gp_lines.specs.declared.turn.Asked.{Asked}
 use Rattle.gp_lines.specs.TurnReading.{turn_of}
-use Rattle.gp_stream.specs.Sink.{SinkState, Takes, TakesPrefix}
+use Rattle.gp_stream.specs.Sink.{SinkState}
 use Rattle.gp_replay.specs.declared.fault.PlayFault.{PlayFault}
 use Rattle.gp_replay.specs.declared.fault.PlayFault.TheVariants as faults
 use Rattle.gp_replay.specs.Playing.{Playing}
@@ -18,8 +18,8 @@ use Rattle.gp_drive.specs.Turns.{PlaysTurn, PlaysTurnPart, cost_of, missing_in}
 
 -- ---- a turn
 
-prefix_of : {W : Type 0} (x y : SinkState W) (bytes : List ℕ) → Takes x y bytes → TakesPrefix x y bytes
-prefix_of x y bytes t = record { written = t.written; unwritten = y.gathered; appended = t.appended; rest = t.rest }
+stops : {P : Type 0} → true ≡ false → P
+stops e = absurd (cc)
 
 pub played : {S W A B : Type 0} (playing : Playing S) (turn : Asked) (old new : DriveState S) (x y : SinkState W) (u : A) (v : B)
     → new.mask ≡ old.mask → new.lines ≡ old.lines + 1 → new.errors ≡ old.errors → new.left + cost_of turn ≡ old.left
@@ -32,7 +32,7 @@ played playing turn old new x y u v mask lines errors left p = record {
     p.ok.lines,
   );
   error = tt;
-  flushed = λ f. p.flushed f refl;
+  flushed = λ f unstopped. p.flushed f refl;
   stopped = λ s. p.stopped ∙ ap (λ (b : Bool). b || false) s;
 }
 
@@ -43,9 +43,8 @@ unplayed playing turn old new end x y faults.OutOfMemory p =
     let w = p.fault.1 in
     record {
       ok = tt;
-      error = PartSaid (trace_text old.mask w.receipts) (record old { player = p.fault.0 }) (record { receipts = w.receipts; played = w.happened; said_is = refl })
-          (prefix_of x y _ w.lines);
-      flushed = λ f. tt;
+      error = PartSaid (trace_text old.mask w.receipts) (record old { player = p.fault.0 }) (record { receipts = w.receipts; played = w.happened; said_is = refl }) w.lines;
+      flushed = λ f unstopped. p.flushed f refl;
       stopped = λ s. p.stopped ∙ ap (λ (b : Bool). b || false) s;
     }
 unplayed playing turn old new end x y faults.Write p =
@@ -53,7 +52,7 @@ unplayed playing turn old new end x y faults.Write p =
     record {
       ok = tt;
       error = PartSaid (trace_text old.mask w.receipts) (record old { player = w.end }) (record { receipts = w.receipts; played = w.happened; said_is = refl }) w.lines;
-      flushed = λ f. tt;
+      flushed = λ f unstopped. stops unstopped;
       stopped = λ s. p.stopped ∙ ap (λ (b : Bool). b || true) s;
     }
 

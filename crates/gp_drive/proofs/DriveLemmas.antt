@@ -1,5 +1,5 @@
 -- A drive, from the script's events and the lines behind them.
-use Rattle.std.proofs.Common.{◌≡◌, ℕ, ◌+◌, ◌^◌, ◌≤◌, true, false, List, ◌++◌, Result, Ok, Err, IsErrAnd, length, take, refl, sym, ap, subst, ◌∙◌, arith, append_assoc}
+use Rattle.std.proofs.Common.{◌≡◌, ℕ, ◌+◌, ◌^◌, ◌≤◌, ◌⊎◌, inl, inr, true, false, List, ◌++◌, Result, Ok, Err, IsErrAnd, length, take, refl, sym, ap, subst, ◌∙◌, arith, append_assoc}
 use Rattle.std.specs.Io.KnownBytes.{Appends}
 use Rattle.std.proofs.KnownBytes.{Appends-trans}
 use Rattle.std.proofs.Math.Seq.{take-append-add}
@@ -8,11 +8,13 @@ use Rattle.gp_stream.specs.Sink.{SinkState, Takes}
 use Rattle.gp_stream.specs.Source.{ReadsAll, SourceState}
 use Rattle.gp_script.specs.declared.script.ScriptEvent.{ScriptEvent}
 use Rattle.gp_trace.specs.Text.{trace_text}
+use Rattle.gp_flow.specs.declared.fault.LineFault.{LineFault}
+use Rattle.gp_flow.specs.declared.fault.LineFault.TheVariants as unanswered
 use Rattle.gp_flow.specs.declared.fault.LinesFault.{LinesFault}
 use Rattle.gp_flow.specs.declared.fault.LinesFault.TheVariants as lines
 use Rattle.gp_flow.specs.declared.lines.LinesEnd.{LinesEnd}
 use Rattle.gp_flow.specs.declared.lines.LinesEnd.TheVariants as ends
-use Rattle.gp_flow.specs.Lines.{Serves, ServesTo}
+use Rattle.gp_flow.specs.Lines.{GetsAll, GetsPrefix, Leaves, Serves, ServesTo}
 use Rattle.gp_script.specs.declared.fault.ScriptError.{ScriptError}
 use Rattle.gp_script.specs.declared.fault.ScriptError.TheVariants as errors
 use Rattle.gp_script.specs.declared.fault.ScriptFault.{ScriptFault}
@@ -71,14 +73,26 @@ joined x y z text said t a =
     ap (λ (l : List ℕ). l ++ said) t.rest ∙ append_assoc t.written y.gathered said in
     subst (Appends x.held z.held) (sym all) (Appends-trans x.held y.held z.held t.written (y.gathered ++ said) t.appended a)
 
-joined_prefix : {W : Type 0} (x y z : SinkState W) (text said : List ℕ) → Takes x y text → ((count : ℕ) × Appends y.held z.held (take count (y.gathered ++ said)))
-    → (count : ℕ) × Appends x.held z.held (take count (x.gathered ++ text ++ said))
+joined_prefix : {W : Type 0} (x y z : SinkState W) (text said : List ℕ) → Takes x y text → GetsPrefix y z said → GetsPrefix x z (text ++ said)
 joined_prefix x y z text said t a =
-    let all : x.gathered ++ text ++ said ≡ t.written ++ (y.gathered ++ said) =
-    ap (λ (l : List ℕ). l ++ said) t.rest ∙ append_assoc t.written y.gathered said in
-    let prefix : take (length t.written + a.0) (x.gathered ++ text ++ said) ≡ t.written ++ take a.0 (y.gathered ++ said) =
-    ap (take (length t.written + a.0)) all ∙ take-append-add t.written (y.gathered ++ said) a.0 in
-    (length t.written + a.0, subst (Appends x.held z.held) (sym prefix) (Appends-trans x.held y.held z.held t.written (take a.0 (y.gathered ++ said)) t.appended a.1))
+    let all : x.gathered ++ (text ++ said) ≡ t.written ++ (y.gathered ++ said) =
+    sym (append_assoc x.gathered text said) ∙ ap (λ (l : List ℕ). l ++ said) t.rest ∙ append_assoc t.written y.gathered said in
+    let prefix : take (length t.written + a.count) (x.gathered ++ (text ++ said)) ≡ t.written ++ take a.count (y.gathered ++ said) =
+    ap (take (length t.written + a.count)) all ∙ take-append-add t.written (y.gathered ++ said) a.count in
+    record {
+      count = length t.written + a.count;
+      written = subst (Appends x.held z.held) (sym prefix) (Appends-trans x.held y.held z.held t.written (take a.count (y.gathered ++ said)) t.appended a.written);
+    }
+
+joined_all : {W : Type 0} (x y z : SinkState W) (text said : List ℕ) → Takes x y text → GetsAll y z said ⊎ (GetsPrefix y z said × (z.stopped ≡ true))
+    → GetsAll x z (text ++ said) ⊎ (GetsPrefix x z (text ++ said) × (z.stopped ≡ true))
+joined_all x y z text said t (inl all) = inl (record { written = subst (Appends x.held z.held) (append_assoc x.gathered text said) (joined x y z text said t all.written); kept = all.kept; unstopped = all.unstopped })
+joined_all x y z text said t (inr (some, stopped)) = inr (joined_prefix x y z text said t some, stopped)
+
+joined_left : {W : Type 0} (fault : LineFault) (x y z : SinkState W) (text said : List ℕ) → Takes x y text → Leaves fault y z said → Leaves fault x z (text ++ said)
+joined_left unanswered.Write x y z text said t a = joined_prefix x y z text said t a
+joined_left unanswered.OutOfMemory x y z text said t a = joined_all x y z text said t a
+joined_left unanswered.Full x y z text said t a = joined_all x y z text said t a
 
 pub drives_to : {S T W : Type 0} (playing : Playing S) (start mid : S) (mask : Mask) (events : List ScriptEvent) (answer : Result Driven LinesFault)
     (from to : SourceState T) (x y z : SinkState W) → Writes mask (PlaysAll playing events) start mid x y → ServesTurns playing mid mask answer from to y z
@@ -125,7 +139,7 @@ drives_to playing start mid mask events (Err (lines.Line fault)) from to x y z w
   all = s.all;
   said = s.said;
   spoken = s.spoken;
-  written = joined_prefix x y z (trace_text mask w.receipts) s.said w.lines s.written;
+  written = joined_left fault x y z (trace_text mask w.receipts) s.said w.lines s.written;
 }
 
 -- ---- room

@@ -1,5 +1,5 @@
 -- How a drive may end (this profile's own rule).
-use Rattle.std.specs.Prelude.{◌≡◌, ◌<◌, ◌⊎◌, Bool, true, ℕ, List, [], ◌∷◌, ◌++◌, Option, Result, Ok, Err, length, map, take}
+use Rattle.std.specs.Prelude.{◌≡◌, ◌<◌, ◌⊎◌, Bool, true, ℕ, List, [], ◌∷◌, ◌++◌, Option, Result, Ok, Err, length, map}
 use Rattle.std.specs.Io.KnownBytes.{Appends, Consumes}
 use Rattle.gp_ploam.specs.declared.check.Mask.{Mask}
 use Rattle.gp_machine.specs.declared.config.PortConfig.{PortConfig}
@@ -9,9 +9,10 @@ use Rattle.gp_stream.specs.Source.{SourceState, ReadsTooMuch, ReadsWhole, max_by
 use Rattle.gp_script.specs.declared.script.ScriptEvent.{ScriptEvent}
 use Rattle.gp_script.specs.Script.{ScriptView, script_of}
 use Rattle.gp_trace.specs.Text.{trace_text}
+use Rattle.gp_flow.specs.declared.fault.LineFault.{LineFault}
 use Rattle.gp_flow.specs.declared.fault.LinesFault.{LinesFault}
 use Rattle.gp_flow.specs.declared.fault.LinesFault.TheVariants as lines
-use Rattle.gp_flow.specs.Lines.{DoesAll, DoesSome, ServesAll, ServesEnded, ServesSome, ended_lines, handed, lines_of}
+use Rattle.gp_flow.specs.Lines.{DoesAll, DoesSome, Leaves, ServesAll, ServesEnded, ServesSome, ended_lines, handed, lines_of}
 use Rattle.gp_replay.specs.declared.fault.PlayFault.TheVariants as plays
 use Rattle.gp_replay.specs.declared.fault.RunFault.{RunFault}
 use Rattle.gp_replay.specs.declared.fault.RunFault.TheVariants as runs
@@ -63,9 +64,10 @@ pub record DrivesEnded {S T W : Type 0} (playing : Playing S) (start : S) (mask 
   pub written : Appends before.held after.held (before.gathered ++ trace_text mask receipts ++ said)
   pub kept : KeepsNothing after
 
--- the events were played; then the first of the lines that came were answered, the last of these maybe in part
+-- the events were played; then the first of the lines that came were answered, the last of these maybe in part, when
+-- this fault came
 pub record DrivesSome {S T W : Type 0} (playing : Playing S) (start : S) (mask : Mask) (events : List ScriptEvent)
-    (from to : SourceState T) (before after : SinkState W) : Type 0 where
+    (fault : LineFault) (from to : SourceState T) (before after : SinkState W) : Type 0 where
   pub receipts : List Receipt
   pub mid : S
   pub opened : PlaysAll playing events start receipts mid
@@ -77,8 +79,8 @@ pub record DrivesSome {S T W : Type 0} (playing : Playing S) (start : S) (mask :
   pub all : first ++ others ≡ map (handed longest_line) (lines_of bytes)
   pub said : List ℕ
   pub spoken : DoesSome (driving playing) (begun mid mask) first said
-  -- the writer got a prefix of it, and nothing else
-  pub written : (count : ℕ) × Appends before.held after.held (take count (before.gathered ++ trace_text mask receipts ++ said))
+  -- the writer got all of it, unless a write failed, and else a prefix
+  pub written : Leaves fault before after (trace_text mask receipts ++ said)
 
 -- the lines of an input were answered on a player, by the answer
 abbrev pub ServesTurns : {S T W : Type 0} → Playing S → S → Mask → Result Driven LinesFault
@@ -90,7 +92,7 @@ ServesTurns playing player mask (Err lines.Read) from to before after =
     ((end : DriveState _) × ServesEnded (driving playing) longest_line from to (begun player mask) end before after)
     × ((to.failed ≡ true) ⊎ (to.left ≡ 0))
 ServesTurns playing player mask (Err (lines.Line fault)) from to before after =
-    ServesSome (driving playing) longest_line from to (begun player mask) before after
+    ServesSome (Leaves fault) (driving playing) longest_line from to (begun player mask) before after
 
 -- how the lines ended, by the answer
 abbrev pub DrivesTo : {S T W : Type 0} → Playing S → S → Mask → List ScriptEvent → Result Driven LinesFault
@@ -101,7 +103,7 @@ DrivesTo playing start mask events (Err lines.Read) from to before after =
     DrivesEnded playing start mask events from to before after
     × ((to.failed ≡ true) ⊎ (to.left ≡ 0))
 DrivesTo playing start mask events (Err (lines.Line fault)) from to before after =
-    DrivesSome playing start mask events from to before after
+    DrivesSome playing start mask events fault from to before after
 
 -- the fibre that a script opens
 pub record OpensFibre (script : ScriptView) (start : LossyPlay) : Type 0 where

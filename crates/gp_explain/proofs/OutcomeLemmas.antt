@@ -1,15 +1,14 @@
 -- How telling a trace in words ends.
 use Rattle.std.specs.Prelude.{is_some}
-use Rattle.std.proofs.Common.{◌≡◌, ℕ, true, false, List, [], ◌∷◌, ◌++◌, Option, None, Some, Result, Ok, Err, IsErrAnd, length, take, map, refl, sym, ap, subst, ◌∙◌, append_assoc, arith}
+use Rattle.std.proofs.Common.{◌≡◌, ℕ, true, false, List, [], ◌∷◌, ◌++◌, Option, None, Some, Result, Ok, Err, IsErrAnd, inl, inr, length, take, map, refl, sym, ap, subst, ◌∙◌, append_assoc, arith}
 use Rattle.std.proofs.lemmas.List.{append-nil, take_all}
-use Rattle.std.proofs.KnownBytes.{Appends-nil}
 use Rattle.std.specs.Io.KnownBytes.{Appends, Consumes}
 use Rattle.gp_flow.specs.declared.fault.LineFault.{LineFault}
 use Rattle.gp_flow.specs.declared.lines.LinesEnd.{LinesEnd}
 use Rattle.gp_flow.specs.declared.lines.LinesEnd.TheVariants.{Whole, Open, Over}
 use Rattle.gp_flow.specs.declared.fault.LinesFault.{LinesFault}
 use Rattle.gp_flow.specs.declared.fault.LinesFault.TheVariants as faults
-use Rattle.gp_flow.specs.Lines.{DoesAll, Serves, ServesTo, ended_lines, handed, lines_of}
+use Rattle.gp_flow.specs.Lines.{DoesAll, GetsPrefix, Leaves, Serves, ServesTo, ended_lines, handed, lines_of}
 use Rattle.gp_flow.proofs.LineLemmas.{ended_first, handed_none, handed_whole}
 use Rattle.gp_stream.specs.Sink.{SinkState, KeepsNothing}
 use Rattle.gp_stream.specs.Source.{SourceState, ReadsWhole}
@@ -155,11 +154,11 @@ module _ {R W : Type 0} (manner : Manner) (from to : SourceState R) (before afte
 
   -- ---- where it was not read, or a line not told
 
-  begun : (ended : Option NoLine) (bytes : List ℕ) (ls others : List (List ℕ)) (rest : List (Option (List ℕ))) (all : List (Option (List ℕ))) (said : List ℕ) (lines : ℕ)
+  begun : (leaves : SinkState W → SinkState W → List ℕ → Type 0) (ended : Option NoLine) (bytes : List ℕ) (ls others : List (List ℕ)) (rest : List (Option (List ℕ))) (all : List (Option (List ℕ))) (said : List ℕ) (lines : ℕ)
       → Consumes from.remaining to.remaining bytes → lines_of bytes ≡ ls ++ others → map (handed longest_line) ls ≡ all ++ rest
-      → ((count : ℕ) × Appends before.held after.held (take count (before.gathered ++ said)))
-      → Course ended manner all said 0 lines → IsBegun manner from to before after
-  begun None bytes ls others rest all said lines came is parts written c =
+      → leaves before after said
+      → Course ended manner all said 0 lines → IsBegun leaves manner from to before after
+  begun leaves None bytes ls others rest all said lines came is parts written c =
       let f = first_whole longest_line ls c.texts rest (parts ∙ ap (λ (l : List (Option (List ℕ))). l ++ rest) c.all_is) in
       record {
         bytes = bytes;
@@ -171,7 +170,7 @@ module _ {R W : Type 0} (manner : Manner) (from to : SourceState R) (before afte
         told = c.told;
         written = written;
       }
-  begun (Some why) bytes ls others rest all said lines came is parts written c =
+  begun leaves (Some why) bytes ls others rest all said lines came is parts written c =
       let f = first_whole longest_line ls c.before (c.line ∷ c.rest ++ rest)
       (parts ∙ ap (λ (l : List (Option (List ℕ))). l ++ rest) c.all_is ∙ append_assoc (wholes c.before) (c.line ∷ c.rest) rest) in
       record {
@@ -185,26 +184,27 @@ module _ {R W : Type 0} (manner : Manner) (from to : SourceState R) (before afte
         written = written;
       }
 
-  all_taken : (said : List ℕ) → Appends before.held after.held said → (count : ℕ) × Appends before.held after.held (take count said)
+  all_taken : (said : List ℕ) → Appends before.held after.held (before.gathered ++ said) → GetsPrefix before after said
   all_taken said written =
-      let whole : take (length said) said ≡ said = take_all (length said) said (omega arith) in
-      (length said, subst (λ (l : List ℕ). Appends before.held after.held l) (sym whole) written)
+      let all = before.gathered ++ said in
+      let whole : take (length all) all ≡ all = take_all (length all) all (omega arith) in
+      record { count = length all; written = subst (λ (l : List ℕ). Appends before.held after.held l) (sym whole) written }
 
   unread : (fault : LinesFault) (new : ExplainState) → Serves Explaining has_ended longest_line from to (opened_explain manner) new before after (Err fault)
       → ExplainsTrace manner from to before after (Err (Lines fault))
   unread faults.Read new s =
       let e = s.read refl in
       let first = ended_first e.bytes [] in (
-        begun new.ended e.bytes (ended_lines e.bytes) first.0 [] (map (handed longest_line) (ended_lines e.bytes)) e.said new.lines e.read
-            (ap lines_of (sym (append-nil e.bytes)) ∙ first.1) (sym (append-nil _)) (all_taken (before.gathered ++ e.said) e.written)
+        begun GetsPrefix new.ended e.bytes (ended_lines e.bytes) first.0 [] (map (handed longest_line) (ended_lines e.bytes)) e.said new.lines e.read
+            (ap lines_of (sym (append-nil e.bytes)) ∙ first.1) (sym (append-nil _)) (all_taken e.said e.written)
             (started manner new (map (handed longest_line) (ended_lines e.bytes)) e.said e.spoken),
         s.failed refl,
       )
   unread (faults.Line fault) new s =
       let e = s.fault fault refl in
       let whole = all_of_some Explains (opened_explain manner) e.begun e.said e.spoken in
-      begun whole.0.ended e.bytes (lines_of e.bytes) [] e.others e.begun e.said whole.0.lines e.read (sym (append-nil (lines_of e.bytes))) (sym e.all) e.written
-      (started manner whole.0 e.begun e.said whole.1)
+      inl (begun (Leaves fault) whole.0.ended e.bytes (lines_of e.bytes) [] e.others e.begun e.said whole.0.lines e.read (sym (append-nil (lines_of e.bytes))) (sym e.all) e.written
+      (started manner whole.0 e.begun e.said whole.1))
 
   pub unread_as : (fault : LinesFault) (old new : ExplainState) (answer : Result ℕ ExplainFault) → old ≡ opened_explain manner
       → IsErrAnd answer (λ told. told ≡ Lines fault) → Serves Explaining has_ended longest_line from to old new before after (Err fault) → ExplainsTrace manner from to before after answer
@@ -218,17 +218,4 @@ pub unbegun : {R W : Type 0} (manner : Manner) (from : SourceState R) (before : 
     → IsErrAnd answer (λ told. told ≡ Lines (faults.Line line)) → ExplainsTrace manner from from before before answer
 unbegun manner from before line (Ok lines) told = absurd told
 unbegun manner from before line (Err e) told =
-    subst (λ (x : ExplainFault). ExplainsTrace manner from from before before (Err x)) (sym told) (record {
-      bytes = [];
-      came = nothing_came from.remaining;
-      first = [];
-      others = [];
-      lines = refl;
-      said = [];
-      told = refl;
-      written = (0, Appends-nil before.held);
-    })
-  where
-    nothing_came : (o : Option (List ℕ)) → Consumes o o []
-    nothing_came None = tt
-    nothing_came (Some xs) = refl
+    subst (λ (x : ExplainFault). ExplainsTrace manner from from before before (Err x)) (sym told) (inr (refl, refl))

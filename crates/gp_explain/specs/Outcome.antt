@@ -1,8 +1,8 @@
 -- How telling a trace may end (this profile's own rule).
-use Rattle.std.specs.Prelude.{◌≡◌, ◌<◌, ◌⊎◌, ℕ, ◌+◌, true, List, [], ◌∷◌, ◌++◌, length, take, Option, Some, None, Result, Ok, Err}
+use Rattle.std.specs.Prelude.{◌≡◌, ◌<◌, ◌⊎◌, ℕ, ◌+◌, true, List, [], ◌∷◌, ◌++◌, length, Option, Some, None, Result, Ok, Err}
 use Rattle.std.specs.Io.KnownBytes.{Appends, Consumes}
 use Rattle.gp_flow.specs.declared.fault.LinesFault.TheVariants as faults
-use Rattle.gp_flow.specs.Lines.{lines_of}
+use Rattle.gp_flow.specs.Lines.{GetsPrefix, Leaves, lines_of}
 use Rattle.gp_stream.specs.Sink.{SinkState, KeepsNothing}
 use Rattle.gp_stream.specs.Source.{SourceState, ReadsWhole}
 use Rattle.gp_explain.specs.declared.fault.ExplainFault.{ExplainFault}
@@ -60,8 +60,9 @@ pub record IsRefused {R W : Type 0} (manner : Manner) (from to : SourceState R) 
   pub written : Appends before.held after.held (before.gathered ++ said)
   pub kept : KeepsNothing after
 
--- of the lines that came the first were told, and of what is said to them the writer got a prefix, and nothing else
-pub record IsBegun {R W : Type 0} (manner : Manner) (from to : SourceState R) (before after : SinkState W) : Type 0 where
+-- of the lines that came the first were told, and of what is said to them the writer got this
+pub record IsBegun {R W : Type 0} (leaves : SinkState W → SinkState W → List ℕ → Type 0) (manner : Manner)
+    (from to : SourceState R) (before after : SinkState W) : Type 0 where
   pub bytes : List ℕ
   pub came : Consumes from.remaining to.remaining bytes
   pub first : List (List ℕ)
@@ -70,16 +71,18 @@ pub record IsBegun {R W : Type 0} (manner : Manner) (from to : SourceState R) (b
   -- what is said
   pub said : List ℕ
   pub told : AreTold manner first said
-  pub written : (count : ℕ) × Appends before.held after.held (take count (before.gathered ++ said))
+  pub written : leaves before after said
 
--- how it may end; a failed read, and the bound of reads, are told as such
+-- how it may end; a failed read, and the bound of reads, are told as such. Where a line was not told, the writer got
+-- what is said to those before it, unless a write failed; or memory ran out before anything was read.
 abbrev pub ExplainsTrace : {R W : Type 0} → Manner → SourceState R → SourceState R → SinkState W → SinkState W
     → Result ℕ ExplainFault → Type 0
 ExplainsTrace manner from to before after (Ok lines) = IsExplained manner from to before after lines
 ExplainsTrace manner from to before after (Err (Refused line why)) = IsRefused manner from to before after line why
 ExplainsTrace manner from to before after (Err (Lines faults.Read)) =
-    IsBegun manner from to before after × ((to.failed ≡ true) ⊎ (to.left ≡ 0))
-ExplainsTrace manner from to before after (Err (Lines (faults.Line fault))) = IsBegun manner from to before after
+    IsBegun GetsPrefix manner from to before after × ((to.failed ≡ true) ⊎ (to.left ≡ 0))
+ExplainsTrace manner from to before after (Err (Lines (faults.Line fault))) =
+    IsBegun (Leaves fault) manner from to before after ⊎ ((to ≡ from) × (after ≡ before))
 
 -- what was found, by what ended it, and how many lines came
 abbrev pub finding : Option NoLine → ℕ → Result ℕ ExplainFault

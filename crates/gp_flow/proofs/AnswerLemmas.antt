@@ -1,11 +1,10 @@
 -- Lines answered one after another.
-use Rattle.std.proofs.Common.{inl, inr, ◌||◌, ℕ, true, false, List, [], ◌∷◌, ◌++◌, Option, Result, Ok, Err, refl, sym, ap, ◌∙◌, subst, append_assoc, append-nil}
-use Rattle.std.proofs.KnownBytes.{Appends-nil}
+use Rattle.std.proofs.Common.{◌≡◌, inl, inr, ◌||◌, ℕ, true, false, List, [], ◌∷◌, ◌++◌, Option, Result, Ok, Err, refl, sym, ap, ◌∙◌, subst, append_assoc, append-nil}
 use Rattle.gp_flow.specs.declared.fault.LineFault.{LineFault}
 use Rattle.gp_flow.specs.declared.fault.LineFault.TheVariants.{Write, OutOfMemory, Full}
 use Rattle.gp_stream.specs.declared.sink.WriteStopped.{WriteStopped}
-use Rattle.gp_stream.specs.Sink.{SinkState, Puts, Finishes, TakesPrefix}
-use Rattle.gp_flow.specs.Lines.{Speech, WholeLines, DoesAll, DoesSome, Starts, StopsWithin, Answers, AnswersAll}
+use Rattle.gp_stream.specs.Sink.{SinkState, Puts, Finishes, Takes}
+use Rattle.gp_flow.specs.Lines.{Speech, WholeLines, DoesAll, DoesSome, HandsIn, Starts, StopsWithin, Answers, AnswersAll}
 use Rattle.gp_flow.specs.Lines.Starts.{NotBegun, AllSaid, PartSaid}
 use Rattle.gp_stream.proofs.SinkLemmas.{takes_nothing, takes_more, takes_prefix_after}
 
@@ -29,14 +28,20 @@ does_some_more does old mid [] ys said more p q =
 does_some_more does old mid (x ∷ xs) ys said more p q =
     inl (p.0, p.1 ++ more, p.2, p.3, does_some_more does p.2 mid xs ys p.1 more p.4 q, ap (λ l. l ++ more) p.5 ∙ append_assoc p.0 p.1 more)
 
+-- octets, and then what a fault left of more
+hands_after : {W : Type 0} (e : LineFault) (a b c : SinkState W) (xs ys : List ℕ) → Takes a b xs → HandsIn e b c ys → HandsIn e a c (xs ++ ys)
+hands_after Write a b c xs ys p q = takes_prefix_after a b c xs ys p q
+hands_after OutOfMemory a b c xs ys p q = takes_more a b c xs ys p q
+hands_after Full a b c xs ys p q = takes_more a b c xs ys p q
+
 -- one line, or a beginning of it
-one_begun : {S W : Type 0} (does : Speech S) (line : Option (List ℕ)) (old : S) (before after : SinkState W)
-    → Starts does line old before after → StopsWithin does (line ∷ []) old before after
-one_begun does line old before after (NotBegun written) =
+one_begun : {S W : Type 0} (does : Speech S) (line : Option (List ℕ)) (e : LineFault) (old : S) (before after : SinkState W)
+    → Starts does line e old before after → StopsWithin does (line ∷ []) e old before after
+one_begun does line e old before after (NotBegun written) =
     record { begun = []; others = line ∷ []; all = refl; said = []; spoken = refl; written = written }
-one_begun does line old before after (AllSaid said next p written) =
+one_begun does line e old before after (AllSaid said next p written) =
     record { begun = line ∷ []; others = []; all = refl; said = said; spoken = inl (said, [], next, p, refl, sym (append-nil said)); written = written }
-one_begun does line old before after (PartSaid said next p written) =
+one_begun does line e old before after (PartSaid said next p written) =
     record { begun = line ∷ []; others = []; all = refl; said = said; spoken = inr (refl, next, p); written = written }
 
 -- an answer to one line is an answer to a list of one
@@ -50,14 +55,14 @@ answers_one does line old new before after (Ok x) p = record {
 }
 answers_one does line old new before after (Err e) p = record {
   ok = tt;
-  error = one_begun does line old before after p.error;
+  error = one_begun does line e old before after p.error;
   flushed = p.flushed;
   stopped = p.stopped;
 }
 
 -- no line
 pub answers_none : {S W T : Type 0} (does : Speech S) (old : S) (before : SinkState W) (x : T) → AnswersAll does [] old old before before (Ok x)
-answers_none does old before x = record { ok = ([], (refl, refl), takes_nothing before); error = tt; flushed = λ f. f; stopped = λ s. s }
+answers_none does old before x = record { ok = ([], (refl, refl), takes_nothing before); error = tt; flushed = λ f unstopped. f; stopped = λ s. s }
 
 -- lines, and then lines
 pub answers_more : {S W T U : Type 0} (does : Speech S) (xs ys : List (Option (List ℕ))) (old mid new : S) (before between after : SinkState W) (x : T) (r : Result U LineFault)
@@ -65,7 +70,7 @@ pub answers_more : {S W T U : Type 0} (does : Speech S) (xs ys : List (Option (L
 answers_more does xs ys old mid new before between after x (Ok y) p q = record {
   ok = (p.ok.0 ++ q.ok.0, does_more does old mid new xs ys p.ok.0 q.ok.0 p.ok.1 q.ok.1, takes_more before between after p.ok.0 q.ok.0 p.ok.2 q.ok.2);
   error = tt;
-  flushed = λ f. q.flushed (p.flushed f);
+  flushed = λ f unstopped. q.flushed (p.flushed f refl) unstopped;
   stopped = λ s. q.stopped (p.stopped s);
 }
 answers_more does xs ys old mid new before between after x (Err e) p q = record {
@@ -76,9 +81,9 @@ answers_more does xs ys old mid new before between after x (Err e) p q = record 
     all = append_assoc xs q.error.begun q.error.others ∙ ap (λ l. xs ++ l) q.error.all;
     said = p.ok.0 ++ q.error.said;
     spoken = does_some_more does old mid xs q.error.begun p.ok.0 q.error.said p.ok.1 q.error.spoken;
-    written = takes_prefix_after before between after p.ok.0 q.error.said p.ok.2 q.error.written;
+    written = hands_after e before between after p.ok.0 q.error.said p.ok.2 q.error.written;
   };
-  flushed = λ f. tt;
+  flushed = λ f unstopped. q.flushed (p.flushed f refl) unstopped;
   stopped = λ s. q.stopped (p.stopped s);
 }
 
@@ -95,9 +100,12 @@ answers_stopped does xs ys old new other before after e p = record {
     spoken = p.error.spoken;
     written = p.error.written;
   };
-  flushed = λ f. tt;
+  flushed = p.flushed;
   stopped = p.stopped;
 }
+
+stops : {P : Type 0} → true ≡ false → P
+stops e = absurd (cc)
 
 -- writing out what is gathered answers no line
 pub finish_answers : {S W T U : Type 0} (does : Speech S) (old : S) (before after : SinkState W) (x : T) (y : U) → Finishes {E = WriteStopped} before after (Ok x)
@@ -105,7 +113,7 @@ pub finish_answers : {S W T U : Type 0} (does : Speech S) (old : S) (before afte
 finish_answers does old before after x y p = record {
   ok = ([], (refl, refl), p.gives.ok);
   error = tt;
-  flushed = p.gives.flushed;
+  flushed = λ f unstopped. p.gives.flushed f;
   stopped = λ s. p.gives.stopped ∙ ap (λ v. v || false) s;
 }
 
@@ -114,19 +122,16 @@ pub finish_stopped : {S W T U : Type 0} (does : Speech S) (old : S) (before afte
 finish_stopped does old before after e p = record {
   ok = tt;
   error = record { begun = []; others = []; all = refl; said = []; spoken = refl; written = p.gives.error };
-  flushed = λ f. tt;
+  flushed = λ f unstopped. stops unstopped;
   stopped = λ s. p.gives.stopped ∙ ap (λ v. v || true) s;
 }
-
-nothing_taken : {W : Type 0} (before : SinkState W) → TakesPrefix before before []
-nothing_taken before = record { written = []; unwritten = before.gathered; appended = Appends-nil before.held; rest = append-nil before.gathered }
 
 -- no more lines can be taken
 pub no_room : {S W U : Type 0} (does : Speech S) (line : Option (List ℕ)) (old new : S) (before : SinkState W) → Answers {T = U} does line old new before before (Err Full)
 no_room does line old new before = record {
   ok = tt;
-  error = NotBegun (nothing_taken before);
-  flushed = λ f. tt;
+  error = NotBegun (takes_nothing before);
+  flushed = λ f unstopped. f;
   stopped = λ s. s;
 }
 
@@ -137,7 +142,7 @@ pub put_answers : {S W T U : Type 0} (does : Speech S) (line : Option (List ℕ)
 put_answers does line old new before after said x y d p = record {
   ok = (said, d, p.gives.ok);
   error = tt;
-  flushed = p.gives.flushed;
+  flushed = λ f unstopped. p.gives.flushed f;
   stopped = λ s. p.gives.stopped ∙ ap (λ v. v || false) s;
 }
 
@@ -146,7 +151,7 @@ pub put_stopped : {S W T U : Type 0} (does : Speech S) (line : Option (List ℕ)
 put_stopped does line old new next before after said e d p = record {
   ok = tt;
   error = AllSaid said next d p.gives.error;
-  flushed = λ f. tt;
+  flushed = λ f unstopped. stops unstopped;
   stopped = λ s. p.gives.stopped ∙ ap (λ v. v || true) s;
 }
 
@@ -154,25 +159,25 @@ put_stopped does line old new next before after said e d p = record {
 pub no_memory : {S W U : Type 0} (does : Speech S) (line : Option (List ℕ)) (old new : S) (before : SinkState W) → Answers {T = U} does line old new before before (Err OutOfMemory)
 no_memory does line old new before = record {
   ok = tt;
-  error = NotBegun (nothing_taken before);
-  flushed = λ f. tt;
+  error = NotBegun (takes_nothing before);
+  flushed = λ f unstopped. f;
   stopped = λ s. s;
 }
 
 -- nothing is said
 pub silent_answers : {S W U : Type 0} (does : Speech S) (line : Option (List ℕ)) (old new : S) (before : SinkState W) (y : U) → does.says old line [] new
     → Answers does line old new before before (Ok y)
-silent_answers does line old new before y d = record { ok = ([], d, takes_nothing before); error = tt; flushed = λ f. f; stopped = λ s. s }
+silent_answers does line old new before y d = record { ok = ([], d, takes_nothing before); error = tt; flushed = λ f unstopped. f; stopped = λ s. s }
 
 -- ---- the answer of one speech is that of another
 
-starts_as : {S W : Type 0} (f g : Speech S) (l m : Option (List ℕ)) (old : S) (before after : SinkState W)
+starts_as : {S W : Type 0} (f g : Speech S) (l m : Option (List ℕ)) (e : LineFault) (old : S) (before after : SinkState W)
     → ((said : List ℕ) (next : S) → f.says old l said next → g.says old m said next)
     → ((said : List ℕ) (next : S) → f.begins old l said next → g.begins old m said next)
-    → Starts f l old before after → Starts g m old before after
-starts_as f g l m old before after whole part (NotBegun written) = NotBegun written
-starts_as f g l m old before after whole part (AllSaid said next h written) = AllSaid said next (whole said next h) written
-starts_as f g l m old before after whole part (PartSaid said next h written) = PartSaid said next (part said next h) written
+    → Starts f l e old before after → Starts g m e old before after
+starts_as f g l m e old before after whole part (NotBegun written) = NotBegun written
+starts_as f g l m e old before after whole part (AllSaid said next h written) = AllSaid said next (whole said next h) written
+starts_as f g l m e old before after whole part (PartSaid said next h written) = PartSaid said next (part said next h) written
 
 pub answers_as : {S W T : Type 0} (f g : Speech S) (l m : Option (List ℕ)) (old new : S) (before after : SinkState W) (r : Result T LineFault)
     → ((said : List ℕ) (next : S) → f.says old l said next → g.says old m said next)
@@ -181,7 +186,7 @@ pub answers_as : {S W T : Type 0} (f g : Speech S) (l m : Option (List ℕ)) (ol
 answers_as f g l m old new before after (Ok v) whole part p =
     record { ok = (p.ok.0, whole p.ok.0 new p.ok.1, p.ok.2); error = tt; flushed = p.flushed; stopped = p.stopped }
 answers_as f g l m old new before after (Err e) whole part p =
-    record { ok = tt; error = starts_as f g l m old before after whole part p.error; flushed = p.flushed; stopped = p.stopped }
+    record { ok = tt; error = starts_as f g l m e old before after whole part p.error; flushed = p.flushed; stopped = p.stopped }
 
 -- where lines are answered whole or not at all, each that was begun was answered
 pub all_of_some : {S : Type 0} (says : S → Option (List ℕ) → List ℕ → S → Type 0) (old : S) (lines : List (Option (List ℕ))) (said : List ℕ)

@@ -1,17 +1,20 @@
 -- An input, piece by piece.
 use Rattle.std.specs.Prelude.{map, ◌↔◌, IsTrue}
-use Rattle.std.proofs.Common.{◌≡◌, ◌<◌, ◌||◌, ◌⊎◌, inl, inr, ℕ, Bool, true, false, List, [], ◌++◌, Option, Ok, Err, refl, sym, ap, ◌∙◌, subst, append-nil, append_assoc, take, length, arith}
+use Rattle.std.proofs.Common.{◌≡◌, ◌<◌, ◌||◌, ◌⊎◌, inl, inr, ℕ, Bool, true, false, List, [], ◌++◌, Option, Result, Ok, Err, refl, sym, ap, ◌∙◌, subst, append-nil, append_assoc, take, length, arith}
 use Rattle.std.proofs.Math.Seq.{take-append_seam}
 use Rattle.std.specs.Io.KnownBytes.{Appends, Consumes, Keeps, IsAtEnd}
-use Rattle.std.proofs.KnownBytes.{Consumes-nil, Consumes-trans, Consumes-kept, Appends-nil}
+use Rattle.std.proofs.KnownBytes.{Consumes-nil, Consumes-trans, Consumes-kept}
 use Rattle.gp_flow.specs.declared.fault.LineFault.{LineFault}
 use Rattle.gp_flow.specs.declared.fault.LineFault.TheVariants.{Write, OutOfMemory, Full}
 use Rattle.gp_flow.specs.declared.lines.LinesEnd.TheVariants.{Over}
+use Rattle.gp_flow.specs.declared.fault.LinesFault.{LinesFault}
 use Rattle.gp_flow.specs.declared.fault.LinesFault.TheVariants.{Read, Line}
 use Rattle.gp_stream.specs.declared.sink.WriteStopped.{WriteStopped}
 use Rattle.gp_stream.specs.Sink.{SinkState, KeepsNothing, Takes, TakesPrefix, Finishes}
+use Rattle.gp_stream.proofs.SinkLemmas.{gives_unstopped, takes_more, takes_prefix_after}
 use Rattle.gp_stream.specs.Source.{SourceState}
-use Rattle.gp_flow.specs.Lines.{Speech, DoesAll, AnswersAll, handed, lines_of, Serves, ServesAll, ServesEnded, ServesTo, end_of_input, tells_stopped, tells_write}
+use Rattle.gp_flow.specs.Lines.{Speech, DoesAll, AnswersAll, GetsAll, GetsPrefix, HandsIn, Leaves, handed, lines_of, Serves, ServesAll, ServesEnded, ServesSome, ServesTo, Stops, end_of_input, tells_stopped}
+use Rattle.gp_flow.specs.Gathering.{Gathered, ServesGathered, WritesOut}
 use Rattle.gp_flow.specs.declared.lines.LinesEnd.{LinesEnd}
 use Rattle.gp_flow.specs.Lines.{with_feeds}
 use Rattle.gp_flow.specs.OpenLine.{OpenLine, fed_lines, fed_text, last_line}
@@ -24,15 +27,29 @@ written_all before after said p none =
     let all : before.gathered ++ said ≡ p.written = p.rest ∙ ap (λ l. p.written ++ l) none ∙ append-nil p.written in
     subst (Appends before.held after.held) (sym all) p.appended
 
-written_some : {W : Type 0} (before after : SinkState W) (said : List ℕ) → TakesPrefix before after said → (count : ℕ) × Appends before.held after.held (take count (before.gathered ++ said))
-written_some before after said p =
+gets_prefix : {W : Type 0} (before after : SinkState W) (said : List ℕ) → TakesPrefix before after said → GetsPrefix before after said
+gets_prefix before after said p =
     let prefix : take (length p.written) (before.gathered ++ said) ≡ p.written = ap (take (length p.written)) p.rest ∙ take-append_seam p.written p.unwritten in
-    (length p.written, subst (Appends before.held after.held) (sym prefix) p.appended)
+    record { count = length p.written; written = subst (Appends before.held after.held) (sym prefix) p.appended }
 
-tells_same : (T U : Type 0) (e : LineFault) → tells_stopped {T = T} (Err e) ≡ tells_write {T = U} (Err (Line e))
-tells_same _ _ Write = refl
-tells_same _ _ OutOfMemory = refl
-tells_same _ _ Full = refl
+-- ---- where a fault came
+
+line_same : (e f : LineFault) (answer : Result LinesEnd LinesFault) → answer ≡ Err (Line e) → answer ≡ Err (Line f) → e ≡ f
+line_same e f answer p q = cc
+
+by_fault : (P : LineFault → Type 0) (e f : LineFault) (answer : Result LinesEnd LinesFault) → answer ≡ Err (Line e) → P e → answer ≡ Err (Line f) → P f
+by_fault P e f answer is h same = subst P (line_same e f answer is same) h
+
+gathered : {W : Type 0} (T : Type 0) (e : LineFault) (before after : SinkState W) (said : List ℕ) → HandsIn e before after said
+    → (tells_stopped {T = T} (Err e) ≡ false → after.flushed ≡ true) → Gathered e before after said
+gathered T Write before after said h flushed = h
+gathered T OutOfMemory before after said h flushed = (h, flushed refl)
+gathered T Full before after said h flushed = (h, flushed refl)
+
+stops : (T : Type 0) (e : LineFault) (stopped : Bool) → stopped ≡ tells_stopped {T = T} (Err e) → Stops {T = LinesEnd} (Err (Line e)) stopped
+stops T Write stopped h = h
+stops T OutOfMemory stopped h = tt
+stops T Full stopped h = tt
 
 -- bytes came, and what they are in lines was answered so far
 pub record Reading {S R W : Type 0} (does : Speech S) (limit : ℕ) (line : OpenLine) (from now : SourceState R) (old mid : S) (before between : SinkState W) : Type 0 where
@@ -43,13 +60,13 @@ pub record Reading {S R W : Type 0} (does : Speech S) (limit : ℕ) (line : Open
   pub kept : KeepsNothing between
   pub unfailed : from.failed ≡ false → now.failed ≡ false
 
-pub reading_start : {S R W T : Type 0} (does : Speech S) (line : OpenLine) (from : SourceState R) (old : S) (before between : SinkState W) (x : T)
-    → line.text ≡ [] → before.flushed ≡ true → Finishes {E = WriteStopped} before between (Ok x) → Reading does line.limit line from from old old before between
-reading_start does line from old before between x none flushed p = record {
+pub reading_start : {S R W T : Type 0} (does : Speech S) (limit : ℕ) (line : OpenLine) (from : SourceState R) (old : S) (before between : SinkState W) (x : T)
+    → line ≡ record { text = []; limit = limit } → before.flushed ≡ true → Finishes {E = WriteStopped} before between (Ok x) → Reading does limit line from from old old before between
+reading_start does limit line from old before between x none flushed p = record {
   bytes = [];
   came = Consumes-nil from.remaining;
   answers = finish_answers does old before between x tt p;
-  line_is = ap (λ (t : List ℕ). let l : OpenLine = record { text = t; limit = line.limit } in l) none;
+  line_is = none;
   kept = (p.empty, p.gives.flushed flushed);
   unfailed = λ f. f;
 }
@@ -94,7 +111,7 @@ module _ {S R W : Type 0} (does : Speech S) (limit : ℕ) (line : OpenLine) (fro
   }
 
   -- the work is over
-  pub serves_over : (over : S → Bool) → over mid ≡ true → Serves does over limit from now old mid before between (Ok Over)
+  pub serves_over : (over : S → Bool) → over mid ≡ true → ServesGathered does over limit from now old mid before between (Ok Over)
   serves_over over is = record {
     ok = (serves_ended now p.came, is);
     read = λ e. absurd (cc);
@@ -105,7 +122,7 @@ module _ {S R W : Type 0} (does : Speech S) (limit : ℕ) (line : OpenLine) (fro
   }
 
   -- a read failed, or no read is left
-  pub serves_read : (over : S → Bool) (to : SourceState R) → Keeps now.remaining to.remaining → (to.failed ≡ true) ⊎ (to.left ≡ 0) → Serves does over limit from to old mid before between (Err Read)
+  pub serves_read : (over : S → Bool) (to : SourceState R) → Keeps now.remaining to.remaining → (to.failed ≡ true) ⊎ (to.left ≡ 0) → ServesGathered does over limit from to old mid before between (Err Read)
   serves_read over to kept why = record {
     ok = tt;
     read = λ _. serves_ended to (Consumes-kept _ _ _ p.bytes p.came kept);
@@ -119,13 +136,13 @@ module _ {S R W : Type 0} (does : Speech S) (limit : ℕ) (line : OpenLine) (fro
   serves_fault : {T : Type 0} (over : S → Bool) (more : List ℕ) (to : SourceState R) (begun others : List (Option (List ℕ))) (new other : S) (after : SinkState W) (e : LineFault)
       → Consumes now.remaining to.remaining more → to.failed ≡ (now.failed || false)
       → fed_lines limit [] p.bytes ++ begun ++ others ≡ map (handed limit) (lines_of (p.bytes ++ more))
-      → AnswersAll {T = T} does begun mid new between after (Err e) → Serves does over limit from to old other before after (Err (Line e))
+      → AnswersAll {T = T} does begun mid new between after (Err e) → ServesGathered does over limit from to old other before after (Err (Line e))
   serves_fault {T = T} over more to begun others new other after e came ok all answers =
       let sofar = answers_more does (fed_lines limit [] p.bytes) begun old mid new before between after tt (Err e) p.answers answers in
       let within = sofar.error in record {
         ok = tt;
         read = λ e. absurd (cc);
-        fault = λ fault same. record {
+        fault = λ fault same. by_fault (λ (f : LineFault). ServesSome (Gathered f) does limit from to old before after) e fault (Err (Line e)) refl (record {
           bytes = p.bytes ++ more;
           read = Consumes-trans _ _ _ p.bytes more p.came came;
           begun = within.begun;
@@ -133,16 +150,16 @@ module _ {S R W : Type 0} (does : Speech S) (limit : ℕ) (line : OpenLine) (fro
           all = sym (append_assoc within.begun within.others others) ∙ ap (λ l. l ++ others) within.all ∙ all;
           said = within.said;
           spoken = within.spoken;
-          written = written_some before after within.said within.written;
-        };
+          written = gathered T e before after within.said within.written (answers.flushed p.kept.1);
+        }) same;
         tells_read = λ f t. absurd (let no : to.failed ≡ false = ok ∙ ap (λ v. v || false) (p.unfailed f) in cc);
         failed = λ e. absurd (cc);
-        stopped = λ s. sofar.stopped s ∙ tells_same T LinesEnd e;
+        stopped = λ s. stops T e after.stopped (sofar.stopped s);
       }
 
   pub serves_piece_fault : {T : Type 0} (over : S → Bool) (more : List ℕ) (to : SourceState R) (new other : S) (after : SinkState W) (e : LineFault)
       → Consumes now.remaining to.remaining more → to.failed ≡ (now.failed || false)
-      → AnswersAll {T = T} does (fed_lines line.limit line.text more) mid new between after (Err e) → Serves does over limit from to old other before after (Err (Line e))
+      → AnswersAll {T = T} does (fed_lines line.limit line.text more) mid new between after (Err e) → ServesGathered does over limit from to old other before after (Err (Line e))
   serves_piece_fault {T = T} over more to new other after e came ok answers =
       let tail = last_line limit (fed_text limit [] (p.bytes ++ more)) in
       let lines = fed_lines limit (fed_text limit [] p.bytes) more in
@@ -163,7 +180,7 @@ module _ {S R W : Type 0} (does : Speech S) (limit : ℕ) (line : OpenLine) (fro
 
   pub serves_last_fault : {T : Type 0} (over : S → Bool) (none : List ℕ) (to : SourceState R) (new other : S) (after : SinkState W) (e : LineFault)
       → none ≡ [] → Consumes now.remaining to.remaining none → to.failed ≡ (now.failed || false)
-      → AnswersAll {T = T} does (last_line line.limit line.text) mid new between after (Err e) → Serves does over limit from to old other before after (Err (Line e))
+      → AnswersAll {T = T} does (last_line line.limit line.text) mid new between after (Err e) → ServesGathered does over limit from to old other before after (Err (Line e))
   serves_last_fault {T = T} over none to new other after e empty came ok answers =
       let lines = last_line limit (fed_text limit [] p.bytes) in
       let all : fed_lines limit [] p.bytes ++ lines ++ [] ≡ map (handed limit) (lines_of (p.bytes ++ [])) =
@@ -174,7 +191,7 @@ module _ {S R W : Type 0} (does : Speech S) (limit : ℕ) (line : OpenLine) (fro
   -- the end of the input
   pub serves_end : {T : Type 0} (over : S → Bool) (whole : Bool) (none : List ℕ) (to : SourceState R) (new : S) (after : SinkState W) (x : T)
       → IsTrue whole ↔ (line.text ≡ []) → none ≡ [] → Consumes now.remaining to.remaining none → IsAtEnd to.remaining → now.failed ≡ false → to.failed ≡ (now.failed || false)
-      → AnswersAll does (last_line line.limit line.text) mid new between after (Ok x) → KeepsNothing after → Serves does over limit from to old new before after (Ok (end_of_input whole))
+      → AnswersAll does (last_line line.limit line.text) mid new between after (Ok x) → KeepsNothing after → ServesGathered does over limit from to old new before after (Ok (end_of_input whole))
   serves_end over whole none to new after x feeds empty came end known ok answers kept =
       let lines = subst (λ l. AnswersAll does l mid new between after (Ok x)) last_is answers in
       let all = answers_more does _ _ old mid new before between after tt (Ok x) p.answers lines in
@@ -199,13 +216,14 @@ module _ {S R W : Type 0} (does : Speech S) (limit : ℕ) (line : OpenLine) (fro
         stopped = all.stopped;
       }
 
--- a fault before the first read
-pub serves_start_fault : {S R W T : Type 0} (does : Speech S) (over : S → Bool) (limit : ℕ) (from : SourceState R) (old other : S) (before after : SinkState W) (e : WriteStopped)
-    → Finishes {T = T} before after (Err e) → Serves does over limit from from old other before after (Err (Line Write))
-serves_start_fault does over limit from old other before after e p = record {
+-- before the first read
+unbegun : {S R W : Type 0} (does : Speech S) (over : S → Bool) (limit : ℕ) (from : SourceState R) (old other : S) (before after : SinkState W) (e : LineFault)
+    → Gathered e before after [] → (before.stopped ≡ false → Stops {T = LinesEnd} (Err (Line e)) after.stopped)
+    → ServesGathered does over limit from from old other before after (Err (Line e))
+unbegun does over limit from old other before after e g stopped = record {
   ok = tt;
   read = λ e. absurd (cc);
-  fault = λ fault same. record {
+  fault = λ fault same. by_fault (λ (f : LineFault). ServesSome (Gathered f) does limit from from old before after) e fault (Err (Line e)) refl (record {
     bytes = [];
     read = Consumes-nil from.remaining;
     begun = [];
@@ -213,33 +231,23 @@ serves_start_fault does over limit from old other before after e p = record {
     all = refl;
     said = [];
     spoken = refl;
-    written = written_some before after [] p.gives.error;
-  };
+    written = g;
+  }) same;
   tells_read = λ f t. absurd (cc);
   failed = λ e. absurd (cc);
-  stopped = λ s. p.gives.stopped ∙ ap (λ v. v || true) s;
+  stopped = stopped;
 }
 
+pub serves_start_fault : {S R W T : Type 0} (does : Speech S) (over : S → Bool) (limit : ℕ) (from : SourceState R) (old other : S) (before after : SinkState W) (e : WriteStopped)
+    → Finishes {T = T} before after (Err e) → ServesGathered does over limit from from old other before after (Err (Line Write))
+serves_start_fault does over limit from old other before after e p =
+    unbegun does over limit from old other before after Write p.gives.error (λ s. p.gives.stopped ∙ ap (λ v. v || true) s)
+
 -- no memory for the line
-pub serves_no_memory : {S R W : Type 0} (does : Speech S) (over : S → Bool) (limit : ℕ) (from : SourceState R) (old : S) (before : SinkState W)
-    → Serves does over limit from from old old before before (Err (Line OutOfMemory))
-serves_no_memory does over limit from old before = record {
-  ok = tt;
-  read = λ e. absurd (cc);
-  fault = λ fault same. record {
-    bytes = [];
-    read = Consumes-nil from.remaining;
-    begun = [];
-    others = [];
-    all = refl;
-    said = [];
-    spoken = refl;
-    written = (0, Appends-nil before.held);
-  };
-  tells_read = λ f t. absurd (cc);
-  failed = λ e. absurd (cc);
-  stopped = λ s. s;
-}
+pub serves_no_memory : {S R W T : Type 0} (does : Speech S) (over : S → Bool) (limit : ℕ) (from : SourceState R) (old : S) (before after : SinkState W) (x : T)
+    → before.flushed ≡ true → Finishes {E = WriteStopped} before after (Ok x) → ServesGathered does over limit from from old old before after (Err (Line OutOfMemory))
+serves_no_memory does over limit from old before after x flushed p =
+    unbegun does over limit from old old before after OutOfMemory (p.gives.ok, p.gives.flushed flushed) (λ s. tt)
 
 -- no read may be made
 pub no_read : (b : Bool) (left : ℕ) (failed : Bool) → IsTrue b ↔ ((0 < left) × (failed ≡ false)) → b ≡ false → (failed ≡ true) ⊎ (left ≡ 0)
@@ -249,3 +257,66 @@ no_read b left false p e = inr (grind arith)
 pub failed_read : (a b : Bool) → a ≡ (b || true) → a ≡ true
 failed_read a true e = e
 failed_read a false e = e
+
+-- ---- what is gathered is written out
+
+or_true : (b : Bool) → (b || true) ≡ true
+or_true true = refl
+or_true false = refl
+
+-- all of it, or a prefix, and then the sink has stopped
+all_out : {W : Type 0} (before between after : SinkState W) (said : List ℕ) (written : Result (Unit {0}) WriteStopped) → Takes before between said → between.flushed ≡ true
+    → Finishes between after written → GetsAll before after said ⊎ (GetsPrefix before after said × (after.stopped ≡ true))
+all_out before between after said (Ok x) took flushed p =
+    let all : Takes before after said = subst (Takes before after) (append-nil said) (takes_more before between after said [] took p.gives.ok) in
+    inl (record {
+      written = written_all before after said all p.empty;
+      kept = (p.empty, p.gives.flushed flushed);
+      unstopped = gives_unstopped between after [] (Ok x) p.gives;
+    })
+all_out before between after said (Err e) took flushed p =
+    let some : TakesPrefix before after said = subst (TakesPrefix before after) (append-nil said) (takes_prefix_after before between after said [] took p.gives.error) in
+    inr (gets_prefix before after said some, p.gives.stopped ∙ or_true between.stopped)
+
+written_out : {W : Type 0} (e : LineFault) (before between after : SinkState W) (said : List ℕ) (written : Result (Unit {0}) WriteStopped) → Gathered e before between said
+    → WritesOut e between after written → Leaves e before after said
+written_out Write before between after said written g same =
+    subst (λ s. GetsPrefix before s said) (sym same) (gets_prefix before between said g)
+written_out OutOfMemory before between after said written g out = all_out before between after said written g.0 g.1 out
+written_out Full before between after said written g out = all_out before between after said written g.0 g.1 out
+
+stops_out : {W : Type 0} (e : LineFault) (between after : SinkState W) (written : Result (Unit {0}) WriteStopped) → WritesOut e between after written
+    → Stops {T = LinesEnd} (Err (Line e)) between.stopped → Stops {T = LinesEnd} (Err (Line e)) after.stopped
+stops_out Write between after written same h = ap (λ s. s.stopped) same ∙ h
+stops_out OutOfMemory between after written out h = tt
+stops_out Full between after written out h = tt
+
+module _ {S R W : Type 0} (does : Speech S) (over : S → Bool) (limit : ℕ) (from to : SourceState R) (old new : S) (before between : SinkState W) where
+  pub served_end : (end : LinesEnd) → ServesGathered does over limit from to old new before between (Ok end) → Serves does over limit from to old new before between (Ok end)
+  served_end end s =
+      record { ok = s.ok; read = s.read; fault = λ fault e. absurd (cc); tells_read = s.tells_read; failed = s.failed; stopped = s.stopped }
+
+  pub served_read : ServesGathered does over limit from to old new before between (Err Read) → Serves does over limit from to old new before between (Err Read)
+  served_read s =
+      record { ok = s.ok; read = s.read; fault = λ fault e. absurd (cc); tells_read = s.tells_read; failed = s.failed; stopped = s.stopped }
+
+  pub served_fault : (e : LineFault) (after : SinkState W) (written : Result (Unit {0}) WriteStopped) → ServesGathered does over limit from to old new before between (Err (Line e))
+      → WritesOut e between after written → Serves does over limit from to old new before after (Err (Line e))
+  served_fault e after written s out =
+      let some = s.fault e refl in record {
+        ok = tt;
+        read = λ e. absurd (cc);
+        fault = λ fault same. by_fault (λ (f : LineFault). ServesSome (Leaves f) does limit from to old before after) e fault (Err (Line e)) refl (record {
+          bytes = some.bytes;
+          read = some.read;
+          begun = some.begun;
+          others = some.others;
+          all = some.all;
+          said = some.said;
+          spoken = some.spoken;
+          written = written_out e before between after some.said written some.written out;
+        }) same;
+        tells_read = s.tells_read;
+        failed = s.failed;
+        stopped = λ h. stops_out e between after written out (s.stopped h);
+      }

@@ -1,5 +1,5 @@
 -- The lines of an input, and what answering each of them means (this profile's own rule).
-use Rattle.std.specs.Prelude.{◌≡◌, ◌↔◌, ◌⊎◌, take, IfOk, IsTrue, ◌==◌, if◌then◌else◌, nat_le, ℕ, Bool, true, false, List, [], ◌∷◌, ◌++◌, length, map, Option, None, Some, Result, Ok, Err, OnOk, OnErr}
+use Rattle.std.specs.Prelude.{◌≡◌, ◌↔◌, ◌⊎◌, take, IfOk, IfErr, IsTrue, ◌==◌, if◌then◌else◌, nat_le, ℕ, Bool, true, false, List, [], ◌∷◌, ◌++◌, length, map, Option, None, Some, Result, Ok, Err, OnOk}
 use Rattle.std.specs.Io.KnownBytes.{Appends, Consumes}
 use Rattle.gp_flow.specs.declared.fault.LineFault.{LineFault}
 use Rattle.gp_flow.specs.declared.fault.LinesFault.{LinesFault}
@@ -72,27 +72,34 @@ tells_stopped (Err Write) = true
 tells_stopped (Err OutOfMemory) = false
 tells_stopped (Err Full) = false
 
--- of what is said to a line, or of a beginning of it, the writer took a prefix, and nothing else
-pub data Starts {S W : Type 0} (does : Speech S) (line : Option (List ℕ)) (old : S) (before after : SinkState W)
-    : Type 0 where
-  NotBegun : TakesPrefix before after [] → Starts does line old before after
-  AllSaid : (said : List ℕ) (next : S) → does.says old line said next → TakesPrefix before after said
-      → Starts does line old before after
-  PartSaid : (said : List ℕ) (next : S) → does.begins old line said next → TakesPrefix before after said
-      → Starts does line old before after
+-- what is left of octets where a fault came: of a failed write the writer took a prefix; any other left all of them
+-- handed in
+abbrev pub HandsIn : {W : Type 0} → LineFault → SinkState W → SinkState W → List ℕ → Type 0
+HandsIn Write before after said = TakesPrefix before after said
+HandsIn OutOfMemory before after said = Takes before after said
+HandsIn Full before after said = Takes before after said
+
+-- what is said to a line, or a beginning of it, or nothing, was said when this fault came
+pub data Starts {S W : Type 0} (does : Speech S) (line : Option (List ℕ)) (fault : LineFault) (old : S)
+    (before after : SinkState W) : Type 0 where
+  NotBegun : HandsIn fault before after [] → Starts does line fault old before after
+  AllSaid : (said : List ℕ) (next : S) → does.says old line said next → HandsIn fault before after said
+      → Starts does line fault old before after
+  PartSaid : (said : List ℕ) (next : S) → does.begins old line said next → HandsIn fault before after said
+      → Starts does line fault old before after
 
 -- a line was answered
 pub record Answers {S W T : Type 0} (does : Speech S) (line : Option (List ℕ)) (old new : S)
     (before after : SinkState W) (answer : Result T LineFault) : Type 0 where
   -- all that is said to it was handed in
   pub ok : OnOk answer ((said : List ℕ) × does.says old line said new × Takes before after said)
-  -- of what is said to it, or of a beginning, a prefix was written
-  pub error : OnErr answer (Starts does line old before after)
-  pub flushed : before.flushed ≡ true → OnOk answer (after.flushed ≡ true)
+  pub error : IfErr answer (λ fault. Starts does line fault old before after)
+  -- whatever was written was flushed
+  pub flushed : before.flushed ≡ true → tells_stopped answer ≡ false → after.flushed ≡ true
   pub stopped : before.stopped ≡ false → after.stopped ≡ tells_stopped answer
 
--- only the first of these lines were answered, the last of them maybe in part
-pub record StopsWithin {S W : Type 0} (does : Speech S) (lines : List (Option (List ℕ))) (old : S)
+-- only the first of these lines were answered when this fault came, the last of them maybe in part
+pub record StopsWithin {S W : Type 0} (does : Speech S) (lines : List (Option (List ℕ))) (fault : LineFault) (old : S)
     (before after : SinkState W) : Type 0 where
   -- the lines that were begun
   pub begun : List (Option (List ℕ))
@@ -102,15 +109,14 @@ pub record StopsWithin {S W : Type 0} (does : Speech S) (lines : List (Option (L
   -- what is said to those that were begun
   pub said : List ℕ
   pub spoken : DoesSome does old begun said
-  -- the writer took a prefix of it, and nothing else
-  pub written : TakesPrefix before after said
+  pub written : HandsIn fault before after said
 
 -- lines were answered in their order, up to the first fault
 pub record AnswersAll {S W T : Type 0} (does : Speech S) (lines : List (Option (List ℕ))) (old new : S)
     (before after : SinkState W) (answer : Result T LineFault) : Type 0 where
   pub ok : OnOk answer ((said : List ℕ) × DoesAll does old lines said new × Takes before after said)
-  pub error : OnErr answer (StopsWithin does lines old before after)
-  pub flushed : before.flushed ≡ true → OnOk answer (after.flushed ≡ true)
+  pub error : IfErr answer (λ fault. StopsWithin does lines fault old before after)
+  pub flushed : before.flushed ≡ true → tells_stopped answer ≡ false → after.flushed ≡ true
   pub stopped : before.stopped ≡ false → after.stopped ≡ tells_stopped answer
 
 -- the whole input was read, and each of its lines was answered; it is told whether the last line had its line feed
@@ -151,9 +157,28 @@ ServesTo does over limit Open from to old new before after = ServesAll does limi
 ServesTo does over limit Over from to old new before after =
     ServesEnded does limit from to old new before after × (over new ≡ true)
 
+-- the writer got all of what was gathered and of the octets, keeps nothing back, and the sink has not stopped
+pub record GetsAll {W : Type 0} (before after : SinkState W) (said : List ℕ) : Type 0 where
+  pub written : Appends before.held after.held (before.gathered ++ said)
+  pub kept : KeepsNothing after
+  pub unstopped : after.stopped ≡ false
+
+-- the writer got a prefix of what was gathered and of the octets, and nothing else
+pub record GetsPrefix {W : Type 0} (before after : SinkState W) (said : List ℕ) : Type 0 where
+  pub count : ℕ
+  pub written : Appends before.held after.held (take count (before.gathered ++ said))
+
+-- what the writer got where a fault came: after a failed write a prefix; after any other all, or a prefix where it
+-- could not be written, and then the sink has stopped
+abbrev pub Leaves : {W : Type 0} → LineFault → SinkState W → SinkState W → List ℕ → Type 0
+Leaves Write before after said = GetsPrefix before after said
+Leaves OutOfMemory before after said =
+    GetsAll before after said ⊎ (GetsPrefix before after said × (after.stopped ≡ true))
+Leaves Full before after said = GetsAll before after said ⊎ (GetsPrefix before after said × (after.stopped ≡ true))
+
 -- bytes came, and the first lines among them were answered, the last of these maybe in part
-pub record ServesSome {S R W : Type 0} (does : Speech S) (limit : ℕ) (from to : SourceState R) (old : S)
-    (before after : SinkState W) : Type 0 where
+pub record ServesSome {S R W : Type 0} (leaves : SinkState W → SinkState W → List ℕ → Type 0) (does : Speech S)
+    (limit : ℕ) (from to : SourceState R) (old : S) (before after : SinkState W) : Type 0 where
   pub bytes : List ℕ
   pub read : Consumes from.remaining to.remaining bytes
   -- the lines that were begun
@@ -164,25 +189,34 @@ pub record ServesSome {S R W : Type 0} (does : Speech S) (limit : ℕ) (from to 
   -- what is said to those that were begun
   pub said : List ℕ
   pub spoken : DoesSome does old begun said
-  -- the writer got a prefix of it, and nothing else
-  pub written : (count : ℕ) × Appends before.held after.held (take count (before.gathered ++ said))
+  pub written : leaves before after said
 
--- the answer tells that the writer stopped
-abbrev pub tells_write : {T : Type 0} → Result T LinesFault → Bool
-tells_write (Ok _) = false
-tells_write (Err Read) = false
-tells_write (Err (Line Write)) = true
-tells_write (Err (Line OutOfMemory)) = false
-tells_write (Err (Line Full)) = false
+-- whether the sink has stopped, by the answer, if it had not before. A fault other than a failed write is told also
+-- where the writing out behind it failed (`Leaves`).
+abbrev pub Stops : {T : Type 0} → Result T LinesFault → Bool → Type 0
+Stops (Ok _) stopped = stopped ≡ false
+Stops (Err Read) stopped = stopped ≡ false
+Stops (Err (Line Write)) stopped = stopped ≡ true
+Stops (Err (Line OutOfMemory)) stopped = Unit {0}
+Stops (Err (Line Full)) stopped = Unit {0}
 
--- the lines of an input were answered in their order, up to the first fault
-pub record Serves {S R W : Type 0} (does : Speech S) (over : S → Bool) (limit : ℕ) (from to : SourceState R)
-    (old new : S) (before after : SinkState W) (answer : Result LinesEnd LinesFault) : Type 0 where
+-- the lines of an input were answered in their order, up to the first fault, which leaves this
+pub record ServesUpTo {S R W : Type 0} (leaves : LineFault → SinkState W → SinkState W → List ℕ → Type 0)
+    (does : Speech S) (over : S → Bool) (limit : ℕ) (from to : SourceState R) (old new : S) (before after : SinkState W)
+    (answer : Result LinesEnd LinesFault) : Type 0 where
   pub ok : IfOk answer (λ end. ServesTo does over limit end from to old new before after)
   pub read : answer ≡ Err Read → ServesEnded does limit from to old new before after
-  pub fault : (fault : LineFault) → answer ≡ Err (Line fault) → ServesSome does limit from to old before after
+  pub fault : (fault : LineFault) → answer ≡ Err (Line fault)
+      → ServesSome (leaves fault) does limit from to old before after
   -- a failed read is always answered
   pub tells_read : from.failed ≡ false → to.failed ≡ true → answer ≡ Err Read
   -- and only it and the bound of reads are
   pub failed : answer ≡ Err Read → (to.failed ≡ true) ⊎ (to.left ≡ 0)
-  pub stopped : before.stopped ≡ false → after.stopped ≡ tells_write answer
+  pub stopped : before.stopped ≡ false → Stops answer after.stopped
+
+-- the lines of an input were answered in their order, up to the first fault; where that is no failed write, the answers
+-- that were made by then are written out
+abbrev pub Serves : {S R W : Type 0} → Speech S → (S → Bool) → ℕ → SourceState R → SourceState R → S → S
+    → SinkState W → SinkState W → Result LinesEnd LinesFault → Type 0
+Serves does over limit from to old new before after answer =
+    ServesUpTo Leaves does over limit from to old new before after answer

@@ -1,12 +1,13 @@
-ghost use Rattle.std.specs.Prelude.{◌≡◌, ◌<◌, [], true};
+ghost use Rattle.std.specs.Prelude.{◌≡◌, ◌<◌, true};
 ghost use Rattle.gp_stream.specs.Sink.{KeepsNothing};
 ghost use Rattle.gp_stream.specs.Source.{Reads};
+ghost use Rattle.gp_flow.specs.Gathering.{ServesGathered, WritesOut};
 ghost use Rattle.gp_flow.specs.Lines.{Serves, end_of_input};
 
-use crate::fault::LinesFault;
+use crate::fault::{LineFault, LinesFault};
 use crate::open_line::OpenLine;
 use crate::work::LineWork;
-use gp_stream::{Sink, Source};
+use gp_stream::{Sink, Source, WriteStopped};
 use std::alloc::Global;
 use std::io;
 use std::io::{Read, Write};
@@ -32,7 +33,8 @@ pub enum LinesEnd {
 /// line feed; what stands behind the last one is a line too, unless it is empty.
 ///
 /// Whenever the reader is asked for more, the answers to all lines that a line feed ended before are
-/// written and flushed.
+/// written and flushed. Where a line is not answered for another reason than a failed write, all answers that were
+/// made by then are too, and the reason is told also if that write fails.
 pub fn run_lines<R: Read, W: Write, K: LineWork>(
     alloc: Global,
     source: &mut Source<R>,
@@ -42,23 +44,41 @@ pub fn run_lines<R: Read, W: Write, K: LineWork>(
     requires { sink.old.flushed ≡ true }
     ensures { Serves K.speech K.over MAX_LINE_BYTES source.old source.new work.old work.new sink.old sink.new result }
 {
-    let line = OpenLine::new(alloc, MAX_LINE_BYTES)?;
-    serve(line, source, sink, work)
+    match serve(alloc, source, sink, work) {
+        Ok(end) => Ok(end),
+        Err(LinesFault::Read) => Err(LinesFault::Read),
+        Err(LinesFault::Line(fault)) => {
+            let _ = write_out(sink, fault);
+            Err(LinesFault::Line(fault))
+        }
+    }
 }
 
-/// Answers each line of an input, the first of which is this one.
+/// Writes out what is gathered where a line was not answered, which takes no memory. After a failed write nothing more
+/// is written.
+fn write_out<W: Write>(sink: &mut Sink<W>, fault: LineFault) -> Result<(), WriteStopped>
+    ensures { WritesOut fault sink.old sink.new result }
+{
+    match fault {
+        LineFault::Write => Ok(()),
+        LineFault::OutOfMemory | LineFault::Full => sink.finish(),
+    }
+}
+
+/// Answers each line of an input. Where a line is not answered, what is gathered then is not written out yet.
 fn serve<R: Read, W: Write, K: LineWork>(
-    mut line: OpenLine,
+    alloc: Global,
     source: &mut Source<R>,
     sink: &mut Sink<W>,
     work: &mut K,
 ) -> Result<LinesEnd, LinesFault>
-    requires begins { line.text ≡ [] }
-    requires flushed { sink.old.flushed ≡ true }
-    ensures { Serves K.speech K.over line.limit source.old source.new work.old work.new sink.old sink.new result }
+    requires { sink.old.flushed ≡ true }
+    ensures { ServesGathered K.speech K.over MAX_LINE_BYTES
+        source.old source.new work.old work.new sink.old sink.new result }
 {
-    let mut piece = [0u8; PIECE_BYTES];
     sink.finish()?;
+    let mut line = OpenLine::new(alloc, MAX_LINE_BYTES)?;
+    let mut piece = [0u8; PIECE_BYTES];
     'reads: while source.can_read() {
         match ask(source, sink, &mut piece) {
             Err(_) => return Err(LinesFault::Read),

@@ -2,7 +2,7 @@
 //!
 //! - `event.rt`: `parse_event`, an event as a trace tells it.
 //! - `turn.rt`, `grant.rt`: `parse_turn`, what a line asks for.
-//! - `traced.rt`: `split_line`, a line of a trace cut into its parts.
+//! - `traced.rt`: `split_line`, a line of a trace cut into its parts; `framed.rt`: the same of most lines, at once.
 //! - `picks.rt`: `picked`, the number that an answer picks.
 //! - `laws.rt`, `told.rt`, `short.rt`: what `gp_trace` writes is read back, a text tells one thing at most, and a
 //!   line of a trace has no line feed but the one that ends it, and is not too long.
@@ -18,6 +18,7 @@
 mod event;
 mod fault;
 mod fields;
+mod framed;
 mod grant;
 mod laws;
 mod parts;

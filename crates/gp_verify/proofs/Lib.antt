@@ -2,6 +2,8 @@ pub mod CheckingLemmas
 pub mod SmallLemmas
 pub mod JudgingLemmas
 pub mod TraceLemmas
+pub mod ShortTables
+pub mod PortLemmas
 pub mod TextLemmas
 pub mod FeedLemmas
 pub mod FollowingLemmas

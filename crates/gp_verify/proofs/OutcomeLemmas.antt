@@ -1,5 +1,5 @@
 -- How the verification of a text ends.
-use Rattle.std.specs.Prelude.{IfSome, is_some}
+use Rattle.std.specs.Prelude.{All, IfSome, is_some}
 use Rattle.std.proofs.Common.{◌≡◌, ℕ, true, false, List, [], ◌∷◌, ◌++◌, Option, None, Some, Result, Err, length, map, refl, sym, ap, subst, ◌∙◌, append_assoc}
 use Rattle.std.proofs.lemmas.List.{append-nil}
 use Rattle.std.specs.Io.KnownBytes.{Consumes, IsAtEnd}
@@ -19,12 +19,14 @@ use Rattle.gp_verify.specs.declared.verdict.Verdict.{Verdict}
 use Rattle.gp_verify.specs.declared.verdict.Verdict.TheVariants as verdict
 use Rattle.gp_verify.specs.Following.{Following, has_ended, told_from}
 use Rattle.gp_verify.specs.Outcome.{Condemns, IsRefused, IsRun, IsUnended, RunsVerify, WritesAll, finding, longest_line}
+use Rattle.gp_verify.specs.Ports.{IsOrderlyPort}
 use Rattle.gp_verify.specs.Report.{report_at, report_of}
 use Rattle.gp_verify.specs.Tells.{AreTrace, IsTraceText, TellsNothing}
 use Rattle.gp_verify.specs.Verdicts.{Judges, VerifyState}
 use Rattle.gp_verify.proofs.CourseLemmas.{Course, Fails, Halts, Runs, course, wholes}
+use Rattle.gp_verify.proofs.PortLemmas.{long_tells_nothing}
 use Rattle.gp_verify.proofs.TextLemmas.{lines_plain, traces_are_lines}
-use Rattle.gp_verify.proofs.TraceLemmas.{refused, stage_begun, stage_ends, stage_trace, tells_lines}
+use Rattle.gp_verify.proofs.TraceLemmas.{Stage, refused, stage_begun, stage_ends, stage_trace, tells_lines}
 
 -- ---- lines that were handed on
 
@@ -129,11 +131,11 @@ module _ {R : Type 0} (limit : ℕ) (from to : SourceState R) (old new : VerifyS
   condemned verdict.NotAStep (Some text) mid raw is fails = subst (λ (t : List ℕ). Judges verdict.NotAStep old.mask mid t new.play new.said) (sym (handed_whole longest_line raw text is)) fails.0
   condemned verdict.TooLong (Some text) mid raw is fails = absurd fails.0
 
-  -- a line that was looked at tells of nothing there
-  told_nothing : (v : Verdict) (line : Option (List ℕ)) (mid : PlayState) (raw : List ℕ) → (v ≡ verdict.TooLong → ⊥) → handed longest_line raw ≡ line
-      → Fails v line old.mask mid new.play new.said → TellsNothing old.mask mid raw
-  told_nothing v None mid raw short is fails = absurd (short fails)
-  told_nothing v (Some text) mid raw short is fails =
+  -- the line tells of nothing there
+  told_nothing : (v : Verdict) (line : Option (List ℕ)) (mid : PlayState) (done : List (List ℕ)) (raw : List ℕ) → All IsOrderlyPort old.play.world.ports
+      → Stage old.mask old.play done mid → handed longest_line raw ≡ line → Fails v line old.mask mid new.play new.said → TellsNothing old.mask mid raw
+  told_nothing v None mid done raw ports stage is fails = long_tells_nothing old.mask old.play mid done raw ports stage (handed_none longest_line raw is)
+  told_nothing v (Some text) mid done raw ports stage is fails =
       subst (TellsNothing old.mask mid) (sym (handed_whole longest_line raw text is)) (refused v old.mask mid new.play text new.said fails.1 fails.0)
 
   -- what is told of it
@@ -144,10 +146,10 @@ module _ {R : Type 0} (limit : ℕ) (from to : SourceState R) (old new : VerifyS
       h ∙ ap (λ (e : Option Verdict). report_at e new.lines text new.said) ended
       ∙ ap (λ (t : List ℕ). report_of v new.lines t new.said) (sym (handed_whole longest_line raw text is))
 
-  refused_found : (v : Verdict) (told bytes : List ℕ) (ls others : List (List ℕ)) → Consumes from.remaining to.remaining bytes → lines_of bytes ≡ ls ++ others
+  refused_found : All IsOrderlyPort old.play.world.ports → (v : Verdict) (told bytes : List ℕ) (ls others : List (List ℕ)) → Consumes from.remaining to.remaining bytes → lines_of bytes ≡ ls ++ others
       → ((xs : List ℕ) → from.remaining ≡ Some xs → (o : List (List ℕ)) × (lines_of xs ≡ ls ++ o))
       → Halts v old.mask old.play (map (handed longest_line) ls) new told → IsRefused old new from to new.lines v told
-  refused_found v told bytes ls others came is first halts =
+  refused_found ports v told bytes ls others came is first halts =
       let p = parted longest_line ls halts.before halts.line halts.rest halts.all_is in
       let behind : (o : List (List ℕ)) → ls ++ o ≡ halts.before ++ p.raw ∷ (p.others ++ o) =
       λ o. ap (λ (l : List (List ℕ)). l ++ o) p.parts ∙ append_assoc halts.before (p.raw ∷ p.others) o in
@@ -164,11 +166,11 @@ module _ {R : Type 0} (limit : ℕ) (from to : SourceState R) (old new : VerifyS
         run = tells_lines old.mask old.play halts.before halts.stage.receipts halts.mid halts.stage.tells;
         condemned = condemned v halts.line halts.mid p.raw p.is halts.fails;
         told_is = told_report v halts.line halts.mid p.raw told p.is halts.fails halts.ended halts.told_is;
-        none = λ short. if_some from.remaining (λ (xs : List ℕ). IsTraceText old.mask old.play xs → ⊥)
+        none = if_some from.remaining (λ (xs : List ℕ). IsTraceText old.mask old.play xs → ⊥)
             (λ xs here trace.
             let o = first xs here in
             stage_ends old.mask old.play halts.mid halts.before p.raw (p.others ++ o.0) (lines_of xs) (o.1 ∙ behind o.0) halts.stage
-            (told_nothing v halts.line halts.mid p.raw short p.is halts.fails) (in_lines old.mask old.play xs trace).trace);
+            (told_nothing v halts.line halts.mid halts.before p.raw ports halts.stage p.is halts.fails) (in_lines old.mask old.play xs trace).trace);
       }
 
   -- the lines of all that is to come begin with those of what came
@@ -189,13 +191,13 @@ started old new ls said none first h = course old.mask old.play [] ls old new sa
 never : false ≡ true → ⊥
 never h = cc
 
-module _ {R W : Type 0} (from to : SourceState R) (old new : VerifyState) (before after : SinkState W) (told : List ℕ) (written : WritesAll before after told) where
+module _ {R W : Type 0} (from to : SourceState R) (old new : VerifyState) (before after : SinkState W) (told : List ℕ) (written : WritesAll before after told) (ports : All IsOrderlyPort old.play.world.ports) where
   whole : (ended : Option Verdict) → (text : List ℕ) → ReadsWhole from to text → text ≡ with_feeds (lines_of text)
       → Course ended old.mask old.play (map (handed longest_line) (lines_of text)) new told → RunsVerify old new from to before after (finding Whole ended new.lines)
   whole None text read feeds c = record { told = told; verified = (run_found longest_line from to old new text read feeds told c, c.silent); written = written }
   whole (Some v) text read feeds c = record {
     told = told;
-    verified = refused_found longest_line from to old new v told text (lines_of text) [] read.consumed (sym (append-nil (lines_of text)))
+    verified = refused_found longest_line from to old new ports v told text (lines_of text) [] read.consumed (sym (append-nil (lines_of text)))
         (λ xs is. ([], ap lines_of (whole_text longest_line from to old new from.remaining to.remaining text xs read.consumed read.end is) ∙ sym (append-nil (lines_of text)))) c;
     written = written;
   }
@@ -205,7 +207,7 @@ module _ {R W : Type 0} (from to : SourceState R) (old new : VerifyState) (befor
   unended None text read unfed c = record { told = told; verified = (unended_found longest_line from to old new text read unfed told c, c.silent); written = written }
   unended (Some v) text read unfed c = record {
     told = told;
-    verified = refused_found longest_line from to old new v told text (lines_of text) [] read.consumed (sym (append-nil (lines_of text)))
+    verified = refused_found longest_line from to old new ports v told text (lines_of text) [] read.consumed (sym (append-nil (lines_of text)))
         (λ xs is. ([], ap lines_of (whole_text longest_line from to old new from.remaining to.remaining text xs read.consumed read.end is) ∙ sym (append-nil (lines_of text)))) c;
     written = written;
   }
@@ -217,28 +219,28 @@ module _ {R W : Type 0} (from to : SourceState R) (old new : VerifyState) (befor
       let e = ended_first bytes [] in
       record {
         told = told;
-        verified = refused_found longest_line from to old new v told bytes (ended_lines bytes) e.0 came (ap lines_of (sym (append-nil bytes)) ∙ e.1)
+        verified = refused_found longest_line from to old new ports v told bytes (ended_lines bytes) e.0 came (ap lines_of (sym (append-nil bytes)) ∙ e.1)
             (λ xs here. first_lines longest_line from to old new from.remaining to.remaining bytes xs came here) c;
         written = written;
       }
 
 module _ {R W : Type 0} (from to : SourceState R) (old new : VerifyState) (before after : SinkState W) where
-  verified : (end : LinesEnd) → old.ended ≡ None → old.lines ≡ 0 → ServesTo Following has_ended longest_line end from to old new before after
+  verified : (end : LinesEnd) → All IsOrderlyPort old.play.world.ports → old.ended ≡ None → old.lines ≡ 0 → ServesTo Following has_ended longest_line end from to old new before after
       → RunsVerify old new from to before after (finding end new.ended new.lines)
-  verified Whole none first s =
-      whole from to old new before after s.said (s.written, s.kept) new.ended s.bytes s.read (s.feeds.0 refl) (started old new (map (handed longest_line) (lines_of s.bytes)) s.said none first s.spoken)
-  verified Open none first s =
-      unended from to old new before after s.said (s.written, s.kept) new.ended s.bytes s.read (λ e. never (s.feeds.1 e))
+  verified Whole ports none first s =
+      whole from to old new before after s.said (s.written, s.kept) ports new.ended s.bytes s.read (s.feeds.0 refl) (started old new (map (handed longest_line) (lines_of s.bytes)) s.said none first s.spoken)
+  verified Open ports none first s =
+      unended from to old new before after s.said (s.written, s.kept) ports new.ended s.bytes s.read (λ e. never (s.feeds.1 e))
       (started old new (map (handed longest_line) (lines_of s.bytes)) s.said none first s.spoken)
-  verified Over none first s =
-      over from to old new before after s.0.said (s.0.written, s.0.kept) new.ended s.1 s.0.bytes s.0.read
+  verified Over ports none first s =
+      over from to old new before after s.0.said (s.0.written, s.0.kept) ports new.ended s.1 s.0.bytes s.0.read
       (started old new (map (handed longest_line) (ended_lines s.0.bytes)) s.0.said none first s.0.spoken)
 
   pub verified_as : (end : LinesEnd) (found : Option Verdict) (line : ℕ) (answer : Result ℕ VerifyFault) → found ≡ new.ended → line ≡ new.lines → answer ≡ finding end found line
-      → old.ended ≡ None → old.lines ≡ 0 → ServesTo Following has_ended longest_line end from to old new before after → RunsVerify old new from to before after answer
-  verified_as end found line answer is many same none first s =
+      → All IsOrderlyPort old.play.world.ports → old.ended ≡ None → old.lines ≡ 0 → ServesTo Following has_ended longest_line end from to old new before after → RunsVerify old new from to before after answer
+  verified_as end found line answer is many same ports none first s =
       let told : answer ≡ finding end new.ended new.lines = same ∙ ap (λ (f : Option Verdict). finding end f line) is ∙ ap (λ (n : ℕ). finding end new.ended n) many in
-      subst (λ (a : Result ℕ VerifyFault). RunsVerify old new from to before after a) (sym told) (verified end none first s)
+      subst (λ (a : Result ℕ VerifyFault). RunsVerify old new from to before after a) (sym told) (verified end ports none first s)
 
   pub unread : (fault : LinesFault) → Serves Following has_ended longest_line from to old new before after (Err fault) → RunsVerify old new from to before after (Err (Lines fault))
   unread faults.Read s = record { told = []; verified = s.failed refl; written = tt }

@@ -1,5 +1,5 @@
 -- How the verification of a text may end (this profile's own rule).
-use Rattle.std.specs.Prelude.{◌≡◌, ◌≢◌, ◌<◌, ◌⊎◌, ℕ, ◌+◌, true, List, [], ◌∷◌, ◌++◌, length, IfSome, Option, Some, None, Result, Ok, Err}
+use Rattle.std.specs.Prelude.{◌≡◌, ◌<◌, ◌⊎◌, ℕ, ◌+◌, true, List, [], ◌∷◌, ◌++◌, length, IfSome, Option, Some, None, Result, Ok, Err}
 use Rattle.std.specs.Io.KnownBytes.{Appends, Consumes}
 use Rattle.gp_flow.specs.declared.fault.LinesFault.{LinesFault}
 use Rattle.gp_flow.specs.declared.fault.LinesFault.TheVariants as faults
@@ -59,7 +59,7 @@ pub record IsRefused {R : Type 0} (old new : VerifyState) (from to : SourceState
   -- what is told of it
   pub told_is : told ≡ report_of verdict line text new.said
   -- so no run has this trace, whatever comes behind what was read
-  pub none : verdict ≢ TooLong → IsNoRun old from
+  pub none : IsNoRun old from
 
 -- the whole text was read, and its lines are those of a run, but it ends before the last one's line feed
 pub record IsUnended {R : Type 0} (old : VerifyState) (from to : SourceState R) (line : ℕ) : Type 0 where

@@ -1,6 +1,7 @@
-ghost use Rattle.std.specs.Prelude.{◌≡◌, ◌<◌, ◌≤◌, ◌+◌, ◌↔◌, ◌++◌, ℕ, codes, IfOk, OnErr, IsTrue, length};
+ghost use Rattle.std.specs.Prelude.{◌≡◌, ◌<◌, ◌≤◌, ◌+◌, ◌↔◌, ◌++◌, ℕ, codes, All, IfOk, OnErr, IsTrue, length};
 ghost use Rattle.gp_lines.specs.Trace.{SplitsLine};
 ghost use Rattle.gp_replay.specs.Chassis.{HasRoom};
+ghost use Rattle.gp_verify.specs.Ports.{IsOrderlyPort};
 ghost use Rattle.gp_verify.specs.Verdicts.{Judges};
 
 use super::verdict::Verdict;
@@ -37,6 +38,7 @@ fn judge_turn<L: Ledger>(
     ensures err { OnErr result ((player.new ≡ player.old) × (buffer.new ≡ buffer.old)) }
     ensures ports { length player.new.next ≡ length player.old.next }
     ensures room { (count : ℕ) → HasRoom (1 + count) player.old → HasRoom count player.new }
+    ensures stays { All IsOrderlyPort player.old.world.ports → All IsOrderlyPort player.new.world.ports }
 {
     player.stands();
     event_is_told(&line.event);
@@ -69,6 +71,7 @@ pub(crate) fn judge_line<L: Ledger>(
     ensures err { OnErr result ((player.new ≡ player.old) × (buffer.new ≡ buffer.old)) }
     ensures ports { length player.new.next ≡ length player.old.next }
     ensures room { (count : ℕ) → HasRoom (1 + count) player.old → HasRoom count player.new }
+    ensures stays { All IsOrderlyPort player.old.world.ports → All IsOrderlyPort player.new.world.ports }
 {
     let Some(line) = split_line(text) else {
         return Ok(Verdict::NotALine);

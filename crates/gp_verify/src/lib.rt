@@ -8,6 +8,7 @@
 //! - `judging.rt`: takes the turn that a line tells of, and tells whether the line is that turn's.
 //! - `laws.rt`: what lines and the whole text have to do with each other.
 //! - `report.rt`: what is told of the line that can't be.
+//! - `typed.rt`: what the types of a configuration say of its fields.
 //! - `verdict.rt`: what is said of a line. `fault.rt`: why a line was not judged, and how a verification ends.
 //!
 //! Where to make which change: what it means that a text is a trace stands in `specs/Tells.antt`, what a verdict
@@ -23,6 +24,7 @@ mod laws;
 mod outcome;
 mod report;
 mod running;
+mod typed;
 mod verdict;
 mod verifier;
 

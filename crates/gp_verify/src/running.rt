@@ -26,6 +26,7 @@ pub fn run_verify<L: Ledger, R: Read, W: Write>(
     requires flushed { sink.old.flushed ≡ true }
     ensures { RunsVerify verifier.old verifier.new source.old source.new sink.old sink.new result }
 {
+    verifier.stands();
     let end = run_lines(alloc, source, sink, verifier)?;
     let found = verifier.ended();
     finding(end, found, verifier.lines())

@@ -1,15 +1,17 @@
-ghost use Rattle.std.specs.Prelude.{◌≡◌, ◌+◌, ◌≤◌, ℕ, None, Some, Ok, Err, IfOk, OnErr};
+ghost use Rattle.std.specs.Prelude.{◌≡◌, ◌+◌, ◌≤◌, ℕ, All, None, Some, Ok, Err, IfOk, OnErr};
 ghost use Rattle.gp_chassis.specs.Limits.{IsWithin};
 ghost use Rattle.gp_chassis.specs.World.{IsBalanced};
 ghost use Rattle.gp_verify.specs.declared.fault.LineRefusal.TheVariants.{Full};
 ghost use Rattle.gp_verify.specs.declared.verdict.Verdict.{Verdict as AnyVerdict};
 ghost use Rattle.gp_verify.specs.declared.verdict.Verdict.TheVariants.{TooLong};
+ghost use Rattle.gp_verify.specs.Ports.{IsOrderlyPort};
 ghost use Rattle.gp_verify.specs.Report.{report_of};
 ghost use Rattle.gp_verify.specs.Verdicts.{Judges, ending, most_lines, opened_verify};
 
 use super::fault::LineRefusal;
 use super::judging::judge_line;
 use super::report::report_of;
+use super::typed::configs_are_typed;
 use super::verdict::Verdict;
 use gp_chassis::ChassisConfig;
 use gp_licence::MAX_LICENCES;
@@ -34,13 +36,14 @@ pub struct Verifier<L: Ledger> {
 }
 
 impl<L: Ledger> Model for Verifier<L> {
-    ghost use Rattle.std.specs.Prelude.{◌≤◌, ◌-◌, length};
+    ghost use Rattle.std.specs.Prelude.{◌≤◌, ◌-◌, All, length};
     ghost use Rattle.std.specs.FinMap as map;
     ghost use Rattle.std.specs.FinSet as set;
     ghost use Rattle.std.specs.Coded.{codes};
     ghost use Rattle.gp_ploam.specs.Serials.{serial_cmp, coded_serial};
     ghost use Rattle.gp_unit.specs.contracts.row.Row as row;
     ghost use Rattle.gp_replay.specs.Chassis.{HasRoom};
+    ghost use Rattle.gp_verify.specs.Ports.{IsOrderlyPort};
     ghost use Rattle.gp_verify.specs.Verdicts.{VerifyState, most_lines};
 
     ghost Value = { VerifyState };
@@ -53,7 +56,8 @@ impl<L: Ledger> Model for Verifier<L> {
 
     ghost view = { λ v. record { mask = v.mask; play = v.player; lines = v.lines; said = v.buffer; ended = v.ended } };
 
-    ghost invariant = { λ v. (length v.player.next ≤ 16) × HasRoom (most_lines - v.lines) v.player };
+    ghost invariant = { λ v. (length v.player.next ≤ 16) × HasRoom (most_lines - v.lines) v.player
+        × All IsOrderlyPort v.player.world.ports };
 }
 
 impl<L: Ledger> Verifier<L> {
@@ -71,6 +75,7 @@ impl<L: Ledger> Verifier<L> {
         requires few { config.now.journal_limit ≤ MAX_KEPT }
         ensures { IfOk result (λ verifier. verifier ≡ opened_verify mask config.now.ports.items config.now.licences) }
     {
+        configs_are_typed(config.ports.as_slice());
         let buffer = LineBuffer::new(alloc)?;
         let player = Player::begin(alloc, blank, config)?;
         Ok(Verifier {
@@ -129,6 +134,14 @@ impl<L: Ledger> Verifier<L> {
         self.lines += 1;
         self.ended = Some(Verdict::TooLong);
         Ok(())
+    }
+
+    /// States what holds of each port: no line of it is too long.
+    pub(crate) fn stands(&self)
+        ensures { All IsOrderlyPort self.now.play.world.ports }
+    {
+        // The invariant is known once a field is looked at.
+        let _ = &self.mask;
     }
 
     /// The verdict that ended it, of the line that was judged last.

@@ -1,13 +1,21 @@
 use Rattle.std.proofs.Common.{◌≡◌, ◌<◌, ◌∙◌, sym, rules, ap, inl, false, take, length}
 use Rattle.std.proofs.lemmas.Result.{err_from_is_err_and}
 use Rattle.std.proofs.KnownBytes.{Keeps-refl}
-use Rattle.gp_flow.proofs.RunLemmas.{reading_step, serves_over, serves_read, serves_piece_fault, serves_last_fault, serves_end, serves_start_fault, no_read, failed_read}
+use Rattle.gp_flow.proofs.RunLemmas.{reading_start, reading_step, serves_no_memory, serves_over, serves_read, serves_piece_fault, serves_last_fault, serves_end, serves_start_fault, no_read, failed_read}
 use Rattle.gp_flow.proofs.lines.serve.Goals as goal
 
 pub returns-in_err-finish : goal.returns-in_err-finish
 returns-in_err-finish g c =
     let p = err_from_is_err_and c.from_residual.result c.from_residual.ensures.1 in
     rw (p.1, p.2) (serves_start_fault _ _ _ _ _ _ _ _ _ c.in_err-finish.ensures)
+
+pub returns-in_err-line : goal.returns-in_err-line
+returns-in_err-line g c =
+    let p = err_from_is_err_and c.from_residual-in_err-line.result c.from_residual-in_err-line.ensures.1 in
+    rw (p.1, p.2) (serves_no_memory _ _ _ _ _ _ _ _ c.requires c.in_ok-finish.ensures)
+
+pub reads-init : goal.reads-init
+reads-init g c = reading_start _ _ _ _ _ _ _ _ c.in_ok-line.ensures c.requires c.in_ok-finish.ensures
 
 pub returns-in-Err : goal.returns-in-Err
 returns-in-Err g c = serves_read _ _ _ _ _ _ _ _ _ c.reads.invariant _ _ c.in-Err.ensures.bytes (inl (failed_read _ _ c.in-Err.ensures.failed))

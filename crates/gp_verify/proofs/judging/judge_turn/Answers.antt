@@ -1,5 +1,6 @@
 use Rattle.std.proofs.Common.{◌∙◌, sym}
 use Rattle.gp_verify.proofs.JudgingLemmas.{other_number, no_step, spelled_small, told_alone, told_nothing, told_it, turn_room, not_true}
+use Rattle.gp_verify.proofs.PortLemmas.{turn_ports}
 use Rattle.gp_verify.proofs.judging.judge_turn.Goals as goal
 
 pub event_is_told-requires : goal.event_is_told-requires
@@ -15,6 +16,9 @@ returns-then-is_line_of-clause-judged g c =
 pub returns-then-is_line_of-clause-room : goal.returns-then-is_line_of-clause-room
 returns-then-is_line_of-clause-room g c = turn_room _ _ _ _ c.in_ok-receipt.ensures.taken
 
+pub returns-then-is_line_of-clause-stays : goal.returns-then-is_line_of-clause-stays
+returns-then-is_line_of-clause-stays g c = turn_ports _ _ _ _ c.in_ok-receipt.ensures.taken
+
 pub returns-then-receipt-line-clause-judged : goal.returns-then-receipt-line-clause-judged
 returns-then-receipt-line-clause-judged g c = (
   told_nothing c.args.mask c.args.player.now c.take_turn_wishing.new.self c.args.text.now c.in_ok-receipt.receipt
@@ -28,6 +32,9 @@ returns-then-receipt-line-clause-judged g c = (
 pub returns-then-receipt-line-clause-room : goal.returns-then-receipt-line-clause-room
 returns-then-receipt-line-clause-room g c = turn_room _ _ _ _ c.in_ok-receipt.ensures.taken
 
+pub returns-then-receipt-line-clause-stays : goal.returns-then-receipt-line-clause-stays
+returns-then-receipt-line-clause-stays g c = turn_ports _ _ _ _ c.in_ok-receipt.ensures.taken
+
 pub returns-clause-judged : goal.returns-clause-judged
 returns-clause-judged g c = (
   told_nothing c.args.mask c.args.player.now c.take_turn_wishing.new.self c.args.text.now c.in_ok-receipt.receipt
@@ -40,3 +47,6 @@ returns-clause-judged g c = (
 
 pub returns-clause-room : goal.returns-clause-room
 returns-clause-room g c = turn_room _ _ _ _ c.in_ok-receipt.ensures.taken
+
+pub returns-clause-stays : goal.returns-clause-stays
+returns-clause-stays g c = turn_ports _ _ _ _ c.in_ok-receipt.ensures.taken

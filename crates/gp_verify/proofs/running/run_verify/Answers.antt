@@ -8,4 +8,4 @@ returns-in_err-end g c =
     rw (p.1, p.2) (unread _ _ _ _ _ _ _ c.in_err-end.ensures)
 
 pub returns : goal.returns
-returns g c = verified_as _ _ _ _ _ _ _ _ _ _ c.ended-found.ensures c.lines.ensures c.finding.ensures c.requires.begins c.requires.first c.in_ok-end.ensures.ok
+returns g c = verified_as _ _ _ _ _ _ _ _ _ _ c.ended-found.ensures c.lines.ensures c.finding.ensures c.stands.ensures c.requires.begins c.requires.first c.in_ok-end.ensures.ok

@@ -8,4 +8,5 @@ invariant_of-self-2 g c =
     let fits : lines < 2 ^ 64 = omega arith in (
       omega (arith, c.in_ok-verdict.ensures.ports, c.self.invariant.0),
       c.in_ok-verdict.ensures.room _ (one_less lines c.if-self.false fits c.self.inside.player c.self.invariant.1),
+      c.in_ok-verdict.ensures.stays c.self.invariant.2,
     )
