@@ -1,6 +1,9 @@
 //! Whether what the workers of a chassis were told is what its journals have: each receipt tells of an entry, each
 //! entry is told of once, and each worker was told in order.
 //!
+//! Promise: receipts and journals are found to agree exactly where each entry is told of once, by its own receipt
+//! (`reconcile`).
+//!
 //! - `recorded.rt`: `Recorded`, what keeps numbered entries. `told.rt`: `Told`, what was told of them. A journal and
 //!   a list of receipts are such; other types become so by an `impl`.
 //! - `places.rt`: where the mark of each entry stands, and that of the entry which a receipt names. `marking.rt`: one

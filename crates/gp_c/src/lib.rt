@@ -1,5 +1,8 @@
 //! The chassis for C, C++, Go and Python: a static library with the header `include/wagpisud.h`.
 //!
+//! Promise: each call serves what it is asked, or is refused and changes nothing; C is told the numbers of what it
+//! gave (`wp_frame`, `wp_burst`, `wp_command`, ..).
+//!
 //! - `exports.rt`: the functions that C calls. `calls.rt`: what each asks of its handle.
 //! - `settings.rt`, `event.rt`, `command.rt`, `answer.rt`, `row.rt`, `counts.rt`, `turn.rt`, `fault.rt`: what crosses,
 //!   as plain numbers. `kept.rt`: an entry that a journal keeps.

@@ -1,5 +1,8 @@
 //! Up to sixteen ports with one stock of licences, on one thread, and the laws of whatever its actors do.
 //!
+//! Promise: each call is its move of the chassis, or a refusal that changes nothing; licences are exact
+//! (`ChassisCore::apply`, `take`, `step`, `give`, `cut`, `close`).
+//!
 //! - `chassis_core.rt`: `ChassisCore`, the ports, the book of the licences and the hands of 64 actors: take, step and
 //!   give, `apply` for all three, and `cut`.
 //! - `desk.rt`: `PortDesk`, a port with its journal: `serve` is the one change that a port makes, here and under a

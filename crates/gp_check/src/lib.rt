@@ -1,5 +1,7 @@
 //! Tells of a file that it is a script, or where it is wrong and what is wanted there, by one line.
 //!
+//! Promise: the line says that a file is a script, or the first fault with its place (`check_script`).
+//!
 //! - `checking.rt`: `check_script`, which reads a source and writes its line.
 //! - `found.rt`: what was found in a source, and its text.
 //! - `text.rt`: the text of a mistake. `fault.rt`: why nothing was told.

@@ -1,6 +1,8 @@
 //! The common state of a port, and what a port does in a frame in which nothing is under way
 //! (this profile's own rule; the states are those of G.984.3, clause 10).
 //!
+//! Promise: the next common state and what a port does are the decision table's (`decide`).
+//!
 //! - `common.rt`: `Common`, the common states.
 //! - `decision.rt`: `Decision`, and `decide` with its two halves. `specs/Decision.antt` is the table.
 //! - `laws.rt`: two laws, as functions with empty bodies. `specs/Laws.antt`: what holds of every decision and of every

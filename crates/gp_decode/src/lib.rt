@@ -1,5 +1,7 @@
 //! Says in words which PLOAM message a code is, where the code is given as hexadecimal digits.
 //!
+//! Promise: a code is told in the words of its message, or its first fault is (`decode_line`, `decode_lines`).
+//!
 //! - `line.rt`: `decode_line`, which reads the digits and writes the message's line.
 //! - `lines.rt`: `decode_lines`, which does so of each line of an input; `decoder.rt`: `Decoder`, what serves the lines.
 //! - `words.rt`: `words_of`, the words of thirteen octets.

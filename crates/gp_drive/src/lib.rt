@@ -1,5 +1,8 @@
 //! A line terminal that one talks to: each line of an input asks for something, and is answered at once.
 //!
+//! Promise: each line is answered by the trace lines of what it asks for, or by an error, and all of them together
+//! are a run (`run_drive`, `drives_are_runs`).
+//!
 //! - `driving.rt`: `run_drive`, from the bytes of a script and of an input of lines to the answers.
 //! - `driver.rt`: `Driver`, which answers one line after another on a player, as what serves lines.
 //!   `driven.rt`: how many lines there were.

@@ -1,5 +1,8 @@
 //! Gives the code of a message that is said in words: the inverse of `gp_decode`.
 //!
+//! Promise: words give the code that is told in these words, and what `decode` says comes back (`encode_words`,
+//! `words_come_back`).
+//!
 //! - `line.rt`: `encode_line`, which writes the code in hexadecimal digits; `encoding.rt`: `encode_words`, from words to
 //!   thirteen octets.
 //! - `down.rt`, `up.rt`: the message that words say, of each direction; `fields.rt`: its fields.

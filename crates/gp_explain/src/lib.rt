@@ -1,5 +1,8 @@
 //! Writes a trace again with its codes in words.
 //!
+//! Promise: each line is the trace's line with its codes told, in the form that was asked for (`explain_trace`,
+//! `Telling`).
+//!
 //! - `line.rt`: one line in words; `place.rt`: where in a line codes stand. `time.rt`: a port's time before a line.
 //! - `telling.rt`: `Telling`, which tells any lines, one after another, in one of the forms of `form.rt`.
 //! - `explainer.rt`: `Explainer`, which is given the lines of a trace one after another; `serving.rt`: as what serves

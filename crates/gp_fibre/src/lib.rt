@@ -1,6 +1,9 @@
 //! A fibre: one port, its licences, and the simulated units that it reaches. Copies, grants and bursts reach them in
 //! any order, late, twice or never.
 //!
+//! Promise: each step of a fibre is its case, and a run of frames is its schedule; what a unit has it was sent
+//! (`World::step`, `run`, `units_are_told`).
+//!
 //! - `world.rt`: `World`, with its steps (`world_step.rt`), its faults (`fault.rt`) and what it begins with
 //!   (`unit_plan.rt`).
 //! - `running.rt`: the parts of a frame of `World::run`, which may lose copies and bursts (`loss_plan.rt`).

@@ -1,5 +1,8 @@
 //! Serves the lines of an input without bound: each is answered at once, and memory is flat.
 //!
+//! Promise: each line is served, in whatever pieces the input comes, and all answers are out before more is read
+//! (`run_lines`).
+//!
 //! - `lines.rt`: `run_lines`, which reads an input piece by piece. Whenever it asks for more, all answers are out.
 //! - `work.rt`: `LineWork`, what is done with lines; `fault.rt`: why a line, or a whole input, was not answered.
 //! - `open_line.rt`: the line of which octets came, and no line feed yet.

@@ -1,5 +1,8 @@
 //! What a port was asked and what it answered, in order, with numbers that count from its opening.
 //!
+//! Promise: a history is found to tell how a port came to stand where it stands exactly where it does (`replays`,
+//! `Piece::joins`).
+//!
 //! - `journal.rt`: `Journal`, the entries since it was last cut, and the state before them.
 //! - `entries.rt`: `Entries`, entries as plain data. `piece.rt`: `Piece`, what is cut from a journal, and the law
 //!   that pieces which follow one another are one run.

@@ -1,5 +1,7 @@
 //! Writes the lines of a trace as JSON, one object a line.
 //!
+//! Promise: a line is the object of its parts, or that of a line that is none (`write_object`, `write_other`).
+//!
 //! - `object.rt`: `write_object`, a line as an object; `other.rt`: `write_other`, one that is none of a trace.
 //! - `slot.rt`: what stands where in a line, and which field it makes; `field.rt`: that field.
 //! - `text.rt`: texts and numbers as JSON spells them.

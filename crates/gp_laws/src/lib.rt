@@ -4,6 +4,9 @@
 //! the machine is a law of `gp_machine`. The chassis, the workers, the world and the replay rest on laws of
 //! this crate.
 //!
+//! Promise: what holds of every run: numbers, licences, copies, alarms, quarantine (`every_state_is_sound` and the
+//! other laws).
+//!
 //! - `steps`: the choice that a port has, and that it has an answer to each event.
 //! - `causes`: why a step refuses.
 //! - `runs`: the parts of a run, and what stays the same along it.

@@ -1,5 +1,8 @@
 //! The lines of a trace, read, and lines that ask for something: a trace is a language.
 //!
+//! Promise: what the trace says is read back, exactly, and the first fault of a line is told (`parse_event`,
+//! `parse_turn`, `split_line`).
+//!
 //! - `event.rt`: `parse_event`, an event as a trace tells it.
 //! - `turn.rt`, `grant.rt`: `parse_turn`, what a line asks for.
 //! - `traced.rt`: `split_line`, a line of a trace cut into its parts; `framed.rt`: the same of most lines, at once.

@@ -2,6 +2,9 @@
 //! and runs in `specs/`, and those laws of single steps that the code of a port needs (`one_step`), of `==` (`config`,
 //! `equal_replies`) and of the limits (`config`). The other laws, and those of whole runs, stand in `gp_laws`.
 //!
+//! Promise: a step keeps soundness and licences; given the reply all else is determined (`sound_step`,
+//! `one_outcome`).
+//!
 //! Where to make which change, in `specs/`:
 //! - limits of a configuration, of how many ports there may be and of what their journals keep: `Config`; a refusal's
 //!   number and name: `Refusals`, and `src/refusal.rt`.

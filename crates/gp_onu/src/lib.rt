@@ -1,5 +1,7 @@
 //! A simulated unit: the states O1 to O7 of an ONU (G.984.3, clause 10), and what it hears and answers.
 //!
+//! Promise: each input of a unit is a line of the unit table, or changes nothing (`Unit::hear`, `grant`, `frame`).
+//!
 //! - `state.rt`: `State`, the public names of the states; `specs/State.antt` has the printed ones.
 //! - `stage.rt`: a state with exactly what the unit has in it. `specs/Stage.antt` reads it.
 //! - `unit.rt`: `Unit`, one small method for each message and each grant. `specs/Table.antt` is the unit table;

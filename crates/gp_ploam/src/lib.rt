@@ -1,6 +1,9 @@
 //! The PLOAM messages of ITU-T G.984.3, clause 9, and their codes of thirteen
 //! octets.
 //!
+//! Promise: a code is its message's row with its check octet, and thirteen octets are read as that message alone or
+//! refused as what they are (`encode_down`, `decode_down`, and `_up`).
+//!
 //! - `message.rt`: the messages of both directions (`Down`, `Up`), `Serial`, `LAST_ONU`, `ONU_IDS` and `BROADCAST_ONU`.
 //! - `identifier.rt`: the identifiers of both directions.
 //! - `check.rt`: `Mask`, the check octet, and what both directions do with it.

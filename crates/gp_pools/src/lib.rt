@@ -2,6 +2,9 @@
 //! dropped: it goes back to its pool, or is settled there and leased again. A freed ONU-ID cools for the
 //! port's quarantine before it is handed out anew.
 //!
+//! Promise: a lease is of a free number, and None comes exactly where none is free; a freed ONU-ID cools for its
+//! quarantine (`OnuIds::take`, `give_back`, `tick`, `AllocIds::take`).
+//!
 //! - `onu_ids.rt`: the ONU-IDs, a `NumberPool` with its `Cooling`; change there what a unit's number is.
 //! - `alloc_ids.rt`: the further Alloc-IDs, a `NumberPool`.
 //! - `named_leases.rt`: the number that would be leased next, and leases of a number that the caller names.

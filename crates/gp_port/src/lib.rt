@@ -1,5 +1,9 @@
 //! The activation machine of one port, as code (G.984.3, clause 10).
 //!
+//! Promise: each step is a step of the machine, keeps licences, takes no memory and can't fail; an image is of the
+//! port's state; a follower makes exactly the steps that entries tell of (`PortCore::step`, `image`,
+//! `PortFollower::follow`).
+//!
 //! - `port_machine.rt`: `PortMachine`, the machine without its licences, and the questions that it asks itself.
 //! - `changes.rt`, `unit_changes.rt`: a method for each change that a step makes.
 //! - `frame.rt`, `burst.rt`, `search_window.rt`, `range_window.rt`, `poll_window.rt`, `command.rt`, `unit_command.rt`,

@@ -1,5 +1,8 @@
 //! Equalization delays, and the windows in which units answer (G.984.3, clause 10).
 //!
+//! Promise: the equalization delay that makes up a unit's round trip, or that there is none; a window has its three
+//! frames and ends once (`equalize`, `Window::tick`).
+//!
 //! - `delay.rt`: `equalize`; `specs/Delay.antt` says which delay it is.
 //! - `grant.rt`: `Grant`, who is asked to answer.
 //! - `window.rt`: `Window`, what becomes of one with a frame (`Ticked`), and `WINDOW_FRAMES`. `specs/Window.antt`

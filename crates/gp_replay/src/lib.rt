@@ -1,5 +1,8 @@
 //! What it means to play a script, and the engine that reads a script, plays it and writes its trace.
 //!
+//! Promise: what is written is the whole trace of a play of the script, and nothing else; each port's entries are a
+//! run (`run_replay`).
+//!
 //! - `replaying.rt`: `run_replay`, from the bytes of a script to those of its trace.
 //! - `event_player.rt`: `EventPlayer`, what events are played on, and `play_events`, which plays the events of a script
 //!   on it; `play_end.rt`: the end of a play.

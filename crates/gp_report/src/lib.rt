@@ -1,5 +1,7 @@
 //! What `oltctl` says on standard error of all that may go wrong, and its exit statuses.
 //!
+//! Promise: each fault has its line and its status (`run_report` and the others).
+//!
 //! - `report.rt`: the line and the status of each fault.
 //! - `status.rt`: the statuses.
 //!

@@ -1,5 +1,8 @@
 //! Serial numbers as people write them, and the list of those that are admitted.
 //!
+//! Promise: a text is read exactly as what it spells, and its first fault is told (`parse_serial`,
+//! `AdmissionList::admit`).
+//!
 //! - `reading.rt`: `parse_serial`, and the law that what is read is what is spelled.
 //! - `text.rt`: `SerialText` and the calls that write.
 //! - `admission.rt`: `AdmissionList`, its limit `MAX_ON_A_PORT` and the count of each port; it stands on `index.rt`,

@@ -1,6 +1,9 @@
 //! A storm: the bursts, frames and commands of several ports at once, by threads. Each port has one feeder and one
 //! reader with a ring between them; one clock has the frames of all ports served, and one operator the commands.
 //!
+//! Promise: what is written are the exact totals of its journals, each a run of its port, with all frames and
+//! commands of the script (`run_storm`).
+//!
 //! - `storming.rt`: `run_storm`, from the bytes of a script to those of its totals.
 //! - `plan.rt`: `Plan`, what a storm does, and `plan_of` a script. `fault.rt`: `StormFault`, why it has no totals.
 //! - `feeder.rt`: what puts a port's bursts into its ring.

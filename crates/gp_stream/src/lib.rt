@@ -1,5 +1,8 @@
 //! Reads a whole input within bounds, and writes an output in large pieces, up to the first fault and no further.
 //!
+//! Promise: all of the input was read, or why not; what was written is what was handed in, or after a fault a prefix
+//! of it (`read_all`, `Sink::put`, `finish`).
+//!
 //! - `source.rt`: `Source`, a reader that counts its reads, which are bounded or endless, and remembers whether one
 //!   failed.
 //! - `reading.rt`: `read_all`, which reads a source to its end, and the faults of reading.

@@ -1,6 +1,8 @@
 //! The active units of a port with the numbers that they have (G.984.3, clauses 8 to 10): found by serial number or by
 //! ONU-ID without a scan, and no memory is taken once it was made.
 //!
+//! Promise: the active units are a finite map with their numbers, whatever keeps it (`ActiveUnits::look_up`, `add`).
+//!
 //! - `active_units.rt`: the units with their pools of numbers. Between calls no number is leased; a number is taken
 //!   or freed through a lease and the typed units of gp_unit. A new change to a unit goes here.
 //! - `unit_table.rt`: the records, in a slab, with the indexes: by serial number, by ONU-ID, and the sets of the

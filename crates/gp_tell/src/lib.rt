@@ -1,5 +1,7 @@
 //! Tells a trace otherwise while it is written.
 //!
+//! Promise: what is written is what was taken, told line by line (`Teller`).
+//!
 //! - `teller.rt`: `Teller`, a writer that is handed a trace and writes what is told of its lines to the writer below;
 //!   `writing.rt`: as a writer. `began.rt`: what it began with.
 //! - `taken.rt`: the octets that it took, which only proofs see. `fault.rt`: why it tells no more.

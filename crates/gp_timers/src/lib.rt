@@ -1,5 +1,7 @@
 //! Timers: a finite map from the name of a timer to the frame in which it is due.
 //!
+//! Promise: the timer that is due first is told, and only it (`Wheel::due`).
+//!
 //! - `wheel.rt`: `Wheel`, the map. `specs/Timers.antt` is what its callers see: which timer is due first, and when
 //!   none is.
 //! - `queue.rt`: the timers by name, and the indexes that find the first. `specs/Queues.antt`: what they keep.

@@ -1,5 +1,7 @@
 //! The text of a trace: one line for each entry of a port's journal.
 //!
+//! Promise: a line is the entry's text as the format says (`push_line`).
+//!
 //! - `line.rt`: `push_line`, the line of an entry, and the length of the longest.
 //! - `event.rt`: what happened at the port.
 //! - `answer.rt`, `reply.rt`, `allocs.rt`: what the port gave for it.

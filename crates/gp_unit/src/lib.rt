@@ -1,5 +1,7 @@
 //! What a port knows of one active unit (G.984.3, clause 10).
 //!
+//! Promise: each change of a unit is its row's function, and no lease of it is lost (`Row`, `Record::wake`).
+//!
 //! - `row.rt`: the row, plain data, with one method for each change; each is a small function of `specs/Rows.antt`,
 //!   which is where a rule on rows is changed first. `specs/Sound.antt` says what is true of each row in every run.
 //! - `row_view.rt`: a row as plain data, as a port shows it.

@@ -1,5 +1,8 @@
 //! Whether a text is the trace of some run of the machine, with any free ONU-IDs and Alloc-IDs.
 //!
+//! Promise: Ok exactly where the text read is the trace of a run; else its first line that can't be is told
+//! (`verify_script`, `Verifier`).
+//!
 //! - `checking.rt`: `verify_script`, from the bytes of a script and of a text to whether it is a trace of the
 //!   script's chassis.
 //! - `running.rt`: `run_verify`, from the bytes of a text to whether it is a trace.

@@ -1,6 +1,9 @@
 //! The messages that a port still owes to its units: each is sent three times in a row, one copy in
 //! a frame.
 //!
+//! Promise: each message is sent three times in a row, in the order in which messages were owed, and none is lost
+//! (`VolleyQueue::owe`, `send_one`).
+//!
 //! - `volley.rt`: `Volley`, one message with the copies of it that are left, and `COPIES`.
 //! - `queue.rt`: `VolleyQueue`, the volleys in a ring of std's with room for 64 of them, and the limits.
 //! - `owed_image.rt`: `OwedImage`, the volleys of a queue as plain data.

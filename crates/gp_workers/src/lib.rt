@@ -1,6 +1,9 @@
 //! A chassis that any number of threads share: up to sixteen ports, each under a lock of its own, and one stock of
 //! licences under another lock, with up to 64 workers. No call holds two of the locks at once.
 //!
+//! Promise: what workers applied at once is accounted for when the chassis ends, and each port's journal is a run
+//! (`Chassis::apply`, `close`, `cut`).
+//!
 //! - `chassis.rt`: `Chassis`: it is opened, makes workers, has a port serve an event, and is discarded. `opening.rt`:
 //!   how its ports are opened and how they end.
 //! - `worker.rt`: `Worker`, with the receipts of what it had served. `fault.rt`: why none is made. `gate.rt`: `Gate`,

@@ -1,6 +1,8 @@
-//! `oltctl`: plays a script and writes its trace, answers lines that ask for something, runs its events at once by threads and writes the totals, tells
-//! whether a trace is one of a correct line terminal, writes a trace again with its codes in words, says in words which
-//! message a code is, and gives the code of a message in words.
+//! `oltctl`: plays a script and writes its trace, answers lines that ask for something, runs its events at once by
+//! threads and writes the totals, tells whether a trace is one of a correct line terminal, writes a trace again with its
+//! codes in words, says in words which message a code is, and gives the code of a message in words.
+//!
+//! Promise: the words of a command line are read as `clap` defines, and each ending has its status (`parse`, `main`).
 #![tactic(auto)]
 
 ghost use Rattle.std.specs.Prelude.{◌≡◌, ◌≢◌, ◌≤◌, ◌↔◌, ℕ, List, Ok, Err, OnOk, map};
