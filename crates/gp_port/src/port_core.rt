@@ -28,7 +28,7 @@ use gp_machine::{
     step_sends_in_order,
 };
 use gp_ploam::Serial;
-use gp_unit::RowView;
+use gp_unit::{Row, RowView};
 use std::alloc::Global;
 use std::marker::Model;
 use std::sync::ledger::Ledger;
@@ -140,6 +140,13 @@ impl<L: Ledger> PortCore<L> {
             Some(row) => Some(row.view()),
             None => None,
         }
+    }
+
+    /// Gives the row of the unit with this serial number, if it is active.
+    pub fn unit(&self, serial: &Serial) -> Option<Row>
+        ensures { result ≡ map.get self.now.rows serial.now }
+    {
+        self.machine.row_of(serial)
     }
 
     /// Tells whether the serial number is disabled: its unit is not to send, and gets no ONU-ID.

@@ -2,7 +2,7 @@
 //!
 //! - `line.rt`: `push_line`, the line of an entry, and the length of the longest.
 //! - `event.rt`: what happened at the port.
-//! - `answer.rt`, `reply.rt`, `allocs.rt`: what the port gave for it.
+//! - `answer.rt`, `reply.rt`, `allocs.rt`: what the port gave for it; `push_unit`, what it knows of a unit.
 //! - `pieces.rt`: numbers, codes and serial numbers.
 //!
 //! Where to make which change: what a line says stands in `specs/Text.antt`, a reply's words in
@@ -18,3 +18,4 @@ mod pieces;
 mod reply;
 
 pub use line::{MAX_LINE, push_line};
+pub use reply::push_unit;

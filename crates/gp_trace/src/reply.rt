@@ -1,4 +1,4 @@
-ghost use Rattle.std.specs.Prelude.{◌+◌, ◌≤◌, vec_len, vec_capacity};
+ghost use Rattle.std.specs.Prelude.{◌≡◌, ◌+◌, ◌≤◌, ◌++◌, OnErr, OnOk, vec_len, vec_capacity};
 ghost use Rattle.gp_machine.specs.declared.reply.Reply.TheVariants.{Ranged};
 ghost use Rattle.gp_trace.specs.Pushes.{Pushes};
 ghost use Rattle.gp_trace.specs.Reply.{phase_text, refusal_text, reply_text, row_text};
@@ -6,6 +6,10 @@ ghost use Rattle.gp_trace.specs.Reply.{phase_text, refusal_text, reply_text, row
 use crate::allocs::push_allocs;
 use crate::pieces::{push_number, push_numbered, push_text};
 use gp_machine::{Phase, Refusal, Reply, Row};
+use std::alloc::AllocError;
+
+/// How many bytes what is told of a unit has at most.
+const MAX_UNIT: usize = 100;
 
 /// Appends a refusal, by its number and its name.
 fn push_refusal(out: &mut Vec<u8>, refusal: Refusal)
@@ -48,6 +52,17 @@ fn push_row(out: &mut Vec<u8>, row: &Row)
     push_phase(out, &row.phase);
     push_text(out, " allocs ");
     push_allocs(out, &row.allocs.slots());
+}
+
+/// Appends what a port knows of a unit, as in the reply to `show`. An error is answered where memory was refused, and
+/// leaves `out` as it was.
+pub fn push_unit(out: &mut Vec<u8>, row: &Row) -> Result<(), AllocError>
+    ensures ok { OnOk result (out.new.items ≡ out.old.items ++ row_text row.now) }
+    ensures untouched { OnErr result (out.new.items ≡ out.old.items) }
+{
+    out.reserve(MAX_UNIT)?;
+    push_row(out, row);
+    Ok(())
 }
 
 /// Appends what the port replied.
