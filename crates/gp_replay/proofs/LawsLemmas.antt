@@ -31,7 +31,7 @@ get_set_same {X} [] i v h = absurd (omega arith)
 get_set_same {X} (x ∷ xs) zero v h = refl
 get_set_same {X} (x ∷ xs) (suc i) v h = get_set_same xs i v (omega arith)
 
-get_set_other : {X : Type 0} (xs : List X) (i j : ℕ) (v : X) → i ≢ j → slice_get (slice_set xs i v) j ≡ slice_get xs j
+pub get_set_other : {X : Type 0} (xs : List X) (i j : ℕ) (v : X) → i ≢ j → slice_get (slice_set xs i v) j ≡ slice_get xs j
 get_set_other {X} [] i j v apart = refl
 get_set_other {X} (x ∷ xs) zero zero v apart = absurd (apart refl)
 get_set_other {X} (x ∷ xs) zero (suc j) v apart = refl

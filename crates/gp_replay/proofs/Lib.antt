@@ -11,3 +11,4 @@ pub mod WorldRoomLemmas
 pub mod WorldRunLemmas
 pub mod WorldPlayLemmas
 pub mod ScriptPlayLemmas
+pub mod SummingLemmas

@@ -11,6 +11,8 @@ use Rattle.gp_stream.specs.Sink.{SinkState}
 use Rattle.gp_replay.specs.declared.fault.PlayFault.{PlayFault}
 use Rattle.gp_replay.specs.declared.fault.PlayFault.TheVariants as plays
 use Rattle.gp_replay.specs.declared.fault.RunFault.{RunFault}
+use Rattle.gp_replay.specs.declared.fault.RunFault.TheVariants as runs
+use Rattle.gp_replay.specs.Summing.{LeavesSummary, LeavesSummaryPrefix}
 use Rattle.gp_replay.specs.Fault.{fault_of_play, fault_of_script, fault_of_source}
 use Rattle.gp_replay.specs.Outcome.{LeavesReplay, ReadsBy, RunAnswer, RunEnds}
 use Rattle.gp_replay.specs.Writing.{LeavesScript}
@@ -55,3 +57,17 @@ run_unplayed before after old new script e r input q told = told_of script_of (L
     by_fault plays.OutOfMemory (inl same) = inl same
     by_fault plays.OutOfMemory (inr left) = inr (record { script = script; input = input; held = left })
     by_fault plays.Write left = record { script = script; input = input; held = left }
+
+-- a summary was not made, without memory
+pub summary_failed : {R W : Type 0} (before after : SourceState R) (old : SinkState W) (script : ScriptView) (r : RunAnswer)
+    → ReadsBy script_of before after (Ok script) → IsErrAnd r (λ f. f ≡ runs.OutOfMemory)
+    → RunEnds script_of (LeavesSummary old old) before after old old r
+summary_failed before after old script r input told =
+    told_of script_of (LeavesSummary old old) before after old old runs.OutOfMemory r told (inl refl)
+
+-- or not all written
+pub summary_unwritten : {R W : Type 0} (before after : SourceState R) (old new : SinkState W) (script : ScriptView) (r : RunAnswer)
+    → ReadsBy script_of before after (Ok script) → LeavesSummaryPrefix script old new → IsErrAnd r (λ f. f ≡ runs.Write)
+    → RunEnds script_of (LeavesSummary old new) before after old new r
+summary_unwritten before after old new script r input left told =
+    told_of script_of (LeavesSummary old new) before after old new runs.Write r told (record { script = script; input = input; held = left })

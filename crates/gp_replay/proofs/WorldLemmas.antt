@@ -23,7 +23,7 @@ use Rattle.gp_replay.proofs.PlayLemmas.{Joins}
 
 -- ---- texts
 
-receipts_append : (n : ℕ) (xs ys : List Entry) → receipts_from n (xs ++ ys) ≡ receipts_from n xs ++ receipts_from (n + length xs) ys
+pub receipts_append : (n : ℕ) (xs ys : List Entry) → receipts_from n (xs ++ ys) ≡ receipts_from n xs ++ receipts_from (n + length xs) ys
 receipts_append n [] ys = ap (λ (k : ℕ). receipts_from k ys) (let e : n ≡ n + 0 = omega arith in e)
 receipts_append n (x ∷ xs) ys =
     let e : (n + 1) + length xs ≡ n + length (x ∷ xs) = omega arith in

@@ -7,15 +7,19 @@ ghost use Rattle.gp_replay.specs.WorldWriting.{losses_of};
 use super::event_player::EventPlayer;
 use super::fault::PlayFault;
 use super::line_buffer::LineBuffer;
+use super::noting::EventNoter;
+use super::world_noting::note_world_event;
 use super::world_player::WorldPlayer;
 use super::world_playing::{play_one_world_frame, play_world_event};
 use gp_fibre::LossPlan;
 use gp_licence::MAX_LICENCES;
 use gp_machine::PortConfig;
 use gp_ploam::Mask;
+use gp_port::PortCore;
 use gp_ranging::Grant;
 use gp_script::{ScriptEvent, ScriptUnit};
 use gp_stream::Sink;
+use gp_summary::Counts;
 use std::alloc::{AllocError, Global};
 use std::io::Write;
 use std::marker::Model;
@@ -70,6 +74,20 @@ impl<L: Ledger> FibrePlayer<L> {
         Ok(FibrePlayer { player, loss })
     }
 
+    /// Gives the port.
+    pub fn port(&self) -> &PortCore<L>
+        ensures { result.now ≡ self.now.play.world.fibre.port }
+    {
+        self.player.port()
+    }
+
+    /// Tells how many licences are free.
+    pub fn free(&self) -> u32
+        ensures { result ≡ self.now.play.world.fibre.free }
+    {
+        self.player.free()
+    }
+
     /// Ends the fibre, and answers how many licences there are.
     pub fn close(self) -> u32
         ensures { result ≡ self.play.world.licences }
@@ -111,5 +129,15 @@ impl<L: Ledger> EventPlayer for FibrePlayer<L> {
         grant: Grant,
     ) -> Result<bool, PlayFault> {
         play_one_world_frame(&mut self.player, sink, buffer, mask, &self.loss, grant)
+    }
+}
+
+impl<L: Ledger> EventNoter for FibrePlayer<L> {
+    ghost use Rattle.gp_replay.specs.Playing.{fibre_playing};
+
+    ghost playing = { fibre_playing };
+
+    fn note_event(&mut self, counts: &mut [Counts], event: &ScriptEvent) -> Result<(), AllocError> {
+        note_world_event(&mut self.player, counts, &self.loss, event)
     }
 }

@@ -7,6 +7,8 @@
 //!   it, which is a turn or more (`turn.rt`), and writes the line of each.
 //! - `fibre_player.rt`: `FibrePlayer`, the fibre of one port with its simulated units, by `world_player.rt`;
 //!   `world_playing.rt`: plays an event on it, and writes the lines of what its port does.
+//! - `summing.rt`: `run_summary`, from the bytes of a script to its summary; `noting.rt` and `world_noting.rt`: plays events
+//!   on a chassis or a fibre, and counts their entries.
 //! - `line_buffer.rt`: the memory in which a line is built.
 //! - `fault.rt`: why a replay ended early. `laws.rt`: what holds of all that is played.
 //!
@@ -22,11 +24,14 @@ mod fault;
 mod fibre_player;
 mod laws;
 mod line_buffer;
+mod noting;
 mod play_end;
 mod player;
 mod playing;
 mod replaying;
+mod summing;
 mod turn;
+mod world_noting;
 mod world_player;
 mod world_playing;
 
@@ -38,4 +43,5 @@ pub use line_buffer::LineBuffer;
 pub use play_end::end_play;
 pub use player::{MAX_KEPT, Player};
 pub use replaying::run_replay;
+pub use summing::run_summary;
 pub use turn::Turn;

@@ -1,4 +1,4 @@
-ghost use Rattle.std.specs.Prelude.{◌≡◌, ◌≢◌, ◌<◌, ◌≤◌, [], ◌∷◌, All, IfOk, OnOk, OnErr, length};
+ghost use Rattle.std.specs.Prelude.{◌≡◌, ◌≢◌, ◌<◌, ◌≤◌, [], ◌∷◌, All, IfOk, MatchOption, OnOk, OnErr, Some, length, slice_get};
 ghost use Rattle.std.specs.Option.{ForSome};
 ghost use Rattle.gp_ploam.specs.Down.{IsProperDown};
 ghost use Rattle.gp_chassis.specs.Limits.{IsWithin};
@@ -12,7 +12,7 @@ use super::turn::Turn;
 use gp_chassis::{ChassisConfig, ChassisCore, CoreFault};
 use gp_licence::MAX_LICENCES;
 use gp_machine::Receipt;
-use gp_port::OpenFault;
+use gp_port::{OpenFault, PortCore};
 use std::alloc::{AllocError, Global};
 use std::marker::Model;
 use std::sync::ledger::{Blank, Ledger};
@@ -115,6 +115,24 @@ impl<L: Ledger> Player<L> {
         ensures { result ≡ length self.now.next }
     {
         self.chassis.ports()
+    }
+
+    /// Gives the port with this number, if it is there.
+    pub fn port(&self, port: u8) -> Option<&PortCore<L>>
+        ensures { MatchOption result (length self.now.next ≤ port)
+            (λ core. slice_get self.now.world.ports port ≡ Some core.now) }
+    {
+        match self.chassis.desk(port) {
+            None => None,
+            Some(desk) => Some(desk.core()),
+        }
+    }
+
+    /// Tells how many licences are free.
+    pub fn free(&self) -> u32
+        ensures { result ≡ self.now.world.free }
+    {
+        self.chassis.free()
     }
 
     /// States what holds of every port: its state is sound, and its configuration within its limits.

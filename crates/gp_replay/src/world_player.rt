@@ -9,6 +9,7 @@ ghost use Rattle.gp_replay.specs.WorldWriting.{HasFibreRoom};
 use gp_fibre::{LossPlan, UnitPlan, World, WorldFault, WorldStep};
 use gp_licence::MAX_LICENCES;
 use gp_machine::{Entry, PortConfig, Receipt};
+use gp_port::PortCore;
 use gp_script::ScriptUnit;
 use std::alloc::{AllocError, Global};
 use std::marker::Model;
@@ -126,6 +127,20 @@ impl<L: Ledger> WorldPlayer<L> {
             number,
             entry,
         }
+    }
+
+    /// Gives the port.
+    pub(crate) fn port(&self) -> &PortCore<L>
+        ensures { result.now ≡ self.now.world.fibre.port }
+    {
+        self.world.port()
+    }
+
+    /// Tells how many licences are free.
+    pub(crate) fn free(&self) -> u32
+        ensures { result ≡ self.now.world.fibre.free }
+    {
+        self.world.free()
     }
 
     /// How many simulated units there are.

@@ -23,7 +23,7 @@ use std::sync::ledger::Ledger;
 
 /// How many frames are run before their lines are written: so the entries that are kept until then stay few, however
 /// many frames an event has.
-const FRAMES_AT_ONCE: u32 = 256;
+pub(crate) const FRAMES_AT_ONCE: u32 = 256;
 
 /// Numbers an entry and writes its line.
 fn write_entry<L: Ledger, W: Write>(

@@ -1,0 +1,42 @@
+use Rattle.std.proofs.Common.{◌≡◌, ◌∙◌, ◌∷◌, [], ◌≤◌, ◌+◌, ◌*◌, ◌^◌, ap, arith, length, IsTrue, rules}
+use Rattle.gp_fibre.specs.Schedule.{WorldState}
+use Rattle.gp_machine.specs.declared.config.PortConfig.{PortConfig}
+use Rattle.gp_machine.specs.Config.{is_within_limits}
+use Rattle.gp_script.specs.View.{script_view}
+use Rattle.gp_replay.specs.WorldPlay.{opening_fibre}
+use Rattle.gp_replay.proofs.PlayingLemmas.{opening_fibre_room}
+use Rattle.gp_replay.proofs.SummingLemmas.{sums_fibre}
+use Rattle.gp_replay.proofs.WorldPlayLemmas.{names_one, opening_units, the_port, world_within}
+use Rattle.gp_replay.proofs.summing.sum_on_fibre.Goals as goal
+
+pub begin-requires-clause-limits : goal.begin-requires-clause-limits
+begin-requires-clause-limits g c =
+    let within : IsTrue (is_within_limits c.index.result.now) = search rules in
+    rw c.as_slice.ensures.value (world_within (script_view c.args.script) c.index.result.now c.requires.playable within)
+
+pub fibre_text-text-requires-clause-named : goal.fibre_text-text-requires-clause-named
+fibre_text-text-requires-clause-named g c =
+    let script = script_view c.args.script in
+    let world : c.in_ok-player.player.play.world ≡ opening_fibre script c.index.result.now = rw c.as_slice.ensures.value at c.in_ok-player.ensures.world in
+    let many = ap (λ (w : WorldState). length w.fibre.units) world ∙ opening_units script c.index.result.now in
+    rw c.as_slice-2.ensures.value (names_one script 1 (length c.in_ok-player.player.play.world.fibre.units) c.requires.playable (c.requires.playable.one_fibre c.requires.units) many)
+
+pub fibre_text-text-requires-clause-room : goal.fibre_text-text-requires-clause-room
+fibre_text-text-requires-clause-room g c =
+    let few : length c.args.script.events.items ≤ 1048576 = c.requires.playable.few_events in
+    let many = length c.args.script.events.items * 2 ^ 32 in
+    let within : many ≤ 2 ^ 52 + 2 ^ 51 = omega (arith, few) in
+    rw c.as_slice-2.ensures.value (
+      many,
+      omega arith,
+      opening_fibre_room many (script_view c.args.script) c.index.result.now c.in_ok-player.player.play
+          c.requires.playable.few_units within (rw c.as_slice.ensures.value at c.in_ok-player.ensures.world) c.in_ok-player.ensures.next,
+    )
+
+pub returns : goal.returns
+returns g c =
+    let script = script_view c.args.script in
+    let world : c.in_ok-player.player.play.world ≡ opening_fibre script c.index.result.now = rw c.as_slice.ensures.value at c.in_ok-player.ensures.world in
+    let port : script.ports ≡ c.index.result.now ∷ [] = the_port c.args.script.ports.items c.index.result.now (c.requires.playable.one_fibre c.requires.units) ∙ ap (λ (p : PortConfig). p ∷ []) (search rules) in
+    sums_fibre script c.index.result.now c.requires.units port c.in_ok-player.player c.fibre_text-text.new.player c.fibre_text-text.result world c.in_ok-player.ensures.next c.in_ok-player.ensures.losses
+    (rw c.as_slice-2.ensures.value at c.fibre_text-text.ensures)
