@@ -1,5 +1,5 @@
 //! The tests of `gp_stream`, `gp_script`, `gp_check`, `gp_decode`, `gp_encode`, `gp_explain`, `gp_json`, `gp_tell`,
-//! `gp_trace`, `gp_lines`, `gp_replay`, `gp_verify`, `gp_drive`, `gp_storm` and `gp_report`: what no clause says of them.
+//! `gp_trace`, `gp_lines`, `gp_summary`, `gp_replay`, `gp_verify`, `gp_drive`, `gp_storm` and `gp_report`: what no clause says of them.
 //! They stand here, since a crate with tests is proved twice.
 //!
 //! - `stream.rt`: readers and writers that fail, or take an octet a call.
@@ -11,6 +11,7 @@
 //! - `lines.rt`: events and turns that are read, the first fault of each text that is refused, and lines of a trace.
 //! - `replay.rt`, `storm.rt`: whole scripts to their trace or their totals, readers and writers that fail, and memory
 //!   that is refused; `storm/plans.rt` storms plans.
+//! - `summary.rt`: scripts to their summaries.
 //! - `drive.rt`: lines that ask for something, and what is said to each.
 //! - `verify.rt`: traces that are told to be runs, and the first line of each that is not.
 //! - `report.rt`: fault texts and statuses.
@@ -38,6 +39,8 @@ mod script;
 mod storm;
 #[cfg(test)]
 mod stream;
+#[cfg(test)]
+mod summary;
 #[cfg(test)]
 mod tell;
 #[cfg(test)]
