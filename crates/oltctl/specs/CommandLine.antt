@@ -86,7 +86,10 @@ with_words app names = with_form (with_rule app (flag_rule (codes "words"))) nam
 
 -- `replay` up to the form of its trace
 abbrev pub replay_flags : App
-replay_flags = with_rule (with_rule (new_app (codes "replay")) (flag_rule (codes "explain"))) (flag_rule (codes "progress"))
+replay_flags =
+    with_rule
+    (with_rule (with_rule (new_app (codes "replay")) (flag_rule (codes "explain"))) (flag_rule (codes "progress")))
+    (flag_rule (codes "summary"))
 
 abbrev pub replay_command : FormatNames → App
 replay_command names = with_rule (with_words replay_flags names) file_rule

@@ -38,6 +38,7 @@ pub record AsksForPlay (rows : List Row) (play : Play) : Type 0 where
   pub trace : AsksForTrace rows play.told
   pub explain : IsFlag rows (codes "explain") play.explain
   pub progress : IsFlag rows (codes "progress") play.progress
+  pub summary : IsFlag rows (codes "summary") play.summary
 
 abbrev pub AsksToReplay : List Row → Request → Type 0
 AsksToReplay rows (Replay file play) = (name_in file ≡ file_named (first_of (codes "file") rows)) × AsksForPlay rows play

@@ -105,7 +105,12 @@ fn replay_flags<'a>(alloc: Global) -> Result<Command<'a>, AllocError>
             "explain",
             "Tells where a script is wrong, in a second line",
         ))?
-        .arg(progress(alloc))
+        .arg(progress(alloc))?
+        .arg(flag(
+            alloc,
+            "summary",
+            "Writes a summary of ports and units in place of the trace",
+        ))
 }
 
 fn replay<'a>(alloc: Global) -> Result<Command<'a>, AllocError>

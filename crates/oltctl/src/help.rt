@@ -22,6 +22,7 @@ Examples:
   oltctl replay script.toml
   oltctl replay --words --time script.toml
   oltctl replay --explain --progress script.toml
+  oltctl replay --summary script.toml
 
 Exit status:
   0  the whole trace was written

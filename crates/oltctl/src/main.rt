@@ -75,7 +75,7 @@ fn report_at<R: Eprint>(rt: &R, told: (&'static str, u8), number: u64) -> u8
 
 /// Tells whether the trace alone is wanted of a replay, as it is.
 fn is_usual(play: Play) -> bool {
-    is_plain(play.told) && !play.explain && !play.progress
+    is_plain(play.told) && !play.explain && !play.progress && !play.summary
 }
 
 /// Plays the script that a reader gives, to standard output.

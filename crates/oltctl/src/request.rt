@@ -26,6 +26,8 @@ pub struct Play {
     pub explain: bool,
     /// Once a second, how many lines were written.
     pub progress: bool,
+    /// A summary in place of the trace.
+    pub summary: bool,
 }
 
 /// What the program is to do.
@@ -149,6 +151,7 @@ fn play_in(found: &ArgMatches<'_>) -> Play
         told: told_in(found),
         explain: found.get_flag("explain"),
         progress: found.get_flag("progress"),
+        summary: found.get_flag("summary"),
     }
 }
 

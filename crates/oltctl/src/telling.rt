@@ -8,7 +8,7 @@ use gp_drive::{DriveFault, Driven, run_drive};
 use gp_explain::{Form, Telling};
 use gp_flow::{LineFault, LinesFault};
 use gp_ploam::Mask;
-use gp_replay::{RunFault, run_replay};
+use gp_replay::{RunFault, run_replay, run_summary};
 use gp_script::{PlacedError, ScriptEvent, read_script, read_script_at};
 use gp_stream::{Sink, Source, read_all};
 use gp_tell::{Began, TellFault, Teller};
@@ -116,7 +116,7 @@ fn replay_told<W: Write + Drop>(
     replay_by::<Brand, W>(alloc, bytes, telling, writer)
 }
 
-/// Plays the script that bytes are, and writes its trace as it is wanted.
+/// Plays the script that bytes are, and writes its trace as it is wanted, or its summary in place of it.
 pub(crate) fn replay_bytes<R: AllocGlobal + Print + Eprint + Clock>(
     rt: &R,
     bytes: &[u8],
@@ -125,6 +125,11 @@ pub(crate) fn replay_bytes<R: AllocGlobal + Print + Eprint + Clock>(
     ensures mismatch { result ≢ Err RunFault.Mismatch }
     ensures journal_full { result ≢ Err RunFault.JournalFull }
 {
+    if play.summary {
+        let mut sink = Sink::new(rt.alloc(), io::writer(rt))?;
+        let mut source = Source::new(bytes);
+        return run_summary(rt.alloc(), &mut source, &mut sink);
+    }
     let writer = output(rt, bytes, play.progress);
     if !is_plain(play.told) {
         return replay_told(rt.alloc(), bytes, play.told, writer);
