@@ -1,5 +1,5 @@
-//! The tests of `gp_stream`, `gp_script`, `gp_check`, `gp_decode`, `gp_encode`, `gp_explain`, `gp_json`, `gp_tell`,
-//! `gp_trace`, `gp_lines`, `gp_replay`, `gp_verify`, `gp_drive`, `gp_storm` and `gp_report`: what no clause says of them.
+//! The tests of `gp_stream`, `gp_script`, `gp_check`, `gp_decode`, `gp_encode`, `gp_explain`, `gp_json`, `gp_picture`,
+//! `gp_tell`, `gp_trace`, `gp_lines`, `gp_replay`, `gp_verify`, `gp_drive`, `gp_storm` and `gp_report`: what no clause says of them.
 //! They stand here, since a crate with tests is proved twice.
 //!
 //! - `stream.rt`: readers and writers that fail, or take an octet a call.
@@ -9,6 +9,7 @@
 //! - `decode.rt`, `trace.rt`: lines as they are printed; a code is decoded also where memory is refused.
 //! - `encode.rt`, `explain.rt`: codes of messages in words; traces in words. `tell.rt`: the same while a trace is written.
 //! - `lines.rt`: events and turns that are read, the first fault of each text that is refused, and lines of a trace.
+//! - `picture.rt`: what is drawn of a trace, and where.
 //! - `replay.rt`, `storm.rt`: whole scripts to their trace or their totals, readers and writers that fail, and memory
 //!   that is refused; `storm/plans.rt` storms plans.
 //! - `drive.rt`: lines that ask for something, and what is said to each.
@@ -28,6 +29,8 @@ mod encode;
 mod explain;
 #[cfg(test)]
 mod lines;
+#[cfg(test)]
+mod picture;
 #[cfg(test)]
 mod replay;
 #[cfg(test)]

@@ -1,18 +1,21 @@
 -- The command line (this profile's own rule): `oltctl replay [--explain] [--progress] [FORM] [FILE]`,
 -- `oltctl drive [FORM] FILE`, `oltctl storm [--progress] [FILE]`, `oltctl check FILE..`, `oltctl verify [--progress] FILE [TRACE]`,
--- `oltctl explain [--mask 0|85] [FORM] [TRACE]`, `oltctl decode [--up] [--mask 0|85] [HEX..]` and `oltctl encode [--up]
+-- `oltctl picture [--from FRAME] [--to FRAME] [TRACE]`, `oltctl explain [--mask 0|85] [FORM] [TRACE]`, `oltctl decode [--up] [--mask 0|85] [HEX..]` and `oltctl encode [--up]
 -- [--mask 0|85] WORDS..`, where FORM is `[--words] [--time] [--format text|json]`, of `explain` without `--words`.
-use Rattle.std.specs.Prelude.{◌≡◌, List, [], ◌∷◌, Option, None, Some, map, Bool, true, codes, if◌then◌else◌}
+use Rattle.std.specs.Prelude.{◌≡◌, List, [], ◌∷◌, Option, None, Some, map, Bool, true, codes, if◌then◌else◌, ℕ, Result, Ok, Err}
 use Rattle.std.specs.Borrow.{Bor}
 use Rattle.std.specs.Str.{bytes_eq}
 use Rattle.clap.specs.Simple.{on_top}
 use Rattle.clap.specs.Words.{App, IsAmong, Rule, Text, fault_of, new_app, new_rule, with_rule, with_subcommand, subcommand_of, subcommand_rows_of}
 use Rattle.clap.specs.declared.builder.action.ArgAction.TheVariants.{Append, SetTrue}
-use Rattle.clap.specs.declared.builder.value_parser.ValueParser.TheVariants.{Names}
+use Rattle.clap.specs.declared.builder.value_parser.ValueParser.TheVariants.{Names, Unsigned}
 use Rattle.clap.specs.declared.error.kind.ErrorKind.{ErrorKind}
 use Rattle.clap.specs.declared.parser.matches.ArgMatches.{ArgMatches}
 use Rattle.gp_ploam.specs.declared.check.Mask.{Mask}
 use Rattle.gp_ploam.specs.declared.check.Mask.TheVariants as masks
+use Rattle.std.specs.Str.Parse.{without_leading_plus}
+use Rattle.gp_lines.specs.declared.fault.LineFault.{LineFault}
+use Rattle.gp_lines.specs.Reading.{number_in}
 use Rattle.gp_explain.specs.declared.form.Form.{Form}
 use Rattle.gp_explain.specs.declared.form.Form.TheVariants.{Plain, Words, Json}
 
@@ -76,6 +79,11 @@ script_rule = record (new_rule (codes "script")) { value_names = 1; required = t
 abbrev pub trace_rule : Rule
 trace_rule = record (new_rule (codes "trace")) { value_names = 1 }
 
+-- the number of a frame
+abbrev pub frame_rule : Text → Rule
+frame_rule name =
+    record (new_rule name) { long = Some name; value_names = 1; parser = Some (Unsigned 0 18446744073709551615) }
+
 -- a command with `--time` and `--format`
 abbrev pub with_form : App → FormatNames → App
 with_form app names = with_rule (with_rule app (flag_rule (codes "time"))) (format_rule names)
@@ -103,6 +111,10 @@ storm_command = with_rule (with_rule (new_app (codes "storm")) (flag_rule (codes
 abbrev pub verify_command : App
 verify_command =
     with_rule (with_rule (with_rule (new_app (codes "verify")) (flag_rule (codes "progress"))) script_rule) trace_rule
+
+abbrev pub picture_command : App
+picture_command =
+    with_rule (with_rule (with_rule (new_app (codes "picture")) (frame_rule (codes "from"))) (frame_rule (codes "to"))) trace_rule
 
 abbrev pub decode_command : MaskNames → App
 decode_command names = with_rule (with_rule (with_rule (new_app (codes "decode")) up_rule) (mask_rule names)) code_rule
@@ -153,12 +165,16 @@ abbrev pub trace_commands : FormatNames → FormatNames → App
 trace_commands replay drive =
     with_subcommand (with_subcommand (line_commands replay drive) check_command.top) verify_command.top
 
+-- the program as far as it is about scripts, lines, traces and their pictures
+abbrev pub picture_commands : FormatNames → FormatNames → App
+picture_commands replay drive = with_subcommand (trace_commands replay drive) picture_command.top
+
 -- the whole program
 abbrev pub oltctl_command : AllNames → App
 oltctl_command names =
     with_subcommand
     (with_subcommand
-    (with_subcommand (trace_commands names.replay names.drive) (explain_command names.explain names.explain_format).top)
+    (with_subcommand (picture_commands names.replay names.drive) (explain_command names.explain names.explain_format).top)
     (decode_command names.decode).top) (encode_command names.encode).top
 
 -- the words have no fault, and what was parsed is the subcommand that they name, with the values that they give it
@@ -189,3 +205,12 @@ form_named words (Some name) =
 abbrev pub file_named : Option Text → Option Text
 file_named None = None
 file_named (Some name) = if bytes_eq name (codes "-") then None else Some name
+
+abbrev pub number_or : ℕ → Result ℕ LineFault → ℕ
+number_or other (Ok number) = number
+number_or other (Err fault) = other
+
+-- the frame whose number a text is, and another one where there is no text
+abbrev pub frame_named : Option Text → ℕ → ℕ
+frame_named None other = other
+frame_named (Some text) other = number_or other (number_in 0 18446744073709551615 (without_leading_plus text))

@@ -2,9 +2,9 @@
 use Rattle.std.specs.Prelude.{◌≡◌, ◌≢◌, List, [], ◌∷◌, Bool, true, false, Option, None, Some, map, option_map, codes}
 use Rattle.std.specs.Borrow.{Bor}
 use Rattle.clap.specs.Words.{Row, Text, all_of, first_of, one_of}
-use Rattle.oltctl.specs.CommandLine.{file_named, form_named, mask_named}
+use Rattle.oltctl.specs.CommandLine.{file_named, form_named, frame_named, mask_named}
 use Rattle.oltctl.specs.declared.request.Request.{Request}
-use Rattle.oltctl.specs.declared.request.Request.TheVariants.{Replay, Drive, Storm, Check, Verify, Decode, DecodeLines, Encode, Explain}
+use Rattle.oltctl.specs.declared.request.Request.TheVariants.{Replay, Drive, Storm, Check, Verify, Decode, DecodeLines, Encode, Explain, Picture}
 use Rattle.oltctl.specs.declared.request.Play.{Play}
 use Rattle.oltctl.specs.declared.request.Told.{Told}
 
@@ -91,6 +91,14 @@ AsksToExplain rows (Explain trace mask told) =
     × (mask ≡ mask_named (first_of (codes "mask") rows)) × AsksForForm rows true told
 AsksToExplain rows _ = ⊥
 
+-- the rows of `picture` ask for the frames of TRACE from `--from` to `--to`, or of standard input where it is left out
+abbrev pub AsksToPicture : List Row → Request → Type 0
+AsksToPicture rows (Picture trace frames) =
+    (name_in trace ≡ file_named (first_of (codes "trace") rows))
+    × (frames.from ≡ frame_named (first_of (codes "from") rows) 0)
+    × (frames.to ≡ frame_named (first_of (codes "to") rows) 18446744073709551615)
+AsksToPicture rows _ = ⊥
+
 -- the subcommand that was parsed, with its rows, asks for this
 abbrev pub Asks : Option (Text × List Row) → Request → Type 0
 Asks None request = ⊥
@@ -108,12 +116,13 @@ Asks (Some (name, rows)) (Encode words upstream mask) =
     (name ≡ codes "encode") × AsksToEncode rows (Encode words upstream mask)
 Asks (Some (name, rows)) (Explain trace mask told) =
     (name ≡ codes "explain") × AsksToExplain rows (Explain trace mask told)
+Asks (Some (name, rows)) (Picture trace frames) = (name ≡ codes "picture") × AsksToPicture rows (Picture trace frames)
 
 -- it asks for nothing that is known: there is none, or another one, or one that has no script or no words
 abbrev pub AsksNothing : Option (Text × List Row) → Type 0
 AsksNothing None = Unit {0}
 AsksNothing (Some (name, rows)) =
-    (name ≢ codes "replay") × (name ≢ codes "storm") × (name ≢ codes "decode") × (name ≢ codes "explain")
+    (name ≢ codes "replay") × (name ≢ codes "storm") × (name ≢ codes "decode") × (name ≢ codes "explain") × (name ≢ codes "picture")
     × (name ≡ codes "check" → all_of (codes "files") rows ≡ None)
     × (name ≡ codes "drive" → first_of (codes "script") rows ≡ None)
     × (name ≡ codes "verify" → first_of (codes "script") rows ≡ None)

@@ -27,7 +27,7 @@ use Rattle.clap.specs.declared.parser.matches.ArgMatches.{ArgMatches}
 use Rattle.oltctl.specs.CommandLine.{IsFaultOf, IsParseOf}
 use Rattle.oltctl.specs.Requests.{Asks, AsksNothing}
 use Rattle.oltctl.specs.declared.request.Request.{Request}
-use Rattle.oltctl.specs.declared.request.Request.TheVariants.{Replay, Drive, Storm, Check, Verify, Decode, DecodeLines, Encode, Explain}
+use Rattle.oltctl.specs.declared.request.Request.TheVariants.{Replay, Drive, Storm, Check, Verify, Decode, DecodeLines, Encode, Explain, Picture}
 
 -- no status is greater
 abbrev pub greatest_status : ℕ
@@ -113,7 +113,7 @@ AreDecoded status = (outcome : Result (Option FaultAt) LinesFault) × (status �
 abbrev pub IsEncoded : ℕ → Type 0
 IsEncoded status = (status ≡ SUCCESS) ⊎ (status ≡ BAD_INPUT) ⊎ (status ≡ OUT_OF_MEMORY) ⊎ (status ≡ NOT_WRITTEN)
 
--- the status after a trace was told in words
+-- the status after a trace was told in words, or drawn
 abbrev pub told_status : Result ℕ ExplainFault → ℕ
 told_status (Ok lines) = SUCCESS
 told_status (Err fault) = explain_status fault
@@ -144,6 +144,7 @@ IsServed (Decode code upstream mask) status = IsDecoded code.now upstream mask s
 IsServed (DecodeLines many upstream mask) status = AreDecoded status
 IsServed (Encode words upstream mask) status = IsEncoded status
 IsServed (Explain trace mask told) status = IsExplained status
+IsServed (Picture trace frames) status = IsExplained status
 
 -- how a run over the words of a command line may end, with this status
 pub data IsRun (words : List Text) (status : ℕ) : Type 0 where

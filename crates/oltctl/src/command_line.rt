@@ -2,13 +2,14 @@
 ghost use Rattle.std.specs.Prelude.{◌≡◌, ◌≢◌, IfErr, IfOk, codes, false, map};
 ghost use Rattle.clap.specs.Words.{app_of, kind_of, rule_of};
 ghost use Rattle.clap.specs.declared.builder.command.Command.TheViews.{out-Command as fields_of};
-ghost use Rattle.oltctl.specs.CommandLine.{AllNames, AreAllNames, AreFormats, AreMasks, FormatNames, IsFaultOf, IsParseOf, MaskNames, check_command, code_rule, files_rule, flag_rule, format_rule, replay_flags as spec_replay_flags, with_form as spec_form, with_words as spec_words, decode_command, drive_command, encode_command, explain_command, file_rule, line_commands, mask_rule, oltctl_command, replay_command, script_commands, script_rule, storm_command, trace_commands, trace_rule, up_rule, verify_command, words_rule};
+ghost use Rattle.oltctl.specs.CommandLine.{AllNames, AreAllNames, AreFormats, AreMasks, FormatNames, IsFaultOf, IsParseOf, MaskNames, check_command, code_rule, files_rule, flag_rule, format_rule, replay_flags as spec_replay_flags, with_form as spec_form, with_words as spec_words, decode_command, drive_command, encode_command, explain_command, file_rule, line_commands, mask_rule, frame_rule, oltctl_command, picture_command, picture_commands, replay_command, script_commands, script_rule, storm_command, trace_commands, trace_rule, up_rule, verify_command, words_rule};
 ghost use Rattle.std.specs.String.{string_bytes};
 
 use crate::help::{
-    ABOUT_HELP, CHECK_HELP, DECODE_HELP, DRIVE_HELP, ENCODE_HELP, EXPLAIN_HELP, REPLAY_HELP,
-    STORM_HELP, VERIFY_HELP,
+    ABOUT_HELP, CHECK_HELP, DECODE_HELP, DRIVE_HELP, ENCODE_HELP, EXPLAIN_HELP,
+    PICTURE_HELP, REPLAY_HELP, STORM_HELP, VERIFY_HELP,
 };
+use clap::builder::ValueParser;
 use clap::error::ErrorKind;
 use clap::{Arg, ArgAction, ArgMatches, Command, Error};
 use std::alloc::{AllocError, Global};
@@ -202,6 +203,30 @@ fn verify<'a>(alloc: Global) -> Result<Command<'a>, AllocError>
         .arg(trace(alloc))
 }
 
+/// Makes an option whose value is the number of a frame.
+fn frame<'a>(alloc: Global, name: &'a str, help: &'a str) -> Arg<'a>
+    ensures rule { rule_of result ≡ frame_rule name.entry.now }
+    ensures local { result.global ≡ false }
+{
+    Arg::new(alloc, name)
+        .long(name)
+        .value_name("FRAME")
+        .value_parser(ValueParser::Unsigned(0, u64::MAX))
+        .help(help)
+}
+
+fn picture<'a>(alloc: Global) -> Result<Command<'a>, AllocError>
+    ensures app { IfOk result (λ c. app_of c ≡ picture_command) }
+    ensures local { IfOk result (λ c. (fields_of c).has_globals ≡ false) }
+{
+    Command::new(alloc, "picture")
+        .about("Draws the run that a trace tells, as an SVG picture")
+        .after_help(PICTURE_HELP)
+        .arg(frame(alloc, "from", "The first frame of a port that is drawn"))?
+        .arg(frame(alloc, "to", "The last one"))?
+        .arg(trace(alloc))
+}
+
 fn up<'a>(alloc: Global) -> Arg<'a>
     ensures rule { rule_of result ≡ up_rule }
     ensures local { result.global ≡ false }
@@ -312,10 +337,18 @@ fn of_traces<'a>(alloc: Global) -> Result<Command<'a>, AllocError>
         .subcommand(verify(alloc)?)
 }
 
+/// Makes the program's command line as far as it is about scripts, lines, traces and their pictures.
+fn of_pictures<'a>(alloc: Global) -> Result<Command<'a>, AllocError>
+    ensures { IfOk result (λ c. (replay drive : FormatNames) × AreFormats replay × AreFormats drive
+        × (app_of c ≡ picture_commands replay drive)) }
+{
+    of_traces(alloc)?.subcommand(picture(alloc)?)
+}
+
 fn command<'a>(alloc: Global) -> Result<Command<'a>, AllocError>
     ensures { IfOk result (λ c. (names : AllNames) × AreAllNames names × (app_of c ≡ oltctl_command names)) }
 {
-    of_traces(alloc)?
+    of_pictures(alloc)?
         .subcommand(explain(alloc)?)?
         .subcommand(decode(alloc)?)?
         .subcommand(encode(alloc)?)

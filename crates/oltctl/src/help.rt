@@ -72,6 +72,19 @@ Exit status:
   4  the output takes no more
   7  the trace is not a run: the first line that can't be is told";
 
+/// What stands at the end of the help of `picture`.
+pub const PICTURE_HELP: &str = "\
+Examples:
+  oltctl picture trace.txt > run.svg
+  oltctl replay script.toml | oltctl picture --from 100 --to 200 > part.svg
+
+Exit status:
+  0  the picture was written
+  1  a line is none of a trace, or the trace was not read
+  2  the command line is wrong
+  3  out of memory
+  4  the output takes no more";
+
 /// What stands at the end of the help of `drive`.
 pub const DRIVE_HELP: &str = "\
 Lines:

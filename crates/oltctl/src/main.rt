@@ -1,5 +1,5 @@
 //! `oltctl`: plays a script and writes its trace, answers lines that ask for something, runs its events at once by threads and writes the totals, tells
-//! whether a trace is one of a correct line terminal, writes a trace again with its codes in words, says in words which
+//! whether a trace is one of a correct line terminal, draws the run that a trace tells, writes a trace again with its codes in words, says in words which
 //! message a code is, and gives the code of a message in words.
 #![tactic(auto)]
 
@@ -19,6 +19,7 @@ mod checking;
 mod command_line;
 mod help;
 mod joined;
+mod picturing;
 mod progress;
 mod request;
 mod telling;
@@ -43,6 +44,7 @@ use gp_storm::run_storm;
 use gp_stream::{Sink, Source, SourceFault, read_all};
 use gp_verify::{CheckFault, VerifyFault, verify_script};
 use joined::joined;
+use picturing::draw;
 use progress::Counted;
 use request::{Play, Request, Told, request_of};
 use std::io;
@@ -434,7 +436,7 @@ fn explain<R: AllocGlobal + Files + Print + Input>(
     }
 }
 
-/// Says how telling a trace in words ended, with the number of the line that is none of a trace, and answers the exit
+/// Says how telling a trace in words, or drawing it, ended, with the number of the line that is none of a trace, and answers the exit
 /// status.
 fn end_explain<R: Eprint>(rt: &R, outcome: &Result<u64, ExplainFault>) -> u8
     ensures { result ≡ told_status outcome.now }
@@ -484,6 +486,7 @@ fn serve<R: AllocGlobal + Files + Print + Eprint + Input + Clock + Threads + Wai
             mask,
         } => encode(rt, words, upstream, mask),
         Request::Explain { trace, mask, told } => end_explain(rt, &explain(rt, trace, mask, told)),
+        Request::Picture { trace, frames } => end_explain(rt, &draw(rt, trace, frames)),
     }
 }
 

@@ -1,11 +1,13 @@
 //! What a command line asks for.
 ghost use Rattle.std.specs.Prelude.{◌≡◌, ◌∷◌, [], true, IfSome, IfNone, Some, None, codes, option_map};
 ghost use Rattle.clap.specs.Words.{all_of, first_of, found_of, rows_of, subcommand_rows_of};
-ghost use Rattle.oltctl.specs.CommandLine.{file_named, form_named, mask_named};
-ghost use Rattle.oltctl.specs.Requests.{Asks, AsksForForm, AsksForPlay, AsksForTrace, AsksNothing, AsksToCheck, AsksToDecode, AsksToDrive, AsksToEncode, AsksToExplain, AsksToReplay, AsksToStorm, AsksToVerify, name_in, texts};
+ghost use Rattle.oltctl.specs.CommandLine.{file_named, form_named, frame_named, mask_named};
+ghost use Rattle.oltctl.specs.Requests.{Asks, AsksForForm, AsksForPlay, AsksForTrace, AsksNothing, AsksToCheck, AsksToDecode, AsksToDrive, AsksToEncode, AsksToExplain, AsksToPicture, AsksToReplay, AsksToStorm, AsksToVerify, name_in, texts};
 
 use clap::ArgMatches;
 use gp_explain::Form;
+use gp_lines::number_in;
+use gp_picture::Frames;
 use gp_ploam::Mask;
 
 /// How the lines of a trace are written.
@@ -82,6 +84,11 @@ pub enum Request<'m, 'a> {
         mask: Mask,
         told: Told,
     },
+    /// Draw these frames of this trace, or for none and for `-` of that of standard input.
+    Picture {
+        trace: Option<&'a str>,
+        frames: Frames,
+    },
 }
 
 /// Tells what the subcommand of a parsed command line asks for; None where it has none that is known, or no script
@@ -99,6 +106,7 @@ pub fn request_of<'m, 'a>(matches: &'m ArgMatches<'a>) -> Option<Request<'m, 'a>
         ("decode", found) => Some(decode_of(found)),
         ("encode", found) => encode_of(found),
         ("explain", found) => Some(explain_of(found)),
+        ("picture", found) => Some(picture_of(found)),
         _ => None,
     }
 }
@@ -256,6 +264,30 @@ fn explain_of<'m, 'a>(found: &'m ArgMatches<'a>) -> Request<'m, 'a>
         trace: file_of(found.get_str("trace")),
         mask: mask_of(found.get_str("mask")),
         told: form_in(found, true),
+    }
+}
+
+/// Gives the frame whose number this is, and another one where there is none.
+fn frame_of(number: Option<&str>, other: u64) -> u64
+    ensures { result ≡ frame_named (name_in number.entry) other }
+{
+    let Some(number) = number else {
+        return other;
+    };
+    let digits = number.strip_prefix('+').unwrap_or(number);
+    number_in(0, u64::MAX, digits.as_bytes()).unwrap_or(other)
+}
+
+#[tactic(auto, using(crate::proofs::Rows::value_by_rows))]
+fn picture_of<'m, 'a>(found: &'m ArgMatches<'a>) -> Request<'m, 'a>
+    ensures { AsksToPicture (rows_of (found_of found.now)) result }
+{
+    Request::Picture {
+        trace: file_of(found.get_str("trace")),
+        frames: Frames {
+            from: frame_of(found.get_str("from"), 0),
+            to: frame_of(found.get_str("to"), u64::MAX),
+        },
     }
 }
 

@@ -5,7 +5,7 @@ use Rattle.oltctl.proofs.command_line.command.Goals as goal
 
 pub returns : goal.returns
 returns c =
-    let traces = c.in_ok-of_traces.ensures in
+    let traces = c.in_ok-of_pictures.ensures in
     let explain = c.in_ok-explain.ensures.app in
     let decode = c.in_ok-decode.ensures.app in
     let encode = c.in_ok-encode.ensures.app in
