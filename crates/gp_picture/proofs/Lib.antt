@@ -1,0 +1,4 @@
+pub mod LaneLemmas
+pub mod OutcomeLemmas
+pub mod ServingLemmas
+pub mod TextLemmas
