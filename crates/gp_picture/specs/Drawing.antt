@@ -77,10 +77,10 @@ silenced port None last old = old
 silenced port (Some poll) last old =
     marked (record { port = port; kind = kinds.Silence; at = poll.granted; last = last; more = 0 }) old
 
--- a lane more, unless there are 1,000
+-- a lane more, unless there are 600
 abbrev pub begun : Lane → PictureState → PictureState
 begun lane old =
-    if nat_le 1000 (length old.lanes) then record old { units_left_out = one_more old.units_left_out }
+    if nat_le 600 (length old.lanes) then record old { units_left_out = one_more old.units_left_out }
     else record old { lanes = old.lanes ++ lane ∷ [] }
 
 -- the lane of a unit that is found

@@ -169,9 +169,9 @@ strip_name Alarms = codes "alarms"
 
 -- how near a mark may come to another, in units: those that are nearer are drawn as one
 abbrev pub strip_gap : Strip → ℕ
-strip_gap Searches = 8
-strip_gap Silences = 8
-strip_gap Alarms = 64
+strip_gap Searches = 16
+strip_gap Silences = 16
+strip_gap Alarms = 96
 
 -- the name of an alarm, and how many more there are, behind its mark
 unfoldable pub alarm_text : ℕ → ℕ → AlarmKind → ℕ → List ℕ

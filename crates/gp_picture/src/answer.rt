@@ -137,21 +137,14 @@ pub(crate) fn is_loss(kind: AlarmKind) -> bool
     }
 }
 
-/// Gives the serial number that begins at this octet.
-fn serial_at(code: &[u8; 13], at: usize) -> Serial
+/// Gives the serial number that begins at this octet: the third in Serial_Number_ONU.
+pub(crate) fn serial_at(code: &[u8; 13], at: usize) -> Serial
     requires { at ≤ 5 }
     ensures { result ≡ spec.serial_at at code.now }
 {
     let mut octets = [0; 8];
     octets.copy_from_slice(&code[at..at + 8]);
     Serial(octets)
-}
-
-/// Gives the serial number in the octets of Serial_Number_ONU.
-pub(crate) fn serial_of_burst(code: &[u8; 13]) -> Serial
-    ensures { result ≡ spec.serial_at 2 code.now }
-{
-    serial_at(code, 2)
 }
 
 /// Gives which unit a code removes, and how, if it removes one.

@@ -134,13 +134,6 @@ fn push_lane(out: &mut Vec<u8>, scale: Scale, y: u64, lane: &Lane) -> Result<(),
     push_end(out, scale, y, &lane.ended)
 }
 
-/// Tells whether this is a lane of this port of which something is drawn.
-fn is_drawn(scale: Scale, port: u8, lane: &Lane) -> bool
-    ensures { result ≡ spec.is_drawn scale port lane.now }
-{
-    lane.port == port && !lane.is_past(scale.from)
-}
-
 /// Appends the lanes of a port, one below the other from here on, and gives where they end.
 pub(crate) fn push_lanes(
     out: &mut Vec<u8>,
@@ -154,7 +147,7 @@ pub(crate) fn push_lanes(
 {
     let mut y = top;
     'lanes: for lane in lanes {
-        if is_drawn(scale, port, lane) {
+        if lane.port == port && !lane.is_past(scale.from) {
             push_lane(out, scale, y, lane)?;
             y = y.saturating_add(ROW_HEIGHT);
         }

@@ -17,7 +17,7 @@ pub enum MarkKind {
 }
 
 /// Where marks of a port stand.
-#[derive(Clone, Copy, Debug, PartialEq, Eq)]
+#[derive(Clone, Copy, PartialEq)]
 pub enum Strip {
     /// The search windows.
     Searches,

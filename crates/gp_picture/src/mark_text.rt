@@ -37,11 +37,11 @@ impl Strip {
     /// Gives how near a mark may come to another, in units.
     fn gap(self) -> u64
         ensures gap { result ≡ spec.strip_gap self }
-        ensures within { result ≤ 64 }
+        ensures within { result ≤ 96 }
     {
         match self {
-            Strip::Searches | Strip::Silences => 8,
-            Strip::Alarms => 64,
+            Strip::Searches | Strip::Silences => 16,
+            Strip::Alarms => 96,
         }
     }
 }
@@ -126,22 +126,6 @@ fn push_before(
     }
 }
 
-/// Appends the last mark, if there is one.
-fn push_last(
-    out: &mut Vec<u8>,
-    scale: Scale,
-    strip: Strip,
-    y: u64,
-    last: &Option<Mark>,
-) -> Result<(), AllocError>
-    ensures { OnOk result (out.new.items ≡ out.old.items ++ spec.last_text scale strip y last.now) }
-{
-    match last {
-        Some(mark) => push_mark(out, scale, strip, y, mark),
-        None => Ok(()),
-    }
-}
-
 /// Appends the marks of a port that stand here.
 fn push_marks(
     out: &mut Vec<u8>,
@@ -160,7 +144,10 @@ fn push_marks(
             last = Some(push_before(out, scale, strip, y, &last, mark)?);
         }
     }
-    push_last(out, scale, strip, y, &last)
+    match last {
+        Some(mark) => push_mark(out, scale, strip, y, &mark),
+        None => Ok(()),
+    }
 }
 
 /// Appends a row of marks of a port, with its name.

@@ -4,7 +4,7 @@ ghost use Rattle.gp_lines.specs.Parts.{parts_of};
 ghost use Rattle.gp_picture.specs.Drawing as spec;
 
 use crate::answer::{
-    alarm_in, is_behind, is_loss, onu_behind, removed_by, sent_in, serial_of_burst,
+    alarm_in, is_behind, is_loss, onu_behind, removed_by, sent_in, serial_at,
 };
 use crate::lane::{Cause, Change, End, Key, Lane, change_lane};
 use crate::mark::{Mark, MarkKind};
@@ -19,7 +19,7 @@ use std::marker::Model;
 pub(crate) const PORTS: usize = 16;
 
 /// How many lanes are drawn at most.
-pub const MOST_LANES: usize = 1_000;
+pub const MOST_LANES: usize = 600;
 
 /// How many marks are kept at most.
 pub const MOST_MARKS: usize = 65_536;
@@ -150,7 +150,7 @@ impl Picture {
         match (event, onu_behind(answer, "found")) {
             (Event::Burst { at: _, bytes }, Some(onu)) => self.begin(Lane {
                 port,
-                serial: serial_of_burst(bytes),
+                serial: serial_at(bytes, 2),
                 onu,
                 found: at,
                 ranged: None,
@@ -174,13 +174,6 @@ impl Picture {
         }
     }
 
-    /// Ends the lane of a unit.
-    fn end(&mut self, port: u8, key: Key, end: End)
-        ensures { self.new ≡ spec.ended port key end self.old }
-    {
-        change_lane(self.lanes.as_mut_slice(), port, key, Change::Ended(end));
-    }
-
     /// Ends the lane of the unit that a code removes, if it is sent for the first time.
     fn remove(&mut self, port: u8, last: Option<[u8; 13]>, answer: &[u8], at: Moment)
         ensures { self.new ≡ spec.removed port last (parts_of answer.now) at self.old }
@@ -192,7 +185,8 @@ impl Picture {
             return;
         }
         if let Some((key, cause)) = removed_by(&code) {
-            self.end(port, key, End { at, cause });
+            let end = Change::Ended(End { at, cause });
+            change_lane(self.lanes.as_mut_slice(), port, key, end);
         }
     }
 
@@ -202,7 +196,8 @@ impl Picture {
     {
         if is_loss(alarm.kind) {
             let cause = Cause::Alarm(alarm.kind);
-            self.end(port, Key::Serial(alarm.serial), End { at, cause });
+            let end = Change::Ended(End { at, cause });
+            change_lane(self.lanes.as_mut_slice(), port, Key::Serial(alarm.serial), end);
         }
     }
 

@@ -56,7 +56,8 @@ fn push_heading(out: &mut Vec<u8>, scale: Scale, port: u8, top: u64) -> Result<(
     push_port_begin(out, top)?;
     push_port_name(out, port)?;
     push_tick(out, "l\" x=\"0", scale.from)?;
-    push_tick(out, "m\" x=\"500", scale.middle())?;
+    let middle = scale.from + scale.to.saturating_sub(scale.from) / 2;
+    push_tick(out, "m\" x=\"500", middle)?;
     push_tick(out, "n\" x=\"1000", scale.to)
 }
 

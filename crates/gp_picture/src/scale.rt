@@ -36,11 +36,4 @@ impl Scale {
         let behind = u128::from(frame.saturating_sub(self.from));
         WIDTH.min(behind * WIDTH / width) as u64
     }
-
-    /// Gives the frame in the middle.
-    pub(crate) fn middle(self) -> u64
-        ensures { result ≡ spec.middle_of self }
-    {
-        self.from + self.to.saturating_sub(self.from) / 2
-    }
 }

@@ -32,21 +32,6 @@ pub struct Track {
     pub poll: Option<Poll>,
 }
 
-impl Poll {
-    /// Gives what is left of the window after a frame.
-    fn after_frame(self) -> Option<Poll>
-        ensures { result ≡ spec.poll_after_frame self }
-    {
-        if self.left <= 1 {
-            return None;
-        }
-        Some(Poll {
-            left: self.left - 1,
-            ..self
-        })
-    }
-}
-
 /// Gives the poll window that waits after a frame.
 fn poll_at_frame(poll: Option<Poll>, answer: &[u8], at: Moment) -> Option<Poll>
     ensures { result ≡ spec.poll_at_frame poll (parts_of answer.now) at }
@@ -58,8 +43,11 @@ fn poll_at_frame(poll: Option<Poll>, answer: &[u8], at: Moment) -> Option<Poll>
         });
     }
     match poll {
-        Some(poll) => poll.after_frame(),
-        None => None,
+        Some(poll) if poll.left > 1 => Some(Poll {
+            left: poll.left - 1,
+            ..poll
+        }),
+        _ => None,
     }
 }
 
