@@ -2,7 +2,7 @@
 -- `oltctl drive [FORM] FILE`, `oltctl storm [--progress] [FILE]`, `oltctl check FILE..`, `oltctl verify [--progress] FILE [TRACE]`,
 -- `oltctl picture [--from FRAME] [--to FRAME] [TRACE]`, `oltctl explain [--mask 0|85] [FORM] [TRACE]`, `oltctl decode [--up] [--mask 0|85] [HEX..]` and `oltctl encode [--up]
 -- [--mask 0|85] WORDS..`, where FORM is `[--words] [--time] [--format text|json]`, of `explain` without `--words`.
-use Rattle.std.specs.Prelude.{◌≡◌, List, [], ◌∷◌, Option, None, Some, map, Bool, true, codes, if◌then◌else◌, ℕ, Result, Ok, Err}
+use Rattle.std.specs.Prelude.{◌≡◌, List, [], ◌∷◌, Option, None, Some, map, Bool, true, codes, if◌then◌else◌, ℕ, ◌==◌, Result, Ok, Err}
 use Rattle.std.specs.Borrow.{Bor}
 use Rattle.std.specs.Str.{bytes_eq}
 use Rattle.clap.specs.Simple.{on_top}
@@ -13,7 +13,6 @@ use Rattle.clap.specs.declared.error.kind.ErrorKind.{ErrorKind}
 use Rattle.clap.specs.declared.parser.matches.ArgMatches.{ArgMatches}
 use Rattle.gp_ploam.specs.declared.check.Mask.{Mask}
 use Rattle.gp_ploam.specs.declared.check.Mask.TheVariants as masks
-use Rattle.std.specs.Str.Parse.{without_leading_plus}
 use Rattle.gp_lines.specs.declared.fault.LineFault.{LineFault}
 use Rattle.gp_lines.specs.Reading.{number_in}
 use Rattle.gp_explain.specs.declared.form.Form.{Form}
@@ -210,7 +209,12 @@ abbrev pub number_or : ℕ → Result ℕ LineFault → ℕ
 number_or other (Ok number) = number
 number_or other (Err fault) = other
 
+-- a number as a command line takes it, which may have a plus before it
+abbrev pub without_plus : Text → Text
+without_plus [] = []
+without_plus (first ∷ rest) = if first == 43 then rest else first ∷ rest
+
 -- the frame whose number a text is, and another one where there is no text
 abbrev pub frame_named : Option Text → ℕ → ℕ
 frame_named None other = other
-frame_named (Some text) other = number_or other (number_in 0 18446744073709551615 (without_leading_plus text))
+frame_named (Some text) other = number_or other (number_in 0 18446744073709551615 (without_plus text))

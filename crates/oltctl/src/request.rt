@@ -274,8 +274,15 @@ fn frame_of(number: Option<&str>, other: u64) -> u64
     let Some(number) = number else {
         return other;
     };
-    let digits = number.strip_prefix('+').unwrap_or(number);
-    number_in(0, u64::MAX, digits.as_bytes()).unwrap_or(other)
+    let text = number.as_bytes();
+    let digits = match text.first() {
+        Some(b'+') => &text[1..],
+        _ => text,
+    };
+    match number_in(0, u64::MAX, digits) {
+        Ok(frame) => frame,
+        Err(_) => other,
+    }
 }
 
 #[tactic(auto, using(crate::proofs::Rows::value_by_rows))]
