@@ -436,8 +436,8 @@ fn explain<R: AllocGlobal + Files + Print + Input>(
     }
 }
 
-/// Says how telling a trace in words, or drawing it, ended, with the number of the line that is none of a trace, and answers the exit
-/// status.
+/// Says how telling a trace in words, or drawing it, ended, with the number of the line that is none of a trace, and
+/// answers the exit status.
 fn end_explain<R: Eprint>(rt: &R, outcome: &Result<u64, ExplainFault>) -> u8
     ensures { result ≡ told_status outcome.now }
 {
