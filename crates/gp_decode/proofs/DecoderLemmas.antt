@@ -9,7 +9,7 @@ use Rattle.gp_stream.specs.Sink.{SinkState, Puts}
 use Rattle.gp_ploam.specs.declared.check.Mask.{Mask}
 use Rattle.gp_decode.specs.declared.fault.LineFault.{LineFault}
 use Rattle.gp_decode.specs.declared.fault.LineFault.TheVariants as fault
-use Rattle.gp_decode.specs.Line.{HasLineFault, LacksLine, Says}
+use Rattle.gp_decode.specs.Line.{HasLineFault, LacksLine, SaysAs}
 use Rattle.gp_decode.specs.Lines.{DecodeState, Decoding, RefusesBy, SaysFault, counted}
 
 -- a fault that lies in the text
@@ -34,7 +34,7 @@ long_line old new before after r a = answers_as (RefusesBy fault.Length) Decodin
 
 -- a line of which the writer took a part
 pub stopped_line : {W T : Type 0} (old new next : DecodeState) (text said : List ℕ) (before after : SinkState W) (e : WriteStopped) (r : Result (Unit {0}) Unanswered)
-    → Says old.upstream old.mask text said → next ≡ counted old → Puts {T = T} before after said (Err e) → IsErrAnd r (λ f. f ≡ Write)
+    → SaysAs old.form old.upstream old.mask text said → next ≡ counted old → Puts {T = T} before after said (Err e) → IsErrAnd r (λ f. f ≡ Write)
     → Answers Decoding (Some text) old new before after r
 stopped_line old new next text said before after e (Ok x) says same puts told = absurd told
 stopped_line old new next text said before after e (Err f) says same puts told =

@@ -1,10 +1,11 @@
 -- Why there is no line.
-use Rattle.std.proofs.Common.{◌≡◌, ℕ, Bool, List, ◌++◌, length, codes, Ok, refl}
+use Rattle.std.proofs.Common.{◌≡◌, ℕ, Bool, true, false, List, ◌++◌, length, codes, Ok, refl}
 use Rattle.hex.specs.Hex.{decode_of}
 use Rattle.gp_ploam.specs.declared.check.Mask.{Mask}
 use Rattle.gp_decode.specs.declared.fault.LineFault.{LineFault}
 use Rattle.gp_decode.specs.declared.fault.LineFault.TheVariants as fault
-use Rattle.gp_decode.specs.Line.{HasLineFault, LacksLine, LacksWords}
+use Rattle.gp_decode.specs.Message.{down_text, up_text}
+use Rattle.gp_decode.specs.Line.{HasLineFault, HasObject, HasWords, LacksLine, LacksWords}
 
 -- a text with a fault of its own has no line
 pub lacks_line : (upstream : Bool) (mask : Mask) (text : List ℕ) (f : LineFault) → HasLineFault mask text f → LacksLine upstream mask text f
@@ -23,3 +24,8 @@ lacks_words upstream mask text code fault.Crc spelled long h = (code, spelled, l
 lacks_words upstream mask text code fault.Length spelled long h = absurd h
 lacks_words upstream mask text code fault.Digit spelled long h = absurd h
 lacks_words upstream mask text code fault.Write spelled long h = absurd h
+
+-- a code whose message has an object has words
+pub object_has_words : (upstream : Bool) (mask : Mask) (code object : List ℕ) → HasObject upstream mask code object → (words : List ℕ) × HasWords upstream mask code words
+object_has_words true mask code object h = (up_text h.0, (h.0, h.1, refl))
+object_has_words false mask code object h = (down_text h.0, (h.0, h.1, refl))

@@ -1,4 +1,5 @@
 pub mod Message
+pub mod Object
 pub mod Line
 pub mod Faults
 pub mod Lines

@@ -12,7 +12,10 @@ use Rattle.gp_ploam.specs.Down.{ReadsDown}
 use Rattle.gp_ploam.specs.Up.{ReadsUp}
 use Rattle.gp_decode.specs.declared.fault.LineFault.{LineFault}
 use Rattle.gp_decode.specs.declared.fault.LineFault.TheVariants as fault
+use Rattle.gp_decode.specs.declared.form.MessageForm.{MessageForm}
+use Rattle.gp_decode.specs.declared.form.MessageForm.TheVariants.{Words, Json}
 use Rattle.gp_decode.specs.Message.{down_text, up_text}
+use Rattle.gp_decode.specs.Object.{down_object, up_object}
 
 -- the words of the message that a code is read as: upstream or downstream, under the mask
 abbrev pub HasWords : Bool → Mask → List ℕ → List ℕ → Type 0
@@ -29,6 +32,24 @@ pub record Says (upstream : Bool) (mask : Mask) (text line : List ℕ) : Type 0 
   pub code : List ℕ
   pub spelled : decode_of text ≡ Ok code
   pub said : SaysCode upstream mask code line
+
+-- the object of the message that a code is read as: upstream or downstream, under the mask
+abbrev pub HasObject : Bool → Mask → List ℕ → List ℕ → Type 0
+HasObject true mask code object = (m : Up) × ReadsUp code (mask_value mask) m × (object ≡ up_object m)
+HasObject false mask code object = (m : Down) × ReadsDown code (mask_value mask) m × (object ≡ down_object m)
+
+-- the text is the hexadecimal digits of a code, and the line is the object of the message that this is read as
+pub record SaysObject (upstream : Bool) (mask : Mask) (text line : List ℕ) : Type 0 where
+  pub code : List ℕ
+  pub spelled : decode_of text ≡ Ok code
+  pub object : List ℕ
+  pub has : HasObject upstream mask code object
+  pub line_is : line ≡ object ++ codes "\n"
+
+-- the same in this form
+abbrev pub SaysAs : MessageForm → Bool → Mask → List ℕ → List ℕ → Type 0
+SaysAs Words upstream mask text line = Says upstream mask text line
+SaysAs Json upstream mask text line = SaysObject upstream mask text line
 
 -- thirteen octets of which the last is not the check octet of the others under the mask
 abbrev pub HasWrongCheck : Mask → List ℕ → Type 0

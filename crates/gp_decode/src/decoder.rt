@@ -5,7 +5,8 @@ ghost use Rattle.gp_flow.specs.Lines.{Answers};
 ghost use Rattle.gp_decode.specs.Lines.{RefusesBy, error_line, fault_name, faulted, opened_decode};
 
 use super::fault::LineFault;
-use super::line::line_for;
+use super::form::MessageForm;
+use super::objects::line_as;
 use gp_flow::{LineFault as Unanswered, LineWork};
 use gp_ploam::Mask;
 use gp_stream::Sink;
@@ -25,10 +26,11 @@ pub struct FaultAt {
 }
 
 /// Says to each line the message of the code that it is the hexadecimal digits of, or its fault. Contracts see the
-/// direction and the mask of the codes, how many lines came, and the first that had a fault.
+/// form, the direction and the mask of the codes, how many lines came, and the first that had a fault.
 #[derive(Drop)]
 pub struct Decoder {
     alloc: Global,
+    form: MessageForm,
     upstream: bool,
     mask: Mask,
     lines: u64,
@@ -40,7 +42,7 @@ impl Model for Decoder {
 
     ghost Value = { DecodeState };
 
-    ghost view = { λ s. record { upstream = s.upstream; mask = s.mask; lines = s.lines; first = s.first } };
+    ghost view = { λ s. record { form = s.form; upstream = s.upstream; mask = s.mask; lines = s.lines; first = s.first } };
 }
 
 /// Gives the name of a fault.
@@ -59,38 +61,48 @@ fn fault_name(fault: LineFault) -> &'static str
 /// What is said to a line with a fault, without its line feed.
 #[derive(Clone, Copy)]
 struct ErrorText {
+    form: MessageForm,
     line: u64,
     fault: LineFault,
 }
 
 impl Display for ErrorText {
     ghost use Rattle.std.specs.Prelude.{Some};
-    ghost use Rattle.gp_decode.specs.Lines.{error_text};
+    ghost use Rattle.gp_decode.specs.Lines.{error_as};
 
-    ghost output = { λ t. Some (error_text t.line t.fault) };
+    ghost output = { λ t. Some (error_as t.form t.line t.fault) };
 
     fn fmt<W: fmt::Write>(&self, f: &mut Formatter<W>) -> fmt::Result {
         let line = self.line;
         let name = fault_name(self.fault);
-        write!(f, "error {line} {name}")
+        match self.form {
+            MessageForm::Words => write!(f, "error {line} {name}"),
+            MessageForm::Json => write!(f, "{{\"error\":\"{name}\",\"line\":{line}}}"),
+        }
     }
 }
 
 /// Makes what is said to a line with a fault.
-fn error_line(alloc: Global, line: u64, fault: LineFault) -> Result<String, AllocError>
-    ensures { IfOk result (λ text. string_bytes text ≡ error_line line fault) }
+fn error_line(
+    alloc: Global,
+    form: MessageForm,
+    line: u64,
+    fault: LineFault,
+) -> Result<String, AllocError>
+    ensures { IfOk result (λ text. string_bytes text ≡ error_line form line fault) }
 {
-    let text = ErrorText { line, fault };
+    let text = ErrorText { form, line, fault };
     format!(in alloc; "{text}\n")
 }
 
 impl Decoder {
     /// Makes one to which no line came.
-    pub fn new(alloc: Global, upstream: bool, mask: Mask) -> Decoder
-        ensures { result ≡ opened_decode upstream mask }
+    pub fn new(alloc: Global, form: MessageForm, upstream: bool, mask: Mask) -> Decoder
+        ensures { result ≡ opened_decode form upstream mask }
     {
         Decoder {
             alloc,
+            form,
             upstream,
             mask,
             lines: 0,
@@ -123,7 +135,7 @@ impl Decoder {
         requires { self.old.lines + 1 < 2 ^ 64 }
         ensures { Answers (RefusesBy fault) None self.old self.new sink.old sink.new result }
     {
-        let line = error_line(self.alloc, self.lines + 1, fault)?;
+        let line = error_line(self.alloc, self.form, self.lines + 1, fault)?;
         sink.put(line.as_bytes())?;
         self.note(fault);
         Ok(())
@@ -145,7 +157,7 @@ impl LineWork for Decoder {
         if self.lines == u64::MAX {
             return Err(Unanswered::Full);
         }
-        let line = match line_for(self.alloc, text, self.upstream, self.mask) {
+        let line = match line_as(self.alloc, self.form, text, self.upstream, self.mask) {
             Ok(line) => line,
             Err(LineFault::OutOfMemory) => return Err(Unanswered::OutOfMemory),
             Err(fault) => return self.refuse(fault, sink),

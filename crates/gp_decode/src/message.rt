@@ -8,7 +8,7 @@ use std::fmt::{Display, Formatter, Write};
 
 /// The octets 3 to 12 of a code, in lower-case hexadecimal digits.
 #[derive(Clone, Copy)]
-struct Octets([u8; 10]);
+pub(crate) struct Octets(pub(crate) [u8; 10]);
 
 impl Display for Octets {
     ghost use Rattle.hex.specs.Hex.{encode_lower};

@@ -17,3 +17,4 @@ mod text;
 pub use object::write_object;
 pub use other::write_other;
 pub use slot::{Kind, Slot};
+pub use text::push_quoted;

@@ -31,8 +31,9 @@ fn push_octet(out: &mut Vec<u8>, octet: u8) -> Result<(), AllocError>
     out.extend_from_slice(&[hex_digit(octet / 16), hex_digit(octet % 16)])
 }
 
-/// Appends a text, between quotation marks.
-pub(crate) fn push_quoted(out: &mut Vec<u8>, text: &[u8]) -> Result<(), AllocError>
+/// Appends a text, between quotation marks, in printable ASCII. Memory is taken where the buffer has no room; where it is
+/// refused, the buffer may hold a part of the text.
+pub fn push_quoted(out: &mut Vec<u8>, text: &[u8]) -> Result<(), AllocError>
     ensures { OnOk result (out.new.items ≡ out.old.items ++ spec.quoted text.now) }
 {
     out.extend_from_slice(b"\"")?;

@@ -1,4 +1,4 @@
-use gp_decode::{FaultAt, LineFault, decode_line, decode_lines};
+use gp_decode::{FaultAt, LineFault, MessageForm, decode_line, decode_lines};
 use gp_ploam::Mask;
 use gp_stream::{Sink, Source};
 use std::alloc::{AllocError, Global};
@@ -212,10 +212,141 @@ fn lines_of_an_input(rt: HostRuntime) -> Result<(), AllocError> {
     for (input, said, first) in INPUTS {
         let mut source = Source::endless(input.as_bytes());
         let mut sink = Sink::new(rt.alloc(), Vec::new(rt.alloc()))?;
-        let outcome = decode_lines(rt.alloc(), &mut source, &mut sink, DOWN, Mask::Plain);
+        let outcome = decode_lines(
+            rt.alloc(),
+            &mut source,
+            &mut sink,
+            MessageForm::Words,
+            DOWN,
+            Mask::Plain,
+        );
         let written = sink.into_inner();
         assert_eq!(rt; outcome, Ok(first), "{input}");
         assert!(rt; written.as_slice() == said.as_bytes(), "{input}");
+    }
+    Ok(())
+}
+
+/// Codes, the direction of each, and what is said of it as JSON.
+const OBJECTS: [(&'static str, bool, &'static str); 20] = [
+    (
+        "ff010000000000000000000058",
+        DOWN,
+        "{\"message\":\"Upstream_Overhead\",\"burst\":\"00000000000000000000\"}\n",
+    ),
+    (
+        "ff03004142434400000001001b",
+        DOWN,
+        "{\"message\":\"Assign_ONU-ID\",\"onu\":0,\"serial\":\"ABCD00000001\"}\n",
+    ),
+    (
+        "0004000003386000000000009c",
+        DOWN,
+        "{\"message\":\"Ranging_Time\",\"onu\":0,\"eqd\":211040}\n",
+    ),
+    (
+        "00050000000000000000000063",
+        DOWN,
+        "{\"message\":\"Deactivate_ONU-ID\",\"onu\":0}\n",
+    ),
+    (
+        "ff06ff41424344000000010055",
+        DOWN,
+        "{\"message\":\"Disable_Serial_Number\",\"serial\":\"ABCD00000001\"}\n",
+    ),
+    (
+        "ff060041424344000000010078",
+        DOWN,
+        "{\"message\":\"Enable_Serial_Number\",\"serial\":\"ABCD00000001\"}\n",
+    ),
+    (
+        "ff060f00000000000000000053",
+        DOWN,
+        "{\"message\":\"Enable_All\"}\n",
+    ),
+    (
+        "000a1000010000000000000047",
+        DOWN,
+        "{\"message\":\"Assign_Alloc-ID\",\"onu\":0,\"alloc\":256,\"keep\":true}\n",
+    ),
+    (
+        "000a1000ff000000000000008f",
+        DOWN,
+        "{\"message\":\"Assign_Alloc-ID\",\"onu\":0,\"alloc\":256,\"keep\":false}\n",
+    ),
+    (
+        "ff0b000000000000000000009e",
+        DOWN,
+        "{\"message\":\"No_message\"}\n",
+    ),
+    (
+        "ff0c00000000000000000000c3",
+        DOWN,
+        "{\"message\":\"POPUP\",\"onu\":255}\n",
+    ),
+    (
+        "07630102030000000000000026",
+        DOWN,
+        "{\"message\":\"Other\",\"id\":99,\"octet1\":7,\"body\":\"01020300000000000000\"}\n",
+    ),
+    (
+        "ff01414243440000000100002c",
+        UP,
+        "{\"message\":\"Serial_Number_ONU\",\"onu\":255,\"serial\":\"ABCD00000001\",\"random\":0,\"flags\":0}\n",
+    ),
+    (
+        "00030000000000000000000021",
+        UP,
+        "{\"message\":\"Dying_Gasp\",\"onu\":0}\n",
+    ),
+    (
+        "0004000000000000000000007c",
+        UP,
+        "{\"message\":\"No_message\",\"onu\":0}\n",
+    ),
+    (
+        "00090a0000000000000000007e",
+        UP,
+        "{\"message\":\"Acknowledge\",\"onu\":0,\"id\":10}\n",
+    ),
+    (
+        "00000000000000000000000000",
+        UP,
+        "{\"message\":\"Other\",\"id\":0,\"octet1\":0,\"body\":\"00000000000000000000\"}\n",
+    ),
+    (
+        "0g",
+        DOWN,
+        "{\"error\":\"digit\",\"line\":1}\n",
+    ),
+    (
+        "0",
+        DOWN,
+        "{\"error\":\"length\",\"line\":1}\n",
+    ),
+    (
+        "00050000000000000000000062",
+        DOWN,
+        "{\"error\":\"crc\",\"line\":1}\n",
+    ),
+];
+
+#[test]
+fn objects(rt: HostRuntime) -> Result<(), AllocError> {
+    for (code, upstream, object) in OBJECTS {
+        let mut source = Source::endless(code.as_bytes());
+        let mut sink = Sink::new(rt.alloc(), Vec::new(rt.alloc()))?;
+        let outcome = decode_lines(
+            rt.alloc(),
+            &mut source,
+            &mut sink,
+            MessageForm::Json,
+            upstream,
+            Mask::Plain,
+        );
+        let written = sink.into_inner();
+        assert!(rt; outcome.is_ok(), "{code}");
+        assert!(rt; written.as_slice() == object.as_bytes(), "{code}");
     }
     Ok(())
 }

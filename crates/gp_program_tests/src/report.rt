@@ -6,10 +6,11 @@ use gp_lines::LineFault as PartFault;
 use gp_replay::RunFault;
 use gp_report::{
     arguments_report, encode_report, explain_report, input_report, line_report, memory_report,
-    run_report, verify_report, write_report,
+    run_report, verify_report, write_finding, write_report,
 };
 use gp_script::ScriptFault;
-use gp_verify::{Verdict, VerifyFault};
+use gp_verify::{CheckFault, Verdict, VerifyFault};
+use std::alloc::AllocError;
 
 /// Each fault of a replay or of a storm, its line on standard error and the exit status.
 const REPORTS: &[(RunFault, &'static str, u8)] = &[
@@ -89,6 +90,60 @@ fn reports_of_verifications(rt: HostRuntime) {
     }
     let unended = VerifyFault::Unended { line: 7 };
     assert!(rt; verify_report(&unended) == ("oltctl: no line feed", 1));
+}
+
+/// A line that can't be.
+const fn refused(verdict: Verdict) -> Result<u64, CheckFault> {
+    Err(CheckFault::Trace(VerifyFault::Refused { line: 7, verdict }))
+}
+
+/// How a verification ended, its report, and its object.
+fn findings() -> [(Result<u64, CheckFault>, &'static str, &'static str); 7] {
+    [
+        (Ok(16), "", "{\"run\":true,\"lines\":16}\n"),
+        (
+            refused(Verdict::NotAStep),
+            "line 7: 0 6 burst 5 ff = found 254\nmachine: 0 6 burst 5 ff = found 0\nany free ONU-ID would do\n",
+            "{\"run\":false,\"line\":7,\"why\":\"not a run\",\"text\":\"0 6 burst 5 ff = found 254\",\
+             \"machine\":\"0 6 burst 5 ff = found 0\",\"free\":\"ONU-ID\"}\n",
+        ),
+        (
+            refused(Verdict::WrongNumber),
+            "line 7: 0 8 alloc x = allocated 256\nmachine: 0 7 alloc x = allocated 257\nany free Alloc-ID would do\n",
+            "{\"run\":false,\"line\":7,\"why\":\"not the next number\",\"text\":\"0 8 alloc x = allocated 256\",\
+             \"machine\":\"0 7 alloc x = allocated 257\",\"free\":\"Alloc-ID\"}\n",
+        ),
+        (
+            refused(Verdict::NotALine),
+            "line 7: say: \"no\"\n",
+            "{\"run\":false,\"line\":7,\"why\":\"no line of a trace\",\"text\":\"say: \\\"no\\\"\"}\n",
+        ),
+        (
+            refused(Verdict::NoPort),
+            "line 7: \n",
+            "{\"run\":false,\"line\":7,\"why\":\"no such port\",\"text\":\"\"}\n",
+        ),
+        (
+            refused(Verdict::TooLong),
+            "",
+            "{\"run\":false,\"line\":7,\"why\":\"line too long\"}\n",
+        ),
+        (
+            Err(CheckFault::Trace(VerifyFault::Unended { line: 7 })),
+            "",
+            "{\"run\":false,\"line\":7,\"why\":\"no line feed\"}\n",
+        ),
+    ]
+}
+
+#[test]
+fn objects_of_verifications(rt: HostRuntime) -> Result<(), AllocError> {
+    for (outcome, report, object) in findings() {
+        let mut written = Vec::new(rt.alloc());
+        write_finding(&outcome, report.as_bytes(), &mut written)?;
+        assert!(rt; written.as_slice() == object.as_bytes(), "{object}");
+    }
+    Ok(())
 }
 
 #[test]

@@ -1,16 +1,19 @@
 //! What `oltctl` says on standard error of all that may go wrong, and its exit statuses.
 //!
 //! - `report.rt`: the line and the status of each fault.
+//! - `finding.rt`: how a verification ended, as a JSON object on standard output.
 //! - `status.rt`: the statuses.
 //!
 //! Where to make which change: a line stands in `report.rt` and `specs/Report.antt` or `specs/Words.antt`, a status in
-//! `status.rt`. Which faults there are is decided where they arise: `gp_replay` for a replay or a storm, `gp_verify` for
+//! `status.rt`, an object in `finding.rt` and `specs/Finding.antt`. Which faults there are is decided where they arise: `gp_replay` for a replay or a storm, `gp_verify` for
 //! a verification, `gp_decode` for a code, `gp_explain` for a trace in words, `gp_encode` for words.
 #![tactic(auto)]
 
+mod finding;
 mod report;
 mod status;
 
+pub use finding::write_finding;
 pub use report::{
     arguments_report, encode_report, explain_report, input_report, line_report, memory_report,
     run_report, verify_report, write_report,

@@ -1,7 +1,7 @@
 -- The command line (this profile's own rule): `oltctl replay [--explain] [--progress] [FORM] [FILE]`,
--- `oltctl drive [FORM] FILE`, `oltctl storm [--progress] [FILE]`, `oltctl check FILE..`, `oltctl verify [--progress] FILE [TRACE]`,
--- `oltctl explain [--mask 0|85] [FORM] [TRACE]`, `oltctl decode [--up] [--mask 0|85] [HEX..]` and `oltctl encode [--up]
--- [--mask 0|85] WORDS..`, where FORM is `[--words] [--time] [--format text|json]`, of `explain` without `--words`.
+-- `oltctl drive [FORM] FILE`, `oltctl storm [--progress] [FILE]`, `oltctl check FILE..`, `oltctl verify [--progress]
+-- [--format text|json] FILE [TRACE]`, `oltctl explain [--mask 0|85] [FORM] [TRACE]`, `oltctl decode [--up] [--mask 0|85]
+-- [--format text|json] [HEX..]` and `oltctl encode [--up] [--mask 0|85] WORDS..`, where FORM is `[--words] [--time] [--format text|json]`, of `explain` without `--words`.
 use Rattle.std.specs.Prelude.{◌≡◌, List, [], ◌∷◌, Option, None, Some, map, Bool, true, codes, if◌then◌else◌}
 use Rattle.std.specs.Borrow.{Bor}
 use Rattle.std.specs.Str.{bytes_eq}
@@ -13,6 +13,8 @@ use Rattle.clap.specs.declared.error.kind.ErrorKind.{ErrorKind}
 use Rattle.clap.specs.declared.parser.matches.ArgMatches.{ArgMatches}
 use Rattle.gp_ploam.specs.declared.check.Mask.{Mask}
 use Rattle.gp_ploam.specs.declared.check.Mask.TheVariants as masks
+use Rattle.gp_decode.specs.declared.form.MessageForm.{MessageForm}
+use Rattle.gp_decode.specs.declared.form.MessageForm.TheVariants as messages
 use Rattle.gp_explain.specs.declared.form.Form.{Form}
 use Rattle.gp_explain.specs.declared.form.Form.TheVariants.{Plain, Words, Json}
 
@@ -100,12 +102,16 @@ check_command = with_rule (new_app (codes "check")) files_rule
 abbrev pub storm_command : App
 storm_command = with_rule (with_rule (new_app (codes "storm")) (flag_rule (codes "progress"))) file_rule
 
-abbrev pub verify_command : App
-verify_command =
-    with_rule (with_rule (with_rule (new_app (codes "verify")) (flag_rule (codes "progress"))) script_rule) trace_rule
+abbrev pub verify_command : FormatNames → App
+verify_command names =
+    with_rule
+    (with_rule (with_rule (with_rule (new_app (codes "verify")) (flag_rule (codes "progress"))) (format_rule names))
+    script_rule) trace_rule
 
-abbrev pub decode_command : MaskNames → App
-decode_command names = with_rule (with_rule (with_rule (new_app (codes "decode")) up_rule) (mask_rule names)) code_rule
+abbrev pub decode_command : MaskNames → FormatNames → App
+decode_command masks formats =
+    with_rule
+    (with_rule (with_rule (with_rule (new_app (codes "decode")) up_rule) (mask_rule masks)) (format_rule formats)) code_rule
 
 abbrev pub encode_command : MaskNames → App
 encode_command names =
@@ -119,16 +125,20 @@ explain_command masks formats =
 pub record AllNames : Type 0 where
   pub replay : FormatNames
   pub drive : FormatNames
+  pub verify : FormatNames
   pub explain_format : FormatNames
   pub explain : MaskNames
+  pub decode_format : FormatNames
   pub decode : MaskNames
   pub encode : MaskNames
 
 pub record AreAllNames (names : AllNames) : Type 0 where
   pub replay : AreFormats names.replay
   pub drive : AreFormats names.drive
+  pub verify : AreFormats names.verify
   pub explain_format : AreFormats names.explain_format
   pub explain : AreMasks names.explain
+  pub decode_format : AreFormats names.decode_format
   pub decode : AreMasks names.decode
   pub encode : AreMasks names.encode
 
@@ -149,17 +159,18 @@ abbrev pub line_commands : FormatNames → FormatNames → App
 line_commands replay drive = with_subcommand (script_commands replay) (drive_command drive).top
 
 -- the program as far as it is about scripts, lines and traces
-abbrev pub trace_commands : FormatNames → FormatNames → App
-trace_commands replay drive =
-    with_subcommand (with_subcommand (line_commands replay drive) check_command.top) verify_command.top
+abbrev pub trace_commands : FormatNames → FormatNames → FormatNames → App
+trace_commands replay drive verify =
+    with_subcommand (with_subcommand (line_commands replay drive) check_command.top) (verify_command verify).top
 
 -- the whole program
 abbrev pub oltctl_command : AllNames → App
 oltctl_command names =
     with_subcommand
     (with_subcommand
-    (with_subcommand (trace_commands names.replay names.drive) (explain_command names.explain names.explain_format).top)
-    (decode_command names.decode).top) (encode_command names.encode).top
+    (with_subcommand (trace_commands names.replay names.drive names.verify)
+    (explain_command names.explain names.explain_format).top) (decode_command names.decode names.decode_format).top)
+    (encode_command names.encode).top
 
 -- the words have no fault, and what was parsed is the subcommand that they name, with the values that they give it
 pub record IsParseOf (words : List Text) (m : ArgMatches) : Type 0 where
@@ -184,6 +195,11 @@ abbrev pub form_named : Bool → Option Text → Form
 form_named words None = if words then Words else Plain
 form_named words (Some name) =
     if bytes_eq name (codes "json") then Json else if words then Words else Plain
+
+-- what messages are written as, by the name of a format
+abbrev pub message_form_named : Option Text → MessageForm
+message_form_named None = messages.Words
+message_form_named (Some name) = if bytes_eq name (codes "json") then messages.Json else messages.Words
 
 -- the file that a name stands for: `-` stands for standard input, as no name does
 abbrev pub file_named : Option Text → Option Text

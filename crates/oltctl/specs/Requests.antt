@@ -2,7 +2,8 @@
 use Rattle.std.specs.Prelude.{◌≡◌, ◌≢◌, List, [], ◌∷◌, Bool, true, false, Option, None, Some, map, option_map, codes}
 use Rattle.std.specs.Borrow.{Bor}
 use Rattle.clap.specs.Words.{Row, Text, all_of, first_of, one_of}
-use Rattle.oltctl.specs.CommandLine.{file_named, form_named, mask_named}
+use Rattle.gp_decode.specs.declared.form.MessageForm.TheVariants as messages
+use Rattle.oltctl.specs.CommandLine.{file_named, form_named, mask_named, message_form_named}
 use Rattle.oltctl.specs.declared.request.Request.{Request}
 use Rattle.oltctl.specs.declared.request.Request.TheVariants.{Replay, Drive, Storm, Check, Verify, Decode, DecodeLines, Encode, Explain}
 use Rattle.oltctl.specs.declared.request.Play.{Play}
@@ -61,20 +62,21 @@ AsksToStorm rows _ = ⊥
 
 -- the rows of `verify` ask to verify TRACE, or standard input where it is left out, against the script of FILE
 abbrev pub AsksToVerify : List Row → Request → Type 0
-AsksToVerify rows (Verify script trace progress) =
+AsksToVerify rows (Verify script trace form progress) =
     (first_of (codes "script") rows ≡ Some script.now) × (name_in trace ≡ file_named (first_of (codes "trace") rows))
-    × IsFlag rows (codes "progress") progress
+    × (form ≡ message_form_named (first_of (codes "format") rows)) × IsFlag rows (codes "progress") progress
 AsksToVerify rows _ = ⊥
 
--- the rows of `decode` ask for the words of one HEX, or of each of several or of standard input, as upstream messages
--- with `--up`, under the mask of `--mask`
+-- the rows of `decode` ask for the words of one HEX, or, in the form that is named, for the messages of several, of
+-- standard input, or of one as JSON; as upstream messages with `--up`, under the mask of `--mask`
 abbrev pub AsksToDecode : List Row → Request → Type 0
 AsksToDecode rows (Decode code upstream mask) =
     (all_of (codes "code") rows ≡ Some (code.now ∷ [])) × IsFlag rows (codes "up") upstream
     × (mask ≡ mask_named (first_of (codes "mask") rows))
-AsksToDecode rows (DecodeLines many upstream mask) =
+    × (message_form_named (first_of (codes "format") rows) ≡ messages.Words)
+AsksToDecode rows (DecodeLines many form upstream mask) =
     (option_map texts many ≡ all_of (codes "code") rows) × IsFlag rows (codes "up") upstream
-    × (mask ≡ mask_named (first_of (codes "mask") rows))
+    × (mask ≡ mask_named (first_of (codes "mask") rows)) × (form ≡ message_form_named (first_of (codes "format") rows))
 AsksToDecode rows _ = ⊥
 
 -- the rows of `encode` ask for the code of WORDS, of an upstream message with `--up`, under the mask of `--mask`
@@ -98,12 +100,12 @@ Asks (Some (name, rows)) (Replay file play) = (name ≡ codes "replay") × AsksT
 Asks (Some (name, rows)) (Drive script told) = (name ≡ codes "drive") × AsksToDrive rows (Drive script told)
 Asks (Some (name, rows)) (Check files) = (name ≡ codes "check") × AsksToCheck rows (Check files)
 Asks (Some (name, rows)) (Storm file progress) = (name ≡ codes "storm") × AsksToStorm rows (Storm file progress)
-Asks (Some (name, rows)) (Verify script trace progress) =
-    (name ≡ codes "verify") × AsksToVerify rows (Verify script trace progress)
+Asks (Some (name, rows)) (Verify script trace form progress) =
+    (name ≡ codes "verify") × AsksToVerify rows (Verify script trace form progress)
 Asks (Some (name, rows)) (Decode code upstream mask) =
     (name ≡ codes "decode") × AsksToDecode rows (Decode code upstream mask)
-Asks (Some (name, rows)) (DecodeLines many upstream mask) =
-    (name ≡ codes "decode") × AsksToDecode rows (DecodeLines many upstream mask)
+Asks (Some (name, rows)) (DecodeLines many form upstream mask) =
+    (name ≡ codes "decode") × AsksToDecode rows (DecodeLines many form upstream mask)
 Asks (Some (name, rows)) (Encode words upstream mask) =
     (name ≡ codes "encode") × AsksToEncode rows (Encode words upstream mask)
 Asks (Some (name, rows)) (Explain trace mask told) =

@@ -139,9 +139,9 @@ IsServed (Replay file play) status = IsPlayed status
 IsServed (Drive script told) status = IsDriven status
 IsServed (Check files) status = IsChecked status
 IsServed (Storm file progress) status = IsStormed status
-IsServed (Verify script trace progress) status = IsVerified status
+IsServed (Verify script trace form progress) status = IsVerified status
 IsServed (Decode code upstream mask) status = IsDecoded code.now upstream mask status
-IsServed (DecodeLines many upstream mask) status = AreDecoded status
+IsServed (DecodeLines many form upstream mask) status = AreDecoded status
 IsServed (Encode words upstream mask) status = IsEncoded status
 IsServed (Explain trace mask told) status = IsExplained status
 

@@ -191,13 +191,14 @@ fn trace<'a>(alloc: Global) -> Arg<'a>
 }
 
 fn verify<'a>(alloc: Global) -> Result<Command<'a>, AllocError>
-    ensures app { IfOk result (λ c. app_of c ≡ verify_command) }
+    ensures app { IfOk result (λ c. (names : FormatNames) × AreFormats names × (app_of c ≡ verify_command names)) }
     ensures local { IfOk result (λ c. (fields_of c).has_globals ≡ false) }
 {
     Command::new(alloc, "verify")
         .about("Tells whether a trace is one that a correct line terminal could have written")
         .after_help(VERIFY_HELP)
         .arg(progress(alloc))?
+        .arg(format(alloc))?
         .arg(script(alloc))?
         .arg(trace(alloc))
 }
@@ -234,7 +235,8 @@ fn code<'a>(alloc: Global) -> Arg<'a>
 }
 
 fn decode<'a>(alloc: Global) -> Result<Command<'a>, AllocError>
-    ensures app { IfOk result (λ c. (names : MaskNames) × AreMasks names × (app_of c ≡ decode_command names)) }
+    ensures app { IfOk result (λ c. (masks : MaskNames) × (formats : FormatNames)
+        × AreMasks masks × AreFormats formats × (app_of c ≡ decode_command masks formats)) }
     ensures local { IfOk result (λ c. (fields_of c).has_globals ≡ false) }
 {
     Command::new(alloc, "decode")
@@ -242,6 +244,7 @@ fn decode<'a>(alloc: Global) -> Result<Command<'a>, AllocError>
         .after_help(DECODE_HELP)
         .arg(up(alloc))?
         .arg(mask(alloc))?
+        .arg(format(alloc))?
         .arg(code(alloc))
 }
 
@@ -304,8 +307,8 @@ fn of_lines<'a>(alloc: Global) -> Result<Command<'a>, AllocError>
 
 /// Makes the program's command line as far as it is about scripts, lines and traces.
 fn of_traces<'a>(alloc: Global) -> Result<Command<'a>, AllocError>
-    ensures { IfOk result (λ c. (replay drive : FormatNames) × AreFormats replay × AreFormats drive
-        × (app_of c ≡ trace_commands replay drive)) }
+    ensures { IfOk result (λ c. (replay drive verify : FormatNames) × AreFormats replay × AreFormats drive
+        × AreFormats verify × (app_of c ≡ trace_commands replay drive verify)) }
 {
     of_lines(alloc)?
         .subcommand(check(alloc)?)?

@@ -63,6 +63,7 @@ pub const VERIFY_HELP: &str = "\
 Examples:
   oltctl verify script.toml my-own.trace
   oltctl replay script.toml | oltctl verify script.toml
+  oltctl verify --format json script.toml my-own.trace
 
 Exit status:
   0  the trace is a run
@@ -112,6 +113,7 @@ pub const DECODE_HELP: &str = "\
 Examples:
   oltctl decode ff03004142434400000001001b
   oltctl decode --up - < codes.txt
+  oltctl decode --format json ff03004142434400000001001b
 
 Exit status, that of the first fault:
   0  all codes were told

@@ -3,7 +3,7 @@
 //! message a code is, and gives the code of a message in words.
 #![tactic(auto)]
 
-ghost use Rattle.std.specs.Prelude.{◌≡◌, ◌≢◌, ◌≤◌, ◌↔◌, ℕ, List, Ok, Err, OnOk, map};
+ghost use Rattle.std.specs.Prelude.{◌≡◌, ◌≢◌, ◌≤◌, ◌↔◌, ℕ, List, Ok, Err, IfOk, OnOk, map};
 ghost use Rattle.std.specs.String.{string_bytes};
 ghost use Rattle.clap.specs.Values.{kind_of};
 ghost use Rattle.std.specs.IoError.{error_kind};
@@ -12,8 +12,9 @@ ghost use Rattle.gp_decode.specs.Line.{HasLineFault, IsOfText, Says};
 ghost use Rattle.gp_script.specs.declared.fault.ScriptFault.{ScriptFault};
 ghost use Rattle.gp_script.specs.Script.{ScriptView, script_of, storm_script_of};
 ghost use Rattle.oltctl.specs.Replays.{IsCheckedBy, IsReadBy, IsTooLong};
+ghost use Rattle.gp_report.specs.Finding.{finding_object};
 ghost use Rattle.gp_report.specs.Report.{verify_status};
-ghost use Rattle.oltctl.specs.Statuses.{IsArgumentsReport, IsEncoded, IsPlayed, IsRun, IsServed, IsStatusOf, IsVerifyStatus, check_status, drive_status, end_status, greatest_status, lines_status, told_status};
+ghost use Rattle.oltctl.specs.Statuses.{IsArgumentsReport, IsEncoded, IsPlayed, IsRun, IsServed, IsStatusOf, IsVerified, IsVerifyStatus, check_status, drive_status, end_status, greatest_status, lines_status, told_status};
 
 mod checking;
 mod command_line;
@@ -28,7 +29,7 @@ use checking::check_files;
 use clap::Error;
 use clap::error::ErrorKind;
 use gp_check::ScriptCheckFault;
-use gp_decode::{FaultAt, LineFault, decode_line, decode_lines};
+use gp_decode::{FaultAt, LineFault, MessageForm, decode_line, decode_lines};
 use gp_drive::{DriveFault, Driven, run_drive};
 use gp_encode::{EncodeFault, encode_line};
 use gp_explain::{ExplainFault, Telling, explain_trace};
@@ -37,7 +38,8 @@ use gp_ploam::Mask;
 use gp_replay::{RunFault, run_replay};
 use gp_report::{
     BAD_ARGUMENTS, BAD_INPUT, SUCCESS, arguments_report, encode_report, explain_report,
-    input_report, line_report, memory_report, run_report, verify_report, write_report,
+    input_report, line_report, memory_report, run_report, verify_report, write_finding,
+    write_report,
 };
 use gp_storm::run_storm;
 use gp_stream::{Sink, Source, SourceFault, read_all};
@@ -45,8 +47,9 @@ use gp_verify::{CheckFault, VerifyFault, verify_script};
 use joined::joined;
 use progress::Counted;
 use request::{Play, Request, Told, request_of};
+use std::alloc::{AllocError, Global};
 use std::io;
-use std::io::Read;
+use std::io::{Read, Write};
 use std::process::ExitCode;
 use std::rt::{Clock, Env, Files};
 use std::sync::Wait;
@@ -274,37 +277,98 @@ fn end_run<R: Eprint>(rt: &R, outcome: &Result<(), RunFault>) -> u8
     }
 }
 
-/// Verifies the trace that a reader gives against the script that another gives. The line that can't be goes to
-/// standard output, and what the machine says in its place.
-fn verify_from<R: AllocGlobal + Print, S: Read + Drop, T: Read + Drop>(
-    rt: &R,
+/// Verifies the trace that a reader gives against the script that another gives. The line that can't be goes to the
+/// writer, and what the machine says in its place.
+fn verify_from<S: Read + Drop, T: Read + Drop, W: Write + Drop>(
+    alloc: Global,
     script: S,
     trace: T,
-) -> Result<u64, CheckFault>
-    ensures { IsCheckedBy script (S.remaining script) trace (T.remaining trace) result }
+    writer: W,
+) -> Result<(Result<u64, CheckFault>, W), AllocError>
+    ensures { IfOk result
+        (λ checked. IsCheckedBy script (S.remaining script) trace (T.remaining trace) checked.0) }
 {
     let mut script = Source::new(script);
     let mut trace = Source::endless(trace);
-    let mut sink = Sink::new(rt.alloc(), io::writer(rt))?;
-    verify_script(rt.alloc(), &mut script, &mut trace, &mut sink)
+    let mut sink = Sink::new(alloc, writer)?;
+    let found = verify_script(alloc, &mut script, &mut trace, &mut sink);
+    Ok((found, sink.into_inner()))
 }
 
 /// Verifies the trace of a file, or of standard input, against the script of a file.
-fn verify<R: AllocGlobal + Files + Print + Eprint + Input + Clock>(
+fn verify<R: AllocGlobal + Files + Eprint + Input + Clock, W: Write + Drop>(
     rt: &R,
     script: &str,
     trace: Option<&str>,
     progress: bool,
-) -> Result<u64, CheckFault> {
+    writer: W,
+) -> Result<(Result<u64, CheckFault>, W), AllocError> {
     let Ok(script) = std::fs::open(rt, script) else {
-        return Err(CheckFault::Script(RunFault::Read));
+        return Ok((Err(CheckFault::Script(RunFault::Read)), writer));
     };
-    match trace {
-        None => verify_from(rt, script, Counted::new(rt, rt.reader(), progress, None)),
-        Some(path) => match std::fs::open(rt, path) {
-            Ok(trace) => verify_from(rt, script, Counted::new(rt, trace, progress, None)),
-            Err(_) => Err(CheckFault::Trace(VerifyFault::Lines(LinesFault::Read))),
-        },
+    let Some(path) = trace else {
+        let trace = Counted::new(rt, rt.reader(), progress, None);
+        return verify_from(rt.alloc(), script, trace, writer);
+    };
+    let Ok(trace) = std::fs::open(rt, path) else {
+        let unread = VerifyFault::Lines(LinesFault::Read);
+        return Ok((Err(CheckFault::Trace(unread)), writer));
+    };
+    let trace = Counted::new(rt, trace, progress, None);
+    verify_from(rt.alloc(), script, trace, writer)
+}
+
+/// Verifies so, and says on standard output how it ended, in words.
+fn verify_in_words<R: AllocGlobal + Files + Print + Eprint + Input + Clock>(
+    rt: &R,
+    script: &str,
+    trace: Option<&str>,
+    progress: bool,
+) -> u8
+    ensures { IsVerified result }
+{
+    match verify(rt, script, trace, progress, io::writer(rt)) {
+        Ok((found, _)) => end_verify(rt, &found),
+        Err(AllocError) => report(rt, memory_report()),
+    }
+}
+
+/// Verifies so, and gives how it ended, also as a JSON object.
+fn verify_to_object<R: AllocGlobal + Files + Eprint + Input + Clock>(
+    rt: &R,
+    script: &str,
+    trace: Option<&str>,
+    progress: bool,
+) -> Result<(Result<u64, CheckFault>, Vec<u8>), AllocError>
+    ensures { IfOk result (λ told. (report : List ℕ) × (told.1.items ≡ finding_object told.0 report)) }
+{
+    let (found, report) = verify(rt, script, trace, progress, Vec::new(rt.alloc()))?;
+    let mut object = Vec::new(rt.alloc());
+    write_finding(&found, report.as_slice(), &mut object)?;
+    Ok((found, object))
+}
+
+/// Verifies so, and says on standard output how it ended, as a JSON object.
+fn verify_as_json<R: AllocGlobal + Files + Print + Eprint + Input + Clock>(
+    rt: &R,
+    script: &str,
+    trace: Option<&str>,
+    progress: bool,
+) -> u8
+    ensures { IsVerified result }
+{
+    let Ok((found, object)) = verify_to_object(rt, script, trace, progress) else {
+        return report(rt, memory_report());
+    };
+    let Ok(mut sink) = Sink::new(rt.alloc(), io::writer(rt)) else {
+        return report(rt, memory_report());
+    };
+    if sink.write_whole(object.as_slice()).is_err() {
+        return report(rt, write_report());
+    }
+    match &found {
+        Ok(_) => SUCCESS,
+        Err(fault) => end_unverified(rt, fault),
     }
 }
 
@@ -320,6 +384,16 @@ fn end_trace<R: Eprint>(rt: &R, fault: &VerifyFault) -> u8
     }
 }
 
+/// Says why a verification found no run, and answers the exit status.
+fn end_unverified<R: Eprint>(rt: &R, fault: &CheckFault) -> u8
+    ensures { IsVerifyStatus (Err fault.now) result }
+{
+    match fault {
+        CheckFault::Script(fault) => report(rt, run_report(fault)),
+        CheckFault::Trace(fault) => end_trace(rt, fault),
+    }
+}
+
 /// Says how a verification ended, and answers the exit status.
 fn end_verify<R: Print + Eprint>(rt: &R, outcome: &Result<u64, CheckFault>) -> u8
     ensures { IsVerifyStatus outcome.now result }
@@ -329,8 +403,7 @@ fn end_verify<R: Print + Eprint>(rt: &R, outcome: &Result<u64, CheckFault>) -> u
             Ok(()) => SUCCESS,
             Err(_) => report(rt, write_report()),
         },
-        Err(CheckFault::Script(fault)) => report(rt, run_report(fault)),
-        Err(CheckFault::Trace(fault)) => end_trace(rt, fault),
+        Err(fault) => end_unverified(rt, fault),
     }
 }
 
@@ -353,26 +426,28 @@ fn decode<R: AllocGlobal + Print>(
 fn decode_from<R: AllocGlobal + Print, S: Read + Drop>(
     rt: &R,
     reader: S,
+    form: MessageForm,
     upstream: bool,
     mask: Mask,
 ) -> Result<Option<FaultAt>, LinesFault> {
     let mut source = Source::endless(reader);
     let mut sink = Sink::new(rt.alloc(), io::writer(rt))?;
-    decode_lines(rt.alloc(), &mut source, &mut sink, upstream, mask)
+    decode_lines(rt.alloc(), &mut source, &mut sink, form, upstream, mask)
 }
 
 /// Says so of these codes, as if each were a line, or of each line of standard input.
 fn decode_all<R: AllocGlobal + Print + Input>(
     rt: &R,
     codes: Option<&[&str]>,
+    form: MessageForm,
     upstream: bool,
     mask: Mask,
 ) -> Result<Option<FaultAt>, LinesFault> {
     match codes {
-        None | Some(["-"]) => decode_from(rt, rt.reader(), upstream, mask),
+        None | Some(["-"]) => decode_from(rt, rt.reader(), form, upstream, mask),
         Some(codes) => {
             let text = joined(rt.alloc(), codes, b'\n')?;
-            decode_from(rt, text.as_slice(), upstream, mask)
+            decode_from(rt, text.as_slice(), form, upstream, mask)
         }
     }
 }
@@ -463,8 +538,15 @@ fn serve<R: AllocGlobal + Files + Print + Eprint + Input + Clock + Threads + Wai
         Request::Verify {
             script,
             trace,
+            form: MessageForm::Words,
             progress,
-        } => end_verify(rt, &verify(rt, script, trace, progress)),
+        } => verify_in_words(rt, script, trace, progress),
+        Request::Verify {
+            script,
+            trace,
+            form: MessageForm::Json,
+            progress,
+        } => verify_as_json(rt, script, trace, progress),
         Request::Decode {
             code,
             upstream,
@@ -475,9 +557,10 @@ fn serve<R: AllocGlobal + Files + Print + Eprint + Input + Clock + Threads + Wai
         },
         Request::DecodeLines {
             codes,
+            form,
             upstream,
             mask,
-        } => end_lines(rt, &decode_all(rt, codes, upstream, mask)),
+        } => end_lines(rt, &decode_all(rt, codes, form, upstream, mask)),
         Request::Encode {
             words,
             upstream,

@@ -1,10 +1,11 @@
 //! What a command line asks for.
 ghost use Rattle.std.specs.Prelude.{◌≡◌, ◌∷◌, [], true, IfSome, IfNone, Some, None, codes, option_map};
 ghost use Rattle.clap.specs.Words.{all_of, first_of, found_of, rows_of, subcommand_rows_of};
-ghost use Rattle.oltctl.specs.CommandLine.{file_named, form_named, mask_named};
+ghost use Rattle.oltctl.specs.CommandLine.{file_named, form_named, mask_named, message_form_named};
 ghost use Rattle.oltctl.specs.Requests.{Asks, AsksForForm, AsksForPlay, AsksForTrace, AsksNothing, AsksToCheck, AsksToDecode, AsksToDrive, AsksToEncode, AsksToExplain, AsksToReplay, AsksToStorm, AsksToVerify, name_in, texts};
 
 use clap::ArgMatches;
+use gp_decode::MessageForm;
 use gp_explain::Form;
 use gp_ploam::Mask;
 
@@ -50,11 +51,12 @@ pub enum Request<'m, 'a> {
         file: Option<&'a str>,
         progress: bool,
     },
-    /// Verify this trace, or that of standard input, against the script of this file; where `progress`, tell once a
-    /// second how many lines were read.
+    /// Verify this trace, or that of standard input, against the script of this file, and say in this form what was
+    /// found; where `progress`, tell once a second how many lines were read.
     Verify {
         script: &'a str,
         trace: Option<&'a str>,
+        form: MessageForm,
         progress: bool,
     },
     /// Say which message this code is, in hexadecimal digits: one of a unit where `upstream`, else one of the
@@ -64,9 +66,11 @@ pub enum Request<'m, 'a> {
         upstream: bool,
         mask: Mask,
     },
-    /// Say so of each of these codes, or, where there are none or `-` alone, of each line of standard input.
+    /// Say so in this form of each of these codes, or, where there are none or `-` alone, of each line of standard
+    /// input.
     DecodeLines {
         codes: Option<&'m [&'a str]>,
+        form: MessageForm,
         upstream: bool,
         mask: Mask,
     },
@@ -121,6 +125,16 @@ fn form_of(words: bool, format: Option<&str>) -> Form
         Some("json") => Form::Json,
         _ if words => Form::Words,
         _ => Form::Plain,
+    }
+}
+
+/// Gives what messages are written as, by the name of a format.
+fn message_form_of(format: Option<&str>) -> MessageForm
+    ensures { result ≡ message_form_named (name_in format.entry) }
+{
+    match format {
+        Some("json") => MessageForm::Json,
+        _ => MessageForm::Words,
     }
 }
 
@@ -201,6 +215,7 @@ fn verify_of<'m, 'a>(found: &'m ArgMatches<'a>) -> Option<Request<'m, 'a>>
     Some(Request::Verify {
         script: found.get_str("script")?,
         trace: file_of(found.get_str("trace")),
+        form: message_form_of(found.get_str("format")),
         progress: found.get_flag("progress"),
     })
 }
@@ -222,14 +237,16 @@ fn decode_of<'m, 'a>(found: &'m ArgMatches<'a>) -> Request<'m, 'a>
     let codes = found.get_strs("code");
     let upstream = found.get_flag("up");
     let mask = mask_of(found.get_str("mask"));
-    match code_alone(codes) {
-        Some(code) => Request::Decode {
+    let form = message_form_of(found.get_str("format"));
+    match (form, code_alone(codes)) {
+        (MessageForm::Words, Some(code)) => Request::Decode {
             code,
             upstream,
             mask,
         },
-        None => Request::DecodeLines {
+        _ => Request::DecodeLines {
             codes,
+            form,
             upstream,
             mask,
         },
