@@ -259,6 +259,84 @@ fn a_write_below_fails(rt: HostRuntime) -> Result<(), AllocError> {
     Ok(())
 }
 
+/// Counts the octets that came, and how often it was flushed.
+#[derive(Clone, Copy)]
+struct CountingWriter {
+    octets: usize,
+    flushes: usize,
+    can_flush: bool,
+}
+
+impl Write for CountingWriter {
+    fn write(&mut self, buffer: &[u8]) -> io::Result<usize> {
+        self.octets = self.octets.saturating_add(buffer.len());
+        Ok(buffer.len())
+    }
+
+    fn flush(&mut self) -> io::Result<()> {
+        self.flushes = self.flushes.saturating_add(1);
+        if self.can_flush {
+            Ok(())
+        } else {
+            Err(io::Error::from(ErrorKind::Other))
+        }
+    }
+}
+
+/// Whether octets were taken, whether so many flushes behind them were done, and what came below.
+fn flushed_by<B: Began, W: Write + Drop>(
+    alloc: Global,
+    telling: Telling,
+    octets: &[u8],
+    flushes: usize,
+    writer: W,
+) -> Result<(bool, bool, W), AllocError>
+    requires manner { telling ≡ B.manner }
+    requires held { W.contents writer ≡ B.held }
+{
+    let mut teller = Teller::<B, W>::new(alloc, telling, writer)?;
+    let taken = teller.write_all(octets).is_ok();
+    let mut done = true;
+    for _ in 0..flushes {
+        done = teller.flush().is_ok() && done;
+    }
+    Ok((taken, done, teller.into_inner()))
+}
+
+/// What was told is below once the teller is flushed, and not before, and the writer below is flushed behind it, once for
+/// what came. A flush below that fails is told by each call from then on, and the writer below is asked no more.
+#[test]
+fn flushes(rt: HostRuntime) -> Result<(), AllocError> {
+    let trace = b"0 7 frame = ok sent ff03004142434400000001001b\n0 8 frame = ok\n0 9 frame";
+    let words = b"0 7 frame = ok sent [Assign_ONU-ID 0 ABCD00000001]\n0 8 frame = ok\n";
+    // how many flushes are asked for and whether they can be done, and the octets and the flushes that are below
+    for (asked, can_flush, octets, flushes) in [
+        (0, true, 0, 0),
+        (1, true, words.len(), 1),
+        (2, true, words.len(), 1),
+        (1, false, words.len(), 1),
+        (2, false, words.len(), 1),
+    ] {
+        let telling = Telling::new(rt.alloc(), Mask::Plain, Form::Words, false);
+        let writer = CountingWriter {
+            octets: 0,
+            flushes: 0,
+            can_flush,
+        };
+        let (taken, done, below) = flushed_by::<Brand, CountingWriter>(
+            rt.alloc(),
+            telling,
+            trace,
+            asked,
+            writer,
+        )?;
+        assert!(rt; taken);
+        assert!(rt; done == (can_flush || asked == 0));
+        assert_eq!(rt; (below.octets, below.flushes), (octets, flushes));
+    }
+    Ok(())
+}
+
 /// How a replay ended whose trace is told, how the telling did, and what the writer below got.
 fn replayed<B: Began, W: Write + Drop>(
     alloc: Global,

@@ -1,12 +1,17 @@
 //! `olt_examples`: replays the scripts of `data/`, each of which stands beside its trace, and compares what each
-//! replay writes with that trace. It ends with status 1 where one is not as in its trace.
+//! replay writes with that trace, and each line's JSON object, as a JSON library reads it, with the line. It ends with
+//! status 1 where one is not as in its trace.
 //!
 //! It reads the folder where it runs, so that a new example takes three things: NAME.toml, NAME.trace, and its line in
 //! the crate's file `stdout`.
 #![tactic(auto)]
 
+mod objects;
+
 use gp_replay::{RunFault, run_replay};
+use gp_script::read_script;
 use gp_stream::{Sink, Source};
+use objects::other_objects;
 use std::alloc::{AllocError, Global};
 use std::process::ExitCode;
 use std::rt::Files;
@@ -45,7 +50,15 @@ fn common_lines(one: &[u8], other: &[u8]) -> usize {
         .count()
 }
 
-/// Tells whether a replay of the script is as the trace, and says in a line how it compares with it.
+/// Counts the lines of a script's trace of which something else is told as JSON.
+fn others_in(alloc: Global, script: &[u8], trace: &[u8]) -> Result<usize, AllocError> {
+    match (read_script(alloc, script), str::from_utf8(trace)) {
+        (Ok(script), Ok(trace)) => other_objects(alloc, script.mask, trace),
+        _ => Ok(0),
+    }
+}
+
+/// Tells whether a replay of the script is as the trace, also as JSON, and says in a line how it compares with it.
 fn verdict_of(
     alloc: Global,
     name: &str,
@@ -57,13 +70,17 @@ fn verdict_of(
         Err(fault) => return Ok((false, format!(in alloc; "{name}: {fault}")?)),
     };
     let lines = common_lines(&written, trace);
-    let right = written.as_slice() == trace;
-    let verdict = if right {
-        format!(in alloc; "{name}: {lines} lines, as in its trace")?
-    } else {
-        format!(in alloc; "{name}: another line than in its trace after {lines} lines")?
-    };
-    Ok((right, verdict))
+    if written.as_slice() != trace {
+        let verdict = format!(in alloc; "{name}: another line than in its trace after {lines} lines")?;
+        return Ok((false, verdict));
+    }
+    let others = others_in(alloc, script, trace)?;
+    if others > 0 {
+        let verdict = format!(in alloc; "{name}: of {others} lines something else as JSON")?;
+        return Ok((false, verdict));
+    }
+    let verdict = format!(in alloc; "{name}: {lines} lines, as in its trace")?;
+    Ok((true, verdict))
 }
 
 /// Replays each example of the folder, prints a line on each, and tells whether all are as in their traces.
