@@ -3,7 +3,7 @@ ghost use Rattle.std.specs.Option.{ForSome};
 ghost use Rattle.gp_ploam.specs.Down.{IsProperDown};
 ghost use Rattle.gp_trace.specs.Text.{line_of};
 
-use gp_machine::Receipt;
+use gp_machine::{Entry, Receipt};
 use gp_ploam::Mask;
 use gp_trace::MAX_LINE;
 use std::alloc::{AllocError, Global};
@@ -13,18 +13,21 @@ use std::marker::Model;
 /// memory. Contracts see the line that was built last.
 #[derive(Drop)]
 pub struct LineBuffer {
+    /// As many bytes as the longest line has.
     bytes: Vec<u8>,
+    /// Where the line begins that was built last: it ends with the bytes.
+    start: usize,
 }
 
 impl Model for LineBuffer {
-    ghost use Rattle.std.specs.Prelude.{ℕ, List, ◌≤◌, vec_capacity};
+    ghost use Rattle.std.specs.Prelude.{ℕ, List, ◌≤◌, drop, vec_len};
     ghost use Rattle.gp_trace.specs.declared.line.TheConstants.{MAX_LINE};
 
     ghost Value = { List ℕ };
 
-    ghost view = { λ b. b.bytes.items };
+    ghost view = { λ b. drop b.start b.bytes.items };
 
-    ghost invariant = { λ b. MAX_LINE ≤ vec_capacity b.bytes };
+    ghost invariant = { λ b. (MAX_LINE ≤ vec_len b.bytes) × (b.start ≤ vec_len b.bytes) };
 }
 
 impl LineBuffer {
@@ -32,8 +35,9 @@ impl LineBuffer {
     pub fn new(alloc: Global) -> Result<LineBuffer, AllocError>
         ensures { IfOk result (λ buffer. buffer ≡ []) }
     {
-        let bytes = Vec::with_capacity(alloc, MAX_LINE)?;
-        Ok(LineBuffer { bytes })
+        let bytes = vec![in alloc; 0; MAX_LINE]?;
+        let start = bytes.len();
+        Ok(LineBuffer { bytes, start })
     }
 
     /// Builds the line of an entry.
@@ -41,14 +45,21 @@ impl LineBuffer {
         requires { ForSome receipt.now.entry.answer.sent IsProperDown }
         ensures { self.new ≡ line_of mask receipt.now }
     {
-        self.bytes.clear();
-        gp_trace::push_line(&mut self.bytes, mask, receipt).unwrap();
+        self.start = gp_trace::write_line(&mut self.bytes, mask, receipt);
+    }
+
+    /// Builds the line of an entry that has this number on this port.
+    pub fn build_entry(&mut self, mask: Mask, port: u8, number: u64, entry: &Entry)
+        requires { ForSome entry.now.answer.sent IsProperDown }
+        ensures { self.new ≡ line_of mask (record { port = port; number = number; entry = entry.now }) }
+    {
+        self.start = gp_trace::write_entry(&mut self.bytes, mask, port, number, entry);
     }
 
     /// Gives the line that was built last.
     pub fn as_bytes(&self) -> &[u8]
         ensures { result.now ≡ self.now }
     {
-        self.bytes.as_slice()
+        &self.bytes[self.start..]
     }
 }

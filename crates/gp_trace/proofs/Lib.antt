@@ -1,1 +1,3 @@
+pub mod NumberLemmas
 pub mod AllocsLemmas
+pub mod WritesLemmas

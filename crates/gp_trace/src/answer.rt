@@ -1,61 +1,71 @@
-ghost use Rattle.std.specs.Prelude.{◌+◌, ◌≤◌, vec_len, vec_capacity};
+ghost use Rattle.std.specs.Prelude.{◌+◌, ◌≤◌, length};
 ghost use Rattle.std.specs.Option.{ForSome};
 ghost use Rattle.gp_ploam.specs.Down.{IsProperDown};
-ghost use Rattle.gp_trace.specs.Pushes.{Pushes};
+ghost use Rattle.gp_trace.specs.Writes.{Writes};
 ghost use Rattle.gp_trace.specs.Text.{alarm_text, answer_text, grant_text, sent_text};
 
-use crate::pieces::{push_code, push_numbered, push_of_unit, push_text};
-use crate::reply::push_reply;
+use crate::pieces::{write_code, write_numbered, write_of_unit, write_text};
+use crate::reply::write_reply;
 use gp_alarms::Alarm;
 use gp_machine::Answer;
 use gp_ploam::{Down, Mask};
 use gp_ranging::Grant;
 
-/// Appends the code of the message that was sent, where there is one.
-fn push_sent(out: &mut Vec<u8>, mask: Mask, sent: &Option<Down>)
+/// Writes the code of the message that was sent, where there is one.
+fn write_sent(line: &mut [u8], end: usize, mask: Mask, sent: &Option<Down>) -> usize
     requires proper { ForSome sent.now IsProperDown }
-    requires room { vec_len out.old + 32 ≤ vec_capacity out.old }
-    ensures { Pushes 32 (sent_text mask sent.now) out.old out.new }
+    requires room { 32 ≤ end }
+    requires within { end ≤ length line.old }
+    ensures { Writes 32 (sent_text mask sent.now) line.old end line.new result }
 {
-    if let Some(message) = sent {
-        push_text(out, " sent ");
-        push_code(out, &gp_ploam::encode_down(message, mask));
+    match sent {
+        None => end,
+        Some(message) => {
+            let at = write_code(line, end, &gp_ploam::encode_down(message, mask));
+            write_text(line, at, " sent ")
+        }
     }
 }
 
-/// Appends the grant that was issued, where there is one.
-fn push_grant(out: &mut Vec<u8>, grant: &Option<Grant>)
-    requires room { vec_len out.old + 23 ≤ vec_capacity out.old }
-    ensures { Pushes 23 (grant_text grant.now) out.old out.new }
+/// Writes the grant that was issued, where there is one.
+fn write_grant(line: &mut [u8], end: usize, grant: &Option<Grant>) -> usize
+    requires room { 23 ≤ end }
+    requires within { end ≤ length line.old }
+    ensures { Writes 23 (grant_text grant.now) line.old end line.new result }
 {
     match *grant {
-        None => {}
-        Some(Grant::Search) => push_text(out, " grant search"),
-        Some(Grant::Range(onu)) => push_numbered(out, " grant range", u32::from(onu)),
-        Some(Grant::Poll(onu)) => push_numbered(out, " grant poll", u32::from(onu)),
+        None => end,
+        Some(Grant::Search) => write_text(line, end, " grant search"),
+        Some(Grant::Range(onu)) => write_numbered(line, end, " grant range", u32::from(onu)),
+        Some(Grant::Poll(onu)) => write_numbered(line, end, " grant poll", u32::from(onu)),
     }
 }
 
-/// Appends the alarm that was raised, where there is one.
-fn push_alarm(out: &mut Vec<u8>, alarm: &Option<Alarm>)
-    requires room { vec_len out.old + 28 ≤ vec_capacity out.old }
-    ensures { Pushes 28 (alarm_text alarm.now) out.old out.new }
+/// Writes the alarm that was raised, where there is one.
+fn write_alarm(line: &mut [u8], end: usize, alarm: &Option<Alarm>) -> usize
+    requires room { 28 ≤ end }
+    requires within { end ≤ length line.old }
+    ensures { Writes 28 (alarm_text alarm.now) line.old end line.new result }
 {
-    if let Some(alarm) = alarm {
-        push_text(out, " alarm ");
-        push_of_unit(out, alarm.kind.name(), &alarm.serial);
+    match alarm {
+        None => end,
+        Some(alarm) => {
+            let at = write_of_unit(line, end, alarm.kind.name(), &alarm.serial);
+            write_text(line, at, " alarm ")
+        }
     }
 }
 
-/// Appends what the port gave for an event. The message that it sent is written as its code under
+/// Writes what the port gave for an event. The message that it sent is written as its code under
 /// the mask.
-pub(crate) fn push_answer(out: &mut Vec<u8>, mask: Mask, answer: &Answer)
+pub(crate) fn write_answer(line: &mut [u8], end: usize, mask: Mask, answer: &Answer) -> usize
     requires proper { ForSome answer.now.sent IsProperDown }
-    requires room { vec_len out.old + 183 ≤ vec_capacity out.old }
-    ensures { Pushes 183 (answer_text mask answer.now) out.old out.new }
+    requires room { 183 ≤ end }
+    requires within { end ≤ length line.old }
+    ensures { Writes 183 (answer_text mask answer.now) line.old end line.new result }
 {
-    push_reply(out, &answer.reply);
-    push_sent(out, mask, &answer.sent);
-    push_grant(out, &answer.grant);
-    push_alarm(out, &answer.alarm);
+    let at = write_alarm(line, end, &answer.alarm);
+    let at = write_grant(line, at, &answer.grant);
+    let at = write_sent(line, at, mask, &answer.sent);
+    write_reply(line, at, &answer.reply)
 }

@@ -1,59 +1,63 @@
-ghost use Rattle.std.specs.Prelude.{◌+◌, ◌≤◌, vec_len, vec_capacity};
+ghost use Rattle.std.specs.Prelude.{◌+◌, ◌≤◌, length};
 ghost use Rattle.gp_machine.specs.declared.event.Command.TheVariants.{Dealloc};
-ghost use Rattle.gp_trace.specs.Pushes.{Pushes};
+ghost use Rattle.gp_trace.specs.Writes.{Writes};
 ghost use Rattle.gp_trace.specs.Text.{command_text, event_text};
 
-use crate::pieces::{push_code, push_number, push_numbered, push_of_unit, push_text};
+use crate::pieces::{write_code, write_numbered, write_of_unit, write_text, write_u16};
 use gp_machine::{Command, Event};
 use gp_ploam::Serial;
 
-/// Appends that a unit is to give an Alloc-ID back.
-fn push_dealloc(out: &mut Vec<u8>, serial: &Serial, alloc: u16)
-    requires room { vec_len out.old + 30 ≤ vec_capacity out.old }
-    ensures { Pushes 30 (command_text (Dealloc serial.now alloc)) out.old out.new }
+/// Writes that a unit is to give an Alloc-ID back.
+fn write_dealloc(line: &mut [u8], end: usize, serial: &Serial, alloc: u16) -> usize
+    requires room { 30 ≤ end }
+    requires within { end ≤ length line.old }
+    ensures { Writes 30 (command_text (Dealloc serial.now alloc)) line.old end line.new result }
 {
-    push_of_unit(out, "dealloc", serial);
-    push_text(out, " ");
-    push_number(out, alloc);
+    let at = write_u16(line, end, alloc);
+    let at = write_text(line, at, " ");
+    write_of_unit(line, at, "dealloc", serial)
 }
 
-/// Appends what the operator asked for.
-fn push_command(out: &mut Vec<u8>, command: &Command)
-    requires room { vec_len out.old + 30 ≤ vec_capacity out.old }
-    ensures { Pushes 30 (command_text command.now) out.old out.new }
+/// Writes what the operator asked for.
+fn write_command(line: &mut [u8], end: usize, command: &Command) -> usize
+    requires room { 30 ≤ end }
+    requires within { end ≤ length line.old }
+    ensures { Writes 30 (command_text command.now) line.old end line.new result }
 {
     match command {
-        Command::Search => push_text(out, "search"),
-        Command::Alloc(serial) => push_of_unit(out, "alloc", serial),
-        Command::Dealloc { serial, alloc } => push_dealloc(out, serial, *alloc),
-        Command::Deactivate(serial) => push_of_unit(out, "deactivate", serial),
-        Command::Disable(serial) => push_of_unit(out, "disable", serial),
-        Command::Enable(serial) => push_of_unit(out, "enable", serial),
-        Command::EnableAll => push_text(out, "enable-all"),
-        Command::Popup(serial) => push_of_unit(out, "popup", serial),
-        Command::PopupAll => push_text(out, "popup-all"),
-        Command::Show(serial) => push_of_unit(out, "show", serial),
+        Command::Search => write_text(line, end, "search"),
+        Command::Alloc(serial) => write_of_unit(line, end, "alloc", serial),
+        Command::Dealloc { serial, alloc } => write_dealloc(line, end, serial, *alloc),
+        Command::Deactivate(serial) => write_of_unit(line, end, "deactivate", serial),
+        Command::Disable(serial) => write_of_unit(line, end, "disable", serial),
+        Command::Enable(serial) => write_of_unit(line, end, "enable", serial),
+        Command::EnableAll => write_text(line, end, "enable-all"),
+        Command::Popup(serial) => write_of_unit(line, end, "popup", serial),
+        Command::PopupAll => write_text(line, end, "popup-all"),
+        Command::Show(serial) => write_of_unit(line, end, "show", serial),
     }
 }
 
-/// Appends a burst, with its round-trip delay in bit times and its octets.
-fn push_burst(out: &mut Vec<u8>, at: u32, bytes: &[u8; 13])
-    requires room { vec_len out.old + 43 ≤ vec_capacity out.old }
-    ensures { Pushes 43 (event_text (Event.Burst at bytes.now)) out.old out.new }
+/// Writes a burst, with its round-trip delay in bit times and its octets.
+fn write_burst(line: &mut [u8], end: usize, at: u32, bytes: &[u8; 13]) -> usize
+    requires room { 43 ≤ end }
+    requires within { end ≤ length line.old }
+    ensures { Writes 43 (event_text (Event.Burst at bytes.now)) line.old end line.new result }
 {
-    push_numbered(out, "burst", at);
-    push_text(out, " ");
-    push_code(out, bytes);
+    let start = write_code(line, end, bytes);
+    let start = write_text(line, start, " ");
+    write_numbered(line, start, "burst", at)
 }
 
-/// Appends what happened at the port.
-pub(crate) fn push_event(out: &mut Vec<u8>, event: &Event)
-    requires room { vec_len out.old + 43 ≤ vec_capacity out.old }
-    ensures { Pushes 43 (event_text event.now) out.old out.new }
+/// Writes what happened at the port.
+pub(crate) fn write_event(line: &mut [u8], end: usize, event: &Event) -> usize
+    requires room { 43 ≤ end }
+    requires within { end ≤ length line.old }
+    ensures { Writes 43 (event_text event.now) line.old end line.new result }
 {
     match event {
-        Event::Frame => push_text(out, "frame"),
-        Event::Burst { at, bytes } => push_burst(out, *at, bytes),
-        Event::Command(command) => push_command(out, command),
+        Event::Frame => write_text(line, end, "frame"),
+        Event::Burst { at, bytes } => write_burst(line, end, *at, bytes),
+        Event::Command(command) => write_command(line, end, command),
     }
 }

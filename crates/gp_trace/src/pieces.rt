@@ -1,65 +1,109 @@
-ghost use Rattle.std.specs.Prelude.{◌+◌, ◌≤◌, ◌++◌, length, codes, decimal, vec_len, vec_capacity};
-ghost use Rattle.gp_trace.specs.Pushes.{Pushes};
+ghost use Rattle.std.specs.Prelude.{◌+◌, ◌≤◌, length, decimal};
+ghost use Rattle.gp_trace.specs.Writes.{Writes};
 ghost use Rattle.gp_trace.specs.Reply.{numbered};
 ghost use Rattle.gp_trace.specs.Text.{of_unit};
-ghost use Rattle.gp_serial.specs.Spelling.{text_of_serial};
 ghost use Rattle.hex.specs.Hex.{encode_lower};
 
 use gp_ploam::Serial;
 use gp_serial::SerialText;
-use itoa::{Buffer, Integer};
+use itoa::write_digits;
 
-/// Appends a text, for which there is room, as in each function of this crate.
-pub(crate) fn push_text(out: &mut Vec<u8>, text: &str)
-    requires room { vec_len out.old + length text.now ≤ vec_capacity out.old }
-    ensures { Pushes (length text.now) text.now out.old out.new }
+/// How many digits a code has.
+const CODE_DIGITS: usize = 26;
+
+/// Writes a text so that it ends at `end`, and tells where it begins, as each function of this crate.
+#[inline(always)]
+pub(crate) fn write_text(line: &mut [u8], end: usize, text: &str) -> usize
+    requires room { length text.now ≤ end }
+    requires within { end ≤ length line.old }
+    ensures { Writes (length text.now) text.now line.old end line.new result }
 {
-    push_bytes(out, text.as_bytes());
+    write_bytes(line, end, text.as_bytes())
 }
 
-/// Appends bytes.
-fn push_bytes(out: &mut Vec<u8>, bytes: &[u8])
-    requires room { vec_len out.old + length bytes.now ≤ vec_capacity out.old }
-    ensures { Pushes (length bytes.now) bytes.now out.old out.new }
+/// Writes bytes.
+#[inline(always)]
+fn write_bytes(line: &mut [u8], end: usize, bytes: &[u8]) -> usize
+    requires room { length bytes.now ≤ end }
+    requires within { end ≤ length line.old }
+    ensures { Writes (length bytes.now) bytes.now line.old end line.new result }
 {
-    out.extend_from_slice(bytes).unwrap();
+    let start = end - bytes.len();
+    line[start..end].copy_from_slice(bytes);
+    start
 }
 
-/// Appends a number in decimal digits.
-pub(crate) fn push_number<I: Integer>(out: &mut Vec<u8>, number: I)
-    requires room { vec_len out.old + I.MAX_STR_LEN ≤ vec_capacity out.old }
-    ensures { Pushes I.MAX_STR_LEN (I.text number) out.old out.new }
+/// Writes a number in decimal digits.
+#[inline(always)]
+pub(crate) fn write_u64(line: &mut [u8], end: usize, number: u64) -> usize
+    requires room { 20 ≤ end }
+    requires within { end ≤ length line.old }
+    ensures { Writes 20 (decimal number) line.old end line.new result }
 {
-    let mut buffer = Buffer::new();
-    push_bytes(out, buffer.format(number).as_bytes());
+    write_digits(number, line, end)
 }
 
-/// Appends a word and a number.
-pub(crate) fn push_numbered(out: &mut Vec<u8>, word: &str, number: u32)
-    requires room { vec_len out.old + length word.now + 11 ≤ vec_capacity out.old }
-    ensures { Pushes (length word.now + 11) (numbered word.now number) out.old out.new }
+/// Writes a number of 32 bits.
+#[inline(always)]
+pub(crate) fn write_u32(line: &mut [u8], end: usize, number: u32) -> usize
+    requires room { 10 ≤ end }
+    requires within { end ≤ length line.old }
+    ensures { Writes 10 (decimal number) line.old end line.new result }
 {
-    push_text(out, word);
-    push_text(out, " ");
-    push_number(out, number);
+    write_digits(u64::from(number), line, end)
 }
 
-/// Appends the octets of a code in 26 lower-case hexadecimal digits.
-pub(crate) fn push_code(out: &mut Vec<u8>, code: &[u8; 13])
-    requires room { vec_len out.old + 26 ≤ vec_capacity out.old }
-    ensures { Pushes 26 (encode_lower code.now) out.old out.new }
+/// Writes a number of 16 bits.
+#[inline(always)]
+pub(crate) fn write_u16(line: &mut [u8], end: usize, number: u16) -> usize
+    requires room { 5 ≤ end }
+    requires within { end ≤ length line.old }
+    ensures { Writes 5 (decimal number) line.old end line.new result }
 {
-    let mut digits = [0u8; 26];
-    hex::encode_to_slice(code.as_slice(), &mut digits).unwrap();
-    push_bytes(out, &digits);
+    write_digits(u64::from(number), line, end)
 }
 
-/// Appends a word and the text of a unit's serial number.
-pub(crate) fn push_of_unit(out: &mut Vec<u8>, word: &str, serial: &Serial)
-    requires room { vec_len out.old + length word.now + 17 ≤ vec_capacity out.old }
-    ensures { Pushes (length word.now + 17) (of_unit word.now serial.now) out.old out.new }
+/// Writes a number of eight bits.
+#[inline(always)]
+pub(crate) fn write_u8(line: &mut [u8], end: usize, number: u8) -> usize
+    requires room { 3 ≤ end }
+    requires within { end ≤ length line.old }
+    ensures { Writes 3 (decimal number) line.old end line.new result }
 {
-    push_text(out, word);
-    push_text(out, " ");
-    push_bytes(out, SerialText::of(serial).as_bytes());
+    write_digits(u64::from(number), line, end)
+}
+
+/// Writes a word and a number.
+#[inline(always)]
+pub(crate) fn write_numbered(line: &mut [u8], end: usize, word: &str, number: u32) -> usize
+    requires room { length word.now + 11 ≤ end }
+    requires within { end ≤ length line.old }
+    ensures { Writes (length word.now + 11) (numbered word.now number) line.old end line.new result }
+{
+    let at = write_u32(line, end, number);
+    let at = write_text(line, at, " ");
+    write_text(line, at, word)
+}
+
+/// Writes the octets of a code in 26 lower-case hexadecimal digits.
+#[inline(always)]
+pub(crate) fn write_code(line: &mut [u8], end: usize, code: &[u8; 13]) -> usize
+    requires room { 26 ≤ end }
+    requires within { end ≤ length line.old }
+    ensures { Writes 26 (encode_lower code.now) line.old end line.new result }
+{
+    let start = end - CODE_DIGITS;
+    hex::encode_to_slice(code.as_slice(), &mut line[start..end]).unwrap();
+    start
+}
+
+/// Writes a word and the text of a unit's serial number.
+pub(crate) fn write_of_unit(line: &mut [u8], end: usize, word: &str, serial: &Serial) -> usize
+    requires room { length word.now + 17 ≤ end }
+    requires within { end ≤ length line.old }
+    ensures { Writes (length word.now + 17) (of_unit word.now serial.now) line.old end line.new result }
+{
+    let at = write_bytes(line, end, SerialText::of(serial).as_bytes());
+    let at = write_text(line, at, " ");
+    write_text(line, at, word)
 }

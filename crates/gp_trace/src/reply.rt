@@ -1,83 +1,90 @@
-ghost use Rattle.std.specs.Prelude.{◌+◌, ◌≤◌, vec_len, vec_capacity};
+ghost use Rattle.std.specs.Prelude.{◌+◌, ◌≤◌, length};
 ghost use Rattle.gp_machine.specs.declared.reply.Reply.TheVariants.{Ranged};
-ghost use Rattle.gp_trace.specs.Pushes.{Pushes};
+ghost use Rattle.gp_trace.specs.Writes.{Writes};
 ghost use Rattle.gp_trace.specs.Reply.{phase_text, refusal_text, reply_text, row_text};
 
-use crate::allocs::push_allocs;
-use crate::pieces::{push_number, push_numbered, push_text};
+use crate::allocs::write_allocs;
+use crate::pieces::{write_numbered, write_text, write_u32};
 use gp_machine::{Phase, Refusal, Reply, Row};
 
-/// Appends a refusal, by its number and its name.
-fn push_refusal(out: &mut Vec<u8>, refusal: Refusal)
-    requires room { vec_len out.old + 36 ≤ vec_capacity out.old }
-    ensures { Pushes 36 (refusal_text refusal) out.old out.new }
+/// Writes a refusal, by its number and its name.
+fn write_refusal(line: &mut [u8], end: usize, refusal: Refusal) -> usize
+    requires room { 36 ≤ end }
+    requires within { end ≤ length line.old }
+    ensures { Writes 36 (refusal_text refusal) line.old end line.new result }
 {
-    push_numbered(out, "refused", u32::from(refusal.number()));
-    push_text(out, " ");
-    push_text(out, refusal.name());
+    let at = write_text(line, end, refusal.name());
+    let at = write_text(line, at, " ");
+    write_numbered(line, at, "refused", u32::from(refusal.number()))
 }
 
-/// Appends that a unit is ranged, with its equalization delay in bit times.
-fn push_ranged(out: &mut Vec<u8>, onu: u8, eqd: u32)
-    requires room { vec_len out.old + 28 ≤ vec_capacity out.old }
-    ensures { Pushes 28 (reply_text (Ranged onu eqd)) out.old out.new }
+/// Writes that a unit is ranged, with its equalization delay in bit times.
+fn write_ranged(line: &mut [u8], end: usize, onu: u8, eqd: u32) -> usize
+    requires room { 28 ≤ end }
+    requires within { end ≤ length line.old }
+    ensures { Writes 28 (reply_text (Ranged onu eqd)) line.old end line.new result }
 {
-    push_numbered(out, "ranged", u32::from(onu));
-    push_text(out, " ");
-    push_number(out, eqd);
+    let at = write_u32(line, end, eqd);
+    let at = write_text(line, at, " ");
+    write_numbered(line, at, "ranged", u32::from(onu))
 }
 
-/// Appends how far the activation of a unit has gone.
-fn push_phase(out: &mut Vec<u8>, phase: &Phase)
-    requires room { vec_len out.old + 20 ≤ vec_capacity out.old }
-    ensures { Pushes 20 (phase_text phase.now) out.old out.new }
+/// Writes how far the activation of a unit has gone.
+fn write_phase(line: &mut [u8], end: usize, phase: &Phase) -> usize
+    requires room { 20 ≤ end }
+    requires within { end ≤ length line.old }
+    ensures { Writes 20 (phase_text phase.now) line.old end line.new result }
 {
     match *phase {
-        Phase::Ranging { attempts, .. } => push_numbered(out, "ranging", u32::from(attempts)),
-        Phase::Operating { eqd, .. } => push_numbered(out, "operating", eqd),
+        Phase::Ranging { attempts, .. } => {
+            write_numbered(line, end, "ranging", u32::from(attempts))
+        }
+        Phase::Operating { eqd, .. } => write_numbered(line, end, "operating", eqd),
     }
 }
 
-/// Appends what a port knows of a unit.
-fn push_row(out: &mut Vec<u8>, row: &Row)
-    requires room { vec_len out.old + 100 ≤ vec_capacity out.old }
-    ensures { Pushes 100 (row_text row.now) out.old out.new }
+/// Writes what a port knows of a unit.
+fn write_row(line: &mut [u8], end: usize, row: &Row) -> usize
+    requires room { 100 ≤ end }
+    requires within { end ≤ length line.old }
+    ensures { Writes 100 (row_text row.now) line.old end line.new result }
 {
-    push_numbered(out, "unit", u32::from(row.onu));
-    push_text(out, " ");
-    push_phase(out, &row.phase);
-    push_text(out, " allocs ");
-    push_allocs(out, &row.allocs.slots());
+    let at = write_allocs(line, end, &row.allocs.slots());
+    let at = write_text(line, at, " allocs ");
+    let at = write_phase(line, at, &row.phase);
+    let at = write_text(line, at, " ");
+    write_numbered(line, at, "unit", u32::from(row.onu))
 }
 
-/// Appends what the port replied.
-pub(crate) fn push_reply(out: &mut Vec<u8>, reply: &Reply)
-    requires room { vec_len out.old + 100 ≤ vec_capacity out.old }
-    ensures { Pushes 100 (reply_text reply.now) out.old out.new }
+/// Writes what the port replied.
+pub(crate) fn write_reply(line: &mut [u8], end: usize, reply: &Reply) -> usize
+    requires room { 100 ≤ end }
+    requires within { end ≤ length line.old }
+    ensures { Writes 100 (reply_text reply.now) line.old end line.new result }
 {
     match *reply {
-        Reply::Ticked => push_text(out, "ok"),
-        Reply::Refused(refusal) => push_refusal(out, refusal),
-        Reply::Searching => push_text(out, "searching"),
-        Reply::Found(onu) => push_numbered(out, "found", u32::from(onu)),
-        Reply::Again(onu) => push_numbered(out, "again", u32::from(onu)),
-        Reply::Repeat(onu) => push_numbered(out, "repeat", u32::from(onu)),
-        Reply::Restarted(onu) => push_numbered(out, "restarted", u32::from(onu)),
-        Reply::DisabledSeen => push_text(out, "disabled-seen"),
-        Reply::Ranged { onu, eqd } => push_ranged(out, onu, eqd),
-        Reply::TooFar(onu) => push_numbered(out, "too-far", u32::from(onu)),
-        Reply::StillRanging(onu) => push_numbered(out, "still-ranging", u32::from(onu)),
-        Reply::Alive(onu) => push_numbered(out, "alive", u32::from(onu)),
-        Reply::Acked(alloc) => push_numbered(out, "acked", u32::from(alloc)),
-        Reply::Gasp(onu) => push_numbered(out, "gasp", u32::from(onu)),
-        Reply::Allocated(alloc) => push_numbered(out, "allocated", u32::from(alloc)),
-        Reply::Releasing(alloc) => push_numbered(out, "releasing", u32::from(alloc)),
-        Reply::Deactivated(onu) => push_numbered(out, "deactivated", u32::from(onu)),
-        Reply::Disabled => push_text(out, "disabled"),
-        Reply::Enabled => push_text(out, "enabled"),
-        Reply::EnabledAll => push_text(out, "enabled-all"),
-        Reply::PoppedUp(onu) => push_numbered(out, "popped-up", u32::from(onu)),
-        Reply::PoppedUpAll(count) => push_numbered(out, "popped-up-all", u32::from(count)),
-        Reply::Shown(row) => push_row(out, &row),
+        Reply::Ticked => write_text(line, end, "ok"),
+        Reply::Refused(refusal) => write_refusal(line, end, refusal),
+        Reply::Searching => write_text(line, end, "searching"),
+        Reply::Found(onu) => write_numbered(line, end, "found", u32::from(onu)),
+        Reply::Again(onu) => write_numbered(line, end, "again", u32::from(onu)),
+        Reply::Repeat(onu) => write_numbered(line, end, "repeat", u32::from(onu)),
+        Reply::Restarted(onu) => write_numbered(line, end, "restarted", u32::from(onu)),
+        Reply::DisabledSeen => write_text(line, end, "disabled-seen"),
+        Reply::Ranged { onu, eqd } => write_ranged(line, end, onu, eqd),
+        Reply::TooFar(onu) => write_numbered(line, end, "too-far", u32::from(onu)),
+        Reply::StillRanging(onu) => write_numbered(line, end, "still-ranging", u32::from(onu)),
+        Reply::Alive(onu) => write_numbered(line, end, "alive", u32::from(onu)),
+        Reply::Acked(alloc) => write_numbered(line, end, "acked", u32::from(alloc)),
+        Reply::Gasp(onu) => write_numbered(line, end, "gasp", u32::from(onu)),
+        Reply::Allocated(alloc) => write_numbered(line, end, "allocated", u32::from(alloc)),
+        Reply::Releasing(alloc) => write_numbered(line, end, "releasing", u32::from(alloc)),
+        Reply::Deactivated(onu) => write_numbered(line, end, "deactivated", u32::from(onu)),
+        Reply::Disabled => write_text(line, end, "disabled"),
+        Reply::Enabled => write_text(line, end, "enabled"),
+        Reply::EnabledAll => write_text(line, end, "enabled-all"),
+        Reply::PoppedUp(onu) => write_numbered(line, end, "popped-up", u32::from(onu)),
+        Reply::PoppedUpAll(count) => write_numbered(line, end, "popped-up-all", u32::from(count)),
+        Reply::Shown(row) => write_row(line, end, &row),
     }
 }
