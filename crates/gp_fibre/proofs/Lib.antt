@@ -9,3 +9,4 @@ pub mod StoredUnits
 pub mod Coming
 pub mod Parts
 pub mod Playing
+pub mod LostLemmas

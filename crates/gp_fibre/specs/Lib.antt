@@ -13,3 +13,4 @@ pub mod Schedule
 pub mod Forgetting
 pub mod Parts
 pub mod Room
+pub mod LostNumbers

@@ -6,7 +6,9 @@
 //!
 //! - `world.rt`: `World`, with its steps (`world_step.rt`), its faults (`fault.rt`) and what it begins with
 //!   (`unit_plan.rt`).
-//! - `running.rt`: the parts of a frame of `World::run`, which may lose copies and bursts (`loss_plan.rt`).
+//! - `running.rt`: the parts of a frame of `World::run` and `run_into`, which may lose copies and bursts, by a list of
+//!   them (`loss_plan.rt`) or in an order in which they are looked up in no time (`losses.rt`, `lost_numbers.rt`);
+//!   `lost.rt`: what both have in common.
 //! - `fibre.rt`: the port, the book of its licences, the units, and all that was sent (`sent_burst.rt`) and not
 //!   forgotten (`sent.rt`).
 //! - `unit_store.rt`, `stored_unit.rt`: the units, each brought up to date only where it has to be.
@@ -28,6 +30,9 @@ mod flight;
 mod flights;
 mod laws;
 mod loss_plan;
+mod losses;
+mod lost;
+mod lost_numbers;
 mod running;
 mod sent;
 mod sent_burst;
@@ -45,6 +50,8 @@ pub use laws::{
     units_are_told,
 };
 pub use loss_plan::LossPlan;
+pub use losses::Losses;
+pub use lost_numbers::LostNumbers;
 pub use sent::MAX_FORGOTTEN;
 pub use sent_burst::SentBurst;
 pub use unit_plan::UnitPlan;

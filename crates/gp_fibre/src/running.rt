@@ -15,20 +15,13 @@ ghost use Rattle.gp_fibre.specs.Schedule as spec;
 use super::fibre::Fibre;
 use super::flight::Flight;
 use super::flights::Flights;
-use super::loss_plan::LossPlan;
+use super::lost::Lost;
 use super::sent_burst::SentBurst;
 use gp_machine::{Entry, Event};
 use gp_onu::FRAME_BIT_TIMES;
 use gp_ploam::Down;
 use gp_ranging::Grant;
 use std::sync::ledger::Ledger;
-
-/// Tells whether a number is one of those that are lost.
-fn is_lost(lost: &[u64], number: u64) -> bool
-    ensures { result ≡ spec.is_lost lost.now number }
-{
-    lost.iter().any(|other| *other == number)
-}
 
 /// Lets a copy reach each unit, one after the other. Those without the ONU-ID that it is meant for are the same after
 /// it, so they are passed over.
@@ -100,19 +93,25 @@ fn give_all<L: Ledger>(
 }
 
 /// Lets the copy that was sent with this number, if one was, and is not lost, reach each unit.
-pub(super) fn pass_on<L: Ledger>(fibre: &mut Fibre<L>, copy: u64, sent: Option<Down>, lost: &[u64])
+pub(super) fn pass_on<L: Ledger, N: Lost>(
+    fibre: &mut Fibre<L>,
+    copy: u64,
+    sent: Option<Down>,
+    lost: &mut N,
+)
     requires sent { ForSome sent (λ message.
         kept_at fibre.old.world.forgotten.copies fibre.old.world.copies copy ≡ Some message) }
     requires proper { ForSome sent IsProperDown }
     ensures taken { UnitsTake fibre.old.world
-        (spec.inputs_of_copy lost.now copy (length fibre.old.world.units) sent) fibre.new.world }
+        (spec.inputs_of_copy (N.lost lost.old) copy (length fibre.old.world.units) sent) fibre.new.world }
     ensures bursts { fibre.new.world.bursts ≡ fibre.old.world.bursts }
     ensures rest { fibre.new ≡ record fibre.old { world = fibre.new.world } }
+    ensures lost { N.lost lost.new ≡ N.lost lost.old }
 {
     let Some(message) = sent else {
         return;
     };
-    if is_lost(lost, copy) {
+    if lost.is_lost(copy) {
         return;
     }
     deliver_all(fibre, copy, &message);
@@ -144,20 +143,21 @@ pub(super) fn give_on<L: Ledger>(
 }
 
 /// Gives the port the bursts that come in this frame, but for those that are lost.
-fn arrive_all<L: Ledger>(
+fn arrive_all<L: Ledger, N: Lost>(
     fibre: &mut Fibre<L>,
     flights: &[Flight],
     entries: &mut Vec<Entry>,
-    lost: &[u64],
+    lost: &mut N,
     frame: u64,
 )
     requires room { HasEventRoom (length flights.now) fibre.old entries.old }
     requires kept { AreKept fibre.old.world flights.now }
     requires proper { All IsProperEntry entries.old.items }
     ensures puts { PortPuts fibre.old.world
-        (spec.arrivals lost.now frame flights.now) entries.old.items entries.new.items fibre.new.world }
+        (spec.arrivals (N.lost lost.old) frame flights.now) entries.old.items entries.new.items fibre.new.world }
     ensures counts { KeepsCounts fibre.old fibre.new }
     ensures proper { All IsProperEntry entries.new.items }
+    ensures lost { N.lost lost.new ≡ N.lost lost.old }
 {
     for place in 0..flights.len() {
         arrive(fibre, flights[place], entries, lost, frame);
@@ -165,11 +165,11 @@ fn arrive_all<L: Ledger>(
 }
 
 /// Gives the port a burst, if it comes in this frame and is not lost.
-fn arrive<L: Ledger>(
+fn arrive<L: Ledger, N: Lost>(
     fibre: &mut Fibre<L>,
     flight: Flight,
     entries: &mut Vec<Entry>,
-    lost: &[u64],
+    lost: &mut N,
     frame: u64,
 )
     requires room { HasEventRoom 1 fibre.old entries.old }
@@ -177,12 +177,13 @@ fn arrive<L: Ledger>(
     requires number { flight.number < length fibre.old.world.bursts }
     requires proper { All IsProperEntry entries.old.items }
     ensures puts { PortPuts fibre.old.world
-        (spec.arrivals lost.now frame (flight ∷ [])) entries.old.items entries.new.items fibre.new.world }
+        (spec.arrivals (N.lost lost.old) frame (flight ∷ [])) entries.old.items entries.new.items fibre.new.world }
     ensures counts { KeepsCounts fibre.old fibre.new }
     ensures room { TakesEventRoom 1 fibre.old fibre.new entries.old entries.new }
     ensures proper { All IsProperEntry entries.new.items }
+    ensures lost { N.lost lost.new ≡ N.lost lost.old }
 {
-    if !flight.is_due(frame) || is_lost(lost, flight.number) {
+    if !flight.is_due(frame) || lost.is_lost(flight.number) {
         return;
     }
     let Some(burst) = fibre.burst_at(flight.number) else {
@@ -194,11 +195,11 @@ fn arrive<L: Ledger>(
 
 /// Gives the port the bursts that come in this frame, but for those that are lost, and takes them away from those
 /// that are to come. Where none comes, it walks over none.
-fn land<L: Ledger>(
+fn land<L: Ledger, N: Lost>(
     fibre: &mut Fibre<L>,
     flights: &mut Flights,
     entries: &mut Vec<Entry>,
-    lost: &[u64],
+    lost: &mut N,
     frame: u64,
 )
     requires room { HasEventRoom (length flights.old.flights) fibre.old entries.old }
@@ -206,10 +207,11 @@ fn land<L: Ledger>(
     requires reach { AreInReach frame flights.old.flights }
     requires proper { All IsProperEntry entries.old.items }
     ensures puts { PortPuts fibre.old.world
-        (spec.arrivals lost.now frame flights.old.flights) entries.old.items entries.new.items fibre.new.world }
+        (spec.arrivals (N.lost lost.old) frame flights.old.flights) entries.old.items entries.new.items fibre.new.world }
     ensures left { flights.new.flights ≡ spec.flights_after frame flights.old.flights }
     ensures counts { KeepsCounts fibre.old fibre.new }
     ensures proper { All IsProperEntry entries.new.items }
+    ensures lost { N.lost lost.new ≡ N.lost lost.old }
 {
     if !flights.comes_in(frame) {
         return;
@@ -219,11 +221,11 @@ fn land<L: Ledger>(
 }
 
 /// Makes the port's part of a frame, and what follows from what it sends and grants.
-fn ask<L: Ledger>(
+fn ask<L: Ledger, N: Lost>(
     fibre: &mut Fibre<L>,
     flights: &mut Flights,
     entries: &mut Vec<Entry>,
-    lost: &[u64],
+    lost: &mut N,
     frame: u64,
 )
     requires room { HasEventRoom 1 fibre.old entries.old }
@@ -231,12 +233,13 @@ fn ask<L: Ledger>(
     requires frame { frame < MAX_FRAMES }
     requires reach { AreInReach frame flights.old.flights }
     requires proper { All IsProperEntry entries.old.items }
-    ensures asks { Asks lost.now fibre.old.world entries.old.items entries.new.items fibre.new.world }
+    ensures asks { Asks (N.lost lost.old) fibre.old.world entries.old.items entries.new.items fibre.new.world }
     ensures comes { Comes frame fibre.old.world flights.old.flights fibre.new.world flights.new.flights }
     ensures reach { AreInReach frame flights.new.flights }
     ensures counts { KeepsCounts fibre.old fibre.new }
     ensures room { TakesEventRoom 1 fibre.old fibre.new entries.old entries.new }
     ensures proper { All IsProperEntry entries.new.items }
+    ensures lost { N.lost lost.new ≡ N.lost lost.old }
 {
     let copy = fibre.copies();
     let grant = fibre.grants();
@@ -248,11 +251,12 @@ fn ask<L: Ledger>(
 }
 
 /// Plays a frame of a run, for which all room was made.
-pub(super) fn play_frame<L: Ledger>(
+pub(super) fn play_frame<L: Ledger, N: Lost>(
     fibre: &mut Fibre<L>,
     flights: &mut Flights,
     entries: &mut Vec<Entry>,
-    loss: &LossPlan,
+    lost_copies: &mut N,
+    lost_bursts: &mut N,
 )
     requires frames { fibre.old.frames < MAX_FRAMES }
     requires kept { AreKept fibre.old.world flights.old.flights }
@@ -260,14 +264,16 @@ pub(super) fn play_frame<L: Ledger>(
     requires room { HasEventRoom (events_of fibre.old flights.old) fibre.old entries.old }
     requires answers { HasAnswerRoom fibre.old flights.old }
     requires proper { All IsProperEntry entries.old.items }
-    ensures puts { spec.PutsFrame loss.now.copies.items loss.now.bursts.items
+    ensures puts { spec.PutsFrame (N.lost lost_copies.old) (N.lost lost_bursts.old)
         (world_state fibre.old flights.old) entries.old.items entries.new.items (world_state fibre.new flights.new) }
     ensures kept { AreKept fibre.new.world flights.new.flights }
     ensures reach { AreInReach fibre.new.frames flights.new.flights }
     ensures proper { All IsProperEntry entries.new.items }
+    ensures lost_copies { N.lost lost_copies.new ≡ N.lost lost_copies.old }
+    ensures lost_bursts { N.lost lost_bursts.new ≡ N.lost lost_bursts.old }
 {
     let frame = fibre.frames();
-    ask(fibre, flights, entries, &loss.copies, frame);
-    land(fibre, flights, entries, &loss.bursts, frame);
+    ask(fibre, flights, entries, lost_copies, frame);
+    land(fibre, flights, entries, lost_bursts, frame);
     fibre.end_frame();
 }

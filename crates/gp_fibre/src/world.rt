@@ -9,6 +9,8 @@ use super::fault::WorldFault;
 use super::fibre::Fibre;
 use super::flights::Flights;
 use super::loss_plan::LossPlan;
+use super::losses::Losses;
+use super::lost::{Listed, Lost};
 use super::running::play_frame;
 use super::sent_burst::SentBurst;
 use super::unit_plan::UnitPlan;
@@ -247,23 +249,57 @@ impl<L: Ledger> World<L> {
         ensures proper { IfOk result (λ entries. All IsProperEntry entries.items) }
     {
         let mut entries = Vec::new(alloc);
+        let mut copies = Listed(&loss.copies);
+        let mut bursts = Listed(&loss.bursts);
         for _ in 0..frames {
-            if let Err(fault) = self.run_frame(&mut entries, loss) {
+            if let Err(fault) = self.run_frame(&mut entries, &mut copies, &mut bursts) {
                 return Err(fault);
             }
         }
         Ok(entries)
     }
 
+    /// Does the same in less time, where much is lost or memory is dear: what is lost is looked up in order, and the
+    /// entries go into a list that the caller lends, in place of what it held. After a fault the entries of the whole
+    /// frames before it stand there.
+    pub fn run_into(
+        &mut self,
+        frames: u32,
+        losses: &mut Losses,
+        entries: &mut Vec<Entry>,
+    ) -> Result<(), WorldFault>
+        ensures runs { OnOk result
+            (FramesRun losses.old.copies losses.old.bursts frames self.old entries.new.items self.new) }
+        ensures stops { IfErr result
+            (λ fault. StopsShort losses.old.copies losses.old.bursts frames self.old fault self.new) }
+        ensures proper { OnOk result (All IsProperEntry entries.new.items) }
+        ensures losses { losses.new ≡ losses.old }
+    {
+        entries.clear();
+        for _ in 0..frames {
+            if let Err(fault) = self.run_frame(entries, &mut losses.copies, &mut losses.bursts) {
+                return Err(fault);
+            }
+        }
+        Ok(())
+    }
+
     /// Makes a frame of a run. All memory is taken first.
-    fn run_frame(&mut self, entries: &mut Vec<Entry>, loss: &LossPlan) -> Result<(), WorldFault>
+    fn run_frame<N: Lost>(
+        &mut self,
+        entries: &mut Vec<Entry>,
+        lost_copies: &mut N,
+        lost_bursts: &mut N,
+    ) -> Result<(), WorldFault>
         requires proper { All IsProperEntry entries.old.items }
         ensures runs { OnOk result
-            (PutsFrame loss.now.copies.items loss.now.bursts.items self.old entries.old.items entries.new.items
+            (PutsFrame (N.lost lost_copies.old) (N.lost lost_bursts.old) self.old entries.old.items entries.new.items
             self.new) }
         ensures unchanged { OnErr result (self.new ≡ self.old) }
         ensures fault { IfErr result (λ fault. IsRunFault self.old fault) }
         ensures proper { OnOk result (All IsProperEntry entries.new.items) }
+        ensures lost_copies { N.lost lost_copies.new ≡ N.lost lost_copies.old }
+        ensures lost_bursts { N.lost lost_bursts.new ≡ N.lost lost_bursts.old }
     {
         if self.fibre.frames() >= MAX_FRAMES {
             return Err(WorldFault::Limit);
@@ -273,7 +309,13 @@ impl<L: Ledger> World<L> {
         self.fibre.reserve(events, units)?;
         self.flights.reserve(units)?;
         entries.reserve(events)?;
-        play_frame(&mut self.fibre, &mut self.flights, entries, loss);
+        play_frame(
+            &mut self.fibre,
+            &mut self.flights,
+            entries,
+            lost_copies,
+            lost_bursts,
+        );
         Ok(())
     }
 

@@ -4,6 +4,7 @@ use Rattle.gp_machine.specs.declared.entry.Entry.{Entry}
 use Rattle.gp_machine.specs.declared.entry.Receipt.{Receipt}
 use Rattle.gp_onu.specs.Limits.{max_simulated_units}
 use Rattle.gp_fibre.specs.declared.loss_plan.LossPlan.{LossPlan}
+use Rattle.gp_fibre.specs.declared.losses.Losses.{Losses}
 use Rattle.gp_fibre.specs.declared.world_step.WorldStep.{WorldStep}
 use Rattle.gp_fibre.specs.declared.world_step.WorldStep.TheVariants as steps
 use Rattle.gp_fibre.specs.Schedule.{WorldState, FramesRun}
@@ -23,6 +24,10 @@ pub record FibrePlay : Type 0 where
 -- what is lost by a plan
 abbrev pub losses_of : LossPlan → LossesView
 losses_of plan = record { copies = plan.copies.items; bursts = plan.bursts.items }
+
+-- what is lost by losses that are looked up in order
+abbrev pub lost_by : Losses → LossesView
+lost_by losses = record { copies = losses.copies; bursts = losses.bursts }
 
 -- what may happen to a fibre: from the old one to the new one, with these entries
 abbrev pub WorldHappening : Type 1

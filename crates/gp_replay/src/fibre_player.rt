@@ -9,7 +9,7 @@ use super::fault::PlayFault;
 use super::line_buffer::LineBuffer;
 use super::world_player::WorldPlayer;
 use super::world_playing::{play_one_world_frame, play_world_event};
-use gp_fibre::LossPlan;
+use gp_fibre::{LossPlan, Losses};
 use gp_licence::MAX_LICENCES;
 use gp_machine::PortConfig;
 use gp_ploam::Mask;
@@ -27,7 +27,7 @@ use std::sync::ledger::{Blank, Ledger};
 /// It has no `Drop`: its licences are gathered by `close`.
 pub struct FibrePlayer<L: Ledger> {
     player: WorldPlayer<L>,
-    loss: LossPlan,
+    losses: Losses,
 }
 
 impl<L: Ledger> Model for FibrePlayer<L> {
@@ -37,14 +37,14 @@ impl<L: Ledger> Model for FibrePlayer<L> {
     ghost use Rattle.gp_ploam.specs.Serials.{serial_cmp, coded_serial};
     ghost use Rattle.gp_unit.specs.contracts.row.Row as row;
     ghost use Rattle.gp_replay.specs.Playing.{LossyPlay};
-    ghost use Rattle.gp_replay.specs.WorldWriting.{losses_of};
+    ghost use Rattle.gp_replay.specs.WorldWriting.{lost_by};
 
     ghost Value = { LossyPlay };
 
     ghost coded = { Prim.hlevel
         (codes, map.code {R = serial_cmp} coded_serial row.the_row.coded, set.code {R = serial_cmp} coded_serial) };
 
-    ghost view = { λ p. record { play = p.player; losses = losses_of p.loss } };
+    ghost view = { λ p. record { play = p.player; losses = lost_by p.losses } };
 }
 
 impl<L: Ledger> FibrePlayer<L> {
@@ -67,14 +67,15 @@ impl<L: Ledger> FibrePlayer<L> {
         ensures losses { IfOk result (λ player. player.losses ≡ losses_of loss) }
     {
         let player = WorldPlayer::begin(alloc, blank, config, licences, units)?;
-        Ok(FibrePlayer { player, loss })
+        let losses = Losses::from(loss);
+        Ok(FibrePlayer { player, losses })
     }
 
     /// Ends the fibre, and answers how many licences there are.
     pub fn close(self) -> u32
         ensures { result ≡ self.play.world.licences }
     {
-        let FibrePlayer { player, loss: _ } = self;
+        let FibrePlayer { player, losses: _ } = self;
         player.close()
     }
 }
@@ -99,7 +100,14 @@ impl<L: Ledger> EventPlayer for FibrePlayer<L> {
         mask: Mask,
         event: &ScriptEvent,
     ) -> Result<(), PlayFault> {
-        play_world_event(&mut self.player, sink, buffer, mask, &self.loss, event)
+        play_world_event(
+            &mut self.player,
+            sink,
+            buffer,
+            mask,
+            &mut self.losses,
+            event,
+        )
     }
 
     fn play_frame<W: Write>(
@@ -110,6 +118,13 @@ impl<L: Ledger> EventPlayer for FibrePlayer<L> {
         _port: u8,
         grant: Grant,
     ) -> Result<bool, PlayFault> {
-        play_one_world_frame(&mut self.player, sink, buffer, mask, &self.loss, grant)
+        play_one_world_frame(
+            &mut self.player,
+            sink,
+            buffer,
+            mask,
+            &mut self.losses,
+            grant,
+        )
     }
 }

@@ -3,16 +3,19 @@ ghost use Rattle.std.specs.Option.{ForSome};
 ghost use Rattle.gp_fibre.specs.World.{is_world_within_limits};
 ghost use Rattle.gp_fibre.specs.Forgetting.{WorldForgets};
 ghost use Rattle.gp_fibre.specs.Schedule.{FramesRun, IsProperEntry, StepsTo, opening_state, step_fault};
-ghost use Rattle.gp_replay.specs.WorldPlay.{plan_of, receipt_with};
+ghost use Rattle.gp_replay.specs.WorldPlay.{plan_of};
 ghost use Rattle.gp_replay.specs.WorldWriting.{HasFibreRoom};
 
-use gp_fibre::{LossPlan, UnitPlan, World, WorldFault, WorldStep};
+use gp_fibre::{Losses, UnitPlan, World, WorldFault, WorldStep};
 use gp_licence::MAX_LICENCES;
-use gp_machine::{Entry, PortConfig, Receipt};
+use gp_machine::{Entry, PortConfig};
 use gp_script::ScriptUnit;
 use std::alloc::{AllocError, Global};
 use std::marker::Model;
 use std::sync::ledger::{Blank, Ledger};
+
+/// For how many entries room is kept from a few frames to the next ones: some more than those have without a search.
+const MAX_SPARE: usize = 1024;
 
 /// The fibre that a script with simulated units is played on. Contracts see it with the number of the port's next
 /// entry.
@@ -22,6 +25,8 @@ pub(crate) struct WorldPlayer<L: Ledger> {
     alloc: Global,
     world: World<L>,
     next: u64,
+    /// Room for the entries of the next frames.
+    spare: Vec<Entry>,
 }
 
 impl<L: Ledger> Model for WorldPlayer<L> {
@@ -62,6 +67,7 @@ impl<L: Ledger> WorldPlayer<L> {
                 alloc,
                 world,
                 next: 0,
+                spare: Vec::new(alloc),
             }),
             Err(WorldFault::Limit) => unreachable!(),
             Err(_) => Err(AllocError),
@@ -73,19 +79,30 @@ impl<L: Ledger> WorldPlayer<L> {
     pub(crate) fn run_frames(
         &mut self,
         frames: u32,
-        loss: &LossPlan,
+        losses: &mut Losses,
     ) -> Result<Vec<Entry>, AllocError>
         requires room { HasFibreRoom frames self.old }
         ensures ran { IfOk result
-            (λ entries. FramesRun loss.now.copies.items loss.now.bursts.items frames self.old.world entries.items
+            (λ entries. FramesRun losses.old.copies losses.old.bursts frames self.old.world entries.items
             self.new.world) }
         ensures proper { IfOk result (λ entries. All IsProperEntry entries.items) }
         ensures next { self.new.next ≡ self.old.next }
+        ensures losses { losses.new ≡ losses.old }
     {
-        match self.world.run(self.alloc, frames, loss) {
-            Ok(entries) => Ok(entries),
+        let mut entries = std::mem::replace(&mut self.spare, Vec::new(self.alloc));
+        match self.world.run_into(frames, losses, &mut entries) {
+            Ok(()) => Ok(entries),
             Err(WorldFault::Limit) => unreachable!(),
             Err(_) => Err(AllocError),
+        }
+    }
+
+    /// Takes back entries that are written, for the room that they have, unless it is much.
+    pub(crate) fn reuse(&mut self, entries: Vec<Entry>)
+        ensures { self.new ≡ self.old }
+    {
+        if entries.capacity() <= MAX_SPARE {
+            self.spare = entries;
         }
     }
 
@@ -112,20 +129,16 @@ impl<L: Ledger> WorldPlayer<L> {
         self.world.forget();
     }
 
-    /// Gives the receipt of the port's next entry.
-    pub(crate) fn number_entry(&mut self, entry: Entry) -> Receipt
+    /// Gives the number of the port's next entry.
+    pub(crate) fn take_number(&mut self) -> u64
         requires { self.old.next + 1 < 2 ^ 64 }
-        ensures receipt { result ≡ receipt_with self.old.next entry }
+        ensures number { result ≡ self.old.next }
         ensures world { self.new.world ≡ self.old.world }
         ensures next { self.new.next ≡ self.old.next + 1 }
     {
         let number = self.next;
         self.next += 1;
-        Receipt {
-            port: 0,
-            number,
-            entry,
-        }
+        number
     }
 
     /// How many simulated units there are.
@@ -143,6 +156,7 @@ impl<L: Ledger> WorldPlayer<L> {
             alloc: _,
             world,
             next: _,
+            spare: _,
         } = self;
         world.close()
     }

@@ -5,14 +5,14 @@ ghost use Rattle.gp_stream.specs.Sink.{Gives};
 ghost use Rattle.gp_trace.specs.Text.{line_of, trace_text};
 ghost use Rattle.gp_replay.specs.Playing.{HasGrant, MakesGrant, Tells, count_of};
 ghost use Rattle.gp_replay.specs.WorldPlay.{TakesStep, WorldTakes, receipt_with, receipts_from};
-ghost use Rattle.gp_replay.specs.WorldWriting.{HasFibreRoom, MayTakeStep, Numbered, TakesSomeFrames, WorldTakesPart, losses_of};
+ghost use Rattle.gp_replay.specs.WorldWriting.{HasFibreRoom, MayTakeStep, Numbered, TakesSomeFrames, WorldTakesPart, lost_by};
 ghost use Rattle.gp_replay.specs.Writing.{HandsIn, PlaysOn, Writes};
 
 use super::event_player::makes_grant;
 use super::fault::PlayFault;
 use super::line_buffer::LineBuffer;
 use super::world_player::WorldPlayer;
-use gp_fibre::{LossPlan, WorldStep};
+use gp_fibre::{Losses, WorldStep};
 use gp_machine::Entry;
 use gp_ploam::Mask;
 use gp_ranging::Grant;
@@ -25,22 +25,25 @@ use std::sync::ledger::Ledger;
 /// many frames an event has.
 const FRAMES_AT_ONCE: u32 = 256;
 
+/// The number of the only port.
+const PORT: u8 = 0;
+
 /// Numbers an entry and writes its line.
 fn write_entry<L: Ledger, W: Write>(
     player: &mut WorldPlayer<L>,
     sink: &mut Sink<W>,
     buffer: &mut LineBuffer,
     mask: Mask,
-    entry: Entry,
+    entry: &Entry,
 ) -> Result<(), WriteStopped>
-    requires proper { IsProperEntry entry }
+    requires proper { IsProperEntry entry.now }
     requires room { player.old.next + 1 < 2 ^ 64 }
-    ensures gives { Gives sink.old sink.new (line_of mask (receipt_with player.old.next entry)) result }
+    ensures gives { Gives sink.old sink.new (line_of mask (receipt_with player.old.next entry.now)) result }
     ensures world { player.new.world ≡ player.old.world }
     ensures next { player.new.next ≡ player.old.next + 1 }
 {
-    let receipt = player.number_entry(entry);
-    buffer.build(mask, &receipt);
+    let number = player.take_number();
+    buffer.build_entry(mask, PORT, number, entry);
     sink.put(buffer.as_bytes())
 }
 
@@ -59,7 +62,7 @@ fn write_entries<L: Ledger, W: Write>(
     ensures next { OnOk result (player.new.next ≡ player.old.next + length entries.now) }
 {
     'entries: for entry in entries {
-        write_entry(player, sink, buffer, mask, *entry)?;
+        write_entry(player, sink, buffer, mask, entry)?;
     }
     Ok(())
 }
@@ -79,7 +82,7 @@ fn play_step<L: Ledger, W: Write>(
 {
     let given = player.take_step(step)?;
     if let Some(entry) = given {
-        write_entry(player, sink, buffer, mask, entry)?;
+        write_entry(player, sink, buffer, mask, &entry)?;
     }
     Ok(())
 }
@@ -91,18 +94,19 @@ fn play_few_frames<L: Ledger, W: Write>(
     sink: &mut Sink<W>,
     buffer: &mut LineBuffer,
     mask: Mask,
-    loss: &LossPlan,
+    losses: &mut Losses,
     frames: u32,
 ) -> Result<Vec<Entry>, PlayFault>
     requires room { HasFibreRoom frames player.old }
-    ensures plays { let losses = losses_of loss.now in
-        PlaysOn mask (Numbered (FramesRun losses.copies losses.bursts frames)) (Numbered (TakesSomeFrames losses frames))
+    ensures plays { let lost = lost_by losses.old in
+        PlaysOn mask (Numbered (FramesRun lost.copies lost.bursts frames)) (Numbered (TakesSomeFrames lost frames))
         player.old player.new sink.old sink.new result }
-    ensures told { let losses = losses_of loss.now in IfOk result (λ entries.
-        Writes mask (Tells entries.items (Numbered (FramesRun losses.copies losses.bursts frames)))
+    ensures told { let lost = lost_by losses.old in IfOk result (λ entries.
+        Writes mask (Tells entries.items (Numbered (FramesRun lost.copies lost.bursts frames)))
         player.old player.new sink.old sink.new) }
+    ensures losses { losses.new ≡ losses.old }
 {
-    let entries = player.run_frames(frames, loss)?;
+    let entries = player.run_frames(frames, losses)?;
     write_entries(player, sink, buffer, mask, entries.as_slice())?;
     player.forget();
     Ok(entries)
@@ -126,19 +130,22 @@ pub(crate) fn play_one_world_frame<L: Ledger, W: Write>(
     sink: &mut Sink<W>,
     buffer: &mut LineBuffer,
     mask: Mask,
-    loss: &LossPlan,
+    losses: &mut Losses,
     grant: Grant,
 ) -> Result<bool, PlayFault>
     requires room { HasFibreRoom 1 player.old }
-    ensures plays { let losses = losses_of loss.now in
-        PlaysOn mask (Numbered (FramesRun losses.copies losses.bursts 1)) (Numbered (TakesSomeFrames losses 1))
+    ensures plays { let lost = lost_by losses.old in
+        PlaysOn mask (Numbered (FramesRun lost.copies lost.bursts 1)) (Numbered (TakesSomeFrames lost 1))
         player.old player.new sink.old sink.new result }
-    ensures made { let losses = losses_of loss.now in IfOk result (λ made.
-        Writes mask (MakesGrant grant made (Numbered (FramesRun losses.copies losses.bursts 1)))
+    ensures made { let lost = lost_by losses.old in IfOk result (λ made.
+        Writes mask (MakesGrant grant made (Numbered (FramesRun lost.copies lost.bursts 1)))
         player.old player.new sink.old sink.new) }
+    ensures losses { losses.new ≡ losses.old }
 {
-    let entries = play_few_frames(player, sink, buffer, mask, loss, 1)?;
-    Ok(has_grant(entries.as_slice(), grant))
+    let entries = play_few_frames(player, sink, buffer, mask, losses, 1)?;
+    let made = has_grant(entries.as_slice(), grant);
+    player.reuse(entries);
+    Ok(made)
 }
 
 /// Makes so many frames, a few at a time, and writes the lines of their entries.
@@ -147,18 +154,20 @@ fn play_frames<L: Ledger, W: Write>(
     sink: &mut Sink<W>,
     buffer: &mut LineBuffer,
     mask: Mask,
-    loss: &LossPlan,
+    losses: &mut Losses,
     frames: u32,
 ) -> Result<(), PlayFault>
     requires room { HasFibreRoom frames player.old }
-    ensures { let losses = losses_of loss.now in
-        PlaysOn mask (Numbered (FramesRun losses.copies losses.bursts frames)) (Numbered (TakesSomeFrames losses frames))
+    ensures plays { let lost = lost_by losses.old in
+        PlaysOn mask (Numbered (FramesRun lost.copies lost.bursts frames)) (Numbered (TakesSomeFrames lost frames))
         player.old player.new sink.old sink.new result }
+    ensures losses { losses.new ≡ losses.old }
 {
     let mut left = frames;
     while left > 0 {
         let few = left.min(FRAMES_AT_ONCE);
-        play_few_frames(player, sink, buffer, mask, loss, few)?;
+        let entries = play_few_frames(player, sink, buffer, mask, losses, few)?;
+        player.reuse(entries);
         left -= few;
     }
     Ok(())
@@ -170,18 +179,19 @@ pub(crate) fn play_world_event<L: Ledger, W: Write>(
     sink: &mut Sink<W>,
     buffer: &mut LineBuffer,
     mask: Mask,
-    loss: &LossPlan,
+    losses: &mut Losses,
     event: &ScriptEvent,
 ) -> Result<(), PlayFault>
     requires names { NamesOneOf 1 (length player.old.world.fibre.units) event.now }
     requires room { HasFibreRoom (count_of event.now) player.old }
-    ensures { let losses = losses_of loss.now in
-        PlaysOn mask (Numbered (WorldTakes losses event.now)) (Numbered (WorldTakesPart losses event.now))
+    ensures plays { let lost = lost_by losses.old in
+        PlaysOn mask (Numbered (WorldTakes lost event.now)) (Numbered (WorldTakesPart lost event.now))
         player.old player.new sink.old sink.new result }
+    ensures losses { losses.new ≡ losses.old }
 {
     let step = match *event {
         ScriptEvent::Frames { port: _, count } => {
-            return play_frames(player, sink, buffer, mask, loss, count);
+            return play_frames(player, sink, buffer, mask, losses, count);
         }
         ScriptEvent::Burst { port: _, at, bytes } => WorldStep::Bytes { at, bytes },
         ScriptEvent::Command { port: _, command } => WorldStep::Command(command),

@@ -6,7 +6,7 @@ use Rattle.gp_fibre.proofs.running.ask.Goals as goal
 
 pub returns-clause-asks : goal.returns-clause-asks
 returns-clause-asks g c =
-    asked c.args.lost.now c.args.fibre.now.world c.take-entry.new.self.world c.pass_on.new.fibre.world c.give_on.new.fibre.world c.copies-copy.result c.grants-grant.result
+    asked (g.N.Lost.lost c.args.lost.now) c.args.fibre.now.world c.take-entry.new.self.world c.pass_on.new.fibre.world c.give_on.new.fibre.world c.copies-copy.result c.grants-grant.result
     c.take-entry.result c.args.entries.now.items c.push_reserved.new.self.items c.take-entry.ensures.taken c.copies-copy.ensures.value c.grants-grant.ensures.value
     c.pass_on.ensures.taken c.give_on.ensures.taken c.push_reserved.ensures.items
 

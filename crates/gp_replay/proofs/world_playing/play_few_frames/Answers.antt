@@ -2,7 +2,7 @@ use Rattle.std.proofs.Common.{◌+◌, length, arith, refl, subst, ◌∙◌}
 use Rattle.gp_fibre.specs.Forgetting.{WorldForgets}
 use Rattle.gp_fibre.specs.Schedule.{FramesRun, WorldState}
 use Rattle.gp_replay.specs.WorldPlay.{receipts_from}
-use Rattle.gp_replay.specs.WorldWriting.{Numbered, TakesSomeFrames, losses_of}
+use Rattle.gp_replay.specs.WorldWriting.{Numbered, TakesSomeFrames, lost_by}
 use Rattle.gp_replay.proofs.PlayLemmas.{plays_lines, stops_at_first, stops_in_lines}
 use Rattle.gp_replay.proofs.PlayingLemmas.{frames_told}
 use Rattle.gp_replay.proofs.WorldLemmas.{frames_happen, numbered_none, some_frames_happen}
@@ -12,18 +12,18 @@ use Rattle.gp_replay.proofs.world_playing.play_few_frames.Goals as goal
 pub write_entries-requires-clause-room : goal.write_entries-requires-clause-room
 write_entries-requires-clause-room g c =
     rw c.as_slice.ensures.value
-    (entries_fit c.args.loss.now.copies.items c.args.loss.now.bursts.items c.args.frames c.run_frames.new.self.next c.args.player.now c.run_frames.new.self.world c.in_ok-entries.entries.items c.in_ok-entries.ensures.next
+    (entries_fit c.args.losses.now.copies c.args.losses.now.bursts c.args.frames c.run_frames.new.self.next c.args.player.now c.run_frames.new.self.world c.in_ok-entries.entries.items c.in_ok-entries.ensures.next
     c.requires.room c.in_ok-entries.ensures.ran)
 
 pub returns-in_err-entries-clause-plays : goal.returns-in_err-entries-clause-plays
 returns-in_err-entries-clause-plays g c =
-    let losses = losses_of c.args.loss.now in
+    let losses = lost_by c.args.losses.now in
     stops_at_first c.args.mask (Numbered (FramesRun losses.copies losses.bursts c.args.frames)) (Numbered (TakesSomeFrames losses c.args.frames)) c.args.player.now _ c.args.sink.now _
     (numbered_none (TakesSomeFrames losses c.args.frames) c.args.player.now (λ w. (0, omega arith, (refl, refl)))) c.from_residual.ensures.1
 
 pub returns-in_err-write_entries-clause-plays : goal.returns-in_err-write_entries-clause-plays
 returns-in_err-write_entries-clause-plays g c =
-    let losses = losses_of c.args.loss.now in
+    let losses = lost_by c.args.losses.now in
     let mid = c.run_frames.new.self in
     let entries = c.in_ok-entries.entries.items in
     stops_in_lines c.args.mask (Numbered (FramesRun losses.copies losses.bursts c.args.frames)) (Numbered (TakesSomeFrames losses c.args.frames)) c.args.player.now
@@ -33,7 +33,7 @@ returns-in_err-write_entries-clause-plays g c =
 
 pub returns-clause-plays : goal.returns-clause-plays
 returns-clause-plays g c =
-    let losses = losses_of c.args.loss.now in
+    let losses = lost_by c.args.losses.now in
     let mid = c.run_frames.new.self in
     let entries = c.in_ok-entries.entries.items in
     plays_lines c.args.mask (Numbered (FramesRun losses.copies losses.bursts c.args.frames)) (Numbered (TakesSomeFrames losses c.args.frames)) c.args.player.now
@@ -45,7 +45,7 @@ returns-clause-plays g c =
 
 pub returns-clause-told : goal.returns-clause-told
 returns-clause-told g c =
-    let losses = losses_of c.args.loss.now in
+    let losses = lost_by c.args.losses.now in
     let mid = c.run_frames.new.self in
     let entries = c.in_ok-entries.entries.items in
     frames_told c.args.mask entries (FramesRun losses.copies losses.bursts c.args.frames) c.args.player.now c.forget.new.self mid.next _ _ _

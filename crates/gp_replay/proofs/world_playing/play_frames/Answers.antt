@@ -1,6 +1,6 @@
-use Rattle.std.proofs.Common.{◌≡◌, ◌+◌, ◌-◌, ◌≤◌, ℕ, arith, rules, subst}
+use Rattle.std.proofs.Common.{◌≡◌, ◌+◌, ◌-◌, ◌≤◌, ℕ, arith, refl, rules, subst, sym, ◌∙◌}
 use Rattle.gp_fibre.specs.Schedule.{FramesRun}
-use Rattle.gp_replay.specs.WorldWriting.{Numbered, losses_of}
+use Rattle.gp_replay.specs.WorldWriting.{Numbered, lost_by}
 use Rattle.gp_replay.proofs.PlayLemmas.{Stands, stands_at_first, stands_on, stands_whole, stops_on}
 use Rattle.gp_replay.proofs.WorldLemmas.{frames_join, no_frames, numbered_join, some_frames_join}
 use Rattle.gp_replay.proofs.WorldRoomLemmas.{room_for_fewer, room_after_frames}
@@ -8,9 +8,10 @@ use Rattle.gp_replay.proofs.world_playing.play_frames.Goals as goal
 
 pub loop-left-init : goal.loop-left-init
 loop-left-init g c = record {
-  played = stands_at_first _ _ _ _ (no_frames (losses_of c.args.loss.now) (c.args.frames - c.args.frames) c.args.player.now (omega arith));
+  played = stands_at_first _ _ _ _ (no_frames (lost_by c.args.losses.now) (c.args.frames - c.args.frames) c.args.player.now (omega arith));
   few = search rules;
   room = search rules;
+  same = refl;
 }
 
 pub play_few_frames-requires : goal.play_few_frames-requires
@@ -18,13 +19,13 @@ play_few_frames-requires g c =
     let few : c.min-few.result ≤ c.loop-left.left = search rules in
     record { room = room_for_fewer c.min-few.result c.loop-left.left c.loop-left.player few c.loop-left.invariant.room }
 
-pub returns-in_err-play_few_frames : goal.returns-in_err-play_few_frames
-returns-in_err-play_few_frames g c =
+pub returns-in_err-entries-clause-plays : goal.returns-in_err-entries-clause-plays
+returns-in_err-entries-clause-plays g c =
     let few : c.min-few.result ≤ c.loop-left.left = search rules in
     let within : c.loop-left.left ≤ c.args.frames = c.loop-left.invariant.few in
     let total : (c.args.frames - c.loop-left.left) + c.min-few.result ≤ c.args.frames = omega arith in
-    stops_on c.args.mask _ _ _ _ _ (numbered_join _ _ _ (some_frames_join (losses_of c.args.loss.now) (c.args.frames - c.loop-left.left) c.min-few.result c.args.frames total)) _ _ _ _ _ _ _ _
-    c.loop-left.invariant.played c.in_err-play_few_frames.ensures.plays c.from_residual.ensures.1
+    stops_on c.args.mask _ _ _ _ _ (numbered_join _ _ _ (some_frames_join (lost_by c.args.losses.now) (c.args.frames - c.loop-left.left) c.min-few.result c.args.frames total)) _ _ _ _ _ _ _ _
+    c.loop-left.invariant.played (rw c.loop-left.invariant.same at c.in_err-entries.ensures.plays) c.from_residual.ensures.1
 
 pub loop-left-preserved : goal.loop-left-preserved
 loop-left-preserved g c =
@@ -32,18 +33,20 @@ loop-left-preserved g c =
     let within : c.loop-left.left ≤ c.args.frames = c.loop-left.invariant.few in
     let total : (c.args.frames - c.loop-left.left) + c.min-few.result ≡ c.args.frames - (c.loop-left.left - c.min-few.result) = omega arith in
     let rest : c.min-few.result + (c.loop-left.left - c.min-few.result) ≤ c.loop-left.left = omega arith in
+    let plays = rw (c.loop-left.invariant.same, sym c.reuse.ensures) at c.in_ok-entries.ensures.plays in
     record {
       played = stands_on c.args.mask _ _ _ _
-          (numbered_join _ _ _ (frames_join (losses_of c.args.loss.now) (c.args.frames - c.loop-left.left) c.min-few.result (c.args.frames - (c.loop-left.left - c.min-few.result)) total)) _ _ _ _ _ _ _
-          c.loop-left.invariant.played c.in_ok-play_few_frames.ensures.plays;
+          (numbered_join _ _ _ (frames_join (lost_by c.args.losses.now) (c.args.frames - c.loop-left.left) c.min-few.result (c.args.frames - (c.loop-left.left - c.min-few.result)) total)) _ _ _ _ _ _ _
+          c.loop-left.invariant.played plays;
       few = omega (arith, few, within);
-      room = room_after_frames c.args.loss.now.copies.items c.args.loss.now.bursts.items c.min-few.result c.loop-left.left (c.loop-left.left - c.min-few.result) c.loop-left.player
-          c.play_few_frames.new.player _ c.in_ok-play_few_frames.ensures.plays.ok.happened rest c.loop-left.invariant.room;
+      room = room_after_frames c.args.losses.now.copies c.args.losses.now.bursts c.min-few.result c.loop-left.left (c.loop-left.left - c.min-few.result) c.loop-left.player
+          c.reuse.new.self _ plays.ok.happened rest c.loop-left.invariant.room;
+      same = c.in_ok-entries.ensures.losses ∙ c.loop-left.invariant.same;
     }
 
-pub returns : goal.returns
-returns g c =
+pub returns-clause-plays : goal.returns-clause-plays
+returns-clause-plays g c =
     let all : c.args.frames - c.loop-left.left ≡ c.args.frames = omega (arith, c.loop-left-test.false) in
     stands_whole _ _ _ _ _ _ _ _
-    (subst (λ (n : ℕ). Stands c.args.mask (Numbered (FramesRun c.args.loss.now.copies.items c.args.loss.now.bursts.items n)) c.args.player.now c.loop-left.player c.args.sink.now c.loop-left.sink)
+    (subst (λ (n : ℕ). Stands c.args.mask (Numbered (FramesRun c.args.losses.now.copies c.args.losses.now.bursts n)) c.args.player.now c.loop-left.player c.args.sink.now c.loop-left.sink)
     all c.loop-left.invariant.played)

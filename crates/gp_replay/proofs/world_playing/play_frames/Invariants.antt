@@ -1,4 +1,4 @@
-use Rattle.std.proofs.Common.{◌≤◌, ◌-◌}
+use Rattle.std.proofs.Common.{◌≡◌, ◌≤◌, ◌-◌}
 use Rattle.gp_fibre.specs.Schedule.{FramesRun}
 use Rattle.gp_replay.specs.WorldWriting.{HasFibreRoom, Numbered}
 use Rattle.gp_replay.proofs.PlayLemmas.{Stands}
@@ -6,9 +6,10 @@ use Rattle.gp_replay.proofs.world_playing.play_frames.Given as goal
 
 abbrev pub invariant-loop-left : goal.invariant-loop-left
 invariant-loop-left g l = record {
-  played : Stands l.mask (Numbered (FramesRun l.loss.copies.items l.loss.bursts.items (l.frames - l.left))) l.initial.player l.player l.initial.sink l.sink;
+  played : Stands l.mask (Numbered (FramesRun l.fn.losses.copies l.fn.losses.bursts (l.frames - l.left))) l.initial.player l.player l.initial.sink l.sink;
   few : l.left ≤ l.frames;
   room : HasFibreRoom l.left l.player;
+  same : l.losses ≡ l.fn.losses;
 }
 
 abbrev pub decreases-loop-left : goal.decreases-loop-left

@@ -1,15 +1,15 @@
 use Rattle.gp_replay.specs.WorldPlay.{WorldTakes}
-use Rattle.gp_replay.specs.WorldWriting.{Numbered, WorldTakesPart, losses_of}
+use Rattle.gp_replay.specs.WorldWriting.{Numbered, WorldTakesPart, lost_by}
 use Rattle.gp_replay.proofs.PlayingLemmas.{fibre_keeps_on, loses}
 use Rattle.gp_replay.proofs.fibre_player.FibrePlayerEventPlayer.play_event.Goals as goal
 
 pub returns-clause-plays : goal.returns-clause-plays
 returns-clause-plays g c =
     let event = c.args.event.now in
-    rw (← c.self.view_is)
-    (loses c.args.mask (λ losses. Numbered (WorldTakes losses event)) (λ losses. Numbered (WorldTakesPart losses event)) (losses_of c.self.inside.loss) _ _ _ _ _
-    c.play_world_event.ensures)
+    rw (← c.self.view_is, c.play_world_event.ensures.losses)
+    (loses c.args.mask (λ losses. Numbered (WorldTakes losses event)) (λ losses. Numbered (WorldTakesPart losses event)) (lost_by c.self.inside.losses) _ _ _ _ _
+    c.play_world_event.ensures.plays)
 
 pub returns-clause-keeps : goal.returns-clause-keeps
 returns-clause-keeps g c =
-    rw (← c.self.view_is) (fibre_keeps_on c.args.mask c.args.event.now _ (losses_of c.self.inside.loss) _ _ _ _ _ c.play_world_event.ensures)
+    rw (← c.self.view_is, c.play_world_event.ensures.losses) (fibre_keeps_on c.args.mask c.args.event.now _ (lost_by c.self.inside.losses) _ _ _ _ _ c.play_world_event.ensures.plays)

@@ -8,5 +8,5 @@ unreachable-requires g c =
     let limit = c.in-Err-Limit.field-0-is in
     let old : FibrePlay = record { world = c.self.inside.world; next = c.self.inside.next } in
     let room : HasFibreRoom c.args.frames old = subst (λ (p : FibrePlay). HasFibreRoom c.args.frames p) (sym c.self.view_is) c.requires.room in
-    let memory = frames_limit c.args.loss.now.copies.items c.args.loss.now.bursts.items c.args.frames old c.in-Err-Limit.field-0 c.run.new.self room c.in-Err-Limit.ensures.stops in
+    let memory = frames_limit c.args.losses.now.copies c.args.losses.now.bursts c.args.frames old c.in-Err-Limit.field-0 c.run_into.new.self room c.in-Err-Limit.ensures.stops in
     cc

@@ -1,0 +1,13 @@
+use Rattle.std.proofs.Common.{◌≡◌, ℕ, List, ap, sym, ◌∙◌, rules}
+use Rattle.gp_fibre.specs.Schedule.{is_lost}
+use Rattle.gp_fibre.specs.LostNumbers.{IsInOrder, stands_at}
+use Rattle.gp_fibre.proofs.lost_numbers.LostNumbers.is_lost.Goals as goal
+
+pub returns-in-Some-clause-value : goal.returns-in-Some-clause-value
+returns-in-Some-clause-value c =
+    let number = c.args.number in
+    let place = c.place_near-place.result in
+    let order : IsInOrder c.self.inside.given.items c.in-Some.ordered.items = search rules in
+    let view : c.self.inside.given.items ≡ c.args.self.now = c.self.view_is in
+    c.stands_at.ensures ∙ ap (λ (xs : List ℕ). stands_at xs place number) (c.deref-in-Some.ensures.value ∙ sym c.deref.ensures.value) ∙ sym c.place_near-place.ensures
+    ∙ ap (λ (xs : List ℕ). is_lost xs number) c.deref.ensures.value ∙ order.same number ∙ ap (λ (xs : List ℕ). is_lost xs number) view
