@@ -1,46 +1,13 @@
 -- Lines of frames.
-use Rattle.std.proofs.Common.{◌≡◌, ℕ, zero, suc, ◌+◌, ◌-◌, ◌*◌, ◌<◌, ◌≤◌, true, List, [], ◌∷◌, ◌++◌, take, drop, length, codes, refl, sym, ap, subst, ◌∙◌, arith, append_assoc, get_or, take-append-drop, drop-cons, add-one, ◌^◌}
-use Rattle.std.proofs.lemmas.Bool.Decides.{nat_tests}
-use Rattle.std.proofs.lemmas.List.{length-take-le, take_more, take_rest}
-use Rattle.std.specs.Char.{digit_value, is_ascii_digit}
-use Rattle.std.specs.Str.Parse.{AllDigits, IsNumeral, digits_value, digits_value_after}
+use Rattle.std.proofs.Common.{◌≡◌, ℕ, suc, ◌+◌, ◌-◌, ◌<◌, ◌≤◌, List, ◌∷◌, ◌++◌, take, drop, length, codes, sym, ap, ◌∙◌, arith, append_assoc, get_or, take-append-drop, drop-cons, add-one, ◌^◌}
+use Rattle.std.proofs.lemmas.List.{length-take-le, take_rest}
 use Rattle.gp_machine.specs.declared.event.Event.TheVariants.{Frame}
 use Rattle.gp_lines.specs.Framed.{StandsFirst}
 use Rattle.gp_lines.specs.Parts.{parts_of}
 use Rattle.gp_lines.specs.Trace.{SplitsLine}
+use Rattle.gp_lines.proofs.DigitLemmas.{AreDigits}
 use Rattle.gp_lines.proofs.SplitLemmas.{head_parts, numeral_plain}
 use Rattle.gp_lines.proofs.ToldLemmas.{event_told}
-
--- these are digits, and write this number
-pub record AreDigits (text : List ℕ) (number : ℕ) : Type 0 where
-  pub digits : AllDigits 10 text
-  pub value : digits_value 10 text ≡ number
-
-pub no_digits : AreDigits [] 0
-no_digits = record { digits = tt; value = refl }
-
-digits_push : (text : List ℕ) (octet : ℕ) → AllDigits 10 text → digit_value octet < 10 → AllDigits 10 (text ++ octet ∷ [])
-digits_push [] octet all here = (here, tt)
-digits_push (first ∷ text) octet all here = (all.0, digits_push text octet all.1 here)
-
-value_push : (before : ℕ) (text : List ℕ) (octet : ℕ) → digits_value_after 10 before (text ++ octet ∷ []) ≡ digits_value_after 10 before text * 10 + digit_value octet
-value_push before [] octet = refl
-value_push before (first ∷ text) octet = value_push (before * 10 + digit_value first) text octet
-
-digit_of : (octet : ℕ) → is_ascii_digit octet ≡ true → (digit_value octet ≡ octet - 48) × (octet - 48 < 10)
-digit_of octet h = (grind (arith, nat_tests, h), grind (arith, nat_tests, h))
-
--- a digit more
-pub digit_more : (text : List ℕ) (at number octet : ℕ) → at < length text → octet ≡ get_or text at 0 → is_ascii_digit octet ≡ true → AreDigits (take at text) number
-    → AreDigits (take (at + 1) text) (number * 10 + (octet - 48))
-digit_more text at number octet within is digit h =
-    let d = digit_of octet digit in
-    let more : take (at + 1) text ≡ take at text ++ octet ∷ [] = take_more text at 0 within ∙ ap (λ (o : ℕ). take at text ++ o ∷ []) (sym is) in
-    let low : digit_value octet < 10 = omega (arith, d.0, d.1) in
-    subst (λ (l : List ℕ). AreDigits l (number * 10 + (octet - 48))) (sym more) (record {
-      digits = digits_push (take at text) octet h.digits low;
-      value = value_push 0 (take at text) octet ∙ ap (λ (n : ℕ). n * 10 + digit_value octet) h.value ∙ ap (λ (n : ℕ). number * 10 + n) d.0;
-    })
 
 -- a space behind them
 pub digits_end : (text : List ℕ) (at number octet : ℕ) → at < length text → 0 < at → octet ≡ get_or text at 0 → octet ≡ 32 → number < 2 ^ 64 → AreDigits (take at text) number

@@ -8,7 +8,7 @@ use crate::turn::LAST_PORT;
 use gp_machine::Event;
 
 /// The greatest number that a digit may follow, of those that are read here.
-const MOST_BEFORE_A_DIGIT: u64 = 1_844_674_407_370_955_160;
+pub(crate) const MOST_BEFORE_A_DIGIT: u64 = 1_844_674_407_370_955_160;
 
 /// Reads a number up to the first space, and gives what stands behind that. None for some great numbers too.
 fn first_number(text: &[u8]) -> Option<(u64, &[u8])>

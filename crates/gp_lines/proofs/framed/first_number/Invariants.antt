@@ -1,5 +1,5 @@
 use Rattle.std.proofs.Common.{◌≤◌, ◌-◌, length, take}
-use Rattle.gp_lines.proofs.FramedLemmas.{AreDigits}
+use Rattle.gp_lines.proofs.DigitLemmas.{AreDigits}
 use Rattle.gp_lines.proofs.framed.first_number.Given as goal
 
 abbrev pub invariant-digits : goal.invariant-digits
