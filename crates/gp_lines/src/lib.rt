@@ -9,8 +9,8 @@
 //! - `picks.rt`: `picked`, the number that an answer picks.
 //! - `laws.rt`, `told.rt`, `short.rt`: what `gp_trace` writes is read back, a text tells one thing at most, and a
 //!   line of a trace has no line feed but the one that ends it, and is not too long.
-//! - `word.rt`: the words that events begin with. `fields.rt`: numbers, codes and serial numbers. `parts.rt`: what stands
-//!   between the spaces of a text. `fault.rt`: what is wrong with a line.
+//! - `word.rt`: the words that events begin with. `fields.rt`: numbers, codes and serial numbers. `code.rt`: the digits
+//!   of a code. `parts.rt`: what stands between the spaces of a text. `fault.rt`: what is wrong with a line.
 //!
 //! Where to make which change: what a text spells stands in `specs/Spelling.antt` and `specs/Turn.antt`, its first
 //! fault in `specs/Fault.antt` and `specs/TurnFault.antt`, a line of a trace in `specs/Trace.antt`.
@@ -18,6 +18,7 @@
 //! an event stands in `specs/Words.antt`, `specs/Spelling.antt` and `word.rt`.
 #![tactic(auto)]
 
+mod code;
 mod event;
 mod fault;
 mod fields;

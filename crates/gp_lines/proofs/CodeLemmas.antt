@@ -1,0 +1,37 @@
+-- The digits of a code.
+use Rattle.std.proofs.Common.{◌≡◌, ℕ, ◌+◌, ◌*◌, ◌/◌, ◌%◌, ◌<◌, ◌≤◌, true, List, take, drop, length, get_or, Some, Ok, refl, ap, ◌∙◌, arith, slice_set}
+use Rattle.std.proofs.lemmas.Bool.Decides.{nat_tests}
+use Rattle.std.proofs.lemmas.List.{length-set}
+use Rattle.std.proofs.lemmas.List.Sums.{AllPass-from_list_all}
+use Rattle.std.specs.Char.{is_ascii_hexdigit}
+use Rattle.std.specs.List.{list_all}
+use Rattle.hex.specs.Hex.{decode_pairs, hex_digit_value, pair_value}
+use Rattle.hex.proofs.Pairs.{prepend, decode_step, decode_done, decode_sized-pairs}
+use Rattle.gp_lines.specs.Reading.{code_in, octets_or_fault}
+
+-- the value of a digit: its low four bits, and nine more for a letter
+pub digit_told : (digit : ℕ) → is_ascii_hexdigit digit ≡ true → (hex_digit_value digit ≡ Some (digit % 16 + digit / 64 * 9)) × (digit % 16 + digit / 64 * 9 < 16)
+digit_told digit h = (grind (arith, nat_tests, h), grind (arith, nat_tests, h))
+
+-- each of them is one
+pub digit_at : (text : List ℕ) (i : ℕ) → list_all is_ascii_hexdigit text ≡ true → i < length text → is_ascii_hexdigit (get_or text i 0) ≡ true
+digit_at text i h within = AllPass-from_list_all is_ascii_hexdigit text h i 0 within
+
+pair_told : (high low i h l : ℕ) → hex_digit_value high ≡ Some h → hex_digit_value low ≡ Some l → pair_value high low i ≡ Ok (h * 16 + l)
+pair_told high low i h l one other = rw (one, other) refl
+
+-- the octets of the first pairs of digits
+pub record AreRead (text octets : List ℕ) (i : ℕ) : Type 0 where
+  pub long : length octets ≡ 13
+  pub read : decode_pairs 0 text ≡ prepend (take i octets) (decode_pairs (2 * i) (drop (2 * i) text))
+
+pub pair_more : (text octets : List ℕ) (i h l : ℕ) → length text ≡ 26 → i < 13 → hex_digit_value (get_or text (2 * i) 0) ≡ Some h
+    → hex_digit_value (get_or text (2 * i + 1) 0) ≡ Some l → AreRead text octets i → AreRead text (slice_set octets i (h * 16 + l)) (i + 1)
+pair_more text octets i h l long within high low a = record {
+  long = length-set _ _ _ ∙ a.long;
+  read = decode_step text octets i (h * 16 + l) (omega arith) (omega (arith, a.long)) (pair_told (get_or text (2 * i) 0) (get_or text (2 * i + 1) 0) (2 * i) h l high low) a.read;
+}
+
+pub pairs_end : (text octets : List ℕ) (i : ℕ) → length text ≡ 26 → 13 ≤ i → AreRead text octets i → code_in text ≡ Ok octets
+pairs_end text octets i long end a =
+    ap octets_or_fault (decode_sized-pairs text 13 (omega arith) (omega arith) ∙ decode_done text octets i (omega (arith, a.long)) (omega arith) a.read)

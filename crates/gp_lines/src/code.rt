@@ -1,0 +1,53 @@
+//! Codes, of 26 hexadecimal digits, read with no branch that depends on a digit.
+ghost use Rattle.std.specs.Prelude.{◌≡◌, ◌<◌, true, Some, Ok, IfSome, length};
+ghost use Rattle.std.specs.Char.{is_ascii_hexdigit};
+ghost use Rattle.std.specs.List.{list_all};
+ghost use Rattle.hex.specs.Hex.{hex_digit_value};
+ghost use Rattle.gp_lines.specs.Reading as spec;
+
+/// How many digits a code has.
+const CODE_DIGITS: usize = 26;
+
+/// Tells whether each character is a hexadecimal digit, in either case. It looks at each, also behind one that isn't.
+fn are_hex_digits(text: &[u8]) -> bool
+    ensures { result ≡ list_all is_ascii_hexdigit text.now }
+{
+    let mut all = true;
+    for octet in text {
+        all &= octet.is_ascii_hexdigit();
+    }
+    all
+}
+
+/// Gives the value of a hexadecimal digit: its low four bits, and nine more for a letter.
+fn digit_value(digit: u8) -> u8
+    requires { is_ascii_hexdigit digit ≡ true }
+    ensures value { hex_digit_value digit ≡ Some result }
+    ensures within { result < 16 }
+{
+    digit % 16 + digit / 64 * 9
+}
+
+/// Gives the octets of the digits of a code.
+fn octets_of(digits: &[u8]) -> [u8; 13]
+    requires digits { list_all is_ascii_hexdigit digits.now ≡ true }
+    requires count { length digits.now ≡ 26 }
+    ensures { spec.code_in digits.now ≡ Ok result }
+{
+    let mut octets = [0u8; 13];
+    'pairs: for i in 0..13 {
+        octets[i] = digit_value(digits[2 * i]) * 16 + digit_value(digits[2 * i + 1]);
+    }
+    octets
+}
+
+/// Reads the octets of a code. None for a text that isn't 26 hexadecimal digits.
+pub(crate) fn octets_in(text: &[u8]) -> Option<[u8; 13]>
+    ensures { IfSome result (λ octets. spec.code_in text.now ≡ Ok octets) }
+{
+    if text.len() == CODE_DIGITS && are_hex_digits(text) {
+        Some(octets_of(text))
+    } else {
+        None
+    }
+}
