@@ -6,7 +6,7 @@ ghost use Rattle.hex.specs.Hex.{hex_digit_value};
 ghost use Rattle.gp_lines.specs.Reading as spec;
 
 /// How many digits a code has.
-const CODE_DIGITS: usize = 26;
+pub(crate) const CODE_DIGITS: usize = 26;
 
 /// Tells whether each character is a hexadecimal digit, in either case. It looks at each, also behind one that isn't.
 fn are_hex_digits(text: &[u8]) -> bool

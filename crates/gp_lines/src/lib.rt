@@ -5,7 +5,8 @@
 //!
 //! - `event.rt`: `parse_event`, an event as a trace tells it.
 //! - `turn.rt`, `grant.rt`: `parse_turn`, what a line asks for.
-//! - `traced.rt`: `split_line`, a line of a trace cut into its parts; `framed.rt`: the same of most lines, at once.
+//! - `traced.rt`: `split_line`, a line of a trace cut into its parts. `leading.rt`: what a text begins with,
+//!   read in one pass.
 //! - `picks.rt`: `picked`, the number that an answer picks.
 //! - `laws.rt`, `told.rt`, `short.rt`: what `gp_trace` writes is read back, a text tells one thing at most, and a
 //!   line of a trace has no line feed but the one that ends it, and is not too long.
@@ -22,9 +23,9 @@ mod code;
 mod event;
 mod fault;
 mod fields;
-mod framed;
 mod grant;
 mod laws;
+mod leading;
 mod parts;
 mod picks;
 mod short;

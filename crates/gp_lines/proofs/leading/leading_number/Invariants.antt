@@ -1,6 +1,6 @@
 use Rattle.std.proofs.Common.{◌≤◌, ◌-◌, length, take}
 use Rattle.gp_lines.proofs.DigitLemmas.{AreDigits}
-use Rattle.gp_lines.proofs.framed.first_number.Given as goal
+use Rattle.gp_lines.proofs.leading.leading_number.Given as goal
 
 abbrev pub invariant-digits : goal.invariant-digits
 invariant-digits l = (l.at ≤ length l.text) × AreDigits (take l.at l.text) l.number

@@ -1,7 +1,7 @@
 use Rattle.std.proofs.Common.{rules, ◌≡◌, ◌<◌, ◌-◌, true, arith, length, refl, slice_index}
 use Rattle.std.specs.Char.{is_ascii_digit}
 use Rattle.gp_lines.proofs.DigitLemmas.{digit_more}
-use Rattle.gp_lines.proofs.framed.first_number.Goals as goal
+use Rattle.gp_lines.proofs.leading.leading_number.Goals as goal
 
 pub digits-preserved : goal.digits-preserved
 digits-preserved c =
