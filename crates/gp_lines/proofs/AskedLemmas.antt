@@ -169,11 +169,11 @@ spelled_again text others port x p h =
 
 -- ---- texts
 
-abbrev IsTurn : Asked → Type 0
+abbrev pub IsTurn : Asked → Type 0
 IsTurn asked.Nothing = ⊥
 IsTurn _ = Unit {0}
 
-text_again : (text : List ℕ) (x : Asked) → IsTurn x → SpellsAsked text x → turn_of_parts (parts_of text) ≡ Ok x
+pub text_again : (text : List ℕ) (x : Asked) → IsTurn x → SpellsAsked text x → turn_of_parts (parts_of text) ≡ Ok x
 text_again text asked.Nothing turn s = absurd turn
 text_again text (asked.Event port event) turn s = spelled_again text s.0 port (asked.Event port event) s.1 (behind_event port s.0 event (parts_again s.0 event s.2))
 text_again text (asked.Frames port count) turn s =

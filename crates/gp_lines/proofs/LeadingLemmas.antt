@@ -1,17 +1,22 @@
--- What a text begins with, and the lines that are read by it.
-use Rattle.std.proofs.Common.{◌≡◌, ℕ, suc, ◌+◌, ◌-◌, ◌<◌, ◌≤◌, List, ◌∷◌, ◌++◌, take, drop, length, codes, Ok, sym, ap, ◌∙◌, arith, append_assoc, get_or, take-append-drop, drop-cons, add-one, ◌^◌}
-use Rattle.std.proofs.lemmas.List.{length-take-le, take_rest}
+-- What a text begins with, and the lines and turns that are read by it.
+use Rattle.std.proofs.Common.{◌≡◌, ℕ, suc, ◌+◌, ◌-◌, ◌<◌, ◌≤◌, List, [], ◌∷◌, ◌++◌, take, drop, length, codes, Ok, refl, sym, ap, ◌∙◌, arith, append_assoc, get_or, take-append-drop, drop-cons, add-one, ◌^◌}
+use Rattle.std.proofs.lemmas.List.{append-nil, length-take-le, take_rest}
+use Rattle.std.proofs.lemmas.List.Splits.{slice_split_at}
+use Rattle.std.specs.List.{All}
 use Rattle.gp_machine.specs.declared.event.Event.{Event}
 use Rattle.gp_machine.specs.declared.event.Event.TheVariants.{Frame, Burst}
+use Rattle.gp_lines.specs.declared.turn.Asked.TheVariants as asked
 use Rattle.gp_lines.specs.Leading.{NumberLeads, EventLeads}
-use Rattle.gp_lines.specs.Parts.{parts_of}
+use Rattle.gp_lines.specs.Parts.{is_space, parts_of}
 use Rattle.gp_lines.specs.Reading.{code_in}
 use Rattle.gp_lines.specs.Trace.{SplitsLine}
+use Rattle.gp_lines.specs.TurnReading.{turn_of_parts}
 use Rattle.gp_lines.proofs.DigitLemmas.{AreDigits}
 use Rattle.gp_lines.proofs.SplitLemmas.{head_parts, numeral_plain}
+use Rattle.gp_lines.proofs.AskedLemmas.{text_again}
 use Rattle.gp_lines.proofs.ReadLemmas.{code_ok}
-use Rattle.gp_lines.proofs.TextLemmas.{hex_are_plain}
-use Rattle.gp_lines.proofs.ToldLemmas.{event_told, two_parts, burst_parts}
+use Rattle.gp_lines.proofs.TextLemmas.{IsPlain, hex_are_plain}
+use Rattle.gp_lines.proofs.ToldLemmas.{unspaced, event_told, two_parts, burst_parts}
 
 -- a space behind them
 pub digits_end : (text : List ℕ) (at number octet : ℕ) → at < length text → 0 < at → octet ≡ get_or text at 0 → octet ≡ 32 → number < 2 ^ 64 → AreDigits (take at text) number
@@ -67,3 +72,17 @@ line_cut text behind told rest answer port number event first second e is low =
       apart = whole ∙ sym (simp append_assoc);
       told = (first.digits, second.digits, parts_of e.words, apart, first.spelled, low, second.spelled, second.fits, e.told);
     }
+
+port_parts : (first rest : List ℕ) → All IsPlain first → parts_of (first ++ (codes " " ++ rest)) ≡ first ∷ parts_of rest
+unfolding parts_of
+port_parts first rest plain = slice_split_at is_space first 32 rest (unspaced first plain) refl
+
+-- a port, an event, and nothing else
+pub turn_whole : (text told rest : List ℕ) (port : ℕ) (event : Event) → NumberLeads text port told → EventLeads told event rest → length rest ≡ 0 → port ≤ 15
+    → turn_of_parts (parts_of text) ≡ Ok (asked.Event port event)
+turn_whole text told [] port event n e none low =
+    let apart : parts_of text ≡ n.digits ∷ parts_of e.words =
+    ap parts_of (n.apart ∙ ap (λ (l : List ℕ). n.digits ++ (codes " " ++ l)) (e.apart ∙ append-nil e.words))
+    ∙ port_parts n.digits e.words (numeral_plain n.digits n.spelled.0) in
+    text_again text (asked.Event port event) tt (parts_of e.words, (n.digits, apart, n.spelled, low), e.told)
+turn_whole text told (octet ∷ rest) port event n e none low = absurd (omega arith)

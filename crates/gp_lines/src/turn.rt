@@ -1,5 +1,5 @@
 //! Lines that ask for something.
-ghost use Rattle.std.specs.Prelude.{◌≡◌, ◌↔◌, Ok, Err};
+ghost use Rattle.std.specs.Prelude.{◌≡◌, ◌↔◌, Ok, Err, IfSome};
 ghost use Rattle.gp_lines.specs.declared.fault.LineFault.{LineFault as AnyFault};
 ghost use Rattle.gp_lines.specs.declared.turn.Asked.{Asked as AnyAsked};
 ghost use Rattle.gp_lines.specs.Parts.{parts_of};
@@ -12,6 +12,7 @@ use crate::fault::LineFault;
 use crate::fields::number_in;
 use crate::grant::{grant_in, one_number};
 use crate::laws::turns_are_read;
+use crate::leading::{leading_burst, leading_number};
 use crate::parts::{cut, is_word, two_parts};
 use gp_machine::Event;
 use gp_ranging::Grant;
@@ -131,14 +132,45 @@ fn begun_turn(first: &[u8], text: &[u8]) -> Result<Asked, LineFault>
     }
 }
 
-/// Reads the parts of a text.
-fn turn_in(text: &[u8]) -> Result<Asked, LineFault>
+/// Reads a turn that asks for a frame or a burst, in one pass. None for any other, and for some of these: those with
+/// very many digits.
+fn usual_turn(text: &[u8]) -> Option<Asked>
+    ensures { IfSome result (λ asked. spec.turn_of_parts (parts_of text.now) ≡ Ok asked) }
+{
+    let (port, told) = leading_number(text)?;
+    if port > u64::from(LAST_PORT) {
+        return None;
+    }
+    let port = port as u8;
+    if is_word(told, "frame") {
+        let event = Event::Frame;
+        return Some(Asked::Event { port, event });
+    }
+    let (event, rest) = leading_burst(told)?;
+    if !rest.is_empty() {
+        return None;
+    }
+    Some(Asked::Event { port, event })
+}
+
+/// Reads the parts of any turn.
+fn any_turn(text: &[u8]) -> Result<Asked, LineFault>
     ensures { result ≡ spec.turn_of_parts (parts_of text.now) }
 {
     let (first, rest) = cut(text);
     match rest {
         None => Err(LineFault::Word),
         Some(rest) => begun_turn(first, rest),
+    }
+}
+
+/// Reads a turn.
+fn turn_in(text: &[u8]) -> Result<Asked, LineFault>
+    ensures { result ≡ spec.turn_of_parts (parts_of text.now) }
+{
+    match usual_turn(text) {
+        Some(asked) => Ok(asked),
+        None => any_turn(text),
     }
 }
 

@@ -1,7 +1,7 @@
 use Rattle.std.proofs.Common.{◌≡◌, ◌∷◌, refl, sym, ◌∙◌}
 use Rattle.gp_lines.specs.Parts.{parts_of}
 use Rattle.gp_lines.proofs.AskedLemmas.{turn_cut}
-use Rattle.gp_lines.proofs.turn.turn_in.Goals as goal
+use Rattle.gp_lines.proofs.turn.any_turn.Goals as goal
 
 pub returns-in-Some : goal.returns-in-Some
 returns-in-Some c =
