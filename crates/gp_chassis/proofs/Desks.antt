@@ -1,19 +1,22 @@
 -- A desk that serves one event more.
-use Rattle.std.proofs.Common.{◌≡◌, ◌+◌, ℕ, List, [], ◌∷◌, ◌++◌, length, sym, ap, subst, ◌∙◌, length-append}
-use Rattle.std.specs.Prelude.{Option}
+use Rattle.std.proofs.Common.{◌≡◌, ◌+◌, ◌-◌, ◌<◌, ℕ, List, [], ◌∷◌, ◌++◌, length, arith, sym, ap, subst, ◌∙◌, length-append}
+use Rattle.std.specs.Prelude.{Option, Some, None, slice_get}
+use Rattle.std.proofs.Math.Seq.{get_or-append_seam}
 use Rattle.std.proofs.lemmas.List.Elements.{All-push}
+use Rattle.std.proofs.lemmas.Option.{slice_get-get_or, same_Some}
 use Rattle.gp_machine.specs.declared.config.PortConfig.{PortConfig}
 use Rattle.gp_machine.specs.declared.answer.Answer.{Answer}
 use Rattle.gp_machine.specs.declared.event.Event.{Event}
 use Rattle.gp_machine.specs.declared.entry.Entry.{Entry}
+use Rattle.gp_machine.specs.declared.entry.Receipt.{Receipt}
 use Rattle.gp_machine.specs.State.{PortState, opening_of}
 use Rattle.gp_machine.specs.Step.{Step}
-use Rattle.gp_machine.specs.Run.{IsStep, IsReached}
+use Rattle.gp_machine.specs.Run.{IsStep, IsReached, entry_outcome}
 use Rattle.gp_port.specs.Numbers.{GrantsWish}
 use Rattle.gp_laws.proofs.WholeRuns.{step_config}
 use Rattle.gp_journal.specs.Replays.{Replays}
 use Rattle.gp_journal.proofs.Runs.{Replays-push, Run-push}
-use Rattle.gp_chassis.specs.Desk.{DeskState, DeskStands, IsProperEntry, desk_after}
+use Rattle.gp_chassis.specs.Desk.{DeskState, DeskStands, IsProperEntry, Serves, Keeps, desk_after, last_kept}
 
 -- a step, with the licences counted before and after it
 pub step_counted : (purse rest counted left : ℕ) (p next : PortState) (event : Event) (answer : Answer) → counted ≡ purse → left ≡ rest
@@ -54,3 +57,39 @@ desk_recorded d e next first1 first2 base1 base2 es1 es2 f1 f2 b1 b2 h1 h2 =
 -- so many entries it then keeps
 pub one_more : (d : DeskState) (e : Entry) (next : PortState) → length (desk_after d e next).entries ≡ length d.entries + 1
 one_more d e next = length-append d.entries (e ∷ [])
+
+last_pushed : (es : List Entry) (e : Entry) → slice_get (es ++ e ∷ []) (length (es ++ e ∷ []) - 1) ≡ Some e
+last_pushed es e =
+    let count : length (es ++ e ∷ []) ≡ length es + 1 = length-append es (e ∷ []) in
+    let within : length es < length (es ++ e ∷ []) = omega (arith, count) in
+    let last : length (es ++ e ∷ []) - 1 ≡ length es = omega (arith, count) in
+    ap (slice_get (es ++ e ∷ [])) last ∙ slice_get-get_or (es ++ e ∷ []) (length es) e within ∙ ap (λ (x : Entry). Some x) (get_or-append_seam es e [] e)
+
+-- the entry of a desk that serves is the last that its journal keeps
+pub served_last : (old new : DeskState) (port purse : ℕ) (event : Event) (r : Receipt) (rest : ℕ) → Serves old new port purse event r rest → last_kept new ≡ Some r.entry
+served_last old new port purse event r rest h = ap last_kept h.desk ∙ last_pushed old.entries r.entry
+
+-- a receipt with these numbers and this entry
+pub receipt_is : (a b : Receipt) → a.port ≡ b.port → a.number ≡ b.number → Some a.entry ≡ Some b.entry → a ≡ b
+receipt_is a b h1 h2 h3 =
+    let M : ℕ → ℕ → Entry → Receipt = λ p n e. record { port = p; number = n; entry = e } in
+    ap (λ (p : ℕ). M p a.number a.entry) h1 ∙ ap (λ (n : ℕ). M b.port n a.entry) h2 ∙ ap (M b.port b.number) (same_Some a.entry b.entry h3)
+
+-- a desk that has served keeps an entry
+pub kept_some : (old new : DeskState) (purse : ℕ) (event : Event) (wished : Option ℕ) (number rest : ℕ) → Keeps old new purse event wished number rest → last_kept new ≡ None → ⊥
+kept_some old new purse event wished number rest h none = let last = served_last old new 0 purse event _ rest (h.serves 0) in let both = sym last ∙ none in cc
+
+-- the receipt of the last entry is the one that the desk served
+pub kept_serves : (old new : DeskState) (port purse : ℕ) (event : Event) (wished : Option ℕ) (number rest : ℕ) (r : Receipt) → Keeps old new purse event wished number rest
+    → r.port ≡ port → r.number ≡ number → last_kept new ≡ Some r.entry → Serves old new port purse event r rest
+kept_serves old new port purse event wished number rest r h h1 h2 h3 =
+    let s : Receipt = record { port = port; number = number; entry = h.entry } in
+    let last = served_last old new port purse event s rest (h.serves port) in
+    subst (λ (x : Receipt). Serves old new port purse event x rest) (receipt_is s r (sym h1) (sym h2) (sym last ∙ h3)) (h.serves port)
+
+-- and it grants the wish
+pub kept_grants : (old new : DeskState) (purse : ℕ) (event : Event) (wished : Option ℕ) (number rest : ℕ) (e : Entry) → Keeps old new purse event wished number rest
+    → last_kept new ≡ Some e → GrantsWish purse old.state event wished (entry_outcome e new.state)
+kept_grants old new purse event wished number rest e h last =
+    let same : h.entry ≡ e = same_Some _ _ (sym (served_last old new 0 purse event _ rest (h.serves 0)) ∙ last) in
+    subst (λ (x : Entry). GrantsWish purse old.state event wished (entry_outcome x new.state)) same h.grants

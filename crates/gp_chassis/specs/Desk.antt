@@ -1,5 +1,5 @@
 -- A port with its journal (this profile's own rule).
-use Rattle.std.specs.Prelude.{ℕ, List, Option, None, Some, All, ◌≡◌, ◌+◌, ◌<◌, ◌^◌, ◌++◌, ◌∷◌, [], length, IsTrue}
+use Rattle.std.specs.Prelude.{ℕ, List, Option, None, Some, All, ◌≡◌, ◌+◌, ◌-◌, ◌<◌, ◌^◌, ◌++◌, ◌∷◌, [], length, slice_get, IsTrue}
 use Rattle.std.specs.Option.{ForSome}
 use Rattle.gp_ploam.specs.Down.{IsProperDown}
 use Rattle.gp_machine.specs.declared.config.PortConfig.{PortConfig}
@@ -9,7 +9,8 @@ use Rattle.gp_machine.specs.declared.entry.Receipt.{Receipt}
 use Rattle.gp_machine.specs.Config.{is_within_limits}
 use Rattle.gp_machine.specs.State.{PortState, opening_of}
 use Rattle.gp_machine.specs.Sound.{IsSound}
-use Rattle.gp_machine.specs.Run.{IsStep, IsReached}
+use Rattle.gp_machine.specs.Run.{IsStep, IsReached, entry_outcome}
+use Rattle.gp_port.specs.Numbers.{GrantsWish}
 use Rattle.gp_journal.specs.declared.piece.Piece.{Piece}
 use Rattle.gp_journal.specs.Kept.{History}
 use Rattle.gp_journal.specs.Replays.{Replays}
@@ -70,6 +71,17 @@ pub record Serves (old new : DeskState) (port purse : ℕ) (event : Event) (rece
   pub number : receipt.number ≡ old.first + length old.entries
   pub desk : new ≡ desk_after old receipt.entry new.state
   pub stands : DeskStands new
+
+-- the last entry that the desk's journal keeps, if it keeps one
+abbrev pub last_kept : DeskState → Option Entry
+last_kept desk = slice_get desk.entries (length desk.entries - 1)
+
+-- the desk serves, whatever its port's number, and hands out the wished number where it can; the entry with this number
+-- is the last that its journal keeps. Inside: no public contract cites this
+pub record Keeps (old new : DeskState) (purse : ℕ) (event : Event) (wished : Option ℕ) (number rest : ℕ) : Type 0 where
+  pub entry : Entry
+  pub serves : (port : ℕ) → Serves old new port purse event (record { port = port; number = number; entry = entry }) rest
+  pub grants : GrantsWish purse old.state event wished (entry_outcome entry new.state)
 
 -- all that the desk's journal keeps
 abbrev pub piece_of : DeskState → Piece

@@ -1,8 +1,8 @@
-ghost use Rattle.std.specs.Prelude.{◌≡◌, ◌+◌, ◌<◌, ◌≤◌, ◌↔◌, ◌^◌, ◌++◌, ◌∷◌, [], length, IfOk, IfErr, OnErr, IsErrOf, IsTrue};
+ghost use Rattle.std.specs.Prelude.{◌≡◌, ◌≤◌, ◌↔◌, length, None, Some, IfOk, IfErr, OnErr, MatchOption, IsErrOf, IsTrue};
 ghost use Rattle.gp_machine.specs.State.{rows_of};
 ghost use Rattle.gp_machine.specs.Run.{entry_outcome};
 ghost use Rattle.gp_port.specs.Numbers.{GrantsWish};
-ghost use Rattle.gp_chassis.specs.Desk.{DeskStands, HasRoom, MayOpen, Serves, Cuts, opened};
+ghost use Rattle.gp_chassis.specs.Desk.{DeskStands, HasRoom, MayOpen, Serves, Keeps, Cuts, opened, last_kept};
 ghost use Rattle.gp_machine.specs.Config.{max_journal_limit};
 
 use crate::fault::ApplyFault;
@@ -125,6 +125,26 @@ impl<L: Ledger> PortDesk<L> {
         ensures wished { IfOk result
             (λ served. GrantsWish purse self.old.state event wished (entry_outcome served.0.entry self.new.state)) }
     {
+        match self.serve_kept(purse, event, wished) {
+            Ok((number, rest)) => Ok((self.receipt_kept(port, number), rest)),
+            Err(fault) => Err(fault),
+        }
+    }
+
+    /// Makes the step and records it in the journal alone, as the last entry there, and gives the entry's number.
+    // The entry is written to the journal once: whoever wants it copies it out, or borrows it there.
+    #[inline(always)]
+    pub(crate) fn serve_kept(
+        &mut self,
+        purse: Licences<L>,
+        event: Event,
+        wished: Option<u16>,
+    ) -> Result<(u64, Licences<L>), (ApplyFault, Licences<L>)>
+        ensures ok { IfOk result (λ kept. Keeps self.old self.new purse event wished kept.0 kept.1) }
+        ensures err { IfErr result (λ fault. (fault.1 ≡ purse) × (self.new ≡ self.old)) }
+        ensures full { IfErr result (λ fault. (fault.0 ≡ ApplyFault.JournalFull) ↔ (HasRoom self.old → ⊥)) }
+        ensures some_port { IfErr result (λ fault. fault.0 ≡ ApplyFault.NoPort → ⊥) }
+    {
         if !self.has_room() {
             return Err((ApplyFault::JournalFull, purse));
         }
@@ -133,14 +153,39 @@ impl<L: Ledger> PortDesk<L> {
         }
         let purse_in = purse.count();
         let (answer, rest) = self.core.step_wishing(purse, event, wished);
-        let entry = Entry {
+        let number = self.journal.append(Entry {
             purse_in,
             event,
             answer,
             purse_out: rest.count(),
-        };
-        let receipt = record(&mut self.journal, port, entry);
-        Ok((receipt, rest))
+        });
+        Ok((number, rest))
+    }
+
+    /// Gives the receipt of the last entry that the journal keeps, with these numbers of the port and of the entry.
+    #[inline(always)]
+    pub(crate) fn receipt_kept(&self, port: u8, number: u64) -> Receipt
+        requires { last_kept self.now ≡ None → ⊥ }
+        ensures port { result.port ≡ port }
+        ensures number { result.number ≡ number }
+        ensures entry { last_kept self.now ≡ Some result.entry }
+    {
+        match self.last_entry() {
+            Some(entry) => Receipt {
+                port,
+                number,
+                entry: *entry,
+            },
+            None => unreachable!(),
+        }
+    }
+
+    /// Lends the last entry that the journal keeps, if it keeps one.
+    #[inline(always)]
+    pub(crate) fn last_entry(&self) -> Option<&Entry>
+        ensures { MatchOption result (last_kept self.now ≡ None) (λ entry. last_kept self.now ≡ Some entry.now) }
+    {
+        self.journal.entries().last()
     }
 
     /// Hands out what the journal keeps, and begins it anew after that: the next entry has the next number. Memory is
@@ -204,23 +249,4 @@ impl<L: Ledger> PortDesk<L> {
         } = self;
         (journal, core.close())
     }
-}
-
-/// Records an entry, and gives its receipt, with this port's number.
-fn record(journal: &mut Journal, port: u8, entry: Entry) -> Receipt
-    requires room { 0 < journal.old.room }
-    requires count { journal.old.first + length journal.old.entries + 1 < 2 ^ 64 }
-    ensures receipt { result ≡ record
-        { port = port; number = journal.old.first + length journal.old.entries; entry = entry } }
-    ensures first { journal.new.first ≡ journal.old.first }
-    ensures base { journal.new.base ≡ journal.old.base }
-    ensures entries { journal.new.entries ≡ journal.old.entries ++ entry ∷ [] }
-{
-    let receipt = Receipt {
-        port,
-        number: journal.len(),
-        entry,
-    };
-    journal.append(receipt.entry);
-    receipt
 }
