@@ -1,12 +1,15 @@
 -- A chassis on one thread: what each call leaves of it.
-use Rattle.std.proofs.Common.{◌≡◌, ◌<◌, ◌≤◌, ◌+◌, ◌-◌, ◌==◌, ◌&&◌, ℕ, Bool, true, false, List, [], ◌∷◌, length, map, replicate, set, get_or, refl, sym, ap, subst, ◌∙◌, arith, length-set, IsTrue}
+use Rattle.std.proofs.Common.{◌≡◌, ◌<◌, ◌≤◌, ◌+◌, ◌-◌, ◌==◌, ◌&&◌, ℕ, Bool, true, false, List, [], ◌∷◌, length, map, replicate, set, get_or, refl, sym, ap, subst, ◌∙◌, arith, inl, inr, length-set, IsTrue}
 use Rattle.std.specs.Prelude.{Option, Some, slice_get, slice_set, slice_index, sum_by, All, if◌then◌else◌, nat_lt, option_map, ◌↔◌}
 use Rattle.std.specs.FinMap.{len-empty}
-use Rattle.std.proofs.lemmas.List.{map-set, set-set, set-get_or, length-replicate}
+use Rattle.std.specs.Option.{option_and_then}
+use Rattle.std.proofs.lemmas.List.{map-set, set-set, set-get_or, get_or-set_same, length-replicate}
 use Rattle.std.proofs.lemmas.List.Elements.{All-set, All-map, All-nil}
 use Rattle.std.proofs.lemmas.List.Folds.{sum_by-replicate}
 use Rattle.std.proofs.lemmas.List.Sums.{sum_by-cons}
 use Rattle.std.proofs.lemmas.Option.{slice_get-map, get_or_from_slice_get, slice_get_read, slice_get_within, same_Some}
+use Rattle.std.proofs.lemmas.Bool.{cases_lt}
+use Rattle.std.proofs.lemmas.Bool.Decides.{nat_tests, eqb_tells}
 use Rattle.gp_ploam.specs.Serials.{serial_cmp}
 use Rattle.gp_unit.specs.declared.row.Row.{Row}
 use Rattle.gp_machine.specs.declared.config.PortConfig.{PortConfig}
@@ -25,9 +28,10 @@ use Rattle.gp_port.specs.Numbers.{GrantsWish, HandsOut}
 use Rattle.gp_laws.proofs.WholeRuns.{every_state}
 use Rattle.gp_journal.specs.declared.piece.Piece.{Piece}
 use Rattle.gp_journal.proofs.Runs.{Replays-opened}
-use Rattle.gp_chassis.specs.Desk.{DeskState, DeskStands, HasRoom, opened, Serves, Cuts, IsProperEntry}
+use Rattle.gp_chassis.specs.Desk.{DeskState, DeskStands, HasRoom, opened, Serves, Keeps, Cuts, IsProperEntry, last_kept}
 use Rattle.gp_chassis.specs.World.{ChassisWorld, Port, PortMoves, hand, taken, given, ChassisStep, ChassisRun, IsBalanced, HoldsApart, units_of, world_opened}
-use Rattle.gp_chassis.specs.Core.{CoreState, Stands, CoreServes, CoreCuts, CoreApplies, GrantsFrom, GrantsTurn, world_of, with_licences, lent, moves_of, core_opened, IsFullAt, JoinsAt}
+use Rattle.gp_chassis.specs.Core.{CoreState, Stands, CoreServes, CoreCuts, CoreApplies, CoreKeeps, CoreKeepsFrom, GrantsFrom, GrantsTurn, IsBurst, world_of, with_licences, lent, last_kept_at, moves_of, core_opened, IsFullAt, JoinsAt}
+use Rattle.gp_chassis.proofs.Desks.{served_last, receipt_is}
 use Rattle.gp_chassis.proofs.Worlds.{move_keeps, taken_ports, set_same, apart_reached}
 
 same_desk : (s : CoreState) (p : ℕ) (d e : DeskState) → slice_get s.desks p ≡ Some d → slice_get s.desks p ≡ Some e → d ≡ e
@@ -224,10 +228,14 @@ applied_run old new p (Burst at bytes) r l h =
 -- ---- what is lent for an event
 
 -- lending fills no journal
-pub lent_full : (event : Event) (s : CoreState) (p : ℕ) → IsFullAt (lent event s) p ↔ IsFullAt s p
+lent_full : (event : Event) (s : CoreState) (p : ℕ) → IsFullAt (lent event s) p ↔ IsFullAt s p
 lent_full (Burst at bytes) s p = (λ f. record { desk = f.desk; is = f.is; full = f.full }, λ f. record { desk = f.desk; is = f.is; full = f.full })
 lent_full Frame s p = (λ f. f, λ f. f)
 lent_full (Command command) s p = (λ f. f, λ f. f)
+
+-- so what tells that a journal is full tells it of the chassis before
+pub full_before : (event : Event) (s : CoreState) (p : ℕ) (b : Type 0) → (b ↔ IsFullAt (lent event s) p) → (b ↔ IsFullAt s p)
+full_before event s p b tells = let same = lent_full event s p in (λ h. same.0 (tells.0 h), λ f. tells.1 (same.1 f))
 
 -- ---- a wish
 
@@ -298,3 +306,76 @@ turn_granted old between new p (Burst at bytes) wished r l h grants given_is oth
     let moves : PortMoves 0 p other (world_of mid) run.2.0 = subst (λ (w : ChassisWorld). PortMoves 0 p other w run.2.0) image run.2.1.1 in
     let (entry, world) = step_granted mid between 0 p (Burst at bytes) wished r h grants other run.2.0 what moves hands in
     (entry, ap world_of given_is ∙ ap (given 0) world ∙ sym run.2.2.1.1 ∙ sym run.2.2.2)
+
+-- ---- what stands in the journal
+
+-- the desk of a port serves with what was pulled out of an actor's hands, and its entry stands in the journal
+pub kept_core : (s : CoreState) (a p q : ℕ) (event : Event) (wished : Option ℕ) (number : ℕ) (d next : DeskState) (rest purse : ℕ) (h1 h2 : List ℕ)
+    → p < length s.desks → q ≡ p → d ≡ get_or s.desks q d → purse ≡ slice_index s.hands a → h1 ≡ set s.hands a 0 → h2 ≡ set h1 a rest → Keeps d next purse event wished number rest
+    → CoreKeepsFrom s (record s { desks = set s.desks q next; hands = h2 }) a p event wished number
+kept_core s a p q event wished number d next rest purse h1 h2 l is at pulled one two k =
+    let r : Receipt = record { port = p; number = number; entry = k.entry } in
+    let serves : Serves d next p purse event r rest = k.serves p in
+    record {
+      receipt = r;
+      serves = served_core s a p q event r d next rest purse h1 h2 l is at pulled one two serves;
+      proper = serves.proper;
+      grants = granted_core s a p q event wished k.entry d next purse h2 l is at pulled k.grants;
+      is_port = refl;
+      is_number = refl;
+      kept = ap (λ (n : ℕ). option_and_then last_kept (slice_get (set s.desks n next) p)) is ∙ ap (option_and_then last_kept) (set_same s.desks p next l)
+          ∙ served_last d next p purse event r rest serves;
+    }
+
+-- a burst is handed no licence only where none is free
+burst_served : (old between : CoreState) (p : ℕ) (event : Event) (r : Receipt) → 0 < length old.hands → CoreServes (lent event old) between 0 p event r
+    → IsBurst event → r.entry.purse_in ≡ 0 → old.free ≡ 0
+burst_served old between p Frame r l h burst none = elim burst [ ]
+burst_served old between p (Command command) r l h burst none = elim burst [ ]
+burst_served old between p (Burst at bytes) r l h burst none =
+    let w : ChassisWorld = world_of old in
+    let purse : slice_index (taken 0 w).hands 0 ≡ 0 = sym h.serves.purse_in ∙ none in
+    let P : Bool → Type 0 = λ t. slice_index (if t then record w { free = w.free - 1; hands = slice_set w.hands 0 1 } else w).hands 0 ≡ 0 in
+    elim (cases_lt 0 w.free) [
+      | inl some ↦ elim (eqb_tells (hand w 0) 0) [
+        | inl e ↦
+            let b : ((hand w 0 == 0) && nat_lt 0 w.free) ≡ true = grind (arith, nat_tests) in
+            let zero : slice_index (slice_set w.hands 0 1) 0 ≡ 0 = subst P b purse in
+            let one : slice_index (slice_set w.hands 0 1) 0 ≡ 1 = get_or-set_same w.hands 0 1 0 l in
+            omega (arith, zero, one)
+        | inr e ↦
+            let b : ((hand w 0 == 0) && nat_lt 0 w.free) ≡ false = grind (arith, nat_tests) in
+            let zero : hand w 0 ≡ 0 = subst P b purse in
+            absurd (e.1 zero)
+      ]
+      | inr none ↦ omega (arith, none)
+    ]
+
+-- actor 0 takes, has the event served, and gives: of that the journal keeps the entry
+pub kept_applies : (old between new : CoreState) (p : ℕ) (event : Event) (wished : Option ℕ) (number : ℕ) → 0 < length old.hands
+    → CoreKeepsFrom (lent event old) between 0 p event wished number → new ≡ with_licences between (given 0 (world_of between)) → CoreKeeps old new p event wished number
+kept_applies old between new p event wished number l k given_is =
+    let applies : CoreApplies old new p event k.receipt = record { between = between; serves = k.serves; given_is = given_is } in
+    record {
+      receipt = k.receipt;
+      applies = applies;
+      run = applied_run old new p event k.receipt l applies;
+      purse = burst_served old between p event k.receipt l k.serves;
+      proper = k.proper;
+      grants = turn_granted old between new p event wished k.receipt l k.serves k.grants given_is;
+      is_port = k.is_port;
+      is_number = k.is_number;
+      kept = ap (λ (s : CoreState). last_kept_at s p) given_is ∙ k.kept;
+    }
+
+-- the receipt with these numbers and the last entry is the one that was served
+pub served_kept : (old new : CoreState) (a p : ℕ) (event : Event) (wished : Option ℕ) (number : ℕ) (r : Receipt) → CoreKeepsFrom old new a p event wished number
+    → r.port ≡ p → r.number ≡ number → last_kept_at new p ≡ Some r.entry → CoreServes old new a p event r
+served_kept old new a p event wished number r k h1 h2 h3 =
+    subst (λ (x : Receipt). CoreServes old new a p event x) (receipt_is k.receipt r (k.is_port ∙ sym h1) (k.is_number ∙ sym h2) (sym k.kept ∙ h3)) k.serves
+
+-- and the one that was applied
+pub applied_kept : (old new : CoreState) (p : ℕ) (event : Event) (wished : Option ℕ) (number : ℕ) (r : Receipt) → CoreKeeps old new p event wished number
+    → r.port ≡ p → r.number ≡ number → last_kept_at new p ≡ Some r.entry → CoreApplies old new p event r
+applied_kept old new p event wished number r k h1 h2 h3 =
+    subst (λ (x : Receipt). CoreApplies old new p event x) (receipt_is k.receipt r (k.is_port ∙ sym h1) (k.is_number ∙ sym h2) (sym k.kept ∙ h3)) k.applies

@@ -1,5 +1,7 @@
 -- A chassis on one thread (this profile's own rule).
 use Rattle.std.specs.Prelude.{ℕ, ◌≡◌, ◌+◌, List, [], ◌∷◌, Option, Some, All, map, length, slice_set, slice_get, replicate}
+use Rattle.std.specs.Option.{ForSome, option_and_then}
+use Rattle.gp_ploam.specs.Down.{IsProperDown}
 use Rattle.gp_machine.specs.declared.config.PortConfig.{PortConfig}
 use Rattle.gp_machine.specs.declared.event.Event.{Event}
 use Rattle.gp_machine.specs.declared.event.Event.TheVariants.{Frame, Burst, Command}
@@ -8,7 +10,7 @@ use Rattle.gp_machine.specs.declared.entry.Receipt.{Receipt}
 use Rattle.gp_machine.specs.Run.{entry_outcome}
 use Rattle.gp_port.specs.Numbers.{GrantsWish, HandsOut}
 use Rattle.gp_journal.specs.declared.piece.Piece.{Piece}
-use Rattle.gp_chassis.specs.Desk.{DeskState, DeskStands, HasRoom, opened, Serves, Cuts}
+use Rattle.gp_chassis.specs.Desk.{DeskState, DeskStands, HasRoom, opened, Serves, Cuts, last_kept}
 use Rattle.gp_chassis.specs.World.{ChassisWorld, ChassisRun, Move, Take, Port, Give, hand, taken, given, IsBalanced, actors}
 
 -- a chassis: its desks, how many licences are free, how many each actor has in hand, and how many there are in all
@@ -99,6 +101,39 @@ GrantsTurn world after port event wished entry =
     → ChassisRun (moves_of event port other) world end
     → HandsOut wished other.answer.reply
     → (entry ≡ other) × (after ≡ end)
+
+-- ---- what stands in the journal
+
+-- the last entry that the port's journal keeps, if there is this port and it keeps one
+abbrev pub last_kept_at : CoreState → ℕ → Option Entry
+last_kept_at core port = option_and_then last_kept (slice_get core.desks port)
+
+-- actor 0 takes for a burst, has the event served with this wish, and gives; the entry has this number, and is the last
+-- that the port's journal keeps
+pub record CoreKeeps (old new : CoreState) (port : ℕ) (event : Event) (wished : Option ℕ) (number : ℕ) : Type 0 where
+  pub receipt : Receipt
+  pub applies : CoreApplies old new port event receipt
+  pub run : ChassisRun (moves_of event port receipt.entry) (world_of old) (world_of new)
+  -- a burst is handed no licence only where none is free
+  pub purse : IsBurst event → receipt.entry.purse_in ≡ 0 → old.free ≡ 0
+  -- what is sent can be encoded
+  pub proper : ForSome receipt.entry.answer.sent IsProperDown
+  pub grants : GrantsTurn (world_of old) (world_of new) port event wished receipt.entry
+  pub is_port : receipt.port ≡ port
+  pub is_number : receipt.number ≡ number
+  pub kept : last_kept_at new port ≡ Some receipt.entry
+
+-- a desk serves with what the actor has in hand and with this wish; the entry has this number, and is the last that the
+-- port's journal keeps. Inside: no public contract cites this
+pub record CoreKeepsFrom (old new : CoreState) (actor port : ℕ) (event : Event) (wished : Option ℕ) (number : ℕ)
+    : Type 0 where
+  pub receipt : Receipt
+  pub serves : CoreServes old new actor port event receipt
+  pub proper : ForSome receipt.entry.answer.sent IsProperDown
+  pub grants : GrantsFrom old new actor port event wished receipt.entry
+  pub is_port : receipt.port ≡ port
+  pub is_number : receipt.number ≡ number
+  pub kept : last_kept_at new port ≡ Some receipt.entry
 
 -- ---- cutting
 

@@ -80,7 +80,8 @@ last_kept desk = slice_get desk.entries (length desk.entries - 1)
 -- is the last that its journal keeps. Inside: no public contract cites this
 pub record Keeps (old new : DeskState) (purse : ℕ) (event : Event) (wished : Option ℕ) (number rest : ℕ) : Type 0 where
   pub entry : Entry
-  pub serves : (port : ℕ) → Serves old new port purse event (record { port = port; number = number; entry = entry }) rest
+  pub serves : (port : ℕ)
+      → Serves old new port purse event (record { port = port; number = number; entry = entry }) rest
   pub grants : GrantsWish purse old.state event wished (entry_outcome entry new.state)
 
 -- all that the desk's journal keeps

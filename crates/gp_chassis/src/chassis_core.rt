@@ -4,7 +4,7 @@ ghost use Rattle.gp_ploam.specs.Down.{IsProperDown};
 ghost use Rattle.gp_chassis.specs.Desk.{opened};
 ghost use Rattle.gp_chassis.specs.Limits.{IsWithin};
 ghost use Rattle.gp_chassis.specs.World.{Take, Port, Give, ChassisStep, ChassisRun, HoldsApart, hand, taken, given, units_of, actors, world_opened};
-ghost use Rattle.gp_chassis.specs.Core.{Stands, CoreServes, CoreCuts, CoreApplies, JoinsAt, IsBurst, world_of, core_opened, with_licences, lent, IsFullAt, moves_of, GrantsFrom, GrantsTurn};
+ghost use Rattle.gp_chassis.specs.Core.{Stands, CoreServes, CoreCuts, CoreApplies, CoreKeeps, CoreKeepsFrom, JoinsAt, IsBurst, world_of, core_opened, with_licences, lent, last_kept_at, IsFullAt, moves_of, GrantsTurn};
 
 use crate::config::ChassisConfig;
 use crate::desk::PortDesk;
@@ -167,7 +167,8 @@ impl<L: Ledger> ChassisCore<L> {
         if usize::from(port) >= self.desks.len() {
             return Err(CoreFault::NoPort);
         }
-        self.serve_from(actor, port, event, None)
+        let number = self.keep_from(actor, port, event, None)?;
+        Ok(self.receipt_kept(port, number))
     }
 
     /// Makes all that is in the actor's hands free again. The only fault is `NoActor`. It takes no memory.
@@ -223,15 +224,33 @@ impl<L: Ledger> ChassisCore<L> {
         ensures wished { IfOk result
             (λ receipt. GrantsTurn (world_of self.old) (world_of self.new) port event wished receipt.entry) }
     {
+        let number = self.apply_kept(port, event, wished)?;
+        Ok(self.receipt_kept(port, number))
+    }
+
+    /// Does the same, and gives the number of the entry alone, which is the last of the port's journal.
+    fn apply_kept(
+        &mut self,
+        port: u8,
+        event: Event,
+        wished: Option<u16>,
+    ) -> Result<u64, CoreFault>
+        ensures ok { IfOk result (λ number. CoreKeeps self.old self.new port event wished number) }
+        ensures err { OnErr result (self.new ≡ self.old) }
+        ensures no_port { (result ≡ Err CoreFault.NoPort) ↔ (length self.old.desks ≤ port) }
+        ensures full { port < length self.old.desks
+            → IfErr result (λ fault. (fault ≡ CoreFault.JournalFull) ↔ IsFullAt self.old port) }
+        ensures some_actor { result ≡ Err CoreFault.NoActor → ⊥ }
+    {
         if usize::from(port) >= self.desks.len() {
             return Err(CoreFault::NoPort);
         }
         let before = self.hands[0].count();
         self.lend(&event);
-        match self.serve_from(0, port, event, wished) {
-            Ok(receipt) => {
+        match self.keep_from(0, port, event, wished) {
+            Ok(number) => {
                 self.give_from(0);
-                Ok(receipt)
+                Ok(number)
             }
             Err(fault) => {
                 if self.hands[0].count() != before {
@@ -303,35 +322,44 @@ impl<L: Ledger> ChassisCore<L> {
     }
 
     /// Has the desk of a port serve an event with all that is in the actor's hands, and hand out the wished number
-    /// where it can.
-    fn serve_from(
+    /// where it can. The entry then stands in the port's journal, and its number is told.
+    fn keep_from(
         &mut self,
         actor: usize,
         port: u8,
         event: Event,
         wished: Option<u16>,
-    ) -> Result<Receipt, CoreFault>
+    ) -> Result<u64, CoreFault>
         requires actor { actor < length self.old.hands }
         requires port { port < length self.old.desks }
-        ensures ok { IfOk result (λ receipt. CoreServes self.old self.new actor port event receipt) }
-        ensures proper { IfOk result (λ receipt. ForSome receipt.entry.answer.sent IsProperDown) }
+        ensures ok { IfOk result (λ number. CoreKeepsFrom self.old self.new actor port event wished number) }
         ensures err { OnErr result (self.new ≡ self.old) }
         ensures full { IfErr result (λ fault. (fault ≡ CoreFault.JournalFull) ↔ IsFullAt self.old port) }
-        ensures wished { IfOk result (λ receipt. GrantsFrom self.old self.new actor port event wished receipt.entry) }
         ensures only { IfErr result (λ fault. (fault ≡ CoreFault.NoActor → ⊥) × (fault ≡ CoreFault.NoPort → ⊥)) }
     {
         let purse = pull(&mut self.hands, actor);
         let desk = &mut self.desks[usize::from(port)];
-        match desk.serve_wishing(port, purse, event, wished) {
-            Ok((receipt, rest)) => {
+        match desk.serve_kept(purse, event, wished) {
+            Ok((number, rest)) => {
                 put(&mut self.hands, actor, rest);
-                Ok(receipt)
+                Ok(number)
             }
             Err((fault, purse)) => {
                 put(&mut self.hands, actor, purse);
                 Err(fault_of(fault))
             }
         }
+    }
+
+    /// Gives the receipt of the last entry that the journal of this port keeps, with this number of the entry.
+    #[inline(always)]
+    fn receipt_kept(&self, port: u8, number: u64) -> Receipt
+        requires { last_kept_at self.now port ≡ None → ⊥ }
+        ensures port { result.port ≡ port }
+        ensures number { result.number ≡ number }
+        ensures entry { last_kept_at self.now port ≡ Some result.entry }
+    {
+        self.desks[usize::from(port)].receipt_kept(port, number)
     }
 }
 

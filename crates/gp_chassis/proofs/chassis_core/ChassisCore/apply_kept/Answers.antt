@@ -1,0 +1,16 @@
+use Rattle.std.proofs.Common.{rules, ◌<◌, length}
+use Rattle.gp_chassis.specs.Core.{CoreKeepsFrom, lent}
+use Rattle.gp_chassis.proofs.Cores.{kept_applies, full_before}
+use Rattle.gp_chassis.proofs.chassis_core.ChassisCore.apply_kept.Goals as goal
+
+pub returns-in-Ok-clause-ok : goal.returns-in-Ok-clause-ok
+returns-in-Ok-clause-ok g c =
+    let actors : 0 < length c.args.self.now.hands = search rules in
+    let kept : CoreKeepsFrom (lent c.args.event c.args.self.now) c.keep_from.new.self 0 c.args.port c.args.event c.args.wished c.in-Ok.number = rw c.lend.ensures at c.in-Ok.ensures.ok in
+    kept_applies _ _ _ _ _ _ _ actors kept c.give_from.ensures
+
+pub returns-then-count-before-clause-full : goal.returns-then-count-before-clause-full
+returns-then-count-before-clause-full g c = λ port. full_before _ _ _ _ (rw c.lend.ensures at c.in-Err.ensures.full)
+
+pub returns-else-count-before-clause-full : goal.returns-else-count-before-clause-full
+returns-else-count-before-clause-full g c = λ port. full_before _ _ _ _ (rw c.lend.ensures at c.in-Err.ensures.full)
