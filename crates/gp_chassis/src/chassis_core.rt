@@ -13,7 +13,7 @@ use crate::hands::{close_desks, empty_hands, give_hands, pull, put};
 use gp_journal::Piece;
 use gp_licence::{LicenceBook, Licences, MAX_LICENCES};
 use gp_linear::NeverDropped;
-use gp_machine::{Event, PortConfig, Receipt};
+use gp_machine::{Entry, Event, PortConfig, Receipt};
 use gp_port::OpenFault;
 use std::alloc::Global;
 use std::marker::Model;
@@ -228,8 +228,8 @@ impl<L: Ledger> ChassisCore<L> {
         Ok(self.receipt_kept(port, number))
     }
 
-    /// Does the same, and gives the number of the entry alone, which is the last of the port's journal.
-    fn apply_kept(
+    /// Does the same, and gives the number of the entry alone, which `last_entry` then lends.
+    pub fn apply_kept(
         &mut self,
         port: u8,
         event: Event,
@@ -259,6 +259,17 @@ impl<L: Ledger> ChassisCore<L> {
                 Err(fault)
             }
         }
+    }
+
+    /// Lends the last entry that the journal of this port keeps, if the port is there and its journal keeps one.
+    pub fn last_entry(&self, port: u8) -> Option<&Entry>
+        ensures { MatchOption result (last_kept_at self.now port ≡ None)
+            (λ entry. last_kept_at self.now port ≡ Some entry.now) }
+    {
+        if usize::from(port) >= self.desks.len() {
+            return None;
+        }
+        self.desks[usize::from(port)].last_entry()
     }
 
     /// Hands out what a port's journal keeps, and begins it anew after that: the next entry has the next number. The
