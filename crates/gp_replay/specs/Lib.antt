@@ -9,3 +9,4 @@ pub mod Runs
 pub mod Laws
 pub mod WorldWriting
 pub mod Playing
+pub mod Telling

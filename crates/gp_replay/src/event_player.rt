@@ -68,7 +68,14 @@ pub trait EventPlayer {
 pub(crate) fn makes_grant(entry: &Entry, grant: Grant) -> bool
     ensures { IsTrue result ↔ (entry.now.answer.grant ≡ Some grant) }
 {
-    entry.answer.grant == Some(grant)
+    is_grant(entry.answer.grant, grant)
+}
+
+/// Tells whether the grant that was made, if one was, is this one.
+pub(crate) fn is_grant(made: Option<Grant>, grant: Grant) -> bool
+    ensures { IsTrue result ↔ (made ≡ Some grant) }
+{
+    made == Some(grant)
 }
 
 /// States that an event of a script is no more frames than its type can count.

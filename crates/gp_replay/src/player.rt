@@ -7,11 +7,15 @@ ghost use Rattle.gp_chassis.specs.Core.{IsFullAt};
 ghost use Rattle.gp_chassis.specs.Core.{GrantsTurn};
 ghost use Rattle.gp_replay.specs.Chassis.{HasRoom, KeepsFew, IsSoundPort, opened_play, play_of};
 ghost use Rattle.gp_replay.specs.Play.{TakesTurns};
+ghost use Rattle.gp_replay.specs.Telling.{TellsTurn};
 
+use super::line_buffer::LineBuffer;
+use super::told::Told;
 use super::turn::Turn;
 use gp_chassis::{ChassisConfig, ChassisCore, CoreFault};
 use gp_licence::MAX_LICENCES;
 use gp_machine::Receipt;
+use gp_ploam::Mask;
 use gp_port::OpenFault;
 use std::alloc::{AllocError, Global};
 use std::marker::Model;
@@ -110,6 +114,32 @@ impl<L: Ledger> Player<L> {
         }
     }
 
+    /// Does the same, builds the line of the entry, and gives of it only what is asked for behind that: the answer is not
+    /// copied. The mask is that of the port's codes.
+    pub fn tell_turn(
+        &mut self,
+        turn: Turn,
+        wished: Option<u16>,
+        mask: Mask,
+        buffer: &mut LineBuffer,
+    ) -> Result<Told, AllocError>
+        requires port { turn.port < length self.old.next }
+        requires room { HasRoom 1 self.old }
+        ensures told { IfOk result (λ told. TellsTurn mask self.old turn wished told buffer.new self.new) }
+        ensures refused { OnErr result ((self.new ≡ self.old) × (buffer.new ≡ buffer.old)) }
+        ensures ports { length self.new.next ≡ length self.old.next }
+    {
+        match tell(&mut self.chassis, turn, wished, mask, buffer) {
+            Ok(told) => Ok(told),
+            Err(CoreFault::JournalFull) => {
+                make_room(&mut self.chassis, self.alloc, turn.port)?;
+                tell_with_room(&mut self.chassis, turn, wished, mask, buffer)
+            }
+            Err(CoreFault::OutOfMemory) => Err(AllocError),
+            Err(CoreFault::NoActor | CoreFault::NoPort) => unreachable!(),
+        }
+    }
+
     /// Tells how many ports there are.
     pub fn ports(&self) -> usize
         ensures { result ≡ length self.now.next }
@@ -177,6 +207,56 @@ fn serve_with_room<L: Ledger>(
 {
     match serve(chassis, turn, wished) {
         Ok(receipt) => Ok(receipt),
+        Err(CoreFault::OutOfMemory) => Err(AllocError),
+        Err(CoreFault::NoActor | CoreFault::NoPort | CoreFault::JournalFull) => unreachable!(),
+    }
+}
+
+/// Has the port serve the event of a turn, as actor 0, and builds the line of the entry where it stands.
+fn tell<L: Ledger>(
+    chassis: &mut ChassisCore<L>,
+    turn: Turn,
+    wished: Option<u16>,
+    mask: Mask,
+    buffer: &mut LineBuffer,
+) -> Result<Told, CoreFault>
+    requires few { All KeepsFew chassis.old.desks }
+    requires port { turn.port < length chassis.old.desks }
+    ensures told { IfOk result
+        (λ told. TellsTurn mask (play_of chassis.old) turn wished told buffer.new (play_of chassis.new)) }
+    ensures few { All KeepsFew chassis.new.desks }
+    ensures refused { OnErr result ((chassis.new ≡ chassis.old) × (buffer.new ≡ buffer.old)) }
+    ensures full { result ≡ Err CoreFault.JournalFull → IsFullAt chassis.old turn.port }
+    ensures some_port { result ≢ Err CoreFault.NoPort }
+    ensures some_actor { result ≢ Err CoreFault.NoActor }
+{
+    let number = chassis.apply_kept(turn.port, turn.event, wished)?;
+    let entry = chassis.last_entry(turn.port).unwrap();
+    buffer.build_entry(mask, turn.port, number, entry);
+    Ok(Told {
+        number,
+        grant: entry.answer.grant,
+    })
+}
+
+/// The same where the port's journal has room for the entry.
+fn tell_with_room<L: Ledger>(
+    chassis: &mut ChassisCore<L>,
+    turn: Turn,
+    wished: Option<u16>,
+    mask: Mask,
+    buffer: &mut LineBuffer,
+) -> Result<Told, AllocError>
+    requires few { All KeepsFew chassis.old.desks }
+    requires port { turn.port < length chassis.old.desks }
+    requires room { IsFullAt chassis.old turn.port → ⊥ }
+    ensures told { IfOk result
+        (λ told. TellsTurn mask (play_of chassis.old) turn wished told buffer.new (play_of chassis.new)) }
+    ensures few { All KeepsFew chassis.new.desks }
+    ensures refused { OnErr result ((chassis.new ≡ chassis.old) × (buffer.new ≡ buffer.old)) }
+{
+    match tell(chassis, turn, wished, mask, buffer) {
+        Ok(told) => Ok(told),
         Err(CoreFault::OutOfMemory) => Err(AllocError),
         Err(CoreFault::NoActor | CoreFault::NoPort | CoreFault::JournalFull) => unreachable!(),
     }

@@ -2,15 +2,17 @@ ghost use Rattle.std.specs.Prelude.{◌≡◌, ◌<◌, [], ◌∷◌, IfOk, len
 ghost use Rattle.gp_script.specs.View.{NamesPort};
 ghost use Rattle.gp_replay.specs.Chassis.{HasRoom};
 ghost use Rattle.gp_replay.specs.Play.{TakesAllTurns, TakesSomeTurns, frame_turn, turns_of};
-ghost use Rattle.gp_replay.specs.Playing.{Tells, count_of};
-ghost use Rattle.gp_replay.specs.Writing.{PlaysOn, Writes};
+ghost use Rattle.gp_replay.specs.Playing.{count_of};
+ghost use Rattle.gp_replay.specs.Telling.{WritesTurn};
+ghost use Rattle.gp_replay.specs.Writing.{PlaysOn};
 
-use super::event_player::{EventPlayer, makes_grant};
+use super::event_player::{EventPlayer, is_grant};
 use super::fault::PlayFault;
 use super::line_buffer::LineBuffer;
 use super::player::Player;
+use super::told::Told;
 use super::turn::Turn;
-use gp_machine::{Event, Receipt};
+use gp_machine::Event;
 use gp_ploam::Mask;
 use gp_ranging::Grant;
 use gp_script::ScriptEvent;
@@ -18,26 +20,24 @@ use gp_stream::Sink;
 use std::io::Write;
 use std::sync::ledger::Ledger;
 
-/// Takes one turn, writes its line, and gives its receipt.
+/// Takes one turn, writes its line, and gives what is asked of its entry.
 fn play_turn<L: Ledger, W: Write>(
     player: &mut Player<L>,
     sink: &mut Sink<W>,
     buffer: &mut LineBuffer,
     mask: Mask,
     turn: Turn,
-) -> Result<Receipt, PlayFault>
+) -> Result<Told, PlayFault>
     requires port { turn.port < length player.old.next }
     requires room { HasRoom 1 player.old }
     ensures plays { let turns = turn ∷ [] in
         PlaysOn mask (TakesAllTurns turns) (TakesSomeTurns turns) player.old player.new sink.old sink.new result }
-    ensures told { IfOk result (λ receipt. Writes mask (Tells (receipt.entry ∷ []) (TakesAllTurns (turn ∷ [])))
-        player.old player.new sink.old sink.new) }
+    ensures told { IfOk result (λ told. WritesTurn mask turn told player.old player.new sink.old sink.new) }
     ensures ports { length player.new.next ≡ length player.old.next }
 {
-    let receipt = player.take_turn(turn)?;
-    buffer.build(mask, &receipt);
+    let told = player.tell_turn(turn, None, mask, buffer)?;
     sink.put(buffer.as_bytes())?;
-    Ok(receipt)
+    Ok(told)
 }
 
 /// Plays so many frames of a port.
@@ -131,7 +131,7 @@ impl<L: Ledger> EventPlayer for Player<L> {
             port,
             event: Event::Frame,
         };
-        let receipt = play_turn(self, sink, buffer, mask, frame)?;
-        Ok(makes_grant(&receipt.entry, grant))
+        let told = play_turn(self, sink, buffer, mask, frame)?;
+        Ok(is_grant(told.grant, grant))
     }
 }

@@ -47,12 +47,11 @@ fn judge_turn<L: Ledger>(
         port: line.port,
         event: line.event,
     };
-    let receipt = player.take_turn_wishing(turn, wished)?;
-    buffer.build(mask, &receipt);
+    let told = player.tell_turn(turn, wished, mask, buffer)?;
     if is_line_of(buffer.as_bytes(), text) {
         return Ok(Verdict::Follows);
     }
-    if receipt.number != line.number {
+    if told.number != line.number {
         return Ok(Verdict::WrongNumber);
     }
     Ok(Verdict::NotAStep)

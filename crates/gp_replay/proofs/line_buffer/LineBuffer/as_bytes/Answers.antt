@@ -1,4 +1,4 @@
-use Rattle.std.proofs.Common.{◌≡◌, ℕ, List, drop, ap, ◌∙◌}
+use Rattle.std.proofs.Common.{ℕ, List, drop, ap, ◌∙◌}
 use Rattle.std.proofs.lemmas.List.{take_rest}
 use Rattle.gp_replay.proofs.line_buffer.LineBuffer.as_bytes.Goals as goal
 
