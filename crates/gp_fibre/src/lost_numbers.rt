@@ -9,13 +9,14 @@ use super::lost::{Lost, is_among};
 use std::alloc::AllocError;
 use std::marker::Model;
 
-/// After how many walks over them numbers are put in order: as many as it takes at most to divide 2^64 numbers by two
-/// until one is left, so that the walks before it took as long.
+/// After how many walks over all of them numbers are put in order: as many as it takes at most to divide 2^64 numbers by
+/// two until one is left, so that the walks before it took as long.
 const WALKS: u32 = 64;
 
-/// Numbers that are lost, of copies or of bursts. A look-up walks over them the first 64 times. Then they are put in
-/// order once, in memory of their own, and a number that is looked up after a smaller one is found in a step or two,
-/// any other by halvings. Where there is no memory for that, it goes on as before.
+/// Numbers that are lost, of copies or of bursts. A look-up walks over them, until 64 of them went over all and found
+/// nothing. Then they are put in order once, in memory of their own, and a number is looked up by halvings, or in a step
+/// or two where none that is lost lies between it and the one before. Where there is no memory for that, it goes on as
+/// before.
 ///
 /// Contracts see them as a list.
 #[derive(Drop)]
@@ -25,7 +26,7 @@ pub struct LostNumbers {
     ordered: Option<Vec<u64>>,
     /// How many of those are less than the number that was looked up last.
     place: usize,
-    /// How often they were walked over since they were to be put in order.
+    /// How often all of them were walked over since they were to be put in order.
     walks: u32,
 }
 
@@ -64,11 +65,14 @@ impl LostNumbers {
             self.place = place;
             return stands_at(ordered, place, number);
         }
-        self.note_walk();
-        is_among(&self.given, number)
+        let lost = is_among(&self.given, number);
+        if !lost {
+            self.note_walk();
+        }
+        lost
     }
 
-    /// Counts a walk, and puts the numbers in order where there were enough.
+    /// Counts a walk over all numbers, and puts them in order where there were enough.
     fn note_walk(&mut self)
         ensures { self.new ≡ self.old }
     {

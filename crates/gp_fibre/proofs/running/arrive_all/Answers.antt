@@ -1,7 +1,5 @@
-use Rattle.std.proofs.Common.{◌<◌, ℕ, List, [], ◌∷◌, length, subst, ◌∙◌, arith}
+use Rattle.std.proofs.Common.{◌<◌, length, ◌∙◌, arith}
 use Rattle.std.proofs.lemmas.Option.{slice_get-get_or}
-use Rattle.gp_fibre.specs.Parts.{PortPuts}
-use Rattle.gp_fibre.specs.Schedule.{arrivals}
 use Rattle.gp_fibre.proofs.Parts.{puts_more}
 use Rattle.gp_fibre.proofs.running.arrive_all.Goals as goal
 

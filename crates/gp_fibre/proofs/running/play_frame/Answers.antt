@@ -1,4 +1,4 @@
-use Rattle.std.proofs.Common.{◌≡◌, ◌+◌, ℕ, List, length, ap, sym, subst, ◌∙◌, arith}
+use Rattle.std.proofs.Common.{◌≡◌, ◌+◌, ℕ, length, ap, sym, subst, ◌∙◌, arith}
 use Rattle.gp_fibre.specs.Fibre.{FibreStand}
 use Rattle.gp_fibre.specs.Flights.{AreInReach}
 use Rattle.gp_fibre.specs.Parts.{Asks, Comes, PortPuts, world_state}

@@ -1,6 +1,5 @@
-use Rattle.std.proofs.Common.{◌≡◌, ℕ, List, ap, ◌∙◌, subst}
+use Rattle.std.proofs.Common.{ℕ, List, ap, ◌∙◌}
 use Rattle.gp_fibre.specs.declared.losses.Losses.{Losses}
-use Rattle.gp_fibre.specs.Schedule.{PutsFrame}
 use Rattle.gp_fibre.proofs.Playing.{frames_more}
 use Rattle.gp_fibre.proofs.world.World.run_into.Goals as goal
 
