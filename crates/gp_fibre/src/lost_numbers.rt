@@ -7,6 +7,7 @@ ghost use Rattle.gp_fibre.specs.LostNumbers as spec_place;
 
 use super::lost::{Lost, is_among};
 use std::alloc::AllocError;
+use std::collections::BinaryHeap;
 use std::marker::Model;
 
 /// After how many walks over all of them numbers are put in order: as many as it takes at most to divide 2^64 numbers by
@@ -93,13 +94,12 @@ impl Lost for LostNumbers {
     }
 }
 
-/// Gives these numbers in ascending order.
+/// Gives these numbers in ascending order, by a heap: it takes no recursion.
 fn in_order(given: &Vec<u64>) -> Result<Vec<u64>, AllocError>
     ensures { IfOk result (λ ordered. IsInOrder given.now.items ordered.items) }
 {
-    let mut ordered = given.as_slice().to_vec(*given.allocator())?;
-    ordered.sort_unstable();
-    Ok(ordered)
+    let copied = given.as_slice().to_vec(*given.allocator())?;
+    Ok(BinaryHeap::from(copied).into_sorted_vec())
 }
 
 /// Tells whether so many of these numbers are less than a number.
