@@ -5,33 +5,16 @@ use Rattle.std.proofs.Math.Seq.{get_or-append_seam}
 use Rattle.std.proofs.lemmas.List.Elements.{All-push}
 use Rattle.std.proofs.lemmas.Option.{slice_get-get_or, same_Some}
 use Rattle.gp_machine.specs.declared.config.PortConfig.{PortConfig}
-use Rattle.gp_machine.specs.declared.answer.Answer.{Answer}
 use Rattle.gp_machine.specs.declared.event.Event.{Event}
 use Rattle.gp_machine.specs.declared.entry.Entry.{Entry}
 use Rattle.gp_machine.specs.declared.entry.Receipt.{Receipt}
 use Rattle.gp_machine.specs.State.{PortState, opening_of}
-use Rattle.gp_machine.specs.Step.{Step}
 use Rattle.gp_machine.specs.Run.{IsStep, IsReached, entry_outcome}
 use Rattle.gp_port.specs.Numbers.{GrantsWish}
 use Rattle.gp_laws.proofs.WholeRuns.{step_config}
 use Rattle.gp_journal.specs.Replays.{Replays}
 use Rattle.gp_journal.proofs.Runs.{Replays-push, Run-push}
 use Rattle.gp_chassis.specs.Desk.{DeskState, DeskStands, IsProperEntry, Serves, Keeps, desk_after, last_kept}
-
--- a step, with the licences counted before and after it
-pub step_counted : (purse rest counted left : ℕ) (p next : PortState) (event : Event) (answer : Answer) → counted ≡ purse → left ≡ rest
-    → Step purse p event (record { answer = answer; purse = rest; state = next })
-    → IsStep p (record { purse_in = counted; event = event; answer = answer; purse_out = left }) next
-step_counted purse rest counted left p next event answer q r step =
-    let counts : Step counted p event (record { answer = answer; purse = rest; state = next }) = subst (λ (n : ℕ). Step n p event (record { answer = answer; purse = rest; state = next })) (sym q) step in
-    subst (λ (n : ℕ). Step counted p event (record { answer = answer; purse = n; state = next })) (sym r) counts
-
--- the wish, with the licences counted after the step
-pub wish_counted : (purse rest left : ℕ) (p next : PortState) (event : Event) (wished : Option ℕ) (answer : Answer) → left ≡ rest
-    → GrantsWish purse p event wished (record { answer = answer; purse = rest; state = next })
-    → GrantsWish purse p event wished (record { answer = answer; purse = left; state = next })
-wish_counted purse rest left p next event wished answer r grants =
-    subst (λ (n : ℕ). GrantsWish purse p event wished (record { answer = answer; purse = n; state = next })) (sym r) grants
 
 -- what holds of a desk holds of it after a step more
 pub stepped_desk : (d : DeskState) (e : Entry) (next : PortState) → DeskStands d → IsStep d.state e next → IsProperEntry e → DeskStands (desk_after d e next)

@@ -151,14 +151,8 @@ impl<L: Ledger> PortDesk<L> {
         if self.journal.reserve_one().is_err() {
             return Err((ApplyFault::OutOfMemory, purse));
         }
-        let purse_in = purse.count();
-        let (answer, rest) = self.core.step_wishing(purse, event, wished);
-        let number = self.journal.append(Entry {
-            purse_in,
-            event,
-            answer,
-            purse_out: rest.count(),
-        });
+        let number = self.journal.len();
+        let rest = self.journal.record(&mut self.core, purse, event, wished);
         Ok((number, rest))
     }
 

@@ -1,11 +1,12 @@
 -- The parts of a frame of a run, one input after the other.
 use Rattle.std.proofs.Common.{◌≡◌, ℕ, zero, suc, ◌+◌, ◌-◌, ◌/◌, ◌<◌, ◌≤◌, get_or, Bool, true, false, cond, List, [], ◌∷◌, ◌++◌, length, take, drop, Option, None, Some, refl, sym, ap, subst, ◌∙◌, arith, append_assoc, Vec, Global}
-use Rattle.std.specs.Prelude.{◌&&◌, All, not, map, slice_get, slice_set}
+use Rattle.std.specs.Prelude.{◌&&◌, All, not, map, set, slice_get, slice_set}
 use Rattle.std.proofs.lemmas.Option.{slice_get_within, get_or_from_slice_get}
 use Rattle.std.proofs.lemmas.List.Elements.{All-nil, All-cons, All-append, All-same, filter-append}
 use Rattle.std.specs.List.{filter}
 use Rattle.std.specs.Option.{option_map, option_to_list}
 use Rattle.std.proofs.lemmas.List.{append-nil, length-set, set-get_or, length-append, take_at, take_all, take-take, take_more, length-drop, length-take-le, get_or-drop, map-append}
+use Rattle.std.proofs.Math.Seq.{set-append_seam}
 use Rattle.std.proofs.lemmas.List.FromFn.{map-range_with_len_more}
 use Rattle.gp_ploam.specs.declared.message.Down.{Down}
 use Rattle.gp_ploam.specs.declared.message.Up.{Up}
@@ -325,6 +326,14 @@ pub record ArrivesSoFar (old new : FibreStand) (before after : Vec Entry Global)
   pub proper : All IsProperEntry after.items
 
 -- an entry that is proper was put behind others that are
+-- an entry that is put behind the others, and then written over
+pub written_last : (before pushed : List Entry) (blank entry : Entry) (place : ℕ) → pushed ≡ before ++ blank ∷ [] → place ≡ length before
+    → set pushed place entry ≡ before ++ entry ∷ []
+written_last before pushed blank entry place is_pushed is_place =
+    ap (λ (es : List Entry). set es place entry) is_pushed
+    ∙ ap (λ (n : ℕ). set (before ++ blank ∷ []) n entry) is_place
+    ∙ set-append_seam before blank [] entry
+
 pub proper_push : (before after : List Entry) (entry : Entry) → after ≡ before ++ entry ∷ [] → All IsProperEntry before → IsProperEntry entry → All IsProperEntry after
 proper_push before after entry is them it =
     All-same IsProperEntry after (before ++ entry ∷ []) is (All-append IsProperEntry before (entry ∷ []) them (All-cons IsProperEntry entry [] it (All-nil IsProperEntry)))

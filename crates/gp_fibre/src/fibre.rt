@@ -14,7 +14,7 @@ use super::sent::Sent;
 use super::sent_burst::SentBurst;
 use super::unit_store::UnitStore;
 use gp_licence::{LicenceBook, Licences};
-use gp_machine::{Entry, Event};
+use gp_machine::{Answer, Entry, Event, Reply};
 use gp_ploam::Down;
 use gp_port::PortCore;
 use gp_ranging::Grant;
@@ -126,19 +126,32 @@ impl<L: Ledger> Fibre<L> {
         ensures grants_room { self.old.grants_room ≤ self.new.grants_room + 1 }
         ensures bursts { self.new.bursts_room ≡ self.old.bursts_room }
     {
+        let mut entry = blank_entry();
+        self.take_into(event, &mut entry);
+        entry
+    }
+
+    /// Does the same, and writes the entry where the caller wants it, whatever stood there.
+    #[inline(always)]
+    pub fn take_into(&mut self, event: Event, entry: &mut Entry)
+        requires copies { 0 < self.old.copies_room }
+        requires grants { 0 < self.old.grants_room }
+        ensures taken { PortTakes self.old.world event entry.new self.new.world }
+        ensures total { self.new.total ≡ self.old.total }
+        ensures frames { self.new.frames ≡ self.old.frames }
+        ensures proper { ForSome entry.new.answer.sent IsProperDown }
+        ensures copies_room { self.old.copies_room ≤ self.new.copies_room + 1 }
+        ensures grants_room { self.old.grants_room ≤ self.new.grants_room + 1 }
+        ensures bursts { self.new.bursts_room ≡ self.old.bursts_room }
+    {
         let purse = take_purse(&mut self.book, &event);
-        let purse_in = purse.count();
-        let (answer, rest) = self.core.step(purse, event);
-        let purse_out = rest.count();
+        entry.purse_in = purse.count();
+        entry.event = event;
+        let rest = self.core.step_into(purse, event, None, &mut entry.answer);
+        entry.purse_out = rest.count();
         self.book.give(rest);
-        self.copies.add(answer.sent);
-        self.grants.add(answer.grant);
-        Entry {
-            purse_in,
-            event,
-            answer,
-            purse_out,
-        }
+        self.copies.add(entry.answer.sent);
+        self.grants.add(entry.answer.grant);
     }
 
     /// Gives the copy with this number, if it was sent and not forgotten.
@@ -300,6 +313,16 @@ impl<L: Ledger> Fibre<L> {
             bursts: _,
         } = self;
         book.close(core.close())
+    }
+}
+
+/// Makes an entry that is to be written over.
+pub(super) fn blank_entry() -> Entry {
+    Entry {
+        purse_in: 0,
+        event: Event::Frame,
+        answer: Answer::from(Reply::Ticked),
+        purse_out: 0,
     }
 }
 

@@ -12,7 +12,7 @@ ghost use Rattle.gp_fibre.specs.Step.{UnitAnswers};
 ghost use Rattle.gp_fibre.specs.Schedule.{IsProperEntry};
 ghost use Rattle.gp_fibre.specs.Schedule as spec;
 
-use super::fibre::Fibre;
+use super::fibre::{Fibre, blank_entry};
 use super::flight::Flight;
 use super::flights::Flights;
 use super::lost::Lost;
@@ -190,7 +190,9 @@ fn arrive<L: Ledger, N: Lost>(
         unreachable!()
     };
     let SentBurst { at, bytes } = burst;
-    entries.push_reserved(fibre.take(Event::Burst { at, bytes }));
+    let place = entries.len();
+    entries.push_reserved(blank_entry());
+    fibre.take_into(Event::Burst { at, bytes }, &mut entries[place]);
 }
 
 /// Gives the port the bursts that come in this frame, but for those that are lost, and takes them away from those
@@ -243,11 +245,14 @@ fn ask<L: Ledger, N: Lost>(
 {
     let copy = fibre.copies();
     let grant = fibre.grants();
-    let entry = fibre.take(Event::Frame);
-    let answer = entry.answer;
-    entries.push_reserved(entry);
-    pass_on(fibre, copy, answer.sent, lost);
-    give_on(fibre, flights, grant, answer.grant, frame);
+    let place = entries.len();
+    entries.push_reserved(blank_entry());
+    let entry = &mut entries[place];
+    fibre.take_into(Event::Frame, entry);
+    let sent = entry.answer.sent;
+    let issued = entry.answer.grant;
+    pass_on(fibre, copy, sent, lost);
+    give_on(fibre, flights, grant, issued, frame);
 }
 
 /// Plays a frame of a run, for which all room was made.

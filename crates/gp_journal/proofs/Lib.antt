@@ -1,3 +1,4 @@
 pub mod Configs
 pub mod Runs
 pub mod Pieces
+pub mod Recording

@@ -6,7 +6,7 @@ use Rattle.gp_machine.specs.declared.entry.Entry.{Entry}
 use Rattle.gp_machine.specs.State.{PortState}
 use Rattle.gp_journal.specs.declared.piece.Piece.{Piece}
 use Rattle.gp_journal.specs.Replays.{Replays}
-use Rattle.gp_journal.specs.Piece.{Follows, FollowOn, JoinUp, AreRunsOfPieces, IsRunOfPiece, all_entries, PiecesAreOneRun}
+use Rattle.gp_journal.specs.Piece.{Follows, FollowOn, AreRunsOfPieces, IsRunOfPiece, all_entries, PiecesAreOneRun}
 use Rattle.gp_journal.proofs.Runs.{Replays-append}
 
 -- what follows a piece begins in the state in which it ends, and with the number after its last

@@ -1,3 +1,4 @@
 pub mod Kept
+pub mod Recording
 pub mod Replays
 pub mod Piece

@@ -1,14 +1,17 @@
 ghost use Rattle.std.specs.Prelude.{◌≡◌, ◌+◌, ◌<◌, ◌^◌, ◌++◌, ◌∷◌, [], None, Some, length, vec_len, vec_capacity, OnOk, OnErr, MatchOption};
 ghost use Rattle.gp_journal.specs.Kept.{entry_in, history_of};
+ghost use Rattle.gp_journal.specs.Recording.{Records};
 
 use super::entries::Entries;
 use super::fault::JournalFault;
 use super::piece::Piece;
-use gp_machine::Entry;
-use gp_port::PortImage;
+use gp_licence::Licences;
+use gp_machine::{Answer, Entry, Event, Reply};
+use gp_port::{PortCore, PortImage};
 use std::alloc::Global;
 use std::marker::Model;
 use std::mem;
+use std::sync::ledger::Ledger;
 
 /// The entries of one port since its journal was last cut. Their numbers count from the opening of the port.
 /// Contracts see the number of the first entry that is kept, the state before it, the entries, and for how many more
@@ -93,6 +96,26 @@ impl Journal {
         number
     }
 
+    /// Lets a port make a step, as its `step_wishing` does, and records it: the answer is written where it is kept.
+    /// Gives what is left of the licences. It takes no memory.
+    #[inline(always)]
+    pub fn record<L: Ledger>(
+        &mut self,
+        core: &mut PortCore<L>,
+        purse: Licences<L>,
+        event: Event,
+        wished: Option<u16>,
+    ) -> Licences<L>
+        requires room { 0 < self.old.room }
+        requires count { self.old.first + length self.old.entries + 1 < 2 ^ 64 }
+        ensures records { Records self.old.entries self.new.entries core.old core.new purse event wished result }
+        ensures first { self.new.first ≡ self.old.first }
+        ensures base { self.new.base ≡ self.old.base }
+        ensures room { self.new.room + 1 ≡ self.old.room }
+    {
+        record_in(&mut self.entries, core, purse, event, wished)
+    }
+
     /// Tells how many entries were ever recorded: the number of the next one.
     pub fn len(&self) -> u64
         ensures { result ≡ self.now.first + length self.now.entries }
@@ -154,6 +177,35 @@ impl Journal {
             entries: Entries::from(entries),
         }
     }
+}
+
+/// Lets a port make a step, and writes its entry behind the others.
+#[inline(always)]
+fn record_in<L: Ledger>(
+    entries: &mut Vec<Entry>,
+    core: &mut PortCore<L>,
+    purse: Licences<L>,
+    event: Event,
+    wished: Option<u16>,
+) -> Licences<L>
+    requires { vec_len entries.old < vec_capacity entries.old }
+    ensures records { Records entries.old.items entries.new.items core.old core.new purse event wished result }
+    ensures room { vec_capacity entries.new ≡ vec_capacity entries.old }
+{
+    let place = entries.len();
+    push_within(
+        entries,
+        Entry {
+            purse_in: purse.count(),
+            event,
+            answer: Answer::from(Reply::Ticked),
+            purse_out: 0,
+        },
+    );
+    let entry = &mut entries[place];
+    let rest = core.step_into(purse, event, wished, &mut entry.answer);
+    entry.purse_out = rest.count();
+    rest
 }
 
 /// Appends an item where there is room for it.

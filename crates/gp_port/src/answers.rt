@@ -6,8 +6,8 @@ use gp_machine::{Answer, Refusal, Reply};
 use gp_ploam::{Down, Serial};
 use gp_ranging::Grant;
 
-/// What a frame gives. An `Answer` has room for a whole row, which no frame gives, so it is made of this once, at the
-/// end.
+/// What a frame gives. An `Answer` has room for a whole row, which no frame gives, so this is written to it once, at
+/// the end.
 #[derive(Clone, Copy)]
 pub(super) struct FrameAnswer {
     pub(super) sent: Option<Down>,
@@ -16,20 +16,18 @@ pub(super) struct FrameAnswer {
 }
 
 impl FrameAnswer {
-    /// Makes the answer to a frame that gives this.
-    pub(super) fn whole(self) -> Answer
-        ensures { result ≡ answer_to_frame self }
+    /// Writes the answer to a frame that gives this.
+    pub(super) fn write(self, answer: &mut Answer)
+        ensures { answer.new ≡ answer_to_frame self }
     {
-        Answer {
-            reply: Reply::Ticked,
-            sent: self.sent,
-            grant: self.grant,
-            alarm: self.alarm,
-        }
+        answer.reply = Reply::Ticked;
+        answer.sent = self.sent;
+        answer.grant = self.grant;
+        answer.alarm = self.alarm;
     }
 }
 
-/// What a burst gives, which sends and grants nothing; an `Answer` is made of this once, at the end.
+/// What a burst gives, which sends and grants nothing; this is written to an `Answer` once, at the end.
 #[derive(Clone, Copy)]
 pub(super) struct BurstAnswer {
     pub(super) reply: BurstReply,
@@ -54,11 +52,11 @@ pub(super) enum BurstReply {
 }
 
 impl BurstAnswer {
-    /// Makes the answer to a burst that gives this.
-    pub(super) fn whole(self) -> Answer
-        ensures { result ≡ answer_to_burst self }
+    /// Writes the answer to a burst that gives this.
+    pub(super) fn write(self, answer: &mut Answer)
+        ensures { answer.new ≡ answer_to_burst self }
     {
-        let reply = match self.reply {
+        answer.reply = match self.reply {
             BurstReply::Refused(refusal) => Reply::Refused(refusal),
             BurstReply::Found(onu) => Reply::Found(onu),
             BurstReply::Again(onu) => Reply::Again(onu),
@@ -72,12 +70,9 @@ impl BurstAnswer {
             BurstReply::Acked(alloc) => Reply::Acked(alloc),
             BurstReply::Gasp(onu) => Reply::Gasp(onu),
         };
-        Answer {
-            reply,
-            sent: None,
-            grant: None,
-            alarm: self.alarm,
-        }
+        answer.sent = None;
+        answer.grant = None;
+        answer.alarm = self.alarm;
     }
 }
 

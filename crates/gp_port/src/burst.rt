@@ -18,8 +18,9 @@ use gp_ploam::{Up, decode_up};
 use gp_ranging::Grant;
 
 impl PortMachine {
-    /// Hears a burst after this round-trip delay in bit times; its octets are read under the port's mask.
-    // Kept out of line, so that `step` is small and does not carry the locals of this call.
+    /// Hears a burst after this round-trip delay in bit times; its octets are read under the port's mask. Its answer is
+    /// written where the caller wants it.
+    // Kept out of line, so that `step_into` is small and does not carry the locals of this call.
     #[inline(never)]
     pub(super) fn burst(
         &mut self,
@@ -27,17 +28,19 @@ impl PortMachine {
         at: u32,
         bytes: &[u8; 13],
         wished: Option<u16>,
-    ) -> (Answer, u64)
+        answer: &mut Answer,
+    ) -> u64
         requires sound { IsSound self.old }
         requires units { self.old.config.max_units ≤ onu_ids }
         requires purse { purse < 2 ^ 32 }
-        ensures step { Step purse self.old (event.Burst at bytes.now) (step_result_of result self.new) }
-        ensures wished { GrantsWish purse self.old (event.Burst at bytes.now) wished (step_result_of result self.new) }
+        ensures step { Step purse self.old (event.Burst at bytes.now) (step_result_of (answer.new, result) self.new) }
+        ensures wished { GrantsWish purse self.old (event.Burst at bytes.now) wished (step_result_of (answer.new, result) self.new) }
     {
         one_outcome();
         let heard = decode_up(bytes, self.config.mask).ok();
         let (gives, purse) = self.receive(purse, at, heard, wished);
-        (gives.whole(), purse)
+        gives.write(answer);
+        purse
     }
 
     /// Hears a burst that is read as this message, or whose check octet is wrong.

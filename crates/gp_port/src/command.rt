@@ -16,7 +16,7 @@ use gp_ploam::{BROADCAST_ONU, Down, Serial};
 
 impl PortMachine {
     /// Carries out a command. An Alloc-ID that a unit gets is the wished one, where that is free.
-    // Kept out of line, so that `step` is small and does not carry the locals of this call.
+    // Kept out of line, so that `step_into` is small and does not carry the locals of this call.
     #[inline(never)]
     pub(super) fn command(
         &mut self,

@@ -68,9 +68,13 @@ impl PortFollower {
     {
         sound_step();
         let wished = number_handed_out(&entry.answer.reply);
-        let (answer, left) = self
-            .machine
-            .step(u64::from(entry.purse_in), entry.event, wished);
+        let mut answer = Answer::from(Reply::Ticked);
+        let left = self.machine.step_into(
+            u64::from(entry.purse_in),
+            entry.event,
+            wished,
+            &mut answer,
+        );
         same_outcome(answer, left, entry)
     }
 

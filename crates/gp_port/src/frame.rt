@@ -25,18 +25,20 @@ use gp_ploam::{Down, Serial};
 use gp_ranging::Grant;
 
 impl PortMachine {
-    /// Makes a frame: cooling, timer and sending, then the open window, or a decision.
-    // Kept out of line, so that `step` is small and does not carry the locals of this call.
+    /// Makes a frame: cooling, timer and sending, then the open window, or a decision. Its answer is written where the
+    /// caller wants it.
+    // Kept out of line, so that `step_into` is small and does not carry the locals of this call.
     #[inline(never)]
-    pub(super) fn frame(&mut self, purse: u64) -> (Answer, u64)
+    pub(super) fn frame(&mut self, purse: u64, answer: &mut Answer) -> u64
         requires sound { IsSound self.old }
         requires purse { purse < 2 ^ 32 }
         requires period { self.old.config.search_period ≤ max_search_period }
-        ensures { Step purse self.old event.Frame (step_result_of result self.new) }
+        ensures { Step purse self.old event.Frame (step_result_of (answer.new, result) self.new) }
     {
         let (ranging, next) = self.candidates();
         let (gives, purse) = self.frame_by(purse, ranging, next);
-        (gives.whole(), purse)
+        gives.write(answer);
+        purse
     }
 
     /// Finds the least ranging unit and the one that is polled next, which only a frame that decides asks for.

@@ -24,7 +24,7 @@ use super::port_machine::PortMachine;
 use gp_common::Common;
 use gp_licence::Licences;
 use gp_machine::{
-    Answer, Event, PortConfig, refusals_change_nothing, sound_step, step_keeps_licences,
+    Answer, Event, PortConfig, Reply, refusals_change_nothing, sound_step, step_keeps_licences,
     step_sends_in_order,
 };
 use gp_ploam::Serial;
@@ -115,13 +115,40 @@ impl<L: Ledger> PortCore<L> {
         ensures proper { ForSome result.0.sent IsProperDown }
         ensures wished { GrantsWish purse self.old event wished (step_result_of result self.new) }
     {
+        let mut answer = Answer::from(Reply::Ticked);
+        let rest = self.step_into(purse, event, wished, &mut answer);
+        (answer, rest)
+    }
+
+    /// Does the same, and writes the answer where the caller wants it, whatever stood there.
+    #[inline(always)]
+    pub fn step_into(
+        &mut self,
+        purse: Licences<L>,
+        event: Event,
+        wished: Option<u16>,
+        answer: &mut Answer,
+    ) -> Licences<L>
+        ensures step { Step purse self.old event (step_result_of (answer.new, result) self.new) }
+        ensures sound { IsSound self.new }
+        ensures licences { result + rows_of self.new ≡ purse + rows_of self.old }
+        ensures sends { (messages : List Down)
+            × StepOwing purse self.old event (step_result_of (answer.new, result) self.new) messages
+            × (option_to_list answer.new.sent ++ self.new.owed ≡ self.old.owed ++ three_times messages) }
+        ensures refused { (refusal : Refusal) → answer.new.reply ≡ Refused refusal
+            → step_result_of (answer.new, result) self.new
+            ≡ record { answer = bare_answer (Refused refusal); purse = purse; state = state_refused self.old event } }
+        ensures proper { ForSome answer.new.sent IsProperDown }
+        ensures wished { GrantsWish purse self.old event wished (step_result_of (answer.new, result) self.new) }
+    {
         sound_step();
         step_keeps_licences();
         step_sends_in_order();
         refusals_change_nothing();
-        let (answer, left) = self.machine.step(u64::from(purse.count()), event, wished);
-        let rest = share_out(purse, &mut self.held, left as u32);
-        (answer, rest)
+        let left = self
+            .machine
+            .step_into(u64::from(purse.count()), event, wished, answer);
+        share_out(purse, &mut self.held, left as u32)
     }
 
     /// Gives what the port was opened with. It never changes, and is within the limits.

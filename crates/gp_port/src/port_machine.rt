@@ -153,23 +153,34 @@ impl PortMachine {
         owed.close();
     }
 
-    /// Makes one step of the machine with so many licences at hand, which leaves room for one more; a number that it
-    /// hands out is the wished one, where that is free. It takes no memory.
-    pub fn step(&mut self, purse: u64, event: Event, wished: Option<u16>) -> (Answer, u64)
+    /// Makes one step of the machine with so many licences at hand, which leaves room for one more, writes its answer,
+    /// and gives how many licences are left; a number that it hands out is the wished one, where that is free. It takes
+    /// no memory.
+    pub fn step_into(
+        &mut self,
+        purse: u64,
+        event: Event,
+        wished: Option<u16>,
+        answer: &mut Answer,
+    ) -> u64
         requires limits { is_within_limits self.old.config ≡ true }
         requires sound { IsSound self.old }
         requires purse { purse < 2 ^ 32 }
-        ensures step { Step purse self.old event (step_result_of result self.new) }
-        ensures wished { GrantsWish purse self.old event wished (step_result_of result self.new) }
-        ensures proper { ForSome result.0.sent IsProperDown }
+        ensures step { Step purse self.old event (step_result_of (answer.new, result) self.new) }
+        ensures wished { GrantsWish purse self.old event wished (step_result_of (answer.new, result) self.new) }
+        ensures proper { ForSome answer.new.sent IsProperDown }
     {
         one_outcome();
         // The invariant is known once a field is looked at.
         let _ = &self.config;
         match event {
-            Event::Frame => self.frame(purse),
-            Event::Burst { at, bytes } => self.burst(purse, at, &bytes, wished),
-            Event::Command(command) => self.command(purse, command, wished),
+            Event::Frame => self.frame(purse, answer),
+            Event::Burst { at, bytes } => self.burst(purse, at, &bytes, wished, answer),
+            Event::Command(command) => {
+                let (given, left) = self.command(purse, command, wished);
+                *answer = given;
+                left
+            }
         }
     }
 

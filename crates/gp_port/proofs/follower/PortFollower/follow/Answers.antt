@@ -10,8 +10,8 @@ use Rattle.gp_port.proofs.follower.PortFollower.follow.Goals as goal
 
 pub invariant_of-self : goal.invariant_of-self
 invariant_of-self c =
-    let o = step_result_of c.step-answer.result c.step-answer.new.self in
-    let step = c.step-answer.ensures.step in
+    let o = step_result_of (c.step_into-left.new.answer, c.step_into-left.result) c.step_into-left.new.self in
+    let step = c.step_into-left.ensures.step in
     let purse = c.from.result in
     let entry = c.args.entry.now in
     record {
@@ -21,25 +21,25 @@ invariant_of-self c =
 
 pub returns-clause-made : goal.returns-clause-made
 returns-clause-made c =
-    let o = step_result_of c.step-answer.result c.step-answer.new.self in
-    let step = subst (λ (n : ℕ). Step n c.self.inside.machine c.args.entry.now.event o) c.from.ensures c.step-answer.ensures.step in
+    let o = step_result_of (c.step_into-left.new.answer, c.step_into-left.result) c.step_into-left.new.self in
+    let step = subst (λ (n : ℕ). Step n c.self.inside.machine c.args.entry.now.event o) c.from.ensures c.step_into-left.ensures.step in
     rw (← c.self.view_is)
-    (λ yes. let same = c.same_outcome.ensures.0 yes in is_made c.self.inside.machine c.step-answer.new.self c.args.entry.now c.step-answer.result.0 c.step-answer.result.1 step same.0 same.1)
+    (λ yes. let same = c.same_outcome.ensures.0 yes in is_made c.self.inside.machine c.step_into-left.new.self c.args.entry.now c.step_into-left.new.answer c.step_into-left.result step same.0 same.1)
 
 pub returns-clause-refused : goal.returns-clause-refused
 returns-clause-refused c =
-    let o = step_result_of c.step-answer.result c.step-answer.new.self in
-    let wished = subst (λ (n : ℕ). GrantsWish n c.self.inside.machine c.args.entry.now.event c.number_handed_out-wished.result o) c.from.ensures c.step-answer.ensures.wished in
+    let o = step_result_of (c.step_into-left.new.answer, c.step_into-left.result) c.step_into-left.new.self in
+    let wished = subst (λ (n : ℕ). GrantsWish n c.self.inside.machine c.args.entry.now.event c.number_handed_out-wished.result o) c.from.ensures c.step_into-left.ensures.wished in
     rw (← c.self.view_is)
     (λ after denied step.
-    let same = followed c.self.inside.machine c.step-answer.new.self after c.args.entry.now c.number_handed_out-wished.result c.step-answer.result.0 c.step-answer.result.1 c.number_handed_out-wished.ensures wished step in
+    let same = followed c.self.inside.machine c.step_into-left.new.self after c.args.entry.now c.number_handed_out-wished.result c.step_into-left.new.answer c.step_into-left.result c.number_handed_out-wished.ensures wished step in
     false≢true (sym denied ∙ c.same_outcome.ensures.1 (ap (λ (o : StepResult). o.answer) same, ap (λ (o : StepResult). o.purse) same)))
 
 pub returns-clause-alone : goal.returns-clause-alone
 returns-clause-alone c =
-    let o = step_result_of c.step-answer.result c.step-answer.new.self in
-    let wished = subst (λ (n : ℕ). GrantsWish n c.self.inside.machine c.args.entry.now.event c.number_handed_out-wished.result o) c.from.ensures c.step-answer.ensures.wished in
+    let o = step_result_of (c.step_into-left.new.answer, c.step_into-left.result) c.step_into-left.new.self in
+    let wished = subst (λ (n : ℕ). GrantsWish n c.self.inside.machine c.args.entry.now.event c.number_handed_out-wished.result o) c.from.ensures c.step_into-left.ensures.wished in
     rw (← c.self.view_is)
     (λ after step.
     sym (ap (λ (o : StepResult). o.state)
-    (followed c.self.inside.machine c.step-answer.new.self after c.args.entry.now c.number_handed_out-wished.result c.step-answer.result.0 c.step-answer.result.1 c.number_handed_out-wished.ensures wished step)))
+    (followed c.self.inside.machine c.step_into-left.new.self after c.args.entry.now c.number_handed_out-wished.result c.step_into-left.new.answer c.step_into-left.result c.number_handed_out-wished.ensures wished step)))
