@@ -1,5 +1,5 @@
 -- Lines that are handed to a decoder.
-use Rattle.std.proofs.Common.{◌≡◌, ℕ, Bool, List, Option, None, Some, Result, Ok, Err, IsErrAnd, inl, inr, refl, sym, subst}
+use Rattle.std.proofs.Common.{◌≡◌, ℕ, Bool, List, None, Some, Result, Ok, Err, IsErrAnd, inl, inr, refl, sym, subst}
 use Rattle.gp_flow.specs.declared.fault.LineFault.{LineFault as Unanswered}
 use Rattle.gp_flow.specs.declared.fault.LineFault.TheVariants.{Write}
 use Rattle.gp_flow.specs.Lines.{Answers}

@@ -1,4 +1,4 @@
-use Rattle.std.proofs.Common.{rules, ◌∙◌, refl}
+use Rattle.std.proofs.Common.{rules, refl}
 use Rattle.gp_decode.specs.Lines.{faulted}
 use Rattle.gp_decode.proofs.DecoderLemmas.{stopped_fault}
 use Rattle.gp_decode.proofs.decoder.Decoder.refuse.Goals as goal
