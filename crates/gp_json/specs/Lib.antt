@@ -2,3 +2,4 @@ pub mod Slots
 pub mod Spelling
 pub mod Fields
 pub mod Object
+pub mod Runs

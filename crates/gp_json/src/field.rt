@@ -14,12 +14,7 @@ use std::alloc::{AllocError, Global};
 fn push_opening(out: &mut Vec<u8>, slot: Slot) -> Result<(), AllocError>
     ensures { OnOk result (out.new.items ≡ out.old.items ++ opening slot) }
 {
-    if slot != Slot::Port {
-        out.extend_from_slice(b",")?;
-    }
-    out.extend_from_slice(b"\"")?;
-    out.extend_from_slice(slot.key().as_bytes())?;
-    out.extend_from_slice(b"\":")
+    out.extend_from_slice(slot.opening().as_bytes())
 }
 
 /// Appends the message of a code: its words, or `null` where the check octet is wrong.

@@ -1,7 +1,8 @@
 //! Texts and numbers as JSON spells them.
-ghost use Rattle.std.specs.Prelude.{◌≡◌, ◌<◌, ◌++◌, OnOk};
-ghost use Rattle.std.specs.List.{list_all};
+ghost use Rattle.std.specs.Prelude.{◌≡◌, ◌<◌, ◌++◌, OnOk, position};
+ghost use Rattle.std.specs.List.{flat_map, list_all};
 ghost use Rattle.gp_json.specs.Spelling as spec;
+ghost use Rattle.gp_json.specs.Runs.{is_escaped};
 
 use std::alloc::AllocError;
 
@@ -31,14 +32,39 @@ fn push_octet(out: &mut Vec<u8>, octet: u8) -> Result<(), AllocError>
     out.extend_from_slice(&[hex_digit(octet / 16), hex_digit(octet % 16)])
 }
 
+/// Tells whether an octet within a text doesn't stand for itself.
+fn is_escaped(octet: u8) -> bool
+    ensures { result ≡ is_escaped octet }
+{
+    octet == b'"' || octet == b'\\' || octet < b' ' || octet > b'~'
+}
+
+/// Gives the place of the first octet that doesn't stand for itself.
+fn first_escaped(text: &[u8]) -> Option<usize>
+    ensures { result ≡ position is_escaped text.now }
+{
+    text.iter().position(|octet| is_escaped(*octet))
+}
+
+/// Appends the octets of a text. Those that stand for themselves are appended a run at a time.
+fn push_octets(out: &mut Vec<u8>, text: &[u8]) -> Result<(), AllocError>
+    ensures { OnOk result (out.new.items ≡ out.old.items ++ flat_map spec.escaped text.now) }
+{
+    let mut rest = text;
+    'runs: while let Some(at) = first_escaped(rest) {
+        out.extend_from_slice(&rest[..at])?;
+        push_octet(out, rest[at])?;
+        rest = &rest[at + 1..];
+    }
+    out.extend_from_slice(rest)
+}
+
 /// Appends a text, between quotation marks.
 pub(crate) fn push_quoted(out: &mut Vec<u8>, text: &[u8]) -> Result<(), AllocError>
     ensures { OnOk result (out.new.items ≡ out.old.items ++ spec.quoted text.now) }
 {
     out.extend_from_slice(b"\"")?;
-    'octets: for octet in text {
-        push_octet(out, *octet)?;
-    }
+    push_octets(out, text)?;
     out.extend_from_slice(b"\"")
 }
 
