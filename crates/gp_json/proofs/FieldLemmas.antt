@@ -5,7 +5,7 @@ use Rattle.gp_ploam.specs.declared.check.Mask.{Mask}
 use Rattle.gp_json.specs.declared.slot.Slot.{Slot}
 use Rattle.gp_json.specs.declared.slot.Kind.{Kind}
 use Rattle.gp_json.specs.Slots.{kind_of}
-use Rattle.gp_json.specs.Fields.{TellsAs, TellsPart}
+use Rattle.gp_json.specs.Fields.{TellsAs}
 
 -- the part was told as this, or can't be
 abbrev pub ToldAs : Kind → Mask → Slot → List ℕ → List ℕ → List ℕ → Bool → Type 0

@@ -1,3 +1,4 @@
 pub mod FieldLemmas
 pub mod PartsLemmas
 pub mod RunsLemmas
+pub mod MessageLemmas

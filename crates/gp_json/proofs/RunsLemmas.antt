@@ -1,7 +1,7 @@
 -- Runs of octets that stand for themselves.
-use Rattle.std.proofs.Common.{◌≡◌, ℕ, ◌+◌, ◌-◌, suc, true, false, List, [], ◌∷◌, ◌++◌, length, take, drop, get_or, None, Some, Result, Ok, Err, OnOk, refl, sym, ap, subst, ◌∙◌, inl, inr, arith, ltb, append_assoc, drop-cons}
+use Rattle.std.proofs.Common.{◌≡◌, ℕ, ◌+◌, ◌-◌, suc, true, false, List, [], ◌∷◌, ◌++◌, length, take, drop, get_or, Option, None, Some, is_none, Result, Ok, Err, OnOk, refl, sym, ap, subst, ◌∙◌, inl, inr, arith, ltb, append_assoc, drop-cons}
 use Rattle.std.proofs.lemmas.Bool.{cases_Bool, ltb-true, ltb-false}
-use Rattle.std.proofs.lemmas.List.{append-nil, drop_all, take_all, take_rest}
+use Rattle.std.proofs.lemmas.List.{append-nil, drop_all, take-append-drop, take_all, take_rest}
 use Rattle.std.specs.List.{flat_map, position, position_or_len}
 use Rattle.gp_json.specs.Spelling.{escaped}
 use Rattle.gp_json.specs.Runs.{is_escaped}
@@ -76,3 +76,10 @@ pub run_ended : {E : Type 0} (r : Result (Unit {0}) E) (whole out rest new : Lis
     → OnOk r (new ≡ whole)
 run_ended (Ok x) whole out rest new is none appended = appended ∙ ap (λ (l : List ℕ). out ++ l) (sym (run_last rest none)) ∙ is
 run_ended (Err e) whole out rest new is none appended = tt
+
+-- where no octet from a place on is another
+pub escaped_none : (items text : List ℕ) (from : ℕ) (found : Option ℕ) → text ≡ drop from items → found ≡ position is_escaped text → is_none found ≡ true
+    → items ≡ take from items ++ spelled (drop from items)
+escaped_none items text from (Some at) is place none = absurd (cc)
+escaped_none items text from None is place none =
+    sym (take-append-drop from items) ∙ ap (λ (l : List ℕ). take from items ++ l) (sym (ap spelled (sym is) ∙ run_last text place ∙ is))

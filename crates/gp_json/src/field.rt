@@ -4,8 +4,8 @@ ghost use Rattle.gp_json.specs.Spelling.{is_number, quoted};
 ghost use Rattle.gp_json.specs.Fields.{TellsCode, TellsMessage, TellsPart, message_opening, opening};
 
 use crate::slot::{Kind, Slot};
-use crate::text::{is_number, push_quoted};
-use gp_decode::{LineFault, words_of};
+use crate::text::{end_quoted, is_number, push_quoted};
+use gp_decode::{LineFault, push_words_of};
 use gp_ploam::Mask;
 use hex::FromHex;
 use std::alloc::{AllocError, Global};
@@ -28,10 +28,16 @@ fn push_message(
     ensures { OnOk result ((said : List ℕ) × TellsMessage upstream mask octets.now said
         × (out.new.items ≡ out.old.items ++ said)) }
 {
-    match words_of(alloc, octets, upstream, mask) {
-        Ok(words) => push_quoted(out, words.as_bytes()),
-        Err(LineFault::OutOfMemory) => Err(AllocError),
-        Err(_) => out.extend_from_slice(b"null"),
+    let before = out.len();
+    out.extend_from_slice(b"\"")?;
+    let from = out.len();
+    match push_words_of(out, octets, upstream, mask) {
+        Ok(()) => end_quoted(alloc, out, from),
+        Err(LineFault::Crc) => {
+            out.truncate(before);
+            out.extend_from_slice(b"null")
+        }
+        Err(_) => Err(AllocError),
     }
 }
 

@@ -54,8 +54,8 @@ fn push_fields(
 /// of a trace, as `gp_trace` spells it, behind how many frames its port has had, if that is told; any other line as one
 /// field. The line comes without its line feed. Codes are those under the mask.
 ///
-/// Memory is taken for the words of a code, and where the buffer has no room. Where it is refused, the buffer may hold a
-/// part of the object.
+/// Memory is taken where the buffer has no room, and for the words of a code if an octet of them is escaped. Where it is
+/// refused, the buffer may hold a part of the object.
 pub fn write_object(
     alloc: Global,
     mask: Mask,

@@ -1,10 +1,10 @@
 //! Texts and numbers as JSON spells them.
-ghost use Rattle.std.specs.Prelude.{◌≡◌, ◌<◌, ◌++◌, OnOk, position};
+ghost use Rattle.std.specs.Prelude.{◌≡◌, ◌<◌, ◌≤◌, ◌++◌, OnOk, codes, drop, position, take, vec_len};
 ghost use Rattle.std.specs.List.{flat_map, list_all};
 ghost use Rattle.gp_json.specs.Spelling as spec;
 ghost use Rattle.gp_json.specs.Runs.{is_escaped};
 
-use std::alloc::AllocError;
+use std::alloc::{AllocError, Global};
 
 /// Gives a hexadecimal digit.
 fn hex_digit(number: u8) -> u8
@@ -57,6 +57,31 @@ fn push_octets(out: &mut Vec<u8>, text: &[u8]) -> Result<(), AllocError>
         rest = &rest[at + 1..];
     }
     out.extend_from_slice(rest)
+}
+
+/// Spells the octets of a buffer from a place on as those of a text. Memory is taken only where one doesn't stand for
+/// itself.
+fn escape_from(alloc: Global, out: &mut Vec<u8>, from: usize) -> Result<(), AllocError>
+    requires { from ≤ vec_len out.old }
+    ensures { OnOk result (out.new.items ≡ take from out.old.items ++ flat_map spec.escaped (drop from out.old.items)) }
+{
+    let text = &out.as_slice()[from..];
+    if first_escaped(text).is_none() {
+        return Ok(());
+    }
+    let text = Vec::from_slice(alloc, text)?;
+    out.truncate(from);
+    push_octets(out, text.as_slice())
+}
+
+/// Ends the text of which a buffer holds the octets from a place on, behind a quotation mark.
+pub(crate) fn end_quoted(alloc: Global, out: &mut Vec<u8>, from: usize) -> Result<(), AllocError>
+    requires { from ≤ vec_len out.old }
+    ensures { OnOk result (out.new.items
+        ≡ take from out.old.items ++ flat_map spec.escaped (drop from out.old.items) ++ codes "\"") }
+{
+    escape_from(alloc, out, from)?;
+    out.extend_from_slice(b"\"")
 }
 
 /// Appends a text, between quotation marks.

@@ -1,5 +1,4 @@
 use Rattle.std.proofs.Common.{rules}
-use Rattle.gp_lines.specs.Parts.{parts_of}
 use Rattle.gp_json.proofs.PartsLemmas.{leads_end, leads_told}
 use Rattle.gp_json.proofs.object.push_fields.Goals as goal
 
