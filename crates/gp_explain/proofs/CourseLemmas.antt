@@ -5,7 +5,7 @@ use Rattle.gp_explain.specs.declared.fault.NoLine.{NoLine}
 use Rattle.gp_explain.specs.declared.fault.NoLine.TheVariants.{NotALine, TooLong}
 use Rattle.gp_explain.specs.Words.{IsTraceLine}
 use Rattle.gp_explain.specs.Telling.{Manner, TellsTraceLine}
-use Rattle.gp_explain.specs.Explaining.{ExplainState, Explaining, Explains, SaysFrom, SaysToText, ended_by}
+use Rattle.gp_explain.specs.Explaining.{ExplainState, Explaining, SaysFrom, SaysToText, ended_by}
 use Rattle.gp_explain.specs.Outcome.{AreTold}
 
 -- lines that are handed on whole

@@ -11,7 +11,6 @@ use Rattle.gp_machine.specs.declared.event.Event.{Event}
 use Rattle.gp_lines.specs.Trace.{SplitsLine}
 use Rattle.gp_explain.specs.declared.fault.NoLine.{NoLine}
 use Rattle.gp_explain.specs.declared.fault.NoLine.TheVariants.{NotALine}
-use Rattle.gp_explain.specs.Words.{IsTraceLine}
 use Rattle.gp_explain.specs.Telling.{Manner, TellsTraceLine}
 use Rattle.gp_explain.specs.Explaining.{ExplainState, Explaining, Explains, SaysFrom, counted, ended_by}
 

@@ -1,4 +1,5 @@
 pub mod Words
+pub mod Runs
 pub mod Telling
 pub mod Explaining
 pub mod Outcome

@@ -1,5 +1,6 @@
 //! Where in a line codes stand.
 ghost use Rattle.std.specs.Prelude.{◌≡◌};
+ghost use Rattle.gp_explain.specs.Runs.{is_code};
 ghost use Rattle.gp_explain.specs.Words as spec;
 
 /// What stands at a part of a line.
@@ -16,6 +17,13 @@ pub enum Place {
 }
 
 impl Place {
+    /// Tells whether a code should stand here.
+    pub(crate) fn is_code(self) -> bool
+        ensures { result ≡ is_code self }
+    {
+        matches!(self, Place::UnitCode | Place::TerminalCode)
+    }
+
     /// Gives what stands behind a part that stands here.
     pub(crate) fn after(self, part: &[u8]) -> Place
         ensures { result ≡ spec.place_after self part.now }
