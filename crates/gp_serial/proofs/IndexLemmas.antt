@@ -1,8 +1,8 @@
 -- The entries of the admission list, as the map that contracts see.
-use Rattle.std.proofs.Common.{◌≡◌, ℕ, ◌+◌, ◌<◌, ◌≤◌, ◌==◌, ◌&&◌, Bool, true, false, cond, List, [], ◌∷◌, length, Option, None, Some, inl, inr, refl, sym, ap, subst, ◌∙◌, get_or, arith}
-use Rattle.std.specs.Prelude.{T}
+use Rattle.std.proofs.Common.{◌≡◌, ℕ, ◌+◌, ◌<◌, ◌≤◌, ◌==◌, ◌&&◌, Bool, true, false, cond, List, [], ◌∷◌, length, Option, None, Some, Result, Ok, Err, inl, inr, refl, sym, ap, subst, ◌∙◌, get_or, arith}
+use Rattle.std.specs.Prelude.{T, OnErr}
 use Rattle.std.proofs.Math.ListN.{set}
-use Rattle.std.proofs.lemmas.Bool.{cases_eq}
+use Rattle.std.proofs.lemmas.Bool.{cases_Bool, cases_eq}
 use Rattle.std.proofs.lemmas.Bool.Decides.{nat_tests}
 use Rattle.std.proofs.lemmas.Cmp.{eq_by_cmp_equiv}
 use Rattle.std.proofs.lemmas.List.{get_or-set_same, get_or-set_other}
@@ -15,6 +15,7 @@ use Rattle.std.specs.List.{AllByRecursion, count_by}
 use Rattle.std.specs.List.Sorted.{IsStrictlySortedBy}
 use Rattle.std.specs.Map.{keys_of, values_of, lookup, set_value}
 use Rattle.std.specs.Ordering.{eq_by_cmp, is_eq, is_lt, match_ordering}
+use Rattle.std.specs.declared.cmp.Ordering.{Ordering}
 use Rattle.std.specs.declared.cmp.Ordering.TheVariants.{Less, Equal, Greater}
 use Rattle.gp_ploam.specs.declared.message.Serial.{Serial}
 use Rattle.gp_ploam.specs.Serials.{serial_cmp}
@@ -71,6 +72,29 @@ inserted old new k v before after updates =
     ∙ ap (λ b. cond b (Some v) (found q old)) ((eq_by_cmp_equiv serials_total).symm k q)
     ∙ ap (cond (eq_by_cmp serial_cmp q k) (Some v)) (sym (get_found old q before))
     ∙ sym (get-insert serials_total (from_sorted old) k v q))
+
+-- two serial numbers that compare alike are one
+same_key : (k q : Serial) (o : Ordering) → serial_cmp k q ≡ o → is_eq o ≡ true → k ≡ q
+same_key k q Less is alike = cc alike
+same_key k q Equal is alike = serials_exact k q is
+same_key k q Greater is alike = cc alike
+
+-- another value, and then the one before again, is the map as it was
+pub restored : (old between new : Entries) (k : Serial) (v w : Admission) → IsStrictlySortedBy serial_cmp (keys_of old) → IsStrictlySortedBy serial_cmp (keys_of new)
+    → Some w ≡ found k old
+    → ((q : Serial) → found q between ≡ cond (is_at (serial_cmp k) q) (Some v) (found q old))
+    → ((q : Serial) → found q new ≡ cond (is_at (serial_cmp k) q) (Some w) (found q between))
+    → from_sorted {R = serial_cmp} new ≡ from_sorted old
+restored old between new k v w before after is first second =
+    same_map serials_total serials_exact _ _ (λ q.
+    get_found new q after ∙ second q ∙ ap (cond (is_at (serial_cmp k) q) (Some w)) (first q) ∙ back q ∙ sym (get_found old q before))
+  where
+    back : (q : Serial) → cond (is_at (serial_cmp k) q) (Some w) (cond (is_at (serial_cmp k) q) (Some v) (found q old)) ≡ found q old
+    back q =
+        elim (cases_Bool (is_at (serial_cmp k) q)) [
+          | inl alike ↦ rw alike (is ∙ ap (λ s. found s old) (same_key k q (serial_cmp k q) refl alike))
+          | inr other ↦ rw other refl
+        ]
 
 none_ordered : IsStrictlySortedBy serial_cmp []
 unfolding IsStrictlySortedBy
@@ -183,3 +207,8 @@ port_in (Some a) = a.port
 pub same_port : (a b : Admission) → Some a ≡ Some b → a.port ≡ b.port
 unfolding port_in
 same_port a b e = ap port_in e
+
+-- a fact, where a call failed
+pub on_err : {A E : Type 0} {P : Type 0} (r : Result A E) → P → OnErr r P
+on_err (Ok x) p = tt
+on_err (Err e) p = p

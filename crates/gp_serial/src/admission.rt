@@ -60,20 +60,30 @@ impl AdmissionList {
             ↔ ((map.get self.old serial ≡ None) × (count_on port self.old ≡ MAX_ON_A_PORT)) }
         ensures err { OnErr result (self.new ≡ self.old) }
     {
-        if self.index.get(&serial).is_some() {
-            return Err(AdmitFault::Duplicate);
-        }
         let count = self.admitted_on(port);
         if count >= MAX_ON_A_PORT {
-            return Err(AdmitFault::Full);
+            return Err(self.refusal_when_full(&serial));
         }
         let admission = Admission {
             port,
             disabled: false,
         };
-        self.index.insert(serial, admission)?;
+        if !self.index.insert(serial, admission)? {
+            return Err(AdmitFault::Duplicate);
+        }
         self.counts[usize::from(port)] = count + 1;
         Ok(())
+    }
+
+    /// Tells why a serial number isn't admitted on a port that has `MAX_ON_A_PORT`.
+    fn refusal_when_full(&self, serial: &Serial) -> AdmitFault
+        ensures { MatchOption (map.get self.now serial.now) (result ≡ AdmitFault.Full)
+            (λ _. result ≡ AdmitFault.Duplicate) }
+    {
+        match self.index.get(serial) {
+            Some(_) => AdmitFault::Duplicate,
+            None => AdmitFault::Full,
+        }
     }
 
     /// Counts the serial numbers that are admitted on a port.

@@ -1,5 +1,5 @@
 //! The map of the admission list, ordered by serial number.
-ghost use Rattle.std.specs.Prelude.{◌≡◌, ℕ, ◌+◌, ◌==◌, ◌↔◌, if◌then◌else◌, None, IsSome, IsTrue, MatchOption, OnOk, OnErr};
+ghost use Rattle.std.specs.Prelude.{◌≡◌, ℕ, ◌+◌, ◌==◌, ◌↔◌, if◌then◌else◌, false, None, IsSome, IsTrue, MatchOption, IfOk, OnErr};
 ghost use Rattle.std.specs.FinMap as map;
 ghost use Rattle.gp_serial.specs.Admitted.{count_on};
 
@@ -57,16 +57,28 @@ impl Index {
         self.admissions.get(serial).copied()
     }
 
-    /// Adds a serial number, which counts on its port.
-    pub(crate) fn insert(&mut self, serial: Serial, admission: Admission) -> Result<(), AllocError>
-        requires { map.get self.old serial ≡ None }
-        ensures ok { OnOk result (self.new ≡ map.insert self.old serial admission) }
-        ensures counts { OnOk result ((port : ℕ) → count_on port self.new
+    /// Adds a serial number, which counts on its port, by one search, and says whether it was added. One that is there
+    /// already stays as it is.
+    pub(crate) fn insert(
+        &mut self,
+        serial: Serial,
+        admission: Admission,
+    ) -> Result<bool, AllocError>
+        ensures added { IfOk result (λ added. IsTrue added ↔ (map.get self.old serial ≡ None)) }
+        ensures ok { IfOk result (λ added. IsTrue added → self.new ≡ map.insert self.old serial admission) }
+        ensures counts { IfOk result (λ added. IsTrue added → (port : ℕ) → count_on port self.new
             ≡ (if admission.port == port then 1 else 0) + count_on port self.old) }
+        ensures stays { IfOk result (λ added. (added ≡ false) → self.new ≡ self.old) }
+        ensures absent { OnErr result (map.get self.old serial ≡ None) }
         ensures err { OnErr result (self.new ≡ self.old) }
     {
-        self.admissions.insert(serial, admission)?;
-        Ok(())
+        match self.admissions.insert(serial, admission)? {
+            None => Ok(true),
+            Some(before) => {
+                self.admissions.insert(serial, before)?;
+                Ok(false)
+            },
+        }
     }
 
     /// Disables or enables a serial number that is there, which changes no count.
