@@ -1,3 +1,4 @@
 pub mod SpellingLemmas
 pub mod TextLemmas
 pub mod IndexLemmas
+pub mod KeyLemmas

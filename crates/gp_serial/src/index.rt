@@ -3,6 +3,7 @@ ghost use Rattle.std.specs.Prelude.{◌≡◌, ℕ, ◌+◌, ◌==◌, ◌↔◌
 ghost use Rattle.std.specs.FinMap as map;
 ghost use Rattle.gp_serial.specs.Admitted.{count_on};
 
+use crate::key::SerialKey;
 use gp_ploam::Serial;
 use std::alloc::{AllocError, Global};
 use std::collections::BTreeMap;
@@ -20,7 +21,7 @@ pub struct Admission {
 /// A map from serial number to admission.
 #[derive(Drop)]
 pub(crate) struct Index {
-    admissions: BTreeMap<Serial, Admission>,
+    admissions: BTreeMap<SerialKey, Admission>,
 }
 
 impl Model for Index {
@@ -54,7 +55,7 @@ impl Index {
     pub(crate) fn get(&self, serial: &Serial) -> Option<Admission>
         ensures { result ≡ map.get self.now serial.now }
     {
-        self.admissions.get(serial).copied()
+        self.admissions.get(&SerialKey::of(*serial)).copied()
     }
 
     /// Adds a serial number, which counts on its port, by one search, and says whether it was added. One that is there
@@ -72,10 +73,10 @@ impl Index {
         ensures absent { OnErr result (map.get self.old serial ≡ None) }
         ensures err { OnErr result (self.new ≡ self.old) }
     {
-        match self.admissions.insert(serial, admission)? {
+        match self.admissions.insert(SerialKey::of(serial), admission)? {
             None => Ok(true),
             Some(before) => {
-                self.admissions.insert(serial, before)?;
+                self.admissions.insert(SerialKey::of(serial), before)?;
                 Ok(false)
             },
         }
@@ -88,7 +89,7 @@ impl Index {
             (λ a. self.new ≡ map.insert self.old serial.now (record a { disabled = disabled })) }
         ensures counts { (port : ℕ) → count_on port self.new ≡ count_on port self.old }
     {
-        let Some(admission) = self.admissions.get_mut(serial) else {
+        let Some(admission) = self.admissions.get_mut(&SerialKey::of(*serial)) else {
             return false;
         };
         admission.disabled = disabled;

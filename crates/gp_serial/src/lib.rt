@@ -6,7 +6,7 @@
 //! - `reading.rt`: `parse_serial`, and the law that what is read is what is spelled.
 //! - `text.rt`: `SerialText` and the calls that write.
 //! - `admission.rt`: `AdmissionList`, its limit `MAX_ON_A_PORT` and the count of each port; it stands on `index.rt`,
-//!   the map itself (a `BTreeMap`). Another representation of the map changes `index.rt` alone.
+//!   the map itself (a `BTreeMap`), and `key.rt`, its key. Another representation of the map changes these two alone.
 //! - `fault.rt`: both fault enums.
 //! - `specs/Spelling.antt`: what a spelling is. `specs/Admitted.antt`: what the list is, and its limit.
 #![tactic(auto)]
@@ -14,6 +14,7 @@
 mod admission;
 mod fault;
 mod index;
+mod key;
 mod reading;
 mod text;
 
