@@ -1,4 +1,5 @@
 -- Runs of a line that are told as they are.
+-- Inside: no public contract cites this.
 use Rattle.std.specs.Prelude.{◌≡◌, ℕ, ◌-◌, Bool, true, false, List, ◌++◌, length, take}
 use Rattle.gp_ploam.specs.declared.check.Mask.{Mask}
 use Rattle.gp_explain.specs.declared.place.Place.{Place}

@@ -10,9 +10,9 @@
 //! - `replaying.rt`: `replays`, whether a journal tells how a port came to stand where it stands.
 //! - `fault.rt`: the one reason for which a call fails.
 //!
-//! `specs/Kept.antt` is what contracts see of a journal, `specs/Recording.antt` what a step adds to it, `specs/Replays.antt` what it tells of a port,
-//! `specs/Piece.antt` how pieces join. `proofs/Runs.antt` has what crates above need of `Replays`: an empty record,
-//! one step more, two records in a row.
+//! `specs/Kept.antt` is what contracts see of a journal, `specs/Recording.antt` what a step adds to it,
+//! `specs/Replays.antt` what it tells of a port, `specs/Piece.antt` how pieces join. `proofs/Runs.antt` has what crates
+//! above need of `Replays`: an empty record, one step more, two records in a row.
 //!
 //! Where to make which change: what an entry keeps is `Entry` of `gp_machine`; how entries are followed is
 //! `PortFollower` of `gp_port`; what else a record of a port has to keep to is `Replays`, and its test

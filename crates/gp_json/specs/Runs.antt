@@ -1,4 +1,5 @@
 -- Octets of a text that don't stand for themselves (RFC 8259).
+-- Inside: no public contract cites this.
 use Rattle.std.specs.Prelude.{ℕ, ◌==◌, ◌||◌, nat_lt, Bool}
 
 -- a quotation mark, a backslash, and all that isn't printable
