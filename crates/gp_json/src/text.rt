@@ -46,17 +46,17 @@ fn first_escaped(text: &[u8]) -> Option<usize>
     text.iter().position(|octet| is_escaped(*octet))
 }
 
-/// Appends the octets of a text. Those that stand for themselves are appended a run at a time.
+/// Appends the octets of a text, all at once where each stands for itself.
 fn push_octets(out: &mut Vec<u8>, text: &[u8]) -> Result<(), AllocError>
     ensures { OnOk result (out.new.items ≡ out.old.items ++ flat_map spec.escaped text.now) }
 {
-    let mut rest = text;
-    'runs: while let Some(at) = first_escaped(rest) {
-        out.extend_from_slice(&rest[..at])?;
-        push_octet(out, rest[at])?;
-        rest = &rest[at + 1..];
+    if first_escaped(text).is_none() {
+        return out.extend_from_slice(text);
     }
-    out.extend_from_slice(rest)
+    'octets: for octet in text {
+        push_octet(out, *octet)?;
+    }
+    Ok(())
 }
 
 /// Spells the octets of a buffer from a place on as those of a text. Memory is taken only where one doesn't stand for
