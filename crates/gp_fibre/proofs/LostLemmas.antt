@@ -1,5 +1,6 @@
 -- Numbers that are lost, in order.
-use Rattle.std.proofs.Common.{◌≡◌, ℕ, ◌<◌, ◌≤◌, ◌==◌, Bool, true, false, List, length, get_or, refl, sym, ◌∙◌, arith, inl, inr, ◌⊎◌}
+use Rattle.std.proofs.Common.{◌≡◌, ℕ, suc, ◌+◌, ◌<◌, ◌≤◌, ◌==◌, Bool, true, false, ◌||◌, not, cond, nat_lt, List, [], ◌∷◌, length, get_or, Some, None, is_some, refl, sym, ◌∙◌, arith, inl, inr, ◌⊎◌}
+use Rattle.std.specs.List.{list_any, position, position_or_len}
 use Rattle.std.specs.Ordering.{nat_cmp}
 use Rattle.std.specs.List.Sorted.{IsNonDecreasing, IsPermutation, IsSorted}
 use Rattle.std.proofs.lemmas.Bool.Decides.{nat_tests}
@@ -52,3 +53,19 @@ placed_at ordered number place ascending behind before = by_stand (stands_at ord
             let low = before place (omega arith) here in
             let up = ascending place k 0 from within in
             grind (arith, nat_tests, low, up, is, here)
+
+-- a number that is lost has a first place, and no other has
+some_within : (b : Bool) (i : ℕ) → is_some (cond b (Some i) None) ≡ b
+some_within true i = refl
+some_within false i = refl
+
+one_more : (b : Bool) (i n : ℕ) (found : Bool) → nat_lt i n ≡ found → nat_lt (cond (not b) (1 + i) 0) (suc n) ≡ (b || found)
+one_more true i n found is = grind (arith, nat_tests)
+one_more false i n found is = grind (arith, nat_tests, is)
+
+within_where_lost : (p : ℕ → Bool) (xs : List ℕ) → nat_lt (position_or_len p xs) (length xs) ≡ list_any p xs
+within_where_lost p [] = refl
+within_where_lost p (x ∷ xs) = one_more (p x) (position_or_len p xs) (length xs) (list_any p xs) (within_where_lost p xs)
+
+pub first_where_lost : (number : ℕ) (given : List ℕ) → is_some (position (λ n. n == number) given) ≡ is_lost given number
+first_where_lost number given = some_within _ _ ∙ within_where_lost (λ n. n == number) given

@@ -28,7 +28,7 @@ impl Lost for Listed<'_> {
 }
 
 /// Tells whether a number is one of these.
-pub(super) fn is_among(numbers: &[u64], number: u64) -> bool
+fn is_among(numbers: &[u64], number: u64) -> bool
     ensures { result ≡ spec.is_lost numbers.now number }
 {
     numbers.iter().any(|other| *other == number)

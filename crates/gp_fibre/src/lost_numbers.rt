@@ -1,23 +1,24 @@
 //! Numbers that are lost, put in order.
-ghost use Rattle.std.specs.Prelude.{◌≡◌, ◌<◌, ◌≤◌, ℕ, IfOk, IsTrue, length, slice_index};
+ghost use Rattle.std.specs.Prelude.{◌≡◌, ◌==◌, ◌<◌, ◌≤◌, ℕ, IfOk, IsTrue, length, slice_index};
+ghost use Rattle.std.specs.List.{position};
 ghost use Rattle.std.specs.List.Sorted.{IsNonDecreasing};
 ghost use Rattle.gp_fibre.specs.Schedule as spec;
 ghost use Rattle.gp_fibre.specs.LostNumbers.{IsPlaceOf, IsInOrder};
 ghost use Rattle.gp_fibre.specs.LostNumbers as spec_place;
 
-use super::lost::{Lost, is_among};
+use super::lost::Lost;
 use std::alloc::AllocError;
 use std::collections::BinaryHeap;
 use std::marker::Model;
 
-/// After how many walks over all of them numbers are put in order: as many as it takes at most to divide 2^64 numbers by
-/// two until one is left, so that the walks before it took as long.
-const WALKS: u32 = 64;
+/// How often look-ups walk over as many numbers as there are before these are put in order: as often as it takes at most
+/// to divide 2^64 numbers by two until one is left, so that the walks before it took as many steps.
+const WALKS: u64 = 64;
 
-/// Numbers that are lost, of copies or of bursts. A look-up walks over them, until 64 of them went over all and found
-/// nothing. Then they are put in order once, in memory of their own, and a number is looked up by halvings, or in a step
-/// or two where none that is lost lies between it and the one before. Where there is no memory for that, it goes on as
-/// before.
+/// Numbers that are lost, of copies or of bursts. A look-up walks over them, until all look-ups went over 64 times as
+/// many as there are. Then they are put in order once, in memory of their own, and a number is looked up by halvings, or
+/// in a step or two where none that is lost lies between it and the one before. Where there is no memory for that, it
+/// goes on as before.
 ///
 /// Contracts see them as a list.
 #[derive(Drop)]
@@ -27,8 +28,8 @@ pub struct LostNumbers {
     ordered: Option<Vec<u64>>,
     /// How many of those are less than the number that was looked up last.
     place: usize,
-    /// How often all of them were walked over since they were to be put in order.
-    walks: u32,
+    /// How many of them look-ups went over since they were to be put in order.
+    steps: u64,
 }
 
 impl Model for LostNumbers {
@@ -50,7 +51,7 @@ impl From<Vec<u64>> for LostNumbers {
             given,
             ordered: None,
             place: 0,
-            walks: 0,
+            steps: 0,
         }
     }
 }
@@ -66,22 +67,22 @@ impl LostNumbers {
             self.place = place;
             return stands_at(ordered, place, number);
         }
-        let lost = is_among(&self.given, number);
-        if !lost {
-            self.note_walk();
-        }
-        lost
+        let first = first_place_of(number, &self.given);
+        self.note_walk(first);
+        first.is_some()
     }
 
-    /// Counts a walk over all numbers, and puts them in order where there were enough.
-    fn note_walk(&mut self)
+    /// Counts the numbers that a look-up went over, up to the first that it found, and puts all in order where these were
+    /// enough.
+    fn note_walk(&mut self, first: Option<usize>)
         ensures { self.new ≡ self.old }
     {
-        if self.walks < WALKS {
-            self.walks += 1;
+        let count = self.given.len();
+        self.steps = self.steps.saturating_add(first.unwrap_or(count) as u64);
+        if self.steps / WALKS < count as u64 {
             return;
         }
-        self.walks = 0;
+        self.steps = 0;
         self.ordered = in_order(&self.given).ok();
     }
 }
@@ -92,6 +93,13 @@ impl Lost for LostNumbers {
     fn is_lost(&mut self, number: u64) -> bool {
         LostNumbers::is_lost(self, number)
     }
+}
+
+/// Finds the first place of a number among these.
+fn first_place_of(number: u64, given: &[u64]) -> Option<usize>
+    ensures { result ≡ position (λ n. n == number) given.now }
+{
+    given.iter().position(|other| *other == number)
 }
 
 /// Gives these numbers in ascending order, by a heap: it takes no recursion.

@@ -1,4 +1,5 @@
-use Rattle.std.proofs.Common.{◌≡◌, ℕ, List, ap, sym, ◌∙◌, rules}
+use Rattle.std.proofs.Common.{◌≡◌, ℕ, List, is_some, ap, sym, ◌∙◌, rules}
+use Rattle.gp_fibre.proofs.LostLemmas.{first_where_lost}
 use Rattle.gp_fibre.specs.Schedule.{is_lost}
 use Rattle.gp_fibre.specs.LostNumbers.{IsInOrder, stands_at}
 use Rattle.gp_fibre.proofs.lost_numbers.LostNumbers.is_lost.Goals as goal
@@ -11,3 +12,8 @@ returns-in-Some-clause-value c =
     let view : c.self.inside.given.items ≡ c.args.self.now = c.self.view_is in
     c.stands_at.ensures ∙ ap (λ (xs : List ℕ). stands_at xs place number) (c.deref-in-Some.ensures.value ∙ sym c.deref.ensures.value) ∙ sym c.place_near-place.ensures
     ∙ ap (λ (xs : List ℕ). is_lost xs number) c.deref.ensures.value ∙ order.same number ∙ ap (λ (xs : List ℕ). is_lost xs number) view
+
+pub returns-clause-value : goal.returns-clause-value
+returns-clause-value c =
+    let view : c.self.inside.given.items ≡ c.args.self.now = c.self.view_is in
+    c.is_some.ensures ∙ ap is_some c.first_place_of-first.ensures ∙ first_where_lost c.args.number _ ∙ ap (λ (xs : List ℕ). is_lost xs c.args.number) (c.deref-2.ensures.value ∙ view)
