@@ -1,4 +1,4 @@
-ghost use Rattle.std.specs.Prelude.{◌≡◌, ◌+◌, ◌<◌, ◌^◌, None, All, IfOk, OnOk, length, map, true};
+ghost use Rattle.std.specs.Prelude.{◌≡◌, ◌+◌, ◌<◌, ◌^◌, [], None, All, IfOk, OnOk, length, map, true};
 ghost use Rattle.std.specs.Option.{ForSome};
 ghost use Rattle.gp_fibre.specs.World.{is_world_within_limits};
 ghost use Rattle.gp_fibre.specs.Forgetting.{WorldForgets};
@@ -14,9 +14,6 @@ use std::alloc::{AllocError, Global};
 use std::marker::Model;
 use std::sync::ledger::{Blank, Ledger};
 
-/// For how many entries room is kept from a few frames to the next ones: some more than those have without a search.
-const MAX_SPARE: usize = 1024;
-
 /// The fibre that a script with simulated units is played on. Contracts see it with the number of the port's next
 /// entry.
 ///
@@ -25,8 +22,6 @@ pub(crate) struct WorldPlayer<L: Ledger> {
     alloc: Global,
     world: World<L>,
     next: u64,
-    /// Room for the entries of the next frames.
-    spare: Vec<Entry>,
 }
 
 impl<L: Ledger> Model for WorldPlayer<L> {
@@ -67,42 +62,38 @@ impl<L: Ledger> WorldPlayer<L> {
                 alloc,
                 world,
                 next: 0,
-                spare: Vec::new(alloc),
             }),
             Err(WorldFault::Limit) => unreachable!(),
             Err(_) => Err(AllocError),
         }
     }
 
-    /// Makes so many frames of a run, and gives the entries of the port, in order. An error is answered where memory
-    /// was refused; some of the frames are then made.
+    /// Begins a list of entries. It takes no memory.
+    pub(crate) fn no_entries(&self) -> Vec<Entry>
+        ensures { result.items ≡ [] }
+    {
+        Vec::new(self.alloc)
+    }
+
+    /// Makes so many frames of a run. The entries of the port, in order, take the place of what the list holds. An
+    /// error is answered where memory was refused; some of the frames are then made.
     pub(crate) fn run_frames(
         &mut self,
         frames: u32,
         losses: &mut Losses,
-    ) -> Result<Vec<Entry>, AllocError>
+        entries: &mut Vec<Entry>,
+    ) -> Result<(), AllocError>
         requires room { HasFibreRoom frames self.old }
-        ensures ran { IfOk result
-            (λ entries. FramesRun losses.old.copies losses.old.bursts frames self.old.world entries.items
-            self.new.world) }
-        ensures proper { IfOk result (λ entries. All IsProperEntry entries.items) }
+        ensures ran { OnOk result
+            (FramesRun losses.old.copies losses.old.bursts frames self.old.world entries.new.items self.new.world) }
+        ensures proper { OnOk result (All IsProperEntry entries.new.items) }
         ensures next { self.new.next ≡ self.old.next }
         ensures losses { losses.new ≡ losses.old }
     {
-        let mut entries = std::mem::replace(&mut self.spare, Vec::new(self.alloc));
-        match self.world.run_into(frames, losses, &mut entries) {
-            Ok(()) => Ok(entries),
+        match self.world.run_into(frames, losses, entries) {
+            Ok(()) => Ok(()),
             Err(WorldFault::Limit) => unreachable!(),
             Err(_) => Err(AllocError),
-        }
-    }
-
-    /// Takes back entries that are written, for the room that they have, unless it is much.
-    pub(crate) fn reuse(&mut self, entries: Vec<Entry>)
-        ensures { self.new ≡ self.old }
-    {
-        if entries.capacity() <= MAX_SPARE {
-            self.spare = entries;
         }
     }
 
@@ -156,7 +147,6 @@ impl<L: Ledger> WorldPlayer<L> {
             alloc: _,
             world,
             next: _,
-            spare: _,
         } = self;
         world.close()
     }

@@ -25,6 +25,10 @@ use std::sync::ledger::Ledger;
 /// many frames an event has.
 const FRAMES_AT_ONCE: u32 = 256;
 
+/// For how many entries room is kept from a few frames of an event to the next ones: for some more than 1,024 units want
+/// that are all at rest.
+const MAX_SPARE: usize = 8192;
+
 /// The number of the only port.
 const PORT: u8 = 0;
 
@@ -87,8 +91,8 @@ fn play_step<L: Ledger, W: Write>(
     Ok(())
 }
 
-/// Makes so many frames, writes the lines of their entries, and gives these. The entries of all of them are kept until
-/// then; what the fibre need not remember after them it forgets.
+/// Makes so many frames, and writes the lines of their entries, which take the place of what the list holds. What the
+/// fibre need not remember after them it forgets.
 fn play_few_frames<L: Ledger, W: Write>(
     player: &mut WorldPlayer<L>,
     sink: &mut Sink<W>,
@@ -96,20 +100,21 @@ fn play_few_frames<L: Ledger, W: Write>(
     mask: Mask,
     losses: &mut Losses,
     frames: u32,
-) -> Result<Vec<Entry>, PlayFault>
+    entries: &mut Vec<Entry>,
+) -> Result<(), PlayFault>
     requires room { HasFibreRoom frames player.old }
     ensures plays { let lost = lost_by losses.old in
         PlaysOn mask (Numbered (FramesRun lost.copies lost.bursts frames)) (Numbered (TakesSomeFrames lost frames))
         player.old player.new sink.old sink.new result }
-    ensures told { let lost = lost_by losses.old in IfOk result (λ entries.
-        Writes mask (Tells entries.items (Numbered (FramesRun lost.copies lost.bursts frames)))
+    ensures told { let lost = lost_by losses.old in OnOk result
+        (Writes mask (Tells entries.new.items (Numbered (FramesRun lost.copies lost.bursts frames)))
         player.old player.new sink.old sink.new) }
     ensures losses { losses.new ≡ losses.old }
 {
-    let entries = player.run_frames(frames, losses)?;
+    player.run_frames(frames, losses, entries)?;
     write_entries(player, sink, buffer, mask, entries.as_slice())?;
     player.forget();
-    Ok(entries)
+    Ok(())
 }
 
 /// Tells whether one of these entries makes the grant.
@@ -142,10 +147,9 @@ pub(crate) fn play_one_world_frame<L: Ledger, W: Write>(
         player.old player.new sink.old sink.new) }
     ensures losses { losses.new ≡ losses.old }
 {
-    let entries = play_few_frames(player, sink, buffer, mask, losses, 1)?;
-    let made = has_grant(entries.as_slice(), grant);
-    player.reuse(entries);
-    Ok(made)
+    let mut entries = player.no_entries();
+    play_few_frames(player, sink, buffer, mask, losses, 1, &mut entries)?;
+    Ok(has_grant(entries.as_slice(), grant))
 }
 
 /// Makes so many frames, a few at a time, and writes the lines of their entries.
@@ -163,11 +167,14 @@ fn play_frames<L: Ledger, W: Write>(
         player.old player.new sink.old sink.new result }
     ensures losses { losses.new ≡ losses.old }
 {
+    let mut entries = player.no_entries();
     let mut left = frames;
     while left > 0 {
         let few = left.min(FRAMES_AT_ONCE);
-        let entries = play_few_frames(player, sink, buffer, mask, losses, few)?;
-        player.reuse(entries);
+        play_few_frames(player, sink, buffer, mask, losses, few, &mut entries)?;
+        if entries.capacity() > MAX_SPARE {
+            entries = player.no_entries();
+        }
         left -= few;
     }
     Ok(())
