@@ -1,3 +1,4 @@
+pub mod Appending
 pub mod Faults
 pub mod Digits
 pub mod LineLemmas

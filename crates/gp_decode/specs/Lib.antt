@@ -1,3 +1,4 @@
+pub mod Appending
 pub mod Message
 pub mod Line
 pub mod Faults

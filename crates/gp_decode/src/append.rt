@@ -1,7 +1,8 @@
 //! The words of a message, behind what a buffer holds.
-ghost use Rattle.std.specs.Prelude.{◌≡◌, ◌≢◌, ◌++◌, ℕ, List, IfErr, OnOk, codes, decimal, true, false};
+ghost use Rattle.std.specs.Prelude.{◌≡◌, ◌≢◌, ◌+◌, ◌<◌, ◌≤◌, ◌++◌, ℕ, List, Err, IfErr, OnOk, codes, decimal, length, true, false, vec_capacity, vec_len};
 ghost use Rattle.hex.specs.Hex.{encode_lower};
 ghost use Rattle.gp_serial.specs.Spelling.{text_of_serial};
+ghost use Rattle.gp_decode.specs.Appending.{Appends};
 ghost use Rattle.gp_decode.specs.Line.{HasWords, LacksWords};
 ghost use Rattle.gp_decode.specs.Message.{down_text, keep_text, other_text, up_text};
 
@@ -13,7 +14,7 @@ use std::alloc::AllocError;
 
 /// Appends a number.
 fn push_number(out: &mut Vec<u8>, number: u32) -> Result<(), AllocError>
-    ensures { OnOk result (out.new.items ≡ out.old.items ++ decimal number) }
+    ensures { Appends (decimal number) out.old out.new result }
 {
     let mut digits = Buffer::new();
     out.extend_from_slice(digits.format(number).as_bytes())
@@ -21,7 +22,7 @@ fn push_number(out: &mut Vec<u8>, number: u32) -> Result<(), AllocError>
 
 /// Appends a word and a number.
 fn push_numbered(out: &mut Vec<u8>, word: &str, number: u32) -> Result<(), AllocError>
-    ensures { OnOk result (out.new.items ≡ out.old.items ++ (word.now ++ decimal number)) }
+    ensures { Appends (word.now ++ decimal number) out.old out.new result }
 {
     out.extend_from_slice(word.as_bytes())?;
     push_number(out, number)
@@ -29,8 +30,7 @@ fn push_numbered(out: &mut Vec<u8>, word: &str, number: u32) -> Result<(), Alloc
 
 /// Appends a word and two numbers.
 fn push_numbers(out: &mut Vec<u8>, word: &str, first: u32, second: u32) -> Result<(), AllocError>
-    ensures { OnOk result
-        (out.new.items ≡ out.old.items ++ (word.now ++ decimal first ++ codes " " ++ decimal second)) }
+    ensures { Appends (word.now ++ decimal first ++ codes " " ++ decimal second) out.old out.new result }
 {
     push_numbered(out, word, first)?;
     push_numbered(out, " ", second)
@@ -38,7 +38,7 @@ fn push_numbers(out: &mut Vec<u8>, word: &str, first: u32, second: u32) -> Resul
 
 /// Appends a word and ten octets, in lower-case hexadecimal digits.
 fn push_octets(out: &mut Vec<u8>, word: &str, octets: &[u8; 10]) -> Result<(), AllocError>
-    ensures { OnOk result (out.new.items ≡ out.old.items ++ (word.now ++ encode_lower octets.now)) }
+    ensures { Appends (word.now ++ encode_lower octets.now) out.old out.new result }
 {
     let mut digits = [0u8; 20];
     hex::encode_to_slice(octets.as_slice(), &mut digits).unwrap();
@@ -48,7 +48,7 @@ fn push_octets(out: &mut Vec<u8>, word: &str, octets: &[u8; 10]) -> Result<(), A
 
 /// Appends a word and a serial number.
 fn push_serial(out: &mut Vec<u8>, word: &str, serial: &Serial) -> Result<(), AllocError>
-    ensures { OnOk result (out.new.items ≡ out.old.items ++ (word.now ++ text_of_serial serial.now)) }
+    ensures { Appends (word.now ++ text_of_serial serial.now) out.old out.new result }
 {
     out.extend_from_slice(word.as_bytes())?;
     push_serial_text(out, serial)
@@ -56,8 +56,7 @@ fn push_serial(out: &mut Vec<u8>, word: &str, serial: &Serial) -> Result<(), All
 
 /// Appends a word, an ONU-ID and a serial number.
 fn push_unit(out: &mut Vec<u8>, word: &str, onu: u8, serial: &Serial) -> Result<(), AllocError>
-    ensures { OnOk result (out.new.items
-        ≡ out.old.items ++ (word.now ++ decimal onu ++ codes " " ++ text_of_serial serial.now)) }
+    ensures { Appends (word.now ++ decimal onu ++ codes " " ++ text_of_serial serial.now) out.old out.new result }
 {
     push_numbered(out, word, u32::from(onu))?;
     push_serial(out, " ", serial)
@@ -65,7 +64,7 @@ fn push_unit(out: &mut Vec<u8>, word: &str, onu: u8, serial: &Serial) -> Result<
 
 /// Appends a message that this profile has no name for.
 fn push_other(out: &mut Vec<u8>, id: u8, octet1: u8, body: &[u8; 10]) -> Result<(), AllocError>
-    ensures { OnOk result (out.new.items ≡ out.old.items ++ other_text id octet1 body.now) }
+    ensures { Appends (other_text id octet1 body.now) out.old out.new result }
 {
     push_numbers(out, "Other ", u32::from(id), u32::from(octet1))?;
     push_octets(out, " ", body)
@@ -86,8 +85,8 @@ fn push_alloc(
     second: u32,
     keep: bool,
 ) -> Result<(), AllocError>
-    ensures { OnOk result (out.new.items ≡ out.old.items
-        ++ (word.now ++ decimal first ++ codes " " ++ decimal second ++ codes " " ++ keep_text keep)) }
+    ensures { Appends (word.now ++ decimal first ++ codes " " ++ decimal second ++ codes " " ++ keep_text keep)
+        out.old out.new result }
 {
     push_numbers(out, word, first, second)?;
     out.extend_from_slice(keep_word(keep).as_bytes())
@@ -95,7 +94,7 @@ fn push_alloc(
 
 /// Appends a message of the line terminal, as `DownText` shows it.
 pub(crate) fn push_down(out: &mut Vec<u8>, message: &Down) -> Result<(), AllocError>
-    ensures { OnOk result (out.new.items ≡ out.old.items ++ down_text message.now) }
+    ensures { Appends (down_text message.now) out.old out.new result }
 {
     match message {
         Down::UpstreamOverhead { burst } => push_octets(out, "Upstream_Overhead ", burst),
@@ -125,8 +124,8 @@ fn push_unit_numbers(
     first: u32,
     second: u32,
 ) -> Result<(), AllocError>
-    ensures { OnOk result (out.new.items ≡ out.old.items ++ (word.now ++ decimal onu ++ codes " "
-        ++ text_of_serial serial.now ++ codes " " ++ decimal first ++ codes " " ++ decimal second)) }
+    ensures { Appends (word.now ++ decimal onu ++ codes " " ++ text_of_serial serial.now ++ codes " " ++ decimal first
+        ++ codes " " ++ decimal second) out.old out.new result }
 {
     push_unit(out, word, onu, serial)?;
     push_numbers(out, " ", first, second)
@@ -134,7 +133,7 @@ fn push_unit_numbers(
 
 /// Appends a message of a unit, as `UpText` shows it.
 pub(crate) fn push_up(out: &mut Vec<u8>, message: &Up) -> Result<(), AllocError>
-    ensures { OnOk result (out.new.items ≡ out.old.items ++ up_text message.now) }
+    ensures { Appends (up_text message.now) out.old out.new result }
 {
     match message {
         Up::SerialNumber {
@@ -159,7 +158,8 @@ pub(crate) fn push_up(out: &mut Vec<u8>, message: &Up) -> Result<(), AllocError>
 /// Appends the words of the message that a code is read as, as `words_of` makes them. `Crc` is answered where the check
 /// octet is wrong under the mask.
 ///
-/// Memory is taken only where the buffer has no room. Where it is refused, a part of the words may have been appended.
+/// Memory is taken only where the buffer has no room for the words. Where it is refused, what the buffer held stands
+/// there, and behind it maybe the first part of the words. The room never gets less.
 pub fn push_words_of(
     out: &mut Vec<u8>,
     code: &[u8; 13],
@@ -170,6 +170,11 @@ pub fn push_words_of(
         × (out.new.items ≡ out.old.items ++ words)) }
     ensures fault { IfErr result (LacksWords upstream mask code.now) }
     ensures kept { IfErr result (λ fault. fault ≢ LineFault.OutOfMemory → out.new.items ≡ out.old.items) }
+    ensures part { result ≡ Err LineFault.OutOfMemory → (part rest : List ℕ) × HasWords upstream mask code.now (part ++ rest)
+        × (out.new.items ≡ out.old.items ++ part) }
+    ensures room { result ≡ Err LineFault.OutOfMemory → (words : List ℕ) × HasWords upstream mask code.now words
+        × (vec_capacity out.old < vec_len out.old + length words) }
+    ensures capacity { vec_capacity out.old ≤ vec_capacity out.new }
 {
     if upstream {
         push_up_words(out, code, mask)
@@ -184,6 +189,11 @@ fn push_up_words(out: &mut Vec<u8>, code: &[u8; 13], mask: Mask) -> Result<(), L
         × (out.new.items ≡ out.old.items ++ words)) }
     ensures fault { IfErr result (LacksWords true mask code.now) }
     ensures kept { IfErr result (λ fault. fault ≢ LineFault.OutOfMemory → out.new.items ≡ out.old.items) }
+    ensures part { result ≡ Err LineFault.OutOfMemory → (part rest : List ℕ) × HasWords true mask code.now (part ++ rest)
+        × (out.new.items ≡ out.old.items ++ part) }
+    ensures room { result ≡ Err LineFault.OutOfMemory → (words : List ℕ) × HasWords true mask code.now words
+        × (vec_capacity out.old < vec_len out.old + length words) }
+    ensures capacity { vec_capacity out.old ≤ vec_capacity out.new }
 {
     let message = decode_up(code, mask)?;
     push_up(out, &message)?;
@@ -196,6 +206,11 @@ fn push_down_words(out: &mut Vec<u8>, code: &[u8; 13], mask: Mask) -> Result<(),
         × (out.new.items ≡ out.old.items ++ words)) }
     ensures fault { IfErr result (LacksWords false mask code.now) }
     ensures kept { IfErr result (λ fault. fault ≢ LineFault.OutOfMemory → out.new.items ≡ out.old.items) }
+    ensures part { result ≡ Err LineFault.OutOfMemory → (part rest : List ℕ) × HasWords false mask code.now (part ++ rest)
+        × (out.new.items ≡ out.old.items ++ part) }
+    ensures room { result ≡ Err LineFault.OutOfMemory → (words : List ℕ) × HasWords false mask code.now words
+        × (vec_capacity out.old < vec_len out.old + length words) }
+    ensures capacity { vec_capacity out.old ≤ vec_capacity out.new }
 {
     let message = decode_down(code, mask)?;
     push_down(out, &message)?;

@@ -1,6 +1,8 @@
 -- Taking a turn and telling its line (this profile's own rule).
 use Rattle.std.specs.Prelude.{◌≡◌, ℕ, List, [], ◌∷◌, Option}
+use Rattle.std.specs.Option.{ForSome}
 use Rattle.gp_ploam.specs.declared.check.Mask.{Mask}
+use Rattle.gp_ploam.specs.Down.{IsProperDown}
 use Rattle.gp_stream.specs.Sink.{SinkState}
 use Rattle.gp_machine.specs.declared.entry.Receipt.{Receipt}
 use Rattle.gp_chassis.specs.Core.{GrantsTurn}
@@ -12,12 +14,13 @@ use Rattle.gp_replay.specs.Play.{TakesAllTurns, TakesTurns}
 use Rattle.gp_replay.specs.Playing.{Tells}
 use Rattle.gp_replay.specs.Writing.{Writes}
 
--- the turn is taken, with the wished number where it is free and one is handed out; the line is that of its receipt,
--- and what is told is the receipt's
+-- the turn is taken, with the wished number where it is free and one is handed out; what it sends has a code; the line
+-- is that of its receipt, and what is told is the receipt's
 pub record TellsTurn
     (mask : Mask) (old : PlayState) (turn : Turn) (wished : Option ℕ) (told : Told) (line : List ℕ) (new : PlayState) : Type 0 where
   pub receipt : Receipt
   pub taken : TakesTurns old (turn ∷ []) (receipt ∷ []) new
+  pub proper : ForSome receipt.entry.answer.sent IsProperDown
   pub grants : GrantsTurn old.world new.world turn.port turn.event wished receipt.entry
   pub line_is : line ≡ line_of mask receipt
   pub number_is : told.number ≡ receipt.number

@@ -16,6 +16,7 @@ returns-clause-told g c =
     record {
       receipt = kept.receipt;
       taken = applied_turn _ _ _ _ kept.receipt kept.applies kept.run;
+      proper = kept.proper;
       grants = kept.grants;
       line_is = c.build_entry.ensures ∙ ap (line_of c.args.mask) receipt;
       number_is = sym kept.is_number;

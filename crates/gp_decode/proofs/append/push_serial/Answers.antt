@@ -1,0 +1,10 @@
+use Rattle.std.proofs.Common.{refl}
+use Rattle.gp_serial.specs.Spelling.{text_of_serial}
+use Rattle.gp_decode.proofs.Appending.{appends_no_first, appends_slice}
+use Rattle.gp_decode.proofs.append.push_serial.Goals as goal
+
+pub returns-in_err-extend_from_slice : goal.returns-in_err-extend_from_slice
+returns-in_err-extend_from_slice c =
+    let e = c.extend_from_slice.ensures in
+    appends_no_first _ c.args.word.now (text_of_serial c.args.serial.now) _ _ _ _ c.in_err-extend_from_slice.field-0.0 _ refl
+    c.in_err-extend_from_slice.was c.from_residual.ensures.1 (appends_slice _ c.args.word.now _ _ _ c.as_bytes.ensures.value e.items e.capacity e.full)
