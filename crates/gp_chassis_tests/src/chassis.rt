@@ -4,7 +4,7 @@ ghost use Rattle.std.specs.Prelude.{◌≡◌};
 
 mod lines;
 
-use self::lines::{Answer, Call, Line, play};
+use self::lines::{Answer, Call, Line, Way, play};
 use super::units::{A, A_RANGED, NOTHING, SEARCH, Said, chassis_of};
 use gp_alarms::AlarmKind;
 use gp_chassis::{ChassisCore, CoreFault, MAX_JOURNAL_LIMIT};
@@ -315,6 +315,7 @@ fn outcome_of<L: Ledger>(
     alloc: Global,
     blank: Blank,
     run: &Run,
+    way: Way,
     tries: u8,
 ) -> Result<Option<usize>, OpenFault>
     requires name { blank.name ≡ L.name }
@@ -323,20 +324,22 @@ fn outcome_of<L: Ledger>(
     let (licences, journal_limit, cycles) = run.1;
     let config = chassis_of(alloc, licences, journal_limit, cycles, run.2)?;
     let mut core = ChassisCore::<L>::begin(alloc, blank, &config)?;
-    let wrong = play(alloc, &mut core, run.3, tries);
+    let wrong = play(alloc, &mut core, run.3, way, tries);
     core.close();
     Ok(wrong)
 }
 
 /// The same with a new ledger.
-fn outcome(alloc: Global, run: &Run, tries: u8) -> Result<Option<usize>, OpenFault> {
-    outcome_of::<Brand>(alloc, Blank::new(u64::from(MAX_LICENCES)), run, tries)
+fn outcome(alloc: Global, run: &Run, way: Way, tries: u8) -> Result<Option<usize>, OpenFault> {
+    outcome_of::<Brand>(alloc, Blank::new(u64::from(MAX_LICENCES)), run, way, tries)
 }
 
 #[test]
 fn worked_runs(rt: HostRuntime) {
     for run in RUNS {
-        assert_eq!(rt; outcome(rt.alloc(), run, 1), Ok(None), "{}", run.0);
+        for way in [Way::Receipt, Way::Kept] {
+            assert_eq!(rt; outcome(rt.alloc(), run, way, 1), Ok(None), "{}", run.0);
+        }
     }
 }
 
@@ -344,7 +347,7 @@ fn worked_runs(rt: HostRuntime) {
 fn limits(rt: HostRuntime) {
     for run in LIMITS {
         assert_eq!(rt;
-            outcome(rt.alloc(), run, 1),
+            outcome(rt.alloc(), run, Way::Receipt, 1),
             Err(OpenFault::Limit),
             "{}",
             run.0
@@ -356,9 +359,11 @@ fn limits(rt: HostRuntime) {
 #[test]
 fn memory_short_or_ample(rt: HostRuntime) {
     let run = ("each call", (1, 100, 3), TWO_PORTS, EACH_CALL);
-    let wrong = match outcome(rt.alloc(), &run, 2) {
-        Err(OpenFault::OutOfMemory) => outcome(rt.alloc(), &run, 2),
-        wrong => wrong,
-    };
-    assert_eq!(rt; wrong, Ok(None));
+    for way in [Way::Receipt, Way::Kept] {
+        let wrong = match outcome(rt.alloc(), &run, way, 2) {
+            Err(OpenFault::OutOfMemory) => outcome(rt.alloc(), &run, way, 2),
+            wrong => wrong,
+        };
+        assert_eq!(rt; wrong, Ok(None));
+    }
 }

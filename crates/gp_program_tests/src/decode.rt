@@ -1,4 +1,4 @@
-use gp_decode::{FaultAt, LineFault, decode_line, decode_lines};
+use gp_decode::{FaultAt, LineFault, decode_line, decode_lines, push_words_of};
 use gp_ploam::Mask;
 use gp_stream::{Sink, Source};
 use std::alloc::{AllocError, Global};
@@ -216,6 +216,71 @@ fn lines_of_an_input(rt: HostRuntime) -> Result<(), AllocError> {
         let written = sink.into_inner();
         assert_eq!(rt; outcome, Ok(first), "{input}");
         assert!(rt; written.as_slice() == said.as_bytes(), "{input}");
+    }
+    Ok(())
+}
+
+/// What stands in a buffer before words are appended.
+const FRONT: &str = "0 7 frame = ok sent ";
+
+/// The octets of a code, from its digits.
+fn octets_of(text: &str) -> [u8; 13] {
+    let mut octets = [0u8; 13];
+    for (place, digit) in text.as_bytes().iter().enumerate() {
+        let value = char::from(*digit).to_digit(16).unwrap_or(0) as u8;
+        if let Some(octet) = octets.get_mut(place / 2) {
+            *octet = octet.wrapping_mul(16).wrapping_add(value);
+        }
+    }
+    octets
+}
+
+/// How words are appended to a buffer with so much room behind what stands in it, and what it holds then.
+fn appended(
+    alloc: Global,
+    room: usize,
+    row: (&'static str, bool, Mask),
+) -> Result<(Result<(), LineFault>, Vec<u8>), AllocError> {
+    let (text, upstream, mask) = row;
+    let mut out = Vec::with_capacity(alloc, FRONT.len() + room)?;
+    out.extend_from_slice(FRONT.as_bytes())?;
+    let outcome = push_words_of(&mut out, &octets_of(text), upstream, mask);
+    Ok((outcome, out))
+}
+
+/// Tells whether a buffer holds what stood in it, and behind that the words of a line.
+fn holds(out: &[u8], line: &str) -> bool {
+    let words = line.trim_end_matches('\n').as_bytes();
+    out.strip_prefix(FRONT.as_bytes()) == Some(words)
+}
+
+/// Where an allocation was made to fail it is told, and what stood in the buffer stands there with at most the first
+/// part of the words behind it; else the words stand there, however much room there was.
+#[test]
+fn words_behind_what_stands(rt: HostRuntime) {
+    for (text, upstream, mask, line) in LINES {
+        for room in [0, 1, 18, 64] {
+            let Ok((outcome, out)) = appended(rt.alloc(), room, (text, upstream, mask)) else {
+                return;
+            };
+            if outcome == Err(LineFault::OutOfMemory) {
+                let begun = out.strip_prefix(FRONT.as_bytes()).unwrap_or(b"\n");
+                assert!(rt; room < 64 && line.as_bytes().starts_with(begun), "{text}");
+                return;
+            }
+            assert!(rt; outcome == Ok(()) && holds(&out, line), "{text}");
+        }
+    }
+}
+
+/// A code whose check octet is wrong leaves a buffer as it was.
+#[test]
+fn no_words_of_a_wrong_code(rt: HostRuntime) -> Result<(), AllocError> {
+    for upstream in [DOWN, UP] {
+        let row = ("00050000000000000000000062", upstream, Mask::Plain);
+        let (outcome, out) = appended(rt.alloc(), 0, row)?;
+        assert_eq!(rt; outcome, Err(LineFault::Crc));
+        assert!(rt; holds(&out, ""));
     }
     Ok(())
 }

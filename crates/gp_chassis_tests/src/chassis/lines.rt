@@ -3,7 +3,7 @@
 use crate::units::{Said, heard, spoken};
 use gp_alarms::AlarmKind;
 use gp_chassis::{ChassisCore, CoreFault};
-use gp_machine::{Event, Receipt};
+use gp_machine::{Entry, Event};
 use std::alloc::Global;
 use std::sync::ledger::Ledger;
 
@@ -31,20 +31,30 @@ pub(super) enum Call {
 /// What it answers: a reply and an alarm, or numbers; the first is 1 where a window is opened.
 pub(super) type Answer = Result<(Option<Said>, Option<AlarmKind>, u64, u64), CoreFault>;
 
+/// How a port is asked to serve an event.
+#[derive(Clone, Copy)]
+pub(super) enum Way {
+    /// Its receipt is given.
+    Receipt,
+    /// Its entry is lent where the journal keeps it.
+    Kept,
+}
+
 /// A call, so many times, and what is answered each time, with the next ONU-ID each further time where a unit is found.
 pub(super) type Line = (u8, Call, Answer);
 
-/// Plays lines, each call with so many tries at most where memory is refused, and gives the place of the first line
-/// that is answered otherwise.
+/// Plays lines, each event in this way, each call with so many tries at most where memory is refused, and gives the place
+/// of the first line that is answered otherwise.
 pub(super) fn play<L: Ledger>(
     alloc: Global,
     core: &mut ChassisCore<L>,
     lines: &[Line],
+    way: Way,
     tries: u8,
 ) -> Option<usize> {
     for (place, (times, call, answer)) in lines.iter().enumerate() {
         for turn in 0..*times {
-            if answer_at_last(alloc, core, call, turn, tries) != at_turn(*answer, turn) {
+            if answer_at_last(alloc, core, (call, way), turn, tries) != at_turn(*answer, turn) {
                 return Some(place);
             }
         }
@@ -67,27 +77,36 @@ fn at_turn(answer: Answer, turn: u8) -> Answer {
 fn answer_at_last<L: Ledger>(
     alloc: Global,
     core: &mut ChassisCore<L>,
-    call: &Call,
+    asked: (&Call, Way),
     turn: u8,
     tries: u8,
 ) -> Answer {
     let mut answer = Err(CoreFault::OutOfMemory);
     for _ in 0..tries {
         if answer == Err(CoreFault::OutOfMemory) {
-            answer = make(alloc, core, call, turn);
+            answer = make(alloc, core, asked, turn);
         }
     }
     answer
 }
 
-fn make<L: Ledger>(alloc: Global, core: &mut ChassisCore<L>, call: &Call, turn: u8) -> Answer {
+fn make<L: Ledger>(
+    alloc: Global,
+    core: &mut ChassisCore<L>,
+    asked: (&Call, Way),
+    turn: u8,
+) -> Answer {
+    let (call, way) = asked;
     match *call {
-        Call::Apply(port, event) => replied(core.apply(port, event)),
+        Call::Apply(port, event) => replied(serve(core, port, event, way)),
         Call::Hear(port, first) => {
             let number = first.wrapping_add(u16::from(turn));
-            replied(core.apply(port, heard(number)))
+            replied(serve(core, port, heard(number), way))
         }
-        Call::Step(actor, port, number) => replied(core.step(actor, port, heard(number))),
+        Call::Step(actor, port, number) => {
+            let stepped = core.step(actor, port, heard(number));
+            replied(stepped.map(|receipt| receipt.entry))
+        }
         Call::Cut(port) => cut(alloc, core, port),
         Call::Take(actor) => counted(core.take(actor)),
         Call::Give(actor) => match core.give(actor) {
@@ -99,10 +118,37 @@ fn make<L: Ledger>(alloc: Global, core: &mut ChassisCore<L>, call: &Call, turn: 
     }
 }
 
-fn replied(applied: Result<Receipt, CoreFault>) -> Answer {
-    match applied {
-        Ok(receipt) => {
-            let answer = receipt.entry.answer;
+/// Has a port serve an event.
+fn serve<L: Ledger>(
+    core: &mut ChassisCore<L>,
+    port: u8,
+    event: Event,
+    way: Way,
+) -> Result<Entry, CoreFault> {
+    match way {
+        Way::Receipt => core.apply(port, event).map(|receipt| receipt.entry),
+        Way::Kept => {
+            let number = core.apply_kept(port, event, None)?;
+            kept(core, port, number)
+        }
+    }
+}
+
+/// Copies the last entry that a port's journal keeps. `NoActor`, which no such call answers, where it has not this
+/// number, or none is kept.
+fn kept<L: Ledger>(core: &ChassisCore<L>, port: u8, number: u64) -> Result<Entry, CoreFault> {
+    match (core.last_entry(port), core.desk(port)) {
+        (Some(entry), Some(desk)) if desk.journal().len().checked_sub(1) == Some(number) => Ok(
+            *entry,
+        ),
+        _ => Err(CoreFault::NoActor),
+    }
+}
+
+fn replied(served: Result<Entry, CoreFault>) -> Answer {
+    match served {
+        Ok(entry) => {
+            let answer = entry.answer;
             let alarm = match answer.alarm {
                 Some(alarm) => Some(alarm.kind),
                 None => None,
