@@ -1,8 +1,12 @@
 -- What a text begins with (this profile's own rule).
 -- Inside: no public contract cites this.
-use Rattle.std.specs.Prelude.{◌≡◌, ℕ, ◌<◌, ◌^◌, List, ◌++◌, codes}
+use Rattle.std.specs.Prelude.{◌≡◌, ℕ, ◌<◌, ◌^◌, ◌==◌, Bool, not, List, ◌++◌, codes}
 use Rattle.gp_machine.specs.declared.event.Event.{Event}
 use Rattle.gp_lines.specs.Spelling.{SpellsNumber, SpellsEvent}
+
+-- an octet that isn't the digit zero
+abbrev pub is_other_than_zero : ℕ → Bool
+is_other_than_zero octet = not (octet == 48)
 
 -- the text begins with this number, and behind it and a space stands the rest
 pub record NumberLeads (text : List ℕ) (number : ℕ) (rest : List ℕ) : Type 0 where

@@ -1,5 +1,5 @@
 -- Answers whose lines are not too long (this profile's own rule).
-use Rattle.std.specs.Prelude.{◌≡◌, ℕ, ◌≤◌, length, ⊤}
+use Rattle.std.specs.Prelude.{◌≡◌, ◌≤◌, length, ⊤}
 use Rattle.std.specs.FinMap.{len}
 use Rattle.std.specs.Option.{ForSome}
 use Rattle.gp_ploam.specs.Down.{IsProperDown}

@@ -1,8 +1,9 @@
 //! Codes, of 26 hexadecimal digits, read with no branch that depends on a digit.
-ghost use Rattle.std.specs.Prelude.{◌≡◌, ◌<◌, true, Some, Ok, IfSome, length};
+ghost use Rattle.std.specs.Prelude.{◌≡◌, ◌<◌, true, Some, Ok, Err, IfSome, IfNone, length};
 ghost use Rattle.std.specs.Char.{is_ascii_hexdigit};
 ghost use Rattle.std.specs.List.{list_all};
 ghost use Rattle.hex.specs.Hex.{hex_digit_value};
+ghost use Rattle.gp_lines.specs.declared.fault.LineFault.TheVariants as fault;
 ghost use Rattle.gp_lines.specs.Reading as spec;
 
 /// How many digits a code has.
@@ -43,7 +44,8 @@ fn octets_of(digits: &[u8]) -> [u8; 13]
 
 /// Reads the octets of a code. None for a text that isn't 26 hexadecimal digits.
 pub(crate) fn octets_in(text: &[u8]) -> Option<[u8; 13]>
-    ensures { IfSome result (λ octets. spec.code_in text.now ≡ Ok octets) }
+    ensures octets { IfSome result (λ octets. spec.code_in text.now ≡ Ok octets) }
+    ensures none { IfNone result (spec.code_in text.now ≡ Err fault.Hex) }
 {
     if text.len() == CODE_DIGITS && are_hex_digits(text) {
         Some(octets_of(text))

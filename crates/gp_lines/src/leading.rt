@@ -5,27 +5,30 @@ ghost use Rattle.gp_lines.specs.Leading.{NumberLeads, EventLeads};
 use crate::code::{CODE_DIGITS, octets_in};
 use gp_machine::Event;
 
-/// The greatest number that a digit may follow, of those that are read here.
-pub(crate) const MOST_BEFORE_A_DIGIT: u64 = 1_844_674_407_370_955_160;
+/// The most digits of which each number is below 2 ^ 64.
+pub(crate) const MOST_DIGITS: usize = 19;
 
-/// Reads a number up to the first space, and gives what stands behind that. None for some great numbers too.
+/// Reads a number up to the first space, and gives what stands behind that. None for numbers of more than nineteen
+/// digits too: it looks at no octet behind these.
 pub(crate) fn leading_number(text: &[u8]) -> Option<(u64, &[u8])>
     ensures { IfSome result (λ read. NumberLeads text.now read.0 read.1.now) }
 {
+    let end = text.len().min(MOST_DIGITS);
     let mut number = 0u64;
     let mut at = 0;
-    'digits: while at < text.len() {
+    'digits: while at < end {
         let octet = text[at];
-        if octet == b' ' && at > 0 {
-            return Some((number, &text[at + 1..]));
-        }
-        if !octet.is_ascii_digit() || number > MOST_BEFORE_A_DIGIT {
-            return None;
+        if !octet.is_ascii_digit() {
+            break 'digits;
         }
         number = number * 10 + u64::from(octet - b'0');
         at += 1;
     }
-    None
+    let rest = text[at..].strip_prefix(b" ")?;
+    if at == 0 {
+        return None;
+    }
+    Some((number, rest))
 }
 
 /// Reads the burst that a text begins with, and gives what stands behind it. None for some bursts too: those whose

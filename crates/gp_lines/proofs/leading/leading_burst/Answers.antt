@@ -11,4 +11,4 @@ returns c =
     let cut = joined 26 c.in_ok-at.behind.now c.in_ok-digits.digits.now c.in_ok-digits.rest.now split.1 split.2 in
     let below : c.in_ok-at.at < 2 ^ 32 = omega arith in
     burst_leads c.args.text.now c.in_ok-fields.fields.now c.in_ok-at.behind.now c.in_ok-digits.digits.now c.in_ok-digits.rest.now c.in_ok-bytes.bytes c.in_ok-at.at
-    fields c.in_ok-at.ensures cut c.in_ok-bytes.ensures below
+    fields c.in_ok-at.ensures cut c.in_ok-bytes.ensures.octets below

@@ -1,6 +1,6 @@
 use Rattle.std.proofs.Common.{rules, ◌≡◌, ◌<◌, ◌-◌, true, arith, length, refl, slice_index}
 use Rattle.std.specs.Char.{is_ascii_digit}
-use Rattle.gp_lines.proofs.DigitLemmas.{digit_more}
+use Rattle.gp_lines.proofs.DigitLemmas.{digit_more, low_enough}
 use Rattle.gp_lines.proofs.leading.leading_number.Goals as goal
 
 pub digits-preserved : goal.digits-preserved
@@ -10,3 +10,9 @@ digits-preserved c =
     let digit : is_ascii_digit octet ≡ true = search rules in
     let value : c.from.result ≡ octet - 48 = search rules in
     (omega arith, rw value (digit_more c.args.text.now c.digits.at c.digits.number octet within refl digit c.digits.invariant.1))
+
+pub overflow_mul-number : goal.overflow_mul-number
+overflow_mul-number c = let low = low_enough c.args.text.now c.digits.at c.digits.number (omega arith) c.digits.invariant.1 in omega (arith, low)
+
+pub overflow_add-number : goal.overflow_add-number
+overflow_add-number c = let low = low_enough c.args.text.now c.digits.at c.digits.number (omega arith) c.digits.invariant.1 in omega (arith, low)
