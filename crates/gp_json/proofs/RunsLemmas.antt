@@ -1,8 +1,10 @@
 -- Runs of octets that stand for themselves.
-use Rattle.std.proofs.Common.{◌≡◌, ℕ, ◌+◌, suc, true, false, List, [], ◌∷◌, ◌++◌, length, take, drop, Option, None, Some, is_none, Result, Ok, Err, OnOk, refl, sym, ap, ◌∙◌, inl, inr, arith, ltb}
-use Rattle.std.proofs.lemmas.Bool.{cases_Bool, ltb-false}
+use Rattle.std.proofs.Common.{◌≡◌, ℕ, ◌+◌, ◌<◌, ◌≤◌, suc, false, List, [], ◌∷◌, ◌++◌, append_assoc, length, take, drop, Option, None, Some, Result, Ok, Err, OnOk, refl, sym, ap, subst, ◌∙◌, inl, inr, arith, ltb}
+use Rattle.std.proofs.Math.Seq.{take-add}
+use Rattle.std.proofs.lemmas.Bool.{cases_Bool, ltb-false, ltb-true}
 use Rattle.std.proofs.lemmas.List.{append-nil, drop_all, take-append-drop, take_all}
 use Rattle.std.specs.List.{flat_map, position, position_or_len}
+use Rattle.std.specs.Option.{unwrap_or}
 use Rattle.gp_json.specs.Spelling.{escaped}
 use Rattle.gp_json.specs.Runs.{is_escaped}
 
@@ -29,29 +31,66 @@ run (octet ∷ text) =
       | inr same ↦ rw same (ap (λ (l : List ℕ). l ++ spelled text) (plain octet same) ∙ one_more octet text (place text) (run text))
     ]
 
--- so where there is none it stands for itself
-pub run_last : (text : List ℕ) → None ≡ position is_escaped text → spelled text ≡ text
-run_last text none =
+here : (text : List ℕ) (at : ℕ) → Some at ≡ position is_escaped text → (place text ≡ at) × (at < length text)
+here text at is =
     elim (cases_Bool (ltb (place text) (length text))) [
-      | inl within ↦ cc (rw within at none)
-      | inr without ↦
-          let far = ltb-false _ _ without in
-          run text
-          ∙ ap (λ (l : List ℕ). l ++ spelled (drop (place text) text)) (take_all (place text) text far)
-          ∙ ap (λ (l : List ℕ). text ++ spelled l) (drop_all (place text) text far)
-          ∙ append-nil text
+      | inl within ↦ let same : place text ≡ at = cc (rw within at is) in (same, let below = ltb-true (place text) (length text) within in omega (arith, below, same))
+      | inr without ↦ cc (rw without at is)
     ]
 
--- a text in which there is none is appended as it is
-pub appended_plain : {E : Type 0} (r : Result (Unit {0}) E) (out text new : List ℕ) (found : Option ℕ) → found ≡ position is_escaped text → is_none found ≡ true → OnOk r (new ≡ out ++ text)
-    → OnOk r (new ≡ out ++ spelled text)
-appended_plain (Ok x) out text new (Some at) place none appended = absurd (cc)
-appended_plain (Ok x) out text new None place none appended = appended ∙ ap (λ (l : List ℕ). out ++ l) (sym (run_last text place))
-appended_plain (Err e) out text new found place none appended = tt
+nowhere : (text : List ℕ) → None ≡ position is_escaped text → length text ≤ place text
+nowhere text none =
+    elim (cases_Bool (ltb (place text) (length text))) [
+      | inl within ↦ cc (rw within at none)
+      | inr without ↦ ltb-false _ _ without
+    ]
+
+pub place_within : (text : List ℕ) (at : ℕ) → Some at ≡ position is_escaped text → at < length text
+place_within text at is = (here text at is).1
+
+-- the octets that stand for themselves, and the rest
+pub plain_and_rest : (text : List ℕ) (found : Option ℕ) (at : ℕ) → found ≡ position is_escaped text → at ≡ unwrap_or found (length text)
+    → (at ≤ length text) × (spelled text ≡ take at text ++ spelled (drop at text))
+plain_and_rest text (Some k) at is value =
+    let there = here text k is in
+    let same : place text ≡ at = there.0 ∙ sym value in
+    (omega (arith, there.1, value), subst (λ (n : ℕ). spelled text ≡ take n text ++ spelled (drop n text)) same (run text))
+plain_and_rest text None at is value =
+    let far = nowhere text is in
+    let all : spelled text ≡ text =
+    run text ∙ ap (λ (l : List ℕ). l ++ spelled (drop (place text) text)) (take_all (place text) text far)
+    ∙ ap (λ (l : List ℕ). text ++ spelled l) (drop_all (place text) text far) ∙ append-nil text in
+    let whole : length text ≤ at = omega (arith, value) in (
+      omega (arith, value),
+      all ∙ sym (ap (λ (l : List ℕ). l ++ spelled (drop at text)) (take_all at text whole) ∙ ap (λ (l : List ℕ). text ++ spelled l) (drop_all at text whole) ∙ append-nil text),
+    )
+
+-- both are appended
+pub appended_both : {E : Type 0} (r : Result (Unit {0}) E) (out between new text front rest : List ℕ) (found : Option ℕ) (at : ℕ)
+    → found ≡ position is_escaped text → at ≡ unwrap_or found (length text) → front ≡ take at text → rest ≡ drop at text
+    → between ≡ out ++ front → OnOk r (new ≡ between ++ spelled rest) → OnOk r (new ≡ out ++ spelled text)
+appended_both (Ok x) out between new text front rest found at is value first last before h =
+    let both = (plain_and_rest text found at is value).1 in
+    h ∙ ap (λ (l : List ℕ). l ++ spelled rest) before ∙ append_assoc out front (spelled rest)
+    ∙ ap (λ (l : List ℕ). out ++ l) (ap (λ (l : List ℕ). l ++ spelled rest) first ∙ ap (λ (l : List ℕ). take at text ++ spelled l) last ∙ sym both)
+appended_both (Err e) out between new text front rest found at is value first last before h = tt
 
 -- where no octet from a place on is another
-pub escaped_none : (items text : List ℕ) (from : ℕ) (found : Option ℕ) → text ≡ drop from items → found ≡ position is_escaped text → is_none found ≡ true
+pub escaped_none : (items text : List ℕ) (from : ℕ) → text ≡ drop from items → None ≡ position is_escaped text
     → items ≡ take from items ++ spelled (drop from items)
-escaped_none items text from (Some at) is place none = absurd (cc)
-escaped_none items text from None is place none =
-    sym (take-append-drop from items) ∙ ap (λ (l : List ℕ). take from items ++ l) (sym (ap spelled (sym is) ∙ run_last text place ∙ is))
+escaped_none items text from is none =
+    let same : spelled text ≡ text = (plain_and_rest text None (length text) none refl).1
+    ∙ ap (λ (l : List ℕ). l ++ spelled (drop (length text) text)) (take_all (length text) text (omega arith))
+    ∙ ap (λ (l : List ℕ). text ++ spelled l) (drop_all (length text) text (omega arith)) ∙ append-nil text in
+    sym (take-append-drop from items) ∙ ap (λ (l : List ℕ). take from items ++ l) (sym (ap spelled (sym is) ∙ same ∙ is))
+
+-- what stands before the first of them stays in place
+pub escaped_behind : {E : Type 0} (r : Result (Unit {0}) E) (items text kept rest new : List ℕ) (from at : ℕ) → text ≡ drop from items
+    → Some at ≡ position is_escaped text → kept ≡ take (from + at) items → rest ≡ drop at text → OnOk r (new ≡ kept ++ spelled rest)
+    → OnOk r (new ≡ take from items ++ spelled (drop from items))
+escaped_behind (Ok x) items text kept rest new from at is found before last h =
+    let both = (plain_and_rest text (Some at) at found refl).1 in
+    let front : kept ≡ take from items ++ take at text = before ∙ take-add from at items ∙ ap (λ (l : List ℕ). take from items ++ take at l) (sym is) in
+    h ∙ ap (λ (l : List ℕ). l ++ spelled rest) front ∙ append_assoc (take from items) (take at text) (spelled rest)
+    ∙ ap (λ (l : List ℕ). take from items ++ l) (ap (λ (l : List ℕ). take at text ++ spelled l) last ∙ sym both ∙ ap spelled is)
+escaped_behind (Err e) items text kept rest new from at is found before last h = tt

@@ -46,32 +46,39 @@ fn first_escaped(text: &[u8]) -> Option<usize>
     text.iter().position(|octet| is_escaped(*octet))
 }
 
-/// Appends the octets of a text, all at once where each stands for itself.
-fn push_octets(out: &mut Vec<u8>, text: &[u8]) -> Result<(), AllocError>
+/// Appends the octets of a text, one by one.
+fn push_each(out: &mut Vec<u8>, text: &[u8]) -> Result<(), AllocError>
     ensures { OnOk result (out.new.items ≡ out.old.items ++ flat_map spec.escaped text.now) }
 {
-    if first_escaped(text).is_none() {
-        return out.extend_from_slice(text);
-    }
     'octets: for octet in text {
         push_octet(out, *octet)?;
     }
     Ok(())
 }
 
-/// Spells the octets of a buffer from a place on as those of a text. Memory is taken only where one doesn't stand for
-/// itself.
+/// Appends the octets of a text: at once those before the first that doesn't stand for itself, and then one by one.
+fn push_octets(out: &mut Vec<u8>, text: &[u8]) -> Result<(), AllocError>
+    ensures { OnOk result (out.new.items ≡ out.old.items ++ flat_map spec.escaped text.now) }
+{
+    let plain = first_escaped(text).unwrap_or(text.len());
+    out.extend_from_slice(&text[..plain])?;
+    push_each(out, &text[plain..])
+}
+
+/// Spells the octets of a buffer from a place on as those of a text. Those before the first that doesn't stand for
+/// itself stay in place; memory is taken only where there is one.
 fn escape_from(alloc: Global, out: &mut Vec<u8>, from: usize) -> Result<(), AllocError>
     requires { from ≤ vec_len out.old }
     ensures { OnOk result (out.new.items ≡ take from out.old.items ++ flat_map spec.escaped (drop from out.old.items)) }
 {
     let text = &out.as_slice()[from..];
-    if first_escaped(text).is_none() {
+    let Some(plain) = first_escaped(text) else {
         return Ok(());
-    }
-    let text = Vec::from_slice(alloc, text)?;
-    out.truncate(from);
-    push_octets(out, text.as_slice())
+    };
+    let place = from + plain;
+    let rest = Vec::from_slice(alloc, &text[plain..])?;
+    out.truncate(place);
+    push_each(out, rest.as_slice())
 }
 
 /// Ends the text of which a buffer holds the octets from a place on, behind a quotation mark.
