@@ -11,6 +11,7 @@
 //! - `lines.rt`: events and turns that are read, the first fault of each text that is refused, and lines of a trace.
 //! - `replay.rt`, `storm.rt`: whole scripts to their trace or their totals, readers and writers that fail, and memory
 //!   that is refused; `storm/plans.rt` storms plans.
+//! - `turns.rt`: turns of a player that are told, beside turns that are taken.
 //! - `drive.rt`: lines that ask for something, and what is said to each.
 //! - `verify.rt`: traces that are told to be runs, and the first line of each that is not.
 //! - `report.rt`: fault texts and statuses.
@@ -42,5 +43,7 @@ mod stream;
 mod tell;
 #[cfg(test)]
 mod trace;
+#[cfg(test)]
+mod turns;
 #[cfg(test)]
 mod verify;
