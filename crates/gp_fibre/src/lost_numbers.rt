@@ -1,46 +1,50 @@
 //! Numbers that are lost, put in order.
-ghost use Rattle.std.specs.Prelude.{◌≡◌, ◌==◌, ◌<◌, ◌≤◌, ℕ, IfOk, IsTrue, length, slice_index};
+ghost use Rattle.std.specs.Prelude.{◌≡◌, ◌==◌, ◌<◌, ◌≤◌, ℕ, IsTrue, length, slice_index};
 ghost use Rattle.std.specs.List.{position};
 ghost use Rattle.std.specs.List.Sorted.{IsNonDecreasing};
 ghost use Rattle.gp_fibre.specs.Schedule as spec;
 ghost use Rattle.gp_fibre.specs.LostNumbers.{IsPlaceOf, IsInOrder};
 ghost use Rattle.gp_fibre.specs.LostNumbers as spec_place;
 
+use super::given_numbers::GivenNumbers;
 use super::lost::Lost;
-use std::alloc::AllocError;
 use std::collections::BinaryHeap;
 use std::marker::Model;
+use std::mem;
 
-/// How often look-ups walk over as many numbers as there are before these are put in order: as often as it takes at most
-/// to divide 2^64 numbers by two until one is left, so that the walks before it took as many steps.
-const WALKS: u64 = 64;
+/// How often look-ups walk over as many numbers as there are before these are put in order. Those walks took longer
+/// than the order takes: numbers in no order take as long as some 65 walks over 10,000 of them, 120 to 200 over 116,000
+/// (a script has room for no more), and up to 500 over a million, measured in a proved build.
+const WALKS: u64 = 512;
 
-/// Numbers that are lost, of copies or of bursts. A look-up walks over them, until all look-ups went over 64 times as
-/// many as there are. Then they are put in order once, in memory of their own, and a number is looked up by halvings, or
-/// in a step or two where none that is lost lies between it and the one before. Where there is no memory for that, it
-/// goes on as before.
+/// Numbers that are lost, of copies or of bursts. A look-up walks over them, until all look-ups went over 512 times as
+/// many as there are. Then they are put in order once, where they stand, and a number is looked up by halvings; in a
+/// step or two, where neither it nor the one before is lost, and none that is lost lies between them.
 ///
-/// Contracts see them as a list.
+/// Contracts see them as a list, as they were given.
 #[derive(Drop)]
 pub struct LostNumbers {
-    given: Vec<u64>,
-    /// The same numbers in ascending order, once they were put so.
-    ordered: Option<Vec<u64>>,
-    /// How many of those are less than the number that was looked up last.
+    /// As they were given, in contracts alone.
+    given: GivenNumbers,
+    numbers: Vec<u64>,
+    /// Whether they were put in ascending order.
+    is_ordered: bool,
+    /// Where the number that was looked up last stands: any of its places, if it has more than one. If it has none,
+    /// how many of them are less.
     place: usize,
-    /// How many of them look-ups went over since they were to be put in order.
+    /// How many numbers look-ups went over before they were put so.
     steps: u64,
 }
 
 impl Model for LostNumbers {
-    ghost use Rattle.std.specs.Prelude.{ℕ, List, IfSome};
-    ghost use Rattle.gp_fibre.specs.LostNumbers.{IsInOrder};
+    ghost use Rattle.std.specs.Prelude.{ℕ, List};
+    ghost use Rattle.gp_fibre.specs.LostNumbers.{AreHeld};
 
     ghost Value = { List ℕ };
 
-    ghost view = { λ l. l.given.items };
+    ghost view = { λ l. l.given.numbers };
 
-    ghost invariant = { λ l. IfSome l.ordered (λ ordered. IsInOrder l.given.items ordered.items) };
+    ghost invariant = { λ l. AreHeld l.given.numbers l.numbers.items l.is_ordered };
 }
 
 impl From<Vec<u64>> for LostNumbers {
@@ -48,8 +52,9 @@ impl From<Vec<u64>> for LostNumbers {
 
     fn from(given: Vec<u64>) -> LostNumbers {
         LostNumbers {
-            given,
-            ordered: None,
+            given: GivenNumbers::of(&given),
+            numbers: given,
+            is_ordered: false,
             place: 0,
             steps: 0,
         }
@@ -62,28 +67,29 @@ impl LostNumbers {
         ensures value { result ≡ spec.is_lost self.old number }
         ensures same { self.new ≡ self.old }
     {
-        if let Some(ordered) = &self.ordered {
-            let place = place_near(ordered, number, self.place);
+        if self.is_ordered {
+            let place = place_near(&self.numbers, number, self.place);
             self.place = place;
-            return stands_at(ordered, place, number);
+            return stands_at(&self.numbers, place, number);
         }
-        let first = first_place_of(number, &self.given);
+        let first = first_place_of(number, &self.numbers);
         self.note_walk(first);
         first.is_some()
     }
 
-    /// Counts the numbers that a look-up went over, up to the first that it found, and puts all in order where these were
-    /// enough.
+    /// Counts the numbers that a look-up went over, up to the first that it found, and puts all in order where these
+    /// were enough.
     fn note_walk(&mut self, first: Option<usize>)
         ensures { self.new ≡ self.old }
     {
-        let count = self.given.len();
+        let count = self.numbers.len();
         self.steps = self.steps.saturating_add(first.unwrap_or(count) as u64);
         if self.steps / WALKS < count as u64 {
             return;
         }
-        self.steps = 0;
-        self.ordered = in_order(&self.given).ok();
+        let none = Vec::new(*self.numbers.allocator());
+        self.numbers = in_order(mem::replace(&mut self.numbers, none));
+        self.is_ordered = true;
     }
 }
 
@@ -102,12 +108,11 @@ fn first_place_of(number: u64, given: &[u64]) -> Option<usize>
     given.iter().position(|other| *other == number)
 }
 
-/// Gives these numbers in ascending order, by a heap: it takes no recursion.
-fn in_order(given: &Vec<u64>) -> Result<Vec<u64>, AllocError>
-    ensures { IfOk result (λ ordered. IsInOrder given.now.items ordered.items) }
+/// Puts these numbers in ascending order where they stand, by a heap: it takes no memory and no recursion.
+fn in_order(given: Vec<u64>) -> Vec<u64>
+    ensures { IsInOrder given.items result.items }
 {
-    let copied = given.as_slice().to_vec(*given.allocator())?;
-    Ok(BinaryHeap::from(copied).into_sorted_vec())
+    BinaryHeap::from(given).into_sorted_vec()
 }
 
 /// Tells whether so many of these numbers are less than a number.
@@ -139,7 +144,7 @@ fn is_place(ordered: &[u64], number: u64, place: usize) -> bool
     none_is_less(ordered, number, place)
 }
 
-/// Finds the place of a number among these, or how many are less where it isn't one of them.
+/// Finds a place of a number among these, or how many are less where it isn't one of them.
 fn place_in(ordered: &[u64], number: u64) -> usize
     requires { IsNonDecreasing ordered.now }
     ensures { IsPlaceOf ordered.now number result }
@@ -150,7 +155,7 @@ fn place_in(ordered: &[u64], number: u64) -> usize
     }
 }
 
-/// Does the same, and looks first whether it is this place.
+/// Does the same, and looks first whether so many are less.
 fn place_near(ordered: &[u64], number: u64, place: usize) -> usize
     requires { IsNonDecreasing ordered.now }
     ensures { IsPlaceOf ordered.now number result }
