@@ -325,7 +325,6 @@ pub record ArrivesSoFar (old new : FibreStand) (before after : Vec Entry Global)
   pub room : TakesEventRoom place old new before after
   pub proper : All IsProperEntry after.items
 
--- an entry that is proper was put behind others that are
 -- an entry that is put behind the others, and then written over
 pub written_last : (before pushed : List Entry) (blank entry : Entry) (place : ℕ) → pushed ≡ before ++ blank ∷ [] → place ≡ length before
     → set pushed place entry ≡ before ++ entry ∷ []
@@ -334,6 +333,7 @@ written_last before pushed blank entry place is_pushed is_place =
     ∙ ap (λ (n : ℕ). set (before ++ blank ∷ []) n entry) is_place
     ∙ set-append_seam before blank [] entry
 
+-- an entry that is proper was put behind others that are
 pub proper_push : (before after : List Entry) (entry : Entry) → after ≡ before ++ entry ∷ [] → All IsProperEntry before → IsProperEntry entry → All IsProperEntry after
 proper_push before after entry is them it =
     All-same IsProperEntry after (before ++ entry ∷ []) is (All-append IsProperEntry before (entry ∷ []) them (All-cons IsProperEntry entry [] it (All-nil IsProperEntry)))

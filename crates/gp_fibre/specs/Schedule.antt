@@ -180,6 +180,15 @@ pub record StopsShort
   pub run : FramesRun lost_copies lost_bursts count old entries new
   pub why : IsRunFault new fault
 
+-- the same, and these are the entries of the frames that stand
+pub record StopsAt
+    (lost_copies lost_bursts : List ℕ) (frames : ℕ) (old : WorldState) (entries : List Entry) (fault : WorldFault)
+    (new : WorldState) : Type 0 where
+  pub count : ℕ
+  pub fewer : count < frames
+  pub run : FramesRun lost_copies lost_bursts count old entries new
+  pub why : IsRunFault new fault
+
 -- the entries of a frame were put behind those that there were
 pub record PutsFrame
     (lost_copies lost_bursts : List ℕ) (old : WorldState) (before after : List Entry) (new : WorldState) : Type 0 where

@@ -1,6 +1,6 @@
 //! The parts of a frame of `World::run`, in their order: the port's frame, the copy, the grant, the bursts that come,
 //! and the frame of each unit.
-ghost use Rattle.std.specs.Prelude.{◌≡◌, ◌+◌, ◌-◌, ◌*◌, ◌<◌, ◌≤◌, ◌++◌, ◌∷◌, [], All, Some, drop, length, slice_get};
+ghost use Rattle.std.specs.Prelude.{◌≡◌, ◌+◌, ◌-◌, ◌*◌, ◌<◌, ◌≤◌, ◌++◌, ◌∷◌, [], All, Some, drop, length, slice_get, vec_capacity};
 ghost use Rattle.std.specs.Option.{ForSome};
 ghost use Rattle.gp_ploam.specs.Down.{IsProperDown};
 ghost use Rattle.gp_fibre.specs.declared.world.TheConstants.{MAX_FRAMES};
@@ -156,6 +156,7 @@ fn arrive_all<L: Ledger, N: Lost>(
     ensures puts { PortPuts fibre.old.world
         (spec.arrivals (N.lost lost.old) frame flights.now) entries.old.items entries.new.items fibre.new.world }
     ensures counts { KeepsCounts fibre.old fibre.new }
+    ensures capacity { vec_capacity entries.new ≡ vec_capacity entries.old }
     ensures proper { All IsProperEntry entries.new.items }
     ensures lost { N.lost lost.new ≡ N.lost lost.old }
 {
@@ -212,6 +213,7 @@ fn land<L: Ledger, N: Lost>(
         (spec.arrivals (N.lost lost.old) frame flights.old.flights) entries.old.items entries.new.items fibre.new.world }
     ensures left { flights.new.flights ≡ spec.flights_after frame flights.old.flights }
     ensures counts { KeepsCounts fibre.old fibre.new }
+    ensures capacity { vec_capacity entries.new ≡ vec_capacity entries.old }
     ensures proper { All IsProperEntry entries.new.items }
     ensures lost { N.lost lost.new ≡ N.lost lost.old }
 {
@@ -273,6 +275,7 @@ pub(super) fn play_frame<L: Ledger, N: Lost>(
         (world_state fibre.old flights.old) entries.old.items entries.new.items (world_state fibre.new flights.new) }
     ensures kept { AreKept fibre.new.world flights.new.flights }
     ensures reach { AreInReach fibre.new.frames flights.new.flights }
+    ensures capacity { vec_capacity entries.new ≡ vec_capacity entries.old }
     ensures proper { All IsProperEntry entries.new.items }
     ensures lost_copies { N.lost lost_copies.new ≡ N.lost lost_copies.old }
     ensures lost_bursts { N.lost lost_bursts.new ≡ N.lost lost_bursts.old }

@@ -1,9 +1,9 @@
-ghost use Rattle.std.specs.Prelude.{◌≡◌, ◌+◌, ◌<◌, ◌≤◌, ◌↔◌, ◌⊎◌, Some, None, All, false, IfErr, IfOk, IsErrOf, OnErr, OnOk, length};
+ghost use Rattle.std.specs.Prelude.{◌≡◌, ◌+◌, ◌<◌, ◌≤◌, ◌↔◌, ◌⊎◌, Some, None, All, false, IfErr, IfOk, IsErrOf, OnErr, OnOk, length, vec_capacity};
 ghost use Rattle.std.specs.List.{list_all};
 ghost use Rattle.std.specs.Option.{ForSome};
 ghost use Rattle.gp_fibre.specs.World as spec;
 ghost use Rattle.gp_fibre.specs.Forgetting.{WorldForgets, all_but_coming};
-ghost use Rattle.gp_fibre.specs.Schedule.{FramesRun, IsFaultOf, IsProperEntry, IsRunFault, PutsFrame, StepsTo, StopsShort, TakesTo, opening_state, step_fault};
+ghost use Rattle.gp_fibre.specs.Schedule.{FramesRun, IsFaultOf, IsProperEntry, IsRunFault, PutsFrame, StepsTo, StopsAt, StopsShort, TakesTo, opening_state, step_fault};
 
 use super::fault::WorldFault;
 use super::fibre::Fibre;
@@ -260,8 +260,8 @@ impl<L: Ledger> World<L> {
     }
 
     /// Does the same in less time, where much is lost or memory is dear: what is lost is looked up in order, and the
-    /// entries go into a list that the caller lends, in place of what it held. After a fault the entries of the whole
-    /// frames before it stand there.
+    /// entries go into a list that the caller lends, in place of what it held; its room never falls. After a fault the
+    /// entries of the whole frames before it stand there.
     pub fn run_into(
         &mut self,
         frames: u32,
@@ -272,7 +272,11 @@ impl<L: Ledger> World<L> {
             (FramesRun losses.old.copies losses.old.bursts frames self.old entries.new.items self.new) }
         ensures stops { IfErr result
             (λ fault. StopsShort losses.old.copies losses.old.bursts frames self.old fault self.new) }
+        ensures stands { IfErr result
+            (λ fault. StopsAt losses.old.copies losses.old.bursts frames self.old entries.new.items fault self.new) }
         ensures proper { OnOk result (All IsProperEntry entries.new.items) }
+        ensures proper_after_fault { OnErr result (All IsProperEntry entries.new.items) }
+        ensures capacity { vec_capacity entries.old ≤ vec_capacity entries.new }
         ensures losses { losses.new ≡ losses.old }
     {
         entries.clear();
@@ -297,6 +301,8 @@ impl<L: Ledger> World<L> {
             self.new) }
         ensures unchanged { OnErr result (self.new ≡ self.old) }
         ensures fault { IfErr result (λ fault. IsRunFault self.old fault) }
+        ensures kept { OnErr result (entries.new.items ≡ entries.old.items) }
+        ensures capacity { vec_capacity entries.old ≤ vec_capacity entries.new }
         ensures proper { OnOk result (All IsProperEntry entries.new.items) }
         ensures lost_copies { N.lost lost_copies.new ≡ N.lost lost_copies.old }
         ensures lost_bursts { N.lost lost_bursts.new ≡ N.lost lost_bursts.old }

@@ -1,4 +1,4 @@
-use Rattle.std.proofs.Common.{ℕ, List, ap, ◌∙◌}
+use Rattle.std.proofs.Common.{ℕ, List, ap, ◌∙◌, arith}
 use Rattle.gp_fibre.specs.declared.losses.Losses.{Losses}
 use Rattle.gp_fibre.proofs.Playing.{frames_more}
 use Rattle.gp_fibre.proofs.world.World.run_into.Goals as goal
@@ -13,6 +13,7 @@ loop-preserved g c =
       ran = frames_more c.args.losses.now.copies c.args.losses.now.bursts c.loop.counter c.args.self.now c.loop.self c.run_frame.new.self
           c.loop.entries.items c.run_frame.new.entries.items so_far.ran (rw (copies, bursts) at now.runs);
       proper = now.proper;
+      capacity = let before = so_far.capacity in let more = now.capacity in omega arith;
       losses = ap (λ (copies : List ℕ). let l : Losses = record { copies = copies; bursts = c.run_frame.new.lost_bursts } in l) now.lost_copies
           ∙ ap (λ (bursts : List ℕ). let l : Losses = record { copies = c.loop.losses.copies; bursts = bursts } in l) now.lost_bursts ∙ so_far.losses;
     }
