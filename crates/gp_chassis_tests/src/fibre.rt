@@ -1,6 +1,7 @@
 //! Worked runs of one port and its simulated units. The search itself is entry 0 of the port.
 ghost use Rattle.std.specs.Prelude.{◌≡◌};
 
+mod losses;
 mod runs;
 
 use crate::onu::prints;
@@ -76,6 +77,15 @@ fn all_done<L: Ledger>(
     Ok(entries)
 }
 
+/// The units of a plan.
+fn units_of(plan: &Plan) -> &[UnitPlan] {
+    if plan.alone {
+        &plan.units[..1]
+    } else {
+        &plan.units[..]
+    }
+}
+
 /// Plays a run in a new world with one licence, which comes back.
 fn played<L: Ledger>(
     alloc: Global,
@@ -88,12 +98,7 @@ fn played<L: Ledger>(
     requires name { blank.name ≡ L.name }
     requires parts { (blank.parts ≡ L.parts) × (L.parts ≡ MAX_LICENCES) }
 {
-    let units = if plan.alone {
-        &plan.units[..1]
-    } else {
-        &plan.units[..]
-    };
-    let mut world = World::<L>::begin(alloc, blank, config, 1, units)?;
+    let mut world = World::<L>::begin(alloc, blank, config, 1, units_of(plan))?;
     let entries = all_done(alloc, &mut world, plan.run, acts, loss);
     let licences = world.close();
     Ok((entries?, licences))

@@ -10,8 +10,8 @@
 //!   `workers/loops.rt` and `workers/parallel.rt` are those, and `workers/meeting.rt` has threads meet.
 //! - `texts.rt`: the texts of faults.
 //! - `onu.rt`: a simulated unit by rows of its table.
-//! - `fibre.rt`: worlds of few units, their limits, their faults, and memory that is refused. `fibre/runs.rt` plays
-//!   them.
+//! - `fibre.rt`: worlds of few units, their limits, their faults, and memory that is refused. `fibre/runs.rt` has their
+//!   runs; `fibre/losses.rt` plays these into a list that is lent, and looks up what is lost beside a plain list.
 #![tactic(auto)]
 
 #[cfg(test)]

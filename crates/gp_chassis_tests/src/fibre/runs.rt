@@ -49,6 +49,8 @@ pub(super) enum Run {
     ForgetsInFlight,
     /// The first burst is lost and then forgotten, and the next has the next number, so that it is not lost.
     NumbersGoOn,
+    /// Searches, a POPUP and what is forgotten, in parts of several lengths.
+    InParts,
 }
 
 /// What a run is played with: one unit, which is the first, or both.
@@ -222,6 +224,15 @@ pub(super) const UNITS_AND_STEPS: [Plan; 10] = [
     },
 ];
 
+/// Both units answer searches, and one of them is admitted.
+pub(super) const IN_PARTS: Plan = Plan {
+    run: Run::InParts,
+    cycles: 3,
+    alone: false,
+    units: [NEAR, STRANGER],
+    ..NO_LOSS
+};
+
 /// What is done with a world: a step, or so many frames, or that it forgets.
 #[derive(Clone, Copy)]
 pub(super) enum Act {
@@ -318,6 +329,26 @@ pub(super) const ACTS: [(Run, Act); 63] = [
     (Run::NumbersGoOn, Act::Run(7)),
     (Run::NumbersGoOn, Act::Forget),
     (Run::NumbersGoOn, Act::Run(6)),
+];
+
+/// What is done in parts: none, one and many frames at a time, and other steps between.
+pub(super) const PARTS: [(Run, Act); 16] = [
+    (Run::InParts, SEARCH),
+    (Run::InParts, A_FRAME_OF_A_RUN),
+    (Run::InParts, Act::Run(0)),
+    (Run::InParts, Act::Run(12)),
+    (Run::InParts, FRAME),
+    (Run::InParts, SEARCH),
+    (Run::InParts, Act::Run(7)),
+    (Run::InParts, Act::Forget),
+    (Run::InParts, Act::Run(33)),
+    (Run::InParts, DARK),
+    (Run::InParts, LIGHT),
+    (Run::InParts, POPUP),
+    (Run::InParts, Act::Run(2)),
+    (Run::InParts, SEARCH),
+    (Run::InParts, A_FRAME_OF_A_RUN),
+    (Run::InParts, Act::Run(64)),
 ];
 
 /// What is done in a new world, the last of it a step that asks for what was forgotten, and its fault.
