@@ -8,8 +8,8 @@ use gp_machine::Event;
 /// The most digits of which each number is below 2 ^ 64.
 pub(crate) const MOST_DIGITS: usize = 19;
 
-/// Reads a number up to the first space, and gives what stands behind that. None for numbers of more than nineteen
-/// digits too: it looks at no octet behind these.
+/// Reads a number up to the first space, and gives what stands behind that. None for numbers of more than eighteen
+/// digits too: it looks at nineteen octets at most.
 pub(crate) fn leading_number(text: &[u8]) -> Option<(u64, &[u8])>
     ensures { IfSome result (λ read. NumberLeads text.now read.0 read.1.now) }
 {
@@ -18,17 +18,16 @@ pub(crate) fn leading_number(text: &[u8]) -> Option<(u64, &[u8])>
     let mut at = 0;
     'digits: while at < end {
         let octet = text[at];
+        if octet == b' ' && at > 0 {
+            return Some((number, &text[at + 1..]));
+        }
         if !octet.is_ascii_digit() {
-            break 'digits;
+            return None;
         }
         number = number * 10 + u64::from(octet - b'0');
         at += 1;
     }
-    let rest = text[at..].strip_prefix(b" ")?;
-    if at == 0 {
-        return None;
-    }
-    Some((number, rest))
+    None
 }
 
 /// Reads the burst that a text begins with, and gives what stands behind it. None for some bursts too: those whose
