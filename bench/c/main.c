@@ -9,6 +9,8 @@ static wp_unit unit;
 static const wp_serial serial = { { 'A', 'B', 'C', 'D', 0, 0, 0, 1 } };
 static const uint8_t stray[13] = { 0, 4, 0, 0, 0, 0, 0, 0, 0, 0, 0, 0, 0x7c };
 static uint32_t count;
+static uint8_t text[256];
+static size_t length;
 
 static uint32_t frame(void) { return wp_frame(&chassis, 0, &answer); }
 static uint32_t burst(void) { return wp_burst(&chassis, 0, 100000, stray, &answer); }
@@ -17,6 +19,7 @@ static uint32_t not_open(void) { return wp_frame(&closed, 0, &answer); }
 static uint32_t no_command(void) { return wp_command(&chassis, 0, 10, &serial, 0, &answer); }
 static uint32_t no_unit(void) { return wp_show(&chassis, 0, &serial, &unit); }
 static uint32_t free_count(void) { return wp_free(&chassis, &count); }
+static uint32_t line(void) { return wp_line(&chassis, 0, answer.number, text, sizeof text, &length); }
 
 static double now(void)
 {
@@ -30,6 +33,7 @@ static void measure(const char *what, uint32_t (*call)(void), uint32_t status)
     double best = 1e18;
     for (int run = 0; run < 2000; run++) {
         wp_cut(&chassis, 0);
+        burst();
         const double start = now();
         for (int i = 0; i < 2000; i++)
             if (call() != status)
@@ -53,5 +57,6 @@ int main(void)
     measure("no such command", no_command, WP_NO_COMMAND);
     measure("no such unit", no_unit, WP_NO_UNIT);
     measure("the free licences", free_count, WP_DONE);
+    measure("the line of a burst", line, WP_DONE);
     return wp_close(&chassis) != WP_DONE;
 }
