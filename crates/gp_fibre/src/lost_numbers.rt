@@ -12,13 +12,8 @@ use std::collections::BinaryHeap;
 use std::marker::Model;
 use std::mem;
 
-/// How often look-ups walk over as many numbers as there are before these are put in order. Those walks took longer
-/// than the order takes: numbers in no order take as long as some 65 walks over 10,000 of them, 120 to 200 over 116,000
-/// (a script has room for no more), and up to 500 over a million, measured in a proved build.
-const WALKS: u64 = 512;
-
-/// Numbers that are lost, of copies or of bursts. A look-up walks over them, until all look-ups went over 512 times as
-/// many as there are. Then they are put in order once, where they stand, and a number is looked up by halvings; in a
+/// Numbers that are lost, of copies or of bursts. A look-up walks over them, until all look-ups took as long as it takes
+/// to put them in order. Then they are put in order once, where they stand, and a number is looked up by halvings; in a
 /// step or two, where neither it nor the one before is lost, and none that is lost lies between them.
 ///
 /// Contracts see them as a list, as they were given.
@@ -84,7 +79,7 @@ impl LostNumbers {
     {
         let count = self.numbers.len();
         self.steps = self.steps.saturating_add(first.unwrap_or(count) as u64);
-        if self.steps / WALKS < count as u64 {
+        if self.steps < walks_over(count).saturating_mul(count as u64) {
             return;
         }
         let none = Vec::new(*self.numbers.allocator());
@@ -99,6 +94,15 @@ impl Lost for LostNumbers {
     fn is_lost(&mut self, number: u64) -> bool {
         LostNumbers::is_lost(self, number)
     }
+}
+
+/// How often look-ups walk over so many numbers before these are put in order, by a heap: half the square of the binary
+/// digits of their count, since each number takes a step for each digit, which goes the further in memory the more there
+/// are. Measured in a proved build, putting numbers of no order in order took as long as some 65 walks over 10,000 (98
+/// are made), and some 130 over 116,000, for more of which a script has no room (144 are made).
+fn walks_over(count: usize) -> u64 {
+    let digits = u64::from(64u32.saturating_sub(count.leading_zeros()));
+    digits.saturating_mul(digits) / 2
 }
 
 /// Finds the first place of a number among these.
