@@ -9,8 +9,8 @@ use gp_chassis::ChassisConfig;
 use gp_licence::MAX_LICENCES;
 use gp_machine::{Command, Event};
 use gp_ploam::{Mask, Serial, Up, encode_up};
-use gp_replay::{LineBuffer, MAX_KEPT, Player, Turn};
 use gp_ranging::Grant;
+use gp_replay::{LineBuffer, MAX_KEPT, Player, Turn};
 use gp_script::read_script;
 use std::alloc::{AllocError, Global};
 use std::marker::Brand;
@@ -116,11 +116,7 @@ fn said_of<L: Ledger>(
 }
 
 /// Takes all turns.
-fn all_said<L: Ledger>(
-    alloc: Global,
-    player: &mut Player<L>,
-    way: Way,
-) -> Result<Said, AllocError>
+fn all_said<L: Ledger>(alloc: Global, player: &mut Player<L>, way: Way) -> Result<Said, AllocError>
     requires port { 0 < length player.old.next }
     requires room { HasRoom 18 player.old }
 {
@@ -199,6 +195,11 @@ fn hands_out_what_is_wished_for(rt: HostRuntime) -> Result<(), AllocError> {
     let lines = str::from_utf8(&said.lines).unwrap_or("");
     assert!(rt; lines.contains("\n0 6 burst 100000 ff01414243440000000100002c = found 7\n"));
     assert!(rt; lines.contains("\n0 16 alloc ABCD00000001 = allocated 300\n"));
-    assert!(rt; said.numbers.iter().enumerate().all(|(place, number)| place as u64 == *number));
+    assert!(rt;
+        said.numbers
+            .iter()
+            .enumerate()
+            .all(|(place, number)| place as u64 == *number)
+    );
     Ok(())
 }
