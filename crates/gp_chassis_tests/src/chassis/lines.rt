@@ -3,7 +3,7 @@
 use crate::units::{Said, heard, spoken};
 use gp_alarms::AlarmKind;
 use gp_chassis::{ChassisCore, CoreFault};
-use gp_machine::{Entry, Event};
+use gp_machine::{Entry, Event, Receipt};
 use std::alloc::Global;
 use std::sync::ledger::Ledger;
 
@@ -104,8 +104,7 @@ fn make<L: Ledger>(
             replied(serve(core, port, heard(number), way))
         }
         Call::Step(actor, port, number) => {
-            let stepped = core.step(actor, port, heard(number));
-            replied(stepped.map(|receipt| receipt.entry))
+            replied(entry_of(core.step(actor, port, heard(number))))
         }
         Call::Cut(port) => cut(alloc, core, port),
         Call::Take(actor) => counted(core.take(actor)),
@@ -126,11 +125,19 @@ fn serve<L: Ledger>(
     way: Way,
 ) -> Result<Entry, CoreFault> {
     match way {
-        Way::Receipt => core.apply(port, event).map(|receipt| receipt.entry),
+        Way::Receipt => entry_of(core.apply(port, event)),
         Way::Kept => {
             let number = core.apply_kept(port, event, None)?;
             kept(core, port, number)
         }
+    }
+}
+
+/// Gives the entry of a receipt.
+fn entry_of(applied: Result<Receipt, CoreFault>) -> Result<Entry, CoreFault> {
+    match applied {
+        Ok(receipt) => Ok(receipt.entry),
+        Err(fault) => Err(fault),
     }
 }
 
