@@ -96,13 +96,14 @@ impl Lost for LostNumbers {
     }
 }
 
-/// How often look-ups walk over so many numbers before these are put in order, by a heap: half the square of the binary
-/// digits of their count, since each number takes a step for each digit, which goes the further in memory the more there
-/// are. Measured in a proved build, putting numbers of no order in order took as long as some 65 walks over 10,000 (98
-/// are made), and some 130 over 116,000, for more of which a script has no room (144 are made).
+/// How often look-ups walk over so many numbers before these are put in order, by a heap, so that they took as long as
+/// that takes: 64 times, or half the square of the binary digits of their count, where that is more, since each number
+/// takes a step for each digit, which goes the further in memory the more there are. Measured in a proved build, the
+/// order took as long as some 40 to 50 walks over 100 to 1,000 numbers that were in no order, some 65 over 10,000 (98
+/// are made), and some 110 to 130 over 116,000 (144 are made), for more of which a script has no room.
 fn walks_over(count: usize) -> u64 {
     let digits = u64::from(64u32.saturating_sub(count.leading_zeros()));
-    digits.saturating_mul(digits) / 2
+    (digits.saturating_mul(digits) / 2).max(64)
 }
 
 /// Finds the first place of a number among these.

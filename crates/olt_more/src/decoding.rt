@@ -101,7 +101,7 @@ pub(crate) fn decode(
 ) -> Result<Digest, JobFault> {
     let mut choices = Choices::new(seed, part);
     let way = way_of(part);
-    let mut lines = Vec::new(alloc);
+    let mut lines = Vec::with_capacity(alloc, 27 * CODES as usize)?;
     for _ in 0..CODES {
         add_code(&mut lines, &mut choices, way)?;
     }

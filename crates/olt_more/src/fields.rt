@@ -153,13 +153,13 @@ pub(crate) fn add_message(digest: &mut Digest, message: &Down) {
     }
 }
 
-/// Makes a number of a grant.
-pub(crate) fn grant_word(grant: &Option<Grant>) -> u64 {
+/// Makes a number of a grant, if there is one, and of what else is there.
+pub(crate) fn grant_word(grant: &Option<Grant>, others: u16) -> u64 {
     match *grant {
-        None => 0,
-        Some(Grant::Search) => 1,
-        Some(Grant::Range(onu)) => word_of(2, onu, 0, 0),
-        Some(Grant::Poll(onu)) => word_of(3, onu, 0, 0),
+        None => word_of(0, 0, others, 0),
+        Some(Grant::Search) => word_of(1, 0, others, 0),
+        Some(Grant::Range(onu)) => word_of(2, onu, others, 0),
+        Some(Grant::Poll(onu)) => word_of(3, onu, others, 0),
     }
 }
 
@@ -175,32 +175,27 @@ fn kind_word(kind: AlarmKind) -> u64 {
     }
 }
 
-/// Adds an alarm that may be there.
-fn add_alarm(digest: &mut Digest, alarm: &Option<Alarm>) {
-    match alarm {
-        Some(Alarm { kind, serial }) => {
-            digest.add(kind_word(*kind));
-            add_serial(digest, *serial);
-        }
-        None => digest.add(0),
-    }
-}
-
 /// Adds what an event was answered with.
 fn add_answer(digest: &mut Digest, answer: &Answer) {
+    let others = u16::from_le_bytes([
+        u8::from(answer.sent.is_some()),
+        u8::from(answer.alarm.is_some()),
+    ]);
+    digest.add(grant_word(&answer.grant, others));
     add_reply(digest, &answer.reply);
-    match &answer.sent {
-        Some(message) => add_message(digest, message),
-        None => digest.add(0),
+    if let Some(message) = &answer.sent {
+        add_message(digest, message);
     }
-    digest.add(grant_word(&answer.grant));
-    add_alarm(digest, &answer.alarm);
+    if let Some(Alarm { kind, serial }) = &answer.alarm {
+        digest.add(kind_word(*kind));
+        add_serial(digest, *serial);
+    }
 }
 
 /// Adds an entry.
 pub(crate) fn add_entry(digest: &mut Digest, entry: &Entry) {
-    digest.add(u64::from(entry.purse_in));
-    digest.add(u64::from(entry.purse_out));
+    let purses = u64::from(entry.purse_out).wrapping_mul(0x1_0000_0000);
+    digest.add(purses ^ u64::from(entry.purse_in));
     add_event(digest, &entry.event);
     add_answer(digest, &entry.answer);
 }

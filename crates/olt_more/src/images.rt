@@ -36,7 +36,7 @@ fn add_common(digest: &mut Digest, image: &PortImage) {
     });
     match image.window() {
         Some(window) => {
-            digest.add(grant_word(&Some(window.grant())));
+            digest.add(grant_word(&Some(window.grant()), 0));
             digest.add(word_of(window.left(), u8::from(window.seen()), 0, 0));
         }
         None => digest.add(0),

@@ -8,9 +8,10 @@ use crate::fault::JobFault;
 use crate::fields::word_of;
 use crate::serials::add_list;
 use crate::traffic::{ADMITTED, Serve, Traffic, run};
+use crate::units::Units;
 use gp_chassis::ChassisCore;
 use gp_licence::MAX_LICENCES;
-use gp_machine::{Answer, Command, Event};
+use gp_machine::{Command, Event};
 use gp_ploam::Mask;
 use gp_stream::{Sink, Source};
 use gp_trace::push_line;
@@ -71,16 +72,18 @@ fn wish_of(wishes: &mut Choices, event: &Event) -> Option<u16> {
 }
 
 impl<L: Ledger> Serve for Picked<L> {
-    fn serve(&mut self, port: u8, event: Event) -> Result<Answer, JobFault> {
+    fn serve(&mut self, units: &mut Units, event: Event) -> Result<(), JobFault> {
+        let port = units.port();
         let wished = wish_of(&mut self.wishes, &event);
         let Ok(receipt) = self.core.apply_wishing(port, event, wished) else {
             return Err(JobFault::Unexpected);
         };
         push_line(&mut self.trace, self.mask, &receipt)?;
+        units.heed(&receipt.entry.answer);
         if receipt.number % ENTRIES == ENTRIES - 1 {
             self.cut(port)?;
         }
-        Ok(receipt.entry.answer)
+        Ok(())
     }
 }
 

@@ -8,9 +8,10 @@ use crate::fault::JobFault;
 use crate::fields::add_receipt;
 use crate::images::add_piece;
 use crate::traffic::{Serve, Traffic, run};
+use crate::units::Units;
 use gp_chassis::ChassisCore;
 use gp_licence::MAX_LICENCES;
-use gp_machine::{Answer, Event};
+use gp_machine::Event;
 use gp_ploam::Mask;
 use std::alloc::Global;
 use std::marker::Brand;
@@ -56,15 +57,17 @@ impl<L: Ledger> Digested<L> {
 }
 
 impl<L: Ledger> Serve for Digested<L> {
-    fn serve(&mut self, port: u8, event: Event) -> Result<Answer, JobFault> {
+    fn serve(&mut self, units: &mut Units, event: Event) -> Result<(), JobFault> {
+        let port = units.port();
         let Ok(receipt) = self.core.apply(port, event) else {
             return Err(JobFault::Unexpected);
         };
         add_receipt(&mut self.digest, &receipt);
+        units.heed(&receipt.entry.answer);
         if receipt.number % ENTRIES == ENTRIES - 1 {
             self.cut(port)?;
         }
-        Ok(receipt.entry.answer)
+        Ok(())
     }
 }
 

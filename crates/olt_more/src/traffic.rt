@@ -4,7 +4,7 @@ use crate::fault::JobFault;
 use crate::serials::serial_of;
 use crate::units::{UNITS, Units};
 use gp_chassis::ChassisConfig;
-use gp_machine::{Admitted, Answer, Command, Event, PortConfig};
+use gp_machine::{Admitted, Command, Event, PortConfig};
 use gp_ploam::{Mask, Serial};
 use gp_ranging::Grant;
 use std::alloc::{AllocError, Global};
@@ -14,8 +14,8 @@ pub(crate) const ADMITTED: u16 = 512;
 
 /// What events are handed to, one after another.
 pub(crate) trait Serve {
-    /// Has a port serve an event, and gives what it answered.
-    fn serve(&mut self, port: u8, event: Event) -> Result<Answer, JobFault>;
+    /// Has the port of these units serve an event, and lets them know of what it answered.
+    fn serve(&mut self, units: &mut Units, event: Event) -> Result<(), JobFault>;
 }
 
 /// How much goes on.
@@ -89,13 +89,6 @@ impl Traffic {
     }
 }
 
-/// Hands an event to the port of these units, and lets them know of what it answered.
-fn hand<S: Serve>(served: &mut S, units: &mut Units, event: Event) -> Result<Answer, JobFault> {
-    let answer = served.serve(units.port(), event)?;
-    units.heed(&answer);
-    Ok(answer)
-}
-
 /// Has a search window hear each unit without an ONU-ID, and one in four of them a rogue's flood before.
 fn search<S: Serve>(
     served: &mut S,
@@ -106,13 +99,15 @@ fn search<S: Serve>(
     if choices.is_once_in(4) {
         let [least, most] = traffic.flood;
         for _ in 0..choices.between(least, most) {
-            hand(served, units, units.rogue(choices))?;
+            let event = units.rogue(choices);
+            served.serve(units, event)?;
         }
     }
     for place in 0..UNITS {
         if units.asks(place, choices) {
-            let answer = hand(served, units, units.searched(place))?;
-            units.note(place, &answer.reply);
+            let event = units.searched(place);
+            served.serve(units, event)?;
+            units.note(place);
         }
     }
     Ok(())
@@ -129,12 +124,11 @@ fn answer<S: Serve>(
     match grant {
         Grant::Search => search(served, units, choices, traffic)?,
         Grant::Range(onu) => {
-            hand(served, units, units.ranged(onu))?;
+            let event = units.ranged(onu);
+            served.serve(units, event)?
         }
         Grant::Poll(onu) => match units.polled(onu) {
-            Some(event) if !choices.is_once_in(1_000) => {
-                hand(served, units, event)?;
-            }
+            Some(event) if !choices.is_once_in(1_000) => served.serve(units, event)?,
             _ => {}
         },
     }
@@ -168,8 +162,8 @@ fn order<S: Serve>(
 ) -> Result<(), JobFault> {
     let place = choices.below(u32::from(UNITS)) as u16;
     let command = command_of(choices, units.serial(place));
-    let answer = hand(served, units, Event::Command(command))?;
-    units.note_order(place, &answer.reply);
+    served.serve(units, Event::Command(command))?;
+    units.note_order(place);
     Ok(())
 }
 
@@ -180,8 +174,8 @@ fn tick<S: Serve>(
     choices: &mut Choices,
     traffic: Traffic,
 ) -> Result<(), JobFault> {
-    let heard = hand(served, units, Event::Frame)?;
-    if let Some(grant) = units.hear(heard.grant) {
+    served.serve(units, Event::Frame)?;
+    if let Some(grant) = units.due() {
         answer(served, units, grant, choices, traffic)?;
     }
     if choices.is_once_in(traffic.orders) {
@@ -202,7 +196,7 @@ pub(crate) fn run<S: Serve>(
 ) -> Result<(), JobFault> {
     let mut ports = traffic.units(alloc)?;
     for units in ports.as_mut_slice() {
-        hand(served, units, Event::Command(Command::Search))?;
+        served.serve(units, Event::Command(Command::Search))?;
     }
     for _ in 0..traffic.frames {
         for units in ports.as_mut_slice() {

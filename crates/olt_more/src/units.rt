@@ -28,6 +28,10 @@ pub(crate) struct Units {
     /// The grant that is to be answered, and in how many frames.
     asked: Option<Grant>,
     frames: u8,
+    /// Of the last answer: its grant, the ONU-ID that was found, and whether a unit has an Alloc-ID to acknowledge.
+    granted: Option<Grant>,
+    found: Option<u8>,
+    is_owed: bool,
 }
 
 impl Units {
@@ -52,6 +56,9 @@ impl Units {
             dark: None,
             asked: None,
             frames: 0,
+            granted: None,
+            found: None,
+            is_owed: false,
         })
     }
 
@@ -65,11 +72,10 @@ impl Units {
         serial_of(self.lot, self.port, place.wrapping_mul(2))
     }
 
-    /// Notes what a frame granted, and tells what is to be answered with this frame: each grant is answered with the
-    /// second frame behind it.
-    pub(crate) fn hear(&mut self, grant: Option<Grant>) -> Option<Grant> {
-        if grant.is_some() {
-            self.asked = grant;
+    /// Tells what is to be answered with a frame that was answered: each grant is, with the second frame behind it.
+    pub(crate) fn due(&mut self) -> Option<Grant> {
+        if self.granted.is_some() {
+            self.asked = self.granted;
             self.frames = 2;
             return None;
         }
@@ -92,35 +98,37 @@ impl Units {
         self.places.get(usize::from(onu)).copied().unwrap_or(0)
     }
 
-    /// Notes which units an answer takes their ONU-IDs from.
+    /// Notes what an answer tells, and which units it takes their ONU-IDs from.
     pub(crate) fn heed(&mut self, answer: &Answer) {
+        self.granted = answer.grant;
+        self.found = None;
+        self.is_owed = false;
         if let Some(alarm) = &answer.alarm {
             let Serial([_, _, _, _, _, _, high, low]) = alarm.serial;
             self.set(u16::from_be_bytes([high, low]) / 2, None);
         }
         match answer.reply {
             Reply::Restarted(onu) | Reply::Deactivated(onu) => self.set(self.place_of(onu), None),
+            Reply::Found(onu) => self.found = Some(onu),
+            Reply::Allocated(_) | Reply::Releasing(_) => self.is_owed = true,
             _ => {}
         }
     }
 
     /// Notes what came of the unit at a place that asked for an ONU-ID.
-    pub(crate) fn note(&mut self, place: u16, reply: &Reply) {
-        if let Reply::Found(onu) = reply {
-            self.set(place, Some(*onu));
-            if let Some(held) = self.places.get_mut(usize::from(*onu)) {
+    pub(crate) fn note(&mut self, place: u16) {
+        if let Some(onu) = self.found {
+            self.set(place, Some(onu));
+            if let Some(held) = self.places.get_mut(usize::from(onu)) {
                 *held = place;
             }
         }
     }
 
     /// Notes what came of a command about the unit at a place.
-    pub(crate) fn note_order(&mut self, place: u16, reply: &Reply) {
-        match reply {
-            Reply::Allocated(_) | Reply::Releasing(_) => {
-                self.owing = self.onus.get(usize::from(place)).copied().flatten()
-            }
-            _ => {}
+    pub(crate) fn note_order(&mut self, place: u16) {
+        if self.is_owed {
+            self.owing = self.onus.get(usize::from(place)).copied().flatten();
         }
     }
 
