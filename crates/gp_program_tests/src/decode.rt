@@ -242,7 +242,7 @@ fn appended(
     row: (&'static str, bool, Mask),
 ) -> Result<(Result<(), LineFault>, Vec<u8>), AllocError> {
     let (text, upstream, mask) = row;
-    let mut out = Vec::with_capacity(alloc, FRONT.len() + room)?;
+    let mut out = Vec::with_capacity(alloc, FRONT.len().saturating_add(room))?;
     out.extend_from_slice(FRONT.as_bytes())?;
     let outcome = push_words_of(&mut out, &octets_of(text), upstream, mask);
     Ok((outcome, out))

@@ -173,7 +173,8 @@ fn said_with(alloc: Global, journal_limit: u32, way: Way) -> Result<Option<Said>
         return Ok(None);
     }
     let blank = Blank::new(u64::from(MAX_LICENCES));
-    said_on::<Brand>(alloc, blank, &config, way).map(Some)
+    let said = said_on::<Brand>(alloc, blank, &config, way)?;
+    Ok(Some(said))
 }
 
 #[test]

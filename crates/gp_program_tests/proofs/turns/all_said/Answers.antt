@@ -1,4 +1,4 @@
-use Rattle.std.proofs.Common.{◌≡◌, ◌+◌, ◌-◌, ◌≤◌, ◌<◌, ℕ, subst, sym, arith}
+use Rattle.std.proofs.Common.{◌≡◌, ◌+◌, ◌-◌, ◌<◌, ℕ, subst, sym, arith}
 use Rattle.gp_replay.specs.Chassis.{HasRoom}
 use Rattle.gp_replay.proofs.RoomLemmas.{room_for_fewer}
 use Rattle.gp_program_tests.proofs.turns.all_said.Goals as goal
