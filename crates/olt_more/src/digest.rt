@@ -1,3 +1,4 @@
+//! A writer that keeps a digest.
 use std::alloc::Global;
 use std::io;
 use std::io::Write;

@@ -1,3 +1,4 @@
+//! Why a job stopped early.
 use std::alloc::AllocError;
 use std::io;
 use thiserror::Error;

@@ -126,7 +126,8 @@ fn add_frames(lines: &mut String, frames: u32) -> Result<(), AllocError> {
     Ok(())
 }
 
-/// Writes lines for a fibre: frames up to a poll or a measurement, single frames, and at the end a rogue's garbled bursts.
+/// Writes lines for a fibre: frames up to a poll or a measurement, single frames, and at the end a rogue's garbled
+/// bursts.
 pub(crate) fn lines_of(
     alloc: Global,
     choices: &mut Choices,

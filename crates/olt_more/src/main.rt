@@ -1,6 +1,6 @@
-//! `olt_more JOB PARTS SEED`: does jobs of a line terminal that `olt_jobs` leaves out, with inputs that it makes itself,
-//! and prints a digest of every octet that was written and of every field that was answered. Each seed gives other
-//! inputs of the same kinds and sizes, and the same digest on every run.
+//! `olt_more JOB PARTS SEED`: does jobs of a line terminal that `olt_jobs` leaves out, with inputs that it makes
+//! itself, and prints a digest of every octet that was written and of every field that was answered. Each seed gives
+//! other inputs of the same kinds and sizes, and the same digest on every run.
 //!
 //! Jobs: `ports`, `storm`, `codes`, `told`. Each has PARTS parts, one after the other, of kinds that take turns. `each`
 //! does the first part of each job, then the second of each, and so on.

@@ -1,3 +1,4 @@
+//! The units' serial numbers.
 use gp_ploam::Serial;
 use std::alloc::{AllocError, Global};
 

@@ -149,7 +149,8 @@ fn form_of(part: u32) -> (Form, bool) {
     }
 }
 
-/// Does a part, and adds what was told: a fibre that is played, one that is driven, a bench, or a trace that is verified.
+/// Does a part, and adds what was told: a fibre that is played, one that is driven, a bench, or a trace that is
+/// verified.
 pub(crate) fn tell(
     alloc: Global,
     part: u32,

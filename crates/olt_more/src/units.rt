@@ -141,7 +141,8 @@ impl Units {
         };
     }
 
-    /// Tells whether the unit at a place asks for an ONU-ID: one that has none does, and one in a thousand of the others.
+    /// Tells whether the unit at a place asks for an ONU-ID: one that has none does, and one in a thousand of the
+    /// others.
     pub(crate) fn asks(&self, place: u16, choices: &mut Choices) -> bool {
         match self.onus.get(usize::from(place)) {
             Some(Some(_)) => choices.is_once_in(1_000),
