@@ -1,1 +1,3 @@
 pub mod TextLemmas
+mod KeysLemmas
+pub mod LinesLemmas

@@ -1,2 +1,4 @@
+pub mod Keys
 pub mod Words
+pub mod Lines
 pub mod Check

@@ -1,5 +1,5 @@
 -- How a mistake of a script is told: where it is, its kind, and what is wanted there (this profile's own rule).
-use Rattle.std.specs.Prelude.{ℕ, ◌==◌, ◌&&◌, ◌||◌, Bool, true, false, List, ◌++◌, if◌then◌else◌, codes, decimal, length, nat_le, string_bytes}
+use Rattle.std.specs.Prelude.{ℕ, ◌==◌, ◌&&◌, ◌||◌, Bool, true, false, List, [], ◌++◌, Option, Some, None, if◌then◌else◌, codes, decimal, length, nat_le, not, string_bytes}
 use Rattle.std.specs.Char.{is_ascii_alphanumeric}
 use Rattle.std.specs.List.{list_all}
 use Rattle.gp_script.specs.declared.fault.ScriptFault.{ScriptFault}
@@ -11,6 +11,7 @@ use Rattle.gp_script.specs.declared.mistake.TableMistake.{TableMistake}
 use Rattle.gp_script.specs.declared.mistake.TableMistake.TheVariants as inner
 use Rattle.gp_script.specs.declared.place.Counted.{Counted}
 use Rattle.gp_script.specs.declared.place.Counted.TheVariants as counted
+use Rattle.gp_script.specs.declared.place.Key.TheVariants as keys
 use Rattle.gp_script.specs.declared.place.Spot.{Spot}
 use Rattle.gp_script.specs.declared.place.Spot.TheVariants as spots
 use Rattle.gp_script.specs.declared.place.TablePlace.{TablePlace}
@@ -18,6 +19,7 @@ use Rattle.gp_script.specs.declared.place.TablePlace.TheVariants as places
 use Rattle.gp_script.specs.declared.place.Wanted.{Wanted}
 use Rattle.gp_script.specs.declared.place.Wanted.TheVariants as wanted
 use Rattle.gp_script.specs.Mistake.{fault_of_wanted, key_name}
+use Rattle.gp_check.specs.Keys.{unknown_key_text}
 
 -- a word and a number
 abbrev pub numbered : List ℕ → ℕ → List ℕ
@@ -67,26 +69,33 @@ abbrev pub counted_text : Counted → List ℕ
 counted_text counted.Tables = codes "tables"
 counted_text counted.Serials = codes "serial numbers"
 
--- what is wanted, or what is wrong with what stands there
-abbrev pub wanted_text : Wanted → List ℕ
-wanted_text wanted.Value = codes "missing"
-wanted_text wanted.Number = codes "not a number"
-wanted_text wanted.Text = codes "not a text"
-wanted_text wanted.Truth = codes "not true or false"
-wanted_text wanted.List = codes "not a list"
-wanted_text wanted.Table = codes "not a table"
-wanted_text wanted.Form = codes "no form of an event"
-wanted_text wanted.Word = codes "unknown word"
-wanted_text wanted.OneLoss = codes "either copy or burst"
-wanted_text wanted.Units = codes "only beside units"
-wanted_text wanted.NoUnits = codes "not in a storm"
-wanted_text wanted.OnePort = codes "only beside one port"
-wanted_text (wanted.Range low high) = range_text low high
-wanted_text (wanted.Count counted low high) = range_text low high ++ codes " " ++ counted_text counted
-wanted_text wanted.MaskNumber = codes "0 or 85"
-wanted_text wanted.SerialText = codes "4 of A to Z and 0 to 9 and 8 hexadecimal digits, or 16 hexadecimal digits"
-wanted_text (wanted.Digits count) = decimal count ++ codes " hexadecimal digits"
-wanted_text (wanted.NewSerial port) = numbered (codes "also on port") port
+-- an unknown word, and those that there are at the key
+abbrev pub unknown_word : Spot → List ℕ
+unknown_word (spots.Key keys.Say) = codes "unknown word; there are serial, gasp, none, ack"
+unknown_word (spots.Key keys.Command) =
+    codes "unknown word; there are search, alloc, dealloc, deactivate, disable, enable, enable-all, popup, popup-all, show"
+unknown_word _ = codes "unknown word"
+
+-- what is wanted at a spot, or what is wrong with what stands there
+abbrev pub wanted_text : Spot → Wanted → List ℕ
+wanted_text spot wanted.Value = codes "missing"
+wanted_text spot wanted.Number = codes "not a number"
+wanted_text spot wanted.Text = codes "not a text"
+wanted_text spot wanted.Truth = codes "not true or false"
+wanted_text spot wanted.List = codes "not a list"
+wanted_text spot wanted.Table = codes "not a table"
+wanted_text spot wanted.Form = codes "no form of an event, which has frames, burst, say, command or light"
+wanted_text spot wanted.Word = unknown_word spot
+wanted_text spot wanted.OneLoss = codes "either copy or burst"
+wanted_text spot wanted.Units = codes "only beside units"
+wanted_text spot wanted.NoUnits = codes "not in a storm"
+wanted_text spot wanted.OnePort = codes "only beside one port"
+wanted_text spot (wanted.Range low high) = range_text low high
+wanted_text spot (wanted.Count counted low high) = range_text low high ++ codes " " ++ counted_text counted
+wanted_text spot wanted.MaskNumber = codes "0 or 85"
+wanted_text spot wanted.SerialText = codes "4 of A to Z and 0 to 9 and 8 hexadecimal digits, or 16 hexadecimal digits"
+wanted_text spot (wanted.Digits count) = decimal count ++ codes " hexadecimal digits"
+wanted_text spot (wanted.NewSerial port) = numbered (codes "also on port") port
 
 -- how many octets of an unknown key are shown at most
 abbrev pub max_shown : ℕ
@@ -96,9 +105,9 @@ max_shown = 64
 abbrev pub is_bare_octet : ℕ → Bool
 is_bare_octet octet = is_ascii_alphanumeric octet || (octet == 95 || octet == 45)
 
--- a key is shown where it needs no quotes and isn't too long
+-- a key is shown where it needs no quotes, as one without octets does, and isn't too long
 abbrev pub is_shown : List ℕ → Bool
-is_shown key = nat_le (length key) max_shown && list_all is_bare_octet key
+is_shown key = not (length key == 0) && nat_le (length key) max_shown && list_all is_bare_octet key
 
 -- the table, and an unknown key of it where it is shown
 abbrev pub unknown_text : TablePlace → List ℕ → List ℕ
@@ -107,9 +116,9 @@ unknown_text table key = if is_shown key then key_text table key else table_text
 -- what is wrong in a table
 abbrev pub table_mistake_text : TablePlace → TableMistake → List ℕ
 table_mistake_text table (inner.UnknownKey key) =
-    unknown_text table (string_bytes key) ++ codes ": 2 shape, unknown key"
+    unknown_text table (string_bytes key) ++ codes ": 2 shape, " ++ unknown_key_text table (string_bytes key)
 table_mistake_text table (inner.Unmet spot want) =
-    place_text table spot ++ codes ": " ++ fault_text (fault_of_wanted want) ++ codes ", " ++ wanted_text want
+    place_text table spot ++ codes ": " ++ fault_text (fault_of_wanted want) ++ codes ", " ++ wanted_text spot want
 
 -- why a text is no TOML, and where
 abbrev pub syntax_text : SyntaxMistake → List ℕ
@@ -122,3 +131,12 @@ abbrev pub mistake_text : Mistake → List ℕ
 mistake_text mistakes.NoText = codes "1 syntax, not UTF-8"
 mistake_text (mistakes.NoToml syntax) = syntax_text syntax
 mistake_text (mistakes.Inside table mistake) = table_mistake_text table mistake
+
+-- the line where a mistake stands, where it is known
+abbrev pub line_text : Option ℕ → List ℕ
+line_text None = []
+line_text (Some line) = codes ", line " ++ decimal line
+
+-- what is wrong with a script, and in which line
+abbrev pub placed_text : Mistake → Option ℕ → List ℕ
+placed_text mistake line = mistake_text mistake ++ line_text line

@@ -1,10 +1,11 @@
 //! Tells of a file that it is a script, or where it is wrong and what is wanted there, by one line.
 //!
-//! Promise: the line says that a file is a script, or the first fault with its place (`check_script`).
+//! Promise: the line says that a file is a script, or the first fault with its place (`check_script`, `find_script`).
 //!
-//! - `checking.rt`: `check_script`, which reads a source and writes its line.
+//! - `checking.rt`: `find_script`, which reads a source as a script to be replayed or run as a storm; `check_script`, which
+//!   writes the line of the first.
 //! - `found.rt`: what was found in a source, and its text.
-//! - `text.rt`: the text of a mistake. `fault.rt`: why nothing was told.
+//! - `keys.rt`: what is told of a key that a table may not have. `text.rt`: the text of a mistake. `fault.rt`: why nothing was told.
 //!
 //! Where to make which change: the words stand in `specs/Words.antt`, the line in `specs/Check.antt`, and each in the
 //! function here that is proved to write it. What may be wrong with a script stands in `gp_script`.
@@ -13,9 +14,12 @@
 mod checking;
 mod fault;
 mod found;
+mod keys;
+mod lines;
 mod text;
 
-pub use checking::check_script;
+pub use checking::{Purpose, check_script, find_script, placed_line, read_script_for};
 pub use fault::ScriptCheckFault;
 pub use found::{Found, found_line};
+pub use lines::line_of_mistake;
 pub use text::mistake_line;

@@ -1,9 +1,11 @@
+//! The text of a mistake: where it is, its kind, and what is wanted there.
 ghost use Rattle.std.specs.Prelude.{◌≡◌, IfOk, string_bytes};
 ghost use Rattle.std.specs.List.{list_all};
 ghost use Rattle.gp_check.specs.Words as spec;
 
+use crate::keys::unknown_key_text;
 use gp_script::{
-    Counted, Mistake, ScriptFault, Spot, SyntaxMistake, TableMistake, TablePlace, Wanted,
+    Counted, Key, Mistake, ScriptFault, Spot, SyntaxMistake, TableMistake, TablePlace, Wanted,
 };
 use std::alloc::{AllocError, Global};
 
@@ -24,7 +26,7 @@ fn table_text(alloc: Global, table: TablePlace) -> Result<String, AllocError>
 }
 
 /// Tells whether the table is the top.
-fn is_top(table: TablePlace) -> bool
+pub(crate) fn is_top(table: TablePlace) -> bool
     ensures { result ≡ spec.is_top table }
 {
     match table {
@@ -85,9 +87,22 @@ fn counted_text(counted: Counted) -> &'static str
     }
 }
 
-/// Gives what is wanted, or what is wrong with what stands there.
-fn wanted_text(alloc: Global, want: Wanted) -> Result<String, AllocError>
-    ensures { IfOk result (λ text. string_bytes text ≡ spec.wanted_text want) }
+/// Gives that a word is unknown, and those that there are at the key.
+fn unknown_word(spot: Spot) -> &'static str
+    ensures { result.now ≡ spec.unknown_word spot }
+{
+    match spot {
+        Spot::Key(Key::Say) => "unknown word; there are serial, gasp, none, ack",
+        Spot::Key(Key::Command) => {
+            "unknown word; there are search, alloc, dealloc, deactivate, disable, enable, enable-all, popup, popup-all, show"
+        }
+        _ => "unknown word",
+    }
+}
+
+/// Gives what is wanted at a spot, or what is wrong with what stands there.
+fn wanted_text(alloc: Global, spot: Spot, want: Wanted) -> Result<String, AllocError>
+    ensures { IfOk result (λ text. string_bytes text ≡ spec.wanted_text spot want) }
 {
     match want {
         Wanted::Value => String::from_str(alloc, "missing"),
@@ -96,8 +111,11 @@ fn wanted_text(alloc: Global, want: Wanted) -> Result<String, AllocError>
         Wanted::Truth => String::from_str(alloc, "not true or false"),
         Wanted::List => String::from_str(alloc, "not a list"),
         Wanted::Table => String::from_str(alloc, "not a table"),
-        Wanted::Form => String::from_str(alloc, "no form of an event"),
-        Wanted::Word => String::from_str(alloc, "unknown word"),
+        Wanted::Form => String::from_str(
+            alloc,
+            "no form of an event, which has frames, burst, say, command or light",
+        ),
+        Wanted::Word => String::from_str(alloc, unknown_word(spot)),
         Wanted::OneLoss => String::from_str(alloc, "either copy or burst"),
         Wanted::Units => String::from_str(alloc, "only beside units"),
         Wanted::NoUnits => String::from_str(alloc, "not in a storm"),
@@ -121,7 +139,7 @@ fn wanted_text(alloc: Global, want: Wanted) -> Result<String, AllocError>
 fn is_shown(key: &str) -> bool
     ensures { result ≡ spec.is_shown key.now }
 {
-    key.len() <= MAX_SHOWN && is_bare(key.as_bytes())
+    !key.is_empty() && key.len() <= MAX_SHOWN && is_bare(key.as_bytes())
 }
 
 /// Tells whether each octet is one of a key that stands without quotes.
@@ -153,12 +171,13 @@ fn table_mistake_text(
     match mistake {
         TableMistake::UnknownKey(key) => {
             let place = unknown_text(alloc, table, key.as_str())?;
-            format!(in alloc; "{place}: 2 shape, unknown key")
+            let told = unknown_key_text(alloc, table, key.as_str())?;
+            format!(in alloc; "{place}: 2 shape, {told}")
         }
         TableMistake::Unmet(spot, want) => {
             let place = place_text(alloc, table, *spot)?;
             let fault = fault_text(want.fault());
-            let want = wanted_text(alloc, *want)?;
+            let want = wanted_text(alloc, *spot, *want)?;
             format!(in alloc; "{place}: {fault}, {want}")
         }
     }
@@ -184,5 +203,20 @@ pub fn mistake_line(alloc: Global, mistake: &Mistake) -> Result<String, AllocErr
         Mistake::NoText => String::from_str(alloc, "1 syntax, not UTF-8"),
         Mistake::NoToml(syntax) => syntax_text(alloc, syntax),
         Mistake::Inside(table, mistake) => table_mistake_text(alloc, *table, mistake),
+    }
+}
+
+/// Gives the text of a mistake, and the line where it stands, where that is known.
+pub(crate) fn placed_text(
+    alloc: Global,
+    mistake: &Mistake,
+    line: Option<usize>,
+) -> Result<String, AllocError>
+    ensures { IfOk result (λ text. string_bytes text ≡ spec.placed_text mistake.now line) }
+{
+    let text = mistake_line(alloc, mistake)?;
+    match line {
+        None => Ok(text),
+        Some(line) => format!(in alloc; "{text}, line {line}"),
     }
 }

@@ -4,6 +4,7 @@ use Rattle.toml.specs.Data.{table, Items, no_items, item, Members, get_member}
 use Rattle.gp_ploam.specs.declared.check.Mask.{Mask}
 use Rattle.gp_script.specs.declared.script.ScriptEvent.{ScriptEvent}
 use Rattle.gp_script.specs.declared.script.ScriptEvent.TheVariants.{Frames, Burst, Light}
+use Rattle.gp_script.specs.declared.place.Key.{Key}
 use Rattle.gp_script.specs.declared.place.Key.TheVariants as key
 use Rattle.gp_script.specs.declared.place.TablePlace.TheVariants as places
 use Rattle.gp_script.specs.declared.place.Spot.TheVariants as spots

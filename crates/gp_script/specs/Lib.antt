@@ -10,5 +10,6 @@ pub mod Say
 pub mod Command
 pub mod Event
 pub mod Script
+pub mod Tables
 pub mod View
 pub mod Playable

@@ -3,6 +3,7 @@ use Rattle.std.specs.Prelude.{ℕ, ℤ, ◌+◌, List, [], ◌∷◌, ◌++◌, 
 use Rattle.toml.specs.Data.{table, Items, no_items, item, Members}
 use Rattle.gp_script.specs.declared.lose.Loss.{Loss}
 use Rattle.gp_script.specs.declared.lose.Loss.TheVariants.{Copy, Burst}
+use Rattle.gp_script.specs.declared.place.Key.{Key}
 use Rattle.gp_script.specs.declared.place.Key.TheVariants as key
 use Rattle.gp_script.specs.declared.place.TablePlace.TheVariants as places
 use Rattle.gp_script.specs.declared.place.Spot.TheVariants as spots
@@ -47,10 +48,14 @@ one_loss None (Some burst) = lost_burst burst
 one_loss (Some copy) (Some burst) = Err (unmet spots.Table wanted.OneLoss)
 one_loss None None = Err (unmet spots.Table wanted.OneLoss)
 
+-- the keys of a table under `lose`
+abbrev pub lose_keys : List Key
+lose_keys = key.Copy ∷ key.Burst ∷ []
+
 -- a table under `lose`
 unfoldable pub loss_of : Members → Result Loss TableMistakeView
 loss_of members = do
-  _ ← has_only (key.Copy ∷ key.Burst ∷ []) members
+  _ ← has_only lose_keys members
   copy ← number_at key.Copy members
   burst ← number_at key.Burst members
   one_loss copy burst

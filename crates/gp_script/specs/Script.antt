@@ -176,6 +176,10 @@ script_of_bytes may_have_units bytes = do
 abbrev pub script_or_mistake : List ℕ → Result ScriptView MistakeView
 script_or_mistake bytes = script_of_bytes true bytes
 
+-- what they say as a script for a storm, which has no simulated units, or the first mistake and its place
+abbrev pub storm_script_or_mistake : List ℕ → Result ScriptView MistakeView
+storm_script_or_mistake bytes = script_of_bytes false bytes
+
 -- the same, or the first fault, wherever it is
 unfoldable pub script_or_fault : Bool → List ℕ → Result ScriptView ScriptFault
 script_or_fault may_have_units bytes = without_place (script_of_bytes may_have_units bytes)

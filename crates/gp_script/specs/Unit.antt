@@ -3,6 +3,7 @@ use Rattle.std.specs.Prelude.{List, [], ◌∷◌, ◌++◌, ◌&&◌, Bool, Res
 use Rattle.toml.specs.Data.{table, Items, no_items, item, Members}
 use Rattle.gp_onu.specs.Limits.{max_delay, max_random_delay}
 use Rattle.gp_script.specs.declared.script.ScriptUnit.{ScriptUnit}
+use Rattle.gp_script.specs.declared.place.Key.{Key}
 use Rattle.gp_script.specs.declared.place.Key.TheVariants as key
 use Rattle.gp_script.specs.declared.place.TablePlace.TheVariants as places
 use Rattle.gp_script.specs.Fault.{◌>>=◌}
@@ -14,10 +15,14 @@ use Rattle.gp_script.specs.Values.{in_range, in_range_or, serial_of}
 abbrev pub is_unit_within_limits : ScriptUnit → Bool
 is_unit_within_limits unit = nat_le unit.delay max_delay && nat_le unit.random max_random_delay
 
+-- the keys of a unit table
+abbrev pub unit_keys : List Key
+unit_keys = key.Serial ∷ key.Delay ∷ key.Random ∷ []
+
 -- a unit table
 unfoldable pub unit_of : Members → Result ScriptUnit TableMistakeView
 unit_of members = do
-  _ ← has_only (key.Serial ∷ key.Delay ∷ key.Random ∷ []) members
+  _ ← has_only unit_keys members
   serial ← needed_text key.Serial members
   delay ← needed_number key.Delay members
   random ← number_at key.Random members

@@ -3,10 +3,11 @@
 //! Promise: a script is what its text says, or its first fault is told, with the table and the key (`read_script`,
 //! `read_script_at`).
 //!
-//! - `reading.rt`: `read_script_at`, and without the place of a mistake `read_script`, `read_storm_script`.
+//! - `reading.rt`: `read_script_at`, and for a storm `read_storm_script_at`; without the place of a mistake `read_script`,
+//!   `read_storm_script`.
 //! - `script.rt`: a script that was read. `fault.rt`: the kind of a mistake. `mistake.rt`: a mistake and its place;
 //!   `place.rt` the tables and keys, and what may be wanted there.
-//! - `top.rt`: the keys of the top.
+//! - `tables.rt`: the keys that a table may have. `top.rt`: the keys of the top.
 //! - `ports.rt`: the port tables; an admission list tells whether a serial number was admitted before.
 //! - `units.rt`: the tables of simulated units. `lose.rt`: those of what is lost on the way.
 //! - `events.rt`: the event tables; `say.rt` those with `say`, `command.rt` those with `command`.
@@ -30,6 +31,7 @@ mod ports;
 mod reading;
 mod say;
 mod script;
+mod tables;
 mod top;
 mod units;
 mod values;
@@ -38,5 +40,8 @@ mod walk;
 pub use fault::{ScriptError, ScriptFault};
 pub use mistake::{Mistake, PlacedError, SyntaxMistake, TableMistake};
 pub use place::{Counted, Key, Spot, TablePlace, Wanted};
-pub use reading::{faults_are_mistakes, read_script, read_script_at, read_storm_script};
+pub use reading::{
+    faults_are_mistakes, read_script, read_script_at, read_storm_script, read_storm_script_at,
+    storm_faults_are_mistakes,
+};
 pub use script::{Script, ScriptEvent, ScriptLosses, ScriptUnit};

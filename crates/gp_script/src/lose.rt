@@ -7,6 +7,7 @@ ghost use Rattle.gp_script.specs.View.{losses_view};
 use crate::keys::{has_only, number_at};
 use crate::place::{Key, Spot, TablePlace, Wanted};
 use crate::script::ScriptLosses;
+use crate::tables::LOSE_KEYS;
 use crate::values::number_from_0;
 use crate::walk::{TableFault, WalkError, no_table};
 use std::alloc::{AllocError, Global};
@@ -39,7 +40,7 @@ impl ScriptLosses {
 fn loss_of(table: &Table) -> Result<Loss, TableFault<'_>>
     ensures { Sees (λ loss. loss) result (spec.loss_of (table_view table.now)) }
 {
-    has_only(table, &[Key::Copy, Key::Burst])?;
+    has_only(table, &LOSE_KEYS)?;
     let copy = number_at(table, Key::Copy)?;
     let burst = number_at(table, Key::Burst)?;
     match (copy, burst) {

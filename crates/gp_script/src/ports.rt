@@ -21,7 +21,7 @@ use std::alloc::Global;
 use toml::{Table, Value};
 
 /// The keys of a port table.
-const PORT_KEYS: [Key; 8] = [
+pub(crate) static PORT_KEYS: [Key; 8] = [
     Key::Teqd,
     Key::MaxUnits,
     Key::AllocLast,

@@ -3,7 +3,7 @@ ghost use Rattle.std.specs.Str.{is_utf8};
 ghost use Rattle.toml.specs.Parse.{parse_document};
 ghost use Rattle.toml.specs.View.{table_view};
 ghost use Rattle.gp_script.specs.Fault.{Gives, GivesPlaced, IsSyntax, Walks};
-ghost use Rattle.gp_script.specs.Script.{script_of_table, script_of_bytes, script_of, script_or_mistake, storm_script_of, text_of, table_or_mistake};
+ghost use Rattle.gp_script.specs.Script.{script_of_table, script_of_bytes, script_of, script_or_mistake, storm_script_of, storm_script_or_mistake, text_of, table_or_mistake};
 ghost use Rattle.gp_script.specs.Mistake.{without_place};
 ghost use Rattle.gp_script.specs.Playable.{IsPlayable};
 ghost use Rattle.gp_script.specs.Lose.{no_losses};
@@ -137,6 +137,12 @@ pub fn faults_are_mistakes()
     ensures { (bytes : List ℕ) → script_of bytes ≡ without_place (script_or_mistake bytes) }
 {}
 
+/// States the same of what `read_storm_script` and `read_storm_script_at` tell.
+#[tactic(auto, unfolding(crate::specs::Script::script_or_fault))]
+pub fn storm_faults_are_mistakes()
+    ensures { (bytes : List ℕ) → storm_script_of bytes ≡ without_place (storm_script_or_mistake bytes) }
+{}
+
 /// Reads what the bytes say as a script, or the first fault, before any event runs.
 ///
 /// Of a script that is read, each number is within its range, each serial number is admitted once,
@@ -148,6 +154,20 @@ pub fn read_script(alloc: Global, bytes: &[u8]) -> Result<Script, ScriptError>
     ensures playable { IfOk result (λ s. IsPlayable (script_view s)) }
 {
     read_script_at(alloc, bytes).map_err(ScriptError::from)
+}
+
+/// Reads what the bytes say as a script for a storm, or its first mistake: where it is wrong, and what is wanted there.
+///
+/// A storm has no simulated units: a unit table is a mistake of the top, and so is a table of what is lost, as in any
+/// script without units. A mistake that this tells is the fault that `read_storm_script` tells.
+pub fn read_storm_script_at(alloc: Global, bytes: &[u8]) -> Result<Script, PlacedError>
+    ensures value { GivesPlaced script_view result (storm_script_or_mistake bytes.now) }
+    ensures memory_only_of_utf8 { result ≡ Err PlacedError.OutOfMemory → IsTrue (is_utf8 bytes.now) }
+    ensures playable { IfOk result (λ s. IsPlayable (script_view s)) }
+    ensures no_units { IfOk result (λ s. s.units.items ≡ []) }
+    ensures nothing_lost { IfOk result (λ s. losses_view s.losses ≡ no_losses) }
+{
+    read_bytes(alloc, false, bytes)
 }
 
 /// Reads what the bytes say as a script for a storm, or the first fault, before any event runs.
@@ -162,5 +182,5 @@ pub fn read_storm_script(alloc: Global, bytes: &[u8]) -> Result<Script, ScriptEr
     ensures no_units { IfOk result (λ s. s.units.items ≡ []) }
     ensures nothing_lost { IfOk result (λ s. losses_view s.losses ≡ no_losses) }
 {
-    read_bytes(alloc, false, bytes).map_err(ScriptError::from)
+    read_storm_script_at(alloc, bytes).map_err(ScriptError::from)
 }

@@ -20,7 +20,7 @@ use toml::{Table, Value};
 const MAX_EVENTS: u32 = 1_048_576;
 
 /// The keys of the top.
-const TOP_KEYS: [Key; 7] = [
+pub(crate) static TOP_KEYS: [Key; 7] = [
     Key::Licences,
     Key::Mask,
     Key::JournalLimit,

@@ -6,6 +6,7 @@ ghost use Rattle.gp_script.specs.Unit as spec;
 use crate::keys::{has_only, needed_number, needed_text, number_at};
 use crate::place::{Key, TablePlace};
 use crate::script::ScriptUnit;
+use crate::tables::UNIT_KEYS;
 use crate::values::{in_range, in_range_or, serial_of};
 use crate::walk::{TableFault, WalkError, no_table};
 use gp_onu::{MAX_DELAY, MAX_RANDOM_DELAY};
@@ -18,8 +19,7 @@ fn unit_of(table: &Table) -> Result<ScriptUnit, TableFault<'_>>
     ensures value { Sees (λ e. e) result (spec.unit_of (table_view table.now)) }
     ensures limits { IfOk result (λ unit. IsTrue (spec.is_unit_within_limits unit)) }
 {
-    let keys = [Key::Serial, Key::Delay, Key::Random];
-    has_only(table, &keys)?;
+    has_only(table, &UNIT_KEYS)?;
     let serial = needed_text(table, Key::Serial)?;
     let delay = needed_number(table, Key::Delay)?;
     let random = number_at(table, Key::Random)?;
