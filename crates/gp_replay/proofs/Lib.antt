@@ -3,7 +3,7 @@ pub mod PlayingLemmas
 pub mod RunLemmas
 pub mod TurnLemmas
 pub mod RoomLemmas
-pub mod ChassisLemmas
+pub mod SeatLemmas
 pub mod LawsLemmas
 pub mod OutcomeLemmas
 pub mod WorldLemmas

@@ -1,14 +1,11 @@
 -- The chassis that a script is played on (this profile's own rule).
-use Rattle.std.specs.Prelude.{◌≡◌, true, ℕ, ◌+◌, ◌<◌, ◌≤◌, ◌^◌, List, All, length, map}
+use Rattle.std.specs.Prelude.{◌≡◌, true, ℕ, ◌+◌, ◌<◌, ◌^◌, List, All, map}
 use Rattle.gp_machine.specs.declared.config.PortConfig.{PortConfig}
 use Rattle.gp_machine.specs.Config.{is_within_limits}
 use Rattle.gp_machine.specs.State.{PortState}
 use Rattle.gp_machine.specs.Sound.{IsSound}
 use Rattle.gp_chassis.specs.World.{ChassisWorld, world_opened, units_of}
-use Rattle.gp_chassis.specs.Desk.{DeskState}
-use Rattle.gp_chassis.specs.Core.{CoreState, world_of}
 use Rattle.gp_script.specs.Script.{ScriptView}
-use Rattle.gp_replay.specs.declared.player.TheConstants.{MAX_KEPT}
 
 -- where a play stands: the world of its chassis, and the number of each port's next entry
 pub record PlayState : Type 0 where
@@ -30,19 +27,6 @@ HasRoom count play = All (λ next. next + count < 2 ^ 64) play.next
 -- how many licences there are: those that are free, and one for each active unit
 abbrev pub total_licences : PlayState → ℕ
 total_licences play = play.world.free + units_of play.world
-
--- the number of a port's next entry: entries that were cut from its journal count too
-abbrev pub next_of : DeskState → ℕ
-next_of desk = desk.first + length desk.entries
-
--- a play as its chassis shows it
-abbrev pub play_of : CoreState → PlayState
-play_of chassis = record { world = world_of chassis; next = map next_of chassis.desks }
-
--- a journal that keeps an entry at least, and so many at most that memory stays flat
-pub record KeepsFew (desk : DeskState) : Type 0 where
-  pub some : 0 < desk.limit
-  pub few : desk.limit ≤ MAX_KEPT
 
 -- a port whose state is sound, and whose configuration is within its limits
 pub record IsSoundPort (port : PortState) : Type 0 where

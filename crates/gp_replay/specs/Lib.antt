@@ -10,3 +10,4 @@ pub mod Laws
 pub mod WorldWriting
 pub mod Playing
 pub mod Telling
+pub mod Seats

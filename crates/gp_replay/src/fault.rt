@@ -11,7 +11,7 @@ use thiserror::Error;
 /// Why events were not played and written to their end.
 #[derive(Clone, Copy, Debug, PartialEq, Eq, Error)]
 pub enum PlayFault {
-    /// Out of memory for the entries.
+    /// Out of memory for the entries of a play with simulated units; one without them keeps none.
     #[error("out of memory")]
     OutOfMemory,
     /// A write failed or took nothing, or a flush failed.
@@ -56,7 +56,7 @@ pub enum RunFault {
     /// What several threads were told does not agree, or a thread was not started. A replay never answers it.
     #[error("a thread was not started, or what the threads were told does not agree")]
     Mismatch,
-    /// The journal of a port keeps as many entries as it may. A replay, which cuts it then, never answers it.
+    /// The journal of a port keeps as many entries as it may. A replay, which keeps none, never answers it.
     #[error("the journal of a port is full")]
     JournalFull,
 }

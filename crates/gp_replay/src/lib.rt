@@ -6,8 +6,9 @@
 //! - `replaying.rt`: `run_replay`, from the bytes of a script to those of its trace.
 //! - `event_player.rt`: `EventPlayer`, what events are played on, and `play_events`, which plays the events of a script
 //!   on it; `play_end.rt`: the end of a play.
-//! - `player.rt`: `Player`, the chassis; a port's journal is cut there when it is full. `playing.rt`: plays an event on
-//!   it, which is a turn or more (`turn.rt`), and writes the line of each (`told.rt`: what is asked of it behind that).
+//! - `player.rt`: `Player`, the ports of a script (`seat.rt`) with the book of their licences: it keeps no journal, and a
+//!   turn takes no memory. `playing.rt`: plays an event on it, which is a turn or more (`turn.rt`), and writes the line
+//!   of each (`told.rt`: what is asked of it behind that).
 //! - `fibre_player.rt`: `FibrePlayer`, the fibre of one port with its simulated units, by `world_player.rt`;
 //!   `world_playing.rt`: plays an event on it, and writes the lines of what its port does.
 //! - `line_buffer.rt`: the memory in which a line is built.
@@ -29,6 +30,7 @@ mod play_end;
 mod player;
 mod playing;
 mod replaying;
+mod seat;
 mod told;
 mod turn;
 mod world_player;
@@ -40,7 +42,7 @@ pub use fibre_player::FibrePlayer;
 pub use laws::{each_port_runs, licences_are_kept};
 pub use line_buffer::LineBuffer;
 pub use play_end::end_play;
-pub use player::{MAX_KEPT, Player};
+pub use player::Player;
 pub use replaying::run_replay;
 pub use told::Told;
 pub use turn::Turn;

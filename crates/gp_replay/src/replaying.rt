@@ -11,7 +11,7 @@ use super::fibre_player::FibrePlayer;
 use super::laws::each_port_runs;
 use super::line_buffer::LineBuffer;
 use super::play_end::end_play;
-use super::player::{MAX_KEPT, Player};
+use super::player::Player;
 use gp_chassis::ChassisConfig;
 use gp_fibre::LossPlan;
 use gp_licence::MAX_LICENCES;
@@ -47,7 +47,7 @@ fn play_on_chassis<L: Ledger, W: Write>(
     } = script;
     let config = ChassisConfig {
         licences,
-        journal_limit: journal_limit.min(MAX_KEPT),
+        journal_limit,
         ports,
     };
     let mut buffer = LineBuffer::new(alloc)?;
@@ -118,11 +118,10 @@ fn play_script<L: Ledger, W: Write>(
 }
 
 /// Reads a script to the end of the source, plays it, and writes its trace, all of it or up to the
-/// first fault. Memory for the script and its ports is taken before the first event is played. Then a port's journal
-/// grows up to the script's limit or 4,096 entries, whichever is less, and is cut there, for which memory is taken
-/// too; with simulated units, where the limit means nothing, the entries of 256 frames are kept at most. So memory for
-/// entries stays flat however long the trace is, and `OutOfMemory` can also come while the script is played.
-/// The lines of all entries up to there are written out then, and `OutOfMemory` is told even where that write fails.
+/// first fault. Memory for the script and its ports is taken before the first event is played. No entry is kept longer
+/// than its line takes; with simulated units those of 256 frames are kept at most, for which memory is taken too, so
+/// there `OutOfMemory` can also come while the script is played. The lines of all entries up to there are written out
+/// then, and `OutOfMemory` is told even where that write fails. The script's `journal_limit` means nothing here.
 ///
 /// What the sink gathered before goes out first. Of a source with a failed read nothing is read, and
 /// `Read` is answered. To a sink that has stopped nothing is written; a fault of reading, of the

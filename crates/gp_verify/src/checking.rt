@@ -9,7 +9,6 @@ use super::running::run_verify;
 use super::verifier::Verifier;
 use gp_chassis::ChassisConfig;
 use gp_licence::MAX_LICENCES;
-use gp_replay::MAX_KEPT;
 use gp_script::Script;
 use gp_stream::{Sink, Source};
 use std::alloc::Global;
@@ -43,7 +42,7 @@ fn verify_on<L: Ledger, T: Read, W: Write>(
     } = script;
     let config = ChassisConfig {
         licences,
-        journal_limit: journal_limit.min(MAX_KEPT),
+        journal_limit,
         ports,
     };
     let mut verifier = Verifier::<L>::begin(alloc, blank, &config, mask)?;

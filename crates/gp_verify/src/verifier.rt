@@ -16,7 +16,7 @@ use super::verdict::Verdict;
 use gp_chassis::ChassisConfig;
 use gp_licence::MAX_LICENCES;
 use gp_ploam::Mask;
-use gp_replay::{LineBuffer, MAX_KEPT, Player};
+use gp_replay::{LineBuffer, Player};
 use std::alloc::{AllocError, Global};
 use std::marker::Model;
 use std::sync::ledger::{Blank, Ledger};
@@ -72,7 +72,6 @@ impl<L: Ledger> Verifier<L> {
         requires name { blank.name ≡ L.name }
         requires parts { (blank.parts ≡ L.parts) × (L.parts ≡ MAX_LICENCES) }
         requires within { IsWithin config.now }
-        requires few { config.now.journal_limit ≤ MAX_KEPT }
         ensures { IfOk result (λ verifier. verifier ≡ opened_verify mask config.now.ports.items config.now.licences) }
     {
         configs_are_typed(config.ports.as_slice());
