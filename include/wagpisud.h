@@ -4,14 +4,21 @@
  * Who calls keeps these rules, which nothing checks:
  *   - A wp_chassis is all zeros before its first call (WP_CLOSED). Nobody but these functions writes to it, and while
  *     it is open no copy of it is used.
- *   - A chassis is used by one call at a time, and on the thread that opened it.
+ *   - A chassis is used by one call at a time, and on the thread that opened it. Threads may each have their own; from
+ *     Go its goroutine calls runtime.LockOSThread before wp_open.
  *   - No pointer is null, but that of an array of no elements. What a call writes overlaps nothing else that it is
  *     passed.
  *   - malloc, realloc and free are those of the C library. No call comes from a signal handler.
  *
  * All else is answered: a handle that is closed, opened twice or closed twice, a port or a unit that isn't there, any
  * thirteen octets, any number in a struct. Every function but wp_text returns a wp_status. Where that is not WP_DONE
- * the chassis is as it was, and nothing was written to what the caller passed. */
+ * the chassis is as it was, and nothing was written to what the caller passed.
+ *
+ * A shared library, for Python's ctypes and others that load one, is made of the two (KIT is the folder of `rt doc`'s
+ * page):
+ *
+ *     cc -shared -o libwagpisud.so -Wl,--whole-archive crates/gp_c/out/libgp_c.a \
+ *         -Wl,--no-whole-archive KIT/c/liblibc_c.a */
 #ifndef WAGPISUD_H
 #define WAGPISUD_H
 
@@ -27,7 +34,8 @@ enum wp_status {
     WP_DONE = 0,
     WP_NOT_OPEN = 1,     /* the handle is closed */
     WP_IS_OPEN = 2,      /* the handle is open already */
-    WP_LIMIT = 3,        /* a number of the configuration is outside its range, or a serial number is admitted twice */
+    WP_LIMIT = 3,        /* a number of the configuration is outside its range, or a serial number is admitted twice:
+                          * wp_open has the list */
     WP_NO_MEMORY = 4,    /* malloc or realloc refused memory */
     WP_NO_PORT = 5,      /* the chassis has no such port */
     WP_JOURNAL_FULL = 6, /* the port's journal keeps as many entries as it may: wp_cut makes room */
@@ -141,6 +149,25 @@ enum wp_alarm {
     WP_DG = 6
 };
 
+/* Which answers say that a unit was removed. Its ONU-ID, its Alloc-IDs and its licence are then free (the ONU-ID after
+ * its quarantine), and wp_show answers WP_NO_UNIT for it.
+ *
+ *     of       reply            alarm               which unit
+ *     a frame  WP_TICKED        WP_LOS, WP_LOAM,    alarm_serial
+ *                               WP_LOA or WP_SUF
+ *     a frame  WP_TICKED        WP_ALARM_NONE       the ranging unit whose second window ended with this frame, where
+ *                                                   nothing at all was heard in either: the answer doesn't tell it
+ *     a burst  WP_ALIVE         WP_LOA              alarm_serial
+ *     a burst  WP_RESTARTED     WP_ALARM_NONE       onu; its serial number stands in the burst
+ *     command  WP_DEACTIVATED   WP_ALARM_NONE       onu; that of the command
+ *     command  WP_DISABLED      WP_ALARM_NONE       that of the command, where it was active
+ *
+ * So each of the alarms 1 to 4 says so. What no answer tells is known by what follows: units of wp_count is one less,
+ * and after what was owed before, three frames send Deactivate_ONU-ID (is_sent, sent[1] is 5, sent[0] the ONU-ID), as
+ * after every removal but that of WP_DISABLED, which sends Disable_Serial_Number. Nothing else removes a unit: with
+ * WP_GASP and WP_DG it stays, WP_DF is of a unit that isn't active, and after WP_AGAIN and WP_POPPED_UP_ALL units are
+ * ranged anew. docs/MACHINE.md has the rules. */
+
 /* What an event gave. A number that its kind has no use for is 0. */
 typedef struct wp_answer {
     uint64_t number;         /* how many entries the port had before this one */
@@ -210,7 +237,7 @@ enum wp_turn_kind {
     WP_TURN_NOTHING = 0, /* an empty line or a remark */
     WP_TURN_EVENT = 1,   /* port, event */
     WP_TURN_FRAMES = 2,  /* port, count: so many frames */
-    WP_TURN_UNTIL = 3,   /* port, grant, grant_onu: frames up to the one that makes this grant */
+    WP_TURN_UNTIL = 3,   /* port, grant, grant_onu, count: frames up to the one that makes this grant, at most so many */
     WP_TURN_LIGHT = 4    /* unit, is_lit: the light of a simulated unit, which this library has none of */
 };
 
@@ -231,6 +258,12 @@ typedef struct wp_asked {
  * be left.
  * Takes all memory that ports ever need, but that of the journals.
  * Answers WP_IS_OPEN, WP_SERIALS, WP_LIMIT or WP_NO_MEMORY; the first that holds, but that memory may run out first.
+ *
+ * WP_LIMIT doesn't say what it is about. It is one of these, and nothing else: licences above 4064; a journal_limit
+ * of 0 or above 1,000,000; no port, or more than 16; of a port max_units of 0 or above 254, an alloc_last below 256 or
+ * above 4095, cycles of 0 or above 10, a search_period above 1,000,000, a quarantine above 8000, admitted above 512; or
+ * a serial number that is admitted twice, on one port or on two. `oltctl check` of a script with the same numbers names
+ * the first of them, with its table and key.
  *
  *     const wp_settings settings = { .licences = 1, .journal_limit = 4096 };
  *     const wp_serial serial = { { 'A', 'B', 'C', 'D', 0, 0, 0, 1 } };
@@ -337,8 +370,9 @@ uint32_t wp_cut(wp_chassis *chassis, uint8_t port);
 uint32_t wp_close(wp_chassis *chassis);
 
 /* Reads the turn that a line of text asks for, without its line feed: `PORT EVENT` with an event as a trace tells it,
- * `PORT frame COUNT`, `PORT until GRANT`, `unit I light` or `unit I dark`; docs/FORMATS.md has the grammar. Touches no
- * chassis. Answers the first fault from the left, WP_LINE_WORD to WP_LINE_LONG.
+ * `PORT frame COUNT`, `PORT until GRANT`, `PORT until GRANT within COUNT`, `unit I light` or `unit I dark`;
+ * docs/FORMATS.md has the grammar. Touches no chassis. Answers the first fault from the left, WP_LINE_WORD to
+ * WP_LINE_LONG.
  *
  *     wp_turn((const uint8_t *)"0 search", 8, &asked); */
 uint32_t wp_turn(const uint8_t *line, size_t length, wp_asked *asked);

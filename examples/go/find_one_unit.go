@@ -1,5 +1,8 @@
 // Finds one unit, ranges it, and prints its equalization delay, 211040: examples/c/find_one_unit.c from Go, by cgo.
 // tools/embed sets CGO_CFLAGS and CGO_LDFLAGS, and runs it.
+//
+// A chassis is used on the thread that opened it, and Go moves goroutines from thread to thread. So the goroutine that
+// has a chassis locks its thread before it opens it, and ends that when it has closed it.
 package main
 
 // #include "wagpisud.h"
@@ -9,6 +12,7 @@ import (
 	"encoding/hex"
 	"fmt"
 	"log"
+	"runtime"
 	"unsafe"
 )
 
@@ -34,6 +38,8 @@ func burst(digits string) C.uint8_t {
 }
 
 func main() {
+	runtime.LockOSThread()
+	defer runtime.UnlockOSThread()
 	settings := C.wp_settings{licences: 1, journal_limit: 4096}
 	serial := C.wp_serial{octets: [8]C.uint8_t{'A', 'B', 'C', 'D', 0, 0, 0, 1}}
 	port := C.wp_port{teqd: 311040, admitted: 1, alloc_last: 4095, max_units: 254, cycles: 1}

@@ -23,9 +23,14 @@ abbrev pub turn_numbers : Asked → TurnNumbers
 turn_numbers Nothing = nothing
 turn_numbers (Event port event) = record nothing { kind = 1; port = port; event = event_numbers event }
 turn_numbers (Frames port count) = record nothing { kind = 2; port = port; count = count }
-turn_numbers (Until port grant) =
-    record nothing
-    { kind = 3; port = port; grant = (grant_numbers (Some grant)).0; grant_onu = (grant_numbers (Some grant)).1 }
+turn_numbers (Until port grant most) =
+    record nothing {
+      kind = 3;
+      port = port;
+      count = most;
+      grant = (grant_numbers (Some grant)).0;
+      grant_onu = (grant_numbers (Some grant)).1;
+    }
 turn_numbers (Light unit lit) = record nothing { kind = 4; unit = unit; is_lit = flag lit }
 
 -- what is wrong with a line

@@ -14,7 +14,7 @@ use gp_lines::{Asked, LineFault, parse_turn};
 pub struct TurnNumbers {
     /// The event, of kind 1.
     pub event: EventNumbers,
-    /// How many frames, of kind 2.
+    /// How many frames, of kind 2; at most how many, of kind 3.
     pub count: u32,
     /// A simulated unit, of kind 4.
     pub unit: u16,
@@ -65,11 +65,12 @@ fn turn_numbers(asked: &Asked) -> TurnNumbers
             count,
             ..nothing()
         },
-        Asked::Until { port, grant } => {
+        Asked::Until { port, grant, most } => {
             let (grant, grant_onu) = grant_numbers(&Some(grant));
             TurnNumbers {
                 kind: 3,
                 port,
+                count: most,
                 grant,
                 grant_onu,
                 ..nothing()

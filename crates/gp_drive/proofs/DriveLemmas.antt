@@ -37,31 +37,32 @@ use Rattle.gp_replay.proofs.ScriptPlayLemmas.{StandsFor, play_ends}
 use Rattle.gp_drive.specs.declared.fault.DriveFault.{DriveFault}
 use Rattle.gp_drive.specs.declared.fault.DriveFault.TheVariants as drives
 use Rattle.gp_drive.specs.declared.driven.Driven.{Driven}
-use Rattle.gp_drive.specs.Drive.{DriveState, begun, driving, most_turns, never_over}
-use Rattle.gp_drive.specs.Outcome.{Drives, DrivesInput, DrivesScript, DrivesTo, IsNoScript, ServesTurns, longest_line, told}
-use Rattle.gp_drive.specs.Outcome.DrivesInput.{NotRead}
+use Rattle.gp_drive.specs.declared.manner.DriveManner.{DriveManner}
+use Rattle.gp_drive.specs.Drive.{DriveState, begun_in, driving, most_turns, never_over}
+use Rattle.gp_drive.specs.Outcome.{Drives, DrivesInputIn, DrivesScriptIn, DrivesTo, IsNoScript, ServesTurns, longest_line, told}
+use Rattle.gp_drive.specs.Outcome.DrivesInputIn.{NotRead}
 
 -- ---- the lines
 
 not_over : {P : Type 0} → false ≡ true → P
 not_over e = absurd (cc)
 
-pub turns_served : {S T W : Type 0} (playing : Playing S) (player : S) (mask : Mask) (end : LinesEnd) (first last : DriveState S) (driven : Driven)
-    (from to : SourceState T) (before after : SinkState W) → first ≡ begun player mask → driven ≡ record { lines = last.lines; errors = last.errors }
-    → ServesTo (driving playing) never_over longest_line end from to first last before after → ServesTurns playing player mask (Ok driven) from to before after
-turns_served playing player mask ends.Whole first last driven from to before after is counted s =
+pub turns_served : {S T W : Type 0} (manner : DriveManner) (playing : Playing S) (player : S) (mask : Mask) (end : LinesEnd) (first last : DriveState S) (driven : Driven)
+    (from to : SourceState T) (before after : SinkState W) → first ≡ begun_in manner player mask → driven ≡ record { lines = last.lines; errors = last.errors }
+    → ServesTo (driving playing) never_over longest_line end from to first last before after → ServesTurns manner playing player mask (Ok driven) from to before after
+turns_served manner playing player mask ends.Whole first last driven from to before after is counted s =
     (true, last, counted, subst (λ d. ServesTo (driving playing) never_over longest_line ends.Whole from to d last before after) is s)
-turns_served playing player mask ends.Open first last driven from to before after is counted s =
+turns_served manner playing player mask ends.Open first last driven from to before after is counted s =
     (false, last, counted, subst (λ d. ServesTo (driving playing) never_over longest_line ends.Open from to d last before after) is s)
-turns_served playing player mask ends.Over first last driven from to before after is counted s = not_over s.1
+turns_served manner playing player mask ends.Over first last driven from to before after is counted s = not_over s.1
 
-pub turns_unserved : {S T W : Type 0} (playing : Playing S) (player : S) (mask : Mask) (fault : LinesFault) (first last : DriveState S)
-    (from to : SourceState T) (before after : SinkState W) → first ≡ begun player mask
-    → Serves (driving playing) never_over longest_line from to first last before after (Err fault) → ServesTurns playing player mask (Err fault) from to before after
-turns_unserved playing player mask lines.Read first last from to before after is s =
+pub turns_unserved : {S T W : Type 0} (manner : DriveManner) (playing : Playing S) (player : S) (mask : Mask) (fault : LinesFault) (first last : DriveState S)
+    (from to : SourceState T) (before after : SinkState W) → first ≡ begun_in manner player mask
+    → Serves (driving playing) never_over longest_line from to first last before after (Err fault) → ServesTurns manner playing player mask (Err fault) from to before after
+turns_unserved manner playing player mask lines.Read first last from to before after is s =
     let t = subst (λ d. Serves (driving playing) never_over longest_line from to d last before after (Err lines.Read)) is s in
     ((last, t.read refl), t.failed refl)
-turns_unserved playing player mask (lines.Line fault) first last from to before after is s =
+turns_unserved manner playing player mask (lines.Line fault) first last from to before after is s =
     let t = subst (λ d. Serves (driving playing) never_over longest_line from to d last before after (Err (lines.Line fault))) is s in
     t.fault fault refl
 
@@ -94,10 +95,10 @@ joined_left unanswered.Write x y z text said t a = joined_prefix x y z text said
 joined_left unanswered.OutOfMemory x y z text said t a = joined_all x y z text said t a
 joined_left unanswered.Full x y z text said t a = joined_all x y z text said t a
 
-pub drives_to : {S T W : Type 0} (playing : Playing S) (start mid : S) (mask : Mask) (events : List ScriptEvent) (answer : Result Driven LinesFault)
-    (from to : SourceState T) (x y z : SinkState W) → Writes mask (PlaysAll playing events) start mid x y → ServesTurns playing mid mask answer from to y z
-    → DrivesTo playing start mask events answer from to x z
-drives_to playing start mid mask events (Ok driven) from to x y z w s =
+pub drives_to : {S T W : Type 0} (manner : DriveManner) (playing : Playing S) (start mid : S) (mask : Mask) (events : List ScriptEvent) (answer : Result Driven LinesFault)
+    (from to : SourceState T) (x y z : SinkState W) → Writes mask (PlaysAll playing events) start mid x y → ServesTurns manner playing mid mask answer from to y z
+    → DrivesTo manner playing start mask events answer from to x z
+drives_to manner playing start mid mask events (Ok driven) from to x y z w s =
     let all = s.3 in
     record {
       receipts = w.receipts;
@@ -112,7 +113,7 @@ drives_to playing start mid mask events (Ok driven) from to x y z w s =
       written = joined x y z (trace_text mask w.receipts) all.said w.lines all.written;
       kept = all.kept;
     }
-drives_to playing start mid mask events (Err lines.Read) from to x y z w s =
+drives_to manner playing start mid mask events (Err lines.Read) from to x y z w s =
     let ended = s.0.1 in (
       record {
         receipts = w.receipts;
@@ -128,7 +129,7 @@ drives_to playing start mid mask events (Err lines.Read) from to x y z w s =
       },
       s.1,
     )
-drives_to playing start mid mask events (Err (lines.Line fault)) from to x y z w s = record {
+drives_to manner playing start mid mask events (Err (lines.Line fault)) from to x y z w s = record {
   receipts = w.receipts;
   mid = mid;
   opened = w.happened;
@@ -167,29 +168,29 @@ unplayed_as : {W T : Type 0} (script : ScriptView) (from : SourceState T) (x z :
 unplayed_as script from x z fault answer is p =
     let q = subst (λ (a : Result (Unit {0}) PlayFault). PlaysScript script x z a) is p in q.fault
 
-pub events_unplayed : {S W U : Type 0} (script : ScriptView) (T P : Happening S) (start b : S) (from : SourceState U) (x y z : SinkState W) (fault : PlayFault)
+pub events_unplayed : {S W U : Type 0} (manner : DriveManner) (script : ScriptView) (T P : Happening S) (start b : S) (from : SourceState U) (x y z : SinkState W) (fault : PlayFault)
     (answer : Result (Unit {0}) PlayFault) → StandsFor script start T P → PlaysOn {T = Unit {0}} script.mask T P start b x y (Err fault) → EndsPlay y z (Err fault) answer
-    → DrivesScript (Err (drives.Script (fault_of_play fault))) from from x z script
-events_unplayed script T P start b from x y z faults.OutOfMemory answer stands p e =
+    → DrivesScriptIn manner (Err (drives.Script (fault_of_play fault))) from from x z script
+events_unplayed manner script T P start b from x y z faults.OutOfMemory answer stands p e =
     (refl, unplayed_as script from x z faults.OutOfMemory answer e.0 (play_ends script T P start b x y z (Err faults.OutOfMemory) answer stands p e))
-events_unplayed script T P start b from x y z faults.Write answer stands p e =
+events_unplayed manner script T P start b from x y z faults.Write answer stands p e =
     (refl, unplayed_as script from x z faults.Write answer e.0 (play_ends script T P start b x y z (Err faults.Write) answer stands p e))
 
-pub told_unplayed : {W U : Type 0} (script : ScriptView) (from : SourceState U) (x z : SinkState W) (fault : PlayFault) (result : DriveFault)
-    → result ≡ drives.Script (fault_of_play fault) → DrivesScript (Err (drives.Script (fault_of_play fault))) from from x z script → DrivesScript (Err result) from from x z script
-told_unplayed script from x z fault result is d = subst (λ (f : DriveFault). DrivesScript (Err f) from from x z script) (sym is) d
+pub told_unplayed : {W U : Type 0} (manner : DriveManner) (script : ScriptView) (from : SourceState U) (x z : SinkState W) (fault : PlayFault) (result : DriveFault)
+    → result ≡ drives.Script (fault_of_play fault) → DrivesScriptIn manner (Err (drives.Script (fault_of_play fault))) from from x z script → DrivesScriptIn manner (Err result) from from x z script
+told_unplayed manner script from x z fault result is d = subst (λ (f : DriveFault). DrivesScriptIn manner (Err f) from from x z script) (sym is) d
 
-pub drives_told : {W U : Type 0} (script : ScriptView) (answer : Result Driven LinesFault) (from to : SourceState U) (x z : SinkState W)
-    → Drives script answer from to x z → DrivesScript (told answer) from to x z script
-drives_told script (Ok driven) from to x z d = d
-drives_told script (Err fault) from to x z d = d
+pub drives_told : {W U : Type 0} (manner : DriveManner) (script : ScriptView) (answer : Result Driven LinesFault) (from to : SourceState U) (x z : SinkState W)
+    → Drives manner script answer from to x z → DrivesScriptIn manner (told answer) from to x z script
+drives_told manner script (Ok driven) from to x z d = d
+drives_told manner script (Err fault) from to x z d = d
 
 -- ---- a script that was not read
 
-pub not_read : {R U W : Type 0} (answer : Result Driven DriveFault) (fault : RunFault) (before after : SourceState R) (from : SourceState U) (x : SinkState W)
-    → IsErrAnd answer (λ told. told ≡ drives.Script fault) → IsNoScript before after fault → DrivesInput answer before after from from x x
-not_read (Ok driven) fault before after from x same no_script = absurd same
-not_read (Err told) fault before after from x same no_script = NotRead fault (ap Err same) no_script refl refl
+pub not_read : {R U W : Type 0} (manner : DriveManner) (answer : Result Driven DriveFault) (fault : RunFault) (before after : SourceState R) (from : SourceState U) (x : SinkState W)
+    → IsErrAnd answer (λ told. told ≡ drives.Script fault) → IsNoScript before after fault → DrivesInputIn manner answer before after from from x x
+not_read manner (Ok driven) fault before after from x same no_script = absurd same
+not_read manner (Err told) fault before after from x same no_script = NotRead fault (ap Err same) no_script refl refl
 
 pub source_unread : {R : Type 0} (before after : SourceState R) (fault : SourceFault) → ReadsAll before after (Err fault) → IsNoScript before after (fault_of_source fault)
 source_unread before after sources.Read q = q.read refl

@@ -1,5 +1,5 @@
 -- What a whole drive comes to.
-use Rattle.std.proofs.Common.{◌≡◌, ◌<◌, ℕ, List, [], ◌∷◌, ◌++◌, Result, Ok, Err, Option, None, Some, length, replicate, refl, sym, ap, subst, ◌∙◌, append_assoc}
+use Rattle.std.proofs.Common.{◌≡◌, ◌<◌, ◌+◌, ℕ, Bool, true, false, List, [], ◌∷◌, ◌++◌, Result, Ok, Err, Option, None, Some, length, replicate, refl, sym, ap, subst, ◌∙◌, append_assoc}
 use Rattle.std.proofs.lemmas.List.{append-nil}
 use Rattle.std.specs.List.{flat_map}
 use Rattle.gp_ploam.specs.declared.check.Mask.{Mask}
@@ -24,11 +24,10 @@ use Rattle.gp_replay.proofs.PlayingLemmas.{all_append, all_one, chassis_all, fib
 use Rattle.gp_replay.proofs.ScriptPlayLemmas.{chassis_stands}
 use Rattle.gp_replay.proofs.WorldPlayLemmas.{world_stands}
 use Rattle.gp_drive.specs.declared.fault.TurnFault.{TurnFault}
-use Rattle.gp_drive.specs.Drive.{AnswersAsked, AnswersTurn, DriveState, Plays, Refuses, Says, begun, driving}
+use Rattle.gp_drive.specs.Drive.{AnswersAsked, AnswersTurn, DriveState, Plays, Refuses, Says, begun_in, done_if, done_line, driving, ending, error_line}
 use Rattle.gp_drive.specs.Outcome.{OpensFibre}
-use Rattle.gp_drive.specs.Runs.{ChassisDrivesRun, ComesTo, FibreDrivesRun, LineAnswer, Entries, ErrorLine, answer_text, answers_text, entries_in, entries_of, followed_by}
-use Rattle.gp_drive.specs.Turns.{FramesPlayed, Made, NotMade, PlaysTurn, PlaysUntil, all_of, event_of}
-use Rattle.gp_lines.specs.Turn.{most_frames}
+use Rattle.gp_drive.specs.Runs.{ChassisDrivesRun, ComesTo, FibreDrivesRun, LineAnswer, Entries, ErrorLine, DoneLine, answer_text, answers_text, entries_in, entries_of, followed_by}
+use Rattle.gp_drive.specs.Turns.{FramesPlayed, PlaysInVain, PlaysTo, PlaysTurn, PlaysUntil, PlaysWithout, all_of, event_of}
 use Rattle.gp_ranging.specs.declared.grant.Grant.{Grant}
 
 -- ---- what a line asks for, as events
@@ -45,12 +44,15 @@ frames_play playing port old new (first ∷ frames) h =
     let rest = frames_play playing port h.0 new frames h.2 in
     record { more = events.Frames port 1 ∷ rest.more; played = (h.0, first, all_of frames, h.1, rest.played, refl) }
 
-until_plays : {S : Type 0} (playing : Playing S) (port : ℕ) (grant : Grant) (old new : S) (receipts : List Receipt)
-    → PlaysUntil playing port grant most_frames old receipts new → SomePlay playing old receipts new
-until_plays playing port grant old new receipts (Made before last played never made few is) =
-    subst (λ (l : List Receipt). SomePlay playing old l new) (sym is) (frames_play playing port old new (before ++ last ∷ []) played)
-until_plays playing port grant old new receipts (NotMade frames played never count is) =
-    subst (λ (l : List Receipt). SomePlay playing old l new) (sym is) (frames_play playing port old new frames played)
+until_plays : {S : Type 0} (playing : Playing S) (port : ℕ) (grant : Grant) (most : ℕ) (old new : S) (receipts : List Receipt)
+    → PlaysUntil playing port grant most old receipts new → SomePlay playing old receipts new
+until_plays playing port grant most old new receipts h =
+    subst (λ (l : List Receipt). SomePlay playing old l new) (sym h.receipts_are) (frames_play playing port old new (h.before ++ h.last ∷ []) h.played)
+
+vain_plays : {S : Type 0} (playing : Playing S) (port : ℕ) (grant : Grant) (most : ℕ) (old new : S) (receipts : List Receipt)
+    → PlaysInVain playing port grant most old receipts new → SomePlay playing old receipts new
+vain_plays playing port grant most old new receipts h =
+    subst (λ (l : List Receipt). SomePlay playing old l new) (sym h.receipts_are) (frames_play playing port old new h.frames h.played)
 
 one_plays : {S : Type 0} (playing : Playing S) (event : ScriptEvent) (old new : S) (receipts : List Receipt) → playing.whole event old receipts new
     → SomePlay playing old receipts new
@@ -61,40 +63,94 @@ turn_plays : {S : Type 0} (playing : Playing S) (turn : Asked) (old new : S) (re
 turn_plays playing asked.Nothing old new receipts h = record { more = []; played = h }
 turn_plays playing (asked.Event port event) old new receipts h = one_plays playing (event_of port event) old new receipts h
 turn_plays playing (asked.Frames port count) old new receipts h = one_plays playing (events.Frames port count) old new receipts h
-turn_plays playing (asked.Until port grant) old new receipts h = until_plays playing port grant old new receipts h
+turn_plays playing (asked.Until port grant most) old new receipts h = until_plays playing port grant most old new receipts h
 turn_plays playing (asked.Light unit lit) old new receipts h = one_plays playing (events.Light unit lit) old new receipts h
+
+without_plays : {S : Type 0} (playing : Playing S) (turn : Asked) (old new : S) (receipts : List Receipt) → PlaysWithout playing turn old receipts new
+    → SomePlay playing old receipts new
+without_plays playing asked.Nothing old new receipts h = absurd h
+without_plays playing (asked.Event port event) old new receipts h = absurd h
+without_plays playing (asked.Frames port count) old new receipts h = absurd h
+without_plays playing (asked.Until port grant most) old new receipts h = vain_plays playing port grant most old new receipts h
+without_plays playing (asked.Light unit lit) old new receipts h = absurd h
+
+told_plays : {S : Type 0} (playing : Playing S) (turn : Asked) (fault : Option TurnFault) (old new : S) (receipts : List Receipt) → PlaysTo playing turn fault old receipts new
+    → SomePlay playing old receipts new
+told_plays playing turn None old new receipts h = turn_plays playing turn old new receipts h
+told_plays playing turn (Some fault) old new receipts h = without_plays playing turn old new receipts h.1
+
+-- ---- parts of answers
+
+answers_joined : (mask : Mask) (xs ys : List LineAnswer) → answers_text mask (xs ++ ys) ≡ answers_text mask xs ++ answers_text mask ys
+answers_joined mask [] ys = refl
+answers_joined mask (x ∷ xs) ys =
+    ap (λ (l : List ℕ). answer_text mask x ++ l) (answers_joined mask xs ys) ∙ sym (append_assoc (answer_text mask x) (answers_text mask xs) (answers_text mask ys))
+
+entries_joined : (xs ys : List LineAnswer) → entries_of (xs ++ ys) ≡ entries_of xs ++ entries_of ys
+entries_joined [] ys = refl
+entries_joined (x ∷ xs) ys =
+    ap (λ (l : List Receipt). entries_in x ++ l) (entries_joined xs ys) ∙ sym (append_assoc (entries_in x) (entries_of xs) (entries_of ys))
+
+-- what ends an answer
+abbrev done_parts : Bool → ℕ → List LineAnswer
+done_parts false line = []
+done_parts true line = DoneLine line ∷ []
+
+abbrev ending_parts : Bool → ℕ → Option TurnFault → List LineAnswer
+ending_parts done line None = done_parts done line
+ending_parts done line (Some fault) = ErrorLine (error_line line fault) ∷ done_parts done line
+
+done_text : (mask : Mask) (done : Bool) (line : ℕ) → done_if done line ≡ answers_text mask (done_parts done line)
+done_text mask false line = refl
+done_text mask true line = sym (append-nil (done_line line))
+
+ending_text : (mask : Mask) (done : Bool) (line : ℕ) (fault : Option TurnFault) → ending done line fault ≡ answers_text mask (ending_parts done line fault)
+ending_text mask done line None = done_text mask done line
+ending_text mask done line (Some fault) = ap (λ (l : List ℕ). error_line line fault ++ l) (done_text mask done line)
+
+done_entries : (done : Bool) (line : ℕ) → entries_of (done_parts done line) ≡ []
+done_entries false line = refl
+done_entries true line = refl
+
+ending_entries : (done : Bool) (line : ℕ) (fault : Option TurnFault) → entries_of (ending_parts done line fault) ≡ []
+ending_entries done line None = done_entries done line
+ending_entries done line (Some fault) = done_entries done line
 
 -- ---- the answer to a line
 
--- the answer is of entries that some events make, or an error that changes nothing of the player
+-- the answer is of entries that some events make, and errors that change nothing of the player
 record IsAnswered {S : Type 0} (playing : Playing S) (old : DriveState S) (said : List ℕ) (new : DriveState S) : Type 0 where
-  answer : LineAnswer
-  said_is : said ≡ answer_text old.mask answer
+  answers : List LineAnswer
+  said_is : said ≡ answers_text old.mask answers
   mask : new.mask ≡ old.mask
-  plays : SomePlay playing old.player (entries_in answer) new.player
+  plays : SomePlay playing old.player (entries_of answers) new.player
 
 refused : {S : Type 0} (playing : Playing S) (fault : TurnFault) (old : DriveState S) (said : List ℕ) (new : DriveState S) → Refuses fault old said new
     → IsAnswered playing old said new
 refused playing fault old said new h = record {
-  answer = ErrorLine said;
-  said_is = refl;
+  answers = ending_parts old.done (old.lines + 1) (Some fault);
+  said_is = h.said_is ∙ ending_text old.mask old.done (old.lines + 1) (Some fault);
   mask = ap (λ (d : DriveState _). d.mask) h.new_is;
-  plays = record { more = []; played = (ap (λ (d : DriveState _). d.player) h.new_is, refl) };
+  plays = record { more = []; played = (ap (λ (d : DriveState _). d.player) h.new_is, ending_entries old.done (old.lines + 1) (Some fault)) };
 }
 
-played : {S : Type 0} (playing : Playing S) (turn : Asked) (old : DriveState S) (said : List ℕ) (new : DriveState S) → Plays playing turn old said new
+played : {S : Type 0} (playing : Playing S) (turn : Asked) (fault : Option TurnFault) (old : DriveState S) (said : List ℕ) (new : DriveState S) → Plays playing turn fault old said new
     → IsAnswered playing old said new
-played playing turn old said new h = record {
-  answer = Entries h.receipts;
-  said_is = h.said_is;
-  mask = h.mask;
-  plays = turn_plays playing turn old.player new.player h.receipts h.played;
-}
+played playing turn fault old said new h =
+    let parts = ending_parts old.done (old.lines + 1) fault in
+    let all : h.receipts ≡ h.receipts ++ entries_of parts =
+    sym (append-nil h.receipts) ∙ ap (λ (l : List Receipt). h.receipts ++ l) (sym (ending_entries old.done (old.lines + 1) fault)) in
+    record {
+      answers = Entries h.receipts ∷ parts;
+      said_is = h.said_is ∙ ap (λ (l : List ℕ). trace_text old.mask h.receipts ++ l) (ending_text old.mask old.done (old.lines + 1) fault);
+      mask = h.mask;
+      plays = subst (λ (l : List Receipt). SomePlay playing old.player l new.player) all (told_plays playing turn fault old.player new.player h.receipts h.played);
+    }
 
 asked_answered : {S : Type 0} (playing : Playing S) (turn : Asked) (missing : Option TurnFault) (old : DriveState S) (said : List ℕ) (new : DriveState S)
     → AnswersAsked playing turn missing old said new → IsAnswered playing old said new
 asked_answered playing turn (Some fault) old said new h = refused playing fault old said new h
-asked_answered playing turn None old said new h = played playing turn old said new h
+asked_answered playing turn None old said new h = played playing turn h.0 old said new h.1
 
 turn_answered : {S : Type 0} (playing : Playing S) (read : Result Asked LineFault) (old : DriveState S) (said : List ℕ) (new : DriveState S)
     → AnswersTurn playing read old said new → IsAnswered playing old said new
@@ -125,20 +181,21 @@ lines_answered playing (line ∷ lines) old said new h =
     let rest = lines_answered playing lines h.2 h.1 new h.4 in
     let others : h.1 ≡ answers_text old.mask rest.answers = rest.said_is ∙ ap (λ (m : Mask). answers_text m rest.answers) one.mask in
     record {
-      answers = one.answer ∷ rest.answers;
-      said_is = h.5 ∙ ap (λ (l : List ℕ). l ++ h.1) one.said_is ∙ ap (λ (l : List ℕ). answer_text old.mask one.answer ++ l) others;
-      plays = record {
+      answers = one.answers ++ rest.answers;
+      said_is = h.5 ∙ ap (λ (l : List ℕ). l ++ h.1) one.said_is ∙ ap (λ (l : List ℕ). answers_text old.mask one.answers ++ l) others
+          ∙ sym (answers_joined old.mask one.answers rest.answers);
+      plays = subst (λ (l : List Receipt). SomePlay playing old.player l new.player) (sym (entries_joined one.answers rest.answers)) (record {
         more = one.plays.more ++ rest.plays.more;
-        played = all_append playing one.plays.more rest.plays.more old.player h.2.player new.player (entries_in one.answer) (entries_of rest.answers)
+        played = all_append playing one.plays.more rest.plays.more old.player h.2.player new.player (entries_of one.answers) (entries_of rest.answers)
             one.plays.played rest.plays.played;
-      };
+      });
     }
 
 -- ---- whole drives
 
 pub chassis_drives : EachPortRuns → ChassisDrivesRun
-chassis_drives runs script receipts mid lines said end none opened spoken =
-    let lines = lines_answered chassis_playing lines (begun mid script.mask) said end spoken in
+chassis_drives runs manner script receipts mid lines said end none opened spoken =
+    let lines = lines_answered chassis_playing lines (begun_in manner mid script.mask) said end spoken in
     let more = lines.plays.more in
     let whole = followed_by script more in
     let all = receipts ++ entries_of lines.answers in
@@ -148,8 +205,8 @@ chassis_drives runs script receipts mid lines said end none opened spoken =
     record { more = more; answers = lines.answers; said_is = lines.said_is; plays = stands.0; runs = stands.1 }
 
 pub fibre_drives : FibreDrivesRun
-fibre_drives script start receipts mid lines said end some opens opened spoken =
-    let lines = lines_answered fibre_playing lines (begun mid script.mask) said end spoken in
+fibre_drives manner script start receipts mid lines said end some opens opened spoken =
+    let lines = lines_answered fibre_playing lines (begun_in manner mid script.mask) said end spoken in
     let more = lines.plays.more in
     let whole = followed_by script more in
     let all = receipts ++ entries_of lines.answers in

@@ -1,5 +1,5 @@
 -- What is said to lines that ask for something (this profile's own rule).
-use Rattle.std.specs.Prelude.{◌≡◌, ◌+◌, ℕ, Bool, false, List, ◌++◌, Option, None, Some, Result, Ok, Err, codes, decimal}
+use Rattle.std.specs.Prelude.{◌≡◌, ◌+◌, ℕ, Bool, false, true, List, [], ◌++◌, Option, None, Some, Result, Ok, Err, codes, decimal}
 use Rattle.gp_ploam.specs.declared.check.Mask.{Mask}
 use Rattle.gp_machine.specs.declared.entry.Receipt.{Receipt}
 use Rattle.gp_flow.specs.declared.fault.LineFault as unanswered
@@ -14,14 +14,16 @@ use Rattle.gp_lines.specs.declared.turn.Asked.{Asked}
 use Rattle.gp_lines.specs.TurnReading.{turn_of}
 use Rattle.gp_replay.specs.Playing.{Playing}
 use Rattle.gp_drive.specs.declared.fault.TurnFault.{TurnFault}
-use Rattle.gp_drive.specs.declared.fault.TurnFault.TheVariants.{NoTurn, NoPort, NoUnit}
-use Rattle.gp_drive.specs.Turns.{PlaysTurn, PlaysTurnPart, cost_of, missing_in}
+use Rattle.gp_drive.specs.declared.fault.TurnFault.TheVariants.{NoTurn, NoPort, NoUnit, Never}
+use Rattle.gp_drive.specs.declared.manner.DriveManner.{DriveManner}
+use Rattle.gp_drive.specs.Turns.{PlaysTo, PlaysTurnPart, cost_of, missing_in}
 
--- where a drive stands: its player, the mask of the codes, how many lines were answered, how many of them by an error,
--- and for how many more frames and other events there is room
+-- where a drive stands: its player, the mask of the codes, whether it tells that a line is done, how many lines were
+-- answered, how many of them by an error, and for how many more frames and other events there is room
 pub record DriveState (S : Type 0) : Type 0 where
   pub player : S
   pub mask : Mask
+  pub done : Bool
   pub lines : ℕ
   pub errors : ℕ
   pub left : ℕ
@@ -44,33 +46,63 @@ fault_word (NoTurn lines.Range) = codes "range"
 fault_word (NoTurn lines.Long) = codes "long"
 fault_word NoPort = codes "port"
 fault_word NoUnit = codes "unit"
+fault_word Never = codes "never"
 
--- what is said to the line with this number, counted from 1, where it is no turn
+-- what is said to the line with this number, counted from 1, where there is something wrong with it
 abbrev pub error_line : ℕ → TurnFault → List ℕ
-error_line line fault = codes "error " ++ decimal line ++ codes " " ++ fault_word fault ++ codes "\n"
+error_line line fault = codes "error " ++ decimal line ++ (codes " " ++ fault_word fault ++ codes "\n")
+
+-- by what there is wrong with it
+abbrev pub error_if : ℕ → Option TurnFault → List ℕ
+error_if line None = []
+error_if line (Some fault) = error_line line fault
+
+-- that the line with this number is done
+abbrev pub done_line : ℕ → List ℕ
+done_line line = codes "done " ++ decimal line ++ codes "\n"
+
+-- if that is told
+abbrev pub done_if : Bool → ℕ → List ℕ
+done_if false line = []
+done_if true line = done_line line
+
+-- what ends the answer to the line with this number: an error where there is one, and then, if it is told, that the line
+-- is done
+abbrev pub ending : Bool → ℕ → Option TurnFault → List ℕ
+ending done line fault = error_if line fault ++ done_if done line
+
+-- how many errors that is
+abbrev pub errors_of : Option TurnFault → ℕ
+errors_of None = 0
+errors_of (Some fault) = 1
 
 -- the line is answered by an error, and nothing is played
 pub record Refuses {S : Type 0} (fault : TurnFault) (old : DriveState S) (said : List ℕ) (new : DriveState S)
     : Type 0 where
-  pub said_is : said ≡ error_line (old.lines + 1) fault
+  pub said_is : said ≡ ending old.done (old.lines + 1) (Some fault)
   pub new_is : new ≡ record old { lines = old.lines + 1; errors = old.errors + 1 }
 
--- what the line asks for is played, and the lines of its entries are the answer
-pub record Plays {S : Type 0} (playing : Playing S) (turn : Asked) (old : DriveState S) (said : List ℕ)
-    (new : DriveState S) : Type 0 where
+-- what the line asks for is played, and the lines of its entries are the answer; behind them an error where the grant
+-- that was asked for is made in none of its frames
+pub record Plays {S : Type 0} (playing : Playing S) (turn : Asked) (fault : Option TurnFault) (old : DriveState S)
+    (said : List ℕ) (new : DriveState S) : Type 0 where
   pub receipts : List Receipt
-  pub played : PlaysTurn playing turn old.player receipts new.player
-  pub said_is : said ≡ trace_text old.mask receipts
+  pub played : PlaysTo playing turn fault old.player receipts new.player
+  pub said_is : said ≡ trace_text old.mask receipts ++ ending old.done (old.lines + 1) fault
   pub mask : new.mask ≡ old.mask
+  pub done : new.done ≡ old.done
   pub lines : new.lines ≡ old.lines + 1
-  pub errors : new.errors ≡ old.errors
+  pub errors : new.errors ≡ old.errors + errors_of fault
   pub left : new.left + cost_of turn ≡ old.left
+
+abbrev pub PlaysAsked : {S : Type 0} → Playing S → Asked → DriveState S → List ℕ → DriveState S → Type 0
+PlaysAsked playing turn old said new = (fault : Option TurnFault) × Plays playing turn fault old said new
 
 -- by what it asks for that is not there
 abbrev pub AnswersAsked : {S : Type 0} → Playing S → Asked → Option TurnFault → DriveState S → List ℕ → DriveState S
     → Type 0
 AnswersAsked playing turn (Some fault) old said new = Refuses fault old said new
-AnswersAsked playing turn None old said new = Plays playing turn old said new
+AnswersAsked playing turn None old said new = PlaysAsked playing turn old said new
 
 -- by what is read from it
 abbrev pub AnswersTurn : {S : Type 0} → Playing S → Result Asked LineFault → DriveState S → List ℕ → DriveState S
@@ -106,7 +138,7 @@ refusing fault = WholeLines (λ old line said new. Refuses fault old said new)
 -- what was read from a line is played
 abbrev pub playing_of : {S : Type 0} → Playing S → Asked → Speech (DriveState S)
 playing_of playing turn = record {
-  says = λ old line said new. Plays playing turn old said new;
+  says = λ old line said new. PlaysAsked playing turn old said new;
   begins = λ old line said new. PlaysPart playing turn old said new;
 }
 
@@ -127,9 +159,18 @@ driving playing = record { says = Says playing; begins = SaysPart playing }
 abbrev pub never_over : {S : Type 0} → DriveState S → Bool
 never_over state = false
 
--- before the first line
+-- before the first line, in this manner
+abbrev pub begun_in : {S : Type 0} → DriveManner → S → Mask → DriveState S
+begun_in manner player mask =
+    record { player = player; mask = mask; done = manner.done; lines = 0; errors = 0; left = most_turns }
+
+-- answers end without telling so
+abbrev pub untold : DriveManner
+untold = record { done = false }
+
+-- before the first line, where it isn't told that lines are done
 abbrev pub begun : {S : Type 0} → S → Mask → DriveState S
-begun player mask = record { player = player; mask = mask; lines = 0; errors = 0; left = most_turns }
+begun player mask = begun_in untold player mask
 
 -- why a line was not answered, where a turn was not played
 abbrev pub line_fault : PlayFault → unanswered.LineFault

@@ -24,14 +24,15 @@ use Rattle.gp_replay.specs.Writing.{LeavesScript}
 use Rattle.gp_drive.specs.declared.fault.DriveFault.{DriveFault}
 use Rattle.gp_drive.specs.declared.fault.DriveFault.TheVariants as drives
 use Rattle.gp_drive.specs.declared.driven.Driven.{Driven}
-use Rattle.gp_drive.specs.Drive.{DriveState, begun, driving}
+use Rattle.gp_drive.specs.declared.manner.DriveManner.{DriveManner}
+use Rattle.gp_drive.specs.Drive.{DriveState, begun_in, driving, untold}
 
 -- the most octets of a line that is looked at
 abbrev pub longest_line : ℕ
 longest_line = 4096
 
 -- the events were played; then the whole input was read, and each of its lines was answered
-pub record DrivesAll {S T W : Type 0} (playing : Playing S) (start : S) (mask : Mask) (events : List ScriptEvent)
+pub record DrivesAll {S T W : Type 0} (manner : DriveManner) (playing : Playing S) (start : S) (mask : Mask) (events : List ScriptEvent)
     (driven : Driven) (from to : SourceState T) (before after : SinkState W) : Type 0 where
   -- the entries of the events
   pub receipts : List Receipt
@@ -43,14 +44,14 @@ pub record DrivesAll {S T W : Type 0} (playing : Playing S) (start : S) (mask : 
   -- what is said to its lines
   pub said : List ℕ
   pub end : DriveState S
-  pub spoken : DoesAll (driving playing) (begun mid mask) (map (handed longest_line) (lines_of bytes)) said end
+  pub spoken : DoesAll (driving playing) (begun_in manner mid mask) (map (handed longest_line) (lines_of bytes)) said end
   pub counted : driven ≡ record { lines = end.lines; errors = end.errors }
   -- the writer got all of it, and keeps nothing back
   pub written : Appends before.held after.held (before.gathered ++ trace_text mask receipts ++ said)
   pub kept : KeepsNothing after
 
 -- the events were played; then a read failed, and each line was answered that a line feed ended before
-pub record DrivesEnded {S T W : Type 0} (playing : Playing S) (start : S) (mask : Mask) (events : List ScriptEvent)
+pub record DrivesEnded {S T W : Type 0} (manner : DriveManner) (playing : Playing S) (start : S) (mask : Mask) (events : List ScriptEvent)
     (from to : SourceState T) (before after : SinkState W) : Type 0 where
   pub receipts : List Receipt
   pub mid : S
@@ -59,14 +60,14 @@ pub record DrivesEnded {S T W : Type 0} (playing : Playing S) (start : S) (mask 
   pub read : Consumes from.remaining to.remaining bytes
   pub said : List ℕ
   pub end : DriveState S
-  pub spoken : DoesAll (driving playing) (begun mid mask) (map (handed longest_line) (ended_lines bytes)) said end
+  pub spoken : DoesAll (driving playing) (begun_in manner mid mask) (map (handed longest_line) (ended_lines bytes)) said end
   -- the writer got all of it, and keeps nothing back
   pub written : Appends before.held after.held (before.gathered ++ trace_text mask receipts ++ said)
   pub kept : KeepsNothing after
 
 -- the events were played; then the first of the lines that came were answered, the last of these maybe in part, when
 -- this fault came
-pub record DrivesSome {S T W : Type 0} (playing : Playing S) (start : S) (mask : Mask) (events : List ScriptEvent)
+pub record DrivesSome {S T W : Type 0} (manner : DriveManner) (playing : Playing S) (start : S) (mask : Mask) (events : List ScriptEvent)
     (fault : LineFault) (from to : SourceState T) (before after : SinkState W) : Type 0 where
   pub receipts : List Receipt
   pub mid : S
@@ -78,32 +79,32 @@ pub record DrivesSome {S T W : Type 0} (playing : Playing S) (start : S) (mask :
   pub others : List (Option (List ℕ))
   pub all : first ++ others ≡ map (handed longest_line) (lines_of bytes)
   pub said : List ℕ
-  pub spoken : DoesSome (driving playing) (begun mid mask) first said
+  pub spoken : DoesSome (driving playing) (begun_in manner mid mask) first said
   -- the writer got all of it, unless a write failed, and else a prefix
   pub written : Leaves fault before after (trace_text mask receipts ++ said)
 
 -- the lines of an input were answered on a player, by the answer
-abbrev pub ServesTurns : {S T W : Type 0} → Playing S → S → Mask → Result Driven LinesFault
+abbrev pub ServesTurns : {S T W : Type 0} → DriveManner → Playing S → S → Mask → Result Driven LinesFault
     → SourceState T → SourceState T → SinkState W → SinkState W → Type 0
-ServesTurns playing player mask (Ok driven) from to before after =
+ServesTurns manner playing player mask (Ok driven) from to before after =
     (whole : Bool) × (end : DriveState _) × (driven ≡ record { lines = end.lines; errors = end.errors })
-    × ServesAll (driving playing) longest_line whole from to (begun player mask) end before after
-ServesTurns playing player mask (Err lines.Read) from to before after =
-    ((end : DriveState _) × ServesEnded (driving playing) longest_line from to (begun player mask) end before after)
+    × ServesAll (driving playing) longest_line whole from to (begun_in manner player mask) end before after
+ServesTurns manner playing player mask (Err lines.Read) from to before after =
+    ((end : DriveState _) × ServesEnded (driving playing) longest_line from to (begun_in manner player mask) end before after)
     × ((to.failed ≡ true) ⊎ (to.left ≡ 0))
-ServesTurns playing player mask (Err (lines.Line fault)) from to before after =
-    ServesSome (Leaves fault) (driving playing) longest_line from to (begun player mask) before after
+ServesTurns manner playing player mask (Err (lines.Line fault)) from to before after =
+    ServesSome (Leaves fault) (driving playing) longest_line from to (begun_in manner player mask) before after
 
 -- how the lines ended, by the answer
-abbrev pub DrivesTo : {S T W : Type 0} → Playing S → S → Mask → List ScriptEvent → Result Driven LinesFault
+abbrev pub DrivesTo : {S T W : Type 0} → DriveManner → Playing S → S → Mask → List ScriptEvent → Result Driven LinesFault
     → SourceState T → SourceState T → SinkState W → SinkState W → Type 0
-DrivesTo playing start mask events (Ok driven) from to before after =
-    DrivesAll playing start mask events driven from to before after
-DrivesTo playing start mask events (Err lines.Read) from to before after =
-    DrivesEnded playing start mask events from to before after
+DrivesTo manner playing start mask events (Ok driven) from to before after =
+    DrivesAll manner playing start mask events driven from to before after
+DrivesTo manner playing start mask events (Err lines.Read) from to before after =
+    DrivesEnded manner playing start mask events from to before after
     × ((to.failed ≡ true) ⊎ (to.left ≡ 0))
-DrivesTo playing start mask events (Err (lines.Line fault)) from to before after =
-    DrivesSome playing start mask events fault from to before after
+DrivesTo manner playing start mask events (Err (lines.Line fault)) from to before after =
+    DrivesSome manner playing start mask events fault from to before after
 
 -- the fibre that a script opens
 pub record OpensFibre (script : ScriptView) (start : LossyPlay) : Type 0 where
@@ -114,14 +115,14 @@ pub record OpensFibre (script : ScriptView) (start : LossyPlay) : Type 0 where
   pub losses : start.losses ≡ script.losses
 
 -- the lines were driven on what the script opens: a chassis, or, where it has simulated units, a fibre
-pub data Drives {T W : Type 0} (script : ScriptView) (answer : Result Driven LinesFault) (from to : SourceState T)
+pub data Drives {T W : Type 0} (manner : DriveManner) (script : ScriptView) (answer : Result Driven LinesFault) (from to : SourceState T)
     (before after : SinkState W) : Type 0 where
   OnChassis : script.units ≡ []
-      → DrivesTo chassis_playing (opening_play script) script.mask script.events answer from to before after
-      → Drives script answer from to before after
+      → DrivesTo manner chassis_playing (opening_play script) script.mask script.events answer from to before after
+      → Drives manner script answer from to before after
   OnFibre : 0 < length script.units → (start : LossyPlay) → OpensFibre script start
-      → DrivesTo fibre_playing start script.mask script.events answer from to before after
-      → Drives script answer from to before after
+      → DrivesTo manner fibre_playing start script.mask script.events answer from to before after
+      → Drives manner script answer from to before after
 
 -- the answer of a drive, by that of its lines
 abbrev pub told : Result Driven LinesFault → Result Driven DriveFault
@@ -129,15 +130,21 @@ told (Ok driven) = Ok driven
 told (Err fault) = Err (drives.Turns fault)
 
 -- how a drive of a script ends, by its answer: where its events were not played to their end, no line was read
+abbrev pub DrivesScriptIn : {T W : Type 0} → DriveManner → Result Driven DriveFault → SourceState T → SourceState T
+    → SinkState W → SinkState W → ScriptView → Type 0
+DrivesScriptIn manner (Ok driven) from to before after script = Drives manner script (Ok driven) from to before after
+DrivesScriptIn manner (Err (drives.Turns fault)) from to before after script =
+    Drives manner script (Err fault) from to before after
+DrivesScriptIn manner (Err (drives.Script runs.OutOfMemory)) from to before after script =
+    (to ≡ from) × LeavesScript plays.OutOfMemory script before after
+DrivesScriptIn manner (Err (drives.Script runs.Write)) from to before after script =
+    (to ≡ from) × LeavesScript plays.Write script before after
+DrivesScriptIn manner (Err (drives.Script _)) from to before after script = ⊥
+
+-- the same where it isn't told that lines are done
 abbrev pub DrivesScript : {T W : Type 0} → Result Driven DriveFault → SourceState T → SourceState T → SinkState W
     → SinkState W → ScriptView → Type 0
-DrivesScript (Ok driven) from to before after script = Drives script (Ok driven) from to before after
-DrivesScript (Err (drives.Turns fault)) from to before after script = Drives script (Err fault) from to before after
-DrivesScript (Err (drives.Script runs.OutOfMemory)) from to before after script =
-    (to ≡ from) × LeavesScript plays.OutOfMemory script before after
-DrivesScript (Err (drives.Script runs.Write)) from to before after script =
-    (to ≡ from) × LeavesScript plays.Write script before after
-DrivesScript (Err (drives.Script _)) from to before after script = ⊥
+DrivesScript answer from to before after script = DrivesScriptIn untold answer from to before after script
 
 -- why a script was not read
 abbrev pub IsNoScript : {R : Type 0} → SourceState R → SourceState R → RunFault → Type 0
@@ -147,10 +154,16 @@ IsNoScript before after (runs.Script fault) = ReadsBy script_of before after (Er
 IsNoScript before after runs.OutOfMemory = Unit {0}
 IsNoScript before after _ = ⊥
 
--- how a drive ends: the script was read, and driven; or it was not read, and of the lines nothing
-pub data DrivesInput {R T W : Type 0} (answer : Result Driven DriveFault) (script_from script_to : SourceState R)
-    (from to : SourceState T) (before after : SinkState W) : Type 0 where
-  Read : OfScript script_of script_from script_to (DrivesScript answer from to before after)
-      → DrivesInput answer script_from script_to from to before after
+-- how a drive in this manner ends: the script was read, and driven; or it was not read, and of the lines nothing
+pub data DrivesInputIn {R T W : Type 0} (manner : DriveManner) (answer : Result Driven DriveFault)
+    (script_from script_to : SourceState R) (from to : SourceState T) (before after : SinkState W) : Type 0 where
+  Read : OfScript script_of script_from script_to (DrivesScriptIn manner answer from to before after)
+      → DrivesInputIn manner answer script_from script_to from to before after
   NotRead : (fault : RunFault) → answer ≡ Err (drives.Script fault) → IsNoScript script_from script_to fault
-      → to ≡ from → after ≡ before → DrivesInput answer script_from script_to from to before after
+      → to ≡ from → after ≡ before → DrivesInputIn manner answer script_from script_to from to before after
+
+-- how a drive ends that doesn't tell that lines are done
+abbrev pub DrivesInput : {R T W : Type 0} → Result Driven DriveFault → SourceState R → SourceState R → SourceState T
+    → SourceState T → SinkState W → SinkState W → Type 0
+DrivesInput answer script_from script_to from to before after =
+    DrivesInputIn untold answer script_from script_to from to before after

@@ -1,19 +1,20 @@
-ghost use Rattle.std.specs.Prelude.{◌≡◌, ◌≤◌, ◌⊎◌, None, Err, IfOk};
-ghost use Rattle.std.specs.String.{string_bytes};
+ghost use Rattle.std.specs.Prelude.{◌≡◌, ◌≤◌, ◌⊎◌, None, Err};
 ghost use Rattle.gp_flow.specs.Lines.{Answers};
 ghost use Rattle.gp_flow.specs.declared.fault.LineFault.TheVariants as lines;
 ghost use Rattle.gp_replay.specs.Playing.{HasRoomFor};
-ghost use Rattle.gp_drive.specs.Drive.{answering, begun, error_line, line_fault, most_lines, most_turns, playing_of, refusing};
+ghost use Rattle.gp_drive.specs.Drive.{answering, begun, begun_in, line_fault, most_lines, most_turns, playing_of, refusing};
 ghost use Rattle.gp_drive.specs.Turns.{cost_of, missing_in};
 
+use crate::ending::{errors_of, put_ending};
 use crate::fault::TurnFault;
+use crate::manner::DriveManner;
 use crate::turn::{cost_of, missing_in, play_turn};
 use gp_flow::{LineFault, LineWork};
 use gp_lines::{Asked, LineFault as Fault, parse_turn};
 use gp_ploam::Mask;
 use gp_replay::{EventPlayer, LineBuffer, PlayFault};
 use gp_stream::Sink;
-use std::alloc::{AllocError, Global};
+use std::alloc::Global;
 use std::io::Write;
 use std::marker::Model;
 
@@ -25,10 +26,10 @@ pub const MOST_TURNS: u64 = 2_251_799_813_685_248;
 ///
 /// It has no `Drop`: its player is given back by `into_player`.
 pub struct Driver<P: EventPlayer> {
-    alloc: Global,
     player: P,
     buffer: LineBuffer,
     mask: Mask,
+    manner: DriveManner,
     lines: u64,
     errors: u64,
     left: u64,
@@ -41,22 +42,37 @@ impl<P: EventPlayer> Model for Driver<P> {
 
     ghost Value = { DriveState P };
 
-    ghost view = { λ d. record { player = d.player; mask = d.mask; lines = d.lines; errors = d.errors; left = d.left } };
+    ghost view = { λ d. record {
+      player = d.player;
+      mask = d.mask;
+      done = d.manner.done;
+      lines = d.lines;
+      errors = d.errors;
+      left = d.left;
+    } };
 
     ghost invariant = { λ d. (d.errors ≤ d.lines) × (0 < d.left → HasRoomFor P.playing d.left d.player) };
 }
 
 impl<P: EventPlayer> Driver<P> {
     /// Makes a drive on this player, before its first line.
-    pub fn new(alloc: Global, player: P, mask: Mask, buffer: LineBuffer) -> Driver<P>
+    pub fn new(_alloc: Global, player: P, mask: Mask, buffer: LineBuffer) -> Driver<P>
         requires { HasRoomFor P.playing most_turns player }
         ensures { result ≡ begun player mask }
     {
+        Driver::new_in(DriveManner { done: false }, player, mask, buffer)
+    }
+
+    /// The same, in this manner.
+    pub fn new_in(manner: DriveManner, player: P, mask: Mask, buffer: LineBuffer) -> Driver<P>
+        requires { HasRoomFor P.playing most_turns player }
+        ensures { result ≡ begun_in manner player mask }
+    {
         Driver {
-            alloc,
             player,
             buffer,
             mask,
+            manner,
             lines: 0,
             errors: 0,
             left: MOST_TURNS,
@@ -82,10 +98,10 @@ impl<P: EventPlayer> Driver<P> {
         ensures { result ≡ self.player }
     {
         let Driver {
-            alloc: _,
             player,
             buffer: _,
             mask: _,
+            manner: _,
             lines: _,
             errors: _,
             left: _,
@@ -101,8 +117,7 @@ impl<P: EventPlayer> Driver<P> {
         if self.lines == u64::MAX {
             return Err(LineFault::Full);
         }
-        let line = error_line(self.alloc, self.lines + 1, fault)?;
-        sink.put(line.as_bytes())?;
+        put_ending(sink, self.manner.done, self.lines + 1, Some(fault))?;
         self.lines += 1;
         self.errors += 1;
         Ok(())
@@ -120,9 +135,11 @@ impl<P: EventPlayer> Driver<P> {
             return Err(LineFault::Full);
         }
         match play_turn(&mut self.player, sink, &mut self.buffer, self.mask, asked) {
-            Ok(()) => {
+            Ok(told) => {
                 self.left -= cost;
+                put_ending(sink, self.manner.done, self.lines + 1, told)?;
                 self.lines += 1;
+                self.errors += errors_of(told);
                 Ok(())
             }
             Err(fault) => {
@@ -143,14 +160,6 @@ impl<P: EventPlayer> Driver<P> {
             None => self.play(sink, asked),
         }
     }
-}
-
-/// Makes the error line of the line with this number.
-fn error_line(alloc: Global, line: u64, fault: TurnFault) -> Result<String, AllocError>
-    ensures { IfOk result (λ text. string_bytes text ≡ error_line line fault) }
-{
-    let word = fault.word();
-    Ok(format!(in alloc; "error {line} {word}\n")?)
 }
 
 /// Why a line was not answered, where a turn was not played.

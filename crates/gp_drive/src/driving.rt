@@ -3,19 +3,20 @@ ghost use Rattle.std.specs.Prelude.{◌≡◌, ◌<◌, ◌+◌, ◌*◌, ◌^�
 ghost use Rattle.gp_replay.specs.Playing.{HasRoomFor, PlaysAll};
 ghost use Rattle.gp_script.specs.Playable.{IsPlayable};
 ghost use Rattle.gp_script.specs.View.{script_view};
-ghost use Rattle.gp_drive.specs.Drive.{begun, driving, most_turns, never_over};
-ghost use Rattle.gp_drive.specs.Outcome.{DrivesInput, DrivesScript, ServesTurns, told};
+ghost use Rattle.gp_drive.specs.Drive.{begun_in, driving, most_turns, never_over};
+ghost use Rattle.gp_drive.specs.Outcome.{DrivesInput, DrivesInputIn, DrivesScriptIn, ServesTurns, told};
 
 use crate::driven::Driven;
 use crate::driver::Driver;
 use crate::fault::DriveFault;
+use crate::manner::DriveManner;
 use gp_chassis::ChassisConfig;
 use gp_fibre::LossPlan;
 use gp_flow::{LinesFault, run_lines};
 use gp_licence::MAX_LICENCES;
 use gp_ploam::Mask;
 use gp_replay::{
-    EventPlayer, FibrePlayer, LineBuffer, MAX_KEPT, Player, each_port_runs, end_play, play_events,
+    EventPlayer, FibrePlayer, LineBuffer, Player, each_port_runs, end_play, play_events,
 };
 use gp_script::{Script, ScriptLosses};
 use gp_stream::{Sink, Source};
@@ -27,6 +28,7 @@ use std::sync::ledger::{Blank, Ledger};
 /// Answers the lines of an input on a player, which is given back with how many there were.
 fn drive_lines<P: EventPlayer, T: Read, W: Write>(
     alloc: Global,
+    manner: DriveManner,
     player: P,
     buffer: LineBuffer,
     mask: Mask,
@@ -35,9 +37,9 @@ fn drive_lines<P: EventPlayer, T: Read, W: Write>(
 ) -> (P, Result<Driven, LinesFault>)
     requires room { HasRoomFor P.playing most_turns player }
     requires flushed { sink.old.flushed ≡ true }
-    ensures { ServesTurns P.playing player mask result.1 turns.old turns.new sink.old sink.new }
+    ensures { ServesTurns manner P.playing player mask result.1 turns.old turns.new sink.old sink.new }
 {
-    let mut driver = Driver::new(alloc, player, mask, buffer);
+    let mut driver = Driver::new_in(manner, player, mask, buffer);
     let served = run_lines(alloc, turns, sink, &mut driver);
     let driven = Driven {
         lines: driver.lines(),
@@ -63,6 +65,7 @@ fn told(driven: Result<Driven, LinesFault>) -> Result<Driven, DriveFault>
 /// Drives a script without simulated units on a chassis of its own, whose ledger is the blank.
 fn drive_chassis<L: Ledger, T: Read, W: Write>(
     alloc: Global,
+    manner: DriveManner,
     blank: Blank,
     script: Script,
     turns: &mut Source<T>,
@@ -73,7 +76,7 @@ fn drive_chassis<L: Ledger, T: Read, W: Write>(
     requires playable { IsPlayable (script_view script) }
     requires no_units { script.units.items ≡ [] }
     requires flushed { sink.old.flushed ≡ true }
-    ensures { DrivesScript result turns.old turns.new sink.old sink.new (script_view script) }
+    ensures { DrivesScriptIn manner result turns.old turns.new sink.old sink.new (script_view script) }
 {
     each_port_runs();
     let Script {
@@ -87,7 +90,7 @@ fn drive_chassis<L: Ledger, T: Read, W: Write>(
     } = script;
     let config = ChassisConfig {
         licences,
-        journal_limit: journal_limit.min(MAX_KEPT),
+        journal_limit,
         ports,
     };
     let mut buffer = LineBuffer::new(alloc)?;
@@ -97,7 +100,7 @@ fn drive_chassis<L: Ledger, T: Read, W: Write>(
         let _ = end_play(sink, Err(fault));
         return Err(DriveFault::from(fault));
     }
-    let (player, driven) = drive_lines(alloc, player, buffer, mask, turns, sink);
+    let (player, driven) = drive_lines(alloc, manner, player, buffer, mask, turns, sink);
     player.close();
     told(driven)
 }
@@ -105,6 +108,7 @@ fn drive_chassis<L: Ledger, T: Read, W: Write>(
 /// Drives a script with simulated units on a fibre of its own, whose ledger is the blank.
 fn drive_fibre<L: Ledger, T: Read, W: Write>(
     alloc: Global,
+    manner: DriveManner,
     blank: Blank,
     script: Script,
     turns: &mut Source<T>,
@@ -115,7 +119,7 @@ fn drive_fibre<L: Ledger, T: Read, W: Write>(
     requires playable { IsPlayable (script_view script) }
     requires units { 0 < length script.units.items }
     requires flushed { sink.old.flushed ≡ true }
-    ensures { DrivesScript result turns.old turns.new sink.old sink.new (script_view script) }
+    ensures { DrivesScriptIn manner result turns.old turns.new sink.old sink.new (script_view script) }
 {
     let Script {
         licences,
@@ -142,7 +146,7 @@ fn drive_fibre<L: Ledger, T: Read, W: Write>(
         let _ = end_play(sink, Err(fault));
         return Err(DriveFault::from(fault));
     }
-    let (player, driven) = drive_lines(alloc, player, buffer, mask, turns, sink);
+    let (player, driven) = drive_lines(alloc, manner, player, buffer, mask, turns, sink);
     player.close();
     told(driven)
 }
@@ -151,6 +155,7 @@ fn drive_fibre<L: Ledger, T: Read, W: Write>(
 /// fibre of its one port.
 fn drive_script<L: Ledger, T: Read, W: Write>(
     alloc: Global,
+    manner: DriveManner,
     blank: Blank,
     script: Script,
     turns: &mut Source<T>,
@@ -160,12 +165,12 @@ fn drive_script<L: Ledger, T: Read, W: Write>(
     requires parts { (blank.parts ≡ L.parts) × (L.parts ≡ MAX_LICENCES) }
     requires playable { IsPlayable (script_view script) }
     requires flushed { sink.old.flushed ≡ true }
-    ensures { DrivesScript result turns.old turns.new sink.old sink.new (script_view script) }
+    ensures { DrivesScriptIn manner result turns.old turns.new sink.old sink.new (script_view script) }
 {
     if script.units.is_empty() {
-        drive_chassis::<L, T, W>(alloc, blank, script, turns, sink)
+        drive_chassis::<L, T, W>(alloc, manner, blank, script, turns, sink)
     } else {
-        drive_fibre::<L, T, W>(alloc, blank, script, turns, sink)
+        drive_fibre::<L, T, W>(alloc, manner, blank, script, turns, sink)
     }
 }
 
@@ -184,8 +189,22 @@ pub fn run_drive<R: Read, T: Read, W: Write>(
     requires { sink.old.flushed ≡ true }
     ensures { DrivesInput result script.old script.new turns.old turns.new sink.old sink.new }
 {
+    run_drive_in(alloc, DriveManner { done: false }, script, turns, sink)
+}
+
+/// The same, in this manner.
+pub fn run_drive_in<R: Read, T: Read, W: Write>(
+    alloc: Global,
+    manner: DriveManner,
+    script: &mut Source<R>,
+    turns: &mut Source<T>,
+    sink: &mut Sink<W>,
+) -> Result<Driven, DriveFault>
+    requires { sink.old.flushed ≡ true }
+    ensures { DrivesInputIn manner result script.old script.new turns.old turns.new sink.old sink.new }
+{
     let bytes = gp_stream::read_all(alloc, script)?;
     let read = gp_script::read_script(alloc, bytes.as_slice())?;
     let blank = Blank::new(u64::from(MAX_LICENCES));
-    drive_script::<Brand, T, W>(alloc, blank, read, turns, sink)
+    drive_script::<Brand, T, W>(alloc, manner, blank, read, turns, sink)
 }

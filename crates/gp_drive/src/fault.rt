@@ -21,6 +21,8 @@ pub enum TurnFault {
     NoPort,
     /// The script has no such simulated unit.
     NoUnit,
+    /// The grant up to which frames were asked for was made in none of them.
+    Never,
 }
 
 impl TurnFault {
@@ -37,6 +39,7 @@ impl TurnFault {
             TurnFault::NoTurn(LineFault::Long) => "long",
             TurnFault::NoPort => "port",
             TurnFault::NoUnit => "unit",
+            TurnFault::Never => "never",
         }
     }
 }

@@ -1,12 +1,12 @@
 //! A line terminal that one talks to: each line of an input asks for something, and is answered at once.
 //!
 //! Promise: each line is answered by the trace lines of what it asks for, or by an error, and all of them together
-//! are a run (`run_drive`, `drives_are_runs`).
+//! are a run (`run_drive`, `drives_are_runs`); if that is wanted, each answer ends by telling so (`run_drive_in`).
 //!
 //! - `driving.rt`: `run_drive`, from the bytes of a script and of an input of lines to the answers.
 //! - `driver.rt`: `Driver`, which answers one line after another on a player, as what serves lines.
-//!   `driven.rt`: how many lines there were.
-//! - `turn.rt`: plays what a line asks for.
+//!   `driven.rt`: how many lines there were. `manner.rt`: in what manner they are answered.
+//! - `turn.rt`: plays what a line asks for. `ending.rt`: what ends an answer.
 //! - `fault.rt`: why a line is answered by an error, and why a drive ends early. `laws.rt`: what every drive comes to.
 //!
 //! Where to make which change: which lines there are is `gp_lines`'; what is played of them stands in
@@ -17,12 +17,15 @@
 mod driven;
 mod driver;
 mod driving;
+mod ending;
 mod fault;
 mod laws;
+mod manner;
 mod turn;
 
 pub use driven::Driven;
 pub use driver::{Driver, MOST_TURNS};
-pub use driving::run_drive;
+pub use driving::{run_drive, run_drive_in};
 pub use fault::{DriveFault, TurnFault};
 pub use laws::drives_are_runs;
+pub use manner::DriveManner;

@@ -2,11 +2,11 @@
 ghost use Rattle.std.specs.Prelude.{◌≡◌, ◌<◌, OnOk, None};
 ghost use Rattle.gp_replay.specs.Playing.{HasRoomFor, Keeps};
 ghost use Rattle.gp_replay.specs.Writing.{PlaysOn};
-ghost use Rattle.gp_lines.specs.Turn.{most_frames};
-ghost use Rattle.gp_drive.specs.Turns.{PlaysTurn, PlaysTurnPart, PlaysUntil, PlaysUntilPart, cost_of, event_of, missing_in};
+ghost use Rattle.gp_lines.specs.declared.turn.Asked.TheVariants as asks;
+ghost use Rattle.gp_drive.specs.Turns.{PlaysTo, PlaysTurnPart, cost_of, event_of, missing_in, told_by};
 
 use crate::fault::TurnFault;
-use gp_lines::{Asked, MOST_FRAMES};
+use gp_lines::Asked;
 use gp_machine::Event;
 use gp_ploam::Mask;
 use gp_ranging::Grant;
@@ -57,11 +57,16 @@ pub(crate) fn cost_of(asked: Asked) -> u64
         Asked::Nothing => 0,
         Asked::Event { .. } | Asked::Light { .. } => 1,
         Asked::Frames { port: _, count } => u64::from(count),
-        Asked::Until { .. } => u64::from(MOST_FRAMES),
+        Asked::Until {
+            port: _,
+            grant: _,
+            most,
+        } => u64::from(most),
     }
 }
 
-/// Plays frames of a port up to the first one that makes this grant, at most `MOST_FRAMES`.
+/// Plays frames of a port up to the first one that makes this grant, at most so many. Where none of these makes it, that
+/// is told.
 fn play_until<P: EventPlayer, W: Write>(
     player: &mut P,
     sink: &mut Sink<W>,
@@ -69,43 +74,46 @@ fn play_until<P: EventPlayer, W: Write>(
     mask: Mask,
     port: u8,
     grant: Grant,
-) -> Result<(), PlayFault>
+    most: u32,
+) -> Result<Option<TurnFault>, PlayFault>
     requires named { port < P.playing.ports player.old }
-    requires room { HasRoomFor P.playing most_frames player.old }
-    ensures plays { PlaysOn mask (PlaysUntil P.playing port grant most_frames)
-        (PlaysUntilPart P.playing port grant most_frames) player.old player.new sink.old sink.new result }
-    ensures keeps { OnOk result (Keeps P.playing most_frames player.old player.new) }
+    requires room { HasRoomFor P.playing most player.old }
+    ensures plays { let asked = asks.Until port grant most in
+        PlaysOn mask (PlaysTo P.playing asked (told_by result)) (PlaysTurnPart P.playing asked)
+        player.old player.new sink.old sink.new result }
+    ensures keeps { OnOk result (Keeps P.playing most player.old player.new) }
 {
-    for _ in 0..MOST_FRAMES {
+    for _ in 0..most {
         if player.play_frame(sink, buffer, mask, port, grant)? {
-            return Ok(());
+            return Ok(None);
         }
     }
-    Ok(())
+    Ok(Some(TurnFault::Never))
 }
 
-/// Plays what a line asks for, and writes its lines.
+/// Plays what a line asks for, writes its lines, and tells what is then wrong with it.
 pub(crate) fn play_turn<P: EventPlayer, W: Write>(
     player: &mut P,
     sink: &mut Sink<W>,
     buffer: &mut LineBuffer,
     mask: Mask,
     asked: Asked,
-) -> Result<(), PlayFault>
+) -> Result<Option<TurnFault>, PlayFault>
     requires there { missing_in (P.playing.ports player.old) (P.playing.units player.old) asked ≡ None }
     requires room { HasRoomFor P.playing (cost_of asked) player.old }
-    ensures plays { PlaysOn mask (PlaysTurn P.playing asked) (PlaysTurnPart P.playing asked)
+    ensures plays { PlaysOn mask (PlaysTo P.playing asked (told_by result)) (PlaysTurnPart P.playing asked)
         player.old player.new sink.old sink.new result }
     ensures keeps { OnOk result (Keeps P.playing (cost_of asked) player.old player.new) }
 {
     let event = match asked {
-        Asked::Nothing => return Ok(()),
-        Asked::Until { port, grant } => {
-            return play_until(player, sink, buffer, mask, port, grant);
+        Asked::Nothing => return Ok(None),
+        Asked::Until { port, grant, most } => {
+            return play_until(player, sink, buffer, mask, port, grant, most);
         }
         Asked::Event { port, event } => event_of(port, event),
         Asked::Frames { port, count } => ScriptEvent::Frames { port, count },
         Asked::Light { unit, lit } => ScriptEvent::Light { unit, lit },
     };
-    player.play_event(sink, buffer, mask, &event)
+    player.play_event(sink, buffer, mask, &event)?;
+    Ok(None)
 }

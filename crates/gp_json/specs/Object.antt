@@ -46,8 +46,23 @@ abbrev pub error_of : List (List ℕ) → Option (List ℕ × List ℕ)
 error_of [] = None
 error_of (word ∷ others) = error_behind word (two_of others)
 
+-- the number of a line that is done
+abbrev pub done_behind : List ℕ → Option (List ℕ) → Option (List ℕ)
+done_behind word None = None
+done_behind word (Some line) = if bytes_eq word (codes "done") && is_number line then Some line else None
+
+-- the same, where the line tells that one is done
+abbrev pub done_of : List (List ℕ) → Option (List ℕ)
+done_of [] = None
+done_of (word ∷ others) = done_behind word (one_of others)
+
+abbrev pub done_object : Option (List ℕ) → List ℕ → List ℕ
+done_object None text = line_object text
+done_object (Some line) text = codes "{\"done\":" ++ line ++ codes "}\n"
+
+-- the number of a line that is no turn, and its fault; else a line that is done, or any other
 abbrev pub error_object : Option (List ℕ × List ℕ) → List ℕ → List ℕ
-error_object None text = line_object text
+error_object None text = done_object (done_of (parts_of text)) text
 error_object (Some (line, kind)) text = codes "{\"error\":" ++ quoted kind ++ codes ",\"line\":" ++ line ++ codes "}\n"
 
 -- a line that is none of a trace

@@ -1,7 +1,7 @@
 //! A line that is none of a trace as a JSON object.
 ghost use Rattle.std.specs.Prelude.{◌≡◌, None, OnOk, MatchOption, Some};
 ghost use Rattle.gp_lines.specs.Parts.{parts_of};
-ghost use Rattle.gp_json.specs.Object.{error_of, line_object, one_of, other_object, two_of};
+ghost use Rattle.gp_json.specs.Object.{done_object, done_of, error_of, line_object, one_of, other_object, two_of};
 
 use crate::text::{is_number, push_quoted};
 use gp_lines::cut;
@@ -56,13 +56,43 @@ fn error_in(text: &[u8]) -> Option<(&[u8], &[u8])>
     }
 }
 
+/// Gives the number of a line that is done, if this is how it is told.
+fn done_in(text: &[u8]) -> Option<&[u8]>
+    ensures { MatchOption result (done_of (parts_of text.now) ≡ None)
+        (λ line. done_of (parts_of text.now) ≡ Some line.now) }
+{
+    let (word, Some(rest)) = cut(text) else {
+        return None;
+    };
+    let line = one_in(rest)?;
+    if word == b"done".as_slice() && is_number(line) {
+        Some(line)
+    } else {
+        None
+    }
+}
+
+/// Writes that a line is done, or any other line.
+fn write_done(text: &[u8], out: &mut Vec<u8>) -> Result<(), AllocError>
+    ensures { OnOk result (out.new.items ≡ done_object (done_of (parts_of text.now)) text.now) }
+{
+    let Some(line) = done_in(text) else {
+        return write_line(text, out);
+    };
+    out.clear();
+    out.extend_from_slice(b"{\"done\":")?;
+    out.extend_from_slice(line)?;
+    out.extend_from_slice(b"}\n")
+}
+
 /// Writes a line that is none of a trace as a JSON object, with a line feed behind it, in the place of what the buffer
-/// holds: `error LINE KIND`, by which a line that is no turn is answered, as two fields, any other line as one.
+/// holds: `error LINE KIND`, by which a line that is no turn is answered, as two fields, `done LINE`, which ends an
+/// answer, as a number, and any other line as a text.
 pub fn write_other(text: &[u8], out: &mut Vec<u8>) -> Result<(), AllocError>
     ensures { OnOk result (out.new.items ≡ other_object text.now) }
 {
     let Some((line, kind)) = error_in(text) else {
-        return write_line(text, out);
+        return write_done(text, out);
     };
     out.clear();
     out.extend_from_slice(b"{\"error\":")?;

@@ -18,7 +18,7 @@ use Rattle.gp_lines.proofs.FieldLemmas.{own}
 use Rattle.gp_lines.proofs.ReadLemmas.{ok_same, err_same, number_ok, number_back, number_none}
 use Rattle.gp_lines.proofs.SpellingLemmas.{step_ok, two_ok}
 use Rattle.gp_lines.proofs.FaultLemmas.{step_err}
-use Rattle.gp_lines.proofs.NumberLemmas.{word_told, word_fault, outside_told, outside_again, one_number_back}
+use Rattle.gp_lines.proofs.NumberLemmas.{word_told, word_fault, outside_told, outside_again, one_number_back, two_missing}
 use Rattle.gp_lines.proofs.GrantLemmas.{first_same, rest_same, with_word, grant_again}
 use Rattle.gp_lines.proofs.TurnLemmas.{Behind, behind_read, behind_event, frames_again, until_again, behind_fault, behind_refused}
 use Rattle.gp_lines.proofs.SpellingLemmas.{parts_again}
@@ -64,12 +64,6 @@ light_again digits unit false h = rw h refl
 
 no_light : (parts : List (List ℕ)) (f : LineFault) → two_of parts ≡ Err f → (digits : List ℕ) → AreOfLight parts digits → ⊥
 no_light parts f h digits are = cc (sym h ∙ ap two_of are.1)
-
-two_missing : (parts : List (List ℕ)) (f : LineFault) → two_of parts ≡ Err f → ◌≡◌ {A = Result (List ℕ × List ℕ) LineFault} (Err fault.Word) (Err f)
-two_missing [] f h = h
-two_missing (first ∷ []) f h = h
-two_missing (first ∷ second ∷ []) f h = cc h
-two_missing (first ∷ second ∷ third ∷ others) f h = h
 
 light_fault : (parts : List (List ℕ)) (f : LineFault) → light_turn parts ≡ Err f → HaveLightFault parts f
 unfolding light_turn
@@ -123,8 +117,9 @@ port_asked text digits others port (asked.Event on event) is spelled within b =
     (others, subst (λ (p : ℕ). SpellsPort (parts_of text) p others) (sym b.0) (digits, is, spelled, within), b.1)
 port_asked text digits others port (asked.Frames on count) is spelled within b =
     (b.1, subst (λ (p : ℕ). SpellsPort (parts_of text) p (codes "frame" ∷ b.1 ∷ [])) (sym b.0) (digits, is ∙ ap (λ (ps : List (List ℕ)). digits ∷ ps) b.2, spelled, within), b.3, b.4, b.5)
-port_asked text digits others port (asked.Until on grant) is spelled within b =
-    (b.1, subst (λ (p : ℕ). SpellsPort (parts_of text) p (codes "until" ∷ b.1)) (sym b.0) (digits, is ∙ ap (λ (ps : List (List ℕ)). digits ∷ ps) b.2, spelled, within), b.3)
+port_asked text digits others port (asked.Until on grant most) is spelled within b =
+    let asks = codes "until" ∷ (b.1 ++ b.2) in
+    (b.1, b.2, subst (λ (p : ℕ). SpellsPort (parts_of text) p asks) (sym b.0) (digits, is ∙ ap (λ (ps : List (List ℕ)). digits ∷ ps) b.3, spelled, within), b.4, b.5)
 port_asked text digits others port (asked.Light unit lit) is spelled within b = absurd b
 
 port_read : (text digits : List ℕ) (others : List (List ℕ)) (x : Asked) → parts_of text ≡ digits ∷ others → port_turn digits others ≡ Ok x → SpellsAsked text x
@@ -178,8 +173,9 @@ text_again text asked.Nothing turn s = absurd turn
 text_again text (asked.Event port event) turn s = spelled_again text s.0 port (asked.Event port event) s.1 (behind_event port s.0 event (parts_again s.0 event s.2))
 text_again text (asked.Frames port count) turn s =
     spelled_again text (codes "frame" ∷ s.0 ∷ []) port (asked.Frames port count) s.1 (frames_again port s.0 count (one_number_back 1 1000000 s.0 count s.2 s.3 s.4))
-text_again text (asked.Until port grant) turn s =
-    spelled_again text (codes "until" ∷ s.0) port (asked.Until port grant) s.1 (until_again port s.0 grant (grant_again s.0 grant s.2))
+text_again text (asked.Until port grant most) turn s =
+    spelled_again text (codes "until" ∷ (s.0 ++ s.1)) port (asked.Until port grant most) s.2
+    (until_again port (s.0 ++ s.1) (asked.Until port grant most) (grant_again port s.0 s.1 grant most s.3 s.4))
 text_again text (asked.Light unit lit) turn s = ap turn_of_parts s.1 ∙ light_again s.0 unit lit (number_back 0 1023 s.0 unit s.2 (omega arith) s.3)
 
 begun_read : (text first : List ℕ) (parts : List (List ℕ)) (x : Asked) → parts_of text ≡ first ∷ parts → begun_turn first parts ≡ Ok x → SpellsAsked text x
@@ -239,7 +235,7 @@ asked_again : (text : List ℕ) (x : Asked) → SpellsAsked text x → asked_of 
 asked_again text asked.Nothing s = rw s refl
 asked_again text (asked.Event port event) s = turn_again text (asked.Event port event) tt s
 asked_again text (asked.Frames port count) s = turn_again text (asked.Frames port count) tt s
-asked_again text (asked.Until port grant) s = turn_again text (asked.Until port grant) tt s
+asked_again text (asked.Until port grant most) s = turn_again text (asked.Until port grant most) tt s
 asked_again text (asked.Light unit lit) s = turn_again text (asked.Light unit lit) tt s
 
 -- ---- faults

@@ -1,5 +1,5 @@
 -- Lines that are read as what they were written for.
-use Rattle.std.proofs.Common.{◌≡◌, ℕ, ◌==◌, ◌<◌, ◌≤◌, ◌^◌, Bool, true, false, List, [], ◌∷◌, ◌++◌, length, codes, refl, sym, ap, ◌∙◌, arith, append_assoc, length-append}
+use Rattle.std.proofs.Common.{◌≡◌, ℕ, ◌==◌, ◌<◌, ◌≤◌, ◌^◌, Bool, true, false, List, [], ◌∷◌, ◌++◌, length, codes, refl, sym, ap, ◌∙◌, inr, arith, append_assoc, length-append}
 use Rattle.std.specs.Prelude.{decimal}
 use Rattle.std.proofs.lemmas.Bool.Decides.{nat_tests}
 use Rattle.std.proofs.lemmas.Fmt.{decimal_is_IsNumeral}
@@ -13,7 +13,7 @@ use Rattle.gp_trace.specs.Text.{event_text}
 use Rattle.gp_lines.specs.declared.turn.Asked.{Asked}
 use Rattle.gp_lines.specs.declared.turn.Asked.TheVariants as asked
 use Rattle.gp_lines.specs.Parts.{is_space, parts_of}
-use Rattle.gp_lines.specs.Turn.{without_return, light_word, SpellsGrant, SpellsAsked, SpellsTurn, grant_words, turn_text, IsGrantToAsk, CanBeAsked}
+use Rattle.gp_lines.specs.Turn.{without_return, light_word, SpellsGrant, SpellsAsked, SpellsTurn, grant_words, until_words, turn_text, IsGrantToAsk, CanBeAsked}
 use Rattle.gp_lines.proofs.ToldLemmas.{unspaced, number_plain, event_told}
 use Rattle.gp_lines.proofs.FeedLemmas.{is_inside, Inside, word_inside, both_inside, number_inside, numbered_inside, event_inside}
 use Rattle.gp_lines.proofs.LengthLemmas.{number_short, numbered_short, event_short}
@@ -38,6 +38,11 @@ light_inside : (lit : Bool) → Inside (light_word lit)
 light_inside true = word_inside (codes "light") refl
 light_inside false = word_inside (codes "dark") refl
 
+until_inside : (grant : Grant) (most : ℕ) → Inside (until_words grant most)
+until_inside grant most =
+    both_inside (grant_words grant ++ codes " within ") (decimal most)
+    (both_inside (grant_words grant) (codes " within ") (words_inside grant) (word_inside (codes " within ") refl)) (number_inside most)
+
 turn_inside : (x : Asked) → Inside (turn_text x)
 turn_inside asked.Nothing = All-nil (λ (o : ℕ). is_inside o ≡ true)
 turn_inside (asked.Event port event) =
@@ -45,9 +50,9 @@ turn_inside (asked.Event port event) =
 turn_inside (asked.Frames port count) =
     both_inside (decimal port ++ codes " frame ") (decimal count)
     (both_inside (decimal port) (codes " frame ") (number_inside port) (word_inside (codes " frame ") refl)) (number_inside count)
-turn_inside (asked.Until port grant) =
-    both_inside (decimal port ++ codes " until ") (grant_words grant)
-    (both_inside (decimal port) (codes " until ") (number_inside port) (word_inside (codes " until ") refl)) (words_inside grant)
+turn_inside (asked.Until port grant most) =
+    both_inside (decimal port ++ codes " until ") (until_words grant most)
+    (both_inside (decimal port) (codes " until ") (number_inside port) (word_inside (codes " until ") refl)) (until_inside grant most)
 turn_inside (asked.Light unit lit) =
     both_inside (numbered (codes "unit") unit ++ codes " ") (light_word lit)
     (both_inside (numbered (codes "unit") unit) (codes " ") (numbered_inside (codes "unit") unit refl) (word_inside (codes " ") refl)) (light_inside lit)
@@ -59,12 +64,20 @@ words_short grants.Search = omega arith
 words_short (grants.Range onu) = let short = numbered_short (codes "range") onu in omega (arith, short)
 words_short (grants.Poll onu) = let short = numbered_short (codes "poll") onu in omega (arith, short)
 
+until_short : (grant : Grant) (most : ℕ) → length (until_words grant most) ≤ 200
+until_short grant most =
+    let front = length-append (grant_words grant) (codes " within ") in
+    let all = length-append (grant_words grant ++ codes " within ") (decimal most) in
+    let words = words_short grant in
+    let few = number_short most in
+    omega (arith, front, all, words, few)
+
 light_short : (lit : Bool) → length (light_word lit) ≤ 5
 light_short true = omega arith
 light_short false = omega arith
 
 -- a number, a closed text and a text
-joined_short : (port : ℕ) (word rest : List ℕ) → length word ≤ 10 → length rest ≤ 100 → length ((decimal port ++ word) ++ rest) ≤ 4096
+joined_short : (port : ℕ) (word rest : List ℕ) → length word ≤ 10 → length rest ≤ 200 → length ((decimal port ++ word) ++ rest) ≤ 4096
 joined_short port word rest some few =
     let front = length-append (decimal port) word in
     let all = length-append (decimal port ++ word) rest in
@@ -72,10 +85,10 @@ joined_short port word rest some few =
 
 turn_short : (x : Asked) → CanBeAsked x → length (turn_text x) ≤ 4096
 turn_short asked.Nothing can = omega arith
-turn_short (asked.Event port event) can = joined_short port (codes " ") (event_text event) (omega arith) (event_short event can.1)
+turn_short (asked.Event port event) can = joined_short port (codes " ") (event_text event) (omega arith) (let short = event_short event can.1 in omega (arith, short))
 turn_short (asked.Frames port count) can =
     let few = number_short count in joined_short port (codes " frame ") (decimal count) (omega arith) (omega (arith, few))
-turn_short (asked.Until port grant) can = joined_short port (codes " until ") (grant_words grant) (omega arith) (words_short grant)
+turn_short (asked.Until port grant most) can = joined_short port (codes " until ") (until_words grant most) (omega arith) (until_short grant most)
 turn_short (asked.Light unit lit) can =
     let front = numbered_short (codes "unit") unit in
     let middle = length-append (numbered (codes "unit") unit) (codes " ") in
@@ -130,6 +143,43 @@ grant_told (grants.Poll onu) can =
     let small : onu < 2 ^ 64 = omega (arith, can) in
     (decimal onu, poll_parts (decimal onu) ∙ ap (λ (ps : List (List ℕ)). codes "poll" ∷ ps) (one_number onu small), decimal_is_IsNumeral onu small, can)
 
+within_parts : (text : List ℕ) → parts_of (codes "within " ++ text) ≡ codes "within" ∷ parts_of text
+unfolding parts_of
+within_parts text = refl
+
+-- an ONU-ID, and how many frames at most
+onu_within : (onu most : ℕ) → onu < 2 ^ 64 → most < 2 ^ 64
+    → parts_of ((decimal onu ++ codes " within ") ++ decimal most) ≡ decimal onu ∷ codes "within" ∷ decimal most ∷ []
+onu_within onu most small few =
+    let regrouped =
+    append_assoc (decimal onu) (codes " within ") (decimal most) ∙ sym (append_assoc (decimal onu) (codes " ") (codes "within " ++ decimal most)) in
+    let behind = within_parts (decimal most) ∙ ap (λ (ps : List (List ℕ)). codes "within" ∷ ps) (one_number most few) in
+    ap parts_of regrouped ∙ number_parts onu (codes "within " ++ decimal most) small ∙ ap (λ (ps : List (List ℕ)). decimal onu ∷ ps) behind
+
+search_within : (most : ℕ) → parts_of (until_words grants.Search most) ≡ codes "search" ∷ codes "within" ∷ parts_of (decimal most)
+unfolding parts_of
+search_within most = refl
+
+search_parts : parts_of (codes "search") ≡ codes "search" ∷ []
+unfolding parts_of
+search_parts = refl
+
+-- the parts of a grant, and then those that say how many frames at most
+abbrev then_within : ℕ → List (List ℕ) → List (List ℕ)
+then_within most parts = parts ++ (codes "within" ∷ decimal most ∷ [])
+
+until_told : (grant : Grant) (most : ℕ) → IsGrantToAsk grant → most < 2 ^ 64 → parts_of (until_words grant most) ≡ then_within most (parts_of (grant_words grant))
+until_told grants.Search most can few =
+    search_within most ∙ ap (λ (ps : List (List ℕ)). codes "search" ∷ codes "within" ∷ ps) (one_number most few) ∙ sym (ap (then_within most) search_parts)
+until_told (grants.Range onu) most can few =
+    let small : onu < 2 ^ 64 = omega (arith, can) in
+    range_parts ((decimal onu ++ codes " within ") ++ decimal most) ∙ ap (λ (ps : List (List ℕ)). codes "range" ∷ ps) (onu_within onu most small few)
+    ∙ sym (ap (then_within most) (range_parts (decimal onu) ∙ ap (λ (ps : List (List ℕ)). codes "range" ∷ ps) (one_number onu small)))
+until_told (grants.Poll onu) most can few =
+    let small : onu < 2 ^ 64 = omega (arith, can) in
+    poll_parts ((decimal onu ++ codes " within ") ++ decimal most) ∙ ap (λ (ps : List (List ℕ)). codes "poll" ∷ ps) (onu_within onu most small few)
+    ∙ sym (ap (then_within most) (poll_parts (decimal onu) ∙ ap (λ (ps : List (List ℕ)). codes "poll" ∷ ps) (one_number onu small)))
+
 -- ---- what is asked for
 
 asked_told : (x : Asked) → CanBeAsked x → SpellsAsked (turn_text x) x
@@ -144,12 +194,18 @@ asked_told (asked.Frames port count) can =
     let behind = frame_parts (decimal count) ∙ ap (λ (ps : List (List ℕ)). codes "frame" ∷ ps) (one_number count few) in
     let apart = ap parts_of regrouped ∙ number_parts port (codes "frame " ++ decimal count) small ∙ ap (λ (ps : List (List ℕ)). decimal port ∷ ps) behind in
     (decimal count, (decimal port, apart, decimal_is_IsNumeral port small, can.0), decimal_is_IsNumeral count few, can.1, can.2)
-asked_told (asked.Until port grant) can =
+asked_told (asked.Until port grant most) can =
     let small : port < 2 ^ 64 = omega (arith, can.0) in
-    let words = grant_words grant in
+    let few : most < 2 ^ 64 = omega (arith, can.3) in
+    let words = until_words grant most in
     let regrouped = append_assoc (decimal port) (codes " until ") words ∙ sym (append_assoc (decimal port) (codes " ") (codes "until " ++ words)) in
-    let apart = ap parts_of regrouped ∙ number_parts port (codes "until " ++ words) small ∙ ap (λ (ps : List (List ℕ)). decimal port ∷ ps) (until_parts words) in
-    (parts_of words, (decimal port, apart, decimal_is_IsNumeral port small, can.0), grant_told grant can.1)
+    let apart = ap parts_of regrouped ∙ number_parts port (codes "until " ++ words) small ∙ ap (λ (ps : List (List ℕ)). decimal port ∷ ps) (until_parts words ∙ ap (λ (ps : List (List ℕ)). codes "until" ∷ ps) (until_told grant most can.1 few)) in (
+      parts_of (grant_words grant),
+      codes "within" ∷ decimal most ∷ [],
+      (decimal port, apart, decimal_is_IsNumeral port small, can.0),
+      grant_told grant can.1,
+      inr (decimal most, refl, decimal_is_IsNumeral most few, can.2, can.3),
+    )
 asked_told (asked.Light unit lit) can =
     let small : unit < 2 ^ 64 = omega (arith, can) in
     let behind = number_parts unit (light_word lit) small ∙ ap (λ (ps : List (List ℕ)). decimal unit ∷ ps) (light_parts lit) in

@@ -7,7 +7,7 @@ use Rattle.gp_lines.specs.declared.fault.LineFault.{LineFault}
 use Rattle.gp_lines.specs.declared.fault.LineFault.TheVariants as fault
 use Rattle.gp_lines.specs.Spelling.{SpellsNumber}
 use Rattle.gp_lines.specs.TurnFault.{HasNumberFault, HaveOneFault}
-use Rattle.gp_lines.specs.Reading.{number_in, one_of}
+use Rattle.gp_lines.specs.Reading.{number_in, one_of, two_of}
 use Rattle.gp_lines.specs.TurnReading.{one_number}
 use Rattle.gp_lines.proofs.ReadLemmas.{err_same, IsNumberRead, number_ok, number_back, number_err, number_none, number_over, number_under}
 use Rattle.gp_lines.proofs.SpellingLemmas.{step_ok, one_ok}
@@ -40,6 +40,13 @@ outside_again low high text fault.Hex h = absurd h
 outside_again low high text fault.Range (is, inl under) = number_under low high text is under
 outside_again low high text fault.Range (is, inr over) = number_over low high text is over
 outside_again low high text fault.Long h = absurd h
+
+-- two parts are missing
+pub two_missing : (parts : List (List ℕ)) (f : LineFault) → two_of parts ≡ Err f → ◌≡◌ {A = Result (List ℕ × List ℕ) LineFault} (Err fault.Word) (Err f)
+two_missing [] f h = h
+two_missing (first ∷ []) f h = h
+two_missing (first ∷ second ∷ []) f h = cc h
+two_missing (first ∷ second ∷ third ∷ others) f h = h
 
 -- ---- a number that stands alone
 

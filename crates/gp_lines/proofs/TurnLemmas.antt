@@ -1,8 +1,7 @@
 -- What a port is asked for.
-use Rattle.std.proofs.Common.{◌≡◌, ℕ, ◌≤◌, true, false, List, [], ◌∷◌, Ok, Err, codes, refl, sym, ap, subst, ◌∙◌, ◌⊎◌, inl, inr}
+use Rattle.std.proofs.Common.{◌≡◌, ℕ, ◌≤◌, true, false, List, [], ◌∷◌, ◌++◌, Ok, Err, codes, refl, sym, ap, subst, ◌∙◌, ◌⊎◌, inl, inr}
 use Rattle.std.specs.Str.{bytes_eq}
 use Rattle.gp_machine.specs.declared.event.Event.{Event}
-use Rattle.gp_ranging.specs.declared.grant.Grant.{Grant}
 use Rattle.gp_lines.specs.declared.fault.LineFault.{LineFault}
 use Rattle.gp_lines.specs.declared.fault.LineFault.TheVariants as fault
 use Rattle.gp_lines.specs.declared.turn.Asked.{Asked}
@@ -11,24 +10,24 @@ use Rattle.gp_lines.specs.Parts.{parts_of}
 use Rattle.gp_lines.specs.Words.{event_word}
 use Rattle.gp_lines.specs.Spelling.{SpellsNumber, SpellsParts}
 use Rattle.gp_lines.specs.Fault.{HavePartsFault}
-use Rattle.gp_lines.specs.Turn.{SpellsGrant}
+use Rattle.gp_lines.specs.Turn.{SpellsGrant, SpellsBound}
 use Rattle.gp_lines.specs.TurnFault.{HaveOneFault, HaveGrantFault, AreOfFrames, AreOfUntil, HaveBehindFault}
 use Rattle.gp_lines.specs.Reading.{event_of_parts}
-use Rattle.gp_lines.specs.TurnReading.{one_number, grant_of, frames_turn, until_turn, event_turn, worded_turn, behind_turn}
+use Rattle.gp_lines.specs.TurnReading.{one_number, frames_turn, until_turn, event_turn, worded_turn, behind_turn}
 use Rattle.gp_lines.proofs.PartsLemmas.{parts_some}
 use Rattle.gp_lines.proofs.ReadLemmas.{ok_same, err_same}
 use Rattle.gp_lines.proofs.SpellingLemmas.{step_ok, joined, parts_read}
 use Rattle.gp_lines.proofs.FaultLemmas.{step_err, parts_fault, fault_again}
 use Rattle.gp_lines.proofs.NumberLemmas.{word_told, word_fault, one_number_ok, one_fault, one_refused}
-use Rattle.gp_lines.proofs.GrantLemmas.{first_same, rest_same, with_word, grant_read, grant_fault, grant_refused}
+use Rattle.gp_lines.proofs.GrantLemmas.{first_same, rest_same, with_word, grant_read, nothing_fault, grant_fault, grant_refused}
 
 -- what the parts behind a port ask for
 abbrev pub Behind : List (List ℕ) → ℕ → Asked → Type 0
 Behind parts port (asked.Event at event) = (at ≡ port) × SpellsParts parts event
 Behind parts port (asked.Frames at count) =
     (at ≡ port) × (digits : List ℕ) × (parts ≡ codes "frame" ∷ digits ∷ []) × SpellsNumber digits count × (1 ≤ count) × (count ≤ 1000000)
-Behind parts port (asked.Until at grant) =
-    (at ≡ port) × (others : List (List ℕ)) × (parts ≡ codes "until" ∷ others) × SpellsGrant others grant
+Behind parts port (asked.Until at grant most) =
+    (at ≡ port) × (named behind : List (List ℕ)) × (parts ≡ codes "until" ∷ (named ++ behind)) × SpellsGrant named grant × SpellsBound behind most
 Behind parts port _ = ⊥
 
 abbrev IsOtherWord : List ℕ → Type 0
@@ -67,10 +66,9 @@ frames_read port word parts x is h =
     (refl, read.0, joined word (codes "frame") parts _ is read.1, read.2.0, read.2.1, read.2.2)
 
 until_read : (port : ℕ) (word : List ℕ) (parts : List (List ℕ)) (x : Asked) → word ≡ codes "until" → until_turn port parts ≡ Ok x → Behind (word ∷ parts) port x
-unfolding until_turn
 until_read port word parts x is h =
-    let grant = step_ok (grant_of parts) _ x h in
-    subst (Behind (word ∷ parts) port) (ok_same _ x grant.2) (refl, parts, with_word word (codes "until") parts is, grant_read parts grant.0 grant.1)
+    let u = grant_read port parts x h in
+    subst (Behind (word ∷ parts) port) u.asked_is (refl, u.named, u.behind, joined word (codes "until") parts (u.named ++ u.behind) is u.parts_are, u.spelled, u.bound)
 
 pub behind_read : (port : ℕ) (parts : List (List ℕ)) (x : Asked) → behind_turn port parts ≡ Ok x → Behind parts port x
 behind_read port [] x h = cc h
@@ -111,11 +109,11 @@ pub frames_again : (port : ℕ) (digits : List ℕ) (count : ℕ) → one_number
 unfolding worded_turn frames_turn
 frames_again port digits count h = rw h refl
 
-pub until_again : (port : ℕ) (parts : List (List ℕ)) (grant : Grant) → grant_of parts ≡ Ok grant
-    → behind_turn port (codes "until" ∷ parts) ≡ Ok (asked.Until port grant)
-unfolding worded_turn until_turn
-until_again port [] grant h = cc h
-until_again port (next ∷ others) grant h = rw h refl
+pub until_again : (port : ℕ) (parts : List (List ℕ)) (x : Asked) → until_turn port parts ≡ Ok x
+    → behind_turn port (codes "until" ∷ parts) ≡ Ok x
+unfolding worded_turn
+until_again port [] x h = cc h
+until_again port (next ∷ others) x h = h
 
 -- ---- faults
 
@@ -135,14 +133,6 @@ frames_fault port parts f h =
       | inr count ↦ cc count.2
     ]
 
-until_fault : (port : ℕ) (parts : List (List ℕ)) (f : LineFault) → until_turn port parts ≡ Err f → HaveGrantFault parts f
-unfolding until_turn
-until_fault port parts f h =
-    elim (step_err (grant_of parts) _ f h) [
-      | inl wrong ↦ grant_fault parts f wrong
-      | inr grant ↦ cc grant.2
-    ]
-
 no_frames : (word : List ℕ) (parts others : List (List ℕ)) → (word ≡ codes "frame" → ⊥) → AreOfFrames (word ∷ parts) others → ⊥
 no_frames word parts others none are = none (first_same word (codes "frame") parts others are.3)
 
@@ -159,7 +149,7 @@ behind_fault port (word ∷ []) f h =
     elim (word_told word (codes "until")) [
       | inl until ↦
           let is = err_same fault.Word f (sym (until_alone port) ∙ ap (event_turn port) (sym (with_word word (codes "until") [] until)) ∙ h) in
-          inr (inl ([], with_word word (codes "until") [] until, grant_fault [] f (word_fault f (sym is))))
+          inr (inl ([], with_word word (codes "until") [] until, nothing_fault f (sym is)))
       | inr other ↦
           inr (inr (alone_no_frames word, λ o are. other.1 (first_same word (codes "until") [] o are), event_fault port (word ∷ []) f h))
     ]
@@ -168,7 +158,7 @@ behind_fault port (word ∷ next ∷ others) f h =
       | inl frame ↦
           inl (next ∷ others, (next, others, refl, with_word word (codes "frame") (next ∷ others) frame.0), frames_fault port (next ∷ others) f (sym frame.1 ∙ h))
       | inr (inl until) ↦
-          inr (inl (next ∷ others, with_word word (codes "until") (next ∷ others) until.0, until_fault port (next ∷ others) f (sym until.1 ∙ h)))
+          inr (inl (next ∷ others, with_word word (codes "until") (next ∷ others) until.0, grant_fault port (next ∷ others) f (sym until.1 ∙ h)))
       | inr (inr other) ↦
           inr (
           inr (
@@ -191,9 +181,9 @@ unfolding worded_turn frames_turn
 frames_refused port next others f wrong = rw (one_refused 1 1000000 (next ∷ others) f wrong) refl
 
 until_refused : (port : ℕ) (others : List (List ℕ)) (f : LineFault) → HaveGrantFault others f → behind_turn port (codes "until" ∷ others) ≡ Err f
-unfolding worded_turn until_turn
-until_refused port [] f wrong = until_alone port ∙ word_fault f (sym (err_same fault.Word f (grant_refused [] f wrong)))
-until_refused port (next ∷ others) f wrong = rw (grant_refused (next ∷ others) f wrong) refl
+unfolding worded_turn
+until_refused port [] f wrong = until_alone port ∙ word_fault f (sym (err_same fault.Word f (grant_refused port [] f wrong)))
+until_refused port (next ∷ others) f wrong = grant_refused port (next ∷ others) f wrong
 
 other_refused : (port : ℕ) (parts : List (List ℕ)) (f : LineFault) → ((others : List (List ℕ)) → AreOfFrames parts others → ⊥)
     → ((others : List (List ℕ)) → AreOfUntil parts others → ⊥) → HavePartsFault parts f → behind_turn port parts ≡ Err f

@@ -1,5 +1,5 @@
 -- A line that asks for something (this profile's own rule).
-use Rattle.std.specs.Prelude.{◌≡◌, ℕ, ◌==◌, ◌≤◌, Bool, true, false, List, [], ◌∷◌, ◌++◌, length, if◌then◌else◌, codes, decimal, ⊤}
+use Rattle.std.specs.Prelude.{◌≡◌, ℕ, ◌==◌, ◌≤◌, Bool, true, false, List, [], ◌∷◌, ◌++◌, length, ◌⊎◌, if◌then◌else◌, codes, decimal, ⊤}
 use Rattle.gp_ploam.specs.OnuIds.{last_onu}
 use Rattle.gp_ranging.specs.declared.grant.Grant.{Grant}
 use Rattle.gp_ranging.specs.declared.grant.Grant.TheVariants as grants
@@ -45,6 +45,13 @@ SpellsGrant parts grants.Search = parts ≡ codes "search" ∷ []
 SpellsGrant parts (grants.Range onu) = SpellsOnu (codes "range") parts onu
 SpellsGrant parts (grants.Poll onu) = SpellsOnu (codes "poll") parts onu
 
+-- at most so many frames: those behind `within`, or, where that isn't said, the most that one line asks for
+abbrev pub SpellsBound : List (List ℕ) → ℕ → Type 0
+SpellsBound parts most =
+    ((parts ≡ []) × (most ≡ most_frames))
+    ⊎ ((digits : List ℕ) × (parts ≡ codes "within" ∷ digits ∷ []) × SpellsNumber digits most × (1 ≤ most)
+    × (most ≤ most_frames))
+
 -- a port, and the parts behind it
 abbrev pub SpellsPort : List (List ℕ) → ℕ → List (List ℕ) → Type 0
 SpellsPort parts port others =
@@ -63,8 +70,9 @@ SpellsAsked text (asked.Event port event) =
 SpellsAsked text (asked.Frames port count) =
     (digits : List ℕ) × SpellsPort (parts_of text) port (codes "frame" ∷ digits ∷ [])
     × SpellsNumber digits count × (1 ≤ count) × (count ≤ most_frames)
-SpellsAsked text (asked.Until port grant) =
-    (others : List (List ℕ)) × SpellsPort (parts_of text) port (codes "until" ∷ others) × SpellsGrant others grant
+SpellsAsked text (asked.Until port grant most) =
+    (named behind : List (List ℕ)) × SpellsPort (parts_of text) port (codes "until" ∷ (named ++ behind))
+    × SpellsGrant named grant × SpellsBound behind most
 SpellsAsked text (asked.Light unit lit) =
     (digits : List ℕ) × (parts_of text ≡ codes "unit" ∷ digits ∷ light_word lit ∷ [])
     × SpellsNumber digits unit × (unit ≤ last_unit)
@@ -79,12 +87,16 @@ grant_words grants.Search = codes "search"
 grant_words (grants.Range onu) = numbered (codes "range") onu
 grant_words (grants.Poll onu) = numbered (codes "poll") onu
 
+-- frames up to a grant, at most so many
+abbrev pub until_words : Grant → ℕ → List ℕ
+until_words grant most = grant_words grant ++ codes " within " ++ decimal most
+
 -- a line that asks for this
 abbrev pub turn_text : Asked → List ℕ
 turn_text asked.Nothing = []
 turn_text (asked.Event port event) = decimal port ++ codes " " ++ event_text event
 turn_text (asked.Frames port count) = decimal port ++ codes " frame " ++ decimal count
-turn_text (asked.Until port grant) = decimal port ++ codes " until " ++ grant_words grant
+turn_text (asked.Until port grant most) = decimal port ++ codes " until " ++ until_words grant most
 turn_text (asked.Light unit lit) = numbered (codes "unit") unit ++ codes " " ++ light_word lit
 
 -- an ONU-ID that a grant names is one that a unit may have
@@ -98,5 +110,6 @@ abbrev pub CanBeAsked : Asked → Type 0
 CanBeAsked asked.Nothing = ⊤
 CanBeAsked (asked.Event port event) = (port ≤ last_port) × IsTold event
 CanBeAsked (asked.Frames port count) = (port ≤ last_port) × (1 ≤ count) × (count ≤ most_frames)
-CanBeAsked (asked.Until port grant) = (port ≤ last_port) × IsGrantToAsk grant
+CanBeAsked (asked.Until port grant most) =
+    (port ≤ last_port) × IsGrantToAsk grant × (1 ≤ most) × (most ≤ most_frames)
 CanBeAsked (asked.Light unit lit) = unit ≤ last_unit

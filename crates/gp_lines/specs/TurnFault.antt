@@ -1,5 +1,5 @@
 -- Why a line asks for nothing that could be done (this profile's own rule).
-use Rattle.std.specs.Prelude.{◌≡◌, ℕ, ◌<◌, ◌≤◌, Bool, false, List, [], ◌∷◌, length, ◌⊎◌, codes}
+use Rattle.std.specs.Prelude.{◌≡◌, ℕ, ◌<◌, ◌≤◌, Bool, false, List, [], ◌∷◌, length, Option, None, Some, ◌⊎◌, codes}
 use Rattle.std.specs.Str.Parse.{IsNumeral, digits_value}
 use Rattle.gp_ploam.specs.OnuIds.{last_onu}
 use Rattle.gp_lines.specs.declared.fault.LineFault.{LineFault}
@@ -26,11 +26,37 @@ HaveOneFault low high parts f =
 abbrev pub NameOnu : List (List ℕ) → List (List ℕ) → Type 0
 NameOnu parts others = (parts ≡ codes "range" ∷ others) ⊎ (parts ≡ codes "poll" ∷ others)
 
--- the fault of a grant
+-- nothing behind a grant, or `within` and a number
+abbrev pub AreOfBound : List (List ℕ) → Option (List ℕ) → Type 0
+AreOfBound parts None = parts ≡ []
+AreOfBound parts (Some digits) = parts ≡ codes "within" ∷ digits ∷ []
+
+-- a search window, and what bounds the frames up to it
+abbrev pub AreOfSearch : List (List ℕ) → Option (List ℕ) → Type 0
+AreOfSearch parts bound = (behind : List (List ℕ)) × (parts ≡ codes "search" ∷ behind) × AreOfBound behind bound
+
+-- a ranging grant or a poll, the number that it names, and what bounds the frames up to it
+abbrev pub AreOfOnu : List (List ℕ) → List ℕ → Option (List ℕ) → Type 0
+AreOfOnu parts digits bound = (behind : List (List ℕ)) × NameOnu parts (digits ∷ behind) × AreOfBound behind bound
+
+-- the fault of the number behind `within`
+abbrev pub HasBoundFault : Option (List ℕ) → LineFault → Type 0
+HasBoundFault None f = ⊥
+HasBoundFault (Some digits) f = HasNumberFault 1 most_frames digits f
+
+-- the ONU-ID is right
+abbrev pub IsOnu : List ℕ → Type 0
+IsOnu digits = IsNumeral 10 digits × (digits_value 10 digits ≤ last_onu)
+
+-- the fault of a grant and what bounds the frames up to it: that of the words, then that of the ONU-ID, then that of
+-- the number behind `within`
 abbrev pub HaveGrantFault : List (List ℕ) → LineFault → Type 0
 HaveGrantFault parts f =
-    ((others : List (List ℕ)) × NameOnu parts others × HaveOneFault 0 last_onu others f)
-    ⊎ (((others : List (List ℕ)) → ¬ (NameOnu parts others)) × ¬ (parts ≡ codes "search" ∷ []) × (f ≡ fault.Word))
+    (((bound : Option (List ℕ)) → ¬ (AreOfSearch parts bound))
+    × ((digits : List ℕ) (bound : Option (List ℕ)) → ¬ (AreOfOnu parts digits bound)) × (f ≡ fault.Word))
+    ⊎ ((bound : Option (List ℕ)) × AreOfSearch parts bound × HasBoundFault bound f)
+    ⊎ ((digits : List ℕ) × (bound : Option (List ℕ)) × AreOfOnu parts digits bound
+    × (HasNumberFault 0 last_onu digits f ⊎ (IsOnu digits × HasBoundFault bound f)))
 
 -- so many frames: the word, and something behind it
 abbrev pub AreOfFrames : List (List ℕ) → List (List ℕ) → Type 0

@@ -1,5 +1,5 @@
 -- What is read from a line that asks for something, or its first fault (this profile's own rule).
-use Rattle.std.specs.Prelude.{ℕ, Bool, true, false, List, [], ◌∷◌, length, Result, Ok, Err, if◌then◌else◌, nat_le, codes}
+use Rattle.std.specs.Prelude.{ℕ, Bool, true, false, List, [], ◌∷◌, length, Option, None, Some, Result, Ok, Err, if◌then◌else◌, nat_le, codes}
 use Rattle.std.specs.Str.{bytes_eq}
 use Rattle.gp_ranging.specs.declared.grant.Grant.{Grant}
 use Rattle.gp_ranging.specs.declared.grant.Grant.TheVariants as grants
@@ -18,31 +18,37 @@ one_number low high parts = do
   number_in low high digits
 
 -- a grant that names an ONU-ID
-unfoldable pub range_grant : List (List ℕ) → Result Grant LineFault
-range_grant parts = do
-  onu ← one_number 0 253 parts
+unfoldable pub range_grant : List ℕ → Result Grant LineFault
+range_grant digits = do
+  onu ← number_in 0 253 digits
   Ok (grants.Range onu)
 
-unfoldable pub poll_grant : List (List ℕ) → Result Grant LineFault
-poll_grant parts = do
-  onu ← one_number 0 253 parts
+unfoldable pub poll_grant : List ℕ → Result Grant LineFault
+poll_grant digits = do
+  onu ← number_in 0 253 digits
   Ok (grants.Poll onu)
 
-unfoldable pub onu_grant : List ℕ → List (List ℕ) → Result Grant LineFault
-onu_grant word parts =
-    if bytes_eq word (codes "range") then range_grant parts
-    else if bytes_eq word (codes "poll") then poll_grant parts
+unfoldable pub onu_grant : List ℕ → List ℕ → Result Grant LineFault
+onu_grant word digits =
+    if bytes_eq word (codes "range") then range_grant digits
+    else if bytes_eq word (codes "poll") then poll_grant digits
     else Err fault.Word
 
--- a grant that names none
-unfoldable pub lone_grant : List ℕ → Result Grant LineFault
-lone_grant word = if bytes_eq word (codes "search") then Ok grants.Search else Err fault.Word
+-- the number behind `within`, which isn't looked at yet
+unfoldable pub within_of : List (List ℕ) → Result (Option (List ℕ)) LineFault
+within_of parts = do
+  fields ← two_of parts
+  if bytes_eq fields.0 (codes "within") then Ok (Some fields.1) else Err fault.Word
 
--- the grant of the parts
-abbrev pub grant_of : List (List ℕ) → Result Grant LineFault
-grant_of [] = Err fault.Word
-grant_of (word ∷ []) = lone_grant word
-grant_of (word ∷ next ∷ others) = onu_grant word (next ∷ others)
+-- the same, if `within` stands there
+abbrev pub bound_of : List (List ℕ) → Result (Option (List ℕ)) LineFault
+bound_of [] = Ok None
+bound_of (word ∷ others) = within_of (word ∷ others)
+
+-- at most so many frames
+abbrev pub most_of : Option (List ℕ) → Result ℕ LineFault
+most_of None = Ok 1000000
+most_of (Some digits) = number_in 1 1000000 digits
 
 -- so many frames
 unfoldable pub frames_turn : ℕ → List (List ℕ) → Result Asked LineFault
@@ -50,11 +56,34 @@ frames_turn port parts = do
   count ← one_number 1 1000000 parts
   Ok (asked.Frames port count)
 
+-- frames up to a search window, by the parts behind its word
+unfoldable pub search_turn : ℕ → List (List ℕ) → Result Asked LineFault
+search_turn port behind = do
+  bound ← bound_of behind
+  most ← most_of bound
+  Ok (asked.Until port grants.Search most)
+
+-- frames up to a grant that names an ONU-ID, by its word, its number, and the parts behind that
+unfoldable pub onu_turn : ℕ → List ℕ → List ℕ → List (List ℕ) → Result Asked LineFault
+onu_turn port word digits behind = do
+  bound ← bound_of behind
+  grant ← onu_grant word digits
+  most ← most_of bound
+  Ok (asked.Until port grant most)
+
+abbrev pub named_turn : ℕ → List ℕ → List (List ℕ) → Result Asked LineFault
+named_turn port word [] = Err fault.Word
+named_turn port word (digits ∷ behind) = onu_turn port word digits behind
+
+-- frames up to a grant, by its word and the parts behind that
+unfoldable pub grant_turn : ℕ → List ℕ → List (List ℕ) → Result Asked LineFault
+grant_turn port word parts =
+    if bytes_eq word (codes "search") then search_turn port parts else named_turn port word parts
+
 -- frames up to a grant
-unfoldable pub until_turn : ℕ → List (List ℕ) → Result Asked LineFault
-until_turn port parts = do
-  grant ← grant_of parts
-  Ok (asked.Until port grant)
+abbrev pub until_turn : ℕ → List (List ℕ) → Result Asked LineFault
+until_turn port [] = Err fault.Word
+until_turn port (word ∷ parts) = grant_turn port word parts
 
 -- an event, once
 unfoldable pub event_turn : ℕ → List (List ℕ) → Result Asked LineFault

@@ -10,7 +10,7 @@ ghost use Rattle.gp_lines.specs.TurnReading as spec;
 use crate::event::event_in;
 use crate::fault::LineFault;
 use crate::fields::number_in;
-use crate::grant::{grant_in, one_number};
+use crate::grant::{one_number, until_turn};
 use crate::laws::turns_are_read;
 use crate::leading::{leading_burst, leading_number};
 use crate::parts::{cut, is_word, two_parts};
@@ -38,8 +38,8 @@ pub enum Asked {
     Event { port: u8, event: Event },
     /// So many frames at the port, 1 to `MOST_FRAMES`.
     Frames { port: u8, count: u32 },
-    /// Frames at the port, up to the one that makes this grant.
-    Until { port: u8, grant: Grant },
+    /// Frames at the port, up to the one that makes this grant, at most 1 to `MOST_FRAMES`.
+    Until { port: u8, grant: Grant, most: u32 },
     /// The light of a simulated unit comes or goes. The unit is told by its place in the script, 0 to `LAST_UNIT`.
     Light { unit: u16, lit: bool },
 }
@@ -51,15 +51,6 @@ fn frames_turn(port: u8, text: &[u8]) -> Result<Asked, LineFault>
 {
     let count = one_number(1, u64::from(MOST_FRAMES), text)? as u32;
     Ok(Asked::Frames { port, count })
-}
-
-/// Reads a grant, up to which frames are asked for.
-#[tactic(auto, unfolding(crate::specs::TurnReading::until_turn))]
-fn until_turn(port: u8, text: &[u8]) -> Result<Asked, LineFault>
-    ensures { result ≡ spec.until_turn port (parts_of text.now) }
-{
-    let grant = grant_in(text)?;
-    Ok(Asked::Until { port, grant })
 }
 
 /// Reads an event, which is to happen once.
@@ -206,8 +197,9 @@ fn asked_in(line: &[u8]) -> Result<Asked, LineFault>
 }
 
 /// Reads a line `PORT EVENT`, with the event as `parse_event` reads it, `PORT frame COUNT`, `PORT until GRANT`,
-/// `unit I light` or `unit I dark`. A grant is `search`, `range N` or `poll N`. A line that is empty or begins with `#`
-/// asks for nothing. The line comes without its line feed; a carriage return at its end is no part of it.
+/// `PORT until GRANT within COUNT`, `unit I light` or `unit I dark`. A grant is `search`, `range N` or `poll N`. A line
+/// that is empty or begins with `#` asks for nothing. The line comes without its line feed; a carriage return at its end
+/// is no part of it.
 ///
 /// Whether the port and the unit are there is not known here. Takes no memory.
 pub fn parse_turn(line: &[u8]) -> Result<Asked, LineFault>

@@ -21,8 +21,8 @@ pub returns-in-Err : goal.returns-in-Err
 returns-in-Err g c =
     let script = script_view c.args.script in
     let played = rw (c.in_ok-player.ensures, c.as_slice.ensures.value) at c.in-Err.ensures.plays in
-    told_unplayed script _ _ _ c.in-Err.fault _ c.from.ensures
-    (events_unplayed script _ _ _ _ _ _ _ _ c.in-Err.fault _ (chassis_stands c.each_port_runs.ensures script c.requires.no_units)
+    told_unplayed c.args.manner script _ _ _ c.in-Err.fault _ c.from.ensures
+    (events_unplayed c.args.manner script _ _ _ _ _ _ _ _ c.in-Err.fault _ (chassis_stands c.each_port_runs.ensures script c.requires.no_units)
     (chassis_plays script.mask script.events _ _ _ _ _ played) c.end_play.ensures)
 
 pub drive_lines-player-requires-clause-room : goal.drive_lines-player-requires-clause-room
@@ -38,4 +38,4 @@ returns g c =
     let script = script_view c.args.script in
     let written = rw (c.in_ok-player.ensures, c.as_slice.ensures.value) at c.in_default.ensures.plays.ok in
     rw c.told.ensures
-    (drives_told script _ _ _ _ _ (OnChassis c.requires.no_units (drives_to chassis_playing _ _ script.mask script.events _ _ _ _ _ _ written c.drive_lines-player.ensures)))
+    (drives_told c.args.manner script _ _ _ _ _ (OnChassis c.requires.no_units (drives_to c.args.manner chassis_playing _ _ script.mask script.events _ _ _ _ _ _ written c.drive_lines-player.ensures)))

@@ -42,8 +42,8 @@ returns-in-Err g c =
     let port : script.ports ≡ c.index.result.now ∷ [] = the_port c.args.script.ports.items c.index.result.now (c.requires.playable.one_fibre c.requires.units) ∙ ap (λ (p : PortConfig). p ∷ []) (search rules) in
     let played = fibre_plays script.mask script.losses script.events c.in_ok-player.player c.play_events.new.player _ _ _ c.in_ok-player.ensures.losses
     (rw c.as_slice-2.ensures.value at c.in-Err.ensures.plays) in
-    told_unplayed script _ _ _ c.in-Err.fault _ c.from.ensures
-    (events_unplayed script _ _ _ _ _ _ _ _ c.in-Err.fault _ (world_stands script c.index.result.now c.in_ok-player.player.play c.requires.units port world c.in_ok-player.ensures.next) played c.end_play.ensures)
+    told_unplayed c.args.manner script _ _ _ c.in-Err.fault _ c.from.ensures
+    (events_unplayed c.args.manner script _ _ _ _ _ _ _ _ c.in-Err.fault _ (world_stands script c.index.result.now c.in_ok-player.player.play c.requires.units port world c.in_ok-player.ensures.next) played c.end_play.ensures)
 
 pub drive_lines-player-requires-clause-room : goal.drive_lines-player-requires-clause-room
 drive_lines-player-requires-clause-room g c =
@@ -62,4 +62,4 @@ returns g c =
     let written = rw c.as_slice-2.ensures.value at c.in_default.ensures.plays.ok in
     let opens : OpensFibre script c.in_ok-player.player = record { config = c.index.result.now; one_port = port; world = world; next = c.in_ok-player.ensures.next; losses = c.in_ok-player.ensures.losses } in
     rw c.told.ensures
-    (drives_told script _ _ _ _ _ (OnFibre c.requires.units c.in_ok-player.player opens (drives_to fibre_playing _ _ script.mask script.events _ _ _ _ _ _ written c.drive_lines-player.ensures)))
+    (drives_told c.args.manner script _ _ _ _ _ (OnFibre c.requires.units c.in_ok-player.player opens (drives_to c.args.manner fibre_playing _ _ script.mask script.events _ _ _ _ _ _ written c.drive_lines-player.ensures)))

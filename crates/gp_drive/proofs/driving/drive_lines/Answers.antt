@@ -5,8 +5,8 @@ use Rattle.gp_drive.proofs.driving.drive_lines.Goals as goal
 pub returns-in-Ok : goal.returns-in-Ok
 returns-in-Ok g c =
     let served = rw c.in-Ok.is at c.run_lines-served.ensures in
-    turns_served g.P.EventPlayer.playing c.args.player c.args.mask c.in-Ok.field-0 _ _ _ _ _ _ _ c.new-driver.ensures (rw (c.lines.ensures, c.errors.ensures) refl) served.ok
+    turns_served c.args.manner g.P.EventPlayer.playing c.args.player c.args.mask c.in-Ok.field-0 _ _ _ _ _ _ _ c.new_in-driver.ensures (rw (c.lines.ensures, c.errors.ensures) refl) served.ok
 
 pub returns-in-Err : goal.returns-in-Err
 returns-in-Err g c =
-    turns_unserved g.P.EventPlayer.playing c.args.player c.args.mask c.in-Err.fault _ _ _ _ _ _ c.new-driver.ensures (rw c.in-Err.is at c.run_lines-served.ensures)
+    turns_unserved c.args.manner g.P.EventPlayer.playing c.args.player c.args.mask c.in-Err.fault _ _ _ _ _ _ c.new_in-driver.ensures (rw c.in-Err.is at c.run_lines-served.ensures)

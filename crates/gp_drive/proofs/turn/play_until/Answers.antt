@@ -1,5 +1,4 @@
 use Rattle.std.proofs.Common.{arith, ◌≡◌, ◌+◌}
-use Rattle.gp_lines.specs.Turn.{most_frames}
 use Rattle.gp_replay.proofs.PlayLemmas.{stands_at_first, stands_on, stands_whole, stops_on}
 use Rattle.gp_replay.proofs.PlayingLemmas.{keeps_none, keeps_on}
 use Rattle.gp_drive.proofs.TurnLemmas.{another, cut_off, found, never_found, no_frames, plays_told, stands_as}
@@ -13,14 +12,14 @@ loop-init g c = record {
 
 pub returns-in_err-play_frame-clause-plays : goal.returns-in_err-play_frame-clause-plays
 returns-in_err-play_frame-clause-plays g c =
-    stops_on c.args.mask _ _ _ _ _ (cut_off g.P.EventPlayer.playing c.args.port c.args.grant c.loop.counter most_frames c.loop-test.true) _ _ _ _ _ _ _ _
+    stops_on c.args.mask _ _ _ _ _ (cut_off g.P.EventPlayer.playing c.args.port c.args.grant c.loop.counter c.args.most c.loop-test.true) _ _ _ _ _ _ _ _
     c.loop.invariant.played c.in_err-play_frame.ensures.plays c.from_residual.ensures.1
 
 pub returns-then-branch-clause-plays : goal.returns-then-branch-clause-plays
 returns-then-branch-clause-plays g c =
     let done = c.in_ok-play_frame.ensures in
-    stands_whole c.args.mask _ _ _ _ _ _ tt
-    (stands_on c.args.mask _ _ _ _ (found g.P.EventPlayer.playing c.args.port c.args.grant c.loop.counter most_frames _ c.if-branch.true c.loop-test.true) _ _ _ _ _ _ _
+    stands_whole c.args.mask _ _ _ _ _ _ _
+    (stands_on c.args.mask _ _ _ _ (found g.P.EventPlayer.playing c.args.port c.args.grant c.loop.counter c.args.most _ c.if-branch.true c.loop-test.true) _ _ _ _ _ _ _
     c.loop.invariant.played (plays_told c.args.mask _ _ _ _ _ _ _ _ done.plays done.made))
 
 pub loop-preserved : goal.loop-preserved
@@ -35,6 +34,6 @@ pub returns-clause-plays : goal.returns-clause-plays
 returns-clause-plays g c =
     let few = c.loop-test.false in
     let within = c.loop.auto.counter-end in
-    let all : c.loop.counter ≡ most_frames = omega arith in
-    stands_whole c.args.mask _ _ _ _ _ _ tt
-    (stands_as c.args.mask _ _ _ _ _ _ (λ rs h. never_found g.P.EventPlayer.playing c.args.port c.args.grant c.loop.counter most_frames _ _ rs all h) c.loop.invariant.played)
+    let all : c.loop.counter ≡ c.args.most = omega arith in
+    stands_whole c.args.mask _ _ _ _ _ _ _
+    (stands_as c.args.mask _ _ _ _ _ _ (λ rs h. never_found g.P.EventPlayer.playing c.args.port c.args.grant c.loop.counter c.args.most _ _ rs all h) c.loop.invariant.played)
