@@ -41,6 +41,7 @@ fault_of_code mask text code fault.Digit spelled long h =
 fault_of_code mask text code fault.Crc spelled long h = refl
 fault_of_code mask text code fault.OutOfMemory spelled long h = absurd h
 fault_of_code mask text code fault.Write spelled long h = absurd h
+fault_of_code mask text code fault.Direction spelled long h = absurd h
 
 -- a text that says a line has no fault
 pub fault_of_said : (upstream : Bool) (mask : Mask) (text line : List ℕ) (f : LineFault) → Says upstream mask text line → HasLineFault mask text f → ⊥
@@ -65,8 +66,10 @@ one_fault mask text fault.Digit fault.Length h (inr other) = absurd (false≢tru
 one_fault mask text fault.Digit fault.Crc h k = fault_of_code mask text k.0 fault.Digit k.1 k.2 h
 one_fault mask text fault.OutOfMemory g h k = absurd h
 one_fault mask text fault.Write g h k = absurd h
+one_fault mask text fault.Direction g h k = absurd h
 one_fault mask text f fault.OutOfMemory h k = absurd k
 one_fault mask text f fault.Write h k = absurd k
+one_fault mask text f fault.Direction h k = absurd k
 
 -- the fault answered
 abbrev fault_in : Result (Unit {0}) LineFault → LineFault
@@ -98,6 +101,7 @@ fault_without_line upstream mask text fault.Digit f lacks own = own_fault mask t
 fault_without_line upstream mask text fault.Crc f lacks own = own_fault mask text fault.Crc f lacks
 fault_without_line upstream mask text fault.OutOfMemory f lacks own = foreign_fault upstream mask text lacks.0 fault.OutOfMemory f lacks.1 own (λ x. x)
 fault_without_line upstream mask text fault.Write f lacks own = absurd lacks
+fault_without_line upstream mask text fault.Direction f lacks own = absurd lacks
 
 -- what is answered where there is a line is no fault
 pub no_fault_with_line : (upstream : Bool) (mask : Mask) (text line : List ℕ) (f : LineFault) → Says upstream mask text line

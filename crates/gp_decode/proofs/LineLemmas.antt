@@ -13,6 +13,7 @@ lacks_line upstream mask text fault.Digit h = h
 lacks_line upstream mask text fault.Crc h = h
 lacks_line upstream mask text fault.OutOfMemory h = absurd h
 lacks_line upstream mask text fault.Write h = absurd h
+lacks_line upstream mask text fault.Direction h = absurd h
 
 -- why thirteen octets have no words is why a text of their digits has no line
 pub lacks_words : (upstream : Bool) (mask : Mask) (text code : List ℕ) (f : LineFault) → decode_of text ≡ Ok code → length code ≡ 13
@@ -23,3 +24,4 @@ lacks_words upstream mask text code fault.Crc spelled long h = (code, spelled, l
 lacks_words upstream mask text code fault.Length spelled long h = absurd h
 lacks_words upstream mask text code fault.Digit spelled long h = absurd h
 lacks_words upstream mask text code fault.Write spelled long h = absurd h
+lacks_words upstream mask text code fault.Direction spelled long h = absurd h

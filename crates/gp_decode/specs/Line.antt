@@ -35,7 +35,8 @@ abbrev pub HasWrongCheck : Mask → List ℕ → Type 0
 HasWrongCheck mask code = HasRightCheck code (mask_value mask) → ⊥
 
 -- the first fault of a text: an odd number of bytes, then a byte that is no hexadecimal digit, then another number of
--- octets than thirteen, then a check octet that is wrong. Memory and the writer are no matter of the text
+-- octets than thirteen, then a check octet that is wrong. Memory, the writer and what a line says of the direction are
+-- no matter of the text
 abbrev pub HasLineFault : Mask → List ℕ → LineFault → Type 0
 HasLineFault mask text fault.Length =
     (length text % 2 ≡ 1) ⊎ ((length text % 2 ≡ 0) × (list_all is_hex_digit text ≡ true) × (length text ≢ 26))
@@ -44,12 +45,20 @@ HasLineFault mask text fault.Crc =
     (code : List ℕ) × (decode_of text ≡ Ok code) × (length code ≡ 13) × HasWrongCheck mask code
 HasLineFault mask text fault.OutOfMemory = ⊥
 HasLineFault mask text fault.Write = ⊥
+HasLineFault mask text fault.Direction = ⊥
 
--- the fault is the text's own, and no matter of memory or of the writer
+-- the fault is the text's own, and no matter of memory, of the writer, or of what a line says of the direction
 abbrev pub IsOfText : LineFault → Type 0
 IsOfText fault.OutOfMemory = ⊥
 IsOfText fault.Write = ⊥
+IsOfText fault.Direction = ⊥
 IsOfText _ = Unit {0}
+
+-- the fault is seen in the text alone, before its octets are looked at
+abbrev pub IsOfSpelling : LineFault → Type 0
+IsOfSpelling fault.Length = Unit {0}
+IsOfSpelling fault.Digit = Unit {0}
+IsOfSpelling _ = ⊥
 
 -- why there is no line for a text: out of memory for the line that it says, or the text's own fault
 abbrev pub LacksLine : Bool → Mask → List ℕ → LineFault → Type 0

@@ -3,7 +3,7 @@ ghost use Rattle.std.specs.Prelude.{◌≡◌, IfOk, IfErr, Ok};
 ghost use Rattle.std.specs.List.{list_all};
 ghost use Rattle.hex.specs.Hex.{decode_of, is_hex_digit};
 ghost use Rattle.gp_ploam.specs.declared.check.Mask.{Mask};
-ghost use Rattle.gp_decode.specs.Line.{HasLineFault};
+ghost use Rattle.gp_decode.specs.Line.{HasLineFault, IsOfSpelling};
 
 use super::fault::LineFault;
 use hex::FromHex;
@@ -12,6 +12,7 @@ use hex::FromHex;
 pub fn code_in(text: &[u8]) -> Result<[u8; 13], LineFault>
     ensures code { IfOk result (λ code. decode_of text.now ≡ Ok code) }
     ensures fault { IfErr result (λ fault. (mask : Mask) → HasLineFault mask text.now fault) }
+    ensures spelling { IfErr result IsOfSpelling }
 {
     if text.len() % 2 == 1 {
         return Err(LineFault::Length);

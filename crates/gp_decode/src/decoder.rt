@@ -1,17 +1,15 @@
 //! Codes, one on each line.
-ghost use Rattle.std.specs.Prelude.{◌≡◌, ◌+◌, ◌<◌, ◌^◌, IfOk, None};
-ghost use Rattle.std.specs.String.{string_bytes};
-ghost use Rattle.gp_flow.specs.Lines.{Answers};
-ghost use Rattle.gp_decode.specs.Lines.{RefusesBy, error_line, fault_name, faulted, opened_decode};
+ghost use Rattle.std.specs.Prelude.{◌≡◌, ◌+◌, ◌<◌, ◌^◌};
+ghost use Rattle.gp_decode.specs.Lines.{after, opened_decode, opened_lines};
 
+use super::answer::Answer;
+use super::direction::Direction;
 use super::fault::LineFault;
-use super::line::line_for;
+use super::text::{is_remark, without_return};
 use gp_flow::{LineFault as Unanswered, LineWork};
 use gp_ploam::Mask;
 use gp_stream::Sink;
-use std::alloc::{AllocError, Global};
-use std::fmt;
-use std::fmt::{Display, Formatter};
+use std::alloc::Global;
 use std::io::Write;
 use std::marker::Model;
 
@@ -20,19 +18,19 @@ use std::marker::Model;
 pub struct FaultAt {
     /// The line, counted from 1.
     pub line: u64,
-    /// Its fault: `Length`, `Digit` or `Crc`.
+    /// Its fault: `Length`, `Digit`, `Crc` or `Direction`.
     pub fault: LineFault,
 }
 
-/// Says to each line the message of the code that it is the hexadecimal digits of, or its fault. Contracts see the
-/// direction and the mask of the codes, how many lines came, and the first that had a fault.
+/// Says to each line the message of the code in it, or its fault, and passes over remarks. Contracts see the direction
+/// and the mask of the codes, how many lines came, and the first that had a fault.
 #[derive(Drop)]
 pub struct Decoder {
-    alloc: Global,
-    upstream: bool,
+    direction: Direction,
     mask: Mask,
     lines: u64,
     first: Option<FaultAt>,
+    answer: Answer,
 }
 
 impl Model for Decoder {
@@ -40,61 +38,27 @@ impl Model for Decoder {
 
     ghost Value = { DecodeState };
 
-    ghost view = { λ s. record { upstream = s.upstream; mask = s.mask; lines = s.lines; first = s.first } };
-}
-
-/// Gives the name of a fault.
-fn fault_name(fault: LineFault) -> &'static str
-    ensures { result.now ≡ fault_name fault }
-{
-    match fault {
-        LineFault::Length => "length",
-        LineFault::Digit => "digit",
-        LineFault::Crc => "crc",
-        LineFault::OutOfMemory => "memory",
-        LineFault::Write => "write",
-    }
-}
-
-/// What is said to a line with a fault, without its line feed.
-#[derive(Clone, Copy)]
-struct ErrorText {
-    line: u64,
-    fault: LineFault,
-}
-
-impl Display for ErrorText {
-    ghost use Rattle.std.specs.Prelude.{Some};
-    ghost use Rattle.gp_decode.specs.Lines.{error_text};
-
-    ghost output = { λ t. Some (error_text t.line t.fault) };
-
-    fn fmt<W: fmt::Write>(&self, f: &mut Formatter<W>) -> fmt::Result {
-        let line = self.line;
-        let name = fault_name(self.fault);
-        write!(f, "error {line} {name}")
-    }
-}
-
-/// Makes what is said to a line with a fault.
-fn error_line(alloc: Global, line: u64, fault: LineFault) -> Result<String, AllocError>
-    ensures { IfOk result (λ text. string_bytes text ≡ error_line line fault) }
-{
-    let text = ErrorText { line, fault };
-    format!(in alloc; "{text}\n")
+    ghost view = { λ s. record { direction = s.direction; mask = s.mask; lines = s.lines; first = s.first } };
 }
 
 impl Decoder {
-    /// Makes one to which no line came.
+    /// Makes one to which no line came, for codes of one direction.
     pub fn new(alloc: Global, upstream: bool, mask: Mask) -> Decoder
         ensures { result ≡ opened_decode upstream mask }
     {
+        Decoder::directed(alloc, Direction::of(upstream), mask)
+    }
+
+    /// Makes one to which no line came.
+    pub fn directed(alloc: Global, direction: Direction, mask: Mask) -> Decoder
+        ensures { result ≡ opened_lines direction mask }
+    {
         Decoder {
-            alloc,
-            upstream,
+            direction,
             mask,
             lines: 0,
             first: None,
+            answer: Answer::new(alloc),
         }
     }
 
@@ -105,28 +69,16 @@ impl Decoder {
         self.first
     }
 
-    /// Counts a line with a fault.
-    fn note(&mut self, fault: LineFault)
+    /// Counts a line, with its fault.
+    fn count(&mut self, fault: Option<LineFault>)
         requires { self.old.lines + 1 < 2 ^ 64 }
-        ensures { self.new ≡ faulted fault self.old }
+        ensures { self.new ≡ after fault self.old }
     {
         self.lines += 1;
-        let here = FaultAt {
-            line: self.lines,
-            fault,
-        };
-        self.first = Some(self.first.unwrap_or(here));
-    }
-
-    /// Says to a line that it has a fault.
-    fn refuse<W: Write>(&mut self, fault: LineFault, sink: &mut Sink<W>) -> Result<(), Unanswered>
-        requires { self.old.lines + 1 < 2 ^ 64 }
-        ensures { Answers (RefusesBy fault) None self.old self.new sink.old sink.new result }
-    {
-        let line = error_line(self.alloc, self.lines + 1, fault)?;
-        sink.put(line.as_bytes())?;
-        self.note(fault);
-        Ok(())
+        if let Some(fault) = fault {
+            let line = self.lines;
+            self.first = Some(self.first.unwrap_or(FaultAt { line, fault }));
+        }
     }
 }
 
@@ -145,13 +97,15 @@ impl LineWork for Decoder {
         if self.lines == u64::MAX {
             return Err(Unanswered::Full);
         }
-        let line = match line_for(self.alloc, text, self.upstream, self.mask) {
-            Ok(line) => line,
-            Err(LineFault::OutOfMemory) => return Err(Unanswered::OutOfMemory),
-            Err(fault) => return self.refuse(fault, sink),
-        };
-        sink.put(line.as_bytes())?;
-        self.lines += 1;
+        let text = without_return(text);
+        if is_remark(text) {
+            self.count(None);
+            return Ok(());
+        }
+        let line = self.lines + 1;
+        let fault = self.answer.tell(line, text, self.direction, self.mask)?;
+        sink.put(self.answer.said.as_slice())?;
+        self.count(fault);
         Ok(())
     }
 
@@ -159,6 +113,9 @@ impl LineWork for Decoder {
         if self.lines == u64::MAX {
             return Err(Unanswered::Full);
         }
-        self.refuse(LineFault::Length, sink)
+        self.answer.refuse(self.lines + 1, LineFault::Length)?;
+        sink.put(self.answer.said.as_slice())?;
+        self.count(Some(LineFault::Length));
+        Ok(())
     }
 }

@@ -26,6 +26,9 @@ pub enum LineFault {
     /// A write failed or took nothing, or a flush failed, which counts as a failed write.
     #[error("the line was not written")]
     Write,
+    /// A line that has to say whose message its code is doesn't. No fault of one code.
+    #[error("a line begins with up or down")]
+    Direction,
 }
 
 impl From<PloamFault> for LineFault {

@@ -3,30 +3,43 @@
 //! Promise: a code is told in the words of its message, or its first fault is (`decode_line`, `decode_lines`).
 //!
 //! - `line.rt`: `decode_line`, which reads the digits and writes the message's line.
-//! - `lines.rt`: `decode_lines`, which does so of each line of an input; `decoder.rt`: `Decoder`, what serves the lines.
+//! - `lines.rt`: `decode_lines`, which does so of each line of an input, and `decode_each`, where each says its
+//!   direction; `decoder.rt`: `Decoder`, what serves the lines; `answer.rt`: what is said to one; `text.rt`: what a
+//!   line says; `direction.rt`: whose messages the codes are.
 //! - `words.rt`: `words_of`, the words of thirteen octets. `append.rt`: `push_words_of`, the same behind what a buffer
 //!   holds.
 //! - `code.rt`: the thirteen octets of a text of hexadecimal digits.
-//! - `message.rt`: a message as its name and its fields.
+//! - `message.rt`: a message as its name and its fields; `names.rt`: `other_name`, the names of messages without a row.
+//! - `laws.rt`: a code in digits alone is read as it is; no row has another name.
 //! - `fault.rt`: what may be wrong with a text, and the line and the exit status of a program that meets it.
 //!
-//! Where to make which change: the words for a message stand in `message.rt`, `append.rt` and `specs/Message.antt`; what
-//! is wrong with a text, and in which order, in `code.rt` and `specs/Line.antt`; what is said to a line of many in
-//! `specs/Lines.antt`; a line on standard error or an exit status in `fault.rt` and `specs/Faults.antt`.
+//! Where to make which change: the words for a message stand in `message.rt`, `append.rt` and `specs/Message.antt`;
+//! what is wrong with a text, and in which order, in `code.rt` and `specs/Line.antt`; what is passed over in a line of
+//! many in `text.rt` and `specs/LineText.antt`; what is said to it in `answer.rt` and `specs/Lines.antt`; a line on
+//! standard error or an exit status in `fault.rt` and `specs/Faults.antt`.
 #![tactic(auto)]
 
+mod answer;
 mod append;
 mod code;
 mod decoder;
+mod direction;
 mod fault;
+mod laws;
 mod line;
 mod lines;
 mod message;
+mod names;
+mod text;
 mod words;
 
 pub use append::push_words_of;
 pub use decoder::{Decoder, FaultAt};
+pub use direction::Direction;
 pub use fault::LineFault;
+pub use laws::{named_rows_stay, plain_digits_stay};
 pub use line::decode_line;
-pub use lines::decode_lines;
+pub use lines::{decode_each, decode_lines};
+pub use names::other_name;
+pub use text::{is_remark, without_return};
 pub use words::words_of;

@@ -1,18 +1,21 @@
 //! All lines of an input.
 ghost use Rattle.std.specs.Prelude.{◌≡◌, true};
-ghost use Rattle.gp_decode.specs.Lines.{DecodesLines};
+ghost use Rattle.gp_decode.specs.Lines.{DecodesEach, DecodesLines};
 
 use super::decoder::{Decoder, FaultAt};
+use super::direction::Direction;
 use gp_flow::{LinesFault, run_lines};
 use gp_ploam::Mask;
 use gp_stream::{Sink, Source};
 use std::alloc::Global;
 use std::io::{Read, Write};
 
-/// Answers each line of an input by the line of the message that it is the hexadecimal digits of, or by
-/// `error LINE KIND` where it has a fault, as it comes. Answers the first line that had one. Memory is flat.
+/// Answers each line of an input by the line of the message whose code it is, or by `error LINE KIND` where it has a
+/// fault, as it comes. Answers the first line that had one. Memory is flat.
 ///
-/// A line of more than 4,096 octets isn't looked at, and has the fault of its length.
+/// A carriage return at the end of a line is no part of it, and a line that is empty or begins with `#` is passed over.
+/// Spaces, hyphens and colons in a code are passed over, and so is `0x` in front of digits. Behind `error LINE crc` it
+/// is said what would be right. A line of more than 4,096 octets isn't looked at, and has the fault of its length.
 pub fn decode_lines<R: Read, W: Write>(
     alloc: Global,
     source: &mut Source<R>,
@@ -23,7 +26,22 @@ pub fn decode_lines<R: Read, W: Write>(
     requires { sink.old.flushed ≡ true }
     ensures { DecodesLines upstream mask source.old source.new sink.old sink.new result }
 {
-    let mut decoder = Decoder::new(alloc, upstream, mask);
+    decode_each(alloc, source, sink, Direction::of(upstream), mask)
+}
+
+/// Does so in a direction that each line may say itself, by `up` or `down` and a space before the code. A line that has
+/// to and doesn't is answered by `error LINE direction`.
+pub fn decode_each<R: Read, W: Write>(
+    alloc: Global,
+    source: &mut Source<R>,
+    sink: &mut Sink<W>,
+    direction: Direction,
+    mask: Mask,
+) -> Result<Option<FaultAt>, LinesFault>
+    requires { sink.old.flushed ≡ true }
+    ensures { DecodesEach direction mask source.old source.new sink.old sink.new result }
+{
+    let mut decoder = Decoder::directed(alloc, direction, mask);
     run_lines(alloc, source, sink, &mut decoder)?;
     Ok(decoder.first_fault())
 }

@@ -1,5 +1,7 @@
-use Rattle.gp_decode.proofs.DecoderLemmas.{long_line}
+use Rattle.std.proofs.Common.{rules}
+use Rattle.gp_decode.proofs.DecoderLemmas.{stopped_long_line}
 use Rattle.gp_decode.proofs.decoder.DecoderLineWork.long_line.Goals as goal
 
-pub returns : goal.returns
-returns g c = long_line c.args.self.now _ _ _ _ c.refuse.ensures
+pub returns-in_err-put : goal.returns-in_err-put
+returns-in_err-put g c =
+    stopped_long_line {T = Unit {0}} c.args.self.now _ c.as_slice.result.now _ _ _ _ (search rules) (search rules) (search rules)
