@@ -1,7 +1,7 @@
 //! What is told of a file that may be a script: its counts, or where it is wrong and what is wanted there.
 mod rows;
 
-use gp_check::{ScriptCheckFault, check_script};
+use gp_check::{Purpose, ScriptCheckFault, check_script, placed_line};
 use gp_stream::{Sink, Source};
 use std::alloc::{AllocError, Global};
 use std::io::{self, ErrorKind, Read};
@@ -115,7 +115,7 @@ fn tables(alloc: Global, before: &str, count: usize, behind: &str) -> Result<Str
 #[test]
 fn too_many_tables(rt: HostRuntime) -> Result<(), AllocError> {
     let text = tables(rt.alloc(), "licences = 1\nport = [", 17, "]")?;
-    let line = "port: 3 range, 1 to 16 tables";
+    let line = "port: 3 range, 1 to 16 tables, line 2";
     assert!(rt; is_told(rt.alloc(), text.as_str(), line, false)?);
     let text = tables(
         rt.alloc(),
@@ -123,7 +123,38 @@ fn too_many_tables(rt: HostRuntime) -> Result<(), AllocError> {
         1_025,
         "]",
     )?;
-    let line = "unit: 3 range, 0 to 1024 tables";
+    let line = "unit: 3 range, 0 to 1024 tables, line 3";
+    assert!(rt; is_told(rt.alloc(), text.as_str(), line, false)?);
+    Ok(())
+}
+
+/// What is told of octets alone is what is told of a file that has them, and nothing where they are a script.
+#[test]
+fn lines_without_a_name(rt: HostRuntime) -> Result<(), AllocError> {
+    let text = b"licences = 1\n[[port]]\ncycles = 0".as_slice();
+    let told = placed_line(rt.alloc(), Purpose::Replay, text)?;
+    let line = "port 0, cycles: 3 range, 1 to 10, line 3";
+    assert_eq!(rt; told.as_ref().map(|told| told.as_str()), Some(line));
+    let text = b"licences = 1\n[[port]]\n[[unit]]\nserial = \"ABCD00000001\"\ndelay = 0".as_slice();
+    assert_eq!(rt;
+        placed_line(rt.alloc(), Purpose::Replay, text)?.is_none(),
+        true
+    );
+    let told = placed_line(rt.alloc(), Purpose::Storm, text)?;
+    let line = "unit: 2 shape, not in a storm";
+    assert_eq!(rt; told.as_ref().map(|told| told.as_str()), Some(line));
+    Ok(())
+}
+
+/// A text of many lines takes no deep stack.
+#[test]
+fn lines_in_long_texts(rt: HostRuntime) -> Result<(), AllocError> {
+    let mut feeds = String::from_str(rt.alloc(), "\n")?;
+    for _ in 0..17 {
+        feeds = format!(in rt.alloc(); "{feeds}{feeds}")?;
+    }
+    let text = format!(in rt.alloc(); "licences = 1\n[[port]]\n{feeds}cycles = 0")?;
+    let line = "port 0, cycles: 3 range, 1 to 10, line 131075";
     assert!(rt; is_told(rt.alloc(), text.as_str(), line, false)?);
     Ok(())
 }

@@ -1,4 +1,7 @@
-use gp_decode::{FaultAt, LineFault, decode_line, decode_lines, push_words_of};
+use gp_decode::{
+    Direction, FaultAt, LineFault, decode_each, decode_line, decode_lines, other_name,
+    push_words_of,
+};
 use gp_ploam::Mask;
 use gp_stream::{Sink, Source};
 use std::alloc::{AllocError, Global};
@@ -181,8 +184,11 @@ fn memory_short_or_ample(rt: HostRuntime) {
     }
 }
 
+/// A line, and its fault.
+type Fault = Option<(u64, LineFault)>;
+
 /// Lines of codes, what is said to them, and the first that has a fault.
-const INPUTS: [(&'static str, &'static str, Option<FaultAt>); 4] = [
+const INPUTS: [(&'static str, &'static str, Fault); 15] = [
     ("", "", None),
     (
         "ff03004142434400000001001b\nff0c00000000000000000000c3",
@@ -191,21 +197,75 @@ const INPUTS: [(&'static str, &'static str, Option<FaultAt>); 4] = [
     ),
     (
         "ff03004142434400000001001b\n0g\n00050000000000000000000062\nff0c00000000000000000000c3\n",
-        "Assign_ONU-ID 0 ABCD00000001\nerror 2 digit\nerror 3 crc\nPOPUP 255\n",
-        Some(FaultAt {
-            line: 2,
-            fault: LineFault::Digit,
-        }),
+        "Assign_ONU-ID 0 ABCD00000001\nerror 2 digit\nerror 3 crc, 63 should stand\nPOPUP 255\n",
+        Some((2, LineFault::Digit)),
+    ),
+    // Empty lines and remarks are passed over, and counted.
+    ("\n\r\n#\n# 0g\r\n#0g", "", None),
+    ("\n#\n0\n", "error 3 length\n", Some((3, LineFault::Length))),
+    // A carriage return at the end is no part of a line, and anywhere else it is no digit.
+    ("ff0c00000000000000000000c3\r\n", "POPUP 255\n", None),
+    ("ff0c00000000000000000000c3\r", "POPUP 255\n", None),
+    (
+        "ff0c00000000000000000000c\r3\r\r\n",
+        "error 1 digit\n",
+        Some((1, LineFault::Digit)),
+    ),
+    // What may stand between digits, and in front of them.
+    (
+        "ff:0c:00:00:00:00:00:00:00:00:00:00:c3\nFF-0C-00-00-00-00-00-00-00-00-00-00-C3\n",
+        "POPUP 255\nPOPUP 255\n",
+        None,
     ),
     (
-        "\n",
+        "ff 0c 00 00 00 00 00 00 00 00 00 00 c3\n  ff0c0000 00000000  00000000 c3 \n f f:-0c00000000000000000000c3",
+        "POPUP 255\nPOPUP 255\nPOPUP 255\n",
+        None,
+    ),
+    (
+        "0xff0c00000000000000000000c3\n0XFF0C00000000000000000000C3\n0xff 0x0c 0x00000000000000000000 0xc3\n",
+        "POPUP 255\nPOPUP 255\nPOPUP 255\n",
+        None,
+    ),
+    (
+        "ff0x0c00000000000000000000c3\n0x0xff0c00000000000000000000c3\nxff0c00000000000000000000c3a\n",
+        "error 1 digit\nerror 2 digit\nerror 3 digit\n",
+        Some((1, LineFault::Digit)),
+    ),
+    (
+        "0x\n \nff:0\n:-#\n",
+        "error 1 length\nerror 2 length\nerror 3 length\nerror 4 length\n",
+        Some((1, LineFault::Length)),
+    ),
+    // What would be right: the other mask where it is, and else an octet.
+    (
+        "ff03004142434400000001004e\nff03004142434400000001001a\n00050000000000000000000036",
+        "error 1 crc, right under mask 85\nerror 2 crc, 1b should stand\nerror 3 crc, right under mask 85\n",
+        Some((1, LineFault::Crc)),
+    ),
+    // A tabulator isn't passed over.
+    (
+        "ff\t0c00000000000000000000c3\n",
         "error 1 length\n",
-        Some(FaultAt {
-            line: 1,
-            fault: LineFault::Length,
-        }),
+        Some((1, LineFault::Length)),
     ),
 ];
+
+/// Decodes an input in a direction, under a mask, and tells whether this is said and answered.
+fn says(
+    alloc: Global,
+    input: &str,
+    direction: Direction,
+    mask: Mask,
+    wanted: (&str, Fault),
+) -> Result<bool, AllocError> {
+    let mut source = Source::endless(input.as_bytes());
+    let mut sink = Sink::new(alloc, Vec::new(alloc))?;
+    let outcome = decode_each(alloc, &mut source, &mut sink, direction, mask);
+    let written = sink.into_inner();
+    let first = wanted.1.map(|(line, fault)| FaultAt { line, fault });
+    Ok(outcome == Ok(first) && written.as_slice() == wanted.0.as_bytes())
+}
 
 #[test]
 fn lines_of_an_input(rt: HostRuntime) -> Result<(), AllocError> {
@@ -214,8 +274,92 @@ fn lines_of_an_input(rt: HostRuntime) -> Result<(), AllocError> {
         let mut sink = Sink::new(rt.alloc(), Vec::new(rt.alloc()))?;
         let outcome = decode_lines(rt.alloc(), &mut source, &mut sink, DOWN, Mask::Plain);
         let written = sink.into_inner();
+        let first = first.map(|(line, fault)| FaultAt { line, fault });
         assert_eq!(rt; outcome, Ok(first), "{input}");
         assert!(rt; written.as_slice() == said.as_bytes(), "{input}");
+    }
+    Ok(())
+}
+
+/// Lines of codes, their direction and mask, what is said to them, and the first that has a fault.
+const DIRECTED: [(&'static str, Direction, Mask, &'static str, Fault); 6] = [
+    (
+        "00090a0000000000000000007e\n",
+        Direction::Up,
+        Mask::Plain,
+        "Acknowledge 0 10\n",
+        None,
+    ),
+    (
+        "ff03004142434400000001001b\n00 04 00 00 00 00 00 00 00 00 00 00 00\n",
+        Direction::Down,
+        Mask::Coset,
+        "error 1 crc, right under mask 0\nerror 2 crc, 29 should stand\n",
+        Some((1, LineFault::Crc)),
+    ),
+    (
+        "up 00090a0000000000000000007e\ndown ff0c00000000000000000000c3\r\n\n# up\ndown  0xff:0c00000000000000000000c3",
+        Direction::Each,
+        Mask::Plain,
+        "Acknowledge 0 10\nPOPUP 255\nPOPUP 255\n",
+        None,
+    ),
+    (
+        "ff0c00000000000000000000c3\nup\nUp ff0c00000000000000000000c3\n up ff0c00000000000000000000c3\n",
+        Direction::Each,
+        Mask::Plain,
+        "error 1 direction\nerror 2 direction\nerror 3 direction\nerror 4 direction\n",
+        Some((1, LineFault::Direction)),
+    ),
+    (
+        "up \ndown:ff\nupff\nup 0g\ndown ff0c000000000000000000000\nup 00090a0000000000000000002b\n",
+        Direction::Each,
+        Mask::Plain,
+        "error 1 length\nerror 2 direction\nerror 3 direction\nerror 4 digit\nerror 5 length\n\
+        error 6 crc, right under mask 85\n",
+        Some((1, LineFault::Length)),
+    ),
+    (
+        "up 00090a0000000000000000007e\n",
+        Direction::Up,
+        Mask::Plain,
+        "error 1 digit\n",
+        Some((1, LineFault::Digit)),
+    ),
+];
+
+#[test]
+fn lines_that_say_their_direction(rt: HostRuntime) -> Result<(), AllocError> {
+    for (input, direction, mask, said, first) in DIRECTED {
+        let right = says(rt.alloc(), input, direction, mask, (said, first))?;
+        assert!(rt; right, "{input}");
+    }
+    Ok(())
+}
+
+/// A line of 4,096 octets is looked at, and a longer one isn't, though it be a remark.
+#[test]
+fn long_lines(rt: HostRuntime) -> Result<(), AllocError> {
+    let none: Fault = None;
+    for (count, first) in [(4095, none), (4096, Some((1, LineFault::Length)))] {
+        let mut input = String::new(rt.alloc());
+        input.push('#')?;
+        for _ in 0..count {
+            input.push(' ')?;
+        }
+        let said = if first.is_some() {
+            "error 1 length\n"
+        } else {
+            ""
+        };
+        let right = says(
+            rt.alloc(),
+            input.as_str(),
+            Direction::Each,
+            Mask::Plain,
+            (said, first),
+        )?;
+        assert!(rt; right, "{count}");
     }
     Ok(())
 }
@@ -283,4 +427,41 @@ fn no_words_of_a_wrong_code(rt: HostRuntime) -> Result<(), AllocError> {
         assert!(rt; holds(&out, ""));
     }
     Ok(())
+}
+
+/// Messages that have a name and no row: upstream or downstream, the identifier (G.984.3, clause 9.2), the name.
+const NAMES: [(bool, u8, &'static str); 18] = [
+    (DOWN, 0x08, "Encrypted_Port-ID"),
+    (DOWN, 0x09, "Request_Password"),
+    (DOWN, 0x0d, "Request_Key"),
+    (DOWN, 0x0e, "Configure_Port-ID"),
+    (DOWN, 0x0f, "PEE"),
+    (DOWN, 0x10, "Change_Power_Level"),
+    (DOWN, 0x11, "PST"),
+    (DOWN, 0x12, "BER_Interval"),
+    (DOWN, 0x13, "Key_Switching_Time"),
+    (DOWN, 0x14, "Extended_Burst_Length"),
+    (DOWN, 0x15, "PON-ID"),
+    (DOWN, 0x16, "Swift_POPUP"),
+    (DOWN, 0x17, "Ranging_Adjustment"),
+    (UP, 0x02, "Password"),
+    (UP, 0x05, "Encryption_Key"),
+    (UP, 0x06, "PEE"),
+    (UP, 0x07, "PST"),
+    (UP, 0x08, "REI"),
+];
+
+#[test]
+fn names_of_messages_without_a_row(rt: HostRuntime) {
+    for upstream in [DOWN, UP] {
+        for id in 0..=255 {
+            let mut wanted = None;
+            for (way, own, name) in NAMES {
+                if way == upstream && own == id {
+                    wanted = Some(name);
+                }
+            }
+            assert_eq!(rt; other_name(upstream, id), wanted, "{id}");
+        }
+    }
 }

@@ -1,5 +1,5 @@
 //! Lines that ask for something, and what is said to each.
-use gp_drive::{DriveFault, Driven, run_drive};
+use gp_drive::{DriveFault, DriveManner, Driven, run_drive, run_drive_in};
 use gp_replay::RunFault;
 use gp_script::ScriptFault;
 use gp_stream::{Sink, Source};
@@ -104,6 +104,76 @@ fn a_unit_on_the_fibre(rt: HostRuntime) {
     let outcome = driven(rt.alloc(), FIBRE, lines);
     let said = outcome.map(|(_, said)| said);
     assert!(rt; said.is_some_and(|said| said.as_slice() == expected.as_bytes()));
+}
+
+/// Tells whether this is written of a script and lines, so many of which are answered, so many of them by errors, where
+/// it is told that each is done.
+fn drives_and_tells(
+    alloc: Global,
+    script: &str,
+    lines: &[u8],
+    expected: &str,
+    (count, errors): (u64, u64),
+) -> bool {
+    let manner = DriveManner { done: true };
+    let all = Driven {
+        lines: count,
+        errors,
+    };
+    let mut script = Source::new(script.as_bytes());
+    let mut turns = Source::endless(lines);
+    let Ok(mut sink) = Sink::new(alloc, Vec::new(alloc)) else {
+        return false;
+    };
+    let outcome = run_drive_in(alloc, manner, &mut script, &mut turns, &mut sink);
+    outcome == Ok(all) && sink.into_inner().as_slice() == expected.as_bytes()
+}
+
+/// A search, and frames up to its window: the first four don't reach it, and the fifth is it.
+const TOO_FEW: &str = "\
+0 0 search = searching
+0 1 frame = ok
+0 2 frame = ok sent ff010000000000000000000058
+0 3 frame = ok sent ff010000000000000000000058
+0 4 frame = ok sent ff010000000000000000000058
+error 2 never
+0 5 frame = ok grant search
+error 4 range
+";
+
+#[test]
+fn a_grant_that_is_never_made(rt: HostRuntime) {
+    let lines =
+        b"0 search\n0 until search within 4\n0 until search within 1\n0 until poll 0 within 0\n";
+    assert!(rt; drives(rt.alloc(), PORT, lines, TOO_FEW, (4, 2)));
+}
+
+#[test]
+fn the_last_frame_that_may_be(rt: HostRuntime) {
+    let lines = b"0 search\n0 until search within 5\n";
+    assert!(rt; drives(rt.alloc(), PORT, lines, SEARCH, (2, 0)));
+}
+
+#[test]
+fn lines_that_are_done(rt: HostRuntime) {
+    let lines =
+        b"\n# remark\r\nunit 0 dark\n7 frame\n0 search\n0 frmae\n0 until search within 2\nunit 1 dark\n0 frame";
+    let expected = "done 1\ndone 2\ndone 3\nerror 4 port\ndone 4\n\
+        0 0 search = searching\ndone 5\nerror 6 word\ndone 6\n\
+        0 1 frame = ok\n0 2 frame = ok sent ff010000000000000000000058\nerror 7 never\ndone 7\n\
+        error 8 unit\ndone 8\n\
+        0 3 frame = ok sent ff010000000000000000000058\ndone 9\n";
+    assert!(rt; drives_and_tells(rt.alloc(), FIBRE, lines, expected, (9, 4)));
+    assert!(rt; drives_and_tells(rt.alloc(), PORT, b"", "", (0, 0)));
+    assert!(rt;
+        drives_and_tells(
+            rt.alloc(),
+            PORT,
+            &[b'#'; 4_097],
+            "error 1 long\ndone 1\n",
+            (1, 1)
+        )
+    );
 }
 
 #[test]

@@ -1,9 +1,11 @@
 //! Codes of messages in words.
-use gp_encode::{EncodeFault, WordsFault, encode_line};
+use gp_decode::decode_lines;
+use gp_encode::{EncodeFault, WordsFault, WordsFaultAt, encode_line, encode_lines};
+use gp_flow::{LineFault as Unanswered, LinesFault};
 use gp_lines::LineFault;
 use gp_ploam::Mask;
-use gp_stream::Sink;
-use std::alloc::AllocError;
+use gp_stream::{Sink, Source};
+use std::alloc::{AllocError, Global};
 
 const DOWN: bool = false;
 
@@ -147,4 +149,143 @@ fn a_writer_that_stops(rt: HostRuntime) -> Result<(), AllocError> {
         assert_eq!(rt; outcome, Err(EncodeFault::Write));
     }
     Ok(())
+}
+
+/// A line, and its fault.
+type Fault = Option<(u64, WordsFault)>;
+
+/// Lines of words, the direction and the mask, what is said to them, and the first that has a fault.
+const INPUTS: [(&'static str, bool, Mask, &'static str, Fault); 7] = [
+    ("", DOWN, Mask::Plain, "", None),
+    (
+        "Assign_ONU-ID 0 ABCD00000001\nPOPUP 255",
+        DOWN,
+        Mask::Plain,
+        "ff03004142434400000001001b\nff0c00000000000000000000c3\n",
+        None,
+    ),
+    (
+        "Assign_ONU-ID 0 ABCD00000001\r\n",
+        DOWN,
+        Mask::Coset,
+        "ff03004142434400000001004e\n",
+        None,
+    ),
+    (
+        "Dying_Gasp 0\nPOPUP 255\nAcknowledge 0 10\n",
+        UP,
+        Mask::Plain,
+        "00030000000000000000000021\nerror 2 word\n00090a0000000000000000007e\n",
+        Some((2, WordsFault::Part(LineFault::Word))),
+    ),
+    // Empty lines and remarks are passed over, and counted.
+    (
+        "\n\r\n# POPUP 256\n#\r\nPOPUP 256\n\nPOPUP 255\n",
+        DOWN,
+        Mask::Plain,
+        "error 5 range\nff0c00000000000000000000c3\n",
+        Some((5, WordsFault::Part(LineFault::Range))),
+    ),
+    // One fault of each kind, and the first is answered.
+    (
+        "Other 12 0 00000000000000000000\nPopup 255\nPOPUP x\nPOPUP 256\nAssign_ONU-ID 0 ABCD\nUpstream_Overhead 00\n",
+        DOWN,
+        Mask::Plain,
+        "error 1 named\nerror 2 word\nerror 3 number\nerror 4 range\nerror 5 serial\nerror 6 hex\n",
+        Some((1, WordsFault::Named)),
+    ),
+    // A space in front or behind is part of the words.
+    (
+        " POPUP 255\nPOPUP 255 \n#POPUP 255\n \n",
+        DOWN,
+        Mask::Plain,
+        "error 1 word\nerror 2 word\nerror 4 word\n",
+        Some((1, WordsFault::Part(LineFault::Word))),
+    ),
+];
+
+/// How an input is encoded, and what is written.
+fn encoded(
+    alloc: Global,
+    input: &[u8],
+    upstream: bool,
+    mask: Mask,
+) -> Result<(Result<Option<WordsFaultAt>, LinesFault>, Vec<u8>), AllocError> {
+    let mut source = Source::endless(input);
+    let mut sink = Sink::new(alloc, Vec::new(alloc))?;
+    let outcome = encode_lines(alloc, &mut source, &mut sink, upstream, mask);
+    Ok((outcome, sink.into_inner()))
+}
+
+#[test]
+fn lines_of_an_input(rt: HostRuntime) -> Result<(), AllocError> {
+    for (input, upstream, mask, said, first) in INPUTS {
+        let (outcome, written) = encoded(rt.alloc(), input.as_bytes(), upstream, mask)?;
+        let first = first.map(|(line, fault)| WordsFaultAt { line, fault });
+        assert_eq!(rt; outcome, Ok(first), "{input}");
+        assert!(rt; written.as_slice() == said.as_bytes(), "{input}");
+    }
+    Ok(())
+}
+
+/// A line of 4,096 octets is looked at, and a longer one isn't, though it be a remark.
+#[test]
+fn long_lines(rt: HostRuntime) -> Result<(), AllocError> {
+    let long = WordsFault::Part(LineFault::Long);
+    let none: Fault = None;
+    for (count, first) in [(4095, none), (4096, Some((2, long)))] {
+        let mut input = String::from_str(rt.alloc(), "POPUP 255\n#")?;
+        for _ in 0..count {
+            input.push(' ')?;
+        }
+        input.push_str("\nPOPUP 255")?;
+        let (outcome, written) = encoded(rt.alloc(), input.as_bytes(), DOWN, Mask::Plain)?;
+        let said = if first.is_some() {
+            "ff0c00000000000000000000c3\nerror 2 long\nff0c00000000000000000000c3\n"
+        } else {
+            "ff0c00000000000000000000c3\nff0c00000000000000000000c3\n"
+        };
+        let first = first.map(|(line, fault)| WordsFaultAt { line, fault });
+        assert_eq!(rt; outcome, Ok(first), "{count}");
+        assert!(rt; written.as_slice() == said.as_bytes(), "{count}");
+    }
+    Ok(())
+}
+
+/// What is decoded of the codes of words are these words.
+#[test]
+fn words_come_back(rt: HostRuntime) -> Result<(), AllocError> {
+    for (words, upstream, mask, _) in CODES {
+        let (_, codes) = encoded(rt.alloc(), words.as_bytes(), upstream, mask)?;
+        let mut source = Source::endless(codes.as_slice());
+        let mut sink = Sink::new(rt.alloc(), Vec::new(rt.alloc()))?;
+        let decoded = decode_lines(rt.alloc(), &mut source, &mut sink, upstream, mask);
+        let told = sink.into_inner();
+        assert_eq!(rt; decoded, Ok(None), "{words}");
+        let (_, again) = encoded(rt.alloc(), told.as_slice(), upstream, mask)?;
+        assert!(rt; again.as_slice() == codes.as_slice(), "{words}");
+    }
+    Ok(())
+}
+
+/// Where an allocation was made to fail it is told; else each line is answered. What the test takes for itself may be
+/// refused too, and then nothing was encoded.
+#[test]
+fn memory_short_or_ample(rt: HostRuntime) {
+    for (input, upstream, mask, said, _) in INPUTS {
+        let Ok((outcome, written)) = encoded(rt.alloc(), input.as_bytes(), upstream, mask) else {
+            return;
+        };
+        if outcome == Err(LinesFault::Line(Unanswered::OutOfMemory)) {
+            assert!(rt; said.as_bytes().starts_with(written.as_slice()), "{input}");
+            return;
+        }
+        if outcome == Err(LinesFault::Line(Unanswered::Write)) {
+            return;
+        }
+        assert!(rt;
+            outcome.is_ok() && written.as_slice() == said.as_bytes(),
+            "{input}"
+        );
+    }
 }

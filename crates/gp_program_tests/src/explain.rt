@@ -12,7 +12,7 @@ const fn refused(line: u64, why: NoLine) -> Result<u64, ExplainFault> {
     Err(ExplainFault::Refused { line, why })
 }
 
-fn rows() -> [Row; 9] {
+fn rows() -> [Row; 10] {
     [
         ("", Mask::Plain, "", Ok(0)),
         (
@@ -55,6 +55,13 @@ fn rows() -> [Row; 9] {
         ),
         (
             "0 0 search = searching\n\n0 1 frame = ok\n",
+            Mask::Plain,
+            "0 0 search = searching\n",
+            refused(2, NoLine::NotALine),
+        ),
+        // what a drive says beside its trace is none
+        (
+            "0 0 search = searching\ndone 1\n",
             Mask::Plain,
             "0 0 search = searching\n",
             refused(2, NoLine::NotALine),

@@ -86,7 +86,7 @@ const EVENT_FAULTS: [(&'static str, LineFault); 22] = [
 ];
 
 /// Lines, and what each asks for.
-const TURNS: [(&'static str, Asked); 17] = [
+const TURNS: [(&'static str, Asked); 20] = [
     ("", Asked::Nothing),
     ("\r", Asked::Nothing),
     ("#", Asked::Nothing),
@@ -125,6 +125,7 @@ const TURNS: [(&'static str, Asked); 17] = [
         Asked::Until {
             port: 0,
             grant: Grant::Search,
+            most: 1_000_000,
         },
     ),
     (
@@ -132,6 +133,7 @@ const TURNS: [(&'static str, Asked); 17] = [
         Asked::Until {
             port: 0,
             grant: Grant::Range(0),
+            most: 1_000_000,
         },
     ),
     (
@@ -139,6 +141,7 @@ const TURNS: [(&'static str, Asked); 17] = [
         Asked::Until {
             port: 1,
             grant: Grant::Poll(4),
+            most: 1_000_000,
         },
     ),
     (
@@ -146,6 +149,31 @@ const TURNS: [(&'static str, Asked); 17] = [
         Asked::Until {
             port: 1,
             grant: Grant::Poll(253),
+            most: 1_000_000,
+        },
+    ),
+    (
+        "0 until search within 1",
+        Asked::Until {
+            port: 0,
+            grant: Grant::Search,
+            most: 1,
+        },
+    ),
+    (
+        "3 until range 7 within 1000000\r",
+        Asked::Until {
+            port: 3,
+            grant: Grant::Range(7),
+            most: 1_000_000,
+        },
+    ),
+    (
+        "0 until poll 007 within 0040",
+        Asked::Until {
+            port: 0,
+            grant: Grant::Poll(7),
+            most: 40,
         },
     ),
     ("unit 0 light", Asked::Light { unit: 0, lit: true }),
@@ -173,7 +201,7 @@ const TURNS: [(&'static str, Asked); 17] = [
 ];
 
 /// Lines that are no turn, and the first fault of each.
-const TURN_FAULTS: [(&'static str, LineFault); 27] = [
+const TURN_FAULTS: [(&'static str, LineFault); 42] = [
     ("15", LineFault::Word),
     ("frame", LineFault::Word),
     (" ", LineFault::Number),
@@ -197,6 +225,21 @@ const TURN_FAULTS: [(&'static str, LineFault); 27] = [
     ("0 until poll x", LineFault::Number),
     ("0 until range 254", LineFault::Range),
     ("x until poll 254", LineFault::Number),
+    ("0 until within 5", LineFault::Word),
+    ("0 until search within", LineFault::Word),
+    ("0 until search within 5 5", LineFault::Word),
+    ("0 until search Within 5", LineFault::Word),
+    ("0 until search 1 within 5", LineFault::Word),
+    ("0 until range within 5", LineFault::Word),
+    ("0 until poll x within", LineFault::Word),
+    ("0 until ranges 254 within x", LineFault::Word),
+    ("0 until search within x", LineFault::Number),
+    ("0 until search within 0", LineFault::Range),
+    ("0 until search within 1000001", LineFault::Range),
+    ("0 until poll x within 0", LineFault::Number),
+    ("0 until poll 254 within x", LineFault::Range),
+    ("0 until poll 253 within x", LineFault::Number),
+    ("0 until range 253 within 0", LineFault::Range),
     ("unit 0", LineFault::Word),
     ("unit x bright", LineFault::Word),
     ("unit x light", LineFault::Number),

@@ -134,7 +134,7 @@ const SCRIPTS: &[Row] = &[
         outcome: Ok(()),
         trace: ONE_UNIT_TRACE,
     },
-    // A journal that keeps one entry is cut before each further one.
+    // How many entries a journal keeps has no effect: a play has none.
     Row {
         before: "journal_limit = 1",
         script: ONE_UNIT,
@@ -262,8 +262,7 @@ fn memory_short_or_ample(rt: HostRuntime) {
     }
 }
 
-/// With memory enough each of many frames has its line, to the last: also where the port's journal, which
-/// keeps 4,096 entries, is cut on the way.
+/// With memory enough each of many frames has its line, to the last.
 #[test]
 fn five_thousand_frames(rt: HostRuntime) -> Result<(), Fail> {
     let script: &[u8] = b"licences = 0\n[[port]]\n[[event]]\nport = 0\nframes = 5000";

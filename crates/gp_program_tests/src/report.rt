@@ -5,8 +5,8 @@ use gp_flow::{LineFault as UnansweredLine, LinesFault};
 use gp_lines::LineFault as PartFault;
 use gp_replay::RunFault;
 use gp_report::{
-    arguments_report, encode_report, explain_report, input_report, line_report, memory_report,
-    run_report, verify_report, write_report,
+    arguments_report, encode_report, explain_report, few_lines_report, input_report, line_report,
+    memory_report, no_line_report, run_report, verify_report, write_report,
 };
 use gp_script::ScriptFault;
 use gp_verify::{Verdict, VerifyFault};
@@ -56,16 +56,17 @@ const LINE_REPORTS: &[(LineFault, &'static str, u8)] = &[
     (LineFault::Length, "oltctl: decode length", 1),
     (LineFault::Digit, "oltctl: decode digit", 1),
     (LineFault::Crc, "oltctl: decode crc", 1),
+    (LineFault::Direction, "oltctl: decode direction", 1),
     (LineFault::OutOfMemory, "oltctl: memory", 3),
     (LineFault::Write, "oltctl: write", 4),
 ];
 
 /// A verdict that ends a verification, with its line and its status.
 const VERDICTS: &[(Verdict, &'static str, u8)] = &[
-    (Verdict::NotALine, "oltctl: no line of a trace", 1),
-    (Verdict::NoPort, "oltctl: no such port", 1),
-    (Verdict::WrongNumber, "oltctl: not the next number", 1),
-    (Verdict::TooLong, "oltctl: line too long", 1),
+    (Verdict::NotALine, "oltctl: no line of a trace", 7),
+    (Verdict::NoPort, "oltctl: no such port", 7),
+    (Verdict::WrongNumber, "oltctl: not the next number", 7),
+    (Verdict::TooLong, "oltctl: line too long", 7),
     (Verdict::NotAStep, "oltctl: not a run", 7),
 ];
 
@@ -88,7 +89,7 @@ fn reports_of_verifications(rt: HostRuntime) {
         assert!(rt; told == *line && exit == *status, "{line}");
     }
     let unended = VerifyFault::Unended { line: 7 };
-    assert!(rt; verify_report(&unended) == ("oltctl: no line feed", 1));
+    assert!(rt; verify_report(&unended) == ("oltctl: no line feed", 7));
 }
 
 #[test]
@@ -104,6 +105,8 @@ fn other_reports(rt: HostRuntime) {
     assert!(rt; memory_report() == ("oltctl: memory", 3));
     assert!(rt; write_report() == ("oltctl: write", 4));
     assert!(rt; arguments_report() == ("oltctl: arguments", 2));
+    assert!(rt; no_line_report() == ("oltctl: no line came", 7));
+    assert!(rt; few_lines_report() == ("oltctl: too few lines", 7));
 }
 
 /// Why words have no code, and the line on standard error.

@@ -80,10 +80,10 @@ fn rows() -> [Row; 7] {
         ),
         // what is no line of a trace stays as it is
         (
-            "error 3 word\n\nx sent ff03004142434400000001001b\n",
+            "error 3 word\ndone 3\n\nx sent ff03004142434400000001001b\n",
             Form::Words,
             true,
-            "error 3 word\n\nx sent ff03004142434400000001001b\n",
+            "error 3 word\ndone 3\n\nx sent ff03004142434400000001001b\n",
         ),
         // a millisecond has eight frames
         (
@@ -101,7 +101,7 @@ fn rows() -> [Row; 7] {
 }
 
 /// The same as JSON.
-fn objects() -> [Row; 9] {
+fn objects() -> [Row; 11] {
     [
         (
             "0 6 burst 100000 ff01414243440000000100002c = found 0\n",
@@ -156,6 +156,21 @@ fn objects() -> [Row; 9] {
             Form::Json,
             true,
             "{\"error\":\"word\",\"line\":3}\n",
+        ),
+        (
+            "0 6 frame = ok\nerror 3 never\ndone 3\ndone 18446744073709551615\n",
+            Form::Json,
+            false,
+            "{\"port\":0,\"number\":6,\"event\":\"frame\",\"reply\":\"ok\"}\n{\"error\":\"never\",\"line\":3}\n\
+             {\"done\":3}\n{\"done\":18446744073709551615}\n",
+        ),
+        // what looks like it
+        (
+            "done\ndone 03\ndone 3 \ndone x\nDone 3\ndone 3 word\nerror 3\n",
+            Form::Json,
+            false,
+            "{\"line\":\"done\"}\n{\"line\":\"done 03\"}\n{\"line\":\"done 3 \"}\n{\"line\":\"done x\"}\n\
+             {\"line\":\"Done 3\"}\n{\"line\":\"done 3 word\"}\n{\"line\":\"error 3\"}\n",
         ),
         // what no trace spells so
         (

@@ -10,7 +10,7 @@ use gp_licence::MAX_LICENCES;
 use gp_machine::{Command, Event};
 use gp_ploam::{Mask, Serial, Up, encode_up};
 use gp_ranging::Grant;
-use gp_replay::{LineBuffer, MAX_KEPT, Player, Turn};
+use gp_replay::{LineBuffer, Player, Turn};
 use gp_script::read_script;
 use std::alloc::{AllocError, Global};
 use std::marker::Brand;
@@ -150,7 +150,6 @@ fn said_on<L: Ledger>(
     requires name { blank.name ≡ L.name }
     requires parts { (blank.parts ≡ L.parts) × (L.parts ≡ MAX_LICENCES) }
     requires within { IsWithin config.now }
-    requires few { config.now.journal_limit ≤ MAX_KEPT }
     requires port { 0 < length config.now.ports.items }
 {
     let mut player = Player::<L>::begin(alloc, blank, config)?;
@@ -169,7 +168,7 @@ fn said_with(alloc: Global, journal_limit: u32, way: Way) -> Result<Option<Said>
         journal_limit,
         ports: script.ports,
     };
-    if !config.is_within(alloc) || config.ports.is_empty() || journal_limit > MAX_KEPT {
+    if !config.is_within(alloc) || config.ports.is_empty() {
         return Ok(None);
     }
     let blank = Blank::new(u64::from(MAX_LICENCES));
@@ -179,7 +178,7 @@ fn said_with(alloc: Global, journal_limit: u32, way: Way) -> Result<Option<Said>
 
 #[test]
 fn told_as_they_are_taken(rt: HostRuntime) -> Result<(), AllocError> {
-    for journal_limit in [1, 2, 3, 17, 18, MAX_KEPT] {
+    for journal_limit in [1, 2, 3, 17, 18, 1_000_000] {
         let taken = said_with(rt.alloc(), journal_limit, Way::Taken)?;
         let told = said_with(rt.alloc(), journal_limit, Way::Told)?;
         assert!(rt; taken.is_some() && told == taken, "{journal_limit}");

@@ -59,6 +59,7 @@ abbrev pub code_line : LineFault → List ℕ
 code_line lines.Length = codes "oltctl: decode length"
 code_line lines.Digit = codes "oltctl: decode digit"
 code_line lines.Crc = codes "oltctl: decode crc"
+code_line lines.Direction = codes "oltctl: decode direction"
 code_line lines.OutOfMemory = memory_line
 code_line lines.Write = write_line
 
@@ -76,12 +77,6 @@ verdict_line verdicts.WrongNumber = codes "oltctl: not the next number"
 verdict_line verdicts.TooLong = codes "oltctl: line too long"
 verdict_line verdicts.NotAStep = codes "oltctl: not a run"
 verdict_line verdicts.Follows = codes "oltctl: not a run"
-
--- its exit status
-abbrev pub verdict_status : Verdict → ℕ
-verdict_status verdicts.NotAStep = NOT_A_RUN
-verdict_status verdicts.Follows = NOT_A_RUN
-verdict_status _ = BAD_INPUT
 
 -- a line of a trace that was not judged
 abbrev pub unanswered_line : UnansweredLine → List ℕ
@@ -102,9 +97,17 @@ verify_line (verifies.Unended line) = codes "oltctl: no line feed"
 verify_line (verifies.Lines reading.Read) = codes "oltctl: read"
 verify_line (verifies.Lines (reading.Line fault)) = unanswered_line fault
 
--- its exit status
+-- its exit status: that of no run where the text was read so far and is none, whatever is wrong with it
 abbrev pub verify_status : VerifyFault → ℕ
-verify_status (verifies.Refused line verdict) = verdict_status verdict
-verify_status (verifies.Unended line) = BAD_INPUT
+verify_status (verifies.Refused line verdict) = NOT_A_RUN
+verify_status (verifies.Unended line) = NOT_A_RUN
 verify_status (verifies.Lines reading.Read) = BAD_INPUT
 verify_status (verifies.Lines (reading.Line fault)) = unanswered_status fault
+
+-- a trace was to have lines, and none came; the status is that of no run
+abbrev pub no_line_line : List ℕ
+no_line_line = codes "oltctl: no line came"
+
+-- a trace has fewer lines than were asked for, without their number; the status is that of no run
+abbrev pub few_lines_line : List ℕ
+few_lines_line = codes "oltctl: too few lines"

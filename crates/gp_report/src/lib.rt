@@ -14,8 +14,8 @@ mod report;
 mod status;
 
 pub use report::{
-    arguments_report, encode_report, explain_report, input_report, line_report, memory_report,
-    run_report, verify_report, write_report,
+    arguments_report, encode_report, explain_report, few_lines_report, input_report, line_report,
+    memory_report, no_line_report, run_report, verify_report, write_report,
 };
 pub use status::{
     BAD_ARGUMENTS, BAD_INPUT, DISAGREEMENT, JOURNAL_FULL, NOT_A_RUN, NOT_WRITTEN, OUT_OF_MEMORY,

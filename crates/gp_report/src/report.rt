@@ -1,6 +1,6 @@
 //! The line on standard error, without its line feed, and the exit status of each fault.
 ghost use Rattle.std.specs.Prelude.{◌≡◌};
-ghost use Rattle.gp_report.specs.Report.{arguments_line, code_line, code_status, memory_line, run_line, run_status, script_line, unanswered_line, unanswered_status, verdict_line, verdict_status, verify_line, verify_status, write_line};
+ghost use Rattle.gp_report.specs.Report.{arguments_line, code_line, code_status, few_lines_line, memory_line, no_line_line, run_line, run_status, script_line, unanswered_line, unanswered_status, verdict_line, verify_line, verify_status, write_line};
 ghost use Rattle.gp_report.specs.Words.{explain_line, explain_status, input_line, input_status, none_line, part_line, words_line};
 
 use crate::status::{
@@ -78,6 +78,7 @@ pub fn line_report(fault: &LineFault) -> (&'static str, u8)
         LineFault::Length => ("oltctl: decode length", BAD_INPUT),
         LineFault::Digit => ("oltctl: decode digit", BAD_INPUT),
         LineFault::Crc => ("oltctl: decode crc", BAD_INPUT),
+        LineFault::Direction => ("oltctl: decode direction", BAD_INPUT),
         LineFault::OutOfMemory => memory_report(),
         LineFault::Write => write_report(),
     }
@@ -90,25 +91,40 @@ pub fn verify_report(fault: &VerifyFault) -> (&'static str, u8)
     ensures status { result.1 ≡ verify_status fault.now }
 {
     match *fault {
-        VerifyFault::Refused { line: _, verdict } => verdict_report(verdict),
-        VerifyFault::Unended { line: _ } => ("oltctl: no line feed", BAD_INPUT),
+        VerifyFault::Refused { line: _, verdict } => (verdict_report_line(verdict), NOT_A_RUN),
+        VerifyFault::Unended { line: _ } => ("oltctl: no line feed", NOT_A_RUN),
         VerifyFault::Lines(LinesFault::Read) => ("oltctl: read", BAD_INPUT),
         VerifyFault::Lines(LinesFault::Line(line)) => unanswered_report(line),
     }
 }
 
-/// Answers the line and the status of a verdict that ended a verification.
-fn verdict_report(verdict: Verdict) -> (&'static str, u8)
-    ensures line { result.0.now ≡ verdict_line verdict }
-    ensures status { result.1 ≡ verdict_status verdict }
+/// Answers the line of a verdict that ended a verification.
+fn verdict_report_line(verdict: Verdict) -> &'static str
+    ensures { result.now ≡ verdict_line verdict }
 {
     match verdict {
-        Verdict::NotALine => ("oltctl: no line of a trace", BAD_INPUT),
-        Verdict::NoPort => ("oltctl: no such port", BAD_INPUT),
-        Verdict::WrongNumber => ("oltctl: not the next number", BAD_INPUT),
-        Verdict::TooLong => ("oltctl: line too long", BAD_INPUT),
-        Verdict::NotAStep | Verdict::Follows => ("oltctl: not a run", NOT_A_RUN),
+        Verdict::NotALine => "oltctl: no line of a trace",
+        Verdict::NoPort => "oltctl: no such port",
+        Verdict::WrongNumber => "oltctl: not the next number",
+        Verdict::TooLong => "oltctl: line too long",
+        Verdict::NotAStep | Verdict::Follows => "oltctl: not a run",
     }
+}
+
+/// Answers the line and the status where a trace was to have lines, and none came.
+pub fn no_line_report() -> (&'static str, u8)
+    ensures line { result.0.now ≡ no_line_line }
+    ensures status { result.1 ≡ NOT_A_RUN }
+{
+    ("oltctl: no line came", NOT_A_RUN)
+}
+
+/// Answers the line, without the number of lines that were asked for at least, and the status where a trace has fewer.
+pub fn few_lines_report() -> (&'static str, u8)
+    ensures line { result.0.now ≡ few_lines_line }
+    ensures status { result.1 ≡ NOT_A_RUN }
+{
+    ("oltctl: too few lines", NOT_A_RUN)
 }
 
 /// Answers the line and the status where a line of a trace was not judged.

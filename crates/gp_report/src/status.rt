@@ -3,7 +3,7 @@
 /// All went well.
 pub const SUCCESS: u8 = 0;
 
-/// What was read is no input of the command, or was not read to its end.
+/// What was read is no input of the command, or was not read to its end; of a trace that is no run it is `NOT_A_RUN`.
 pub const BAD_INPUT: u8 = 1;
 
 /// The command line is none of this program's.
@@ -21,5 +21,5 @@ pub const DISAGREEMENT: u8 = 5;
 /// The journal of a port keeps as many entries as it may.
 pub const JOURNAL_FULL: u8 = 6;
 
-/// A text is a trace by its lines, but not of a run of the machine.
+/// What was read as a trace is none of a run of the machine.
 pub const NOT_A_RUN: u8 = 7;

@@ -13,8 +13,9 @@ use Rattle.gp_verify.specs.Checking.{ChecksScript}
 use Rattle.gp_drive.specs.declared.driven.Driven.{Driven}
 use Rattle.gp_drive.specs.declared.fault.DriveFault.{DriveFault}
 use Rattle.gp_drive.specs.declared.fault.DriveFault.TheVariants as drives
-use Rattle.gp_drive.specs.Outcome.{DrivesInput, DrivesScript, IsNoScript}
-use Rattle.gp_drive.specs.Outcome.DrivesInput.{NotRead, Read}
+use Rattle.gp_drive.specs.declared.manner.DriveManner.{DriveManner}
+use Rattle.gp_drive.specs.Outcome.{DrivesInputIn, DrivesScriptIn, IsNoScript}
+use Rattle.gp_drive.specs.Outcome.DrivesInputIn.{NotRead, Read}
 use Rattle.oltctl.specs.Replays.{IsCheckedBy, IsReadBy, IsTooLong, unread, unread_endless}
 
 pub found_script : {R W : Type 0} (says_of : List ℕ → Result ScriptView ScriptFault) (leaves : RunAnswer → ScriptView → Type 0) (reader : R)
@@ -81,33 +82,33 @@ abbrev fault_told : Result Driven DriveFault → RunFault
 fault_told (Err (drives.Script fault)) = fault
 fault_told _ = runs.Mismatch
 
-found_by : {R T W : Type 0} (reader : R) (remaining : Option (List ℕ)) (before after : SourceState R) (from to : SourceState T) (old new : SinkState W)
-    (driven : Driven) → before ≡ unread reader remaining → DrivesInput (Ok driven) before after from to old new
+found_by : {R T W : Type 0} (manner : DriveManner) (reader : R) (remaining : Option (List ℕ)) (before after : SourceState R) (from to : SourceState T) (old new : SinkState W)
+    (driven : Driven) → before ≡ unread reader remaining → DrivesInputIn manner (Ok driven) before after from to old new
     → (script : ScriptView) × IsReadBy script_of reader remaining (Ok script)
-found_by {R = R} reader remaining before after from to old new driven is (Read of) =
+found_by {R = R} manner reader remaining before after from to old new driven is (Read of) =
     (of.script, (after, subst (λ (s : SourceState R). ReadsBy script_of s after (Ok of.script)) is of.input))
-found_by reader remaining before after from to old new driven is (NotRead fault told why lines kept) = absurd (cc)
+found_by manner reader remaining before after from to old new driven is (NotRead fault told why lines kept) = absurd (cc)
 
-pub drive_found : {R T W : Type 0} (reader : R) (remaining : Option (List ℕ)) (before after : SourceState R) (from to : SourceState T) (old new : SinkState W)
-    (r : Result Driven DriveFault) → before ≡ unread reader remaining → DrivesInput r before after from to old new
+pub drive_found : {R T W : Type 0} (manner : DriveManner) (reader : R) (remaining : Option (List ℕ)) (before after : SourceState R) (from to : SourceState T) (old new : SinkState W)
+    (r : Result Driven DriveFault) → before ≡ unread reader remaining → DrivesInputIn manner r before after from to old new
     → OnOk r ((script : ScriptView) × IsReadBy script_of reader remaining (Ok script))
-drive_found reader remaining before after from to old new (Ok driven) is d = found_by reader remaining before after from to old new driven is d
-drive_found reader remaining before after from to old new (Err f) is d = tt
+drive_found manner reader remaining before after from to old new (Ok driven) is d = found_by manner reader remaining before after from to old new driven is d
+drive_found manner reader remaining before after from to old new (Err f) is d = tt
 
-pub drive_fault : {R T W : Type 0} (reader : R) (remaining : Option (List ℕ)) (before after : SourceState R) (from to : SourceState T) (old new : SinkState W)
-    (r : Result Driven DriveFault) → before ≡ unread reader remaining → DrivesInput r before after from to old new
+pub drive_fault : {R T W : Type 0} (manner : DriveManner) (reader : R) (remaining : Option (List ℕ)) (before after : SourceState R) (from to : SourceState T) (old new : SinkState W)
+    (r : Result Driven DriveFault) → before ≡ unread reader remaining → DrivesInputIn manner r before after from to old new
     → (fault : ScriptFault) → r ≡ Err (drives.Script (runs.Script fault)) → IsReadBy script_of reader remaining (Err fault)
-drive_fault {R = R} reader remaining before after from to old new r is (Read of) fault told =
-    absurd (subst (λ (a : Result Driven DriveFault). DrivesScript a from to old new of.script) told of.held)
-drive_fault {R = R} reader remaining before after from to old new r is (NotRead other also why lines kept) fault told =
+drive_fault {R = R} manner reader remaining before after from to old new r is (Read of) fault told =
+    absurd (subst (λ (a : Result Driven DriveFault). DrivesScriptIn manner a from to old new of.script) told of.held)
+drive_fault {R = R} manner reader remaining before after from to old new r is (NotRead other also why lines kept) fault told =
     let same : other ≡ runs.Script fault = ap fault_told (sym also ∙ told) in
     (after, subst (λ (f : RunFault). FaultOf reader remaining after f) same (told_fault reader remaining after other (subst (λ (s : SourceState R). IsNoScript s after other) is why)))
 
-pub drive_long : {R T W : Type 0} (reader : R) (remaining : Option (List ℕ)) (before after : SourceState R) (from to : SourceState T) (old new : SinkState W)
-    (r : Result Driven DriveFault) → before ≡ unread reader remaining → DrivesInput r before after from to old new
+pub drive_long : {R T W : Type 0} (manner : DriveManner) (reader : R) (remaining : Option (List ℕ)) (before after : SourceState R) (from to : SourceState T) (old new : SinkState W)
+    (r : Result Driven DriveFault) → before ≡ unread reader remaining → DrivesInputIn manner r before after from to old new
     → r ≡ Err (drives.Script runs.TooLong) → IsTooLong reader remaining
-drive_long {R = R} reader remaining before after from to old new r is (Read of) told =
-    absurd (subst (λ (a : Result Driven DriveFault). DrivesScript a from to old new of.script) told of.held)
-drive_long {R = R} reader remaining before after from to old new r is (NotRead other also why lines kept) told =
+drive_long {R = R} manner reader remaining before after from to old new r is (Read of) told =
+    absurd (subst (λ (a : Result Driven DriveFault). DrivesScriptIn manner a from to old new of.script) told of.held)
+drive_long {R = R} manner reader remaining before after from to old new r is (NotRead other also why lines kept) told =
     let same : other ≡ runs.TooLong = ap fault_told (sym also ∙ told) in
     (after, subst (λ (f : RunFault). FaultOf reader remaining after f) same (told_fault reader remaining after other (subst (λ (s : SourceState R). IsNoScript s after other) is why)))

@@ -1,14 +1,16 @@
 -- The command line (this profile's own rule): `oltctl replay [--explain] [--progress] [FORM] [FILE]`,
--- `oltctl drive [FORM] FILE`, `oltctl storm [--progress] [FILE]`, `oltctl check FILE..`, `oltctl verify [--progress] FILE [TRACE]`,
--- `oltctl explain [--mask 0|85] [FORM] [TRACE]`, `oltctl decode [--up] [--mask 0|85] [HEX..]` and `oltctl encode [--up]
--- [--mask 0|85] WORDS..`, where FORM is `[--words] [--time] [--format text|json]`, of `explain` without `--words`.
-use Rattle.std.specs.Prelude.{◌≡◌, List, [], ◌∷◌, Option, None, Some, map, Bool, true, codes, if◌then◌else◌}
+-- `oltctl drive [--explain] [--done] [FORM] FILE`, `oltctl storm [--explain] [--progress] [FILE]`,
+-- `oltctl check [--storm] [-q] FILE..`, `oltctl verify [--explain] [--at-least N] [--progress] FILE [TRACE]`,
+-- `oltctl explain [--mask MASK] [FORM] [TRACE]`, `oltctl decode [--up] [--both] [--mask MASK] [HEX..]` and `oltctl
+-- encode [--up] [--mask MASK] [WORDS..]`, where FORM is `[--words] [--time] [--format text|json]`, of `explain` without `--words`, and MASK
+-- is `0`, `85` or `0x55`.
+use Rattle.std.specs.Prelude.{◌≡◌, List, [], ◌∷◌, Option, None, Some, map, Bool, true, codes, if◌then◌else◌, ◌||◌}
 use Rattle.std.specs.Borrow.{Bor}
 use Rattle.std.specs.Str.{bytes_eq}
 use Rattle.clap.specs.Simple.{on_top}
 use Rattle.clap.specs.Words.{App, IsAmong, Rule, Text, fault_of, new_app, new_rule, with_rule, with_subcommand, subcommand_of, subcommand_rows_of}
 use Rattle.clap.specs.declared.builder.action.ArgAction.TheVariants.{Append, SetTrue}
-use Rattle.clap.specs.declared.builder.value_parser.ValueParser.TheVariants.{Names}
+use Rattle.clap.specs.declared.builder.value_parser.ValueParser.TheVariants.{Names, Unsigned}
 use Rattle.clap.specs.declared.error.kind.ErrorKind.{ErrorKind}
 use Rattle.clap.specs.declared.parser.matches.ArgMatches.{ArgMatches}
 use Rattle.gp_ploam.specs.declared.check.Mask.{Mask}
@@ -20,9 +22,9 @@ use Rattle.gp_explain.specs.declared.form.Form.TheVariants.{Plain, Words, Json}
 abbrev pub MaskNames : Type 0
 MaskNames = Bor (List (Bor Text))
 
--- they are these two
+-- they are these: 85 may be written as the octet that it is
 abbrev pub AreMasks : MaskNames → Type 0
-AreMasks names = map (λ name. name.now) names.now ≡ codes "0" ∷ codes "85" ∷ []
+AreMasks names = map (λ name. name.now) names.now ≡ codes "0" ∷ codes "85" ∷ codes "0x55" ∷ []
 
 -- the names of the formats in which a trace may be written, as clap holds them
 abbrev pub FormatNames : Type 0
@@ -64,9 +66,9 @@ mask_rule names =
 abbrev pub code_rule : Rule
 code_rule = record (new_rule (codes "code")) { value_names = 1; action = Some Append }
 
--- WORDS, one at least
+-- WORDS, as many as there are
 abbrev pub words_rule : Rule
-words_rule = record (new_rule (codes "words")) { value_names = 1; required = true; action = Some Append }
+words_rule = record (new_rule (codes "words")) { value_names = 1; action = Some Append }
 
 -- the script of a drive or of a verification, which is required
 abbrev pub script_rule : Rule
@@ -91,21 +93,47 @@ replay_flags = with_rule (with_rule (new_app (codes "replay")) (flag_rule (codes
 abbrev pub replay_command : FormatNames → App
 replay_command names = with_rule (with_words replay_flags names) file_rule
 
+-- `drive` up to the form of its trace
+abbrev pub drive_flags : App
+drive_flags = with_rule (with_rule (new_app (codes "drive")) (flag_rule (codes "explain"))) (flag_rule (codes "done"))
+
 abbrev pub drive_command : FormatNames → App
-drive_command names = with_rule (with_words (new_app (codes "drive")) names) script_rule
+drive_command names = with_rule (with_words drive_flags names) script_rule
+
+-- `--quiet`, or `-q`
+abbrev pub quiet_rule : Rule
+quiet_rule = record (flag_rule (codes "quiet")) { short = Some 113 }
 
 abbrev pub check_command : App
-check_command = with_rule (new_app (codes "check")) files_rule
+check_command =
+    with_rule (with_rule (with_rule (new_app (codes "check")) (flag_rule (codes "storm"))) quiet_rule) files_rule
 
 abbrev pub storm_command : App
-storm_command = with_rule (with_rule (new_app (codes "storm")) (flag_rule (codes "progress"))) file_rule
+storm_command =
+    with_rule
+    (with_rule (with_rule (new_app (codes "storm")) (flag_rule (codes "explain"))) (flag_rule (codes "progress"))) file_rule
+
+-- `--at-least`, a number that has no least
+abbrev pub at_least_rule : Rule
+at_least_rule =
+    record (new_rule (codes "at-least"))
+    { long = Some (codes "at-least"); value_names = 1; parser = Some (Unsigned 0 18446744073709551615) }
+
+-- `verify` up to its files
+abbrev pub verify_flags : App
+verify_flags =
+    with_rule (with_rule (with_rule (new_app (codes "verify")) (flag_rule (codes "explain"))) at_least_rule)
+    (flag_rule (codes "progress"))
 
 abbrev pub verify_command : App
-verify_command =
-    with_rule (with_rule (with_rule (new_app (codes "verify")) (flag_rule (codes "progress"))) script_rule) trace_rule
+verify_command = with_rule (with_rule verify_flags script_rule) trace_rule
+
+-- `decode` up to its mask
+abbrev pub decode_flags : App
+decode_flags = with_rule (with_rule (new_app (codes "decode")) up_rule) (flag_rule (codes "both"))
 
 abbrev pub decode_command : MaskNames → App
-decode_command names = with_rule (with_rule (with_rule (new_app (codes "decode")) up_rule) (mask_rule names)) code_rule
+decode_command names = with_rule (with_rule decode_flags (mask_rule names)) code_rule
 
 abbrev pub encode_command : MaskNames → App
 encode_command names =
@@ -174,10 +202,10 @@ pub record IsFaultOf (words : List Text) (kind : ErrorKind) : Type 0 where
   pub are : AreAllNames names
   pub among : IsAmong kind (fault_of (oltctl_command names) words)
 
--- the mask that a name stands for: 85 is the other mask, and everything else the plain one, as where there is none
+-- the mask that a name stands for: 85, which is 0x55, is the other mask, and everything else the plain one, as where there is none
 abbrev pub mask_named : Option Text → Mask
 mask_named None = masks.Plain
-mask_named (Some name) = if bytes_eq name (codes "85") then masks.Coset else masks.Plain
+mask_named (Some name) = if bytes_eq name (codes "85") || bytes_eq name (codes "0x55") then masks.Coset else masks.Plain
 
 -- the form of a trace that is written in words or is not, by the name of its format
 abbrev pub form_named : Bool → Option Text → Form

@@ -1,18 +1,32 @@
 -- What a parsed command line asks for (this profile's own rule).
-use Rattle.std.specs.Prelude.{◌≡◌, ◌≢◌, List, [], ◌∷◌, Bool, true, false, Option, None, Some, map, option_map, codes}
+use Rattle.std.specs.Prelude.{◌≡◌, ◌≢◌, if◌then◌else◌, ℕ, ok_or, List, [], ◌∷◌, Bool, true, false, Option, None, Some, map, option_map, codes}
 use Rattle.std.specs.Borrow.{Bor}
+use Rattle.std.specs.Str.Parse.{ParsesUnsigned}
 use Rattle.clap.specs.Words.{Row, Text, all_of, first_of, one_of}
+use Rattle.gp_decode.specs.declared.direction.Direction.{Direction}
+use Rattle.gp_decode.specs.declared.direction.Direction.TheVariants.{Each}
+use Rattle.gp_decode.specs.LineText.{direction_of}
 use Rattle.oltctl.specs.CommandLine.{file_named, form_named, mask_named}
 use Rattle.oltctl.specs.declared.request.Request.{Request}
-use Rattle.oltctl.specs.declared.request.Request.TheVariants.{Replay, Drive, Storm, Check, Verify, Decode, DecodeLines, Encode, Explain}
+use Rattle.oltctl.specs.declared.request.Request.TheVariants.{Replay, Drive, Storm, Check, Verify, Decode, DecodeLines, Encode, EncodeLines, Explain}
 use Rattle.oltctl.specs.declared.request.Play.{Play}
 use Rattle.oltctl.specs.declared.request.Told.{Told}
+use Rattle.oltctl.specs.declared.request.Verification.{Verification}
 
 -- a flag is given or not, as its text says, and is not where it has none
 pub record IsFlag (rows : List Row) (id : Text) (is_given : Bool) : Type 0 where
   pub none : one_of id rows ≡ None → is_given ≡ false
   pub yes : one_of id rows ≡ Some (codes "true") → is_given ≡ true
   pub no : one_of id rows ≡ Some (codes "false") → is_given ≡ false
+
+-- this is the number below 2^64 that a text spells in decimal digits, behind a plus or without one, if it spells one
+abbrev pub IsSpelled : Text → Option ℕ → Type 0
+IsSpelled text number = ParsesUnsigned 64 10 text (ok_or number (tt {0}))
+
+-- a number is the one that its text spells, and there is none where there is no text
+pub record IsNumber (rows : List Row) (id : Text) (number : Option ℕ) : Type 0 where
+  pub none : one_of id rows ≡ None → number ≡ None
+  pub value : (text : Text) → one_of id rows ≡ Some text → IsSpelled text number
 
 -- the texts of words, as clap holds them
 abbrev pub texts : Bor (List (Bor Text)) → List Text
@@ -43,44 +57,69 @@ abbrev pub AsksToReplay : List Row → Request → Type 0
 AsksToReplay rows (Replay file play) = (name_in file ≡ file_named (first_of (codes "file") rows)) × AsksForPlay rows play
 AsksToReplay rows _ = ⊥
 
--- the rows of `drive` ask to drive the script of FILE
+-- the rows of `drive` ask to drive the script of FILE, with `--done` by answers that tell where they end
 abbrev pub AsksToDrive : List Row → Request → Type 0
-AsksToDrive rows (Drive script told) = (first_of (codes "script") rows ≡ Some script.now) × AsksForTrace rows told
+AsksToDrive rows (Drive script told done) =
+    (first_of (codes "script") rows ≡ Some script.now) × AsksForTrace rows told × IsFlag rows (codes "done") done
 AsksToDrive rows _ = ⊥
 
--- the rows of `check` ask whether each FILE is a script
+-- the rows of `check` ask whether each FILE is a script, with `--storm` one of a storm, with `--quiet` without a word
+-- of those that are
 abbrev pub AsksToCheck : List Row → Request → Type 0
-AsksToCheck rows (Check files) = all_of (codes "files") rows ≡ Some (texts files)
+AsksToCheck rows (Check files checking) =
+    (all_of (codes "files") rows ≡ Some (texts files)) × IsFlag rows (codes "storm") checking.storm
+    × IsFlag rows (codes "quiet") checking.quiet
 AsksToCheck rows _ = ⊥
 
 -- the rows of `storm` ask for the storm of FILE, or of standard input where it is left out
 abbrev pub AsksToStorm : List Row → Request → Type 0
-AsksToStorm rows (Storm file progress) =
-    (name_in file ≡ file_named (first_of (codes "file") rows)) × IsFlag rows (codes "progress") progress
+AsksToStorm rows (Storm file play) =
+    (name_in file ≡ file_named (first_of (codes "file") rows)) × IsFlag rows (codes "explain") play.explain
+    × IsFlag rows (codes "progress") play.progress
 AsksToStorm rows _ = ⊥
 
 -- the rows of `verify` ask to verify TRACE, or standard input where it is left out, against the script of FILE
+pub record AsksForVerification (rows : List Row) (wanted : Verification) : Type 0 where
+  pub script : first_of (codes "script") rows ≡ Some wanted.script.now
+  pub trace : name_in wanted.trace ≡ file_named (first_of (codes "trace") rows)
+  pub at_least : IsNumber rows (codes "at-least") wanted.at_least
+  pub progress : IsFlag rows (codes "progress") wanted.progress
+
 abbrev pub AsksToVerify : List Row → Request → Type 0
-AsksToVerify rows (Verify script trace progress) =
-    (first_of (codes "script") rows ≡ Some script.now) × (name_in trace ≡ file_named (first_of (codes "trace") rows))
-    × IsFlag rows (codes "progress") progress
+AsksToVerify rows (Verify wanted) = AsksForVerification rows wanted
 AsksToVerify rows _ = ⊥
 
+-- whose messages codes are: where each may be of either, it says so itself
+abbrev pub direction_asked : Bool → Bool → Direction
+direction_asked upstream both = if both then Each else direction_of upstream
+
+-- the rows ask for codes of this direction
+pub record AsksForDirection (rows : List Row) (direction : Direction) : Type 0 where
+  pub upstream : Bool
+  pub both : Bool
+  pub up : IsFlag rows (codes "up") upstream
+  pub each : IsFlag rows (codes "both") both
+  pub is : direction ≡ direction_asked upstream both
+
 -- the rows of `decode` ask for the words of one HEX, or of each of several or of standard input, as upstream messages
--- with `--up`, under the mask of `--mask`
+-- with `--up`, under the mask of `--mask`; with `--both` each says itself whose message it is
 abbrev pub AsksToDecode : List Row → Request → Type 0
 AsksToDecode rows (Decode code upstream mask) =
     (all_of (codes "code") rows ≡ Some (code.now ∷ [])) × IsFlag rows (codes "up") upstream
-    × (mask ≡ mask_named (first_of (codes "mask") rows))
-AsksToDecode rows (DecodeLines many upstream mask) =
-    (option_map texts many ≡ all_of (codes "code") rows) × IsFlag rows (codes "up") upstream
+    × IsFlag rows (codes "both") false × (mask ≡ mask_named (first_of (codes "mask") rows))
+AsksToDecode rows (DecodeLines many direction mask) =
+    (option_map texts many ≡ all_of (codes "code") rows) × AsksForDirection rows direction
     × (mask ≡ mask_named (first_of (codes "mask") rows))
 AsksToDecode rows _ = ⊥
 
--- the rows of `encode` ask for the code of WORDS, of an upstream message with `--up`, under the mask of `--mask`
+-- the rows of `encode` ask for the code of WORDS, or where there are none of those of each line of standard input, of
+-- upstream messages with `--up`, under the mask of `--mask`
 abbrev pub AsksToEncode : List Row → Request → Type 0
 AsksToEncode rows (Encode words upstream mask) =
     (all_of (codes "words") rows ≡ Some (texts words)) × IsFlag rows (codes "up") upstream
+    × (mask ≡ mask_named (first_of (codes "mask") rows))
+AsksToEncode rows (EncodeLines upstream mask) =
+    (all_of (codes "words") rows ≡ None) × IsFlag rows (codes "up") upstream
     × (mask ≡ mask_named (first_of (codes "mask") rows))
 AsksToEncode rows _ = ⊥
 
@@ -95,15 +134,16 @@ AsksToExplain rows _ = ⊥
 abbrev pub Asks : Option (Text × List Row) → Request → Type 0
 Asks None request = ⊥
 Asks (Some (name, rows)) (Replay file play) = (name ≡ codes "replay") × AsksToReplay rows (Replay file play)
-Asks (Some (name, rows)) (Drive script told) = (name ≡ codes "drive") × AsksToDrive rows (Drive script told)
-Asks (Some (name, rows)) (Check files) = (name ≡ codes "check") × AsksToCheck rows (Check files)
-Asks (Some (name, rows)) (Storm file progress) = (name ≡ codes "storm") × AsksToStorm rows (Storm file progress)
-Asks (Some (name, rows)) (Verify script trace progress) =
-    (name ≡ codes "verify") × AsksToVerify rows (Verify script trace progress)
+Asks (Some (name, rows)) (Drive script told done) = (name ≡ codes "drive") × AsksToDrive rows (Drive script told done)
+Asks (Some (name, rows)) (Check files checking) = (name ≡ codes "check") × AsksToCheck rows (Check files checking)
+Asks (Some (name, rows)) (Storm file play) = (name ≡ codes "storm") × AsksToStorm rows (Storm file play)
+Asks (Some (name, rows)) (Verify wanted) = (name ≡ codes "verify") × AsksToVerify rows (Verify wanted)
 Asks (Some (name, rows)) (Decode code upstream mask) =
     (name ≡ codes "decode") × AsksToDecode rows (Decode code upstream mask)
-Asks (Some (name, rows)) (DecodeLines many upstream mask) =
-    (name ≡ codes "decode") × AsksToDecode rows (DecodeLines many upstream mask)
+Asks (Some (name, rows)) (DecodeLines many direction mask) =
+    (name ≡ codes "decode") × AsksToDecode rows (DecodeLines many direction mask)
+Asks (Some (name, rows)) (EncodeLines upstream mask) =
+    (name ≡ codes "encode") × AsksToEncode rows (EncodeLines upstream mask)
 Asks (Some (name, rows)) (Encode words upstream mask) =
     (name ≡ codes "encode") × AsksToEncode rows (Encode words upstream mask)
 Asks (Some (name, rows)) (Explain trace mask told) =
@@ -113,8 +153,8 @@ Asks (Some (name, rows)) (Explain trace mask told) =
 abbrev pub AsksNothing : Option (Text × List Row) → Type 0
 AsksNothing None = Unit {0}
 AsksNothing (Some (name, rows)) =
-    (name ≢ codes "replay") × (name ≢ codes "storm") × (name ≢ codes "decode") × (name ≢ codes "explain")
+    (name ≢ codes "replay") × (name ≢ codes "storm") × (name ≢ codes "decode") × (name ≢ codes "encode")
+    × (name ≢ codes "explain")
     × (name ≡ codes "check" → all_of (codes "files") rows ≡ None)
     × (name ≡ codes "drive" → first_of (codes "script") rows ≡ None)
     × (name ≡ codes "verify" → first_of (codes "script") rows ≡ None)
-    × (name ≡ codes "encode" → all_of (codes "words") rows ≡ None)

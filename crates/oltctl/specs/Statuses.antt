@@ -1,5 +1,5 @@
 -- The exit statuses of the program (this profile's own rule).
-use Rattle.std.specs.Prelude.{◌≡◌, ◌≢◌, ◌==◌, if◌then◌else◌, ℕ, Bool, true, false, List, ◌⊎◌, Option, None, Some, Result, Ok, Err}
+use Rattle.std.specs.Prelude.{◌≡◌, ◌≢◌, ◌<◌, ◌≤◌, ◌==◌, if◌then◌else◌, unwrap_or, ℕ, Bool, true, false, List, ◌⊎◌, Option, None, Some, Result, Ok, Err}
 use Rattle.std.specs.declared.io.ErrorKind.{ErrorKind as IoErrorKind}
 use Rattle.std.specs.declared.io.ErrorKind.TheVariants as io_error
 use Rattle.clap.specs.declared.error.kind.ErrorKind.{ErrorKind}
@@ -11,6 +11,7 @@ use Rattle.gp_decode.specs.Line.{HasLineFault, IsOfText, Says}
 use Rattle.gp_drive.specs.declared.driven.Driven.{Driven}
 use Rattle.gp_drive.specs.declared.fault.DriveFault.{DriveFault}
 use Rattle.gp_drive.specs.declared.fault.DriveFault.TheVariants as drives
+use Rattle.gp_encode.specs.declared.encoder.WordsFaultAt.{WordsFaultAt}
 use Rattle.gp_explain.specs.declared.fault.ExplainFault.{ExplainFault}
 use Rattle.gp_flow.specs.declared.fault.LinesFault.{LinesFault}
 use Rattle.gp_replay.specs.declared.fault.RunFault.{RunFault}
@@ -27,7 +28,7 @@ use Rattle.clap.specs.declared.parser.matches.ArgMatches.{ArgMatches}
 use Rattle.oltctl.specs.CommandLine.{IsFaultOf, IsParseOf}
 use Rattle.oltctl.specs.Requests.{Asks, AsksNothing}
 use Rattle.oltctl.specs.declared.request.Request.{Request}
-use Rattle.oltctl.specs.declared.request.Request.TheVariants.{Replay, Drive, Storm, Check, Verify, Decode, DecodeLines, Encode, Explain}
+use Rattle.oltctl.specs.declared.request.Request.TheVariants.{Replay, Drive, Storm, Check, Verify, Decode, DecodeLines, Encode, EncodeLines, Explain}
 
 -- no status is greater
 abbrev pub greatest_status : ℕ
@@ -88,16 +89,26 @@ pub record IsDecoded (code : List ℕ) (upstream : Bool) (mask : Mask) (status :
   pub faulty : status ≢ OUT_OF_MEMORY → (fault : LineFault) → IsOfText fault → HasLineFault mask code fault
       → status ≡ code_status fault
 
--- the status after a verification that ended so: of a trace that is a run its lines are told, which may not get out
-abbrev pub IsVerifyStatus : Result ℕ CheckFault → ℕ → Type 0
-IsVerifyStatus (Ok lines) status = (status ≡ SUCCESS) ⊎ (status ≡ NOT_WRITTEN)
-IsVerifyStatus (Err (check.Script fault)) status = status ≡ run_status fault
-IsVerifyStatus (Err (check.Trace fault)) status = status ≡ verify_status fault
+-- how many lines a trace has to have: as many as are asked for, and else one
+abbrev pub wanted_lines : Option ℕ → ℕ
+wanted_lines at_least = unwrap_or at_least 1
+
+-- the status of a run of so many lines: of one that has too few it is that of no run, and else the lines are told, which
+-- may not get out
+abbrev pub IsRunStatus : ℕ → ℕ → ℕ → Type 0
+IsRunStatus wanted lines status =
+    (lines < wanted → status ≡ NOT_A_RUN) × (wanted ≤ lines → (status ≡ SUCCESS) ⊎ (status ≡ NOT_WRITTEN))
+
+-- the status after a verification that ended so
+abbrev pub IsVerifyStatus : Option ℕ → Result ℕ CheckFault → ℕ → Type 0
+IsVerifyStatus at_least (Ok lines) status = IsRunStatus (wanted_lines at_least) lines status
+IsVerifyStatus at_least (Err (check.Script fault)) status = status ≡ run_status fault
+IsVerifyStatus at_least (Err (check.Trace fault)) status = status ≡ verify_status fault
 
 -- the status after a verification of files or of standard input: what they hold no contract can tell, so it is that of
 -- some verification
-abbrev pub IsVerified : ℕ → Type 0
-IsVerified status = (outcome : Result ℕ CheckFault) × IsVerifyStatus outcome status
+abbrev pub IsVerified : Option ℕ → ℕ → Type 0
+IsVerified at_least status = (outcome : Result ℕ CheckFault) × IsVerifyStatus at_least outcome status
 
 -- the status after lines were decoded: that of the first fault, if one had a fault
 abbrev pub lines_status : Result (Option FaultAt) LinesFault → ℕ
@@ -112,6 +123,15 @@ AreDecoded status = (outcome : Result (Option FaultAt) LinesFault) × (status �
 -- the status after words were to be encoded: they have a code, or a fault, or memory or the output failed
 abbrev pub IsEncoded : ℕ → Type 0
 IsEncoded status = (status ≡ SUCCESS) ⊎ (status ≡ BAD_INPUT) ⊎ (status ≡ OUT_OF_MEMORY) ⊎ (status ≡ NOT_WRITTEN)
+
+-- the status after lines of words were encoded, likewise that of some input
+abbrev pub encoded_status : Result (Option WordsFaultAt) LinesFault → ℕ
+encoded_status (Ok None) = SUCCESS
+encoded_status (Ok (Some first)) = BAD_INPUT
+encoded_status (Err fault) = input_status fault
+
+abbrev pub AreEncoded : ℕ → Type 0
+AreEncoded status = (outcome : Result (Option WordsFaultAt) LinesFault) × (status ≡ encoded_status outcome)
 
 -- the status after a trace was told in words
 abbrev pub told_status : Result ℕ ExplainFault → ℕ
@@ -136,12 +156,13 @@ IsChecked status = (outcome : Result Bool ScriptCheckFault) × (status ≡ check
 -- the status after what was asked for
 abbrev pub IsServed : Request → ℕ → Type 0
 IsServed (Replay file play) status = IsPlayed status
-IsServed (Drive script told) status = IsDriven status
-IsServed (Check files) status = IsChecked status
-IsServed (Storm file progress) status = IsStormed status
-IsServed (Verify script trace progress) status = IsVerified status
+IsServed (Drive script told done) status = IsDriven status
+IsServed (Check files checking) status = IsChecked status
+IsServed (Storm file play) status = IsStormed status
+IsServed (Verify wanted) status = IsVerified wanted.at_least status
 IsServed (Decode code upstream mask) status = IsDecoded code.now upstream mask status
-IsServed (DecodeLines many upstream mask) status = AreDecoded status
+IsServed (DecodeLines many direction mask) status = AreDecoded status
+IsServed (EncodeLines upstream mask) status = AreEncoded status
 IsServed (Encode words upstream mask) status = IsEncoded status
 IsServed (Explain trace mask told) status = IsExplained status
 

@@ -2,7 +2,7 @@
 ghost use Rattle.std.specs.Prelude.{◌≡◌, ◌≢◌, IfErr, IfOk, codes, false, map};
 ghost use Rattle.clap.specs.Words.{app_of, kind_of, rule_of};
 ghost use Rattle.clap.specs.declared.builder.command.Command.TheViews.{out-Command as fields_of};
-ghost use Rattle.oltctl.specs.CommandLine.{AllNames, AreAllNames, AreFormats, AreMasks, FormatNames, IsFaultOf, IsParseOf, MaskNames, check_command, code_rule, files_rule, flag_rule, format_rule, replay_flags as spec_replay_flags, with_form as spec_form, with_words as spec_words, decode_command, drive_command, encode_command, explain_command, file_rule, line_commands, mask_rule, oltctl_command, replay_command, script_commands, script_rule, storm_command, trace_commands, trace_rule, up_rule, verify_command, words_rule};
+ghost use Rattle.oltctl.specs.CommandLine.{AllNames, AreAllNames, AreFormats, AreMasks, FormatNames, IsFaultOf, IsParseOf, MaskNames, at_least_rule, check_command, code_rule, files_rule, flag_rule, format_rule, decode_flags as spec_decode_flags, replay_flags as spec_replay_flags, verify_flags as spec_verify_flags, with_form as spec_form, with_words as spec_words, decode_command, drive_command, encode_command, explain_command, file_rule, line_commands, mask_rule, oltctl_command, replay_command, script_commands, script_rule, storm_command, trace_commands, trace_rule, up_rule, verify_command, words_rule};
 ghost use Rattle.std.specs.String.{string_bytes};
 
 use crate::help::{
@@ -10,11 +10,11 @@ use crate::help::{
     STORM_HELP, VERIFY_HELP,
 };
 use clap::error::ErrorKind;
-use clap::{Arg, ArgAction, ArgMatches, Command, Error};
+use clap::{Arg, ArgAction, ArgMatches, Command, Error, value_parser};
 use std::alloc::{AllocError, Global};
 
 /// The masks that a code may be read with.
-static MASKS: [&str; 2] = ["0", "85"];
+static MASKS: [&str; 3] = ["0", "85", "0x55"];
 
 /// The formats in which a trace may be written.
 static FORMATS: [&str; 2] = ["text", "json"];
@@ -50,6 +50,29 @@ fn progress<'a>(alloc: Global) -> Arg<'a>
         alloc,
         "progress",
         "Tells once a second, on standard error, how far it is",
+    )
+}
+
+fn explained<'a>(alloc: Global) -> Arg<'a>
+    ensures rule { rule_of result ≡ flag_rule (codes "explain") }
+    ensures local { result.global ≡ false }
+{
+    flag(
+        alloc,
+        "explain",
+        "Tells in a second line where a script is wrong, or why it was not read",
+    )
+}
+
+/// A flag that changes nothing: what it asks for is always told.
+fn explained_always<'a>(alloc: Global) -> Arg<'a>
+    ensures rule { rule_of result ≡ flag_rule (codes "explain") }
+    ensures local { result.global ≡ false }
+{
+    flag(
+        alloc,
+        "explain",
+        "Tells where a script is wrong, which is told without it too",
     )
 }
 
@@ -100,11 +123,7 @@ fn replay_flags<'a>(alloc: Global) -> Result<Command<'a>, AllocError>
     Command::new(alloc, "replay")
         .about("Plays a script and writes its trace, one line for each entry")
         .after_help(REPLAY_HELP)
-        .arg(flag(
-            alloc,
-            "explain",
-            "Tells where a script is wrong, in a second line",
-        ))?
+        .arg(explained(alloc))?
         .arg(progress(alloc))
 }
 
@@ -133,6 +152,12 @@ fn check<'a>(alloc: Global) -> Result<Command<'a>, AllocError>
     Command::new(alloc, "check")
         .about("Says of each file that it is a script, or where it is wrong")
         .after_help(CHECK_HELP)
+        .arg(flag(
+            alloc,
+            "storm",
+            "Looks whether it is one of a storm, which has no simulated units",
+        ))?
+        .arg(flag(alloc, "quiet", "Says nothing of files that are right").short('q'))?
         .arg(files(alloc))
 }
 
@@ -154,7 +179,13 @@ fn drive<'a>(alloc: Global) -> Result<Command<'a>, AllocError>
         .about(
             "Answers lines of standard input, each at once by the trace lines of what it asks for",
         )
-        .after_help(DRIVE_HELP);
+        .after_help(DRIVE_HELP)
+        .arg(explained_always(alloc))?
+        .arg(flag(
+            alloc,
+            "done",
+            "Ends the answer to each line of input with a line: done LINE",
+        ))?;
     with_words(alloc, command)?.arg(driven(alloc))
 }
 
@@ -167,6 +198,7 @@ fn storm<'a>(alloc: Global) -> Result<Command<'a>, AllocError>
             "Runs a script's bursts, frames and commands at once, by threads, and writes the totals",
         )
         .after_help(STORM_HELP)
+        .arg(explained(alloc))?
         .arg(progress(alloc))?
         .arg(file(alloc))
 }
@@ -190,16 +222,35 @@ fn trace<'a>(alloc: Global) -> Arg<'a>
         .help("The trace; standard input if left out, or for -")
 }
 
-fn verify<'a>(alloc: Global) -> Result<Command<'a>, AllocError>
-    ensures app { IfOk result (λ c. app_of c ≡ verify_command) }
+fn at_least<'a>(alloc: Global) -> Arg<'a>
+    ensures rule { rule_of result ≡ at_least_rule }
+    ensures local { result.global ≡ false }
+{
+    Arg::new(alloc, "at-least")
+        .long("at-least")
+        .value_name("N")
+        .value_parser(value_parser!(u64))
+        .help("A trace of fewer lines is no run; 1 if left out")
+}
+
+/// Begins `verify`, up to its files.
+fn verify_flags<'a>(alloc: Global) -> Result<Command<'a>, AllocError>
+    ensures app { IfOk result (λ c. app_of c ≡ spec_verify_flags) }
     ensures local { IfOk result (λ c. (fields_of c).has_globals ≡ false) }
 {
     Command::new(alloc, "verify")
         .about("Tells whether a trace is one that a correct line terminal could have written")
         .after_help(VERIFY_HELP)
-        .arg(progress(alloc))?
-        .arg(script(alloc))?
-        .arg(trace(alloc))
+        .arg(explained_always(alloc))?
+        .arg(at_least(alloc))?
+        .arg(progress(alloc))
+}
+
+fn verify<'a>(alloc: Global) -> Result<Command<'a>, AllocError>
+    ensures app { IfOk result (λ c. app_of c ≡ verify_command) }
+    ensures local { IfOk result (λ c. (fields_of c).has_globals ≡ false) }
+{
+    verify_flags(alloc)?.arg(script(alloc))?.arg(trace(alloc))
 }
 
 fn up<'a>(alloc: Global) -> Arg<'a>
@@ -207,6 +258,13 @@ fn up<'a>(alloc: Global) -> Arg<'a>
     ensures local { result.global ≡ false }
 {
     flag(alloc, "up", "The message is an upstream one")
+}
+
+fn both<'a>(alloc: Global) -> Arg<'a>
+    ensures rule { rule_of result ≡ flag_rule (codes "both") }
+    ensures local { result.global ≡ false }
+{
+    flag(alloc, "both", "Each code has up or down before it")
 }
 
 fn mask<'a>(alloc: Global) -> Arg<'a>
@@ -233,16 +291,23 @@ fn code<'a>(alloc: Global) -> Arg<'a>
         )
 }
 
-fn decode<'a>(alloc: Global) -> Result<Command<'a>, AllocError>
-    ensures app { IfOk result (λ c. (names : MaskNames) × AreMasks names × (app_of c ≡ decode_command names)) }
+/// Begins `decode`, up to its mask.
+fn decode_flags<'a>(alloc: Global) -> Result<Command<'a>, AllocError>
+    ensures app { IfOk result (λ c. app_of c ≡ spec_decode_flags) }
     ensures local { IfOk result (λ c. (fields_of c).has_globals ≡ false) }
 {
     Command::new(alloc, "decode")
         .about("Says in words which messages codes are")
         .after_help(DECODE_HELP)
         .arg(up(alloc))?
-        .arg(mask(alloc))?
-        .arg(code(alloc))
+        .arg(both(alloc))
+}
+
+fn decode<'a>(alloc: Global) -> Result<Command<'a>, AllocError>
+    ensures app { IfOk result (λ c. (names : MaskNames) × AreMasks names × (app_of c ≡ decode_command names)) }
+    ensures local { IfOk result (λ c. (fields_of c).has_globals ≡ false) }
+{
+    decode_flags(alloc)?.arg(mask(alloc))?.arg(code(alloc))
 }
 
 fn words<'a>(alloc: Global) -> Arg<'a>
@@ -251,9 +316,10 @@ fn words<'a>(alloc: Global) -> Arg<'a>
 {
     Arg::new(alloc, "words")
         .value_name("WORDS")
-        .required(true)
         .action(ArgAction::Append)
-        .help("The words that decode writes for a message: its name and its fields")
+        .help(
+            "The words that decode writes for a message: its name and its fields; those of one a line from standard input if left out",
+        )
 }
 
 fn encode<'a>(alloc: Global) -> Result<Command<'a>, AllocError>
@@ -261,7 +327,7 @@ fn encode<'a>(alloc: Global) -> Result<Command<'a>, AllocError>
     ensures local { IfOk result (λ c. (fields_of c).has_globals ≡ false) }
 {
     Command::new(alloc, "encode")
-        .about("Gives the code of a message that is said in words")
+        .about("Gives the codes of messages that are said in words")
         .after_help(ENCODE_HELP)
         .arg(up(alloc))?
         .arg(mask(alloc))?

@@ -8,13 +8,13 @@ Examples:
 
 Exit status:
   0  done, or help that was asked for
-  1  the input was not read, is too long, or is no script, trace, code or turn
+  1  the input was not read, is too long, or is no script, code or turn
   2  the command line is wrong
   3  out of memory
   4  the output takes no more
   5  a storm's threads and journals do not agree
   6  a port of a storm has more entries than its journal keeps
-  7  the trace is not a run";
+  7  the trace is no run, or has too few lines";
 
 /// What stands at the end of the help of `replay`.
 pub const REPLAY_HELP: &str = "\
@@ -34,7 +34,10 @@ Exit status:
 pub const CHECK_HELP: &str = "\
 Examples:
   oltctl check script.toml
-  oltctl check scripts/*.toml
+  oltctl check -q scripts/*.toml
+  oltctl check --storm script.toml
+
+What is right is told on standard output, what is wrong on standard error.
 
 Exit status:
   0  all files are scripts
@@ -47,7 +50,7 @@ Exit status:
 pub const STORM_HELP: &str = "\
 Examples:
   oltctl storm script.toml
-  oltctl storm - < script.toml
+  oltctl storm --explain - < script.toml
 
 Exit status:
   0  the totals were written
@@ -62,15 +65,16 @@ Exit status:
 pub const VERIFY_HELP: &str = "\
 Examples:
   oltctl verify script.toml my-own.trace
-  oltctl replay script.toml | oltctl verify script.toml
+  oltctl replay script.toml | oltctl verify --at-least 10 script.toml
 
 Exit status:
   0  the trace is a run
-  1  a line is none of a trace, or the script or the trace was not read
+  1  the script is wrong, or the script or the trace was not read
   2  the command line is wrong
   3  out of memory
   4  the output takes no more
-  7  the trace is not a run: the first line that can't be is told";
+  7  the trace is no run: the first line that can't be is told; or it has
+     too few lines";
 
 /// What stands at the end of the help of `drive`.
 pub const DRIVE_HELP: &str = "\
@@ -78,10 +82,13 @@ Lines:
   PORT EVENT          once, as a trace tells it: 0 search, 0 show ABCD00000001
   PORT frame COUNT    so many frames, 1 to 1000000
   PORT until GRANT    frames up to this grant: search, range ONU-ID, poll ONU-ID
+  .. within N         at most so many frames, 1 to 1000000
   unit I light        the light of a simulated unit comes; dark: it goes
   # ..                a remark; empty lines too are passed over
 
 A line that is no turn is answered by: error LINE KIND
+Frames that end without their grant are answered behind them by: error LINE never
+With --done the answer to each line, also to an empty one, ends with: done LINE
 
 Examples:
   oltctl drive script.toml
@@ -112,6 +119,11 @@ pub const DECODE_HELP: &str = "\
 Examples:
   oltctl decode ff03004142434400000001001b
   oltctl decode --up - < codes.txt
+  echo up ff01414243440000000100002c | oltctl decode --both
+
+In lines, empty ones and those that begin with # are passed over, and 0x, colons,
+hyphens and spaces in a code. Other ID OCTET1 HEX is a message that has no name here:
+the number of its kind, its first octet, and the ten behind both.
 
 Exit status, that of the first fault:
   0  all codes were told
@@ -125,10 +137,11 @@ pub const ENCODE_HELP: &str = "\
 Examples:
   oltctl encode Assign_ONU-ID 0 ABCD00000001
   oltctl encode --up --mask 85 Acknowledge 0 10
+  oltctl decode < codes.txt | oltctl encode
 
 Exit status:
-  0  the code was written
-  1  the words have no code
+  0  all codes were written
+  1  words have no code, or the input was not read
   2  the command line is wrong
   3  out of memory
   4  the output takes no more";

@@ -13,67 +13,54 @@ ghost use Rattle.gp_decode.specs.declared.fault.LineFault.{LineFault as AnyFault
 ghost use Rattle.gp_decode.specs.Line.{HasLineFault, IsOfText, Says};
 ghost use Rattle.gp_script.specs.declared.fault.ScriptFault.{ScriptFault};
 ghost use Rattle.gp_script.specs.Script.{ScriptView, script_of, storm_script_of};
-ghost use Rattle.oltctl.specs.Replays.{IsCheckedBy, IsReadBy, IsTooLong};
-ghost use Rattle.gp_report.specs.Report.{verify_status};
-ghost use Rattle.oltctl.specs.Statuses.{IsArgumentsReport, IsEncoded, IsPlayed, IsRun, IsServed, IsStatusOf, IsVerifyStatus, check_status, drive_status, end_status, greatest_status, lines_status, told_status};
+ghost use Rattle.oltctl.specs.Replays.{IsReadBy, IsTooLong};
+ghost use Rattle.oltctl.specs.Statuses.{AreDecoded, AreEncoded, IsArgumentsReport, IsDriven, IsEncoded, IsExplained, IsPlayed, IsRun, IsServed, IsStatusOf, IsStormed, check_status, drive_status, encoded_status, end_status, greatest_status, lines_status, told_status};
 
 mod checking;
 mod command_line;
+mod descriptors;
 mod help;
 mod joined;
+mod observed;
 mod progress;
+mod reporting;
 mod request;
 mod telling;
 mod ticking;
+mod verifying;
 
 use checking::check_files;
 use clap::Error;
 use clap::error::ErrorKind;
-use gp_check::ScriptCheckFault;
-use gp_decode::{FaultAt, LineFault, decode_line, decode_lines};
-use gp_drive::{DriveFault, Driven, run_drive};
-use gp_encode::{EncodeFault, encode_line};
+use descriptors::hold;
+use gp_check::{Purpose, ScriptCheckFault};
+use gp_decode::{Direction, FaultAt, LineFault, decode_each, decode_line};
+use gp_drive::{DriveFault, DriveManner, Driven, run_drive_in};
+use gp_encode::{EncodeFault, WordsFaultAt, encode_line, encode_lines};
 use gp_explain::{ExplainFault, Telling, explain_trace};
 use gp_flow::LinesFault;
 use gp_ploam::Mask;
 use gp_replay::{RunFault, run_replay};
 use gp_report::{
     BAD_ARGUMENTS, BAD_INPUT, SUCCESS, arguments_report, encode_report, explain_report,
-    input_report, line_report, memory_report, run_report, verify_report, write_report,
+    input_report, line_report, memory_report, run_report, write_report,
 };
 use gp_storm::run_storm;
 use gp_stream::{Sink, Source, SourceFault, read_all};
-use gp_verify::{CheckFault, VerifyFault, verify_script};
 use joined::joined;
-use progress::Counted;
-use request::{Play, Request, Told, request_of};
+use observed::{Observed, Seen};
+use reporting::{report, report_at, tell_mistake};
+use request::{Play, Request, StormPlay, Told, request_of};
+use std::alloc::Global;
 use std::io;
 use std::io::Read;
 use std::process::ExitCode;
 use std::rt::{Clock, Env, Files};
 use std::sync::Wait;
 use std::thread::Threads;
-use telling::{drive_told, is_plain, replay_bytes, tell_place};
+use telling::{drive_told, is_plain, replay_bytes};
 use ticking::with_ticks;
-
-/// Says on standard error what went wrong, and answers the exit status, which says it too where
-/// standard error takes nothing.
-fn report<R: Eprint>(rt: &R, told: (&'static str, u8)) -> u8
-    ensures { result ≡ told.entry.1 }
-{
-    let (line, status) = told;
-    let _ = eprintln!(rt; "{line}");
-    status
-}
-
-/// Does the same of a line of a trace, whose number it says too.
-fn report_at<R: Eprint>(rt: &R, told: (&'static str, u8), number: u64) -> u8
-    ensures { result ≡ told.entry.1 }
-{
-    let (line, status) = told;
-    let _ = eprintln!(rt; "{line}, line {number}");
-    status
-}
+use verifying::verify;
 
 /// Tells whether the trace alone is wanted of a replay, as it is.
 fn is_usual(play: Play) -> bool {
@@ -103,15 +90,36 @@ fn end_replay<R: Eprint>(rt: &R, outcome: &Result<(), RunFault>) -> u8
     end_run(rt, outcome)
 }
 
-/// Says on standard error why a script was not read, and answers the exit status.
-fn end_unread<R: Eprint>(rt: &R, fault: SourceFault) -> u8
+/// Says on standard error why a script was not read, where that is wanted by its cause too, and answers the exit status.
+fn end_unread<R: AllocGlobal + Eprint>(
+    rt: &R,
+    fault: SourceFault,
+    seen: &Seen<'_>,
+    explain: bool,
+) -> u8
     ensures { IsPlayed result }
 {
     match fault {
-        SourceFault::Read => end_replay(rt, &Err(RunFault::Read)),
+        SourceFault::Read => {
+            let status = end_replay(rt, &Err(RunFault::Read));
+            if explain {
+                seen.tell_unread(rt);
+            }
+            status
+        }
         SourceFault::TooLong => end_replay(rt, &Err(RunFault::TooLong)),
         SourceFault::OutOfMemory => end_replay(rt, &Err(RunFault::OutOfMemory)),
     }
+}
+
+/// Reads all that a reader gives, of which is remembered why a read failed.
+fn read_seen<S: Read + Drop>(
+    alloc: Global,
+    reader: S,
+    seen: &mut Seen<'_>,
+) -> Result<Vec<u8>, SourceFault> {
+    let mut source = Source::new(Observed::new(reader, seen));
+    read_all(alloc, &mut source)
 }
 
 /// Plays the script that a reader gives, and writes what is wanted of it to standard output. Says on standard error
@@ -120,21 +128,21 @@ fn replay_so<R: AllocGlobal + Print + Eprint + Clock, S: Read + Drop>(
     rt: &R,
     reader: S,
     play: Play,
+    seen: &mut Seen<'_>,
 ) -> u8
     ensures { IsPlayed result }
 {
     if is_usual(play) {
         return end_replay(rt, &replay_from(rt, reader));
     }
-    let mut source = Source::new(reader);
-    let bytes = match read_all(rt.alloc(), &mut source) {
+    let bytes = match read_seen(rt.alloc(), reader, seen) {
         Ok(bytes) => bytes,
-        Err(fault) => return end_unread(rt, fault),
+        Err(fault) => return end_unread(rt, fault, seen, play.explain),
     };
     let played = replay_bytes(rt, bytes.as_slice(), play);
     let status = end_replay(rt, &played);
     if play.explain && status == BAD_INPUT {
-        tell_place(rt, bytes.as_slice());
+        tell_mistake(rt, Purpose::Replay, bytes.as_slice());
     }
     status
 }
@@ -147,11 +155,15 @@ fn replay<R: AllocGlobal + Files + Print + Eprint + Input + Clock>(
 ) -> u8
     ensures { IsPlayed result }
 {
+    let mut seen = Seen::new(file);
     match file {
-        None => replay_so(rt, rt.reader(), play),
+        None => replay_so(rt, rt.reader(), play, &mut seen),
         Some(path) => match std::fs::open(rt, path) {
-            Ok(file) => replay_so(rt, file, play),
-            Err(_) => end_unread(rt, SourceFault::Read),
+            Ok(file) => replay_so(rt, file, play, &mut seen),
+            Err(error) => {
+                seen.failed(&error);
+                end_unread(rt, SourceFault::Read, &seen, play.explain)
+            }
         },
     }
 }
@@ -159,6 +171,7 @@ fn replay<R: AllocGlobal + Files + Print + Eprint + Input + Clock>(
 /// Plays the script that a reader gives, and answers the lines that another gives, on standard output.
 fn drive_from<R: AllocGlobal + Print, S: Read + Drop, T: Read + Drop>(
     rt: &R,
+    manner: DriveManner,
     script: S,
     turns: T,
 ) -> Result<Driven, DriveFault>
@@ -170,20 +183,47 @@ fn drive_from<R: AllocGlobal + Print, S: Read + Drop, T: Read + Drop>(
     let mut script = Source::new(script);
     let mut turns = Source::endless(turns);
     let mut sink = Sink::new(rt.alloc(), io::writer(rt))?;
-    run_drive(rt.alloc(), &mut script, &mut turns, &mut sink)
+    run_drive_in(rt.alloc(), manner, &mut script, &mut turns, &mut sink)
 }
 
 /// Drives the script of a file by the lines of standard input.
-fn drive<R: AllocGlobal + Files + Print + Input>(
+fn drive_file<R: AllocGlobal + Files + Print + Input>(
     rt: &R,
     script: &str,
     told: Told,
+    manner: DriveManner,
+    of_script: &mut Seen<'_>,
+    of_turns: &mut Seen<'_>,
 ) -> Result<Driven, DriveFault> {
-    match std::fs::open(rt, script) {
-        Ok(script) if is_plain(told) => drive_from(rt, script, rt.reader()),
-        Ok(script) => drive_told(rt, script, rt.reader(), told),
-        Err(_) => Err(DriveFault::Script(RunFault::Read)),
+    let script = match std::fs::open(rt, script) {
+        Ok(script) => Observed::new(script, of_script),
+        Err(error) => {
+            of_script.failed(&error);
+            return Err(DriveFault::Script(RunFault::Read));
+        }
+    };
+    let turns = Observed::new(rt.reader(), of_turns);
+    if is_plain(told) {
+        drive_from(rt, manner, script, turns)
+    } else {
+        drive_told(rt, manner, script, turns, told)
     }
+}
+
+/// Does so, says how that ended, and answers the exit status.
+fn drive<R: AllocGlobal + Files + Print + Eprint + Input>(
+    rt: &R,
+    script: &str,
+    told: Told,
+    done: bool,
+) -> u8
+    ensures { IsDriven result }
+{
+    let mut of_script = Seen::keeping(rt.alloc(), Some(script));
+    let mut of_turns = Seen::new(None);
+    let manner = DriveManner { done };
+    let outcome = drive_file(rt, script, told, manner, &mut of_script, &mut of_turns);
+    end_drive(rt, &outcome, &of_script, &of_turns)
 }
 
 /// Says on standard error how many lines were no turns, and answers the exit status.
@@ -195,7 +235,12 @@ fn report_errors<R: Eprint>(rt: &R, errors: u64) -> u8
 }
 
 /// Says how a drive ended, and answers the exit status.
-fn end_drive<R: Eprint>(rt: &R, outcome: &Result<Driven, DriveFault>) -> u8
+fn end_drive<R: AllocGlobal + Eprint>(
+    rt: &R,
+    outcome: &Result<Driven, DriveFault>,
+    of_script: &Seen<'_>,
+    of_turns: &Seen<'_>,
+) -> u8
     ensures { result ≡ drive_status outcome.now }
 {
     match outcome {
@@ -206,7 +251,8 @@ fn end_drive<R: Eprint>(rt: &R, outcome: &Result<Driven, DriveFault>) -> u8
                 report_errors(rt, driven.errors)
             }
         }
-        Err(DriveFault::Script(fault)) => report(rt, run_report(fault)),
+        Err(DriveFault::Script(fault)) => of_script.end_script(rt, fault),
+        Err(DriveFault::Turns(LinesFault::Read)) => of_turns.tell_unread(rt),
         Err(DriveFault::Turns(fault)) => report(rt, input_report(fault)),
     }
 }
@@ -240,15 +286,19 @@ fn storm_from<R: AllocGlobal + Print + Threads + Wait + Sync, S: Read + Drop>(
 }
 
 /// Runs the storm of a file's script, or of standard input's.
-fn storm<R: AllocGlobal + Files + Print + Input + Threads + Wait + Sync>(
+fn storm_file<R: AllocGlobal + Files + Print + Input + Threads + Wait + Sync>(
     rt: &R,
     file: Option<&str>,
+    seen: &mut Seen<'_>,
 ) -> Result<(), RunFault> {
     match file {
-        None => storm_from(rt, rt.reader()),
+        None => storm_from(rt, Observed::new(rt.reader(), seen)),
         Some(path) => match std::fs::open(rt, path) {
-            Ok(file) => storm_from(rt, file),
-            Err(_) => Err(RunFault::Read),
+            Ok(file) => storm_from(rt, Observed::new(file, seen)),
+            Err(error) => {
+                seen.failed(&error);
+                Err(RunFault::Read)
+            }
         },
     }
 }
@@ -258,12 +308,45 @@ fn storm_so<R: AllocGlobal + Files + Print + Eprint + Input + Clock + Threads + 
     rt: &R,
     file: Option<&str>,
     progress: bool,
+    seen: &mut Seen<'_>,
 ) -> Result<(), RunFault> {
     if progress {
-        with_ticks(rt, || storm(rt, file))
+        with_ticks(rt, || storm_file(rt, file, seen))
     } else {
-        storm(rt, file)
+        storm_file(rt, file, seen)
     }
+}
+
+/// Says in a second line why the script of a storm was not read, or where it is wrong.
+fn explain_storm<R: AllocGlobal + Eprint>(rt: &R, outcome: &Result<(), RunFault>, seen: &Seen<'_>) {
+    match outcome {
+        Err(RunFault::Read) => {
+            seen.tell_unread(rt);
+        }
+        Err(RunFault::Script(_)) => seen.tell_place(rt, Purpose::Storm),
+        _ => {}
+    }
+}
+
+/// Runs a storm, says how that ended, and answers the exit status.
+fn storm<R: AllocGlobal + Files + Print + Eprint + Input + Clock + Threads + Wait + Sync>(
+    rt: &R,
+    file: Option<&str>,
+    play: StormPlay,
+) -> u8
+    ensures { IsStormed result }
+{
+    let mut seen = if play.explain {
+        Seen::keeping(rt.alloc(), file)
+    } else {
+        Seen::new(file)
+    };
+    let outcome = storm_so(rt, file, play.progress, &mut seen);
+    let status = end_run(rt, &outcome);
+    if play.explain {
+        explain_storm(rt, &outcome, &seen);
+    }
+    status
 }
 
 /// Says on standard error what went wrong with a replay or a storm, if anything did, and answers the exit status.
@@ -273,66 +356,6 @@ fn end_run<R: Eprint>(rt: &R, outcome: &Result<(), RunFault>) -> u8
     match outcome {
         Ok(()) => SUCCESS,
         Err(fault) => report(rt, run_report(fault)),
-    }
-}
-
-/// Verifies the trace that a reader gives against the script that another gives. The line that can't be goes to
-/// standard output, and what the machine says in its place.
-fn verify_from<R: AllocGlobal + Print, S: Read + Drop, T: Read + Drop>(
-    rt: &R,
-    script: S,
-    trace: T,
-) -> Result<u64, CheckFault>
-    ensures { IsCheckedBy script (S.remaining script) trace (T.remaining trace) result }
-{
-    let mut script = Source::new(script);
-    let mut trace = Source::endless(trace);
-    let mut sink = Sink::new(rt.alloc(), io::writer(rt))?;
-    verify_script(rt.alloc(), &mut script, &mut trace, &mut sink)
-}
-
-/// Verifies the trace of a file, or of standard input, against the script of a file.
-fn verify<R: AllocGlobal + Files + Print + Eprint + Input + Clock>(
-    rt: &R,
-    script: &str,
-    trace: Option<&str>,
-    progress: bool,
-) -> Result<u64, CheckFault> {
-    let Ok(script) = std::fs::open(rt, script) else {
-        return Err(CheckFault::Script(RunFault::Read));
-    };
-    match trace {
-        None => verify_from(rt, script, Counted::new(rt, rt.reader(), progress, None)),
-        Some(path) => match std::fs::open(rt, path) {
-            Ok(trace) => verify_from(rt, script, Counted::new(rt, trace, progress, None)),
-            Err(_) => Err(CheckFault::Trace(VerifyFault::Lines(LinesFault::Read))),
-        },
-    }
-}
-
-/// Says how a verification of a trace ended, with the number of the line that can't be, and answers the exit status.
-fn end_trace<R: Eprint>(rt: &R, fault: &VerifyFault) -> u8
-    ensures { result ≡ verify_status fault.now }
-{
-    match *fault {
-        VerifyFault::Refused { line, verdict: _ } | VerifyFault::Unended { line } => {
-            report_at(rt, verify_report(fault), line)
-        }
-        VerifyFault::Lines(_) => report(rt, verify_report(fault)),
-    }
-}
-
-/// Says how a verification ended, and answers the exit status.
-fn end_verify<R: Print + Eprint>(rt: &R, outcome: &Result<u64, CheckFault>) -> u8
-    ensures { IsVerifyStatus outcome.now result }
-{
-    match outcome {
-        Ok(lines) => match println!(rt; "{lines} lines, a run") {
-            Ok(()) => SUCCESS,
-            Err(_) => report(rt, write_report()),
-        },
-        Err(CheckFault::Script(fault)) => report(rt, run_report(fault)),
-        Err(CheckFault::Trace(fault)) => end_trace(rt, fault),
     }
 }
 
@@ -355,39 +378,100 @@ fn decode<R: AllocGlobal + Print>(
 fn decode_from<R: AllocGlobal + Print, S: Read + Drop>(
     rt: &R,
     reader: S,
-    upstream: bool,
+    direction: Direction,
     mask: Mask,
 ) -> Result<Option<FaultAt>, LinesFault> {
     let mut source = Source::endless(reader);
     let mut sink = Sink::new(rt.alloc(), io::writer(rt))?;
-    decode_lines(rt.alloc(), &mut source, &mut sink, upstream, mask)
+    decode_each(rt.alloc(), &mut source, &mut sink, direction, mask)
 }
 
 /// Says so of these codes, as if each were a line, or of each line of standard input.
 fn decode_all<R: AllocGlobal + Print + Input>(
     rt: &R,
     codes: Option<&[&str]>,
-    upstream: bool,
+    direction: Direction,
     mask: Mask,
+    seen: &mut Seen<'_>,
 ) -> Result<Option<FaultAt>, LinesFault> {
     match codes {
-        None | Some(["-"]) => decode_from(rt, rt.reader(), upstream, mask),
+        None | Some(["-"]) => decode_from(rt, Observed::new(rt.reader(), seen), direction, mask),
         Some(codes) => {
             let text = joined(rt.alloc(), codes, b'\n')?;
-            decode_from(rt, text.as_slice(), upstream, mask)
+            decode_from(rt, text.as_slice(), direction, mask)
         }
     }
 }
 
 /// Says which line had the first fault, or why not all were answered, and answers the exit status.
-fn end_lines<R: Eprint>(rt: &R, outcome: &Result<Option<FaultAt>, LinesFault>) -> u8
+fn end_lines<R: AllocGlobal + Eprint>(
+    rt: &R,
+    outcome: &Result<Option<FaultAt>, LinesFault>,
+    seen: &Seen<'_>,
+) -> u8
     ensures { result ≡ lines_status outcome.now }
 {
     match outcome {
         Ok(None) => SUCCESS,
         Ok(Some(first)) => report_at(rt, line_report(&first.fault), first.line),
+        Err(LinesFault::Read) => seen.tell_unread(rt),
         Err(fault) => report(rt, input_report(fault)),
     }
+}
+
+/// Says of codes which messages they are, says how that ended, and answers the exit status.
+fn decode_lines_of<R: AllocGlobal + Print + Eprint + Input>(
+    rt: &R,
+    codes: Option<&[&str]>,
+    direction: Direction,
+    mask: Mask,
+) -> u8
+    ensures { AreDecoded result }
+{
+    let mut seen = Seen::new(None);
+    let outcome = decode_all(rt, codes, direction, mask, &mut seen);
+    end_lines(rt, &outcome, &seen)
+}
+
+/// Gives the code of the words of each line of standard input.
+fn encode_input<R: AllocGlobal + Print + Input>(
+    rt: &R,
+    upstream: bool,
+    mask: Mask,
+    seen: &mut Seen<'_>,
+) -> Result<Option<WordsFaultAt>, LinesFault> {
+    let mut source = Source::endless(Observed::new(rt.reader(), seen));
+    let mut sink = Sink::new(rt.alloc(), io::writer(rt))?;
+    encode_lines(rt.alloc(), &mut source, &mut sink, upstream, mask)
+}
+
+/// Says which line of words had the first fault, or why not all were answered, and answers the exit status.
+fn end_words<R: AllocGlobal + Eprint>(
+    rt: &R,
+    outcome: &Result<Option<WordsFaultAt>, LinesFault>,
+    seen: &Seen<'_>,
+) -> u8
+    ensures { result ≡ encoded_status outcome.now }
+{
+    match outcome {
+        Ok(None) => SUCCESS,
+        Ok(Some(first)) => report_at(rt, encode_report(&first.fault), first.line),
+        Err(LinesFault::Read) => seen.tell_unread(rt),
+        Err(fault) => report(rt, input_report(fault)),
+    }
+}
+
+/// Gives the codes of the lines of standard input, says how that ended, and answers the exit status.
+fn encode_lines_of<R: AllocGlobal + Print + Eprint + Input>(
+    rt: &R,
+    upstream: bool,
+    mask: Mask,
+) -> u8
+    ensures { AreEncoded result }
+{
+    let mut seen = Seen::new(None);
+    let outcome = encode_input(rt, upstream, mask, &mut seen);
+    end_words(rt, &outcome, &seen)
 }
 
 /// Gives the code of words, on standard output, and answers the exit status.
@@ -421,33 +505,56 @@ fn explain_from<R: AllocGlobal + Print, T: Read + Drop>(
 }
 
 /// Does so of the trace of a file, or of standard input.
-fn explain<R: AllocGlobal + Files + Print + Input>(
+fn explain_file<R: AllocGlobal + Files + Print + Input>(
     rt: &R,
     trace: Option<&str>,
     mask: Mask,
     told: Told,
+    seen: &mut Seen<'_>,
 ) -> Result<u64, ExplainFault> {
     match trace {
-        None => explain_from(rt, rt.reader(), mask, told),
+        None => explain_from(rt, Observed::new(rt.reader(), seen), mask, told),
         Some(path) => match std::fs::open(rt, path) {
-            Ok(trace) => explain_from(rt, trace, mask, told),
-            Err(_) => Err(ExplainFault::Lines(LinesFault::Read)),
+            Ok(trace) => explain_from(rt, Observed::new(trace, seen), mask, told),
+            Err(error) => {
+                seen.failed(&error);
+                Err(ExplainFault::Lines(LinesFault::Read))
+            }
         },
     }
 }
 
 /// Says how telling a trace in words ended, with the number of the line that is none of a trace, and answers the exit
 /// status.
-fn end_explain<R: Eprint>(rt: &R, outcome: &Result<u64, ExplainFault>) -> u8
+fn end_explain<R: AllocGlobal + Eprint>(
+    rt: &R,
+    outcome: &Result<u64, ExplainFault>,
+    seen: &Seen<'_>,
+) -> u8
     ensures { result ≡ told_status outcome.now }
 {
     match outcome {
         Ok(_) => SUCCESS,
         Err(fault) => match fault {
             ExplainFault::Refused { line, why: _ } => report_at(rt, explain_report(fault), *line),
+            ExplainFault::Lines(LinesFault::Read) => seen.tell_unread(rt),
             ExplainFault::Lines(_) => report(rt, explain_report(fault)),
         },
     }
+}
+
+/// Writes a trace again with its codes in words, says how that ended, and answers the exit status.
+fn explain<R: AllocGlobal + Files + Print + Eprint + Input>(
+    rt: &R,
+    trace: Option<&str>,
+    mask: Mask,
+    told: Told,
+) -> u8
+    ensures { IsExplained result }
+{
+    let mut seen = Seen::new(trace);
+    let outcome = explain_file(rt, trace, mask, told, &mut seen);
+    end_explain(rt, &outcome, &seen)
 }
 
 /// Does what is asked for, and answers the exit status.
@@ -459,14 +566,10 @@ fn serve<R: AllocGlobal + Files + Print + Eprint + Input + Clock + Threads + Wai
 {
     match request {
         Request::Replay { file, play } => replay(rt, file, play),
-        Request::Drive { script, told } => end_drive(rt, &drive(rt, script, told)),
-        Request::Check { files } => end_check(rt, &check_files(rt, files)),
-        Request::Storm { file, progress } => end_run(rt, &storm_so(rt, file, progress)),
-        Request::Verify {
-            script,
-            trace,
-            progress,
-        } => end_verify(rt, &verify(rt, script, trace, progress)),
+        Request::Drive { script, told, done } => drive(rt, script, told, done),
+        Request::Check { files, checking } => end_check(rt, &check_files(rt, files, checking)),
+        Request::Storm { file, play } => storm(rt, file, play),
+        Request::Verify(wanted) => verify(rt, wanted),
         Request::Decode {
             code,
             upstream,
@@ -477,15 +580,16 @@ fn serve<R: AllocGlobal + Files + Print + Eprint + Input + Clock + Threads + Wai
         },
         Request::DecodeLines {
             codes,
-            upstream,
+            direction,
             mask,
-        } => end_lines(rt, &decode_all(rt, codes, upstream, mask)),
+        } => decode_lines_of(rt, codes, direction, mask),
+        Request::EncodeLines { upstream, mask } => encode_lines_of(rt, upstream, mask),
         Request::Encode {
             words,
             upstream,
             mask,
         } => encode(rt, words, upstream, mask),
-        Request::Explain { trace, mask, told } => end_explain(rt, &explain(rt, trace, mask, told)),
+        Request::Explain { trace, mask, told } => explain(rt, trace, mask, told),
     }
 }
 
@@ -543,10 +647,17 @@ fn run<R: AllocGlobal + Env + Files + Print + Eprint + Input + Clock + Threads +
 ) -> u8
     ensures { result ≤ greatest_status }
 {
-    match arguments_of(rt) {
+    let input = hold(rt);
+    let output = hold(rt);
+    let errors = hold(rt);
+    let status = match arguments_of(rt) {
         Ok(arguments) => run_words(rt, arguments.as_slice()),
         Err(error) => report(rt, words_report(&error)),
-    }
+    };
+    drop(input);
+    drop(output);
+    drop(errors);
+    status
 }
 
 fn main(rt: HostRuntime) -> ExitCode {

@@ -2,9 +2,10 @@
 ghost use Rattle.std.specs.Prelude.{◌≡◌, ◌∷◌, [], true, IfSome, IfNone, Some, None, codes, option_map};
 ghost use Rattle.clap.specs.Words.{all_of, first_of, found_of, rows_of, subcommand_rows_of};
 ghost use Rattle.oltctl.specs.CommandLine.{file_named, form_named, mask_named};
-ghost use Rattle.oltctl.specs.Requests.{Asks, AsksForForm, AsksForPlay, AsksForTrace, AsksNothing, AsksToCheck, AsksToDecode, AsksToDrive, AsksToEncode, AsksToExplain, AsksToReplay, AsksToStorm, AsksToVerify, name_in, texts};
+ghost use Rattle.oltctl.specs.Requests.{Asks, AsksForForm, AsksForPlay, AsksForTrace, AsksNothing, AsksToCheck, AsksToDecode, AsksToDrive, AsksToEncode, AsksToExplain, AsksToReplay, AsksToStorm, AsksToVerify, IsNumber, direction_asked, name_in, texts};
 
 use clap::ArgMatches;
+use gp_decode::Direction;
 use gp_explain::Form;
 use gp_ploam::Mask;
 
@@ -28,6 +29,37 @@ pub struct Play {
     pub progress: bool,
 }
 
+/// What is wanted of a storm.
+#[derive(Clone, Copy)]
+pub struct StormPlay {
+    /// Of a script that is wrong, where.
+    pub explain: bool,
+    /// Once a second, for how long it has been going on.
+    pub progress: bool,
+}
+
+/// What is wanted of files that may be scripts.
+#[derive(Clone, Copy)]
+pub struct Checking {
+    /// They are to be scripts of storms.
+    pub storm: bool,
+    /// Nothing is said of those that are right.
+    pub quiet: bool,
+}
+
+/// A verification that is wanted.
+#[derive(Clone, Copy)]
+pub struct Verification<'a> {
+    /// The script of this file counts.
+    pub script: &'a str,
+    /// The trace of this file, or of standard input, is judged.
+    pub trace: Option<&'a str>,
+    /// It has to have so many lines, and one where this is left out.
+    pub at_least: Option<u64>,
+    /// Once a second, how many lines were read.
+    pub progress: bool,
+}
+
 /// What the program is to do.
 #[derive(Clone, Copy)]
 pub enum Request<'m, 'a> {
@@ -36,27 +68,25 @@ pub enum Request<'m, 'a> {
         file: Option<&'a str>,
         play: Play,
     },
-    /// Play the script of this file, and then what the lines of standard input ask for.
+    /// Play the script of this file, and then what the lines of standard input ask for; where `done`, each answer ends
+    /// with a line that says so.
     Drive {
         script: &'a str,
         told: Told,
+        done: bool,
     },
     /// Say of each of these files whether it is a script, or where it is wrong.
     Check {
         files: &'m [&'a str],
+        checking: Checking,
     },
-    /// Run the storm of this file's script, or of standard input's; where `progress`, tell once a second for how long.
+    /// Run the storm of this file's script, or of standard input's.
     Storm {
         file: Option<&'a str>,
-        progress: bool,
+        play: StormPlay,
     },
-    /// Verify this trace, or that of standard input, against the script of this file; where `progress`, tell once a
-    /// second how many lines were read.
-    Verify {
-        script: &'a str,
-        trace: Option<&'a str>,
-        progress: bool,
-    },
+    /// Verify a trace against a script.
+    Verify(Verification<'a>),
     /// Say which message this code is, in hexadecimal digits: one of a unit where `upstream`, else one of the
     /// line terminal.
     Decode {
@@ -67,6 +97,11 @@ pub enum Request<'m, 'a> {
     /// Say so of each of these codes, or, where there are none or `-` alone, of each line of standard input.
     DecodeLines {
         codes: Option<&'m [&'a str]>,
+        direction: Direction,
+        mask: Mask,
+    },
+    /// Give the code of the message that the words of each line of standard input say.
+    EncodeLines {
         upstream: bool,
         mask: Mask,
     },
@@ -97,7 +132,7 @@ pub fn request_of<'m, 'a>(matches: &'m ArgMatches<'a>) -> Option<Request<'m, 'a>
         ("check", found) => check_of(found),
         ("verify", found) => verify_of(found),
         ("decode", found) => Some(decode_of(found)),
-        ("encode", found) => encode_of(found),
+        ("encode", found) => Some(encode_of(found)),
         ("explain", found) => Some(explain_of(found)),
         _ => None,
     }
@@ -162,17 +197,21 @@ fn replay_of<'m, 'a>(found: &'m ArgMatches<'a>) -> Request<'m, 'a>
     }
 }
 
-#[tactic(auto, using(crate::proofs::Rows::values_by_rows))]
+#[tactic(auto, using(crate::proofs::Rows::values_by_rows, crate::proofs::Rows::flag_by_rows))]
 fn check_of<'m, 'a>(found: &'m ArgMatches<'a>) -> Option<Request<'m, 'a>>
     ensures asks { IfSome result (AsksToCheck (rows_of (found_of found.now))) }
     ensures nothing { IfNone result (all_of (codes "files") (rows_of (found_of found.now)) ≡ None) }
 {
     Some(Request::Check {
         files: found.get_strs("files")?,
+        checking: Checking {
+            storm: found.get_flag("storm"),
+            quiet: found.get_flag("quiet"),
+        },
     })
 }
 
-#[tactic(auto, using(crate::proofs::Rows::value_by_rows))]
+#[tactic(auto, using(crate::proofs::Rows::value_by_rows, crate::proofs::Rows::flag_by_rows))]
 fn drive_of<'m, 'a>(found: &'m ArgMatches<'a>) -> Option<Request<'m, 'a>>
     ensures asks { IfSome result (AsksToDrive (rows_of (found_of found.now))) }
     ensures nothing { IfNone result (first_of (codes "script") (rows_of (found_of found.now)) ≡ None) }
@@ -180,6 +219,7 @@ fn drive_of<'m, 'a>(found: &'m ArgMatches<'a>) -> Option<Request<'m, 'a>>
     Some(Request::Drive {
         script: found.get_str("script")?,
         told: told_in(found),
+        done: found.get_flag("done"),
     })
 }
 
@@ -189,8 +229,19 @@ fn storm_of<'m, 'a>(found: &'m ArgMatches<'a>) -> Request<'m, 'a>
 {
     Request::Storm {
         file: file_of(found.get_str("file")),
-        progress: found.get_flag("progress"),
+        play: StormPlay {
+            explain: found.get_flag("explain"),
+            progress: found.get_flag("progress"),
+        },
     }
+}
+
+/// Gives the number that stands at an option, where it is given.
+#[tactic(auto, using(crate::proofs::Rows::flag_by_rows))]
+fn number_at(found: &ArgMatches<'_>, id: &str) -> Option<u64>
+    ensures { IsNumber (rows_of (found_of found.now)) id.now result }
+{
+    found.get_one::<u64>(id)
 }
 
 #[tactic(auto, using(crate::proofs::Rows::value_by_rows, crate::proofs::Rows::flag_by_rows))]
@@ -198,11 +249,12 @@ fn verify_of<'m, 'a>(found: &'m ArgMatches<'a>) -> Option<Request<'m, 'a>>
     ensures asks { IfSome result (AsksToVerify (rows_of (found_of found.now))) }
     ensures nothing { IfNone result (first_of (codes "script") (rows_of (found_of found.now)) ≡ None) }
 {
-    Some(Request::Verify {
+    Some(Request::Verify(Verification {
         script: found.get_str("script")?,
         trace: file_of(found.get_str("trace")),
+        at_least: number_at(found, "at-least"),
         progress: found.get_flag("progress"),
-    })
+    }))
 }
 
 /// Gives the code, where one alone is given, and it isn't `-`, which stands for standard input.
@@ -221,31 +273,48 @@ fn decode_of<'m, 'a>(found: &'m ArgMatches<'a>) -> Request<'m, 'a>
 {
     let codes = found.get_strs("code");
     let upstream = found.get_flag("up");
+    let both = found.get_flag("both");
     let mask = mask_of(found.get_str("mask"));
     match code_alone(codes) {
-        Some(code) => Request::Decode {
+        Some(code) if !both => Request::Decode {
             code,
             upstream,
             mask,
         },
-        None => Request::DecodeLines {
+        _ => Request::DecodeLines {
             codes,
-            upstream,
+            direction: direction_of(upstream, both),
             mask,
         },
     }
 }
 
-#[tactic(auto, using(crate::proofs::Rows::value_by_rows, crate::proofs::Rows::flag_by_rows, crate::proofs::Rows::values_by_rows))]
-fn encode_of<'m, 'a>(found: &'m ArgMatches<'a>) -> Option<Request<'m, 'a>>
-    ensures asks { IfSome result (AsksToEncode (rows_of (found_of found.now))) }
-    ensures nothing { IfNone result (all_of (codes "words") (rows_of (found_of found.now)) ≡ None) }
+/// Gives whose messages codes are: where each may be of either, it says so itself.
+fn direction_of(upstream: bool, both: bool) -> Direction
+    ensures { result ≡ direction_asked upstream both }
 {
-    Some(Request::Encode {
-        words: found.get_strs("words")?,
-        upstream: found.get_flag("up"),
-        mask: mask_of(found.get_str("mask")),
-    })
+    if both {
+        Direction::Each
+    } else {
+        Direction::of(upstream)
+    }
+}
+
+#[tactic(auto, using(crate::proofs::Rows::value_by_rows, crate::proofs::Rows::flag_by_rows, crate::proofs::Rows::values_by_rows))]
+fn encode_of<'m, 'a>(found: &'m ArgMatches<'a>) -> Request<'m, 'a>
+    ensures { AsksToEncode (rows_of (found_of found.now)) result }
+{
+    match found.get_strs("words") {
+        None => Request::EncodeLines {
+            upstream: found.get_flag("up"),
+            mask: mask_of(found.get_str("mask")),
+        },
+        Some(words) => Request::Encode {
+            words,
+            upstream: found.get_flag("up"),
+            mask: mask_of(found.get_str("mask")),
+        },
+    }
 }
 
 #[tactic(auto, using(crate::proofs::Rows::value_by_rows))]
@@ -264,7 +333,7 @@ fn mask_of(name: Option<&str>) -> Mask
     ensures { result ≡ mask_named (option_map (λ n. n.now) name.entry) }
 {
     match name {
-        Some("85") => Mask::Coset,
+        Some("85") | Some("0x55") => Mask::Coset,
         _ => Mask::Plain,
     }
 }

@@ -3,13 +3,12 @@ ghost use Rattle.std.specs.Prelude.{◌≡◌, ◌≢◌, ◌↔◌, Err, IsTrue
 
 use crate::progress::Counted;
 use crate::request::{Play, Told};
-use gp_check::mistake_line;
-use gp_drive::{DriveFault, Driven, run_drive};
+use gp_drive::{DriveFault, DriveManner, Driven, run_drive_in};
 use gp_explain::{Form, Telling};
 use gp_flow::{LineFault, LinesFault};
 use gp_ploam::Mask;
 use gp_replay::{RunFault, run_replay};
-use gp_script::{PlacedError, ScriptEvent, read_script, read_script_at};
+use gp_script::{ScriptEvent, read_script};
 use gp_stream::{Sink, Source, read_all};
 use gp_tell::{Began, TellFault, Teller};
 use std::alloc::Global;
@@ -137,6 +136,7 @@ pub(crate) fn replay_bytes<R: AllocGlobal + Print + Eprint + Clock>(
 /// Plays the script that bytes are, and answers lines, by trace lines as they are told.
 fn drive_by<B: Began, T: Read, W: Write + Drop>(
     alloc: Global,
+    manner: DriveManner,
     bytes: &[u8],
     turns: &mut Source<T>,
     telling: Telling,
@@ -148,7 +148,7 @@ fn drive_by<B: Began, T: Read, W: Write + Drop>(
     let teller = Teller::<B, W>::new(alloc, telling, writer)?;
     let mut sink = Sink::new(alloc, teller)?;
     let mut script = Source::new(bytes);
-    let driven = run_drive(alloc, &mut script, turns, &mut sink);
+    let driven = run_drive_in(alloc, manner, &mut script, turns, &mut sink);
     match sink.into_inner().fault() {
         Some(TellFault::OutOfMemory) => {
             let fault = LinesFault::Line(LineFault::OutOfMemory);
@@ -161,6 +161,7 @@ fn drive_by<B: Began, T: Read, W: Write + Drop>(
 /// Plays the script that a reader gives, and answers the lines that another gives, by trace lines that are told so.
 pub(crate) fn drive_told<R: AllocGlobal + Print, S: Read + Drop, T: Read + Drop>(
     rt: &R,
+    manner: DriveManner,
     script: S,
     turns: T,
     told: Told,
@@ -172,19 +173,10 @@ pub(crate) fn drive_told<R: AllocGlobal + Print, S: Read + Drop, T: Read + Drop>
     let mut turns = Source::endless(turns);
     drive_by::<Brand, T, io::Printer<'_, R>>(
         rt.alloc(),
+        manner,
         bytes.as_slice(),
         &mut turns,
         telling,
         io::writer(rt),
     )
-}
-
-/// Says on standard error where bytes are no script, if they are none.
-pub(crate) fn tell_place<R: AllocGlobal + Eprint>(rt: &R, bytes: &[u8]) {
-    let Err(PlacedError::Wrong(mistake)) = read_script_at(rt.alloc(), bytes) else {
-        return;
-    };
-    if let Ok(place) = mistake_line(rt.alloc(), &mistake) {
-        let _ = eprintln!(rt; "oltctl: {place}");
-    }
 }

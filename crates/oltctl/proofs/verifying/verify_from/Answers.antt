@@ -1,5 +1,5 @@
 use Rattle.oltctl.proofs.Runs.{checked_from, unchecked}
-use Rattle.oltctl.proofs.verify_from.Goals as goal
+use Rattle.oltctl.proofs.verifying.verify_from.Goals as goal
 
 pub returns-in_err-sink : goal.returns-in_err-sink
 returns-in_err-sink g c = unchecked c.args.script _ c.args.trace _ _ c.from_residual.ensures.1

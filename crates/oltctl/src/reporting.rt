@@ -1,0 +1,85 @@
+//! What is said on standard error, and the exit status that goes with it.
+ghost use Rattle.std.specs.Prelude.{◌≡◌};
+
+use gp_check::{Purpose, placed_line};
+use std::alloc::{AllocError, Global};
+use std::io;
+use std::io::ErrorKind;
+
+/// Says on standard error what went wrong, and answers the exit status, which says it too where
+/// standard error takes nothing.
+pub(crate) fn report<R: Eprint>(rt: &R, told: (&'static str, u8)) -> u8
+    ensures { result ≡ told.entry.1 }
+{
+    let (line, status) = told;
+    let _ = eprintln!(rt; "{line}");
+    status
+}
+
+/// Does the same of a line of an input, whose number it says too.
+pub(crate) fn report_at<R: Eprint>(rt: &R, told: (&'static str, u8), number: u64) -> u8
+    ensures { result ≡ told.entry.1 }
+{
+    let (line, status) = told;
+    let _ = eprintln!(rt; "{line}, line {number}");
+    status
+}
+
+/// Does the same of a number that is not reached.
+pub(crate) fn report_count<R: Eprint>(rt: &R, told: (&'static str, u8), count: u64) -> u8
+    ensures { result ≡ told.entry.1 }
+{
+    let (line, status) = told;
+    let _ = eprintln!(rt; "{line}, {count}");
+    status
+}
+
+/// Gives why something failed, without the number that the system has for it.
+fn cause_text(alloc: Global, error: &io::Error) -> Result<String, AllocError> {
+    let text = format!(in alloc; "{error}")?;
+    match text.as_str().split_once(" (os error ") {
+        Some((cause, _)) => String::from_str(alloc, cause),
+        None => Ok(text),
+    }
+}
+
+/// Gives why standard input was not read. Where it is closed, a folder stands in its place.
+fn input_cause(alloc: Global, error: &io::Error) -> Result<String, AllocError> {
+    match error.kind() {
+        ErrorKind::IsADirectory => String::from_str(alloc, "closed, or a directory"),
+        _ => cause_text(alloc, error),
+    }
+}
+
+/// Gives why an input was not read, where that is known.
+pub(crate) fn unread_cause(
+    alloc: Global,
+    name: Option<&str>,
+    cause: Option<&io::Error>,
+) -> Result<String, AllocError> {
+    match (name, cause) {
+        (_, None) => String::from_str(alloc, "can't be read"),
+        (None, Some(error)) => input_cause(alloc, error),
+        (Some(_), Some(error)) => cause_text(alloc, error),
+    }
+}
+
+/// Says on standard error why an input was not read, standard input where it has no name.
+pub(crate) fn tell_cause<R: AllocGlobal + Eprint>(
+    rt: &R,
+    name: Option<&str>,
+    cause: Option<&io::Error>,
+) {
+    let input = name.unwrap_or("standard input");
+    let _ = match unread_cause(rt.alloc(), name, cause) {
+        Ok(cause) => eprintln!(rt; "oltctl: {input}: {cause}"),
+        Err(AllocError) => eprintln!(rt; "oltctl: {input}: can't be read"),
+    };
+}
+
+/// Says on standard error where octets are no script for this, if they are none.
+pub(crate) fn tell_mistake<R: AllocGlobal + Eprint>(rt: &R, purpose: Purpose, octets: &[u8]) {
+    if let Ok(Some(place)) = placed_line(rt.alloc(), purpose, octets) {
+        let _ = eprintln!(rt; "oltctl: {place}");
+    }
+}

@@ -1,0 +1,153 @@
+//! Whether a trace is one that a correct line terminal could have written.
+ghost use Rattle.std.specs.Prelude.{◌≡◌};
+ghost use Rattle.gp_report.specs.Report.{verify_status};
+ghost use Rattle.oltctl.specs.Replays.{IsCheckedBy};
+ghost use Rattle.oltctl.specs.Statuses.{IsVerified, IsVerifyStatus, wanted_lines};
+
+use crate::observed::{Observed, Seen};
+use crate::progress::Counted;
+use crate::reporting::{report, report_at, report_count};
+use crate::request::Verification;
+use gp_flow::LinesFault;
+use gp_replay::RunFault;
+use gp_report::{
+    NOT_A_RUN, SUCCESS, few_lines_report, no_line_report, verify_report, write_report,
+};
+use gp_stream::{Sink, Source};
+use gp_verify::{CheckFault, VerifyFault, verify_script};
+use std::io;
+use std::io::Read;
+use std::rt::{Clock, Files};
+
+/// Verifies the trace that a reader gives against the script that another gives. The line that can't be goes to
+/// standard output, and what the machine says in its place.
+fn verify_from<R: AllocGlobal + Print, S: Read + Drop, T: Read + Drop>(
+    rt: &R,
+    script: S,
+    trace: T,
+) -> Result<u64, CheckFault>
+    ensures { IsCheckedBy script (S.remaining script) trace (T.remaining trace) result }
+{
+    let mut script = Source::new(script);
+    let mut trace = Source::endless(trace);
+    let mut sink = Sink::new(rt.alloc(), io::writer(rt))?;
+    verify_script(rt.alloc(), &mut script, &mut trace, &mut sink)
+}
+
+/// Verifies the trace of a file, or of standard input, against the script that a reader gives.
+fn verify_trace<R: AllocGlobal + Files + Print + Eprint + Input + Clock, S: Read + Drop>(
+    rt: &R,
+    script: S,
+    trace: Option<&str>,
+    progress: bool,
+    of_trace: &mut Seen<'_>,
+) -> Result<u64, CheckFault> {
+    match trace {
+        None => {
+            let trace = Observed::new(rt.reader(), of_trace);
+            verify_from(rt, script, Counted::new(rt, trace, progress, None))
+        }
+        Some(path) => match std::fs::open(rt, path) {
+            Ok(trace) => {
+                let trace = Observed::new(trace, of_trace);
+                verify_from(rt, script, Counted::new(rt, trace, progress, None))
+            }
+            Err(error) => {
+                of_trace.failed(&error);
+                Err(CheckFault::Trace(VerifyFault::Lines(LinesFault::Read)))
+            }
+        },
+    }
+}
+
+/// Does so against the script of a file.
+fn verify_files<R: AllocGlobal + Files + Print + Eprint + Input + Clock>(
+    rt: &R,
+    wanted: Verification<'_>,
+    of_script: &mut Seen<'_>,
+    of_trace: &mut Seen<'_>,
+) -> Result<u64, CheckFault> {
+    match std::fs::open(rt, wanted.script) {
+        Ok(script) => {
+            let script = Observed::new(script, of_script);
+            verify_trace(rt, script, wanted.trace, wanted.progress, of_trace)
+        }
+        Err(error) => {
+            of_script.failed(&error);
+            Err(CheckFault::Script(RunFault::Read))
+        }
+    }
+}
+
+/// How many lines a trace has to have: as many as are asked for, and else one.
+fn wanted_lines(at_least: Option<u64>) -> u64
+    ensures { result ≡ wanted_lines at_least }
+{
+    at_least.unwrap_or(1)
+}
+
+/// Says that a run has too few lines, and answers the exit status.
+fn report_few<R: Eprint>(rt: &R, at_least: Option<u64>) -> u8
+    ensures { result ≡ NOT_A_RUN }
+{
+    match at_least {
+        None => report(rt, no_line_report()),
+        Some(count) => report_count(rt, few_lines_report(), count),
+    }
+}
+
+/// Says on standard output that a trace of so many lines is a run, and answers the exit status.
+fn tell_run<R: Print + Eprint>(rt: &R, at_least: Option<u64>, lines: u64) -> u8
+    ensures { IsVerifyStatus at_least (Ok lines) result }
+{
+    if lines < wanted_lines(at_least) {
+        return report_few(rt, at_least);
+    }
+    match println!(rt; "{lines} lines, a run") {
+        Ok(()) => SUCCESS,
+        Err(_) => report(rt, write_report()),
+    }
+}
+
+/// Says how a verification of a trace ended, with the number of the line that can't be, and answers the exit status.
+fn end_trace<R: AllocGlobal + Eprint>(rt: &R, fault: &VerifyFault, of_trace: &Seen<'_>) -> u8
+    ensures { result ≡ verify_status fault.now }
+{
+    match *fault {
+        VerifyFault::Refused { line, verdict: _ } | VerifyFault::Unended { line } => {
+            report_at(rt, verify_report(fault), line)
+        }
+        VerifyFault::Lines(LinesFault::Read) => of_trace.tell_unread(rt),
+        VerifyFault::Lines(LinesFault::Line(_)) => report(rt, verify_report(fault)),
+    }
+}
+
+/// Says how a verification ended, and answers the exit status.
+fn end_verify<R: AllocGlobal + Print + Eprint>(
+    rt: &R,
+    at_least: Option<u64>,
+    outcome: &Result<u64, CheckFault>,
+    of_script: &Seen<'_>,
+    of_trace: &Seen<'_>,
+) -> u8
+    ensures { IsVerifyStatus at_least outcome.now result }
+{
+    match outcome {
+        Ok(lines) => tell_run(rt, at_least, *lines),
+        Err(CheckFault::Script(fault)) => of_script.end_script(rt, fault),
+        Err(CheckFault::Trace(fault)) => end_trace(rt, fault, of_trace),
+    }
+}
+
+/// Verifies a trace, says how that ended, and answers the exit status.
+pub(crate) fn verify<R: AllocGlobal + Files + Print + Eprint + Input + Clock>(
+    rt: &R,
+    wanted: Verification<'_>,
+) -> u8
+    ensures { IsVerified wanted.entry.at_least result }
+{
+    let mut of_script = Seen::keeping(rt.alloc(), Some(wanted.script));
+    let mut of_trace = Seen::new(wanted.trace);
+    let outcome = verify_files(rt, wanted, &mut of_script, &mut of_trace);
+    end_verify(rt, wanted.at_least, &outcome, &of_script, &of_trace)
+}
