@@ -78,7 +78,10 @@ impl<'a> Seen<'a> {
             return self.tell_unread(rt);
         }
         let status = report(rt, run_report(fault));
-        self.tell_place(rt, Purpose::Replay);
+        // Of a script that was not read to its end for want of memory nothing can be said.
+        if let RunFault::Script(_) = fault {
+            self.tell_place(rt, Purpose::Replay);
+        }
         status
     }
 
