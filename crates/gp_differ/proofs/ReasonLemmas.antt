@@ -1,5 +1,5 @@
 -- Why lines differ that don't look alike.
-use Rattle.std.proofs.Common.{◌≡◌, ℕ, List, ◌++◌, Result, Ok, Err, OnOk, refl, sym, ap, ◌∙◌}
+use Rattle.std.proofs.Common.{◌≡◌, ℕ, List, ◌++◌, Result, Ok, Err, OnOk, refl, ap, ◌∙◌}
 use Rattle.gp_differ.specs.declared.difference.Difference.{Difference}
 use Rattle.gp_differ.specs.declared.difference.Difference.TheVariants.{Blank, Port, Number, Event, Reply, Sent, Grant, Alarm}
 use Rattle.gp_differ.specs.Parts.{Spelled, spelled}
