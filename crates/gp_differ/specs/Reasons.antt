@@ -17,7 +17,8 @@ TellsOctets mask part octets told = HasWords false mask octets told ⊎ (HasWron
 
 -- a text that should be a code; one that isn't the digits of thirteen octets stays as it is
 abbrev pub TellsMessage : Mask → List ℕ → List ℕ → Type 0
-TellsMessage mask part told = MatchResult (decode_sized part 13) (λ octets. TellsOctets mask part octets told) (λ _. told ≡ part)
+TellsMessage mask part told =
+    MatchResult (decode_sized part 13) (λ octets. TellsOctets mask part octets told) (λ _. told ≡ part)
 
 -- a text between marks
 abbrev pub marked : List ℕ → List ℕ
