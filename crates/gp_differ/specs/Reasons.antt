@@ -10,8 +10,8 @@ use Rattle.gp_differ.specs.declared.difference.Difference.TheVariants.{Blank, Po
 use Rattle.gp_differ.specs.Parts.{Spelled, or_empty, spelled}
 use Rattle.gp_differ.specs.Alike.{blank_reason, difference_of}
 
--- the octets of a code of the line terminal: the words of its message, or, where the check octet is wrong, the digits as
--- they stand
+-- the octets of a code of the line terminal: the words of its message, or, where the check octet is wrong, the digits
+-- as they stand
 abbrev pub TellsOctets : Mask → List ℕ → List ℕ → List ℕ → Type 0
 TellsOctets mask part octets told = HasWords false mask octets told ⊎ (HasWrongCheck mask octets × (told ≡ part))
 

@@ -72,7 +72,8 @@ fn push_alarms(
     said: Option<&[u8]>,
 ) -> Result<(), AllocError>
     ensures { OnOk result (out.new.items ≡ out.old.items
-        ++ (codes "the alarm: " ++ spec.alarm_wanted (option_copied said.entry) ++ spec.not_part (option_copied given.entry))) }
+        ++ (codes "the alarm: " ++ spec.alarm_wanted (option_copied said.entry)
+        ++ spec.not_part (option_copied given.entry))) }
 {
     out.extend_from_slice(b"the alarm: ")?;
     push_alarm(out, said)?;
@@ -146,9 +147,9 @@ fn push_told(
     }
 }
 
-/// Appends why a line is not the one that the machine says in its place, where so many copies of messages are owed behind
-/// that: the first part that differs, what the machine has there, and what the line has. Codes are those under the mask.
-/// Both lines come without their line feeds.
+/// Appends why a line is not the one that the machine says in its place, where so many copies of messages are owed
+/// behind that: the first part that differs, what the machine has there, and what the line has. Codes are those under
+/// the mask. Both lines come without their line feeds.
 ///
 /// Where memory is refused, a part of the text may have been appended.
 pub fn push_reason(
