@@ -6,8 +6,8 @@ use Rattle.gp_ploam.specs.declared.check.Mask.{Mask}
 use Rattle.gp_replay.specs.Chassis.{PlayState}
 use Rattle.gp_verify.specs.declared.verdict.Verdict.{Verdict}
 use Rattle.gp_verify.specs.declared.verdict.Verdict.TheVariants as verdict
-use Rattle.gp_verify.specs.Following.{Following, JudgesLine, TakesFrom, told_from}
-use Rattle.gp_verify.specs.Report.{report_at}
+use Rattle.gp_verify.specs.Following.{Following, JudgesLine, TakesFrom, TellsFrom}
+use Rattle.gp_verify.specs.Report.{ReportsAt}
 use Rattle.gp_verify.specs.Verdicts.{Judges, VerifyState, ending}
 use Rattle.gp_verify.proofs.TraceLemmas.{Stage, stage_on, followed}
 
@@ -39,7 +39,7 @@ pub record Halts (v : Verdict) (mask : Mask) (start : PlayState) (all : List (Op
   pub lines : new.lines ≡ length before + 1
   pub fails : Fails v line mask mid new.play new.said
   pub ended : new.ended ≡ Some v
-  pub told_is : told ≡ told_from None line new
+  pub told_is : TellsFrom None line new told
 
 abbrev pub Course : Option Verdict → Mask → PlayState → List (Option (List ℕ)) → VerifyState → List ℕ → Type 0
 Course None mask start all new told = Runs mask start all new told
@@ -56,18 +56,18 @@ silent : (ls : List (Option (List ℕ))) (state new : VerifyState) (said : List 
 silent [] state new said v is h = h.0
 silent (line ∷ ls) state new said v is h =
     let same : h.2 ≡ state = subst (λ (e : Option Verdict). TakesFrom e state line h.2) is h.3.1 in
-    let first : h.0 ≡ [] = subst (λ (e : Option Verdict). h.0 ≡ told_from e line h.2) is h.3.0 in
+    let first : h.0 ≡ [] = subst (λ (e : Option Verdict). TellsFrom e line h.2 h.0) is h.3.0 in
     h.5 ∙ ap (λ (l : List ℕ). l ++ h.1) first ∙ silent ls h.2 new h.1 v (ap (λ (s : VerifyState). s.ended) same ∙ is) h.4
 
 halted : (mask : Mask) (start : PlayState) (done : List (List ℕ)) (line : Option (List ℕ)) (ls : List (Option (List ℕ))) (state next new : VerifyState) (first rest said : List ℕ) (v : Verdict)
     → Stage mask start done state.play → state.lines ≡ length done → next.lines ≡ state.lines + 1 → next.ended ≡ Some v
-    → Fails v line mask state.play next.play next.said → first ≡ told_from None line next → DoesAll Following next ls rest new → said ≡ first ++ rest
+    → Fails v line mask state.play next.play next.said → TellsFrom None line next first → DoesAll Following next ls rest new → said ≡ first ++ rest
     → Course new.ended mask start (wholes done ++ line ∷ ls) new said
 halted mask start done line ls state next new first rest said v stage counted more is fails told h parts =
     let all = wholes done ++ line ∷ ls in
     let only : said ≡ first = parts ∙ ap (λ (l : List ℕ). first ++ l) (silent ls next new rest v is h) ∙ append-nil first in
     let there : Course (Some v) mask start all next said =
-    record { before = done; line = line; rest = ls; all_is = refl; mid = state.play; stage = stage; lines = more ∙ ap (λ (n : ℕ). n + 1) counted; fails = fails; ended = is; told_is = only ∙ told } in
+    record { before = done; line = line; rest = ls; all_is = refl; mid = state.play; stage = stage; lines = more ∙ ap (λ (n : ℕ). n + 1) counted; fails = fails; ended = is; told_is = subst (λ (t : List ℕ). TellsFrom None line next t) (sym only) told } in
     let ended : Course next.ended mask start all next said = subst (λ (e : Option Verdict). Course e mask start all next said) (sym is) there in
     subst (λ (s : VerifyState). Course s.ended mask start all s said) (sym (stuck ls next new rest v is h)) ended
 
@@ -86,9 +86,9 @@ regroup done text ls =
     ∙ append_assoc (wholes done) (Some text ∷ []) ls
 
 -- of a line that follows nothing is told
-follows_silent : (next : VerifyState) (text told : List ℕ) (v : Verdict) → v ≡ verdict.Follows → next.ended ≡ ending v → told ≡ told_from None (Some text) next → told ≡ []
+follows_silent : (next : VerifyState) (text told : List ℕ) (v : Verdict) → v ≡ verdict.Follows → next.ended ≡ ending v → TellsFrom None (Some text) next told → told ≡ []
 follows_silent next text told v follows is h =
-    h ∙ ap (λ (e : Option Verdict). report_at e next.lines text next.said) (is ∙ ap ending follows)
+    subst (λ (e : Option Verdict). ReportsAt e next.lines next text told) (is ∙ ap ending follows) h
 
 -- from where these lines were done, the others lead here
 pub course : (mask : Mask) (start : PlayState) (done : List (List ℕ)) (ls : List (Option (List ℕ))) (state new : VerifyState) (said : List ℕ)
@@ -101,11 +101,11 @@ course mask start done [] state new said masked none stage counted h =
     subst (λ (s : VerifyState). Course s.ended mask start all s said) (sym h.1) here
 course mask start done (None ∷ ls) state new said masked none stage counted h =
     let long : TakesFrom None state None h.2 = subst (λ (e : Option Verdict). TakesFrom e state None h.2) none h.3.1 in
-    let told : h.0 ≡ told_from None None h.2 = subst (λ (e : Option Verdict). h.0 ≡ told_from e None h.2) none h.3.0 in
+    let told : TellsFrom None None h.2 h.0 = subst (λ (e : Option Verdict). TellsFrom e None h.2 h.0) none h.3.0 in
     halted mask start done None ls state h.2 new h.0 h.1 said verdict.TooLong stage counted (ap (λ (s : VerifyState). s.lines) long) (ap (λ (s : VerifyState). s.ended) long) refl told h.4 h.5
 course mask start done (Some text ∷ ls) state new said masked none stage counted h =
     let j : JudgesLine state text h.2 = subst (λ (e : Option Verdict). TakesFrom e state (Some text) h.2) none h.3.1 in
-    let told : h.0 ≡ told_from None (Some text) h.2 = subst (λ (e : Option Verdict). h.0 ≡ told_from e (Some text) h.2) none h.3.0 in
+    let told : TellsFrom None (Some text) h.2 h.0 = subst (λ (e : Option Verdict). TellsFrom e (Some text) h.2 h.0) none h.3.0 in
     let judged : Judges j.verdict mask state.play text h.2.play h.2.said = subst (λ (m : Mask). Judges j.verdict m state.play text h.2.play h.2.said) masked j.judged in
     elim (either j.verdict) [
       | inl follows ↦

@@ -17,10 +17,10 @@ use Rattle.gp_verify.specs.declared.outcome.VerifyFault.{VerifyFault}
 use Rattle.gp_verify.specs.declared.outcome.VerifyFault.TheVariants.{Lines}
 use Rattle.gp_verify.specs.declared.verdict.Verdict.{Verdict}
 use Rattle.gp_verify.specs.declared.verdict.Verdict.TheVariants as verdict
-use Rattle.gp_verify.specs.Following.{Following, has_ended, told_from}
+use Rattle.gp_verify.specs.Following.{Following, TellsFrom, has_ended}
 use Rattle.gp_verify.specs.Outcome.{Condemns, IsRefused, IsRun, IsUnended, RunsVerify, WritesAll, finding, longest_line}
 use Rattle.gp_verify.specs.Ports.{IsOrderlyPort}
-use Rattle.gp_verify.specs.Report.{report_at, report_of}
+use Rattle.gp_verify.specs.Report.{Reports, ReportsAt}
 use Rattle.gp_verify.specs.Tells.{AreTrace, IsTraceText, TellsNothing}
 use Rattle.gp_verify.specs.Verdicts.{Judges, VerifyState}
 use Rattle.gp_verify.proofs.CourseLemmas.{Course, Fails, Halts, Runs, course, wholes}
@@ -140,11 +140,12 @@ module _ {R : Type 0} (limit : ℕ) (from to : SourceState R) (old new : VerifyS
 
   -- what is told of it
   told_report : (v : Verdict) (line : Option (List ℕ)) (mid : PlayState) (raw told : List ℕ) → handed longest_line raw ≡ line → Fails v line old.mask mid new.play new.said
-      → new.ended ≡ Some v → told ≡ told_from None line new → told ≡ report_of v new.lines raw new.said
-  told_report v None mid raw told is fails ended h = h ∙ ap (λ (x : Verdict). report_of x new.lines raw new.said) (sym fails)
+      → new.ended ≡ Some v → TellsFrom None line new told → Reports v new.lines new raw told
+  told_report v None mid raw told is fails ended h =
+      subst (λ (x : Verdict). Reports x new.lines new raw told) (sym fails) ([], refl, h)
   told_report v (Some text) mid raw told is fails ended h =
-      h ∙ ap (λ (e : Option Verdict). report_at e new.lines text new.said) ended
-      ∙ ap (λ (t : List ℕ). report_of v new.lines t new.said) (sym (handed_whole longest_line raw text is))
+      subst (λ (t : List ℕ). Reports v new.lines new t told) (sym (handed_whole longest_line raw text is))
+      (subst (λ (e : Option Verdict). ReportsAt e new.lines new text told) ended h)
 
   refused_found : All IsOrderlyPort old.play.world.ports → (v : Verdict) (told bytes : List ℕ) (ls others : List (List ℕ)) → Consumes from.remaining to.remaining bytes → lines_of bytes ≡ ls ++ others
       → ((xs : List ℕ) → from.remaining ≡ Some xs → (o : List (List ℕ)) × (lines_of xs ≡ ls ++ o))

@@ -3,7 +3,7 @@ use Rattle.std.specs.Prelude.{◌≡◌, ℕ, ◌+◌, Bool, List, [], Option, N
 use Rattle.gp_flow.specs.Lines.{Speech, WholeLines}
 use Rattle.gp_verify.specs.declared.verdict.Verdict.{Verdict}
 use Rattle.gp_verify.specs.declared.verdict.Verdict.TheVariants.{TooLong}
-use Rattle.gp_verify.specs.Report.{report_at}
+use Rattle.gp_verify.specs.Report.{ReportsAt}
 use Rattle.gp_verify.specs.Verdicts.{Judges, VerifyState, ending}
 
 -- the line was judged
@@ -21,14 +21,14 @@ TakesFrom None old None new = new ≡ record old { lines = old.lines + 1; ended 
 TakesFrom None old (Some text) new = JudgesLine old text new
 
 -- what is told of it, by what ended it before: nothing, but of the line that ends it
-abbrev pub told_from : Option Verdict → Option (List ℕ) → VerifyState → List ℕ
-told_from (Some verdict) line new = []
-told_from None None new = []
-told_from None (Some text) new = report_at new.ended new.lines text new.said
+abbrev pub TellsFrom : Option Verdict → Option (List ℕ) → VerifyState → List ℕ → Type 0
+TellsFrom (Some verdict) line new told = told ≡ []
+TellsFrom None None new told = told ≡ []
+TellsFrom None (Some text) new told = ReportsAt new.ended new.lines new text told
 
 -- the line is taken, and that is told of it
 abbrev pub Follows : VerifyState → Option (List ℕ) → List ℕ → VerifyState → Type 0
-Follows old line told new = (told ≡ told_from old.ended line new) × TakesFrom old.ended old line new
+Follows old line told new = TellsFrom old.ended line new told × TakesFrom old.ended old line new
 
 -- what a verifier does with a line, which it answers whole or not at all
 abbrev pub Following : Speech VerifyState

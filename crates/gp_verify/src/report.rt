@@ -1,9 +1,15 @@
 //! What is told of the line that can't be.
-ghost use Rattle.std.specs.Prelude.{◌≡◌, ◌++◌, codes, IfOk, OnOk, position};
+ghost use Rattle.std.specs.Prelude.{◌≡◌, ◌++◌, ℕ, List, codes, IfOk, OnOk, position};
+ghost use Rattle.gp_differ.specs.Reasons.{IsReason};
+ghost use Rattle.gp_lines.specs.Parts.{parts_of};
 ghost use Rattle.gp_lines.specs.Trace.{is_equals};
+ghost use Rattle.gp_verify.specs.Report as spec;
 ghost use Rattle.gp_verify.specs.Report.{free_choice, numbered_line, report_of, told_answer, told_instead};
 
 use super::verdict::Verdict;
+use gp_differ::push_reason;
+use gp_lines::{LAST_PORT, cut, number_in};
+use gp_ploam::Mask;
 use std::alloc::{AllocError, Global};
 
 /// Gives the place of the first `=`.
@@ -76,4 +82,40 @@ pub(crate) fn report_of(
             Ok(report)
         }
     }
+}
+
+/// Gives the port that a line begins with.
+pub(crate) fn port_of(line: &[u8]) -> Option<u8>
+    ensures { result ≡ spec.port_of line.now }
+{
+    let (digits, _) = cut(line);
+    match number_in(0, u64::from(LAST_PORT), digits) {
+        Ok(port) => Some(port as u8),
+        Err(_) => None,
+    }
+}
+
+/// Gives what the machine said without its line feed.
+fn without_feed(said: &[u8]) -> &[u8]
+    ensures { result.now ≡ spec.without_feed said.now }
+{
+    &said[..said.len().saturating_sub(1)]
+}
+
+/// Adds why a line is not the one that the machine says in its place, where so many copies of messages are owed behind
+/// that.
+pub(crate) fn push_why(
+    alloc: Global,
+    report: &mut Vec<u8>,
+    mask: Mask,
+    left: usize,
+    text: &[u8],
+    said: &[u8],
+) -> Result<(), AllocError>
+    ensures { OnOk result ((reason : List ℕ) × IsReason mask left text.now (spec.without_feed said.now) reason
+        × (report.new.items ≡ report.old.items ++ (codes "why: " ++ reason ++ codes "\n"))) }
+{
+    report.extend_from_slice(b"why: ")?;
+    push_reason(alloc, mask, left, text, without_feed(said), report)?;
+    report.extend_from_slice(b"\n")
 }

@@ -1,16 +1,16 @@
-ghost use Rattle.std.specs.Prelude.{◌≡◌, ◌+◌, ◌≤◌, ℕ, All, None, Some, Ok, Err, IfOk, OnErr};
+ghost use Rattle.std.specs.Prelude.{◌≡◌, ◌+◌, ◌≤◌, ◌++◌, ℕ, List, All, None, Some, Ok, Err, IfOk, OnErr, OnOk};
 ghost use Rattle.gp_chassis.specs.Limits.{IsWithin};
 ghost use Rattle.gp_chassis.specs.World.{IsBalanced};
 ghost use Rattle.gp_verify.specs.declared.fault.LineRefusal.TheVariants.{Full};
 ghost use Rattle.gp_verify.specs.declared.verdict.Verdict.{Verdict as AnyVerdict};
 ghost use Rattle.gp_verify.specs.declared.verdict.Verdict.TheVariants.{TooLong};
 ghost use Rattle.gp_verify.specs.Ports.{IsOrderlyPort};
-ghost use Rattle.gp_verify.specs.Report.{report_of};
+ghost use Rattle.gp_verify.specs.Report.{Explains, IsWhy, Reports, left_behind};
 ghost use Rattle.gp_verify.specs.Verdicts.{Judges, ending, most_lines, opened_verify};
 
 use super::fault::LineRefusal;
 use super::judging::judge_line;
-use super::report::report_of;
+use super::report::{port_of, push_why, report_of};
 use super::typed::configs_are_typed;
 use super::verdict::Verdict;
 use gp_chassis::ChassisConfig;
@@ -165,11 +165,54 @@ impl<L: Ledger> Verifier<L> {
         self.buffer.as_bytes()
     }
 
+    /// Tells how many copies of messages are still owed by the port of the line that the machine said last.
+    fn left(&self) -> usize
+        ensures { result ≡ left_behind self.now }
+    {
+        match port_of(self.said()) {
+            Some(port) => self.player.owed(port),
+            None => 0,
+        }
+    }
+
+    /// Adds why a line is not the one that the machine said in its place.
+    fn explain(&self, text: &[u8], report: &mut Vec<u8>) -> Result<(), AllocError>
+        ensures { OnOk result ((why : List ℕ) × Explains self.now text.now why
+            × (report.new.items ≡ report.old.items ++ why)) }
+    {
+        push_why(
+            self.alloc,
+            report,
+            self.mask,
+            self.left(),
+            text,
+            self.said(),
+        )
+    }
+
+    /// Adds so where the machine said a line.
+    fn explain_if(
+        &self,
+        verdict: Verdict,
+        text: &[u8],
+        report: &mut Vec<u8>,
+    ) -> Result<(), AllocError>
+        ensures { OnOk result ((why : List ℕ) × IsWhy verdict self.now text.now why
+            × (report.new.items ≡ report.old.items ++ why)) }
+    {
+        match verdict {
+            Verdict::WrongNumber | Verdict::NotAStep => self.explain(text, report),
+            Verdict::Follows | Verdict::NotALine | Verdict::NoPort | Verdict::TooLong => Ok(()),
+        }
+    }
+
     /// Makes what is told of the line that was judged last, by its verdict and its text.
     pub(crate) fn report(&self, verdict: Verdict, text: &[u8]) -> Result<Vec<u8>, AllocError>
-        ensures { IfOk result (λ report. report.items ≡ report_of verdict self.now.lines text.now self.now.said) }
+        ensures { IfOk result (λ report. Reports verdict self.now.lines self.now text.now report.items) }
     {
-        report_of(self.alloc, verdict, self.lines, text, self.said())
+        let mut report = report_of(self.alloc, verdict, self.lines, text, self.said())?;
+        self.explain_if(verdict, text, &mut report)?;
+        Ok(report)
     }
 
     /// Ends the chassis, and answers how many licences it was opened with: those that are free, in hands or with
