@@ -1,12 +1,12 @@
 -- The numbers of turns that lines of text ask for (this library's own rule).
 use Rattle.std.specs.Prelude.{ℕ, List, Some, Result, Ok, Err}
 use Rattle.gp_lines.specs.declared.fault.LineFault.{LineFault}
-use Rattle.gp_lines.specs.declared.fault.LineFault.TheVariants.{Word, Number, Serial, Hex, Range, Long}
+use Rattle.gp_lines.specs.declared.fault.LineFault.TheVariants.{Word, Number, Serial, Hex, Range, Long, Space}
 use Rattle.gp_lines.specs.declared.turn.Asked.{Asked}
 use Rattle.gp_lines.specs.declared.turn.Asked.TheVariants.{Nothing, Event, Frames, Until, Light}
 use Rattle.gp_lines.specs.TurnReading as reading
 use Rattle.gp_c.specs.declared.fault.Fault.{Fault}
-use Rattle.gp_c.specs.declared.fault.Fault.TheVariants.{LineWord, LineNumber, LineSerial, LineHex, LineRange, LineLong}
+use Rattle.gp_c.specs.declared.fault.Fault.TheVariants.{LineWord, LineNumber, LineSerial, LineHex, LineRange, LineLong, LineSpace}
 use Rattle.gp_c.specs.declared.turn.TurnNumbers.{TurnNumbers}
 use Rattle.gp_c.specs.Answers.{grant_numbers}
 use Rattle.gp_c.specs.Events.{frame_numbers, event_numbers}
@@ -41,6 +41,7 @@ line_fault Serial = LineSerial
 line_fault Hex = LineHex
 line_fault Range = LineRange
 line_fault Long = LineLong
+line_fault Space = LineSpace
 
 -- what is read
 abbrev pub told_turn : Result Asked LineFault → Result TurnNumbers Fault

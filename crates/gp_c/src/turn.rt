@@ -96,6 +96,7 @@ fn line_fault(fault: LineFault) -> Fault
         LineFault::Hex => Fault::LineHex,
         LineFault::Range => Fault::LineRange,
         LineFault::Long => Fault::LineLong,
+        LineFault::Space => Fault::LineSpace,
     }
 }
 

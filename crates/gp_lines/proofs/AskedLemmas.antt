@@ -1,5 +1,5 @@
 -- Lines that ask for something.
-use Rattle.std.proofs.Common.{◌≡◌, ℕ, ◌==◌, ◌<◌, ◌≤◌, Bool, true, false, List, [], ◌∷◌, ◌++◌, length, Result, Ok, Err, codes, refl, sym, ap, subst, ◌∙◌, ◌⊎◌, inl, inr, arith}
+use Rattle.std.proofs.Common.{◌≡◌, ℕ, ◌==◌, ◌<◌, ◌≤◌, Bool, true, false, List, [], ◌∷◌, ◌++◌, length, Result, Ok, Err, codes, refl, sym, ap, subst, ◌∙◌, ◌⊎◌, inl, inr, arith, if◌then◌else◌}
 use Rattle.std.proofs.lemmas.Bool.{cases_Bool, cases_lt, false≢true, le-leb}
 use Rattle.std.proofs.lemmas.Bool.Decides.{nat_tests, leb_tells}
 use Rattle.std.specs.Str.Parse.{IsNumeral, digits_value}
@@ -7,12 +7,12 @@ use Rattle.gp_lines.specs.declared.fault.LineFault.{LineFault}
 use Rattle.gp_lines.specs.declared.fault.LineFault.TheVariants as fault
 use Rattle.gp_lines.specs.declared.turn.Asked.{Asked}
 use Rattle.gp_lines.specs.declared.turn.Asked.TheVariants as asked
-use Rattle.gp_lines.specs.Parts.{parts_of}
+use Rattle.gp_lines.specs.Parts.{parts_of, has_space_too_many}
 use Rattle.gp_lines.specs.Spelling.{SpellsNumber}
 use Rattle.gp_lines.specs.Turn.{without_return, is_remark, SpellsPort, light_word, SpellsAsked, SpellsTurn}
-use Rattle.gp_lines.specs.TurnFault.{HasNumberFault, HasPortFault, AreOfLight, HaveLightFault, HaveTurnFault, HasTurnFault}
+use Rattle.gp_lines.specs.TurnFault.{HasNumberFault, HasPortFault, AreOfLight, HaveLightFault, HaveTurnFault, HaveTextFault, HasTurnFault}
 use Rattle.gp_lines.specs.Reading.{number_in, two_of}
-use Rattle.gp_lines.specs.TurnReading.{behind_turn, port_turn, lit_of, light_turn, begun_turn, turn_of_parts, asked_of, turn_of}
+use Rattle.gp_lines.specs.TurnReading.{behind_turn, port_turn, lit_of, light_turn, begun_turn, turn_of_parts, spaced_turn, asked_of, turn_of}
 use Rattle.gp_lines.proofs.PartsLemmas.{parts_some}
 use Rattle.gp_lines.proofs.FieldLemmas.{own}
 use Rattle.gp_lines.proofs.ReadLemmas.{ok_same, err_same, number_ok, number_back, number_none}
@@ -22,6 +22,7 @@ use Rattle.gp_lines.proofs.NumberLemmas.{word_told, word_fault, outside_told, ou
 use Rattle.gp_lines.proofs.GrantLemmas.{first_same, rest_same, with_word, grant_again}
 use Rattle.gp_lines.proofs.TurnLemmas.{Behind, behind_read, behind_event, frames_again, until_again, behind_fault, behind_refused}
 use Rattle.gp_lines.proofs.SpellingLemmas.{parts_again}
+use Rattle.gp_lines.proofs.SpaceLemmas.{event_well, frames_well, until_well, port_well, light_well}
 
 -- ---- the light of a unit
 
@@ -214,6 +215,38 @@ remark_refused (octet ∷ rest) x remark h =
     let parts = hash_parts rest in
     hash_refused parts.0 parts.1 x (ap turn_of_parts (sym parts.2 ∙ ap (λ (o : ℕ). parts_of (o ∷ rest)) (sym (is_hash octet remark))) ∙ h)
 
+-- ---- spaces
+
+-- a turn has no space too many
+well_spaced : (text : List ℕ) (x : Asked) → turn_of_parts (parts_of text) ≡ Ok x → SpellsAsked text x → has_space_too_many (parts_of text) ≡ false
+well_spaced text asked.Nothing h s = absurd (remark_refused text asked.Nothing s h)
+well_spaced text (asked.Event port event) h s = port_well (parts_of text) s.0 port s.1 (event_well s.0 event s.2)
+well_spaced text (asked.Frames port count) h s = port_well (parts_of text) (codes "frame" ∷ s.0 ∷ []) port s.1 (frames_well s.0 count s.2)
+well_spaced text (asked.Until port grant most) h s =
+    port_well (parts_of text) (codes "until" ∷ (s.0 ++ s.1)) port s.2 (until_well s.0 s.1 grant most s.3 s.4)
+well_spaced text (asked.Light unit lit) h s = rw s.1 (light_well s.0 unit lit s.2)
+
+spaced_ok : (parts : List (List ℕ)) (x : Asked) → spaced_turn parts ≡ Ok x → turn_of_parts parts ≡ Ok x
+unfolding spaced_turn
+spaced_ok parts x h =
+    elim (cases_Bool (has_space_too_many parts)) [
+      | inl spaced ↦ cc (rw spaced at h)
+      | inr none ↦ rw none at h
+    ]
+
+pub spaced_again : (text : List ℕ) (x : Asked) → turn_of_parts (parts_of text) ≡ Ok x → spaced_turn (parts_of text) ≡ Ok x
+unfolding spaced_turn
+spaced_again text x h = rw (well_spaced text x h (parts_read text (parts_of text) x refl h)) h
+
+pub spaced_refusal : (parts : List (List ℕ)) (f : LineFault) → turn_of_parts parts ≡ Err f
+    → spaced_turn parts ≡ Err (if has_space_too_many parts then fault.Space else f)
+unfolding spaced_turn
+spaced_refusal parts f h =
+    elim (cases_Bool (has_space_too_many parts)) [
+      | inl spaced ↦ rw spaced refl
+      | inr none ↦ rw none h
+    ]
+
 remark_read : (text : List ℕ) (x : Asked) → is_remark text ≡ true → ◌≡◌ {A = Result Asked LineFault} (Ok asked.Nothing) (Ok x) → SpellsAsked text x
 remark_read text x remark h = subst (SpellsAsked text) (ok_same asked.Nothing x h) remark
 
@@ -221,14 +254,14 @@ asked_read : (text : List ℕ) (x : Asked) → asked_of text ≡ Ok x → Spells
 asked_read text x h =
     elim (cases_Bool (is_remark text)) [
       | inl remark ↦ remark_read text x remark (rw remark at h)
-      | inr other ↦ parts_read text (parts_of text) x refl (rw other at h)
+      | inr other ↦ parts_read text (parts_of text) x refl (spaced_ok (parts_of text) x (rw other at h))
     ]
 
 turn_again : (text : List ℕ) (x : Asked) → IsTurn x → SpellsAsked text x → asked_of text ≡ Ok x
 turn_again text x turn s =
     elim (cases_Bool (is_remark text)) [
       | inl remark ↦ absurd (remark_refused text x remark (text_again text x turn s))
-      | inr other ↦ rw other (text_again text x turn s)
+      | inr other ↦ rw other (spaced_again text x (text_again text x turn s))
     ]
 
 asked_again : (text : List ℕ) (x : Asked) → SpellsAsked text x → asked_of text ≡ Ok x
@@ -285,14 +318,27 @@ parts_refused : (parts : List (List ℕ)) (f : LineFault) → HaveTurnFault part
 parts_refused parts f (inl (part, is, word)) = ap turn_of_parts is ∙ word_fault f word
 parts_refused parts f (inr (first, second, others, is, wrong)) = ap turn_of_parts is ∙ begun_refused first second others f wrong
 
+spaced_fault : (parts : List (List ℕ)) (f : LineFault) → (parts ≡ [] → ⊥) → spaced_turn parts ≡ Err f → HaveTextFault parts f
+unfolding spaced_turn
+spaced_fault parts f some h =
+    elim (cases_Bool (has_space_too_many parts)) [
+      | inl spaced ↦ inl (spaced, sym (err_same fault.Space f (rw spaced at h)))
+      | inr none ↦ inr (none, parts_fault parts f some (rw none at h))
+    ]
+
+spaced_refused : (parts : List (List ℕ)) (f : LineFault) → HaveTextFault parts f → spaced_turn parts ≡ Err f
+unfolding spaced_turn
+spaced_refused parts f (inl (spaced, is)) = rw spaced (ap (λ (g : LineFault). Err g) (sym is))
+spaced_refused parts f (inr (none, wrong)) = rw none (parts_refused parts f wrong)
+
 some_parts : (text : List ℕ) → parts_of text ≡ [] → ⊥
 some_parts text none = let some = parts_some text in cc (sym none ∙ some.2)
 
-asked_fault : (text : List ℕ) (f : LineFault) → asked_of text ≡ Err f → (is_remark text ≡ false) × HaveTurnFault (parts_of text) f
+asked_fault : (text : List ℕ) (f : LineFault) → asked_of text ≡ Err f → (is_remark text ≡ false) × HaveTextFault (parts_of text) f
 asked_fault text f h =
     elim (cases_Bool (is_remark text)) [
       | inl remark ↦ cc (rw remark at h)
-      | inr other ↦ (other, parts_fault (parts_of text) f (some_parts text) (rw other at h))
+      | inr other ↦ (other, spaced_fault (parts_of text) f (some_parts text) (rw other at h))
     ]
 
 -- ---- lines
@@ -329,8 +375,8 @@ turn_fault line f h =
           inr (within, wrong.0, wrong.1)
     ]
 
-text_refused : (text : List ℕ) (f : LineFault) → is_remark text ≡ false → HaveTurnFault (parts_of text) f → asked_of text ≡ Err f
-text_refused text f other wrong = rw other (parts_refused (parts_of text) f wrong)
+text_refused : (text : List ℕ) (f : LineFault) → is_remark text ≡ false → HaveTextFault (parts_of text) f → asked_of text ≡ Err f
+text_refused text f other wrong = rw other (spaced_refused (parts_of text) f wrong)
 
 pub turn_refused : (line : List ℕ) (f : LineFault) → HasTurnFault line f → turn_of line ≡ Err f
 turn_refused line f (inl (over, is)) = too_long line over ∙ ap (λ (g : LineFault). Err g) (sym is)

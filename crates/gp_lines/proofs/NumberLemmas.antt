@@ -40,6 +40,7 @@ outside_again low high text fault.Hex h = absurd h
 outside_again low high text fault.Range (is, inl under) = number_under low high text is under
 outside_again low high text fault.Range (is, inr over) = number_over low high text is over
 outside_again low high text fault.Long h = absurd h
+outside_again low high text fault.Space h = absurd h
 
 -- two parts are missing
 pub two_missing : (parts : List (List ℕ)) (f : LineFault) → two_of parts ≡ Err f → ◌≡◌ {A = Result (List ℕ × List ℕ) LineFault} (Err fault.Word) (Err f)

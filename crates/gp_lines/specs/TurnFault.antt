@@ -1,10 +1,10 @@
 -- Why a line asks for nothing that could be done (this profile's own rule).
-use Rattle.std.specs.Prelude.{◌≡◌, ℕ, ◌<◌, ◌≤◌, Bool, false, List, [], ◌∷◌, length, Option, None, Some, ◌⊎◌, codes}
+use Rattle.std.specs.Prelude.{◌≡◌, ℕ, ◌<◌, ◌≤◌, Bool, true, false, List, [], ◌∷◌, length, Option, None, Some, ◌⊎◌, codes}
 use Rattle.std.specs.Str.Parse.{IsNumeral, digits_value}
 use Rattle.gp_ploam.specs.OnuIds.{last_onu}
 use Rattle.gp_lines.specs.declared.fault.LineFault.{LineFault}
 use Rattle.gp_lines.specs.declared.fault.LineFault.TheVariants as fault
-use Rattle.gp_lines.specs.Parts.{parts_of}
+use Rattle.gp_lines.specs.Parts.{parts_of, has_space_too_many}
 use Rattle.gp_lines.specs.Spelling.{last_port}
 use Rattle.gp_lines.specs.Fault.{HavePartsFault}
 use Rattle.gp_lines.specs.Turn.{longest_line, most_frames, last_unit, without_return, is_remark, light_word}
@@ -102,9 +102,15 @@ HaveTurnFault parts f =
     × (((first ≡ codes "unit") × HaveLightFault (second ∷ others) f)
     ⊎ (¬ (first ≡ codes "unit") × HasPortFault first (second ∷ others) f)))
 
+-- the first fault of the parts of a text: there is a space too many; or there is none, and the parts have a fault
+abbrev pub HaveTextFault : List (List ℕ) → LineFault → Type 0
+HaveTextFault parts f =
+    ((has_space_too_many parts ≡ true) × (f ≡ fault.Space))
+    ⊎ ((has_space_too_many parts ≡ false) × HaveTurnFault parts f)
+
 -- the first fault of a line, without its line feed: it is too long; or its text, which is no remark, has a fault
 abbrev pub HasTurnFault : List ℕ → LineFault → Type 0
 HasTurnFault line f =
     ((longest_line < length line) × (f ≡ fault.Long))
     ⊎ ((length line ≤ longest_line) × (is_remark (without_return line) ≡ false)
-    × HaveTurnFault (parts_of (without_return line)) f)
+    × HaveTextFault (parts_of (without_return line)) f)

@@ -7,7 +7,7 @@ use Rattle.gp_lines.specs.declared.fault.LineFault.{LineFault}
 use Rattle.gp_lines.specs.declared.fault.LineFault.TheVariants as fault
 use Rattle.gp_lines.specs.declared.turn.Asked.{Asked}
 use Rattle.gp_lines.specs.declared.turn.Asked.TheVariants as asked
-use Rattle.gp_lines.specs.Parts.{parts_of}
+use Rattle.gp_lines.specs.Parts.{parts_of, has_space_too_many}
 use Rattle.gp_lines.specs.Reading.{◌>>=◌, number_in, one_of, two_of, event_of_parts}
 use Rattle.gp_lines.specs.Turn.{without_return, is_remark}
 
@@ -132,9 +132,13 @@ turn_of_parts [] = Err fault.Word
 turn_of_parts (first ∷ []) = Err fault.Word
 turn_of_parts (first ∷ second ∷ others) = begun_turn first (second ∷ others)
 
+-- with one space between parts
+unfoldable pub spaced_turn : List (List ℕ) → Result Asked LineFault
+spaced_turn parts = if has_space_too_many parts then Err fault.Space else turn_of_parts parts
+
 -- what a text asks for
 abbrev pub asked_of : List ℕ → Result Asked LineFault
-asked_of text = if is_remark text then Ok asked.Nothing else turn_of_parts (parts_of text)
+asked_of text = if is_remark text then Ok asked.Nothing else spaced_turn (parts_of text)
 
 -- what a line asks for
 abbrev pub turn_of : List ℕ → Result Asked LineFault

@@ -1,8 +1,9 @@
 //! Lines that ask for something.
-ghost use Rattle.std.specs.Prelude.{◌≡◌, ◌↔◌, Ok, Err, IfSome};
+ghost use Rattle.std.specs.Prelude.{◌≡◌, ◌↔◌, Ok, Err, IfSome, if◌then◌else◌};
 ghost use Rattle.gp_lines.specs.declared.fault.LineFault.{LineFault as AnyFault};
+ghost use Rattle.gp_lines.specs.declared.fault.LineFault.TheVariants as faults;
 ghost use Rattle.gp_lines.specs.declared.turn.Asked.{Asked as AnyAsked};
-ghost use Rattle.gp_lines.specs.Parts.{parts_of};
+ghost use Rattle.gp_lines.specs.Parts.{parts_of, has_space_too_many};
 ghost use Rattle.gp_lines.specs.Turn.{SpellsTurn, without_return, is_remark};
 ghost use Rattle.gp_lines.specs.TurnFault.{HasTurnFault};
 ghost use Rattle.gp_lines.specs.TurnReading as spec;
@@ -13,7 +14,7 @@ use crate::fields::number_in;
 use crate::grant::{one_number, until_turn};
 use crate::laws::turns_are_read;
 use crate::leading::{leading_burst, leading_number};
-use crate::parts::{cut, is_word, two_parts};
+use crate::parts::{cut, has_space_too_many, is_word, two_parts};
 use gp_machine::Event;
 use gp_ranging::Grant;
 
@@ -155,13 +156,34 @@ fn any_turn(text: &[u8]) -> Result<Asked, LineFault>
     }
 }
 
+/// Gives the fault of a text that has this one, if its spaces are right.
+fn first_fault(text: &[u8], fault: LineFault) -> LineFault
+    ensures { result ≡ (if has_space_too_many (parts_of text.now) then faults.Space else fault) }
+{
+    if has_space_too_many(text) {
+        LineFault::Space
+    } else {
+        fault
+    }
+}
+
+/// Reads any turn, with one space between its parts.
+fn spaced_turn(text: &[u8]) -> Result<Asked, LineFault>
+    ensures { result ≡ spec.spaced_turn (parts_of text.now) }
+{
+    match any_turn(text) {
+        Ok(asked) => Ok(asked),
+        Err(fault) => Err(first_fault(text, fault)),
+    }
+}
+
 /// Reads a turn.
 fn turn_in(text: &[u8]) -> Result<Asked, LineFault>
-    ensures { result ≡ spec.turn_of_parts (parts_of text.now) }
+    ensures { result ≡ spec.spaced_turn (parts_of text.now) }
 {
     match usual_turn(text) {
         Some(asked) => Ok(asked),
-        None => any_turn(text),
+        None => spaced_turn(text),
     }
 }
 

@@ -77,6 +77,9 @@ fn lines_that_are_no_turns(rt: HostRuntime) {
         "error 1 word\nerror 2 number\nerror 3 range\nerror 4 serial\nerror 5 hex\nerror 6 port\nerror 7 unit\n\
         0 0 search = searching\n";
     assert!(rt; drives(rt.alloc(), PORT, lines, expected, (8, 7)));
+    let lines = b" 0 frame\n0  frmae\n17 frame \n# a  remark \n0 frame\n";
+    let expected = "error 1 space\nerror 2 space\nerror 3 space\n0 0 frame = ok\n";
+    assert!(rt; drives(rt.alloc(), PORT, lines, expected, (5, 3)));
 }
 
 #[test]

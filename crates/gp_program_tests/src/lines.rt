@@ -201,20 +201,20 @@ const TURNS: [(&'static str, Asked); 20] = [
 ];
 
 /// Lines that are no turn, and the first fault of each.
-const TURN_FAULTS: [(&'static str, LineFault); 42] = [
+const TURN_FAULTS: [(&'static str, LineFault); 52] = [
     ("15", LineFault::Word),
     ("frame", LineFault::Word),
-    (" ", LineFault::Number),
-    (" # x", LineFault::Number),
+    (" ", LineFault::Space),
+    (" # x", LineFault::Space),
     ("x nothing", LineFault::Number),
     ("16 nothing", LineFault::Range),
     ("0 nothing", LineFault::Word),
     ("0 frame\r\r", LineFault::Word),
-    ("0 \r", LineFault::Word),
+    ("0 \r", LineFault::Space),
     ("1 frame 0", LineFault::Range),
     ("1 frame 1000001", LineFault::Range),
     ("1 frame x", LineFault::Number),
-    ("1 frame ", LineFault::Number),
+    ("1 frame ", LineFault::Space),
     ("1 frame 1 2", LineFault::Word),
     ("1 alloc x", LineFault::Serial),
     ("1 burst 1 x", LineFault::Hex),
@@ -244,16 +244,27 @@ const TURN_FAULTS: [(&'static str, LineFault); 42] = [
     ("unit x bright", LineFault::Word),
     ("unit x light", LineFault::Number),
     ("unit 1024 dark", LineFault::Range),
+    ("0  frame", LineFault::Space),
+    (" 0 frame", LineFault::Space),
+    ("0 frame ", LineFault::Space),
+    ("0 frame \r", LineFault::Space),
+    ("x  nothing", LineFault::Space),
+    ("16 burst  5 ff0141424344000000010000zz", LineFault::Space),
+    ("0 alloc ABCD00000001 ", LineFault::Space),
+    ("unit  0 light", LineFault::Space),
+    ("0 until search  within 5", LineFault::Space),
+    ("0\tframe", LineFault::Word),
 ];
 
 /// Faults, and the word by which each is printed.
-const WORDS: [(LineFault, &'static str); 6] = [
+const WORDS: [(LineFault, &'static str); 7] = [
     (LineFault::Word, "word"),
     (LineFault::Number, "number"),
     (LineFault::Serial, "serial"),
     (LineFault::Hex, "hex"),
     (LineFault::Range, "range"),
     (LineFault::Long, "long"),
+    (LineFault::Space, "space"),
 ];
 
 #[test]
