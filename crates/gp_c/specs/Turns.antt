@@ -1,5 +1,6 @@
 -- The numbers of turns that lines of text ask for (this library's own rule).
 use Rattle.std.specs.Prelude.{ℕ, List, Some, Result, Ok, Err}
+use Rattle.gp_ploam.specs.declared.check.Mask.TheVariants.{Plain}
 use Rattle.gp_lines.specs.declared.fault.LineFault.{LineFault}
 use Rattle.gp_lines.specs.declared.fault.LineFault.TheVariants.{Word, Number, Serial, Hex, Range, Long, Space}
 use Rattle.gp_lines.specs.declared.turn.Asked.{Asked}
@@ -48,6 +49,6 @@ abbrev pub told_turn : Result Asked LineFault → Result TurnNumbers Fault
 told_turn (Ok asked) = Ok (turn_numbers asked)
 told_turn (Err fault) = Err (line_fault fault)
 
--- the turn that a line asks for, or its first fault
+-- the turn that a line asks for, or its first fault; what a unit says is encoded under no mask
 abbrev pub turn_of : List ℕ → Result TurnNumbers Fault
-turn_of line = told_turn (reading.turn_of line)
+turn_of line = told_turn (reading.turn_of Plain line)

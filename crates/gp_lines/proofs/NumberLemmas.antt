@@ -6,7 +6,8 @@ use Rattle.std.specs.Str.{bytes_eq}
 use Rattle.gp_lines.specs.declared.fault.LineFault.{LineFault}
 use Rattle.gp_lines.specs.declared.fault.LineFault.TheVariants as fault
 use Rattle.gp_lines.specs.Spelling.{SpellsNumber}
-use Rattle.gp_lines.specs.TurnFault.{HasNumberFault, HaveOneFault}
+use Rattle.gp_lines.specs.Fault.{HasNumberFault}
+use Rattle.gp_lines.specs.TurnFault.{HaveOneFault}
 use Rattle.gp_lines.specs.Reading.{number_in, one_of, two_of}
 use Rattle.gp_lines.specs.TurnReading.{one_number}
 use Rattle.gp_lines.proofs.ReadLemmas.{err_same, IsNumberRead, number_ok, number_back, number_err, number_none, number_over, number_under}

@@ -1,5 +1,6 @@
 -- What is spelled has no space too many.
-use Rattle.std.proofs.Common.{◌≡◌, ℕ, Bool, true, false, List, [], ◌∷◌, ◌++◌, codes, refl, inl, inr, arith}
+use Rattle.std.proofs.Common.{◌≡◌, ℕ, Bool, true, false, List, [], ◌∷◌, ◌++◌, Option, None, Some, codes, refl, inl, inr, arith}
+use Rattle.gp_ploam.specs.declared.check.Mask.{Mask}
 use Rattle.gp_ploam.specs.declared.message.Serial.{Serial}
 use Rattle.gp_serial.specs.Spelling.{Spells}
 use Rattle.gp_ranging.specs.declared.grant.Grant.{Grant}
@@ -10,7 +11,9 @@ use Rattle.gp_machine.specs.declared.event.Event.{Event}
 use Rattle.gp_machine.specs.declared.event.Event.TheVariants as events
 use Rattle.gp_lines.specs.Parts.{is_nothing, has_space_too_many}
 use Rattle.gp_lines.specs.Spelling.{SpellsNumber, SpellsCode, SpellsUnit, SpellsCommand, SpellsParts}
-use Rattle.gp_lines.specs.Turn.{SpellsOnu, SpellsGrant, SpellsBound, SpellsPort, light_word}
+use Rattle.gp_lines.specs.declared.say.OnuSaying.TheVariants as saying
+use Rattle.gp_lines.specs.Say.{SayForm, OfSerial, OfOnu, Ack, field_parts, form_parts, SpellsField, SpellsForm}
+use Rattle.gp_lines.specs.Turn.{TellEvent, SpellsOnu, SpellsGrant, SpellsBound, SpellsPort, light_word}
 use Rattle.hex.proofs.HexLemmas.{decode_of-ok}
 
 number_some : (text : List ℕ) (number : ℕ) → SpellsNumber text number → is_nothing text ≡ false
@@ -41,10 +44,33 @@ command_well parts (commands.Popup serial) s = unit_well (codes "popup") parts s
 command_well parts commands.PopupAll s = rw s refl
 command_well parts (commands.Show serial) s = unit_well (codes "show") parts serial refl s
 
-pub event_well : (parts : List (List ℕ)) (event : Event) → SpellsParts parts event → has_space_too_many parts ≡ false
+event_well : (parts : List (List ℕ)) (event : Event) → SpellsParts parts event → has_space_too_many parts ≡ false
 event_well parts events.Frame s = rw s refl
 event_well parts (events.Burst at octets) s = rw (s.2, number_some s.0 at s.3, code_some s.1 octets s.5) refl
 event_well parts (events.Command command) s = command_well parts command s
+
+-- a field that may be left out
+field_well : (word : List ℕ) (meant high : ℕ) (digits : Option (List ℕ)) (number : ℕ) (behind : List (List ℕ)) → is_nothing word ≡ false
+    → SpellsField meant high digits number → has_space_too_many behind ≡ false → has_space_too_many (field_parts word digits ++ behind) ≡ false
+field_well word meant high None number behind some s well = well
+field_well word meant high (Some digits) number behind some s well = rw (some, number_some digits number s.0) well
+
+at_well : (digits : Option (List ℕ)) (number : ℕ) → SpellsField 0 4294967295 digits number → has_space_too_many (field_parts (codes "at") digits) ≡ false
+at_well None number s = refl
+at_well (Some digits) number s = rw (number_some digits number s.0) refl
+
+form_well : (mask : Mask) (form : SayForm) (event : Event) → SpellsForm mask form event → has_space_too_many (form_parts form) ≡ false
+form_well mask (OfSerial text onu_text at_text) event (serial, onu, at, spelled, first, second, is) =
+    rw (serial_some text serial spelled)
+    (field_well (codes "onu") 255 255 onu_text onu (field_parts (codes "at") at_text) refl first (at_well at_text at second))
+form_well mask (OfOnu saying.Gasp onu_text at_text) event (onu, at, first, second, is) = rw (number_some onu_text onu first.0) (at_well at_text at second)
+form_well mask (OfOnu saying.Silence onu_text at_text) event (onu, at, first, second, is) = rw (number_some onu_text onu first.0) (at_well at_text at second)
+form_well mask (Ack onu_text id_text at_text) event (onu, id, at, first, second, third, is) =
+    rw (number_some onu_text onu first.0, number_some id_text id second.0) (at_well at_text at third)
+
+pub tell_well : (mask : Mask) (parts : List (List ℕ)) (event : Event) → TellEvent mask parts event → has_space_too_many parts ≡ false
+tell_well mask parts event (inl told) = event_well parts event told
+tell_well mask parts event (inr (form, are, said)) = rw are (form_well mask form event said)
 
 pub frames_well : (digits : List ℕ) (count : ℕ) → SpellsNumber digits count → has_space_too_many (codes "frame" ∷ digits ∷ []) ≡ false
 frames_well digits count s = rw (number_some digits count s) refl

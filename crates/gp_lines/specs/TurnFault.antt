@@ -6,15 +6,9 @@ use Rattle.gp_lines.specs.declared.fault.LineFault.{LineFault}
 use Rattle.gp_lines.specs.declared.fault.LineFault.TheVariants as fault
 use Rattle.gp_lines.specs.Parts.{parts_of, has_space_too_many}
 use Rattle.gp_lines.specs.Spelling.{last_port}
-use Rattle.gp_lines.specs.Fault.{HavePartsFault}
+use Rattle.gp_lines.specs.Fault.{HavePartsFault, HasNumberFault}
+use Rattle.gp_lines.specs.SayFault.{HaveSayFault}
 use Rattle.gp_lines.specs.Turn.{longest_line, most_frames, last_unit, without_return, is_remark, light_word}
-
--- the fault of a number that has to be from low to high
-abbrev pub HasNumberFault : ℕ → ℕ → List ℕ → LineFault → Type 0
-HasNumberFault low high text fault.Number = ¬ (IsNumeral 10 text)
-HasNumberFault low high text fault.Range =
-    IsNumeral 10 text × ((digits_value 10 text < low) ⊎ (high < digits_value 10 text))
-HasNumberFault low high text _ = ⊥
 
 -- the fault of parts that have to be one such number
 abbrev pub HaveOneFault : ℕ → ℕ → List (List ℕ) → LineFault → Type 0
@@ -67,14 +61,21 @@ AreOfFrames parts others =
 abbrev pub AreOfUntil : List (List ℕ) → List (List ℕ) → Type 0
 AreOfUntil parts others = parts ≡ codes "until" ∷ others
 
+-- what a unit says: the word, and something behind it
+abbrev pub AreOfSay : List (List ℕ) → List (List ℕ) → Type 0
+AreOfSay parts others =
+    (first : List ℕ) × (more : List (List ℕ)) × (others ≡ first ∷ more) × (parts ≡ codes "say" ∷ others)
+
 -- the fault of what stands behind a port: of so many frames that of their number, of frames up to a grant that of the
--- grant, of anything else that of the event
+-- grant, of what a unit says that of what is said, of anything else that of the event
 abbrev pub HaveBehindFault : List (List ℕ) → LineFault → Type 0
 HaveBehindFault parts f =
     ((others : List (List ℕ)) × AreOfFrames parts others × HaveOneFault 1 most_frames others f)
     ⊎ ((others : List (List ℕ)) × AreOfUntil parts others × HaveGrantFault others f)
+    ⊎ ((others : List (List ℕ)) × AreOfSay parts others × HaveSayFault others f)
     ⊎ (((others : List (List ℕ)) → ¬ (AreOfFrames parts others))
-    × ((others : List (List ℕ)) → ¬ (AreOfUntil parts others)) × HavePartsFault parts f)
+    × ((others : List (List ℕ)) → ¬ (AreOfUntil parts others))
+    × ((others : List (List ℕ)) → ¬ (AreOfSay parts others)) × HavePartsFault parts f)
 
 -- the port is right
 abbrev pub IsPort : List ℕ → Type 0
