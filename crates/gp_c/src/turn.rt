@@ -7,6 +7,7 @@ use crate::event::{EventNumbers, event_numbers, frame_numbers};
 use crate::fault::Fault;
 use crate::row::flag;
 use gp_lines::{Asked, LineFault, parse_turn};
+use gp_ploam::Mask;
 
 /// What a line asks for. A number that its kind has no use for is 0.
 #[repr(C)]
@@ -96,14 +97,15 @@ fn line_fault(fault: LineFault) -> Fault
         LineFault::Hex => Fault::LineHex,
         LineFault::Range => Fault::LineRange,
         LineFault::Long => Fault::LineLong,
+        LineFault::Space => Fault::LineSpace,
     }
 }
 
-/// Reads the turn that a line asks for.
+/// Reads the turn that a line asks for. What a unit says is the burst of its message under no mask.
 pub(crate) fn turn_of(line: &[u8]) -> Result<TurnNumbers, Fault>
     ensures { result ≡ spec.turn_of line.now }
 {
-    match parse_turn(line) {
+    match parse_turn(Mask::Plain, line) {
         Ok(asked) => Ok(turn_numbers(&asked)),
         Err(fault) => Err(line_fault(fault)),
     }

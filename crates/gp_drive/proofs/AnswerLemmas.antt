@@ -182,6 +182,6 @@ pub answers_long : {S W T : Type 0} (playing : Playing S) (fault : TurnFault) (l
 answers_long playing fault line old new x y r whole p = answers_as (refusing fault) (driving playing) None line old new x y r whole (λ said next none. absurd none) p
 
 pub answers_asked : {S W T : Type 0} (playing : Playing S) (turn : Asked) (text : List ℕ) (old new : DriveState S) (x y : SinkState W) (r : Result T LineFault)
-    → turn_of text ≡ Ok turn → Answers (answering playing turn) None old new x y r → Answers (driving playing) (Some text) old new x y r
+    → turn_of old.mask text ≡ Ok turn → Answers (answering playing turn) None old new x y r → Answers (driving playing) (Some text) old new x y r
 answers_asked playing turn text old new x y r is p =
     answers_as (answering playing turn) (driving playing) None (Some text) old new x y r (λ said next h. rw is h) (λ said next h. (turn, is, h)) p

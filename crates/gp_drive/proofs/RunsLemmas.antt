@@ -1,23 +1,20 @@
 -- What a whole drive comes to.
-use Rattle.std.proofs.Common.{◌≡◌, ◌<◌, ◌+◌, ℕ, Bool, true, false, List, [], ◌∷◌, ◌++◌, Result, Ok, Err, Option, None, Some, length, replicate, refl, sym, ap, subst, ◌∙◌, append_assoc}
+use Rattle.std.proofs.Common.{◌≡◌, ◌+◌, ℕ, Bool, true, false, List, [], ◌∷◌, ◌++◌, Result, Ok, Err, Option, None, Some, refl, sym, ap, subst, ◌∙◌, append_assoc}
 use Rattle.std.proofs.lemmas.List.{append-nil}
-use Rattle.std.specs.List.{flat_map}
 use Rattle.gp_ploam.specs.declared.check.Mask.{Mask}
-use Rattle.gp_machine.specs.declared.config.PortConfig.{PortConfig}
 use Rattle.gp_machine.specs.declared.entry.Receipt.{Receipt}
 use Rattle.gp_script.specs.declared.script.ScriptEvent.{ScriptEvent}
 use Rattle.gp_script.specs.declared.script.ScriptEvent.TheVariants as events
 use Rattle.gp_script.specs.Lose.{LossesView}
-use Rattle.gp_script.specs.Script.{ScriptView}
 use Rattle.gp_trace.specs.Text.{trace_text}
 use Rattle.gp_lines.specs.declared.fault.LineFault.{LineFault}
 use Rattle.gp_lines.specs.declared.turn.Asked.{Asked}
 use Rattle.gp_lines.specs.declared.turn.Asked.TheVariants as asked
 use Rattle.gp_lines.specs.TurnReading.{turn_of}
 use Rattle.gp_flow.specs.Lines.{DoesAll}
-use Rattle.gp_replay.specs.Chassis.{PlayState, opening_play}
+use Rattle.gp_replay.specs.Chassis.{opening_play}
 use Rattle.gp_replay.specs.Laws.{EachPortRuns}
-use Rattle.gp_replay.specs.Playing.{LossyPlay, Playing, PlaysAll, chassis_playing, fibre_playing}
+use Rattle.gp_replay.specs.Playing.{Playing, PlaysAll, chassis_playing, fibre_playing}
 use Rattle.gp_replay.specs.WorldPlay.{WorldTakesAll}
 use Rattle.gp_replay.specs.WorldWriting.{Numbered}
 use Rattle.gp_replay.proofs.PlayingLemmas.{all_append, all_one, chassis_all, fibre_all}
@@ -25,8 +22,7 @@ use Rattle.gp_replay.proofs.ScriptPlayLemmas.{chassis_stands}
 use Rattle.gp_replay.proofs.WorldPlayLemmas.{world_stands}
 use Rattle.gp_drive.specs.declared.fault.TurnFault.{TurnFault}
 use Rattle.gp_drive.specs.Drive.{AnswersAsked, AnswersTurn, DriveState, Plays, Refuses, Says, begun_in, done_if, done_line, driving, ending, error_line}
-use Rattle.gp_drive.specs.Outcome.{OpensFibre}
-use Rattle.gp_drive.specs.Runs.{ChassisDrivesRun, ComesTo, FibreDrivesRun, LineAnswer, Entries, ErrorLine, DoneLine, answer_text, answers_text, entries_in, entries_of, followed_by}
+use Rattle.gp_drive.specs.Runs.{ChassisDrivesRun, FibreDrivesRun, LineAnswer, Entries, ErrorLine, DoneLine, answer_text, answers_text, entries_in, entries_of, followed_by}
 use Rattle.gp_drive.specs.Turns.{FramesPlayed, PlaysInVain, PlaysTo, PlaysTurn, PlaysUntil, PlaysWithout, all_of, event_of}
 use Rattle.gp_ranging.specs.declared.grant.Grant.{Grant}
 
@@ -160,7 +156,7 @@ turn_answered playing (Ok turn) old said new h = asked_answered playing turn _ o
 line_answered : {S : Type 0} (playing : Playing S) (line : Option (List ℕ)) (old : DriveState S) (said : List ℕ) (new : DriveState S)
     → Says playing old line said new → IsAnswered playing old said new
 line_answered playing None old said new h = refused playing _ old said new h
-line_answered playing (Some text) old said new h = turn_answered playing (turn_of text) old said new h
+line_answered playing (Some text) old said new h = turn_answered playing (turn_of old.mask text) old said new h
 
 -- ---- the answers to lines
 

@@ -44,6 +44,7 @@ fault_word (NoTurn lines.Serial) = codes "serial"
 fault_word (NoTurn lines.Hex) = codes "hex"
 fault_word (NoTurn lines.Range) = codes "range"
 fault_word (NoTurn lines.Long) = codes "long"
+fault_word (NoTurn lines.Space) = codes "space"
 fault_word NoPort = codes "port"
 fault_word NoUnit = codes "unit"
 fault_word Never = codes "never"
@@ -114,7 +115,7 @@ AnswersTurn playing (Ok turn) old said new =
 -- what is said to a line, which is an error where it is too long
 abbrev pub Says : {S : Type 0} → Playing S → DriveState S → Option (List ℕ) → List ℕ → DriveState S → Type 0
 Says playing old None said new = Refuses (NoTurn lines.Long) old said new
-Says playing old (Some text) said new = AnswersTurn playing (turn_of text) old said new
+Says playing old (Some text) said new = AnswersTurn playing (turn_of old.mask text) old said new
 
 -- what the line asks for is played in part, since a fault came
 pub record PlaysPart {S : Type 0} (playing : Playing S) (turn : Asked) (old : DriveState S) (said : List ℕ)
@@ -127,7 +128,7 @@ pub record PlaysPart {S : Type 0} (playing : Playing S) (turn : Asked) (old : Dr
 abbrev pub SaysPart : {S : Type 0} → Playing S → DriveState S → Option (List ℕ) → List ℕ → DriveState S → Type 0
 SaysPart playing old None said new = ⊥
 SaysPart playing old (Some text) said new =
-    (turn : Asked) × (turn_of text ≡ Ok turn) × PlaysPart playing turn old said new
+    (turn : Asked) × (turn_of old.mask text ≡ Ok turn) × PlaysPart playing turn old said new
 
 -- ---- in parts
 

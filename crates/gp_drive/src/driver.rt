@@ -93,6 +93,13 @@ impl<P: EventPlayer> Driver<P> {
         self.errors
     }
 
+    /// The mask of the codes.
+    fn mask(&self) -> Mask
+        ensures { result ≡ self.now.mask }
+    {
+        self.mask
+    }
+
     /// Gives the player back.
     pub fn into_player(self) -> P
         ensures { result ≡ self.player }
@@ -184,7 +191,7 @@ impl<P: EventPlayer> LineWork for Driver<P> {
     }
 
     fn line<W: Write>(&mut self, text: &[u8], sink: &mut Sink<W>) -> Result<(), LineFault> {
-        match parse_turn(text) {
+        match parse_turn(self.mask(), text) {
             Err(fault) => self.refuse(sink, TurnFault::NoTurn(fault)),
             Ok(asked) => self.answer(sink, asked),
         }

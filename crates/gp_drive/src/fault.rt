@@ -37,6 +37,7 @@ impl TurnFault {
             TurnFault::NoTurn(LineFault::Hex) => "hex",
             TurnFault::NoTurn(LineFault::Range) => "range",
             TurnFault::NoTurn(LineFault::Long) => "long",
+            TurnFault::NoTurn(LineFault::Space) => "space",
             TurnFault::NoPort => "port",
             TurnFault::NoUnit => "unit",
             TurnFault::Never => "never",

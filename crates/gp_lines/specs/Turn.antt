@@ -1,14 +1,17 @@
 -- A line that asks for something (this profile's own rule).
 use Rattle.std.specs.Prelude.{◌≡◌, ℕ, ◌==◌, ◌≤◌, Bool, true, false, List, [], ◌∷◌, ◌++◌, length, ◌⊎◌, if◌then◌else◌, codes, decimal, ⊤}
 use Rattle.gp_ploam.specs.OnuIds.{last_onu}
+use Rattle.gp_ploam.specs.declared.check.Mask.{Mask}
 use Rattle.gp_ranging.specs.declared.grant.Grant.{Grant}
 use Rattle.gp_ranging.specs.declared.grant.Grant.TheVariants as grants
+use Rattle.gp_machine.specs.declared.event.Event.{Event}
 use Rattle.gp_trace.specs.Reply.{numbered}
 use Rattle.gp_trace.specs.Text.{event_text}
 use Rattle.gp_lines.specs.declared.turn.Asked.{Asked}
 use Rattle.gp_lines.specs.declared.turn.Asked.TheVariants as asked
 use Rattle.gp_lines.specs.Parts.{parts_of}
 use Rattle.gp_lines.specs.Spelling.{last_port, SpellsNumber, SpellsParts}
+use Rattle.gp_lines.specs.Say.{SpellsSaid}
 use Rattle.gp_lines.specs.Told.{IsTold}
 
 -- the most octets that a line has before its line feed
@@ -62,24 +65,28 @@ abbrev pub light_word : Bool → List ℕ
 light_word true = codes "light"
 light_word false = codes "dark"
 
--- the text asks for this
-abbrev pub SpellsAsked : List ℕ → Asked → Type 0
-SpellsAsked text asked.Nothing = is_remark text ≡ true
-SpellsAsked text (asked.Event port event) =
-    (others : List (List ℕ)) × SpellsPort (parts_of text) port others × SpellsParts others event
-SpellsAsked text (asked.Frames port count) =
+-- the parts tell an event as a trace does, or by what a unit says
+abbrev pub TellEvent : Mask → List (List ℕ) → Event → Type 0
+TellEvent mask parts event = SpellsParts parts event ⊎ SpellsSaid mask parts event
+
+-- the text asks for this, under the mask that what units say is encoded with
+abbrev pub SpellsAsked : Mask → List ℕ → Asked → Type 0
+SpellsAsked mask text asked.Nothing = is_remark text ≡ true
+SpellsAsked mask text (asked.Event port event) =
+    (others : List (List ℕ)) × SpellsPort (parts_of text) port others × TellEvent mask others event
+SpellsAsked mask text (asked.Frames port count) =
     (digits : List ℕ) × SpellsPort (parts_of text) port (codes "frame" ∷ digits ∷ [])
     × SpellsNumber digits count × (1 ≤ count) × (count ≤ most_frames)
-SpellsAsked text (asked.Until port grant most) =
+SpellsAsked mask text (asked.Until port grant most) =
     (named behind : List (List ℕ)) × SpellsPort (parts_of text) port (codes "until" ∷ (named ++ behind))
     × SpellsGrant named grant × SpellsBound behind most
-SpellsAsked text (asked.Light unit lit) =
+SpellsAsked mask text (asked.Light unit lit) =
     (digits : List ℕ) × (parts_of text ≡ codes "unit" ∷ digits ∷ light_word lit ∷ [])
     × SpellsNumber digits unit × (unit ≤ last_unit)
 
 -- the line, without its line feed, asks for this
-abbrev pub SpellsTurn : List ℕ → Asked → Type 0
-SpellsTurn line turn = (length line ≤ longest_line) × SpellsAsked (without_return line) turn
+abbrev pub SpellsTurn : Mask → List ℕ → Asked → Type 0
+SpellsTurn mask line turn = (length line ≤ longest_line) × SpellsAsked mask (without_return line) turn
 
 -- a grant as a line names it
 abbrev pub grant_words : Grant → List ℕ

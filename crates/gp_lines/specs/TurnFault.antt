@@ -1,20 +1,14 @@
 -- Why a line asks for nothing that could be done (this profile's own rule).
-use Rattle.std.specs.Prelude.{◌≡◌, ℕ, ◌<◌, ◌≤◌, Bool, false, List, [], ◌∷◌, length, Option, None, Some, ◌⊎◌, codes}
+use Rattle.std.specs.Prelude.{◌≡◌, ℕ, ◌<◌, ◌≤◌, Bool, true, false, List, [], ◌∷◌, length, Option, None, Some, ◌⊎◌, codes}
 use Rattle.std.specs.Str.Parse.{IsNumeral, digits_value}
 use Rattle.gp_ploam.specs.OnuIds.{last_onu}
 use Rattle.gp_lines.specs.declared.fault.LineFault.{LineFault}
 use Rattle.gp_lines.specs.declared.fault.LineFault.TheVariants as fault
-use Rattle.gp_lines.specs.Parts.{parts_of}
+use Rattle.gp_lines.specs.Parts.{parts_of, has_space_too_many}
 use Rattle.gp_lines.specs.Spelling.{last_port}
-use Rattle.gp_lines.specs.Fault.{HavePartsFault}
+use Rattle.gp_lines.specs.Fault.{HavePartsFault, HasNumberFault}
+use Rattle.gp_lines.specs.SayFault.{HaveSayFault}
 use Rattle.gp_lines.specs.Turn.{longest_line, most_frames, last_unit, without_return, is_remark, light_word}
-
--- the fault of a number that has to be from low to high
-abbrev pub HasNumberFault : ℕ → ℕ → List ℕ → LineFault → Type 0
-HasNumberFault low high text fault.Number = ¬ (IsNumeral 10 text)
-HasNumberFault low high text fault.Range =
-    IsNumeral 10 text × ((digits_value 10 text < low) ⊎ (high < digits_value 10 text))
-HasNumberFault low high text _ = ⊥
 
 -- the fault of parts that have to be one such number
 abbrev pub HaveOneFault : ℕ → ℕ → List (List ℕ) → LineFault → Type 0
@@ -67,14 +61,21 @@ AreOfFrames parts others =
 abbrev pub AreOfUntil : List (List ℕ) → List (List ℕ) → Type 0
 AreOfUntil parts others = parts ≡ codes "until" ∷ others
 
+-- what a unit says: the word, and something behind it
+abbrev pub AreOfSay : List (List ℕ) → List (List ℕ) → Type 0
+AreOfSay parts others =
+    (first : List ℕ) × (more : List (List ℕ)) × (others ≡ first ∷ more) × (parts ≡ codes "say" ∷ others)
+
 -- the fault of what stands behind a port: of so many frames that of their number, of frames up to a grant that of the
--- grant, of anything else that of the event
+-- grant, of what a unit says that of what is said, of anything else that of the event
 abbrev pub HaveBehindFault : List (List ℕ) → LineFault → Type 0
 HaveBehindFault parts f =
     ((others : List (List ℕ)) × AreOfFrames parts others × HaveOneFault 1 most_frames others f)
     ⊎ ((others : List (List ℕ)) × AreOfUntil parts others × HaveGrantFault others f)
+    ⊎ ((others : List (List ℕ)) × AreOfSay parts others × HaveSayFault others f)
     ⊎ (((others : List (List ℕ)) → ¬ (AreOfFrames parts others))
-    × ((others : List (List ℕ)) → ¬ (AreOfUntil parts others)) × HavePartsFault parts f)
+    × ((others : List (List ℕ)) → ¬ (AreOfUntil parts others))
+    × ((others : List (List ℕ)) → ¬ (AreOfSay parts others)) × HavePartsFault parts f)
 
 -- the port is right
 abbrev pub IsPort : List ℕ → Type 0
@@ -102,9 +103,15 @@ HaveTurnFault parts f =
     × (((first ≡ codes "unit") × HaveLightFault (second ∷ others) f)
     ⊎ (¬ (first ≡ codes "unit") × HasPortFault first (second ∷ others) f)))
 
+-- the first fault of the parts of a text: there is a space too many; or there is none, and the parts have a fault
+abbrev pub HaveTextFault : List (List ℕ) → LineFault → Type 0
+HaveTextFault parts f =
+    ((has_space_too_many parts ≡ true) × (f ≡ fault.Space))
+    ⊎ ((has_space_too_many parts ≡ false) × HaveTurnFault parts f)
+
 -- the first fault of a line, without its line feed: it is too long; or its text, which is no remark, has a fault
 abbrev pub HasTurnFault : List ℕ → LineFault → Type 0
 HasTurnFault line f =
     ((longest_line < length line) × (f ≡ fault.Long))
     ⊎ ((length line ≤ longest_line) × (is_remark (without_return line) ≡ false)
-    × HaveTurnFault (parts_of (without_return line)) f)
+    × HaveTextFault (parts_of (without_return line)) f)

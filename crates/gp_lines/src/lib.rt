@@ -4,7 +4,8 @@
 //! `parse_turn`, `split_line`).
 //!
 //! - `event.rt`: `parse_event`, an event as a trace tells it.
-//! - `turn.rt`, `grant.rt`: `parse_turn`, what a line asks for; `grant.rt` has the frames up to a grant.
+//! - `turn.rt`, `grant.rt`, `say.rt`: `parse_turn`, what a line asks for; `grant.rt` has the frames up to a grant,
+//!   `say.rt` what a unit says.
 //! - `traced.rt`: `split_line`, a line of a trace cut into its parts. `leading.rt`: what a text begins with,
 //!   read in one pass.
 //! - `picks.rt`: `picked`, the number that an answer picks.
@@ -28,6 +29,7 @@ mod laws;
 mod leading;
 mod parts;
 mod picks;
+mod say;
 mod short;
 mod told;
 mod traced;

@@ -83,6 +83,10 @@ Lines:
   PORT frame COUNT    so many frames, 1 to 1000000
   PORT until GRANT    frames up to this grant: search, range ONU-ID, poll ONU-ID
   .. within N         at most so many frames, 1 to 1000000
+  PORT say serial S [onu N] [at D]  a unit's burst: its serial number
+  PORT say gasp onu N [at D]        a unit's burst: it is losing its power
+  PORT say none onu N [at D]        a unit's burst: it has nothing to say
+  PORT say ack onu N id K [at D]    a unit's burst: it has heard message K
   unit I light        the light of a simulated unit comes; dark: it goes
   # ..                a remark; empty lines too are passed over
 
