@@ -101,7 +101,7 @@ fn unknown_word(spot: Spot) -> &'static str
 }
 
 /// Gives what is wanted at a spot, or what is wrong with what stands there.
-fn wanted_text(alloc: Global, spot: Spot, want: Wanted) -> Result<String, AllocError>
+pub(crate) fn wanted_text(alloc: Global, spot: Spot, want: Wanted) -> Result<String, AllocError>
     ensures { IfOk result (λ text. string_bytes text ≡ spec.wanted_text spot want) }
 {
     match want {

@@ -19,7 +19,7 @@ fn hex_digit(number: u8) -> u8
 }
 
 /// Appends an octet within a text.
-fn push_octet(out: &mut Vec<u8>, octet: u8) -> Result<(), AllocError>
+pub(crate) fn push_octet(out: &mut Vec<u8>, octet: u8) -> Result<(), AllocError>
     ensures { OnOk result (out.new.items ≡ out.old.items ++ spec.escaped octet) }
 {
     if octet == b'"' || octet == b'\\' {

@@ -6,7 +6,7 @@ use Rattle.clap.specs.Words.{Row, Text, all_of, first_of, one_of}
 use Rattle.gp_decode.specs.declared.direction.Direction.{Direction}
 use Rattle.gp_decode.specs.declared.direction.Direction.TheVariants.{Each}
 use Rattle.gp_decode.specs.LineText.{direction_of}
-use Rattle.oltctl.specs.CommandLine.{file_named, form_named, mask_named}
+use Rattle.oltctl.specs.CommandLine.{file_named, form_named, is_json, mask_named, words_named}
 use Rattle.oltctl.specs.declared.request.Request.{Request}
 use Rattle.oltctl.specs.declared.request.Request.TheVariants.{Replay, Drive, Storm, Check, Verify, Decode, DecodeLines, Encode, EncodeLines, Explain}
 use Rattle.oltctl.specs.declared.request.Play.{Play}
@@ -64,11 +64,11 @@ AsksToDrive rows (Drive script told done) =
 AsksToDrive rows _ = ⊥
 
 -- the rows of `check` ask whether each FILE is a script, with `--storm` one of a storm, with `--quiet` without a word
--- of those that are
+-- of those that are, by lines or as JSON
 abbrev pub AsksToCheck : List Row → Request → Type 0
 AsksToCheck rows (Check files checking) =
     (all_of (codes "files") rows ≡ Some (texts files)) × IsFlag rows (codes "storm") checking.storm
-    × IsFlag rows (codes "quiet") checking.quiet
+    × IsFlag rows (codes "quiet") checking.quiet × (checking.json ≡ is_json (first_of (codes "format") rows))
 AsksToCheck rows _ = ⊥
 
 -- the rows of `storm` ask for the storm of FILE, or of standard input where it is left out
@@ -112,14 +112,14 @@ AsksToDecode rows (DecodeLines many direction mask) =
     × (mask ≡ mask_named (first_of (codes "mask") rows))
 AsksToDecode rows _ = ⊥
 
--- the rows of `encode` ask for the code of WORDS, or where there are none of those of each line of standard input, of
--- upstream messages with `--up`, under the mask of `--mask`
+-- the rows of `encode` ask for the code of WORDS, or where there are none or `-` alone of those of each line of standard
+-- input, of upstream messages with `--up`, under the mask of `--mask`
 abbrev pub AsksToEncode : List Row → Request → Type 0
 AsksToEncode rows (Encode words upstream mask) =
-    (all_of (codes "words") rows ≡ Some (texts words)) × IsFlag rows (codes "up") upstream
+    (words_named (all_of (codes "words") rows) ≡ Some (texts words)) × IsFlag rows (codes "up") upstream
     × (mask ≡ mask_named (first_of (codes "mask") rows))
 AsksToEncode rows (EncodeLines upstream mask) =
-    (all_of (codes "words") rows ≡ None) × IsFlag rows (codes "up") upstream
+    (words_named (all_of (codes "words") rows) ≡ None) × IsFlag rows (codes "up") upstream
     × (mask ≡ mask_named (first_of (codes "mask") rows))
 AsksToEncode rows _ = ⊥
 

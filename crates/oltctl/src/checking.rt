@@ -1,8 +1,11 @@
-//! Whether files are scripts: of each a line, on standard output where it is one, and else on standard error.
+//! Whether files are scripts: of each a line, on standard output where it is one, and else on standard error; or of each
+//! an object on standard output.
 use crate::observed::{Observed, Seen};
 use crate::reporting::unread_cause;
 use crate::request::Checking;
-use gp_check::{Found, Purpose, ScriptCheckFault, find_script, found_line};
+use gp_check::{
+    Found, Purpose, ScriptCheckFault, find_script, found_line, found_object, unread_object,
+};
 use gp_stream::{Sink, Source};
 use std::alloc::AllocError;
 use std::io;
@@ -27,14 +30,22 @@ fn file_named(path: &str) -> Option<&str> {
 }
 
 /// Says of a file that it was not looked at, and why.
-fn tell_unread<R: AllocGlobal + Eprint>(
+fn tell_unread<R: AllocGlobal + Eprint, W: Write>(
     rt: &R,
     path: &str,
     what: &str,
     error: &io::Error,
-) -> Result<(), AllocError> {
+    json: bool,
+    sink: &mut Sink<W>,
+) -> Result<(), ScriptCheckFault> {
     let cause = unread_cause(rt.alloc(), file_named(path), Some(error))?;
-    let _ = eprintln!(rt; "{path}: {what}: {cause}");
+    let why = format!(in rt.alloc(); "{what}: {cause}")?;
+    if json {
+        let object = unread_object(rt.alloc(), path, why.as_str())?;
+        sink.write_whole(object.as_slice())?;
+    } else {
+        let _ = eprintln!(rt; "{path}: {why}");
+    }
     Ok(())
 }
 
@@ -43,12 +54,17 @@ fn tell_found<R: AllocGlobal + Eprint, W: Write>(
     rt: &R,
     path: &str,
     found: &Found,
-    quiet: bool,
+    checking: Checking,
     sink: &mut Sink<W>,
 ) -> Result<bool, ScriptCheckFault> {
     let is_script = found.is_script();
-    if is_script && quiet {
+    if is_script && checking.quiet {
         return Ok(true);
+    }
+    if checking.json {
+        let object = found_object(rt.alloc(), path, found)?;
+        sink.write_whole(object.as_slice())?;
+        return Ok(is_script);
     }
     let line = found_line(rt.alloc(), path, found)?;
     if is_script {
@@ -71,10 +87,10 @@ fn check_reader<R: AllocGlobal + Eprint, T: Read + Drop, W: Write>(
     let found = find_seen(rt, reader, purpose_of(checking), &mut seen)?;
     match (&found, seen.cause()) {
         (Found::Unread, Some(error)) => {
-            tell_unread(rt, path, "can't be read", error)?;
+            tell_unread(rt, path, "can't be read", error, checking.json, sink)?;
             Ok(false)
         }
-        _ => tell_found(rt, path, &found, checking.quiet, sink),
+        _ => tell_found(rt, path, &found, checking, sink),
     }
 }
 
@@ -102,7 +118,7 @@ fn check_file<R: AllocGlobal + Files + Eprint + Input, W: Write>(
     match std::fs::open(rt, path) {
         Ok(file) => check_reader(rt, path, file, checking, sink),
         Err(error) => {
-            tell_unread(rt, path, "can't be opened", &error)?;
+            tell_unread(rt, path, "can't be opened", &error, checking.json, sink)?;
             Ok(false)
         }
     }

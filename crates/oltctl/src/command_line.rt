@@ -2,7 +2,7 @@
 ghost use Rattle.std.specs.Prelude.{◌≡◌, ◌≢◌, IfErr, IfOk, codes, false, map};
 ghost use Rattle.clap.specs.Words.{app_of, kind_of, rule_of};
 ghost use Rattle.clap.specs.declared.builder.command.Command.TheViews.{out-Command as fields_of};
-ghost use Rattle.oltctl.specs.CommandLine.{AllNames, AreAllNames, AreFormats, AreMasks, FormatNames, IsFaultOf, IsParseOf, MaskNames, at_least_rule, check_command, code_rule, files_rule, flag_rule, format_rule, decode_flags as spec_decode_flags, replay_flags as spec_replay_flags, verify_flags as spec_verify_flags, with_form as spec_form, with_words as spec_words, decode_command, drive_command, encode_command, explain_command, file_rule, line_commands, mask_rule, oltctl_command, replay_command, script_commands, script_rule, storm_command, trace_commands, trace_rule, up_rule, verify_command, words_rule};
+ghost use Rattle.oltctl.specs.CommandLine.{AllNames, AreAllNames, AreFormats, AreMasks, FormatNames, IsFaultOf, IsParseOf, MaskNames, at_least_rule, check_command, code_rule, files_rule, flag_rule, format_rule, check_flags as spec_check_flags, decode_flags as spec_decode_flags, replay_flags as spec_replay_flags, verify_flags as spec_verify_flags, with_form as spec_form, with_words as spec_words, decode_command, drive_command, encode_command, explain_command, file_rule, line_commands, mask_rule, oltctl_command, quiet_rule, replay_command, script_commands, script_rule, storm_command, trace_commands, trace_rule, up_rule, verify_command, words_rule};
 ghost use Rattle.std.specs.String.{string_bytes};
 
 use crate::help::{
@@ -145,8 +145,16 @@ fn files<'a>(alloc: Global) -> Arg<'a>
         .help("The scripts; - for standard input")
 }
 
-fn check<'a>(alloc: Global) -> Result<Command<'a>, AllocError>
-    ensures app { IfOk result (λ c. app_of c ≡ check_command) }
+fn quiet<'a>(alloc: Global) -> Arg<'a>
+    ensures rule { rule_of result ≡ quiet_rule }
+    ensures local { result.global ≡ false }
+{
+    flag(alloc, "quiet", "Says nothing of files that are right").short('q')
+}
+
+/// Begins `check`, up to the form of its lines.
+fn check_flags<'a>(alloc: Global) -> Result<Command<'a>, AllocError>
+    ensures app { IfOk result (λ c. app_of c ≡ spec_check_flags) }
     ensures local { IfOk result (λ c. (fields_of c).has_globals ≡ false) }
 {
     Command::new(alloc, "check")
@@ -157,8 +165,14 @@ fn check<'a>(alloc: Global) -> Result<Command<'a>, AllocError>
             "storm",
             "Looks whether it is one of a storm, which has no simulated units",
         ))?
-        .arg(flag(alloc, "quiet", "Says nothing of files that are right").short('q'))?
-        .arg(files(alloc))
+        .arg(quiet(alloc))
+}
+
+fn check<'a>(alloc: Global) -> Result<Command<'a>, AllocError>
+    ensures app { IfOk result (λ c. (names : FormatNames) × AreFormats names × (app_of c ≡ check_command names)) }
+    ensures local { IfOk result (λ c. (fields_of c).has_globals ≡ false) }
+{
+    check_flags(alloc)?.arg(format(alloc))?.arg(files(alloc))
 }
 
 fn driven<'a>(alloc: Global) -> Arg<'a>
@@ -318,7 +332,7 @@ fn words<'a>(alloc: Global) -> Arg<'a>
         .value_name("WORDS")
         .action(ArgAction::Append)
         .help(
-            "The words that decode writes for a message: its name and its fields; those of one a line from standard input if left out",
+            "The words that decode writes for a message: its name and its fields; those of one a line from standard input if left out, or for -",
         )
 }
 
@@ -370,8 +384,8 @@ fn of_lines<'a>(alloc: Global) -> Result<Command<'a>, AllocError>
 
 /// Makes the program's command line as far as it is about scripts, lines and traces.
 fn of_traces<'a>(alloc: Global) -> Result<Command<'a>, AllocError>
-    ensures { IfOk result (λ c. (replay drive : FormatNames) × AreFormats replay × AreFormats drive
-        × (app_of c ≡ trace_commands replay drive)) }
+    ensures { IfOk result (λ c. (replay drive check : FormatNames) × AreFormats replay × AreFormats drive
+        × AreFormats check × (app_of c ≡ trace_commands replay drive check)) }
 {
     of_lines(alloc)?
         .subcommand(check(alloc)?)?

@@ -36,8 +36,10 @@ Examples:
   oltctl check script.toml
   oltctl check -q scripts/*.toml
   oltctl check --storm script.toml
+  oltctl check --format json scripts/*.toml
 
-What is right is told on standard output, what is wrong on standard error.
+What is right is told on standard output, what is wrong on standard error; with
+--format json both on standard output, an object a file.
 
 Exit status:
   0  all files are scripts
@@ -141,7 +143,7 @@ pub const ENCODE_HELP: &str = "\
 Examples:
   oltctl encode Assign_ONU-ID 0 ABCD00000001
   oltctl encode --up --mask 85 Acknowledge 0 10
-  oltctl decode < codes.txt | oltctl encode
+  oltctl decode < codes.txt | oltctl encode -
 
 Exit status:
   0  all codes were written

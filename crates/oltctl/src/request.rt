@@ -1,7 +1,7 @@
 //! What a command line asks for.
 ghost use Rattle.std.specs.Prelude.{◌≡◌, ◌∷◌, [], true, IfSome, IfNone, Some, None, codes, option_map};
 ghost use Rattle.clap.specs.Words.{all_of, first_of, found_of, rows_of, subcommand_rows_of};
-ghost use Rattle.oltctl.specs.CommandLine.{file_named, form_named, mask_named};
+ghost use Rattle.oltctl.specs.CommandLine.{file_named, form_named, is_input, is_json, mask_named, words_named};
 ghost use Rattle.oltctl.specs.Requests.{Asks, AsksForForm, AsksForPlay, AsksForTrace, AsksNothing, AsksToCheck, AsksToDecode, AsksToDrive, AsksToEncode, AsksToExplain, AsksToReplay, AsksToStorm, AsksToVerify, IsNumber, direction_asked, name_in, texts};
 
 use clap::ArgMatches;
@@ -45,6 +45,8 @@ pub struct Checking {
     pub storm: bool,
     /// Nothing is said of those that are right.
     pub quiet: bool,
+    /// Of each file an object is told in place of a line.
+    pub json: bool,
 }
 
 /// A verification that is wanted.
@@ -197,7 +199,14 @@ fn replay_of<'m, 'a>(found: &'m ArgMatches<'a>) -> Request<'m, 'a>
     }
 }
 
-#[tactic(auto, using(crate::proofs::Rows::values_by_rows, crate::proofs::Rows::flag_by_rows))]
+/// Tells whether a format is that of objects.
+fn is_json(format: Option<&str>) -> bool
+    ensures { result ≡ is_json (name_in format.entry) }
+{
+    matches!(format, Some("json"))
+}
+
+#[tactic(auto, using(crate::proofs::Rows::value_by_rows, crate::proofs::Rows::values_by_rows, crate::proofs::Rows::flag_by_rows))]
 fn check_of<'m, 'a>(found: &'m ArgMatches<'a>) -> Option<Request<'m, 'a>>
     ensures asks { IfSome result (AsksToCheck (rows_of (found_of found.now))) }
     ensures nothing { IfNone result (all_of (codes "files") (rows_of (found_of found.now)) ≡ None) }
@@ -207,6 +216,7 @@ fn check_of<'m, 'a>(found: &'m ArgMatches<'a>) -> Option<Request<'m, 'a>>
         checking: Checking {
             storm: found.get_flag("storm"),
             quiet: found.get_flag("quiet"),
+            json: is_json(found.get_str("format")),
         },
     })
 }
@@ -300,11 +310,32 @@ fn direction_of(upstream: bool, both: bool) -> Direction
     }
 }
 
+/// Tells whether words are `-` alone, which stands for standard input.
+fn is_input(words: &[&str]) -> bool
+    ensures { result ≡ is_input (texts words.entry) }
+{
+    match words {
+        [] => false,
+        [word] => *word == "-",
+        [_, _, ..] => false,
+    }
+}
+
+/// Gives the words of a message; None where there are none, and for `-` alone, which stands for standard input.
+fn words_of<'m, 'a>(words: Option<&'m [&'a str]>) -> Option<&'m [&'a str]>
+    ensures { option_map texts result ≡ words_named (option_map texts words.entry) }
+{
+    match words {
+        None => None,
+        Some(words) => { if is_input(words) { None } else { Some(words) } }
+    }
+}
+
 #[tactic(auto, using(crate::proofs::Rows::value_by_rows, crate::proofs::Rows::flag_by_rows, crate::proofs::Rows::values_by_rows))]
 fn encode_of<'m, 'a>(found: &'m ArgMatches<'a>) -> Request<'m, 'a>
     ensures { AsksToEncode (rows_of (found_of found.now)) result }
 {
-    match found.get_strs("words") {
+    match words_of(found.get_strs("words")) {
         None => Request::EncodeLines {
             upstream: found.get_flag("up"),
             mask: mask_of(found.get_str("mask")),

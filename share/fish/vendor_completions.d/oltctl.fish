@@ -22,6 +22,7 @@ complete -c oltctl -n '__fish_seen_subcommand_from drive' -s h -l help -d 'Print
 complete -c oltctl -n __fish_use_subcommand -a check -d 'Says of each file that it is a script, or where it is wrong'
 complete -c oltctl -n '__fish_seen_subcommand_from check' -l storm -d 'Looks whether it is one of a storm, which has no simulated units'
 complete -c oltctl -n '__fish_seen_subcommand_from check' -s q -l quiet -d 'Says nothing of files that are right'
+complete -c oltctl -n '__fish_seen_subcommand_from check' -l format -x -a 'text json' -d 'How each line is written; json: one object a line [default: text]'
 complete -c oltctl -n '__fish_seen_subcommand_from check' -s h -l help -d 'Print help'
 complete -c oltctl -n __fish_use_subcommand -a verify -d 'Tells whether a trace is one that a correct line terminal could have written'
 complete -c oltctl -n '__fish_seen_subcommand_from verify' -l explain -d 'Tells where a script is wrong, which is told without it too'
