@@ -1,4 +1,5 @@
 //! What is told of a file that may be a script: its counts, or where it is wrong and what is wanted there.
+mod objects;
 mod rows;
 
 use gp_check::{Purpose, ScriptCheckFault, check_script, placed_line};

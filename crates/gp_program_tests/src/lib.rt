@@ -5,7 +5,8 @@
 //! - `stream.rt`: readers and writers that fail, or take an octet a call.
 //! - `script.rt`: scripts that are read; `script/ranges.rt` has the ends of each range, `script/faults.rt` what is
 //!   refused.
-//! - `check.rt`: where a script is wrong, and what is wanted there; `check/rows.rt` has the scripts.
+//! - `check.rt`: where a script is wrong, and what is wanted there; `check/rows.rt` has the scripts; `check/objects.rt`
+//!   reads its objects as JSON.
 //! - `decode.rt`, `trace.rt`: lines as they are printed; a code is decoded also where memory is refused.
 //! - `encode.rt`, `explain.rt`: codes of messages in words; traces in words. `tell.rt`: the same while a trace is written.
 //! - `lines.rt`: events and turns that are read, the first fault of each text that is refused, and lines of a trace.
