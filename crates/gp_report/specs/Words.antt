@@ -47,6 +47,7 @@ part_line parts.Serial = codes "oltctl: encode serial"
 part_line parts.Hex = codes "oltctl: encode hex"
 part_line parts.Range = codes "oltctl: encode range"
 part_line parts.Long = codes "oltctl: encode long"
+part_line parts.Space = codes "oltctl: encode space"
 
 -- words that have no code; the status is that of bad input
 abbrev pub words_line : WordsFault → List ℕ

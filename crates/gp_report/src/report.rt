@@ -194,5 +194,6 @@ fn part_report_line(fault: PartFault) -> &'static str
         PartFault::Hex => "oltctl: encode hex",
         PartFault::Range => "oltctl: encode range",
         PartFault::Long => "oltctl: encode long",
+        PartFault::Space => "oltctl: encode space",
     }
 }

@@ -11,7 +11,8 @@ use Rattle.gp_verify.specs.declared.outcome.CheckFault.{CheckFault}
 use Rattle.gp_verify.specs.declared.outcome.CheckFault.TheVariants.{Script, Trace}
 use Rattle.gp_verify.specs.declared.outcome.VerifyFault.{VerifyFault}
 use Rattle.gp_verify.specs.declared.outcome.VerifyFault.TheVariants.{Lines}
-use Rattle.gp_verify.specs.Checking.{Checks, ChecksTrace, IsNoScript}
+use Rattle.gp_explain.specs.declared.form.Form.{Form}
+use Rattle.gp_verify.specs.Checking.{ChecksIn, ChecksTrace, IsNoScript}
 use Rattle.gp_verify.specs.Outcome.{Verifies, Writes}
 use Rattle.gp_verify.specs.Verdicts.{VerifyState}
 
@@ -26,18 +27,18 @@ not_judged {T = T} opened from to old new line (Err fault) same = (
 )
 
 -- the script was read, and the trace is none
-pub trace_refused : {R T W : Type 0} (before after : SourceState R) (from to : SourceState T) (old new : SinkState W) (script : ScriptView)
-    → ReadsBy script_of before after (Ok script) → (fault : VerifyFault) (told : List ℕ) → ChecksTrace from to told (Err fault) script → Writes old new told (Err fault)
-    → (r : Result ℕ CheckFault) → IsErrAnd r (λ told. told ≡ Trace fault) → Checks before after from to old new r
-trace_refused before after from to old new script read fault told checked written (Ok lines) same = absurd same
-trace_refused before after from to old new script read fault told checked written (Err e) same =
-    subst (λ (e : CheckFault). Checks before after from to old new (Err e)) (sym same)
+pub trace_refused : {R T W : Type 0} (form : Form) (before after : SourceState R) (from to : SourceState T) (old new : SinkState W) (script : ScriptView)
+    → ReadsBy script_of before after (Ok script) → (fault : VerifyFault) (told : List ℕ) → ChecksTrace form from to told (Err fault) script → Writes old new told (Err fault)
+    → (r : Result ℕ CheckFault) → IsErrAnd r (λ told. told ≡ Trace fault) → ChecksIn form before after from to old new r
+trace_refused form before after from to old new script read fault told checked written (Ok lines) same = absurd same
+trace_refused form before after from to old new script read fault told checked written (Err e) same =
+    subst (λ (e : CheckFault). ChecksIn form before after from to old new (Err e)) (sym same)
     (record { told = told; checked = record { script = script; input = read; held = checked }; written = written })
 
 -- the script was not read
-pub script_refused : {R T W : Type 0} (before after : SourceState R) (from : SourceState T) (old : SinkState W) (fault : RunFault) → IsNoScript before after fault
-    → (r : Result ℕ CheckFault) → IsErrAnd r (λ told. told ≡ Script fault) → Checks before after from from old old r
-script_refused before after from old fault none (Ok lines) same = absurd same
-script_refused before after from old fault none (Err e) same =
-    subst (λ (e : CheckFault). Checks before after from from old old (Err e)) (sym same)
+pub script_refused : {R T W : Type 0} (form : Form) (before after : SourceState R) (from : SourceState T) (old : SinkState W) (fault : RunFault) → IsNoScript before after fault
+    → (r : Result ℕ CheckFault) → IsErrAnd r (λ told. told ≡ Script fault) → ChecksIn form before after from from old old r
+script_refused form before after from old fault none (Ok lines) same = absurd same
+script_refused form before after from old fault none (Err e) same =
+    subst (λ (e : CheckFault). ChecksIn form before after from from old old (Err e)) (sym same)
     (record { told = []; checked = (none, refl, refl); written = refl })

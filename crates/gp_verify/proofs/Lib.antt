@@ -9,3 +9,5 @@ pub mod FeedLemmas
 pub mod FollowingLemmas
 pub mod CourseLemmas
 pub mod OutcomeLemmas
+pub mod EndingLemmas
+pub mod ReportLemmas

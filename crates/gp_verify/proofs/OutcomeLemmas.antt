@@ -17,10 +17,10 @@ use Rattle.gp_verify.specs.declared.outcome.VerifyFault.{VerifyFault}
 use Rattle.gp_verify.specs.declared.outcome.VerifyFault.TheVariants.{Lines}
 use Rattle.gp_verify.specs.declared.verdict.Verdict.{Verdict}
 use Rattle.gp_verify.specs.declared.verdict.Verdict.TheVariants as verdict
-use Rattle.gp_verify.specs.Following.{Following, has_ended, told_from}
+use Rattle.gp_verify.specs.Following.{Following, TellsFrom, has_ended}
 use Rattle.gp_verify.specs.Outcome.{Condemns, IsRefused, IsRun, IsUnended, RunsVerify, WritesAll, finding, longest_line}
 use Rattle.gp_verify.specs.Ports.{IsOrderlyPort}
-use Rattle.gp_verify.specs.Report.{report_at, report_of}
+use Rattle.gp_verify.specs.Report.{Reports, ReportsAt}
 use Rattle.gp_verify.specs.Tells.{AreTrace, IsTraceText, TellsNothing}
 use Rattle.gp_verify.specs.Verdicts.{Judges, VerifyState}
 use Rattle.gp_verify.proofs.CourseLemmas.{Course, Fails, Halts, Runs, course, wholes}
@@ -140,15 +140,16 @@ module _ {R : Type 0} (limit : ℕ) (from to : SourceState R) (old new : VerifyS
 
   -- what is told of it
   told_report : (v : Verdict) (line : Option (List ℕ)) (mid : PlayState) (raw told : List ℕ) → handed longest_line raw ≡ line → Fails v line old.mask mid new.play new.said
-      → new.ended ≡ Some v → told ≡ told_from None line new → told ≡ report_of v new.lines raw new.said
-  told_report v None mid raw told is fails ended h = h ∙ ap (λ (x : Verdict). report_of x new.lines raw new.said) (sym fails)
+      → new.ended ≡ Some v → TellsFrom old.form None line new told → Reports old.form v new.lines new raw told
+  told_report v None mid raw told is fails ended h =
+      subst (λ (x : Verdict). Reports old.form x new.lines new raw told) (sym fails) h
   told_report v (Some text) mid raw told is fails ended h =
-      h ∙ ap (λ (e : Option Verdict). report_at e new.lines text new.said) ended
-      ∙ ap (λ (t : List ℕ). report_of v new.lines t new.said) (sym (handed_whole longest_line raw text is))
+      subst (λ (t : List ℕ). Reports old.form v new.lines new t told) (sym (handed_whole longest_line raw text is))
+      (subst (λ (e : Option Verdict). ReportsAt old.form e new.lines new text told) ended h)
 
   refused_found : All IsOrderlyPort old.play.world.ports → (v : Verdict) (told bytes : List ℕ) (ls others : List (List ℕ)) → Consumes from.remaining to.remaining bytes → lines_of bytes ≡ ls ++ others
       → ((xs : List ℕ) → from.remaining ≡ Some xs → (o : List (List ℕ)) × (lines_of xs ≡ ls ++ o))
-      → Halts v old.mask old.play (map (handed longest_line) ls) new told → IsRefused old new from to new.lines v told
+      → Halts v old.form old.mask old.play (map (handed longest_line) ls) new told → IsRefused old new from to new.lines v told
   refused_found ports v told bytes ls others came is first halts =
       let p = parted longest_line ls halts.before halts.line halts.rest halts.all_is in
       let behind : (o : List (List ℕ)) → ls ++ o ≡ halts.before ++ p.raw ∷ (p.others ++ o) =
@@ -185,15 +186,15 @@ module _ {R : Type 0} (limit : ℕ) (from to : SourceState R) (old new : VerifyS
 -- ---- what was found
 
 started : (old new : VerifyState) (ls : List (Option (List ℕ))) (said : List ℕ) → old.ended ≡ None → old.lines ≡ 0 → DoesAll Following old ls said new
-    → Course new.ended old.mask old.play ls new said
-started old new ls said none first h = course old.mask old.play [] ls old new said refl none (stage_begun old.mask old.play) first h
+    → Course new.ended old.form old.mask old.play ls new said
+started old new ls said none first h = course old.form old.mask old.play [] ls old new said refl refl none (stage_begun old.mask old.play) first h
 
 never : false ≡ true → ⊥
 never h = cc
 
 module _ {R W : Type 0} (from to : SourceState R) (old new : VerifyState) (before after : SinkState W) (told : List ℕ) (written : WritesAll before after told) (ports : All IsOrderlyPort old.play.world.ports) where
   whole : (ended : Option Verdict) → (text : List ℕ) → ReadsWhole from to text → text ≡ with_feeds (lines_of text)
-      → Course ended old.mask old.play (map (handed longest_line) (lines_of text)) new told → RunsVerify old new from to before after (finding Whole ended new.lines)
+      → Course ended old.form old.mask old.play (map (handed longest_line) (lines_of text)) new told → RunsVerify old new from to before after (finding Whole ended new.lines)
   whole None text read feeds c = record { told = told; verified = (run_found longest_line from to old new text read feeds told c, c.silent); written = written }
   whole (Some v) text read feeds c = record {
     told = told;
@@ -203,7 +204,7 @@ module _ {R W : Type 0} (from to : SourceState R) (old new : VerifyState) (befor
   }
 
   unended : (ended : Option Verdict) → (text : List ℕ) → ReadsWhole from to text → (text ≡ with_feeds (lines_of text) → ⊥)
-      → Course ended old.mask old.play (map (handed longest_line) (lines_of text)) new told → RunsVerify old new from to before after (finding Open ended new.lines)
+      → Course ended old.form old.mask old.play (map (handed longest_line) (lines_of text)) new told → RunsVerify old new from to before after (finding Open ended new.lines)
   unended None text read unfed c = record { told = told; verified = (unended_found longest_line from to old new text read unfed told c, c.silent); written = written }
   unended (Some v) text read unfed c = record {
     told = told;
@@ -213,7 +214,7 @@ module _ {R W : Type 0} (from to : SourceState R) (old new : VerifyState) (befor
   }
 
   over : (ended : Option Verdict) → is_some ended ≡ true → (bytes : List ℕ) → Consumes from.remaining to.remaining bytes
-      → Course ended old.mask old.play (map (handed longest_line) (ended_lines bytes)) new told → RunsVerify old new from to before after (finding Over ended new.lines)
+      → Course ended old.form old.mask old.play (map (handed longest_line) (ended_lines bytes)) new told → RunsVerify old new from to before after (finding Over ended new.lines)
   over None is bytes came c = absurd (never is)
   over (Some v) is bytes came c =
       let e = ended_first bytes [] in

@@ -1,7 +1,9 @@
 pub mod Checking
+pub mod Ending
 pub mod Faults
 pub mod Following
 pub mod Ports
+pub mod Object
 pub mod Outcome
 pub mod Report
 pub mod Tells

@@ -15,7 +15,7 @@ use Rattle.gp_verify.specs.declared.outcome.VerifyFault.{VerifyFault}
 use Rattle.gp_verify.specs.declared.outcome.VerifyFault.TheVariants.{Refused, Unended, Lines}
 use Rattle.gp_verify.specs.declared.verdict.Verdict.{Verdict}
 use Rattle.gp_verify.specs.declared.verdict.Verdict.TheVariants.{TooLong}
-use Rattle.gp_verify.specs.Report.{report_of}
+use Rattle.gp_verify.specs.Report.{Reports}
 use Rattle.gp_verify.specs.Tells.{AreLinesOf, IsTraceText}
 use Rattle.gp_verify.specs.Verdicts.{Judges, VerifyState}
 
@@ -57,7 +57,7 @@ pub record IsRefused {R : Type 0} (old new : VerifyState) (from to : SourceState
   pub run : AreLinesOf old.mask old.play before receipts mid
   pub condemned : Condemns verdict old.mask mid text new.play new.said
   -- what is told of it
-  pub told_is : told ≡ report_of verdict line text new.said
+  pub told_is : Reports old.form verdict line new text told
   -- so no run has this trace, whatever comes behind what was read
   pub none : IsNoRun old from
 

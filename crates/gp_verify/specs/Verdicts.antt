@@ -5,6 +5,8 @@ use Rattle.gp_machine.specs.declared.config.PortConfig.{PortConfig}
 use Rattle.gp_machine.specs.declared.entry.Receipt.{Receipt}
 use Rattle.gp_machine.specs.declared.event.Event.{Event}
 use Rattle.gp_chassis.specs.Core.{GrantsTurn}
+use Rattle.gp_explain.specs.declared.form.Form.{Form}
+use Rattle.gp_explain.specs.declared.form.Form.TheVariants.{Plain}
 use Rattle.gp_trace.specs.Text.{line_of}
 use Rattle.gp_lines.specs.Picks.{Picks}
 use Rattle.gp_lines.specs.Trace.{SplitsLine}
@@ -66,19 +68,25 @@ Judges verdict.TooLong mask old text new said = ⊥
 abbrev pub most_lines : ℕ
 most_lines = 18446744073709551615
 
--- where a verification stands: the mask of the codes, the play that the lines so far tell of, how many lines were
--- judged, the line that the machine said last, and the verdict that ended it
+-- where a verification stands: the mask of the codes, the form in which the line that can't be is told, the play that
+-- the lines so far tell of, how many lines were judged, the line that the machine said last, and the verdict that ended
+-- it
 pub record VerifyState : Type 0 where
   pub mask : Mask
+  pub form : Form
   pub play : PlayState
   pub lines : ℕ
   pub said : List ℕ
   pub ended : Option Verdict
 
--- before the first line
+-- before the first line, where the line that can't be is to be told in this form
+abbrev pub opened_in : Form → Mask → List PortConfig → ℕ → VerifyState
+opened_in form mask ports licences =
+    record { mask = mask; form = form; play = opened_play ports licences; lines = 0; said = []; ended = None }
+
+-- the same, where it is to be told as it is
 abbrev pub opened_verify : Mask → List PortConfig → ℕ → VerifyState
-opened_verify mask ports licences =
-    record { mask = mask; play = opened_play ports licences; lines = 0; said = []; ended = None }
+opened_verify mask ports licences = opened_in Plain mask ports licences
 
 -- a verdict other than that the line follows ends it
 abbrev pub ending : Verdict → Option Verdict

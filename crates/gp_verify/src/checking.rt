@@ -1,13 +1,17 @@
+//! A text judged against the chassis of a script.
 ghost use Rattle.std.specs.Prelude.{◌≡◌, ℕ, List, true};
 ghost use Rattle.gp_script.specs.Playable.{IsPlayable};
 ghost use Rattle.gp_script.specs.View.{script_view};
-ghost use Rattle.gp_verify.specs.Checking.{Checks, ChecksTrace};
+ghost use Rattle.gp_verify.specs.Checking.{Checks, ChecksIn, ChecksTrace};
+ghost use Rattle.gp_verify.specs.Ending.{ChecksTold, as_checked};
 ghost use Rattle.gp_verify.specs.Outcome.{Writes};
 
+use super::ending::tell_end;
 use super::outcome::{CheckFault, VerifyFault};
 use super::running::run_verify;
 use super::verifier::Verifier;
 use gp_chassis::ChassisConfig;
+use gp_explain::Form;
 use gp_licence::MAX_LICENCES;
 use gp_script::Script;
 use gp_stream::{Sink, Source};
@@ -19,6 +23,7 @@ use std::sync::ledger::{Blank, Ledger};
 /// Tells whether a text is the trace of a run on the chassis of a script that was read, whose ledger is the blank.
 fn verify_on<L: Ledger, T: Read, W: Write>(
     alloc: Global,
+    form: Form,
     blank: Blank,
     script: Script,
     trace: &mut Source<T>,
@@ -28,7 +33,7 @@ fn verify_on<L: Ledger, T: Read, W: Write>(
     requires parts { (blank.parts ≡ L.parts) × (L.parts ≡ MAX_LICENCES) }
     requires playable { IsPlayable (script_view script) }
     requires flushed { sink.old.flushed ≡ true }
-    ensures { (told : List ℕ) × ChecksTrace trace.old trace.new told result (script_view script)
+    ensures { (told : List ℕ) × ChecksTrace form trace.old trace.new told result (script_view script)
         × Writes sink.old sink.new told result }
 {
     let Script {
@@ -45,7 +50,7 @@ fn verify_on<L: Ledger, T: Read, W: Write>(
         journal_limit,
         ports,
     };
-    let mut verifier = Verifier::<L>::begin(alloc, blank, &config, mask)?;
+    let mut verifier = Verifier::<L>::begin_in(alloc, form, blank, &config, mask)?;
     let found = run_verify(alloc, trace, sink, &mut verifier);
     verifier.close();
     found
@@ -55,9 +60,10 @@ fn verify_on<L: Ledger, T: Read, W: Write>(
 /// free ONU-IDs and Alloc-IDs, and how many lines it has. Of the script its ports, licences and mask count; its
 /// events and units are passed over.
 ///
-/// Of the first line that can't be, if it is not too long, its number and text are written to the sink, and where
-/// its answer or its number is another, what the machine says in its place. Of a run nothing is written. The script is read to its end, at most 1,048,576 bytes; the trace without bound, to its end or to the first
-/// line that can't be, and a little further.
+/// Of the first line that can't be, if it is not too long, its number and text are written to the sink, and where its
+/// answer or its number is another, what the machine says in its place, and why. Of a run nothing is written. The
+/// script is read to its end, at most 1,048,576 bytes; the trace without bound, to its end or to the first line that
+/// can't be, and a little further.
 pub fn verify_script<R: Read, T: Read, W: Write>(
     alloc: Global,
     script: &mut Source<R>,
@@ -67,9 +73,55 @@ pub fn verify_script<R: Read, T: Read, W: Write>(
     requires { sink.old.flushed ≡ true }
     ensures { Checks script.old script.new trace.old trace.new sink.old sink.new result }
 {
+    verify_script_in(alloc, Form::Plain, script, trace, sink)
+}
+
+/// The same, where the line that can't be is told in this form: as it is, with the codes of both lines in words, or as
+/// a JSON object.
+pub fn verify_script_in<R: Read, T: Read, W: Write>(
+    alloc: Global,
+    form: Form,
+    script: &mut Source<R>,
+    trace: &mut Source<T>,
+    sink: &mut Sink<W>,
+) -> Result<u64, CheckFault>
+    requires { sink.old.flushed ≡ true }
+    ensures { ChecksIn form script.old script.new trace.old trace.new sink.old sink.new result }
+{
     let bytes = gp_stream::read_all(alloc, script)?;
     let read = gp_script::read_script(alloc, bytes.as_slice())?;
     let blank = Blank::new(u64::from(MAX_LICENCES));
-    let lines = verify_on::<Brand, T, W>(alloc, blank, read, trace, sink)?;
+    let lines = verify_on::<Brand, T, W>(alloc, form, blank, read, trace, sink)?;
     Ok(lines)
+}
+
+/// What was found of a trace, where a script was to be read first.
+fn as_checked(told: Result<u64, VerifyFault>) -> Result<u64, CheckFault>
+    ensures { result ≡ as_checked told }
+{
+    match told {
+        Ok(lines) => Ok(lines),
+        Err(fault) => Err(CheckFault::Trace(fault)),
+    }
+}
+
+/// The same, and all is told that `oltctl verify` writes to standard output: of a run of as many lines as are asked for
+/// at least, and else of one line, that it is one; of one of fewer lines, as JSON, how many came. What was found is
+/// answered, or that the sink took no more.
+pub fn verify_told<R: Read, T: Read, W: Write>(
+    alloc: Global,
+    form: Form,
+    at_least: Option<u64>,
+    script: &mut Source<R>,
+    trace: &mut Source<T>,
+    sink: &mut Sink<W>,
+) -> Result<u64, CheckFault>
+    requires { sink.old.flushed ≡ true }
+    ensures { ChecksTold form at_least script.old script.new trace.old trace.new sink.old sink.new result }
+{
+    match verify_script_in(alloc, form, script, trace, sink) {
+        Ok(lines) => as_checked(tell_end(sink, form, at_least, Ok(lines))),
+        Err(CheckFault::Trace(fault)) => as_checked(tell_end(sink, form, at_least, Err(fault))),
+        Err(CheckFault::Script(fault)) => Err(CheckFault::Script(fault)),
+    }
 }

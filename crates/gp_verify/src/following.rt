@@ -1,3 +1,4 @@
+//! The verifier as what lines are handed to, one after another.
 use super::verdict::Verdict;
 use super::verifier::Verifier;
 use gp_flow::{LineFault, LineWork};

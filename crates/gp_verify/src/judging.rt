@@ -1,3 +1,4 @@
+//! Whether a line is that of the turn that it tells of.
 ghost use Rattle.std.specs.Prelude.{◌≡◌, ◌<◌, ◌≤◌, ◌+◌, ◌↔◌, ◌++◌, ℕ, codes, All, IfOk, OnErr, IsTrue, length};
 ghost use Rattle.gp_lines.specs.Trace.{SplitsLine};
 ghost use Rattle.gp_replay.specs.Chassis.{HasRoom};

@@ -1,3 +1,4 @@
+//! Why a text is no trace of a run, or none was judged.
 ghost use Rattle.std.specs.Prelude.{◌≡◌};
 ghost use Rattle.gp_flow.specs.declared.fault.LineFault.TheVariants as lines;
 ghost use Rattle.gp_flow.specs.declared.fault.LinesFault.TheVariants.{Line};

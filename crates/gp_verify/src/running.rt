@@ -1,3 +1,4 @@
+//! A text judged to its end, or to the first line that can't be.
 ghost use Rattle.std.specs.Prelude.{◌≡◌, None, true};
 ghost use Rattle.gp_verify.specs.Outcome.{RunsVerify, finding};
 

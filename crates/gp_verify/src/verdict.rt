@@ -1,3 +1,5 @@
+//! What is said of a line.
+
 /// What is said of a line.
 #[derive(Clone, Copy, Debug, PartialEq, Eq)]
 pub enum Verdict {

@@ -1,19 +1,25 @@
-ghost use Rattle.std.specs.Prelude.{◌≡◌, ◌+◌, ◌≤◌, ℕ, All, None, Some, Ok, Err, IfOk, OnErr};
+//! Where a verification stands between two lines, and what it does with one.
+ghost use Rattle.std.specs.Prelude.{◌≡◌, ◌+◌, ◌≤◌, All, None, Some, Ok, Err, IfOk, OnErr};
 ghost use Rattle.gp_chassis.specs.Limits.{IsWithin};
 ghost use Rattle.gp_chassis.specs.World.{IsBalanced};
 ghost use Rattle.gp_verify.specs.declared.fault.LineRefusal.TheVariants.{Full};
 ghost use Rattle.gp_verify.specs.declared.verdict.Verdict.{Verdict as AnyVerdict};
 ghost use Rattle.gp_verify.specs.declared.verdict.Verdict.TheVariants.{TooLong};
 ghost use Rattle.gp_verify.specs.Ports.{IsOrderlyPort};
-ghost use Rattle.gp_verify.specs.Report.{report_of};
-ghost use Rattle.gp_verify.specs.Verdicts.{Judges, ending, most_lines, opened_verify};
+ghost use Rattle.gp_verify.specs.Report.{Explains, Reports, TellsBoth, TellsFor, TellsLine, left_behind};
+ghost use Rattle.gp_verify.specs.Verdicts.{Judges, ending, most_lines, opened_in, opened_verify};
 
 use super::fault::LineRefusal;
 use super::judging::judge_line;
-use super::report::report_of;
+use super::object::{both_object, line_object};
+use super::report::{
+    as_it_is, both_lines, choice_in, in_words, numbered_line, port_of, without_feed,
+};
 use super::typed::configs_are_typed;
 use super::verdict::Verdict;
 use gp_chassis::ChassisConfig;
+use gp_differ::push_reason;
+use gp_explain::Form;
 use gp_licence::MAX_LICENCES;
 use gp_ploam::Mask;
 use gp_replay::{LineBuffer, Player};
@@ -31,6 +37,7 @@ pub struct Verifier<L: Ledger> {
     player: Player<L>,
     buffer: LineBuffer,
     mask: Mask,
+    form: Form,
     lines: u64,
     ended: Option<Verdict>,
 }
@@ -54,15 +61,22 @@ impl<L: Ledger> Model for Verifier<L> {
       set.code {R = serial_cmp} coded_serial,
     ) };
 
-    ghost view = { λ v. record { mask = v.mask; play = v.player; lines = v.lines; said = v.buffer; ended = v.ended } };
+    ghost view = { λ v. record {
+      mask = v.mask;
+      form = v.form;
+      play = v.player;
+      lines = v.lines;
+      said = v.buffer;
+      ended = v.ended;
+    } };
 
     ghost invariant = { λ v. (length v.player.next ≤ 16) × HasRoom (most_lines - v.lines) v.player
         × All IsOrderlyPort v.player.world.ports };
 }
 
 impl<L: Ledger> Verifier<L> {
-    /// Opens the chassis, before the first line. `blank` is a new ledger of `MAX_LICENCES` parts, made by
-    /// `Blank::new`, and `L` its name.
+    /// Opens the chassis, before the first line, where the line that can't be is to be told as it is. `blank` is a new
+    /// ledger of `MAX_LICENCES` parts, made by `Blank::new`, and `L` its name.
     pub fn begin(
         alloc: Global,
         blank: Blank,
@@ -74,6 +88,23 @@ impl<L: Ledger> Verifier<L> {
         requires within { IsWithin config.now }
         ensures { IfOk result (λ verifier. verifier ≡ opened_verify mask config.now.ports.items config.now.licences) }
     {
+        Verifier::begin_in(alloc, Form::Plain, blank, config, mask)
+    }
+
+    /// The same, where the line that can't be is to be told in this form.
+    pub fn begin_in(
+        alloc: Global,
+        form: Form,
+        blank: Blank,
+        config: &ChassisConfig,
+        mask: Mask,
+    ) -> Result<Verifier<L>, AllocError>
+        requires name { blank.name ≡ L.name }
+        requires parts { (blank.parts ≡ L.parts) × (L.parts ≡ MAX_LICENCES) }
+        requires within { IsWithin config.now }
+        ensures { IfOk result
+            (λ verifier. verifier ≡ opened_in form mask config.now.ports.items config.now.licences) }
+    {
         configs_are_typed(config.ports.as_slice());
         let buffer = LineBuffer::new(alloc)?;
         let player = Player::begin(alloc, blank, config)?;
@@ -82,6 +113,7 @@ impl<L: Ledger> Verifier<L> {
             player,
             buffer,
             mask,
+            form,
             lines: 0,
             ended: None,
         })
@@ -102,6 +134,7 @@ impl<L: Ledger> Verifier<L> {
         ensures err { OnErr result (self.new ≡ self.old) }
         ensures full { result ≡ Err Full → self.old.lines ≡ most_lines }
         ensures mask { self.new.mask ≡ self.old.mask }
+        ensures form { self.new.form ≡ self.old.form }
     {
         if let Some(verdict) = self.ended {
             return Ok(verdict);
@@ -165,11 +198,140 @@ impl<L: Ledger> Verifier<L> {
         self.buffer.as_bytes()
     }
 
+    /// Tells how many copies of messages are still owed by the port of the line that the machine said last.
+    fn left(&self) -> usize
+        ensures { result ≡ left_behind self.now }
+    {
+        match port_of(self.said()) {
+            Some(port) => self.player.owed(port),
+            None => 0,
+        }
+    }
+
+    /// Gives why a line is not the one that the machine said in its place.
+    fn reason(&self, text: &[u8]) -> Result<Vec<u8>, AllocError>
+        ensures { IfOk result (λ reason. Explains self.now text.now reason.items) }
+    {
+        let mut reason = Vec::new(self.alloc);
+        push_reason(
+            self.alloc,
+            self.mask,
+            self.left(),
+            text,
+            without_feed(self.said()),
+            &mut reason,
+        )?;
+        Ok(reason)
+    }
+
+    /// Makes what is told of a line in whose place the machine said nothing.
+    fn report_line(&self, verdict: Verdict, text: &[u8]) -> Result<Vec<u8>, AllocError>
+        ensures { IfOk result
+            (λ report. TellsLine self.now.form verdict self.now.lines self.now text.now report.items) }
+    {
+        match self.form {
+            Form::Plain => {
+                let shown = as_it_is(self.alloc, text)?;
+                numbered_line(self.alloc, self.lines, shown.as_slice())
+            }
+            Form::Words => {
+                let shown = in_words(self.alloc, self.mask, text)?;
+                numbered_line(self.alloc, self.lines, shown.as_slice())
+            }
+            Form::Json => line_object(self.alloc, verdict, self.lines, text),
+        }
+    }
+
+    /// Makes what is told of a line, as it is, in whose place the machine said another for this reason.
+    fn report_plain(&self, text: &[u8], reason: &[u8]) -> Result<Vec<u8>, AllocError>
+        ensures { IfOk result (λ report. (verdict : AnyVerdict)
+            → TellsFor Form.Plain verdict self.now.lines self.now text.now reason.now report.items) }
+    {
+        let shown = as_it_is(self.alloc, text)?;
+        both_lines(
+            self.alloc,
+            self.lines,
+            shown.as_slice(),
+            self.said(),
+            self.said(),
+            reason,
+        )
+    }
+
+    /// The same in words.
+    fn report_words(&self, text: &[u8], reason: &[u8]) -> Result<Vec<u8>, AllocError>
+        ensures { IfOk result (λ report. (verdict : AnyVerdict)
+            → TellsFor Form.Words verdict self.now.lines self.now text.now reason.now report.items) }
+    {
+        let shown = in_words(self.alloc, self.mask, text)?;
+        let machine = in_words(self.alloc, self.mask, without_feed(self.said()))?;
+        both_lines(
+            self.alloc,
+            self.lines,
+            shown.as_slice(),
+            machine.as_slice(),
+            self.said(),
+            reason,
+        )
+    }
+
+    /// The same as an object.
+    fn report_object(
+        &self,
+        verdict: Verdict,
+        text: &[u8],
+        reason: &[u8],
+    ) -> Result<Vec<u8>, AllocError>
+        ensures { IfOk result (λ report.
+            TellsFor Form.Json verdict self.now.lines self.now text.now reason.now report.items) }
+    {
+        both_object(
+            self.alloc,
+            verdict,
+            self.lines,
+            text,
+            without_feed(self.said()),
+            choice_in(self.said()),
+            reason,
+        )
+    }
+
+    /// The same in the form in which it is to be told.
+    fn report_for(
+        &self,
+        verdict: Verdict,
+        text: &[u8],
+        reason: &[u8],
+    ) -> Result<Vec<u8>, AllocError>
+        ensures { IfOk result (λ report.
+            TellsFor self.now.form verdict self.now.lines self.now text.now reason.now report.items) }
+    {
+        match self.form {
+            Form::Plain => self.report_plain(text, reason),
+            Form::Words => self.report_words(text, reason),
+            Form::Json => self.report_object(verdict, text, reason),
+        }
+    }
+
+    /// Makes what is told of a line in whose place the machine said another.
+    fn report_both(&self, verdict: Verdict, text: &[u8]) -> Result<Vec<u8>, AllocError>
+        ensures { IfOk result
+            (λ report. TellsBoth self.now.form verdict self.now.lines self.now text.now report.items) }
+    {
+        let reason = self.reason(text)?;
+        self.report_for(verdict, text, reason.as_slice())
+    }
+
     /// Makes what is told of the line that was judged last, by its verdict and its text.
     pub(crate) fn report(&self, verdict: Verdict, text: &[u8]) -> Result<Vec<u8>, AllocError>
-        ensures { IfOk result (λ report. report.items ≡ report_of verdict self.now.lines text.now self.now.said) }
+        ensures { IfOk result
+            (λ report. Reports self.now.form verdict self.now.lines self.now text.now report.items) }
     {
-        report_of(self.alloc, verdict, self.lines, text, self.said())
+        match verdict {
+            Verdict::Follows | Verdict::TooLong => Ok(Vec::new(self.alloc)),
+            Verdict::NotALine | Verdict::NoPort => self.report_line(verdict, text),
+            Verdict::WrongNumber | Verdict::NotAStep => self.report_both(verdict, text),
+        }
     }
 
     /// Ends the chassis, and answers how many licences it was opened with: those that are free, in hands or with
@@ -182,6 +344,7 @@ impl<L: Ledger> Verifier<L> {
             player,
             buffer: _,
             mask: _,
+            form: _,
             lines: _,
             ended: _,
         } = self;

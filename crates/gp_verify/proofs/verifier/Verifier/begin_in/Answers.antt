@@ -1,6 +1,6 @@
 use Rattle.gp_verify.proofs.JudgingLemmas.{opened_holds}
 use Rattle.gp_verify.proofs.PortLemmas.{opened_ports}
-use Rattle.gp_verify.proofs.verifier.Verifier.begin.Goals as goal
+use Rattle.gp_verify.proofs.verifier.Verifier.begin_in.Goals as goal
 
 pub invariant_of-result : goal.invariant_of-result
 invariant_of-result g c =

@@ -1,0 +1,25 @@
+//! In what a line of a trace differs from the one that the machine says in its place.
+//!
+//! Promise: the first part that differs is named, with what is owed there (`difference_of`, `push_reason`).
+//!
+//! - `difference.rt`: `Difference`, the parts that lines differ in.
+//! - `parts.rt`: a line cut into its parts, and the first that differs. `word.rt`: a text cut at a word.
+//! - `alike.rt`: lines that look alike; `difference_of`.
+//! - `reason.rt`: `push_reason`, why a line is not the one that is said; `wanted.rt`: what is owed in a part's place;
+//!   `message.rt`: a message that was sent, in words.
+//!
+//! Where to make which change: what the parts of a line are stands in `specs/Parts.antt`, what it is to look alike in
+//! `specs/Alike.antt`, and the texts in `specs/Reasons.antt`.
+#![tactic(auto)]
+
+mod alike;
+mod difference;
+mod message;
+mod parts;
+mod reason;
+mod wanted;
+mod word;
+
+pub use alike::difference_of;
+pub use difference::Difference;
+pub use reason::push_reason;
