@@ -17,6 +17,7 @@ use Rattle.gp_replay.specs.Writing.{HandsIn, PlaysOn}
 use Rattle.gp_trace.specs.Text.{trace_text}
 use Rattle.gp_drive.specs.declared.fault.TurnFault.{TurnFault}
 use Rattle.gp_drive.specs.Drive.{DriveState, Says, answering, driving, ending, errors_of, line_fault, playing_of, refusing}
+use Rattle.gp_drive.specs.Shown.{shown_of}
 use Rattle.gp_drive.specs.Turns.{PlaysTo, PlaysTurnPart, cost_of, missing_in}
 
 stops : {P : Type 0} → true ≡ false → P
@@ -104,11 +105,12 @@ tells playing turn fault old end x y u =
 
 pub played : {S W A B C : Type 0} (playing : Playing S) (turn : Asked) (fault : Option TurnFault) (old new : DriveState S) (x y z : SinkState W) (u : A) (w : C) (v : B)
     → new.mask ≡ old.mask → new.done ≡ old.done → new.lines ≡ old.lines + 1 → new.errors ≡ old.errors + errors_of fault → new.left + cost_of turn ≡ old.left
-    → tells playing turn fault old new.player x y u → HandsIn {E = WriteStopped} y z (ending old.done (old.lines + 1) fault) (Ok w)
+    → tells playing turn fault old new.player x y u
+    → HandsIn {E = WriteStopped} y z (shown_of playing turn new.player ++ ending old.done (old.lines + 1) fault) (Ok w)
     → Answers (playing_of playing turn) None old new x z (Ok v)
 played playing turn fault old new x y z u w v mask done lines errors left p h = record {
   ok = (
-    trace_text old.mask p.ok.receipts ++ ending old.done (old.lines + 1) fault,
+    trace_text old.mask p.ok.receipts ++ (shown_of playing turn new.player ++ ending old.done (old.lines + 1) fault),
     (
       fault,
       record { receipts = p.ok.receipts; played = p.ok.happened; said_is = refl; mask = mask; done = done; lines = lines; errors = errors; left = left },
@@ -123,14 +125,14 @@ played playing turn fault old new x y z u w v mask done lines errors left p h = 
 -- it was, but a write failed in what ends the answer
 pub unended : {S W A B C : Type 0} (playing : Playing S) (turn : Asked) (fault : Option TurnFault) (old new : DriveState S) (end : S) (x y z : SinkState W) (u : A) (e : WriteStopped)
     → cost_of turn ≤ old.left
-    → tells playing turn fault old end x y u → HandsIn {T = C} y z (ending old.done (old.lines + 1) fault) (Err e)
+    → tells playing turn fault old end x y u → HandsIn {T = C} y z (shown_of playing turn end ++ ending old.done (old.lines + 1) fault) (Err e)
     → Answers {T = B} (playing_of playing turn) None old new x z (Err Write)
 unended playing turn fault old new end x y z u e enough p h =
     let is : (old.left - cost_of turn) + cost_of turn ≡ old.left = omega (arith, enough) in
     let next : DriveState _ = record old { player = end; lines = old.lines + 1; errors = old.errors + errors_of fault; left = old.left - cost_of turn } in
     record {
       ok = tt;
-      error = AllSaid (trace_text old.mask p.ok.receipts ++ ending old.done (old.lines + 1) fault) next
+      error = AllSaid (trace_text old.mask p.ok.receipts ++ (shown_of playing turn end ++ ending old.done (old.lines + 1) fault)) next
           (fault, record { receipts = p.ok.receipts; played = p.ok.happened; said_is = refl; mask = refl; done = refl; lines = refl; errors = refl; left = is })
           (takes_prefix_after x y z _ _ p.ok.lines h.error);
       flushed = λ f unstopped. stops unstopped;
@@ -182,6 +184,6 @@ pub answers_long : {S W T : Type 0} (playing : Playing S) (fault : TurnFault) (l
 answers_long playing fault line old new x y r whole p = answers_as (refusing fault) (driving playing) None line old new x y r whole (λ said next none. absurd none) p
 
 pub answers_asked : {S W T : Type 0} (playing : Playing S) (turn : Asked) (text : List ℕ) (old new : DriveState S) (x y : SinkState W) (r : Result T LineFault)
-    → turn_of text ≡ Ok turn → Answers (answering playing turn) None old new x y r → Answers (driving playing) (Some text) old new x y r
+    → turn_of old.mask text ≡ Ok turn → Answers (answering playing turn) None old new x y r → Answers (driving playing) (Some text) old new x y r
 answers_asked playing turn text old new x y r is p =
     answers_as (answering playing turn) (driving playing) None (Some text) old new x y r (λ said next h. rw is h) (λ said next h. (turn, is, h)) p

@@ -1,5 +1,5 @@
 -- A drive, from the script's events and the lines behind them.
-use Rattle.std.proofs.Common.{◌≡◌, ℕ, ◌+◌, ◌^◌, ◌≤◌, ◌⊎◌, inl, inr, true, false, List, ◌++◌, Result, Ok, Err, IsErrAnd, length, take, refl, sym, ap, subst, ◌∙◌, arith, append_assoc}
+use Rattle.std.proofs.Common.{◌≡◌, ℕ, ◌+◌, ◌^◌, ◌<◌, ◌≤◌, ◌⊎◌, inl, inr, true, false, List, ◌++◌, Result, Ok, Err, IsErrAnd, length, take, refl, sym, ap, subst, ◌∙◌, arith, append_assoc}
 use Rattle.std.specs.Io.KnownBytes.{Appends}
 use Rattle.std.proofs.KnownBytes.{Appends-trans}
 use Rattle.std.proofs.Math.Seq.{take-append-add}
@@ -168,13 +168,18 @@ unplayed_as : {W T : Type 0} (script : ScriptView) (from : SourceState T) (x z :
 unplayed_as script from x z fault answer is p =
     let q = subst (λ (a : Result (Unit {0}) PlayFault). PlaysScript script x z a) is p in q.fault
 
+-- the fault of an answer that has one
+abbrev fault_in : Result (Unit {0}) PlayFault → PlayFault
+fault_in (Ok value) = faults.Write
+fault_in (Err fault) = fault
+
 pub events_unplayed : {S W U : Type 0} (manner : DriveManner) (script : ScriptView) (T P : Happening S) (start b : S) (from : SourceState U) (x y z : SinkState W) (fault : PlayFault)
-    (answer : Result (Unit {0}) PlayFault) → StandsFor script start T P → PlaysOn {T = Unit {0}} script.mask T P start b x y (Err fault) → EndsPlay y z (Err fault) answer
-    → DrivesScriptIn manner (Err (drives.Script (fault_of_play fault))) from from x z script
-events_unplayed manner script T P start b from x y z faults.OutOfMemory answer stands p e =
-    (refl, unplayed_as script from x z faults.OutOfMemory answer e.0 (play_ends script T P start b x y z (Err faults.OutOfMemory) answer stands p e))
-events_unplayed manner script T P start b from x y z faults.Write answer stands p e =
-    (refl, unplayed_as script from x z faults.Write answer e.0 (play_ends script T P start b x y z (Err faults.Write) answer stands p e))
+    (answer : Result (Unit {0}) PlayFault) → StandsFor script start T P → (fault ≡ faults.OutOfMemory → 0 < length script.units)
+    → PlaysOn {T = Unit {0}} script.mask T P start b x y (Err fault) → EndsPlay y z (Err fault) answer → DrivesScriptIn manner (Err (drives.Script (fault_of_play fault))) from from x z script
+events_unplayed manner script T P start b from x y z faults.OutOfMemory answer stands some p e =
+    (refl, unplayed_as script from x z faults.OutOfMemory answer e.0 (play_ends script T P start b x y z (Err faults.OutOfMemory) answer stands (λ is. some refl) p e))
+events_unplayed manner script T P start b from x y z faults.Write answer stands some p e =
+    (refl, unplayed_as script from x z faults.Write answer e.0 (play_ends script T P start b x y z (Err faults.Write) answer stands (λ is. some (ap fault_in is)) p e))
 
 pub told_unplayed : {W U : Type 0} (manner : DriveManner) (script : ScriptView) (from : SourceState U) (x z : SinkState W) (fault : PlayFault) (result : DriveFault)
     → result ≡ drives.Script (fault_of_play fault) → DrivesScriptIn manner (Err (drives.Script (fault_of_play fault))) from from x z script → DrivesScriptIn manner (Err result) from from x z script

@@ -1,23 +1,21 @@
 -- What a whole drive comes to.
-use Rattle.std.proofs.Common.{◌≡◌, ◌<◌, ◌+◌, ℕ, Bool, true, false, List, [], ◌∷◌, ◌++◌, Result, Ok, Err, Option, None, Some, length, replicate, refl, sym, ap, subst, ◌∙◌, append_assoc}
+use Rattle.std.proofs.Common.{◌≡◌, ◌+◌, ℕ, Bool, true, false, List, [], ◌∷◌, ◌++◌, Result, Ok, Err, Option, None, Some, refl, sym, ap, subst, ◌∙◌, append_assoc}
 use Rattle.std.proofs.lemmas.List.{append-nil}
-use Rattle.std.specs.List.{flat_map}
 use Rattle.gp_ploam.specs.declared.check.Mask.{Mask}
-use Rattle.gp_machine.specs.declared.config.PortConfig.{PortConfig}
 use Rattle.gp_machine.specs.declared.entry.Receipt.{Receipt}
+use Rattle.gp_onu.specs.declared.status.UnitStatus.{UnitStatus}
 use Rattle.gp_script.specs.declared.script.ScriptEvent.{ScriptEvent}
 use Rattle.gp_script.specs.declared.script.ScriptEvent.TheVariants as events
 use Rattle.gp_script.specs.Lose.{LossesView}
-use Rattle.gp_script.specs.Script.{ScriptView}
 use Rattle.gp_trace.specs.Text.{trace_text}
 use Rattle.gp_lines.specs.declared.fault.LineFault.{LineFault}
 use Rattle.gp_lines.specs.declared.turn.Asked.{Asked}
 use Rattle.gp_lines.specs.declared.turn.Asked.TheVariants as asked
 use Rattle.gp_lines.specs.TurnReading.{turn_of}
 use Rattle.gp_flow.specs.Lines.{DoesAll}
-use Rattle.gp_replay.specs.Chassis.{PlayState, opening_play}
+use Rattle.gp_replay.specs.Chassis.{opening_play}
 use Rattle.gp_replay.specs.Laws.{EachPortRuns}
-use Rattle.gp_replay.specs.Playing.{LossyPlay, Playing, PlaysAll, chassis_playing, fibre_playing}
+use Rattle.gp_replay.specs.Playing.{Playing, PlaysAll, chassis_playing, fibre_playing}
 use Rattle.gp_replay.specs.WorldPlay.{WorldTakesAll}
 use Rattle.gp_replay.specs.WorldWriting.{Numbered}
 use Rattle.gp_replay.proofs.PlayingLemmas.{all_append, all_one, chassis_all, fibre_all}
@@ -25,8 +23,8 @@ use Rattle.gp_replay.proofs.ScriptPlayLemmas.{chassis_stands}
 use Rattle.gp_replay.proofs.WorldPlayLemmas.{world_stands}
 use Rattle.gp_drive.specs.declared.fault.TurnFault.{TurnFault}
 use Rattle.gp_drive.specs.Drive.{AnswersAsked, AnswersTurn, DriveState, Plays, Refuses, Says, begun_in, done_if, done_line, driving, ending, error_line}
-use Rattle.gp_drive.specs.Outcome.{OpensFibre}
-use Rattle.gp_drive.specs.Runs.{ChassisDrivesRun, ComesTo, FibreDrivesRun, LineAnswer, Entries, ErrorLine, DoneLine, answer_text, answers_text, entries_in, entries_of, followed_by}
+use Rattle.gp_drive.specs.Runs.{ChassisDrivesRun, FibreDrivesRun, LineAnswer, Entries, UnitLine, ErrorLine, DoneLine, answer_text, answers_text, entries_in, entries_of, followed_by}
+use Rattle.gp_drive.specs.Shown.{shown_of, told_of, unit_line, unit_line_if, unit_shown}
 use Rattle.gp_drive.specs.Turns.{FramesPlayed, PlaysInVain, PlaysTo, PlaysTurn, PlaysUntil, PlaysWithout, all_of, event_of}
 use Rattle.gp_ranging.specs.declared.grant.Grant.{Grant}
 
@@ -65,6 +63,7 @@ turn_plays playing (asked.Event port event) old new receipts h = one_plays playi
 turn_plays playing (asked.Frames port count) old new receipts h = one_plays playing (events.Frames port count) old new receipts h
 turn_plays playing (asked.Until port grant most) old new receipts h = until_plays playing port grant most old new receipts h
 turn_plays playing (asked.Light unit lit) old new receipts h = one_plays playing (events.Light unit lit) old new receipts h
+turn_plays playing (asked.ShowUnit unit) old new receipts h = record { more = []; played = h }
 
 without_plays : {S : Type 0} (playing : Playing S) (turn : Asked) (old new : S) (receipts : List Receipt) → PlaysWithout playing turn old receipts new
     → SomePlay playing old receipts new
@@ -73,6 +72,7 @@ without_plays playing (asked.Event port event) old new receipts h = absurd h
 without_plays playing (asked.Frames port count) old new receipts h = absurd h
 without_plays playing (asked.Until port grant most) old new receipts h = vain_plays playing port grant most old new receipts h
 without_plays playing (asked.Light unit lit) old new receipts h = absurd h
+without_plays playing (asked.ShowUnit unit) old new receipts h = absurd h
 
 told_plays : {S : Type 0} (playing : Playing S) (turn : Asked) (fault : Option TurnFault) (old new : S) (receipts : List Receipt) → PlaysTo playing turn fault old receipts new
     → SomePlay playing old receipts new
@@ -116,6 +116,52 @@ ending_entries : (done : Bool) (line : ℕ) (fault : Option TurnFault) → entri
 ending_entries done line None = done_entries done line
 ending_entries done line (Some fault) = done_entries done line
 
+-- what is told of a unit
+abbrev unit_parts : ℕ → Option UnitStatus → List LineAnswer
+unit_parts unit None = []
+unit_parts unit (Some status) = UnitLine unit status ∷ []
+
+abbrev told_parts : {S : Type 0} → Playing S → S → Option ℕ → List LineAnswer
+told_parts playing state None = []
+told_parts playing state (Some unit) = unit_parts unit (playing.status state unit)
+
+abbrev shown_parts : {S : Type 0} → Playing S → Asked → S → List LineAnswer
+shown_parts playing turn state = told_parts playing state (unit_shown turn)
+
+unit_text : (mask : Mask) (unit : ℕ) (status : Option UnitStatus) → unit_line_if unit status ≡ answers_text mask (unit_parts unit status)
+unit_text mask unit None = refl
+unit_text mask unit (Some status) = sym (append-nil (unit_line unit status))
+
+told_text : {S : Type 0} (mask : Mask) (playing : Playing S) (state : S) (unit : Option ℕ) → told_of playing state unit ≡ answers_text mask (told_parts playing state unit)
+told_text mask playing state None = refl
+told_text mask playing state (Some unit) = unit_text mask unit (playing.status state unit)
+
+unit_entries : (unit : ℕ) (status : Option UnitStatus) → entries_of (unit_parts unit status) ≡ []
+unit_entries unit None = refl
+unit_entries unit (Some status) = refl
+
+told_entries : {S : Type 0} (playing : Playing S) (state : S) (unit : Option ℕ) → entries_of (told_parts playing state unit) ≡ []
+told_entries playing state None = refl
+told_entries playing state (Some unit) = unit_entries unit (playing.status state unit)
+
+-- what stands behind the lines of entries
+abbrev behind_parts : {S : Type 0} → Playing S → Asked → S → Bool → ℕ → Option TurnFault → List LineAnswer
+behind_parts playing turn state done line fault = shown_parts playing turn state ++ ending_parts done line fault
+
+behind_text : {S : Type 0} (mask : Mask) (playing : Playing S) (turn : Asked) (state : S) (done : Bool) (line : ℕ) (fault : Option TurnFault)
+    → shown_of playing turn state ++ ending done line fault ≡ answers_text mask (behind_parts playing turn state done line fault)
+behind_text mask playing turn state done line fault =
+    ap (λ (l : List ℕ). l ++ ending done line fault) (told_text mask playing state (unit_shown turn))
+    ∙ ap (λ (l : List ℕ). answers_text mask (shown_parts playing turn state) ++ l) (ending_text mask done line fault)
+    ∙ sym (answers_joined mask (shown_parts playing turn state) (ending_parts done line fault))
+
+behind_entries : {S : Type 0} (playing : Playing S) (turn : Asked) (state : S) (done : Bool) (line : ℕ) (fault : Option TurnFault)
+    → entries_of (behind_parts playing turn state done line fault) ≡ []
+behind_entries playing turn state done line fault =
+    entries_joined (shown_parts playing turn state) (ending_parts done line fault)
+    ∙ ap (λ (l : List Receipt). l ++ entries_of (ending_parts done line fault)) (told_entries playing state (unit_shown turn))
+    ∙ ending_entries done line fault
+
 -- ---- the answer to a line
 
 -- the answer is of entries that some events make, and errors that change nothing of the player
@@ -137,12 +183,12 @@ refused playing fault old said new h = record {
 played : {S : Type 0} (playing : Playing S) (turn : Asked) (fault : Option TurnFault) (old : DriveState S) (said : List ℕ) (new : DriveState S) → Plays playing turn fault old said new
     → IsAnswered playing old said new
 played playing turn fault old said new h =
-    let parts = ending_parts old.done (old.lines + 1) fault in
+    let parts = behind_parts playing turn new.player old.done (old.lines + 1) fault in
     let all : h.receipts ≡ h.receipts ++ entries_of parts =
-    sym (append-nil h.receipts) ∙ ap (λ (l : List Receipt). h.receipts ++ l) (sym (ending_entries old.done (old.lines + 1) fault)) in
+    sym (append-nil h.receipts) ∙ ap (λ (l : List Receipt). h.receipts ++ l) (sym (behind_entries playing turn new.player old.done (old.lines + 1) fault)) in
     record {
       answers = Entries h.receipts ∷ parts;
-      said_is = h.said_is ∙ ap (λ (l : List ℕ). trace_text old.mask h.receipts ++ l) (ending_text old.mask old.done (old.lines + 1) fault);
+      said_is = h.said_is ∙ ap (λ (l : List ℕ). trace_text old.mask h.receipts ++ l) (behind_text old.mask playing turn new.player old.done (old.lines + 1) fault);
       mask = h.mask;
       plays = subst (λ (l : List Receipt). SomePlay playing old.player l new.player) all (told_plays playing turn fault old.player new.player h.receipts h.played);
     }
@@ -160,7 +206,7 @@ turn_answered playing (Ok turn) old said new h = asked_answered playing turn _ o
 line_answered : {S : Type 0} (playing : Playing S) (line : Option (List ℕ)) (old : DriveState S) (said : List ℕ) (new : DriveState S)
     → Says playing old line said new → IsAnswered playing old said new
 line_answered playing None old said new h = refused playing _ old said new h
-line_answered playing (Some text) old said new h = turn_answered playing (turn_of text) old said new h
+line_answered playing (Some text) old said new h = turn_answered playing (turn_of old.mask text) old said new h
 
 -- ---- the answers to lines
 

@@ -16,6 +16,7 @@ use Rattle.gp_replay.specs.Playing.{Playing}
 use Rattle.gp_drive.specs.declared.fault.TurnFault.{TurnFault}
 use Rattle.gp_drive.specs.declared.fault.TurnFault.TheVariants.{NoTurn, NoPort, NoUnit, Never}
 use Rattle.gp_drive.specs.declared.manner.DriveManner.{DriveManner}
+use Rattle.gp_drive.specs.Shown.{shown_of}
 use Rattle.gp_drive.specs.Turns.{PlaysTo, PlaysTurnPart, cost_of, missing_in}
 
 -- where a drive stands: its player, the mask of the codes, whether it tells that a line is done, how many lines were
@@ -44,6 +45,7 @@ fault_word (NoTurn lines.Serial) = codes "serial"
 fault_word (NoTurn lines.Hex) = codes "hex"
 fault_word (NoTurn lines.Range) = codes "range"
 fault_word (NoTurn lines.Long) = codes "long"
+fault_word (NoTurn lines.Space) = codes "space"
 fault_word NoPort = codes "port"
 fault_word NoUnit = codes "unit"
 fault_word Never = codes "never"
@@ -82,13 +84,14 @@ pub record Refuses {S : Type 0} (fault : TurnFault) (old : DriveState S) (said :
   pub said_is : said ≡ ending old.done (old.lines + 1) (Some fault)
   pub new_is : new ≡ record old { lines = old.lines + 1; errors = old.errors + 1 }
 
--- what the line asks for is played, and the lines of its entries are the answer; behind them an error where the grant
--- that was asked for is made in none of its frames
+-- what the line asks for is played, and the lines of its entries are the answer; behind them what is told of the unit
+-- that it asks to be shown, or an error where the grant that was asked for is made in none of its frames
 pub record Plays {S : Type 0} (playing : Playing S) (turn : Asked) (fault : Option TurnFault) (old : DriveState S)
     (said : List ℕ) (new : DriveState S) : Type 0 where
   pub receipts : List Receipt
   pub played : PlaysTo playing turn fault old.player receipts new.player
-  pub said_is : said ≡ trace_text old.mask receipts ++ ending old.done (old.lines + 1) fault
+  pub said_is : said
+      ≡ trace_text old.mask receipts ++ (shown_of playing turn new.player ++ ending old.done (old.lines + 1) fault)
   pub mask : new.mask ≡ old.mask
   pub done : new.done ≡ old.done
   pub lines : new.lines ≡ old.lines + 1
@@ -114,7 +117,7 @@ AnswersTurn playing (Ok turn) old said new =
 -- what is said to a line, which is an error where it is too long
 abbrev pub Says : {S : Type 0} → Playing S → DriveState S → Option (List ℕ) → List ℕ → DriveState S → Type 0
 Says playing old None said new = Refuses (NoTurn lines.Long) old said new
-Says playing old (Some text) said new = AnswersTurn playing (turn_of text) old said new
+Says playing old (Some text) said new = AnswersTurn playing (turn_of old.mask text) old said new
 
 -- what the line asks for is played in part, since a fault came
 pub record PlaysPart {S : Type 0} (playing : Playing S) (turn : Asked) (old : DriveState S) (said : List ℕ)
@@ -127,7 +130,7 @@ pub record PlaysPart {S : Type 0} (playing : Playing S) (turn : Asked) (old : Dr
 abbrev pub SaysPart : {S : Type 0} → Playing S → DriveState S → Option (List ℕ) → List ℕ → DriveState S → Type 0
 SaysPart playing old None said new = ⊥
 SaysPart playing old (Some text) said new =
-    (turn : Asked) × (turn_of text ≡ Ok turn) × PlaysPart playing turn old said new
+    (turn : Asked) × (turn_of old.mask text ≡ Ok turn) × PlaysPart playing turn old said new
 
 -- ---- in parts
 

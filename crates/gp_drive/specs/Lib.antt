@@ -1,4 +1,5 @@
 pub mod Turns
+pub mod Shown
 pub mod Drive
 pub mod Outcome
 pub mod Runs

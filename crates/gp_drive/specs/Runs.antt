@@ -2,6 +2,7 @@
 use Rattle.std.specs.Prelude.{◌≡◌, ◌<◌, ℕ, List, [], ◌∷◌, ◌++◌, Option, length}
 use Rattle.gp_ploam.specs.declared.check.Mask.{Mask}
 use Rattle.gp_machine.specs.declared.entry.Receipt.{Receipt}
+use Rattle.gp_onu.specs.declared.status.UnitStatus.{UnitStatus}
 use Rattle.gp_script.specs.declared.script.ScriptEvent.{ScriptEvent}
 use Rattle.gp_script.specs.Script.{ScriptView}
 use Rattle.gp_trace.specs.Text.{trace_text}
@@ -13,16 +14,20 @@ use Rattle.gp_replay.specs.ScriptPlay.{Plays, ends_of}
 use Rattle.gp_drive.specs.declared.manner.DriveManner.{DriveManner}
 use Rattle.gp_drive.specs.Drive.{DriveState, begun_in, done_line, driving}
 use Rattle.gp_drive.specs.Outcome.{OpensFibre}
+use Rattle.gp_drive.specs.Shown.{unit_line}
 
--- a part of the answer to a line: the entries of what it asks for, an error line, or that the line is done
+-- a part of the answer to a line: the entries of what it asks for, what is told of a simulated unit, an error line, or
+-- that the line is done
 pub data LineAnswer : Type 0 where
   Entries : (receipts : List Receipt) → LineAnswer
+  UnitLine : (unit : ℕ) (status : UnitStatus) → LineAnswer
   ErrorLine : (text : List ℕ) → LineAnswer
   DoneLine : (line : ℕ) → LineAnswer
 
 -- the text of an answer
 abbrev pub answer_text : Mask → LineAnswer → List ℕ
 answer_text mask (Entries receipts) = trace_text mask receipts
+answer_text mask (UnitLine unit status) = unit_line unit status
 answer_text mask (ErrorLine text) = text
 answer_text mask (DoneLine line) = done_line line
 
@@ -34,6 +39,7 @@ answers_text mask (answer ∷ answers) = answer_text mask answer ++ answers_text
 -- the entries of an answer
 abbrev pub entries_in : LineAnswer → List Receipt
 entries_in (Entries receipts) = receipts
+entries_in (UnitLine unit status) = []
 entries_in (ErrorLine text) = []
 entries_in (DoneLine line) = []
 
@@ -46,8 +52,8 @@ entries_of (answer ∷ answers) = entries_in answer ++ entries_of answers
 abbrev pub followed_by : ScriptView → List ScriptEvent → ScriptView
 followed_by script more = record script { events = script.events ++ more }
 
--- the lines asked for further events; what was said to them are the lines of their entries, with the errors, and that
--- lines are done, between; and
+-- the lines asked for further events; what was said to them are the lines of their entries, with what was told of
+-- units, the errors, and that lines are done, between; and
 -- all entries, those of the script's own events first, are a play of the script with these events behind its own, in
 -- which each port makes a run of the activation machine
 pub record ComesTo (script : ScriptView) (receipts : List Receipt) (said : List ℕ) : Type 0 where

@@ -76,7 +76,7 @@ pub record PlaysUntilPart {S : Type 0} (playing : Playing S) (port : ℕ) (grant
 
 -- ---- turns
 
--- what a line asks for is played
+-- what a line asks for is played; where it asks for a unit to be shown, nothing is
 abbrev pub PlaysTurn : {S : Type 0} → Playing S → Asked → Happening S
 PlaysTurn playing asked.Nothing old receipts new = (new ≡ old) × (receipts ≡ [])
 PlaysTurn playing (asked.Event port event) old receipts new = playing.whole (event_of port event) old receipts new
@@ -85,6 +85,7 @@ PlaysTurn playing (asked.Frames port count) old receipts new =
 PlaysTurn playing (asked.Until port grant most) old receipts new =
     PlaysUntil playing port grant most old receipts new
 PlaysTurn playing (asked.Light unit lit) old receipts new = playing.whole (events.Light unit lit) old receipts new
+PlaysTurn playing (asked.ShowUnit unit) old receipts new = (new ≡ old) × (receipts ≡ [])
 
 -- what a line asks for is played, but the grant up to which frames were asked for is made in none of them
 abbrev pub PlaysWithout : {S : Type 0} → Playing S → Asked → Happening S
@@ -111,6 +112,7 @@ PlaysTurnPart playing (asked.Frames port count) old receipts new =
 PlaysTurnPart playing (asked.Until port grant most) old receipts new =
     PlaysUntilPart playing port grant most old receipts new
 PlaysTurnPart playing (asked.Light unit lit) old receipts new = playing.part (events.Light unit lit) old receipts new
+PlaysTurnPart playing (asked.ShowUnit unit) old receipts new = (new ≡ old) × (receipts ≡ [])
 
 -- the first of so many ports or units that a line asks for and that is not there
 abbrev pub missing_in : ℕ → ℕ → Asked → Option TurnFault
@@ -119,11 +121,13 @@ missing_in ports units (asked.Event port event) = if nat_lt port ports then None
 missing_in ports units (asked.Frames port count) = if nat_lt port ports then None else Some NoPort
 missing_in ports units (asked.Until port grant most) = if nat_lt port ports then None else Some NoPort
 missing_in ports units (asked.Light unit lit) = if nat_lt unit units then None else Some NoUnit
+missing_in ports units (asked.ShowUnit unit) = if nat_lt unit units then None else Some NoUnit
 
--- how many frames a line asks for at most, or that it asks for one other thing
+-- how many frames a line asks for at most, or that it asks for one other thing to happen
 abbrev pub cost_of : Asked → ℕ
 cost_of asked.Nothing = 0
 cost_of (asked.Event port event) = 1
 cost_of (asked.Frames port count) = count
 cost_of (asked.Until port grant most) = most
 cost_of (asked.Light unit lit) = 1
+cost_of (asked.ShowUnit unit) = 0

@@ -1,3 +1,4 @@
+//! What a drive does with one line, and where it stands between two.
 ghost use Rattle.std.specs.Prelude.{◌≡◌, ◌≤◌, ◌⊎◌, None, Err};
 ghost use Rattle.gp_flow.specs.Lines.{Answers};
 ghost use Rattle.gp_flow.specs.declared.fault.LineFault.TheVariants as lines;
@@ -8,6 +9,7 @@ ghost use Rattle.gp_drive.specs.Turns.{cost_of, missing_in};
 use crate::ending::{errors_of, put_ending};
 use crate::fault::TurnFault;
 use crate::manner::DriveManner;
+use crate::shown::put_behind;
 use crate::turn::{cost_of, missing_in, play_turn};
 use gp_flow::{LineFault, LineWork};
 use gp_lines::{Asked, LineFault as Fault, parse_turn};
@@ -21,7 +23,8 @@ use std::marker::Model;
 /// The most frames and other events that all lines of a drive together may ask for (this profile's own rule).
 pub const MOST_TURNS: u64 = 2_251_799_813_685_248;
 
-/// Answers lines that ask for something on a player: each by the trace lines of its entries, or by an error line.
+/// Answers lines that ask for something on a player: each by the trace lines of its entries, by what a simulated unit
+/// is, or by an error line.
 /// Contracts see the player, how many lines were answered, and how many of them by an error.
 ///
 /// It has no `Drop`: its player is given back by `into_player`.
@@ -93,6 +96,13 @@ impl<P: EventPlayer> Driver<P> {
         self.errors
     }
 
+    /// The mask of the codes.
+    fn mask(&self) -> Mask
+        ensures { result ≡ self.now.mask }
+    {
+        self.mask
+    }
+
     /// Gives the player back.
     pub fn into_player(self) -> P
         ensures { result ≡ self.player }
@@ -137,7 +147,8 @@ impl<P: EventPlayer> Driver<P> {
         match play_turn(&mut self.player, sink, &mut self.buffer, self.mask, asked) {
             Ok(told) => {
                 self.left -= cost;
-                put_ending(sink, self.manner.done, self.lines + 1, told)?;
+                let done = self.manner.done;
+                put_behind(sink, &self.player, asked, done, self.lines + 1, told)?;
                 self.lines += 1;
                 self.errors += errors_of(told);
                 Ok(())
@@ -184,7 +195,7 @@ impl<P: EventPlayer> LineWork for Driver<P> {
     }
 
     fn line<W: Write>(&mut self, text: &[u8], sink: &mut Sink<W>) -> Result<(), LineFault> {
-        match parse_turn(text) {
+        match parse_turn(self.mask(), text) {
             Err(fault) => self.refuse(sink, TurnFault::NoTurn(fault)),
             Ok(asked) => self.answer(sink, asked),
         }

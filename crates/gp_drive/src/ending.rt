@@ -9,7 +9,11 @@ use itoa::Buffer;
 use std::io::Write;
 
 /// Puts a text, and a number behind it.
-fn put_numbered<W: Write>(sink: &mut Sink<W>, text: &[u8], number: u64) -> Result<(), WriteStopped>
+pub(crate) fn put_numbered<W: Write>(
+    sink: &mut Sink<W>,
+    text: &[u8],
+    number: u64,
+) -> Result<(), WriteStopped>
     ensures { HandsIn sink.old sink.new (text.now ++ decimal number) result }
 {
     let mut digits = Buffer::new();

@@ -1,3 +1,4 @@
+//! Why a line was answered by an error, and why a drive ended early.
 ghost use Rattle.std.specs.Prelude.{◌≡◌};
 ghost use Rattle.gp_drive.specs.Drive.{fault_word};
 ghost use Rattle.gp_drive.specs.declared.fault.DriveFault.TheVariants.{Script, Turns};
@@ -37,6 +38,7 @@ impl TurnFault {
             TurnFault::NoTurn(LineFault::Hex) => "hex",
             TurnFault::NoTurn(LineFault::Range) => "range",
             TurnFault::NoTurn(LineFault::Long) => "long",
+            TurnFault::NoTurn(LineFault::Space) => "space",
             TurnFault::NoPort => "port",
             TurnFault::NoUnit => "unit",
             TurnFault::Never => "never",

@@ -39,7 +39,7 @@ pub(crate) fn missing_in(ports: usize, units: usize, asked: Asked) -> Option<Tur
                 Some(TurnFault::NoPort)
             }
         }
-        Asked::Light { unit, .. } => {
+        Asked::Light { unit, .. } | Asked::ShowUnit { unit } => {
             if usize::from(unit) < units {
                 None
             } else {
@@ -49,12 +49,12 @@ pub(crate) fn missing_in(ports: usize, units: usize, asked: Asked) -> Option<Tur
     }
 }
 
-/// How many frames a line asks for at most, or that it asks for one other thing.
+/// How many frames a line asks for at most, or that it asks for one other thing to happen.
 pub(crate) fn cost_of(asked: Asked) -> u64
     ensures { result ≡ cost_of asked }
 {
     match asked {
-        Asked::Nothing => 0,
+        Asked::Nothing | Asked::ShowUnit { .. } => 0,
         Asked::Event { .. } | Asked::Light { .. } => 1,
         Asked::Frames { port: _, count } => u64::from(count),
         Asked::Until {
@@ -91,7 +91,8 @@ fn play_until<P: EventPlayer, W: Write>(
     Ok(Some(TurnFault::Never))
 }
 
-/// Plays what a line asks for, writes its lines, and tells what is then wrong with it.
+/// Plays what a line asks for, writes its lines, and tells what is then wrong with it. Of a line that asks for a unit to
+/// be shown, nothing is played.
 pub(crate) fn play_turn<P: EventPlayer, W: Write>(
     player: &mut P,
     sink: &mut Sink<W>,
@@ -107,6 +108,7 @@ pub(crate) fn play_turn<P: EventPlayer, W: Write>(
 {
     let event = match asked {
         Asked::Nothing => return Ok(None),
+        Asked::ShowUnit { .. } => return Ok(None),
         Asked::Until { port, grant, most } => {
             return play_until(player, sink, buffer, mask, port, grant, most);
         }

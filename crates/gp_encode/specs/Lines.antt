@@ -23,6 +23,7 @@ part_name parts.Serial = codes "serial"
 part_name parts.Hex = codes "hex"
 part_name parts.Range = codes "range"
 part_name parts.Long = codes "long"
+part_name parts.Space = codes "space"
 
 -- the name of a fault of words
 abbrev pub fault_name : WordsFault → List ℕ

@@ -21,6 +21,7 @@ fn part_name(fault: PartFault) -> &'static str
         PartFault::Hex => "hex",
         PartFault::Range => "range",
         PartFault::Long => "long",
+        PartFault::Space => "space",
     }
 }
 

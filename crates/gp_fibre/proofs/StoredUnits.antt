@@ -30,7 +30,9 @@ use Rattle.gp_timers.specs.Timers.{DueFrames, Timers, IsFirstDue, NoneIsDue}
 use Rattle.gp_fibre.specs.declared.stored_unit.StoredUnit.{StoredUnit}
 use Rattle.gp_fibre.specs.declared.unit_plan.UnitPlan.{UnitPlan}
 use Rattle.gp_fibre.specs.declared.world.TheConstants.{MAX_FRAMES}
-use Rattle.gp_fibre.specs.World.{FibreUnit, planned_unit}
+use Rattle.gp_onu.specs.declared.status.UnitStatus.{UnitStatus}
+use Rattle.gp_onu.specs.Status.{status_of}
+use Rattle.gp_fibre.specs.World.{FibreUnit, planned_unit, status_at}
 use Rattle.gp_fibre.specs.Step.{ChangesAt, burst_with, unit_granted, unit_hearing, unit_taking}
 use Rattle.gp_fibre.specs.declared.asked_by.AskedBy.{AskedBy}
 use Rattle.gp_fibre.specs.declared.asked_by.AskedBy.TheVariants.{Nothing}
@@ -584,3 +586,29 @@ module _ (old : UnitStoreState) (mask : Mask) (frames : ℕ) (stored_units : Lis
       let at_x : count (get_or stored_units place x) ≡ 1 = ap count (sym is) ∙ ends frames x ending_due in
       let at_y : count y ≡ 0 = not_ends frames y (λ d e. let l : y.brought + 1 ≤ d = later d (value ∙ e) in let now : y.brought ≡ frames = ap (λ (s : StoredUnit). s.brought) passed in omega arith) in
       omega arith
+
+-- ---- what a unit is
+
+status_kept : (s : Serial) (m : Mask) (l : Bool) (stage : Stage) (k : ℕ) → status_of (unit_later (unit s m l stage) k) ≡ status_of (unit s m l stage)
+status_kept s m l Initial k = refl
+status_kept s m l Standby k = refl
+status_kept s m l (SerialNumber f) k = refl
+status_kept s m l (Ranging n f) k = refl
+status_kept s m l (Operation n d o) k = refl
+status_kept s m l (Popup n d o f) k = refl
+status_kept s m l EmergencyStop k = refl
+
+-- a unit that is stored is what it was when it was brought up to date
+pub status_there : (mask : Mask) (frames : ℕ) (stored_units : List StoredUnit) (timers : Timers) → IsUnitStore mask frames (frames + 1) stored_units timers → (place : ℕ) (x : StoredUnit)
+    → slice_get stored_units place ≡ Some x → status_at (units_at frames stored_units) place ≡ Some (status_of x.unit)
+status_there mask frames stored_units timers kept place x there =
+    let stored : IsStoredUnit mask frames (frames + 1) x =
+    subst (λ (s : StoredUnit). IsStoredUnit mask frames (frames + 1) s) (get_or_from_slice_get stored_units place x x there)
+    (kept.each place x (slice_get_within stored_units place x there)) in
+    ap (option_map (λ (u : FibreUnit). status_of u.state)) (slice_get-map (unit_at frames) stored_units place ∙ ap (option_map (unit_at frames)) there)
+    ∙ ap (λ (u : UnitState). Some (status_of u)) (later_unit mask frames x stored)
+    ∙ ap (λ (status : UnitStatus). Some status) (status_kept x.unit.serial x.unit.mask x.unit.lit x.unit.stage (frames - x.brought))
+
+pub status_nowhere : (frames : ℕ) (stored_units : List StoredUnit) (place : ℕ) → slice_get stored_units place ≡ None → status_at (units_at frames stored_units) place ≡ None
+status_nowhere frames stored_units place none =
+    ap (option_map (λ (u : FibreUnit). status_of u.state)) (slice_get-map (unit_at frames) stored_units place ∙ ap (option_map (unit_at frames)) none)

@@ -1,6 +1,7 @@
 -- A fibre: one port, and the simulated units that it reaches (this profile's own rule).
 use Rattle.std.specs.Prelude.{ℕ, nat_le, nat_lt, Bool, false, ◌&&◌, if◌then◌else◌, List, [], length, map, Option, None, slice_get}
 use Rattle.std.specs.List.{list_all}
+use Rattle.std.specs.Option.{option_map}
 use Rattle.gp_licence.specs.Limits.{max_licences}
 use Rattle.gp_ploam.specs.declared.message.Down.{Down}
 use Rattle.gp_ploam.specs.declared.check.Mask.{Mask}
@@ -10,6 +11,8 @@ use Rattle.gp_machine.specs.Config.{is_within_limits}
 use Rattle.gp_machine.specs.State.{PortState, opening_of}
 use Rattle.gp_onu.specs.Limits.{max_delay, max_random_delay, max_simulated_units}
 use Rattle.gp_onu.specs.declared.stage.Stage.TheVariants.{Initial}
+use Rattle.gp_onu.specs.declared.status.UnitStatus.{UnitStatus}
+use Rattle.gp_onu.specs.Status.{status_of}
 use Rattle.gp_onu.specs.Table.{UnitState, Light, unit_after}
 use Rattle.gp_fibre.specs.declared.unit_plan.UnitPlan.{UnitPlan}
 use Rattle.gp_fibre.specs.declared.sent_burst.SentBurst.{SentBurst}
@@ -19,6 +22,10 @@ pub record FibreUnit : Type 0 where
   pub state : UnitState
   pub delay : ℕ
   pub random : ℕ
+
+-- what the unit at a place is, if there is one
+abbrev pub status_at : List FibreUnit → ℕ → Option UnitStatus
+status_at units place = option_map (λ (unit : FibreUnit). status_of unit.state) (slice_get units place)
 
 -- how many of the copies, grants and bursts were forgotten, from number 0 on: nobody can ask for these any more
 pub record Forgotten : Type 0 where

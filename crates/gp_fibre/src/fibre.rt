@@ -7,7 +7,7 @@ ghost use Rattle.gp_onu.specs.Table.{Dark, Light};
 ghost use Rattle.gp_fibre.specs.declared.world.TheConstants.{MAX_FRAMES};
 ghost use Rattle.gp_fibre.specs.UnitStore.{IsNextAsked, IsNextOf, onu_id_meant};
 ghost use Rattle.gp_fibre.specs.Forgetting.{FibreForgets, forgotten_before};
-ghost use Rattle.gp_fibre.specs.World.{kept_at, nothing_forgotten};
+ghost use Rattle.gp_fibre.specs.World.{kept_at, nothing_forgotten, status_at};
 ghost use Rattle.gp_fibre.specs.Step.{PortTakes, UnitAnswers, UnitChanges, purse_for, unit_hearing, unit_taking, world_after_frame};
 
 use super::sent::Sent;
@@ -15,6 +15,7 @@ use super::sent_burst::SentBurst;
 use super::unit_store::UnitStore;
 use gp_licence::{LicenceBook, Licences};
 use gp_machine::{Answer, Entry, Event, Reply};
+use gp_onu::UnitStatus;
 use gp_ploam::Down;
 use gp_port::PortCore;
 use gp_ranging::Grant;
@@ -182,6 +183,13 @@ impl<L: Ledger> Fibre<L> {
         ensures few { result ≤ MAX_SIMULATED_UNITS }
     {
         self.store.len()
+    }
+
+    /// Tells what the unit at a place is, if there is one.
+    pub fn status(&self, place: usize) -> Option<UnitStatus>
+        ensures { result ≡ status_at self.now.world.units place }
+    {
+        self.store.status(place)
     }
 
     /// Tells how many copies were sent.

@@ -6,7 +6,7 @@ ghost use Rattle.gp_onu.specs.declared.limits.TheConstants.{MAX_DELAY, MAX_RANDO
 ghost use Rattle.gp_onu.specs.Table.{Dark, Frame, Light};
 ghost use Rattle.std.specs.FinMap.{get};
 ghost use Rattle.gp_fibre.specs.declared.world.TheConstants.{MAX_FRAMES};
-ghost use Rattle.gp_fibre.specs.World.{planned_unit};
+ghost use Rattle.gp_fibre.specs.World.{planned_unit, status_at};
 ghost use Rattle.gp_fibre.specs.Step.{ChangesAt, burst_with, unit_hearing, unit_taking};
 ghost use Rattle.gp_fibre.specs.UnitStore.{Answers, IsNextAsked, IsNextOf, due_of, unit_at, with_timer};
 ghost use Rattle.gp_fibre.specs.UnitStore as spec;
@@ -15,6 +15,7 @@ use super::asked_units::AskedUnits;
 use super::sent_burst::SentBurst;
 use super::stored_unit::StoredUnit;
 use super::unit_plan::UnitPlan;
+use gp_onu::UnitStatus;
 use gp_ploam::{BROADCAST_ONU, Down, Mask, down_round_trip, encode_down};
 use gp_ranging::Grant;
 use gp_timers::{TimerFault, Wheel};
@@ -87,6 +88,17 @@ impl UnitStore {
         ensures fits { result ≤ MAX_FRAMES }
     {
         self.frames
+    }
+
+    /// Tells what the unit at a place is, if there is one. It need not be up to date for that: frames that don't end
+    /// its state change nothing of it.
+    pub fn status(&self, place: usize) -> Option<UnitStatus>
+        ensures { result ≡ status_at self.now.units place }
+    {
+        match self.stored_units.get(place) {
+            Some(stored) => Some(stored.unit.status()),
+            None => None,
+        }
     }
 
     /// Lets a copy of a message reach a unit. One that it surely passes over costs a comparison or two.

@@ -18,7 +18,7 @@ use super::unit_store::UnitStore;
 use super::world_step::WorldStep;
 use gp_licence::{LicenceBook, MAX_LICENCES};
 use gp_machine::{Entry, Event, PortConfig};
-use gp_onu::{MAX_DELAY, MAX_RANDOM_DELAY, MAX_SIMULATED_UNITS};
+use gp_onu::{MAX_DELAY, MAX_RANDOM_DELAY, MAX_SIMULATED_UNITS, UnitStatus};
 use gp_port::{OpenFault, PortCore};
 use std::alloc::Global;
 use std::marker::Model;
@@ -342,6 +342,13 @@ impl<L: Ledger> World<L> {
         ensures { result ≡ length self.now.fibre.units }
     {
         self.fibre.units()
+    }
+
+    /// Tells what the simulated unit at this place is after the frames so far, if there is one.
+    pub fn unit_status(&self, unit: u16) -> Option<UnitStatus>
+        ensures { result ≡ spec.status_at self.now.fibre.units unit }
+    {
+        self.fibre.status(usize::from(unit))
     }
 
     /// Ends the world, and says how many licences it was begun with: all are back.

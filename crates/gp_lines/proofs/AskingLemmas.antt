@@ -1,5 +1,5 @@
 -- Lines that are read as what they were written for.
-use Rattle.std.proofs.Common.{◌≡◌, ℕ, ◌==◌, ◌<◌, ◌≤◌, ◌^◌, Bool, true, false, List, [], ◌∷◌, ◌++◌, length, codes, refl, sym, ap, ◌∙◌, inr, arith, append_assoc, length-append}
+use Rattle.std.proofs.Common.{◌≡◌, ℕ, ◌==◌, ◌<◌, ◌≤◌, ◌^◌, Bool, true, false, List, [], ◌∷◌, ◌++◌, length, codes, refl, sym, ap, ◌∙◌, inl, inr, arith, append_assoc, length-append}
 use Rattle.std.specs.Prelude.{decimal}
 use Rattle.std.proofs.lemmas.Bool.Decides.{nat_tests}
 use Rattle.std.proofs.lemmas.Fmt.{decimal_is_IsNumeral}
@@ -10,6 +10,7 @@ use Rattle.gp_ranging.specs.declared.grant.Grant.{Grant}
 use Rattle.gp_ranging.specs.declared.grant.Grant.TheVariants as grants
 use Rattle.gp_trace.specs.Reply.{numbered}
 use Rattle.gp_trace.specs.Text.{event_text}
+use Rattle.gp_ploam.specs.declared.check.Mask.{Mask}
 use Rattle.gp_lines.specs.declared.turn.Asked.{Asked}
 use Rattle.gp_lines.specs.declared.turn.Asked.TheVariants as asked
 use Rattle.gp_lines.specs.Parts.{is_space, parts_of}
@@ -56,6 +57,9 @@ turn_inside (asked.Until port grant most) =
 turn_inside (asked.Light unit lit) =
     both_inside (numbered (codes "unit") unit ++ codes " ") (light_word lit)
     (both_inside (numbered (codes "unit") unit) (codes " ") (numbered_inside (codes "unit") unit refl) (word_inside (codes " ") refl)) (light_inside lit)
+turn_inside (asked.ShowUnit unit) =
+    both_inside (numbered (codes "unit") unit ++ codes " ") (codes "show")
+    (both_inside (numbered (codes "unit") unit) (codes " ") (numbered_inside (codes "unit") unit refl) (word_inside (codes " ") refl)) (word_inside (codes "show") refl)
 
 -- ---- the length
 
@@ -94,6 +98,11 @@ turn_short (asked.Light unit lit) can =
     let middle = length-append (numbered (codes "unit") unit) (codes " ") in
     let all = length-append (numbered (codes "unit") unit ++ codes " ") (light_word lit) in
     omega (arith, front, middle, all, light_short lit)
+turn_short (asked.ShowUnit unit) can =
+    let front = numbered_short (codes "unit") unit in
+    let middle = length-append (numbered (codes "unit") unit) (codes " ") in
+    let all = length-append (numbered (codes "unit") unit ++ codes " ") (codes "show") in
+    omega (arith, front, middle, all)
 
 -- ---- the parts
 
@@ -132,6 +141,10 @@ light_parts : (lit : Bool) → parts_of (light_word lit) ≡ light_word lit ∷ 
 unfolding parts_of
 light_parts true = refl
 light_parts false = refl
+
+show_parts : parts_of (codes "show") ≡ codes "show" ∷ []
+unfolding parts_of
+show_parts = refl
 
 grant_told : (grant : Grant) → IsGrantToAsk grant → SpellsGrant (parts_of (grant_words grant)) grant
 unfolding parts_of
@@ -182,19 +195,19 @@ until_told (grants.Poll onu) most can few =
 
 -- ---- what is asked for
 
-asked_told : (x : Asked) → CanBeAsked x → SpellsAsked (turn_text x) x
-asked_told asked.Nothing can = refl
-asked_told (asked.Event port event) can =
+asked_told : (mask : Mask) (x : Asked) → CanBeAsked x → SpellsAsked mask (turn_text x) x
+asked_told mask asked.Nothing can = refl
+asked_told mask (asked.Event port event) can =
     let small : port < 2 ^ 64 = omega (arith, can.0) in
-    (parts_of (event_text event), (decimal port, number_parts port (event_text event) small, decimal_is_IsNumeral port small, can.0), event_told event can.1)
-asked_told (asked.Frames port count) can =
+    (parts_of (event_text event), (decimal port, number_parts port (event_text event) small, decimal_is_IsNumeral port small, can.0), inl (event_told event can.1))
+asked_told mask (asked.Frames port count) can =
     let small : port < 2 ^ 64 = omega (arith, can.0) in
     let few : count < 2 ^ 64 = omega (arith, can.2) in
     let regrouped = append_assoc (decimal port) (codes " frame ") (decimal count) ∙ sym (append_assoc (decimal port) (codes " ") (codes "frame " ++ decimal count)) in
     let behind = frame_parts (decimal count) ∙ ap (λ (ps : List (List ℕ)). codes "frame" ∷ ps) (one_number count few) in
     let apart = ap parts_of regrouped ∙ number_parts port (codes "frame " ++ decimal count) small ∙ ap (λ (ps : List (List ℕ)). decimal port ∷ ps) behind in
     (decimal count, (decimal port, apart, decimal_is_IsNumeral port small, can.0), decimal_is_IsNumeral count few, can.1, can.2)
-asked_told (asked.Until port grant most) can =
+asked_told mask (asked.Until port grant most) can =
     let small : port < 2 ^ 64 = omega (arith, can.0) in
     let few : most < 2 ^ 64 = omega (arith, can.3) in
     let words = until_words grant most in
@@ -206,12 +219,17 @@ asked_told (asked.Until port grant most) can =
       grant_told grant can.1,
       inr (decimal most, refl, decimal_is_IsNumeral most few, can.2, can.3),
     )
-asked_told (asked.Light unit lit) can =
+asked_told mask (asked.Light unit lit) can =
     let small : unit < 2 ^ 64 = omega (arith, can) in
     let behind = number_parts unit (light_word lit) small ∙ ap (λ (ps : List (List ℕ)). decimal unit ∷ ps) (light_parts lit) in
     let apart = unit_parts ((decimal unit ++ codes " ") ++ light_word lit) ∙ ap (λ (ps : List (List ℕ)). codes "unit" ∷ ps) behind in
     (decimal unit, apart, decimal_is_IsNumeral unit small, can)
+asked_told mask (asked.ShowUnit unit) can =
+    let small : unit < 2 ^ 64 = omega (arith, can) in
+    let behind = number_parts unit (codes "show") small ∙ ap (λ (ps : List (List ℕ)). decimal unit ∷ ps) show_parts in
+    let apart = unit_parts ((decimal unit ++ codes " ") ++ codes "show") ∙ ap (λ (ps : List (List ℕ)). codes "unit" ∷ ps) behind in
+    (decimal unit, apart, decimal_is_IsNumeral unit small, can)
 
-pub turn_told : (x : Asked) → CanBeAsked x → SpellsTurn (turn_text x) x
-turn_told x can =
-    (turn_short x can, rw (text_kept (turn_text x) (turn_inside x)) (asked_told x can))
+pub turn_told : (mask : Mask) (x : Asked) → CanBeAsked x → SpellsTurn mask (turn_text x) x
+turn_told mask x can =
+    (turn_short x can, rw (text_kept (turn_text x) (turn_inside x)) (asked_told mask x can))

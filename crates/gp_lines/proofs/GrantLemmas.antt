@@ -1,5 +1,5 @@
 -- Frames up to a grant, as a line asks for them.
-use Rattle.std.proofs.Common.{◌≡◌, ℕ, ◌≤◌, List, [], ◌∷◌, ◌++◌, Option, None, Some, Result, Ok, Err, codes, refl, sym, ap, subst, ◌∙◌, ◌⊎◌, inl, inr, arith}
+use Rattle.std.proofs.Common.{◌≡◌, ℕ, List, [], ◌∷◌, ◌++◌, Option, None, Some, Ok, Err, codes, refl, sym, ap, subst, ◌∙◌, ◌⊎◌, inl, inr, arith}
 use Rattle.std.specs.Str.Parse.{digits_value}
 use Rattle.gp_ranging.specs.declared.grant.Grant.{Grant}
 use Rattle.gp_ranging.specs.declared.grant.Grant.TheVariants as grants
@@ -9,7 +9,8 @@ use Rattle.gp_lines.specs.declared.turn.Asked.{Asked}
 use Rattle.gp_lines.specs.declared.turn.Asked.TheVariants as asked
 use Rattle.gp_lines.specs.Parts.{parts_of}
 use Rattle.gp_lines.specs.Turn.{SpellsGrant, SpellsBound}
-use Rattle.gp_lines.specs.TurnFault.{HasNumberFault, NameOnu, AreOfBound, AreOfSearch, AreOfOnu, HasBoundFault, IsOnu, HaveGrantFault}
+use Rattle.gp_lines.specs.Fault.{HasNumberFault}
+use Rattle.gp_lines.specs.TurnFault.{NameOnu, AreOfBound, AreOfSearch, AreOfOnu, HasBoundFault, IsOnu, HaveGrantFault}
 use Rattle.gp_lines.specs.Reading.{number_in, two_of}
 use Rattle.gp_lines.specs.TurnReading.{range_grant, poll_grant, onu_grant, within_of, bound_of, most_of, search_turn, onu_turn, named_turn, grant_turn, until_turn}
 use Rattle.gp_lines.proofs.PartsLemmas.{parts_some}

@@ -1,10 +1,11 @@
 -- What a text begins with, and the lines and turns that are read by it.
-use Rattle.std.proofs.Common.{◌≡◌, ℕ, suc, ◌+◌, ◌-◌, ◌<◌, ◌≤◌, List, [], ◌∷◌, ◌++◌, take, drop, length, codes, Ok, refl, sym, ap, ◌∙◌, arith, append_assoc, get_or, take-append-drop, drop-cons, add-one, ◌^◌}
+use Rattle.std.proofs.Common.{◌≡◌, ℕ, suc, ◌+◌, ◌-◌, ◌<◌, ◌≤◌, List, [], ◌∷◌, ◌++◌, take, drop, length, codes, Ok, refl, sym, ap, ◌∙◌, arith, append_assoc, get_or, take-append-drop, drop-cons, add-one, ◌^◌, inl}
 use Rattle.std.proofs.lemmas.List.{append-nil, length-take-le, take_rest}
 use Rattle.std.proofs.lemmas.List.Splits.{slice_split_at}
 use Rattle.std.specs.List.{All}
 use Rattle.gp_machine.specs.declared.event.Event.{Event}
 use Rattle.gp_machine.specs.declared.event.Event.TheVariants.{Frame, Burst}
+use Rattle.gp_ploam.specs.declared.check.Mask.{Mask}
 use Rattle.gp_lines.specs.declared.turn.Asked.TheVariants as asked
 use Rattle.gp_lines.specs.Leading.{NumberLeads, EventLeads}
 use Rattle.gp_lines.specs.Parts.{is_space, parts_of}
@@ -78,11 +79,11 @@ unfolding parts_of
 port_parts first rest plain = slice_split_at is_space first 32 rest (unspaced first plain) refl
 
 -- a port, an event, and nothing else
-pub turn_whole : (text told rest : List ℕ) (port : ℕ) (event : Event) → NumberLeads text port told → EventLeads told event rest → length rest ≡ 0 → port ≤ 15
-    → turn_of_parts (parts_of text) ≡ Ok (asked.Event port event)
-turn_whole text told [] port event n e none low =
+pub turn_whole : (mask : Mask) (text told rest : List ℕ) (port : ℕ) (event : Event) → NumberLeads text port told → EventLeads told event rest → length rest ≡ 0 → port ≤ 15
+    → turn_of_parts mask (parts_of text) ≡ Ok (asked.Event port event)
+turn_whole mask text told [] port event n e none low =
     let apart : parts_of text ≡ n.digits ∷ parts_of e.words =
     ap parts_of (n.apart ∙ ap (λ (l : List ℕ). n.digits ++ (codes " " ++ l)) (e.apart ∙ append-nil e.words))
     ∙ port_parts n.digits e.words (numeral_plain n.digits n.spelled.0) in
-    text_again text (asked.Event port event) tt (parts_of e.words, (n.digits, apart, n.spelled, low), e.told)
-turn_whole text told (octet ∷ rest) port event n e none low = absurd (omega arith)
+    text_again mask text (asked.Event port event) tt (parts_of e.words, (n.digits, apart, n.spelled, low), inl e.told)
+turn_whole mask text told (octet ∷ rest) port event n e none low = absurd (omega arith)

@@ -6,7 +6,8 @@ use Rattle.std.specs.Str.{bytes_eq}
 use Rattle.gp_lines.specs.declared.fault.LineFault.{LineFault}
 use Rattle.gp_lines.specs.declared.fault.LineFault.TheVariants as fault
 use Rattle.gp_lines.specs.Spelling.{SpellsNumber}
-use Rattle.gp_lines.specs.TurnFault.{HasNumberFault, HaveOneFault}
+use Rattle.gp_lines.specs.Fault.{HasNumberFault}
+use Rattle.gp_lines.specs.TurnFault.{HaveOneFault}
 use Rattle.gp_lines.specs.Reading.{number_in, one_of, two_of}
 use Rattle.gp_lines.specs.TurnReading.{one_number}
 use Rattle.gp_lines.proofs.ReadLemmas.{err_same, IsNumberRead, number_ok, number_back, number_err, number_none, number_over, number_under}
@@ -40,6 +41,7 @@ outside_again low high text fault.Hex h = absurd h
 outside_again low high text fault.Range (is, inl under) = number_under low high text is under
 outside_again low high text fault.Range (is, inr over) = number_over low high text is over
 outside_again low high text fault.Long h = absurd h
+outside_again low high text fault.Space h = absurd h
 
 -- two parts are missing
 pub two_missing : (parts : List (List ℕ)) (f : LineFault) → two_of parts ≡ Err f → ◌≡◌ {A = Result (List ℕ × List ℕ) LineFault} (Err fault.Word) (Err f)

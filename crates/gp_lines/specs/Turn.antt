@@ -1,14 +1,19 @@
 -- A line that asks for something (this profile's own rule).
 use Rattle.std.specs.Prelude.{◌≡◌, ℕ, ◌==◌, ◌≤◌, Bool, true, false, List, [], ◌∷◌, ◌++◌, length, ◌⊎◌, if◌then◌else◌, codes, decimal, ⊤}
 use Rattle.gp_ploam.specs.OnuIds.{last_onu}
+use Rattle.gp_ploam.specs.declared.check.Mask.{Mask}
 use Rattle.gp_ranging.specs.declared.grant.Grant.{Grant}
 use Rattle.gp_ranging.specs.declared.grant.Grant.TheVariants as grants
+use Rattle.gp_machine.specs.declared.event.Event.{Event}
 use Rattle.gp_trace.specs.Reply.{numbered}
 use Rattle.gp_trace.specs.Text.{event_text}
 use Rattle.gp_lines.specs.declared.turn.Asked.{Asked}
 use Rattle.gp_lines.specs.declared.turn.Asked.TheVariants as asked
+use Rattle.gp_lines.specs.declared.word.UnitWord.{UnitWord}
+use Rattle.gp_lines.specs.declared.word.UnitWord.TheVariants as words
 use Rattle.gp_lines.specs.Parts.{parts_of}
 use Rattle.gp_lines.specs.Spelling.{last_port, SpellsNumber, SpellsParts}
+use Rattle.gp_lines.specs.Say.{SpellsSaid}
 use Rattle.gp_lines.specs.Told.{IsTold}
 
 -- the most octets that a line has before its line feed
@@ -62,24 +67,44 @@ abbrev pub light_word : Bool → List ℕ
 light_word true = codes "light"
 light_word false = codes "dark"
 
--- the text asks for this
-abbrev pub SpellsAsked : List ℕ → Asked → Type 0
-SpellsAsked text asked.Nothing = is_remark text ≡ true
-SpellsAsked text (asked.Event port event) =
-    (others : List (List ℕ)) × SpellsPort (parts_of text) port others × SpellsParts others event
-SpellsAsked text (asked.Frames port count) =
+-- what is asked of a unit: its light comes, or goes, or it is shown
+abbrev pub unit_word : UnitWord → List ℕ
+unit_word words.Light = light_word true
+unit_word words.Dark = light_word false
+unit_word words.Show = codes "show"
+
+-- that of the unit at this place
+abbrev pub asked_of_unit : ℕ → UnitWord → Asked
+asked_of_unit unit words.Light = asked.Light unit true
+asked_of_unit unit words.Dark = asked.Light unit false
+asked_of_unit unit words.Show = asked.ShowUnit unit
+
+-- the place of a unit, and what is asked of it
+abbrev pub SpellsUnitWord : List (List ℕ) → ℕ → List ℕ → Type 0
+SpellsUnitWord parts unit word =
+    (digits : List ℕ) × (parts ≡ codes "unit" ∷ digits ∷ word ∷ []) × SpellsNumber digits unit × (unit ≤ last_unit)
+
+-- the parts tell an event as a trace does, or by what a unit says
+abbrev pub TellEvent : Mask → List (List ℕ) → Event → Type 0
+TellEvent mask parts event = SpellsParts parts event ⊎ SpellsSaid mask parts event
+
+-- the text asks for this, under the mask that what units say is encoded with
+abbrev pub SpellsAsked : Mask → List ℕ → Asked → Type 0
+SpellsAsked mask text asked.Nothing = is_remark text ≡ true
+SpellsAsked mask text (asked.Event port event) =
+    (others : List (List ℕ)) × SpellsPort (parts_of text) port others × TellEvent mask others event
+SpellsAsked mask text (asked.Frames port count) =
     (digits : List ℕ) × SpellsPort (parts_of text) port (codes "frame" ∷ digits ∷ [])
     × SpellsNumber digits count × (1 ≤ count) × (count ≤ most_frames)
-SpellsAsked text (asked.Until port grant most) =
+SpellsAsked mask text (asked.Until port grant most) =
     (named behind : List (List ℕ)) × SpellsPort (parts_of text) port (codes "until" ∷ (named ++ behind))
     × SpellsGrant named grant × SpellsBound behind most
-SpellsAsked text (asked.Light unit lit) =
-    (digits : List ℕ) × (parts_of text ≡ codes "unit" ∷ digits ∷ light_word lit ∷ [])
-    × SpellsNumber digits unit × (unit ≤ last_unit)
+SpellsAsked mask text (asked.Light unit lit) = SpellsUnitWord (parts_of text) unit (light_word lit)
+SpellsAsked mask text (asked.ShowUnit unit) = SpellsUnitWord (parts_of text) unit (codes "show")
 
 -- the line, without its line feed, asks for this
-abbrev pub SpellsTurn : List ℕ → Asked → Type 0
-SpellsTurn line turn = (length line ≤ longest_line) × SpellsAsked (without_return line) turn
+abbrev pub SpellsTurn : Mask → List ℕ → Asked → Type 0
+SpellsTurn mask line turn = (length line ≤ longest_line) × SpellsAsked mask (without_return line) turn
 
 -- a grant as a line names it
 abbrev pub grant_words : Grant → List ℕ
@@ -98,6 +123,7 @@ turn_text (asked.Event port event) = decimal port ++ codes " " ++ event_text eve
 turn_text (asked.Frames port count) = decimal port ++ codes " frame " ++ decimal count
 turn_text (asked.Until port grant most) = decimal port ++ codes " until " ++ until_words grant most
 turn_text (asked.Light unit lit) = numbered (codes "unit") unit ++ codes " " ++ light_word lit
+turn_text (asked.ShowUnit unit) = numbered (codes "unit") unit ++ codes " " ++ codes "show"
 
 -- an ONU-ID that a grant names is one that a unit may have
 abbrev pub IsGrantToAsk : Grant → Type 0
@@ -113,3 +139,4 @@ CanBeAsked (asked.Frames port count) = (port ≤ last_port) × (1 ≤ count) × 
 CanBeAsked (asked.Until port grant most) =
     (port ≤ last_port) × IsGrantToAsk grant × (1 ≤ most) × (most ≤ most_frames)
 CanBeAsked (asked.Light unit lit) = unit ≤ last_unit
+CanBeAsked (asked.ShowUnit unit) = unit ≤ last_unit

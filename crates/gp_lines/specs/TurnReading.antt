@@ -1,15 +1,19 @@
 -- What is read from a line that asks for something, or its first fault (this profile's own rule).
 use Rattle.std.specs.Prelude.{ℕ, Bool, true, false, List, [], ◌∷◌, length, Option, None, Some, Result, Ok, Err, if◌then◌else◌, nat_le, codes}
 use Rattle.std.specs.Str.{bytes_eq}
+use Rattle.gp_ploam.specs.declared.check.Mask.{Mask}
 use Rattle.gp_ranging.specs.declared.grant.Grant.{Grant}
 use Rattle.gp_ranging.specs.declared.grant.Grant.TheVariants as grants
 use Rattle.gp_lines.specs.declared.fault.LineFault.{LineFault}
 use Rattle.gp_lines.specs.declared.fault.LineFault.TheVariants as fault
 use Rattle.gp_lines.specs.declared.turn.Asked.{Asked}
 use Rattle.gp_lines.specs.declared.turn.Asked.TheVariants as asked
-use Rattle.gp_lines.specs.Parts.{parts_of}
+use Rattle.gp_lines.specs.declared.word.UnitWord.{UnitWord}
+use Rattle.gp_lines.specs.declared.word.UnitWord.TheVariants as words
+use Rattle.gp_lines.specs.Parts.{parts_of, has_space_too_many}
 use Rattle.gp_lines.specs.Reading.{◌>>=◌, number_in, one_of, two_of, event_of_parts}
-use Rattle.gp_lines.specs.Turn.{without_return, is_remark}
+use Rattle.gp_lines.specs.SayReading.{say_event}
+use Rattle.gp_lines.specs.Turn.{without_return, is_remark, asked_of_unit}
 
 -- a number that stands alone
 unfoldable pub one_number : ℕ → ℕ → List (List ℕ) → Result ℕ LineFault
@@ -91,51 +95,65 @@ event_turn port parts = do
   event ← event_of_parts parts
   Ok (asked.Event port event)
 
+-- what a unit says, as the burst that it is
+unfoldable pub say_turn : Mask → ℕ → List (List ℕ) → Result Asked LineFault
+say_turn mask port parts = do
+  event ← say_event mask parts
+  Ok (asked.Event port event)
+
 -- what a word asks a port for, with the parts behind it
-unfoldable pub worded_turn : ℕ → List ℕ → List (List ℕ) → Result Asked LineFault
-worded_turn port word parts =
+unfoldable pub worded_turn : Mask → ℕ → List ℕ → List (List ℕ) → Result Asked LineFault
+worded_turn mask port word parts =
     if bytes_eq word (codes "frame") then frames_turn port parts
     else if bytes_eq word (codes "until") then until_turn port parts
+    else if bytes_eq word (codes "say") then say_turn mask port parts
     else event_turn port (word ∷ parts)
 
 -- what a port is asked for
-abbrev pub behind_turn : ℕ → List (List ℕ) → Result Asked LineFault
-behind_turn port [] = Err fault.Word
-behind_turn port (word ∷ []) = event_turn port (word ∷ [])
-behind_turn port (word ∷ next ∷ others) = worded_turn port word (next ∷ others)
+abbrev pub behind_turn : Mask → ℕ → List (List ℕ) → Result Asked LineFault
+behind_turn mask port [] = Err fault.Word
+behind_turn mask port (word ∷ []) = event_turn port (word ∷ [])
+behind_turn mask port (word ∷ next ∷ others) = worded_turn mask port word (next ∷ others)
 
 -- a port, and what it is asked for
-unfoldable pub port_turn : List ℕ → List (List ℕ) → Result Asked LineFault
-port_turn digits parts = do
+unfoldable pub port_turn : Mask → List ℕ → List (List ℕ) → Result Asked LineFault
+port_turn mask digits parts = do
   port ← number_in 0 15 digits
-  behind_turn port parts
+  behind_turn mask port parts
 
--- whether a unit is lit
-unfoldable pub lit_of : List ℕ → Result Bool LineFault
-lit_of word =
-    if bytes_eq word (codes "light") then Ok true else if bytes_eq word (codes "dark") then Ok false else Err fault.Word
+-- what is asked of a unit
+unfoldable pub unit_word_of : List ℕ → Result UnitWord LineFault
+unit_word_of word =
+    if bytes_eq word (codes "light") then Ok words.Light
+    else if bytes_eq word (codes "dark") then Ok words.Dark
+    else if bytes_eq word (codes "show") then Ok words.Show
+    else Err fault.Word
 
--- the light of a unit
-unfoldable pub light_turn : List (List ℕ) → Result Asked LineFault
-light_turn parts = do
+-- that of the unit at a place
+unfoldable pub unit_turn : List (List ℕ) → Result Asked LineFault
+unit_turn parts = do
   fields ← two_of parts
-  lit ← lit_of fields.1
+  word ← unit_word_of fields.1
   unit ← number_in 0 1023 fields.0
-  Ok (asked.Light unit lit)
+  Ok (asked_of_unit unit word)
 
 -- what begins with a unit or a port
-unfoldable pub begun_turn : List ℕ → List (List ℕ) → Result Asked LineFault
-begun_turn first parts = if bytes_eq first (codes "unit") then light_turn parts else port_turn first parts
+unfoldable pub begun_turn : Mask → List ℕ → List (List ℕ) → Result Asked LineFault
+begun_turn mask first parts = if bytes_eq first (codes "unit") then unit_turn parts else port_turn mask first parts
 
-abbrev pub turn_of_parts : List (List ℕ) → Result Asked LineFault
-turn_of_parts [] = Err fault.Word
-turn_of_parts (first ∷ []) = Err fault.Word
-turn_of_parts (first ∷ second ∷ others) = begun_turn first (second ∷ others)
+abbrev pub turn_of_parts : Mask → List (List ℕ) → Result Asked LineFault
+turn_of_parts mask [] = Err fault.Word
+turn_of_parts mask (first ∷ []) = Err fault.Word
+turn_of_parts mask (first ∷ second ∷ others) = begun_turn mask first (second ∷ others)
+
+-- with one space between parts
+unfoldable pub spaced_turn : Mask → List (List ℕ) → Result Asked LineFault
+spaced_turn mask parts = if has_space_too_many parts then Err fault.Space else turn_of_parts mask parts
 
 -- what a text asks for
-abbrev pub asked_of : List ℕ → Result Asked LineFault
-asked_of text = if is_remark text then Ok asked.Nothing else turn_of_parts (parts_of text)
+abbrev pub asked_of : Mask → List ℕ → Result Asked LineFault
+asked_of mask text = if is_remark text then Ok asked.Nothing else spaced_turn mask (parts_of text)
 
 -- what a line asks for
-abbrev pub turn_of : List ℕ → Result Asked LineFault
-turn_of line = if nat_le (length line) 4096 then asked_of (without_return line) else Err fault.Long
+abbrev pub turn_of : Mask → List ℕ → Result Asked LineFault
+turn_of mask line = if nat_le (length line) 4096 then asked_of mask (without_return line) else Err fault.Long

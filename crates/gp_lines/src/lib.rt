@@ -4,19 +4,21 @@
 //! `parse_turn`, `split_line`).
 //!
 //! - `event.rt`: `parse_event`, an event as a trace tells it.
-//! - `turn.rt`, `grant.rt`: `parse_turn`, what a line asks for; `grant.rt` has the frames up to a grant.
+//! - `turn.rt`, `grant.rt`, `say.rt`: `parse_turn`, what a line asks for; `grant.rt` has the frames up to a grant,
+//!   `say.rt` what a unit says.
 //! - `traced.rt`: `split_line`, a line of a trace cut into its parts. `leading.rt`: what a text begins with,
 //!   read in one pass.
 //! - `picks.rt`: `picked`, the number that an answer picks.
 //! - `laws.rt`, `told.rt`, `short.rt`: what `gp_trace` writes is read back, a text tells one thing at most, and a
 //!   line of a trace has no line feed but the one that ends it, and is not too long.
-//! - `word.rt`: the words that events begin with. `fields.rt`: numbers, codes and serial numbers. `code.rt`: the digits
+//! - `word.rt`: the words that events begin with, and those of a simulated unit. `fields.rt`: numbers, codes and serial numbers. `code.rt`: the digits
 //!   of a code. `parts.rt`: what stands between the spaces of a text. `fault.rt`: what is wrong with a line.
 //!
 //! Where to make which change: what a text spells stands in `specs/Spelling.antt` and `specs/Turn.antt`, its first
 //! fault in `specs/Fault.antt` and `specs/TurnFault.antt`, a line of a trace in `specs/Trace.antt`.
-//! `specs/Reading.antt` and `specs/TurnReading.antt` are the same as functions, which the laws tie to them. The word of
-//! an event stands in `specs/Words.antt`, `specs/Spelling.antt` and `word.rt`.
+//! What a unit says has these in `specs/Say.antt` and `specs/SayFault.antt`. `specs/Reading.antt`,
+//! `specs/TurnReading.antt` and `specs/SayReading.antt` are the same as functions, which the laws tie to them. The word
+//! of an event stands in `specs/Words.antt`, `specs/Spelling.antt` and `word.rt`.
 #![tactic(auto)]
 
 mod code;
@@ -28,6 +30,7 @@ mod laws;
 mod leading;
 mod parts;
 mod picks;
+mod say;
 mod short;
 mod told;
 mod traced;

@@ -1,8 +1,10 @@
 //! Lines that ask for something.
-ghost use Rattle.std.specs.Prelude.{◌≡◌, ◌↔◌, Ok, Err, IfSome};
+ghost use Rattle.std.specs.Prelude.{◌≡◌, ◌↔◌, Ok, Err, IfSome, if◌then◌else◌};
+ghost use Rattle.gp_ploam.specs.declared.check.Mask.{Mask as AnyMask};
 ghost use Rattle.gp_lines.specs.declared.fault.LineFault.{LineFault as AnyFault};
+ghost use Rattle.gp_lines.specs.declared.fault.LineFault.TheVariants as faults;
 ghost use Rattle.gp_lines.specs.declared.turn.Asked.{Asked as AnyAsked};
-ghost use Rattle.gp_lines.specs.Parts.{parts_of};
+ghost use Rattle.gp_lines.specs.Parts.{parts_of, has_space_too_many};
 ghost use Rattle.gp_lines.specs.Turn.{SpellsTurn, without_return, is_remark};
 ghost use Rattle.gp_lines.specs.TurnFault.{HasTurnFault};
 ghost use Rattle.gp_lines.specs.TurnReading as spec;
@@ -13,8 +15,11 @@ use crate::fields::number_in;
 use crate::grant::{one_number, until_turn};
 use crate::laws::turns_are_read;
 use crate::leading::{leading_burst, leading_number};
-use crate::parts::{cut, is_word, two_parts};
+use crate::parts::{cut, has_space_too_many, is_word, two_parts};
+use crate::say::say_event;
+use crate::word::UnitWord;
 use gp_machine::Event;
+use gp_ploam::Mask;
 use gp_ranging::Grant;
 
 /// The greatest port.
@@ -42,6 +47,8 @@ pub enum Asked {
     Until { port: u8, grant: Grant, most: u32 },
     /// The light of a simulated unit comes or goes. The unit is told by its place in the script, 0 to `LAST_UNIT`.
     Light { unit: u16, lit: bool },
+    /// What the simulated unit at this place is, 0 to `LAST_UNIT`: nothing happens.
+    ShowUnit { unit: u16 },
 }
 
 /// Reads so many frames.
@@ -62,9 +69,18 @@ fn event_turn(port: u8, text: &[u8]) -> Result<Asked, LineFault>
     Ok(Asked::Event { port, event })
 }
 
+/// Reads what a unit says, which is to arrive once.
+#[tactic(auto, unfolding(crate::specs::TurnReading::say_turn))]
+fn say_turn(mask: Mask, port: u8, text: &[u8]) -> Result<Asked, LineFault>
+    ensures { result ≡ spec.say_turn mask port (parts_of text.now) }
+{
+    let event = say_event(mask, text)?;
+    Ok(Asked::Event { port, event })
+}
+
 /// Reads what stands behind a port.
-fn behind_turn(port: u8, text: &[u8]) -> Result<Asked, LineFault>
-    ensures { result ≡ spec.behind_turn port (parts_of text.now) }
+fn behind_turn(mask: Mask, port: u8, text: &[u8]) -> Result<Asked, LineFault>
+    ensures { result ≡ spec.behind_turn mask port (parts_of text.now) }
 {
     let (word, rest) = cut(text);
     let Some(rest) = rest else {
@@ -74,6 +90,8 @@ fn behind_turn(port: u8, text: &[u8]) -> Result<Asked, LineFault>
         frames_turn(port, rest)
     } else if is_word(word, "until") {
         until_turn(port, rest)
+    } else if is_word(word, "say") {
+        say_turn(mask, port, rest)
     } else {
         event_turn(port, text)
     }
@@ -81,52 +99,40 @@ fn behind_turn(port: u8, text: &[u8]) -> Result<Asked, LineFault>
 
 /// Reads a port, and what stands behind it.
 #[tactic(auto, unfolding(crate::specs::TurnReading::port_turn))]
-fn port_turn(digits: &[u8], text: &[u8]) -> Result<Asked, LineFault>
-    ensures { result ≡ spec.port_turn digits.now (parts_of text.now) }
+fn port_turn(mask: Mask, digits: &[u8], text: &[u8]) -> Result<Asked, LineFault>
+    ensures { result ≡ spec.port_turn mask digits.now (parts_of text.now) }
 {
     let port = number_in(0, u64::from(LAST_PORT), digits)? as u8;
-    behind_turn(port, text)
+    behind_turn(mask, port, text)
 }
 
-/// Reads whether a unit is lit.
-#[tactic(auto, unfolding(crate::specs::TurnReading::lit_of))]
-fn lit_in(word: &[u8]) -> Result<bool, LineFault>
-    ensures { result ≡ spec.lit_of word.now }
-{
-    match word {
-        b"light" => Ok(true),
-        b"dark" => Ok(false),
-        _ => Err(LineFault::Word),
-    }
-}
-
-/// Reads the light of a unit.
-#[tactic(auto, unfolding(crate::specs::TurnReading::light_turn))]
-fn light_turn(text: &[u8]) -> Result<Asked, LineFault>
-    ensures { result ≡ spec.light_turn (parts_of text.now) }
+/// Reads what is asked of a unit.
+#[tactic(auto, unfolding(crate::specs::TurnReading::unit_turn))]
+fn unit_turn(text: &[u8]) -> Result<Asked, LineFault>
+    ensures { result ≡ spec.unit_turn (parts_of text.now) }
 {
     let (unit, word) = two_parts(text)?;
-    let lit = lit_in(word)?;
+    let word = UnitWord::from_text(word)?;
     let unit = number_in(0, u64::from(LAST_UNIT), unit)? as u16;
-    Ok(Asked::Light { unit, lit })
+    Ok(word.of(unit))
 }
 
 /// Reads what begins with a unit or a port.
 #[tactic(auto, unfolding(crate::specs::TurnReading::begun_turn))]
-fn begun_turn(first: &[u8], text: &[u8]) -> Result<Asked, LineFault>
-    ensures { result ≡ spec.begun_turn first.now (parts_of text.now) }
+fn begun_turn(mask: Mask, first: &[u8], text: &[u8]) -> Result<Asked, LineFault>
+    ensures { result ≡ spec.begun_turn mask first.now (parts_of text.now) }
 {
     if is_word(first, "unit") {
-        light_turn(text)
+        unit_turn(text)
     } else {
-        port_turn(first, text)
+        port_turn(mask, first, text)
     }
 }
 
 /// Reads a turn that asks for a frame or a burst, in one pass. None for any other, and for some of these: those with
 /// very many digits.
 fn usual_turn(text: &[u8]) -> Option<Asked>
-    ensures { IfSome result (λ asked. spec.turn_of_parts (parts_of text.now) ≡ Ok asked) }
+    ensures { (mask : AnyMask) → IfSome result (λ asked. spec.turn_of_parts mask (parts_of text.now) ≡ Ok asked) }
 {
     let (port, told) = leading_number(text)?;
     if port > u64::from(LAST_PORT) {
@@ -145,23 +151,44 @@ fn usual_turn(text: &[u8]) -> Option<Asked>
 }
 
 /// Reads the parts of any turn.
-fn any_turn(text: &[u8]) -> Result<Asked, LineFault>
-    ensures { result ≡ spec.turn_of_parts (parts_of text.now) }
+fn any_turn(mask: Mask, text: &[u8]) -> Result<Asked, LineFault>
+    ensures { result ≡ spec.turn_of_parts mask (parts_of text.now) }
 {
     let (first, rest) = cut(text);
     match rest {
         None => Err(LineFault::Word),
-        Some(rest) => begun_turn(first, rest),
+        Some(rest) => begun_turn(mask, first, rest),
+    }
+}
+
+/// Gives the fault of a text that has this one, if its spaces are right.
+fn first_fault(text: &[u8], fault: LineFault) -> LineFault
+    ensures { result ≡ (if has_space_too_many (parts_of text.now) then faults.Space else fault) }
+{
+    if has_space_too_many(text) {
+        LineFault::Space
+    } else {
+        fault
+    }
+}
+
+/// Reads any turn, with one space between its parts.
+fn spaced_turn(mask: Mask, text: &[u8]) -> Result<Asked, LineFault>
+    ensures { result ≡ spec.spaced_turn mask (parts_of text.now) }
+{
+    match any_turn(mask, text) {
+        Ok(asked) => Ok(asked),
+        Err(fault) => Err(first_fault(text, fault)),
     }
 }
 
 /// Reads a turn.
-fn turn_in(text: &[u8]) -> Result<Asked, LineFault>
-    ensures { result ≡ spec.turn_of_parts (parts_of text.now) }
+fn turn_in(mask: Mask, text: &[u8]) -> Result<Asked, LineFault>
+    ensures { result ≡ spec.spaced_turn mask (parts_of text.now) }
 {
     match usual_turn(text) {
         Some(asked) => Ok(asked),
-        None => any_turn(text),
+        None => spaced_turn(mask, text),
     }
 }
 
@@ -183,8 +210,8 @@ fn without_return(line: &[u8]) -> &[u8]
 }
 
 /// Reads a line.
-fn asked_in(line: &[u8]) -> Result<Asked, LineFault>
-    ensures { result ≡ spec.turn_of line.now }
+fn asked_in(mask: Mask, line: &[u8]) -> Result<Asked, LineFault>
+    ensures { result ≡ spec.turn_of mask line.now }
 {
     if line.len() > LONGEST_LINE {
         return Err(LineFault::Long);
@@ -193,20 +220,24 @@ fn asked_in(line: &[u8]) -> Result<Asked, LineFault>
     if is_remark(text) {
         return Ok(Asked::Nothing);
     }
-    turn_in(text)
+    turn_in(mask, text)
 }
 
 /// Reads a line `PORT EVENT`, with the event as `parse_event` reads it, `PORT frame COUNT`, `PORT until GRANT`,
-/// `PORT until GRANT within COUNT`, `unit I light` or `unit I dark`. A grant is `search`, `range N` or `poll N`. A line
-/// that is empty or begins with `#` asks for nothing. The line comes without its line feed; a carriage return at its end
-/// is no part of it.
+/// `PORT until GRANT within COUNT`, `unit I light`, `unit I dark` or `unit I show`. A grant is `search`, `range N` or
+/// `poll N`. A line that is empty or begins with `#` asks for nothing. The line comes without its line feed; a carriage
+/// return at its end is no part of it.
+///
+/// `PORT say serial S [onu N] [at D]`, `PORT say gasp onu N [at D]`, `PORT say none onu N [at D]` and
+/// `PORT say ack onu N id K [at D]` are the burst of a unit's message, encoded with the mask: N is 255 and D is 0 where
+/// they are left out.
 ///
 /// Whether the port and the unit are there is not known here. Takes no memory.
-pub fn parse_turn(line: &[u8]) -> Result<Asked, LineFault>
-    ensures value { result ≡ spec.turn_of line.now }
-    ensures asked { (asked : AnyAsked) → (result ≡ Ok asked) ↔ SpellsTurn line.now asked }
+pub fn parse_turn(mask: Mask, line: &[u8]) -> Result<Asked, LineFault>
+    ensures value { result ≡ spec.turn_of mask line.now }
+    ensures asked { (asked : AnyAsked) → (result ≡ Ok asked) ↔ SpellsTurn mask line.now asked }
     ensures fault { (fault : AnyFault) → (result ≡ Err fault) ↔ HasTurnFault line.now fault }
 {
     turns_are_read();
-    asked_in(line)
+    asked_in(mask, line)
 }

@@ -6,6 +6,7 @@
 //! - `stage.rt`: a state with exactly what the unit has in it. `specs/Stage.antt` reads it.
 //! - `unit.rt`: `Unit`, one small method for each message and each grant. `specs/Table.antt` is the unit table;
 //!   `specs/Frames.antt` has many frames, the count to the end of a state, and the limits that every unit keeps.
+//! - `status.rt`: `UnitStatus`, what a unit is, as it is shown. `specs/Status.antt` reads it off.
 //! - `laws.rt`: the laws that a code heard twice is as one heard once, and that a unit has only what it heard
 //!   (`specs/Told.antt`).
 //! - `specs/Noticing.antt`: which messages and grants a unit surely passes over.
@@ -20,6 +21,7 @@ mod laws;
 mod limits;
 mod stage;
 mod state;
+mod status;
 mod unit;
 
 pub use laws::{heard_twice, knows_what_it_hears};
@@ -27,4 +29,5 @@ pub use limits::{
     FRAME_BIT_TIMES, MAX_DELAY, MAX_RANDOM_DELAY, MAX_SIMULATED_UNITS, units_are_limited,
 };
 pub use state::State;
+pub use status::UnitStatus;
 pub use unit::Unit;

@@ -11,10 +11,12 @@ ghost use Rattle.gp_onu.specs.Limits.{max_random_delay};
 ghost use Rattle.gp_onu.specs.Frames.{IsFirstChange, NeverChanges, frames_left, unit_after_frames};
 ghost use Rattle.gp_onu.specs.Noticing.{LeavesUnanswered, PassesOver, is_asked, is_meant};
 ghost use Rattle.gp_onu.specs.Stage.{eqd_of, onu_id_of, state_of};
+ghost use Rattle.gp_onu.specs.Status.{status_of};
 ghost use Rattle.gp_onu.specs.Table.{Dark, Frame, Granted, Hears, Light, answer_to, unit_after};
 
 use super::stage::Stage;
 use super::state::State;
+use super::status::UnitStatus;
 use gp_ploam::{
     ASSIGN_ALLOC_ID, BROADCAST_ONU, Down, LAST_ONU, Mask, Serial, Up, decode_down, encode_up,
 };
@@ -82,6 +84,18 @@ impl Unit {
         ensures { result ≡ eqd_of self.now.stage }
     {
         self.stage.eqd()
+    }
+
+    /// Tells what the unit is: its state, what it has in it, and whether light reaches it.
+    pub fn status(&self) -> UnitStatus
+        ensures { result ≡ status_of self.now }
+    {
+        UnitStatus {
+            state: self.state(),
+            onu: self.number(),
+            eqd: self.eqd(),
+            is_lit: self.lit,
+        }
     }
 
     /// Lets light reach the unit.

@@ -1,5 +1,5 @@
 -- How the play of a script ends, by what was played of it and how its sink was left.
-use Rattle.std.proofs.Common.{◌≡◌, ℕ, true, false, List, [], ◌++◌, Result, Ok, Err, IsErrAnd, subst, refl, sym, ap, ◌∙◌, inl, inr, arith}
+use Rattle.std.proofs.Common.{◌≡◌, ◌<◌, length, ℕ, true, false, List, [], ◌++◌, Result, Ok, Err, IsErrAnd, subst, refl, sym, ap, ◌∙◌, inl, inr, arith}
 use Rattle.std.proofs.lemmas.List.{append-nil}
 use Rattle.gp_machine.specs.declared.entry.Receipt.{Receipt}
 use Rattle.gp_script.specs.declared.script.ScriptEvent.{ScriptEvent}
@@ -103,18 +103,18 @@ ends_played script T P start b x y z v (Err f) stands p e =
 
 -- memory was refused, and what was done is written out
 ends_refused : {S W : Type 0} (script : ScriptView) (T P : Happening S) (start b : S) (x y z : SinkState W) (written : Result (Unit {0}) WriteStopped)
-    → StandsFor script start T P → PlaysOn {T = Unit {0}} script.mask T P start b x y (Err faults.OutOfMemory) → Finishes y z written
+    → StandsFor script start T P → 0 < length script.units → PlaysOn {T = Unit {0}} script.mask T P start b x y (Err faults.OutOfMemory) → Finishes y z written
     → PlaysScript {T = Unit {0}} script x z (Err faults.OutOfMemory)
-ends_refused script T P start b x y z (Ok u) stands p f = record {
+ends_refused script T P start b x y z (Ok u) stands some p f = record {
   ok = tt;
-  fault = inr (inl (part_written script T P start p.fault.0 x y z u stands p.fault.1 f));
+  fault = inr (some, inl (part_written script T P start p.fault.0 x y z u stands p.fault.1 f));
   refused = λ h. (refl, (f.gives.refused (or_kept x.stopped y.stopped false p.stopped h)).1 ∙ p.refused h);
   flushed = λ g n. f.gives.flushed (p.flushed g refl);
 }
-ends_refused script T P start b x y z (Err s) stands p f =
+ends_refused script T P start b x y z (Err s) stands some p f =
     let stopped = or_true y.stopped z.stopped f.gives.stopped in record {
       ok = tt;
-      fault = inr (inr (part_stopped script T P start p.fault.0 x y z stands p.fault.1 f.gives.error stopped));
+      fault = inr (some, inr (part_stopped script T P start p.fault.0 x y z stands p.fault.1 f.gives.error stopped));
       refused = λ h. (refl, (f.gives.refused (or_kept x.stopped y.stopped false p.stopped h)).1 ∙ p.refused h);
       flushed = λ g n. not_both z.stopped stopped n;
     }
@@ -132,11 +132,12 @@ ends_stopped script T P start b x y stands p =
     }
 
 pub play_ends : {S W : Type 0} (script : ScriptView) (T P : Happening S) (start b : S) (x y z : SinkState W) (played answer : Result (Unit {0}) PlayFault)
-    → StandsFor script start T P → PlaysOn script.mask T P start b x y played → EndsPlay y z played answer → PlaysScript script x z answer
-play_ends script T P start b x y z (Ok v) answer stands p e = ends_played script T P start b x y z v answer stands p e
-play_ends script T P start b x y z (Err faults.OutOfMemory) answer stands p e =
-    subst (λ (r : Result (Unit {0}) PlayFault). PlaysScript script x z r) (sym e.0) (ends_refused script T P start b x y z e.1 stands p e.2)
-play_ends {W = W} script T P start b x y z (Err faults.Write) answer stands p e =
+    → StandsFor script start T P → (played ≡ Err faults.OutOfMemory → 0 < length script.units) → PlaysOn script.mask T P start b x y played → EndsPlay y z played answer
+    → PlaysScript script x z answer
+play_ends script T P start b x y z (Ok v) answer stands some p e = ends_played script T P start b x y z v answer stands p e
+play_ends script T P start b x y z (Err faults.OutOfMemory) answer stands some p e =
+    subst (λ (r : Result (Unit {0}) PlayFault). PlaysScript script x z r) (sym e.0) (ends_refused script T P start b x y z e.1 stands (some refl) p e.2)
+play_ends {W = W} script T P start b x y z (Err faults.Write) answer stands some p e =
     subst (λ (r : Result (Unit {0}) PlayFault). PlaysScript script x z r) (sym e.0)
     (subst (λ (s : SinkState W). PlaysScript {T = Unit {0}} script x s (Err faults.Write)) (sym e.1) (ends_stopped script T P start b x y stands p))
 

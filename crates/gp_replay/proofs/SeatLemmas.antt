@@ -1,6 +1,6 @@
 -- A turn of a play: what its port and the book of licences do is what actor 0 does in the turn.
 use Rattle.std.proofs.Common.{◌≡◌, ◌<◌, ◌^◌, ◌+◌, ◌-◌, ◌==◌, ◌&&◌, ℕ, Bool, true, false, List, [], ◌∷◌, length, map, get_or, replicate, refl, sym, ap, subst, ◌∙◌, arith, inl, inr, length-set, IsTrue}
-use Rattle.std.specs.Prelude.{Option, Some, All, min, slice_get, slice_set, slice_index, sum_by, if◌then◌else◌, nat_lt, option_map}
+use Rattle.std.specs.Prelude.{Option, None, Some, All, min, slice_get, slice_set, slice_index, sum_by, if◌then◌else◌, nat_lt, option_map}
 use Rattle.std.proofs.lemmas.List.{get_or-replicate, get_or-set_same, length-map, length-replicate, map-set, append-nil, set-get_or, set-set}
 use Rattle.std.proofs.lemmas.List.Elements.{All-get_or, All-map, All-set}
 use Rattle.std.proofs.lemmas.List.Folds.{sum_by-replicate}
@@ -24,7 +24,7 @@ use Rattle.gp_chassis.specs.World.{ChassisWorld, ChassisRun, PortMoves, hand, ta
 use Rattle.gp_chassis.specs.Core.{GrantsTurn, moves_of}
 use Rattle.gp_fibre.specs.Step.{purse_for}
 use Rattle.gp_replay.specs.declared.turn.Turn.{Turn}
-use Rattle.gp_replay.specs.Chassis.{IsSoundPort, PlayState, opened_play}
+use Rattle.gp_replay.specs.Chassis.{IsSoundPort, PlayState, opened_play, owed_of}
 use Rattle.gp_replay.specs.Play.{TakesTurns}
 use Rattle.gp_replay.specs.Seats.{SeatState, SeatTakes, empty_hands, next_of, play_on, port_of, seat_opened}
 
@@ -284,3 +284,18 @@ ends_balanced seats free count is =
     units : (ss : List SeatState) → sum_by rows_of (map port_of ss) ≡ sum_by (λ (s : SeatState). rows_of s.port) ss
     units [] = refl
     units (s ∷ ss) = sum_by-cons rows_of s.port (map port_of ss) ∙ ap (λ (n : ℕ). rows_of s.port + n) (units ss) ∙ sym (sum_by-cons (λ (s : SeatState). rows_of s.port) s ss)
+
+-- ---- what a port owes
+
+-- a port that is there
+pub owed_there : (seats : List SeatState) (port at count : ℕ) (seat : SeatState) → at ≡ port → slice_get seats at ≡ Some seat → count ≡ length seat.port.owed
+    → count ≡ owed_of (slice_get (map port_of seats) port)
+owed_there seats port at count seat is here told =
+    let there : slice_get seats port ≡ Some seat = ap (λ (n : ℕ). slice_get seats n) (sym is) ∙ here in
+    told ∙ sym (ap owed_of (slice_get-map port_of seats port ∙ ap (option_map port_of) there))
+
+-- and none
+pub owed_nowhere : (seats : List SeatState) (port at : ℕ) → at ≡ port → slice_get seats at ≡ None → 0 ≡ owed_of (slice_get (map port_of seats) port)
+owed_nowhere seats port at is missing =
+    let none : slice_get seats port ≡ None = ap (λ (n : ℕ). slice_get seats n) (sym is) ∙ missing in
+    sym (ap owed_of (slice_get-map port_of seats port ∙ ap (option_map port_of) none))

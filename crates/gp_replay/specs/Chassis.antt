@@ -1,5 +1,5 @@
 -- The chassis that a script is played on (this profile's own rule).
-use Rattle.std.specs.Prelude.{◌≡◌, true, ℕ, ◌+◌, ◌<◌, ◌^◌, List, All, map}
+use Rattle.std.specs.Prelude.{◌≡◌, true, ℕ, ◌+◌, ◌<◌, ◌^◌, List, length, Option, None, Some, All, map, slice_get}
 use Rattle.gp_machine.specs.declared.config.PortConfig.{PortConfig}
 use Rattle.gp_machine.specs.Config.{is_within_limits}
 use Rattle.gp_machine.specs.State.{PortState}
@@ -32,3 +32,12 @@ total_licences play = play.world.free + units_of play.world
 pub record IsSoundPort (port : PortState) : Type 0 where
   pub sound : IsSound port
   pub within : is_within_limits port.config ≡ true
+
+-- how many copies of messages a port owes, if it is there
+abbrev pub owed_of : Option PortState → ℕ
+owed_of None = 0
+owed_of (Some port) = length port.owed
+
+-- how many copies of messages the port with this number owes; none where there is no such port
+abbrev pub copies_owed : PlayState → ℕ → ℕ
+copies_owed play port = owed_of (slice_get play.world.ports port)

@@ -7,7 +7,7 @@ use Rattle.gp_script.specs.declared.fault.ScriptFault.{ScriptFault}
 use Rattle.gp_script.specs.Script.{ScriptView}
 use Rattle.gp_replay.specs.declared.fault.RunFault.{RunFault}
 use Rattle.gp_replay.specs.declared.fault.RunFault.TheVariants as runs
-use Rattle.gp_replay.specs.Writing.{LeavesScriptLines, LeavesScriptPrefix, WritesScript}
+use Rattle.gp_replay.specs.Writing.{LeavesScriptPart, LeavesScriptPrefix, WritesScript}
 
 -- the input was read to its end without a failed read, it is not too long, and this is what it says: a script, or its
 -- first fault; which bytes came is said of a reader that tells its bytes
@@ -45,12 +45,12 @@ RunEnds says_of leaves before after old new (Err runs.Mismatch) =
 RunEnds says_of leaves before after old new (Err runs.JournalFull) =
     OfScript says_of before after (leaves (Err runs.JournalFull))
 
--- what a replay leaves of a script that it has read: the whole trace; or, where memory was refused in the midst, the
--- lines of a part, or a prefix of them where they could not be written; or, where a write failed, a prefix
+-- what a replay leaves of a script that it has read: the whole trace; or, where memory was refused in the midst, which
+-- is so with units alone, the lines of a part, or a prefix of them where they could not be written; or, where a write
+-- failed, a prefix
 abbrev pub LeavesReplay : {W : Type 0} → SinkState W → SinkState W → RunAnswer → ScriptView → Type 0
 LeavesReplay old new (Ok value) script = WritesScript script old new
-LeavesReplay old new (Err runs.OutOfMemory) script =
-    LeavesScriptLines script old new ⊎ LeavesScriptPrefix script old new
+LeavesReplay old new (Err runs.OutOfMemory) script = LeavesScriptPart script old new
 LeavesReplay old new (Err runs.Write) script = LeavesScriptPrefix script old new
 LeavesReplay old new (Err _) script = ⊥
 

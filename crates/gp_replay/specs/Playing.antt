@@ -1,8 +1,10 @@
 -- What events are played on, and what playing several means (this profile's own rule).
-use Rattle.std.specs.Prelude.{◌≡◌, ◌↔◌, ◌⊎◌, ℕ, ◌+◌, ◌≤◌, Bool, IsTrue, List, [], ◌∷◌, ◌++◌, Some, length, map}
+use Rattle.std.specs.Prelude.{◌≡◌, ◌↔◌, ◌⊎◌, ℕ, ◌+◌, ◌≤◌, Bool, IsTrue, List, [], ◌∷◌, ◌++◌, Option, None, Some, length, map}
 use Rattle.gp_ranging.specs.declared.grant.Grant.{Grant}
 use Rattle.gp_machine.specs.declared.entry.Entry.{Entry}
 use Rattle.gp_machine.specs.declared.entry.Receipt.{Receipt}
+use Rattle.gp_onu.specs.declared.status.UnitStatus.{UnitStatus}
+use Rattle.gp_fibre.specs.World.{status_at}
 use Rattle.gp_script.specs.declared.script.ScriptEvent.{ScriptEvent}
 use Rattle.gp_script.specs.declared.script.ScriptEvent.TheVariants as events
 use Rattle.gp_script.specs.Lose.{LossesView}
@@ -18,12 +20,16 @@ pub record Playing (S : Type 0) : Type 1 where
   pub ports : S → ℕ
   -- how many simulated units
   pub units : S → ℕ
+  -- what the simulated unit at a place is, if there is one
+  pub status : S → ℕ → Option UnitStatus
   -- an event is played
   pub whole : ScriptEvent → Happening S
   -- an event is played in part, or not at all, since a fault came
   pub part : ScriptEvent → Happening S
   -- so many more frames and other events can be counted, and their entries numbered
   pub room : ℕ → S → Type 0
+  -- memory may be refused while it plays
+  pub refuses : Type 0
 
 -- how many frames an event is, or that it is one other thing that happens
 abbrev pub count_of : ScriptEvent → ℕ
@@ -74,14 +80,16 @@ pub record MakesGrant {S : Type 0} (grant : Grant) (made : Bool) (happens : Happ
 
 -- ---- the two players
 
--- a chassis, which has no simulated units
+-- a chassis, which has no simulated units, and whose play takes no memory
 abbrev pub chassis_playing : Playing PlayState
 chassis_playing = record {
   ports = λ play. length play.next;
   units = λ play. 0;
+  status = λ play unit. None;
   whole = λ event. TakesAllTurns (turns_of event);
   part = λ event. TakesSomeTurns (turns_of event);
   room = HasRoom;
+  refuses = ⊥;
 }
 
 -- the play of a fibre on whose way some copies and bursts are lost
@@ -95,12 +103,14 @@ pub record Loses (happens : LossesView → Happening FibrePlay) (old : LossyPlay
   pub happened : happens old.losses old.play receipts new.play
   pub losses : new.losses ≡ old.losses
 
--- the fibre of one port, with simulated units
+-- the fibre of one port, with simulated units, whose play takes memory for entries
 abbrev pub fibre_playing : Playing LossyPlay
 fibre_playing = record {
   ports = λ lossy. 1;
   units = λ lossy. length lossy.play.world.fibre.units;
+  status = λ lossy unit. status_at lossy.play.world.fibre.units unit;
   whole = λ event. Loses (λ losses. Numbered (WorldTakes losses event));
   part = λ event. Loses (λ losses. Numbered (WorldTakesPart losses event));
   room = λ count lossy. HasFibreRoom count lossy.play;
+  refuses = Unit {0};
 }

@@ -1,5 +1,5 @@
 -- What is played and written down, as a sink shows it (this profile's own rule).
-use Rattle.std.specs.Prelude.{◌≡◌, ◌⊎◌, ◌||◌, Bool, false, true, ℕ, List, [], ◌++◌, Result, Ok, Err, OnOk, OnErr, IfErr, IsErr, is_err}
+use Rattle.std.specs.Prelude.{◌≡◌, ◌<◌, ◌⊎◌, ◌||◌, length, Bool, false, true, ℕ, List, [], ◌++◌, Result, Ok, Err, OnOk, OnErr, IfErr, IsErr, is_err}
 use Rattle.std.specs.Io.KnownBytes.{Appends}
 use Rattle.gp_ploam.specs.declared.check.Mask.{Mask}
 use Rattle.gp_machine.specs.declared.entry.Receipt.{Receipt}
@@ -108,11 +108,15 @@ pub record LeavesScriptLines {W : Type 0} (script : ScriptView) (before after : 
   pub finished : after.gathered ≡ []
   pub unstopped : after.stopped ≡ false
 
--- what a fault leaves of a script. Where memory was refused: nothing, or the lines of a part, or a prefix of them where
--- they could not be written
+-- where memory was refused in the midst of a script, which has units then: the lines of a part, or a prefix of them
+-- where they could not be written
+abbrev pub LeavesScriptPart : {W : Type 0} → ScriptView → SinkState W → SinkState W → Type 0
+LeavesScriptPart script before after =
+    (0 < length script.units) × (LeavesScriptLines script before after ⊎ LeavesScriptPrefix script before after)
+
+-- what a fault leaves of a script: where memory was refused nothing or a part, and else a write failed
 abbrev pub LeavesScript : {W : Type 0} → PlayFault → ScriptView → SinkState W → SinkState W → Type 0
-LeavesScript faults.OutOfMemory script before after =
-    (after ≡ before) ⊎ (LeavesScriptLines script before after ⊎ LeavesScriptPrefix script before after)
+LeavesScript faults.OutOfMemory script before after = (after ≡ before) ⊎ LeavesScriptPart script before after
 LeavesScript faults.Write script before after = LeavesScriptPrefix script before after
 
 -- a script is played and its trace is written, with this answer

@@ -1,4 +1,5 @@
-ghost use Rattle.std.specs.Prelude.{◌≡◌, ◌↔◌, ◌≤◌, ◌*◌, ◌^◌, All, IsTrue, OnOk, Some, length};
+//! What events of a script are played on, by one of two: the ports, or the fibre of one port.
+ghost use Rattle.std.specs.Prelude.{◌≡◌, ◌↔◌, ◌≤◌, ◌*◌, ◌^◌, All, Err, IsTrue, OnOk, Some, length};
 ghost use Rattle.gp_script.specs.View.{NamesOneOf};
 ghost use Rattle.gp_replay.specs.Playing.{HasRoomFor, Keeps, PlaysAll, PlaysSome, count_of};
 ghost use Rattle.gp_replay.specs.Writing.{PlaysOn};
@@ -6,6 +7,7 @@ ghost use Rattle.gp_replay.specs.Writing.{PlaysOn};
 use super::fault::PlayFault;
 use super::line_buffer::LineBuffer;
 use gp_machine::Entry;
+use gp_onu::UnitStatus;
 use gp_ploam::Mask;
 use gp_ranging::Grant;
 use gp_script::ScriptEvent;
@@ -15,7 +17,7 @@ use std::io::Write;
 /// What the events of a script are played on, which writes the line of each entry: a chassis, or the fibre of one
 /// port with its simulated units.
 pub trait EventPlayer {
-    ghost use Rattle.std.specs.Prelude.{◌≡◌, ◌<◌, IfOk, OnOk};
+    ghost use Rattle.std.specs.Prelude.{◌≡◌, ◌<◌, Err, IfOk, OnOk};
     ghost use Rattle.gp_script.specs.declared.script.ScriptEvent.TheVariants as events;
     ghost use Rattle.gp_script.specs.View.{NamesOneOf};
     ghost use Rattle.gp_replay.specs.Playing.{HasRoomFor, Keeps, MakesGrant, Playing, count_of};
@@ -32,6 +34,10 @@ pub trait EventPlayer {
     fn units(&self) -> usize
         ensures { result ≡ playing.units self.now };
 
+    /// What the simulated unit at this place is, if there is one.
+    fn unit_status(&self, unit: u16) -> Option<UnitStatus>
+        ensures { result ≡ playing.status self.now unit };
+
     /// Plays an event, and writes its lines.
     fn play_event<W: Write>(
         &mut self,
@@ -44,7 +50,8 @@ pub trait EventPlayer {
         requires room { HasRoomFor playing (count_of event.now) self.old }
         ensures plays { PlaysOn mask (playing.whole event.now) (playing.part event.now)
             self.old self.new sink.old sink.new result }
-        ensures keeps { OnOk result (Keeps playing (count_of event.now) self.old self.new) };
+        ensures keeps { OnOk result (Keeps playing (count_of event.now) self.old self.new) }
+        ensures memory { result ≡ Err PlayFault.OutOfMemory → playing.refuses };
 
     /// Plays one frame of a port, writes its lines, and tells whether the port makes this grant in it.
     fn play_frame<W: Write>(
@@ -61,7 +68,8 @@ pub trait EventPlayer {
             PlaysOn mask (playing.whole frame) (playing.part frame) self.old self.new sink.old sink.new result }
         ensures made { IfOk result (λ made.
             Writes mask (MakesGrant grant made (playing.whole (events.Frames port 1))) self.old self.new sink.old sink.new) }
-        ensures keeps { OnOk result (Keeps playing 1 self.old self.new) };
+        ensures keeps { OnOk result (Keeps playing 1 self.old self.new) }
+        ensures memory { result ≡ Err PlayFault.OutOfMemory → playing.refuses };
 }
 
 /// Tells whether an entry makes this grant.
@@ -106,6 +114,7 @@ pub fn play_events<P: EventPlayer, W: Write>(
     ensures plays { PlaysOn mask (PlaysAll P.playing events.now) (PlaysSome P.playing events.now)
         player.old player.new sink.old sink.new result }
     ensures keeps { OnOk result (Keeps P.playing (length events.now * 2 ^ 32) player.old player.new) }
+    ensures memory { result ≡ Err PlayFault.OutOfMemory → P.playing.refuses }
 {
     'events: for event in events {
         event_is_short(event);

@@ -1,3 +1,4 @@
+//! Why a play, or a run of a script, ended early.
 ghost use Rattle.std.specs.Prelude.{◌≡◌};
 ghost use Rattle.gp_replay.specs.Fault.{fault_of_play, fault_of_script, fault_of_source};
 ghost use Rattle.gp_replay.specs.declared.fault.PlayFault.TheVariants.{OutOfMemory, Write};

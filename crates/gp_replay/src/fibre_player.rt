@@ -1,3 +1,4 @@
+//! The fibre of one port with its simulated units, as what events are played on.
 ghost use Rattle.std.specs.Prelude.{◌≡◌, true, IfOk, map};
 ghost use Rattle.gp_fibre.specs.World.{is_world_within_limits};
 ghost use Rattle.gp_fibre.specs.Schedule.{opening_state};
@@ -12,6 +13,7 @@ use super::world_playing::{play_one_world_frame, play_world_event};
 use gp_fibre::{LossPlan, Losses};
 use gp_licence::MAX_LICENCES;
 use gp_machine::PortConfig;
+use gp_onu::UnitStatus;
 use gp_ploam::Mask;
 use gp_ranging::Grant;
 use gp_script::{ScriptEvent, ScriptUnit};
@@ -91,6 +93,10 @@ impl<L: Ledger> EventPlayer for FibrePlayer<L> {
 
     fn units(&self) -> usize {
         self.player.units()
+    }
+
+    fn unit_status(&self, unit: u16) -> Option<UnitStatus> {
+        self.player.unit_status(unit)
     }
 
     fn play_event<W: Write>(

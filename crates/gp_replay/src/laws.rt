@@ -1,3 +1,4 @@
+//! What follows of each port from the entries of a play.
 ghost use Rattle.gp_replay.specs.Laws.{EachPortRuns, LicencesAreKept};
 
 /// States that of entries that play a script those of each port are a run of the activation machine from the

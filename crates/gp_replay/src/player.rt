@@ -1,3 +1,4 @@
+//! The ports that a script without simulated units is played on.
 ghost use Rattle.std.specs.Prelude.{◌≡◌, ◌+◌, ◌<◌, ◌≤◌, [], ◌∷◌, All, IfOk, OnErr, length};
 ghost use Rattle.std.specs.Option.{ForSome};
 ghost use Rattle.gp_ploam.specs.Down.{IsProperDown};
@@ -5,12 +6,12 @@ ghost use Rattle.gp_chassis.specs.Limits.{IsWithin};
 ghost use Rattle.gp_chassis.specs.World.{IsBalanced};
 ghost use Rattle.gp_chassis.specs.Core.{GrantsTurn};
 ghost use Rattle.gp_fibre.specs.Step.{purse_for};
-ghost use Rattle.gp_replay.specs.Chassis.{HasRoom, IsSoundPort, opened_play};
+ghost use Rattle.gp_replay.specs.Chassis.{HasRoom, IsSoundPort, copies_owed, opened_play};
 ghost use Rattle.gp_replay.specs.Play.{TakesTurns};
 ghost use Rattle.gp_replay.specs.Telling.{TellsTurn};
 
 use super::line_buffer::LineBuffer;
-use super::seat::{Seat, close_seats, open_seats};
+use super::seat::{Seat, close_seats, open_seats, owed_at};
 use super::told::Told;
 use super::turn::Turn;
 use gp_chassis::ChassisConfig;
@@ -136,6 +137,13 @@ impl<L: Ledger> Player<L> {
         ensures { result ≡ length self.now.next }
     {
         self.seats.len()
+    }
+
+    /// Tells how many copies of messages a port still has to send, one with each frame; none where there is no such port.
+    pub fn owed(&self, port: u8) -> usize
+        ensures { result ≡ copies_owed self.now port }
+    {
+        owed_at(self.seats.as_slice(), port)
     }
 
     /// States what holds of every port: its state is sound, and its configuration within its limits.

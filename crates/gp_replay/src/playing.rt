@@ -1,4 +1,5 @@
-ghost use Rattle.std.specs.Prelude.{◌≡◌, ◌<◌, [], ◌∷◌, IfOk, length, replicate};
+//! One turn, some frames, one event: played on the ports, and the line of each entry written.
+ghost use Rattle.std.specs.Prelude.{◌≡◌, ◌<◌, [], ◌∷◌, Err, IfOk, length, replicate};
 ghost use Rattle.gp_script.specs.View.{NamesPort};
 ghost use Rattle.gp_replay.specs.Chassis.{HasRoom};
 ghost use Rattle.gp_replay.specs.Play.{TakesAllTurns, TakesSomeTurns, frame_turn, turns_of};
@@ -13,6 +14,7 @@ use super::player::Player;
 use super::told::Told;
 use super::turn::Turn;
 use gp_machine::Event;
+use gp_onu::UnitStatus;
 use gp_ploam::Mask;
 use gp_ranging::Grant;
 use gp_script::ScriptEvent;
@@ -34,6 +36,7 @@ fn play_turn<L: Ledger, W: Write>(
         PlaysOn mask (TakesAllTurns turns) (TakesSomeTurns turns) player.old player.new sink.old sink.new result }
     ensures told { IfOk result (λ told. WritesTurn mask turn told player.old player.new sink.old sink.new) }
     ensures ports { length player.new.next ≡ length player.old.next }
+    ensures memory { result ≡ Err PlayFault.OutOfMemory → ⊥ }
 {
     let told = player.tell_turn(turn, None, mask, buffer)?;
     sink.put(buffer.as_bytes())?;
@@ -54,6 +57,7 @@ fn play_frames<L: Ledger, W: Write>(
     ensures plays { let turns = replicate count (frame_turn port) in
         PlaysOn mask (TakesAllTurns turns) (TakesSomeTurns turns) player.old player.new sink.old sink.new result }
     ensures ports { length player.new.next ≡ length player.old.next }
+    ensures memory { result ≡ Err PlayFault.OutOfMemory → ⊥ }
 {
     let frame = Turn {
         port,
@@ -78,6 +82,7 @@ fn play_event<L: Ledger, W: Write>(
     ensures plays { let turns = turns_of event.now in
         PlaysOn mask (TakesAllTurns turns) (TakesSomeTurns turns) player.old player.new sink.old sink.new result }
     ensures ports { length player.new.next ≡ length player.old.next }
+    ensures memory { result ≡ Err PlayFault.OutOfMemory → ⊥ }
 {
     match *event {
         ScriptEvent::Frames { port, count } => {
@@ -107,6 +112,10 @@ impl<L: Ledger> EventPlayer for Player<L> {
 
     fn units(&self) -> usize {
         0
+    }
+
+    fn unit_status(&self, _unit: u16) -> Option<UnitStatus> {
+        None
     }
 
     fn play_event<W: Write>(

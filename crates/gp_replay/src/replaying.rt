@@ -1,3 +1,4 @@
+//! A script that was read, played from its opening to its end.
 ghost use Rattle.std.specs.Prelude.{◌≡◌, ◌≢◌, ◌<◌, [], Err, length};
 ghost use Rattle.gp_script.specs.Playable.{IsPlayable};
 ghost use Rattle.gp_script.specs.Script.{script_of};
@@ -52,9 +53,9 @@ fn play_on_chassis<L: Ledger, W: Write>(
     };
     let mut buffer = LineBuffer::new(alloc)?;
     let mut player = Player::<L>::begin(alloc, blank, &config)?;
-    let outcome = play_events(&mut player, sink, &mut buffer, mask, events.as_slice());
+    let played = play_events(&mut player, sink, &mut buffer, mask, events.as_slice());
     player.close();
-    end_play(sink, outcome)
+    end_play(sink, played)
 }
 
 /// Plays a script with simulated units on a fibre of its own, whose ledger is the blank. Entries are written as they

@@ -1,8 +1,9 @@
 //! A port that a script is played on, with the number of its next entry: it takes events without a journal.
-ghost use Rattle.std.specs.Prelude.{◌≡◌, ◌+◌, ◌<◌, ◌^◌, IfOk, IsTrue, All, map, sum_by};
+ghost use Rattle.std.specs.Prelude.{◌≡◌, ◌+◌, ◌<◌, ◌^◌, IfOk, IsTrue, All, length, map, slice_get, sum_by};
 ghost use Rattle.gp_machine.specs.Config.{is_within_limits};
 ghost use Rattle.gp_machine.specs.State.{rows_of};
-ghost use Rattle.gp_replay.specs.Seats.{SeatState, SeatTakes, seat_opened};
+ghost use Rattle.gp_replay.specs.Chassis.{owed_of};
+ghost use Rattle.gp_replay.specs.Seats.{SeatState, SeatTakes, port_of, seat_opened};
 
 use gp_licence::{LicenceBook, Licences};
 use gp_machine::{Entry, Event, PortConfig};
@@ -67,12 +68,29 @@ impl<L: Ledger> Seat<L> {
         rest
     }
 
+    /// Tells how many copies of messages the port still has to send.
+    fn owed(&self) -> usize
+        ensures { result ≡ length self.now.port.owed }
+    {
+        self.core.owed()
+    }
+
     /// Ends the port, with the licence of each unit.
     fn close(self) -> Licences<L>
         ensures { result ≡ rows_of self.port }
     {
         let Seat { core, next: _ } = self;
         core.close()
+    }
+}
+
+/// Tells how many copies of messages the port with this number still has to send; none where there is no such port.
+pub(super) fn owed_at<L: Ledger>(seats: &[Seat<L>], port: u8) -> usize
+    ensures { result ≡ owed_of (slice_get (map port_of seats.now) port) }
+{
+    match seats.get(usize::from(port)) {
+        Some(seat) => seat.owed(),
+        None => 0,
     }
 }
 

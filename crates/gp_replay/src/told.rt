@@ -1,3 +1,4 @@
+//! What is asked of an entry when its line was written.
 use gp_ranging::Grant;
 
 /// What is asked of an entry behind its line.

@@ -1,3 +1,4 @@
+//! One event of one port.
 use gp_machine::Event;
 
 /// One event of one port, named by its place in the script.

@@ -1,6 +1,7 @@
+//! The fibre with the number of its port's next entry, and frames of it, some at a time.
 ghost use Rattle.std.specs.Prelude.{◌≡◌, ◌+◌, ◌<◌, ◌^◌, [], None, All, IfOk, OnOk, length, map, true};
 ghost use Rattle.std.specs.Option.{ForSome};
-ghost use Rattle.gp_fibre.specs.World.{is_world_within_limits};
+ghost use Rattle.gp_fibre.specs.World.{is_world_within_limits, status_at};
 ghost use Rattle.gp_fibre.specs.Forgetting.{WorldForgets};
 ghost use Rattle.gp_fibre.specs.Schedule.{FramesRun, IsProperEntry, StepsTo, opening_state, step_fault};
 ghost use Rattle.gp_replay.specs.WorldPlay.{plan_of};
@@ -9,6 +10,7 @@ ghost use Rattle.gp_replay.specs.WorldWriting.{HasFibreRoom};
 use gp_fibre::{Losses, UnitPlan, World, WorldFault, WorldStep};
 use gp_licence::MAX_LICENCES;
 use gp_machine::{Entry, PortConfig};
+use gp_onu::UnitStatus;
 use gp_script::ScriptUnit;
 use std::alloc::{AllocError, Global};
 use std::marker::Model;
@@ -137,6 +139,13 @@ impl<L: Ledger> WorldPlayer<L> {
         ensures { result ≡ length self.now.world.fibre.units }
     {
         self.world.units()
+    }
+
+    /// What the simulated unit at this place is, if there is one.
+    pub(crate) fn unit_status(&self, unit: u16) -> Option<UnitStatus>
+        ensures { result ≡ status_at self.now.world.fibre.units unit }
+    {
+        self.world.unit_status(unit)
     }
 
     /// Ends the fibre, and answers how many licences there are.

@@ -1,3 +1,4 @@
+//! Events played on the fibre, and the line of each entry written.
 ghost use Rattle.std.specs.Prelude.{◌≡◌, ◌+◌, ◌<◌, ◌^◌, ◌↔◌, None, All, IfOk, IsTrue, OnOk, length};
 ghost use Rattle.gp_fibre.specs.Schedule.{FramesRun, IsProperEntry, step_fault};
 ghost use Rattle.gp_script.specs.View.{NamesOneOf};

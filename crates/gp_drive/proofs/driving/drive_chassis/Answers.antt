@@ -1,4 +1,4 @@
-use Rattle.std.proofs.Common.{arith, ◌*◌, ◌^◌, ◌≤◌, length}
+use Rattle.std.proofs.Common.{arith, ap, Err, ◌*◌, ◌^◌, ◌≤◌, length}
 use Rattle.gp_script.specs.View.{script_view}
 use Rattle.gp_replay.specs.Chassis.{opened_play}
 use Rattle.gp_replay.specs.Playing.{chassis_playing}
@@ -23,7 +23,7 @@ returns-in-Err g c =
     let played = rw (c.in_ok-player.ensures, c.as_slice.ensures.value) at c.in-Err.ensures.plays in
     told_unplayed c.args.manner script _ _ _ c.in-Err.fault _ c.from.ensures
     (events_unplayed c.args.manner script _ _ _ _ _ _ _ _ c.in-Err.fault _ (chassis_stands c.each_port_runs.ensures script c.requires.no_units)
-    (chassis_plays script.mask script.events _ _ _ _ _ played) c.end_play.ensures)
+    (λ is. absurd (c.in-Err.ensures.memory (ap Err is))) (chassis_plays script.mask script.events _ _ _ _ _ played) c.end_play.ensures)
 
 pub drive_lines-player-requires-clause-room : goal.drive_lines-player-requires-clause-room
 drive_lines-player-requires-clause-room g c =

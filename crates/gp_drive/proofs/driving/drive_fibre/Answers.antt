@@ -43,7 +43,7 @@ returns-in-Err g c =
     let played = fibre_plays script.mask script.losses script.events c.in_ok-player.player c.play_events.new.player _ _ _ c.in_ok-player.ensures.losses
     (rw c.as_slice-2.ensures.value at c.in-Err.ensures.plays) in
     told_unplayed c.args.manner script _ _ _ c.in-Err.fault _ c.from.ensures
-    (events_unplayed c.args.manner script _ _ _ _ _ _ _ _ c.in-Err.fault _ (world_stands script c.index.result.now c.in_ok-player.player.play c.requires.units port world c.in_ok-player.ensures.next) played c.end_play.ensures)
+    (events_unplayed c.args.manner script _ _ _ _ _ _ _ _ c.in-Err.fault _ (world_stands script c.index.result.now c.in_ok-player.player.play c.requires.units port world c.in_ok-player.ensures.next) (λ is. c.requires.units) played c.end_play.ensures)
 
 pub drive_lines-player-requires-clause-room : goal.drive_lines-player-requires-clause-room
 drive_lines-player-requires-clause-room g c =

@@ -6,4 +6,4 @@ use Rattle.gp_lines.proofs.turn.any_turn.Goals as goal
 pub returns-in-Some : goal.returns-in-Some
 returns-in-Some c =
     let apart : parts_of c.args.text.now ≡ c.cut.result.0.now ∷ parts_of c.in-Some.rest.now = rw (c.cut.ensures, c.in-Some.is) refl in
-    c.begun_turn.ensures ∙ sym (turn_cut c.args.text.now c.cut.result.0.now c.in-Some.rest.now apart)
+    c.begun_turn.ensures ∙ sym (turn_cut c.args.mask c.args.text.now c.cut.result.0.now c.in-Some.rest.now apart)

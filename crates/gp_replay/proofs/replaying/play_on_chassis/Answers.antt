@@ -5,8 +5,8 @@ use Rattle.gp_replay.proofs.RoomLemmas.{opening_room}
 use Rattle.gp_replay.proofs.ScriptPlayLemmas.{chassis_stands, play_ends, play_refused}
 use Rattle.gp_replay.proofs.replaying.play_on_chassis.Goals as goal
 
-pub play_events-outcome-requires-clause-room : goal.play_events-outcome-requires-clause-room
-play_events-outcome-requires-clause-room g c =
+pub play_events-played-requires-clause-room : goal.play_events-played-requires-clause-room
+play_events-played-requires-clause-room g c =
     let few : length c.args.script.events.items ≤ 1048576 = c.requires.playable.few_events in
     let many = length c.args.script.events.items * 2 ^ 32 in
     let within : many < 2 ^ 64 = omega (arith, few) in
@@ -21,6 +21,6 @@ returns-in_err-player g c = play_refused (script_view c.args.script) c.args.sink
 pub returns : goal.returns
 returns g c =
     let script = script_view c.args.script in
-    let played = rw (c.in_ok-player.ensures, c.as_slice.ensures.value) at c.play_events-outcome.ensures.plays in
-    play_ends script _ _ _ c.play_events-outcome.new.player c.args.sink.now c.play_events-outcome.new.sink _ c.play_events-outcome.result _
-    (chassis_stands c.each_port_runs.ensures script c.requires.no_units) (chassis_plays script.mask script.events _ _ _ _ _ played) c.end_play.ensures
+    let played = rw (c.in_ok-player.ensures, c.as_slice.ensures.value) at c.play_events-played.ensures.plays in
+    play_ends script _ _ _ c.play_events-played.new.player c.args.sink.now c.play_events-played.new.sink _ c.play_events-played.result _
+    (chassis_stands c.each_port_runs.ensures script c.requires.no_units) (λ is. absurd (c.play_events-played.ensures.memory is)) (chassis_plays script.mask script.events _ _ _ _ _ played) c.end_play.ensures

@@ -47,4 +47,4 @@ returns g c =
     let played = fibre_plays script.mask script.losses script.events c.in_ok-player.player c.play_events-outcome.new.player _ _ c.play_events-outcome.result c.in_ok-player.ensures.losses
     (rw c.as_slice-2.ensures.value at c.play_events-outcome.ensures.plays) in
     play_ends script _ _ c.in_ok-player.player.play c.play_events-outcome.new.player.play c.args.sink.now c.play_events-outcome.new.sink _ c.play_events-outcome.result _
-    (world_stands script c.index.result.now c.in_ok-player.player.play c.requires.units port world c.in_ok-player.ensures.next) played c.end_play.ensures
+    (world_stands script c.index.result.now c.in_ok-player.player.play c.requires.units port world c.in_ok-player.ensures.next) (λ is. c.requires.units) played c.end_play.ensures

@@ -1,0 +1,12 @@
+use Rattle.std.proofs.Common.{◌++◌, codes}
+use Rattle.gp_drive.specs.Shown.{dark_if, number_if}
+use Rattle.gp_drive.proofs.AnswerLemmas.{hands_more, hands_stopped}
+use Rattle.gp_drive.proofs.shown.put_status_end.Goals as goal
+
+pub returns-in_err-put_number_if : goal.returns-in_err-put_number_if
+returns-in_err-put_number_if g c =
+    hands_stopped _ _ _ (number_if (codes " eqd ") c.args.status.eqd ++ (dark_if c.args.status.is_lit ++ codes "\n")) _ _ _
+    (rw c.wider.ensures at c.in_err-put_number_if.ensures) c.from_residual.ensures.1
+
+pub returns : goal.returns
+returns g c = hands_more _ _ _ _ _ _ _ (rw c.wider.ensures at c.in_ok-put_number_if.ensures) c.put_eqd.ensures

@@ -1,0 +1,5 @@
+use Rattle.gp_drive.proofs.AnswerLemmas.{hands_nothing}
+use Rattle.gp_drive.proofs.shown.put_unit_if.Goals as goal
+
+pub returns-in-None : goal.returns-in-None
+returns-in-None g c = rw c.in-None.is (hands_nothing _ tt)
