@@ -14,18 +14,18 @@ use Rattle.gp_decode.specs.LineText.{is_remark, without_return}
 use Rattle.gp_decode.specs.Lines.{DecodeState, Decoding, SaysToDigits, SaysToText, after, error_line, faulted}
 
 -- digits with a fault that is seen in them are answered by its name
-pub of_spelling : (upstream : Bool) (mask : Mask) (line : ℕ) (digits said : List ℕ) (f : LineFault) → IsOfSpelling f → HasLineFault mask digits f
-    → said ≡ error_line line f → SaysToDigits upstream mask line digits (Some f) said
-of_spelling upstream mask line digits said fault.Length own h says = (h, says)
-of_spelling upstream mask line digits said fault.Digit own h says = (h, says)
-of_spelling upstream mask line digits said fault.Crc own h says = absurd own
-of_spelling upstream mask line digits said fault.OutOfMemory own h says = absurd own
-of_spelling upstream mask line digits said fault.Write own h says = absurd own
-of_spelling upstream mask line digits said fault.Direction own h says = absurd own
+pub of_spelling : (names upstream : Bool) (mask : Mask) (line : ℕ) (digits said : List ℕ) (f : LineFault) → IsOfSpelling f → HasLineFault mask digits f
+    → said ≡ error_line line f → SaysToDigits names upstream mask line digits (Some f) said
+of_spelling names upstream mask line digits said fault.Length own h says = (h, says)
+of_spelling names upstream mask line digits said fault.Digit own h says = (h, says)
+of_spelling names upstream mask line digits said fault.Crc own h says = absurd own
+of_spelling names upstream mask line digits said fault.OutOfMemory own h says = absurd own
+of_spelling names upstream mask line digits said fault.Write own h says = absurd own
+of_spelling names upstream mask line digits said fault.Direction own h says = absurd own
 
 -- a line of which the writer took a part
 pub stopped_line : {W T : Type 0} (old new : DecodeState) (line said : List ℕ) (f : Option LineFault) (before after_ : SinkState W) (e : WriteStopped) (r : Result (Unit {0}) Unanswered)
-    → is_remark (without_return line) ≡ false → SaysToText old.direction old.mask (old.lines + 1) (without_return line) f said → Puts {T = T} before after_ said (Err e)
+    → is_remark (without_return line) ≡ false → SaysToText old.names old.direction old.mask (old.lines + 1) (without_return line) f said → Puts {T = T} before after_ said (Err e)
     → IsErrAnd r (λ g. g ≡ Write) → Answers Decoding (Some line) old new before after_ r
 stopped_line old new line said f before after_ e (Ok x) text says puts told = absurd told
 stopped_line old new line said f before after_ e (Err g) text says puts told =

@@ -10,13 +10,13 @@ use Rattle.gp_decode.specs.declared.fault.LineFault.{LineFault}
 use Rattle.gp_decode.specs.declared.fault.LineFault.TheVariants as fault
 use Rattle.gp_ploam.specs.Mask.{mask_value}
 use Rattle.gp_ploam.specs.Row.{HasRightCheck}
-use Rattle.gp_decode.specs.Line.{HasLineFault, IsOfText, LacksLine, Says}
+use Rattle.gp_decode.specs.Line.{HasLineFault, IsOfText, LacksLine, SaysIn}
 
 -- the code of a text that says a line, with its check octet
-pub code_said : (upstream : Bool) (mask : Mask) (text line : List ℕ) → Says upstream mask text line
+pub code_said : (names upstream : Bool) (mask : Mask) (text line : List ℕ) → SaysIn names upstream mask text line
     → (code : List ℕ) × (decode_of text ≡ Ok code) × (length code ≡ 13) × HasRightCheck code (mask_value mask)
-code_said true mask text line s = (s.code, s.spelled, s.said.1.1.long, s.said.1.1.check)
-code_said false mask text line s = (s.code, s.spelled, s.said.1.1.long, s.said.1.1.check)
+code_said names true mask text line s = (s.code, s.spelled, s.said.1.1.long, s.said.1.1.check)
+code_said names false mask text line s = (s.code, s.spelled, s.said.1.1.long, s.said.1.1.check)
 
 -- the octets read, or none
 abbrev octets_in : {E : Type 0} → Result (List ℕ) E → List ℕ
@@ -44,9 +44,9 @@ fault_of_code mask text code fault.Write spelled long h = absurd h
 fault_of_code mask text code fault.Direction spelled long h = absurd h
 
 -- a text that says a line has no fault
-pub fault_of_said : (upstream : Bool) (mask : Mask) (text line : List ℕ) (f : LineFault) → Says upstream mask text line → HasLineFault mask text f → ⊥
-fault_of_said upstream mask text line f s h =
-    let known = code_said upstream mask text line s in
+pub fault_of_said : (names upstream : Bool) (mask : Mask) (text line : List ℕ) (f : LineFault) → SaysIn names upstream mask text line → HasLineFault mask text f → ⊥
+fault_of_said names upstream mask text line f s h =
+    let known = code_said names upstream mask text line s in
     right_and_wrong mask text known.0 known.1 known.3 (subst (HasLineFault mask text) (fault_of_code mask text known.0 f known.1 known.2 h) h)
   where
     right_and_wrong : (mask : Mask) (text code : List ℕ) → decode_of text ≡ Ok code → HasRightCheck code (mask_value mask) → HasLineFault mask text fault.Crc → ⊥
@@ -86,11 +86,11 @@ own_fault mask text e f has = (
 )
 
 -- where the text says a line, a fault that is none of the text's is not its fault
-pub foreign_fault : (upstream : Bool) (mask : Mask) (text line : List ℕ) (e f : LineFault) → Says upstream mask text line → IsOfText f → (IsOfText e → ⊥)
+pub foreign_fault : (names upstream : Bool) (mask : Mask) (text line : List ℕ) (e f : LineFault) → SaysIn names upstream mask text line → IsOfText f → (IsOfText e → ⊥)
     → (failing e ≡ failing f) ↔ HasLineFault mask text f
-foreign_fault upstream mask text line e f s own foreign = (
+foreign_fault names upstream mask text line e f s own foreign = (
   λ same. absurd (foreign (subst IsOfText (sym (ap fault_in same)) own)),
-  λ h. absurd (fault_of_said upstream mask text line f s h),
+  λ h. absurd (fault_of_said names upstream mask text line f s h),
 )
 
 -- what is answered where there is no line is the text's fault
@@ -99,14 +99,14 @@ pub fault_without_line : (upstream : Bool) (mask : Mask) (text : List ℕ) (e f 
 fault_without_line upstream mask text fault.Length f lacks own = own_fault mask text fault.Length f lacks
 fault_without_line upstream mask text fault.Digit f lacks own = own_fault mask text fault.Digit f lacks
 fault_without_line upstream mask text fault.Crc f lacks own = own_fault mask text fault.Crc f lacks
-fault_without_line upstream mask text fault.OutOfMemory f lacks own = foreign_fault upstream mask text lacks.0 fault.OutOfMemory f lacks.1 own (λ x. x)
+fault_without_line upstream mask text fault.OutOfMemory f lacks own = foreign_fault false upstream mask text lacks.0 fault.OutOfMemory f lacks.1 own (λ x. x)
 fault_without_line upstream mask text fault.Write f lacks own = absurd lacks
 fault_without_line upstream mask text fault.Direction f lacks own = absurd lacks
 
 -- what is answered where there is a line is no fault
-pub no_fault_with_line : (upstream : Bool) (mask : Mask) (text line : List ℕ) (f : LineFault) → Says upstream mask text line
+pub no_fault_with_line : (names upstream : Bool) (mask : Mask) (text line : List ℕ) (f : LineFault) → SaysIn names upstream mask text line
     → (◌≡◌ {A = Result (Unit {0}) LineFault} (Ok tt) (Err f)) ↔ HasLineFault mask text f
-no_fault_with_line upstream mask text line f s = (
+no_fault_with_line names upstream mask text line f s = (
   λ same. cc same,
-  λ h. absurd (fault_of_said upstream mask text line f s h),
+  λ h. absurd (fault_of_said names upstream mask text line f s h),
 )

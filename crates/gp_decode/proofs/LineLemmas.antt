@@ -1,10 +1,11 @@
 -- Why there is no line.
-use Rattle.std.proofs.Common.{◌≡◌, ℕ, Bool, List, ◌++◌, length, codes, Ok, refl}
+use Rattle.std.proofs.Common.{◌≡◌, ℕ, Bool, true, false, List, ◌++◌, length, codes, Ok, refl}
 use Rattle.hex.specs.Hex.{decode_of}
 use Rattle.gp_ploam.specs.declared.check.Mask.{Mask}
 use Rattle.gp_decode.specs.declared.fault.LineFault.{LineFault}
 use Rattle.gp_decode.specs.declared.fault.LineFault.TheVariants as fault
-use Rattle.gp_decode.specs.Line.{HasLineFault, LacksLine, LacksWords}
+use Rattle.gp_decode.specs.Message.{down_text, up_text}
+use Rattle.gp_decode.specs.Line.{HasLineFault, HasWordsIn, LacksLine, LacksWords}
 
 -- a text with a fault of its own has no line
 pub lacks_line : (upstream : Bool) (mask : Mask) (text : List ℕ) (f : LineFault) → HasLineFault mask text f → LacksLine upstream mask text f
@@ -25,3 +26,9 @@ lacks_words upstream mask text code fault.Length spelled long h = absurd h
 lacks_words upstream mask text code fault.Digit spelled long h = absurd h
 lacks_words upstream mask text code fault.Write spelled long h = absurd h
 lacks_words upstream mask text code fault.Direction spelled long h = absurd h
+
+-- thirteen octets that have words with names of the standard have words, which there was no memory for
+pub lacks_memory : (names upstream : Bool) (mask : Mask) (code words : List ℕ) → HasWordsIn names upstream mask code words
+    → LacksWords upstream mask code fault.OutOfMemory
+lacks_memory names true mask code words h = (up_text h.0, (h.0, h.1, refl))
+lacks_memory names false mask code words h = (down_text h.0, (h.0, h.1, refl))

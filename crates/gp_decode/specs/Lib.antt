@@ -1,6 +1,6 @@
 pub mod Appending
-pub mod Message
 pub mod Names
+pub mod Message
 pub mod Line
 pub mod Faults
 pub mod LineText

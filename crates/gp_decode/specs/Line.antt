@@ -12,23 +12,33 @@ use Rattle.gp_ploam.specs.Down.{ReadsDown}
 use Rattle.gp_ploam.specs.Up.{ReadsUp}
 use Rattle.gp_decode.specs.declared.fault.LineFault.{LineFault}
 use Rattle.gp_decode.specs.declared.fault.LineFault.TheVariants as fault
-use Rattle.gp_decode.specs.Message.{down_text, up_text}
+use Rattle.gp_decode.specs.Message.{down_words, up_words}
 
--- the words of the message that a code is read as: upstream or downstream, under the mask
+-- the words of the message that a code is read as, with names of the standard or without: upstream or downstream, under
+-- the mask
+abbrev pub HasWordsIn : Bool → Bool → Mask → List ℕ → List ℕ → Type 0
+HasWordsIn names true mask code words = (m : Up) × ReadsUp code (mask_value mask) m × (words ≡ up_words names m)
+HasWordsIn names false mask code words = (m : Down) × ReadsDown code (mask_value mask) m × (words ≡ down_words names m)
+
+-- the same without
 abbrev pub HasWords : Bool → Mask → List ℕ → List ℕ → Type 0
-HasWords true mask code words = (m : Up) × ReadsUp code (mask_value mask) m × (words ≡ up_text m)
-HasWords false mask code words = (m : Down) × ReadsDown code (mask_value mask) m × (words ≡ down_text m)
+HasWords upstream mask code words = HasWordsIn false upstream mask code words
 
 -- the line says these words, and ends behind them
-abbrev pub SaysCode : Bool → Mask → List ℕ → List ℕ → Type 0
-SaysCode upstream mask code line =
-    (words : List ℕ) × HasWords upstream mask code words × (line ≡ words ++ codes "\n")
+abbrev pub SaysCode : Bool → Bool → Mask → List ℕ → List ℕ → Type 0
+SaysCode names upstream mask code line =
+    (words : List ℕ) × HasWordsIn names upstream mask code words × (line ≡ words ++ codes "\n")
 
--- the text is the hexadecimal digits of a code, and the line says the message that this is read as
-pub record Says (upstream : Bool) (mask : Mask) (text line : List ℕ) : Type 0 where
+-- the text is the hexadecimal digits of a code, and the line says the message that this is read as, with names of the
+-- standard or without
+pub record SaysIn (names upstream : Bool) (mask : Mask) (text line : List ℕ) : Type 0 where
   pub code : List ℕ
   pub spelled : decode_of text ≡ Ok code
-  pub said : SaysCode upstream mask code line
+  pub said : SaysCode names upstream mask code line
+
+-- the same without
+abbrev pub Says : Bool → Mask → List ℕ → List ℕ → Type 0
+Says upstream mask text line = SaysIn false upstream mask text line
 
 -- thirteen octets of which the last is not the check octet of the others under the mask
 abbrev pub HasWrongCheck : Mask → List ℕ → Type 0

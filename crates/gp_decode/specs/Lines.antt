@@ -14,7 +14,7 @@ use Rattle.gp_decode.specs.declared.decoder.FaultAt.{FaultAt}
 use Rattle.gp_decode.specs.declared.direction.Direction.{Direction}
 use Rattle.gp_decode.specs.declared.fault.LineFault.{LineFault}
 use Rattle.gp_decode.specs.declared.fault.LineFault.TheVariants as fault
-use Rattle.gp_decode.specs.Line.{HasLineFault, HasWrongCheck, Says}
+use Rattle.gp_decode.specs.Line.{HasLineFault, HasWrongCheck, SaysIn}
 use Rattle.gp_decode.specs.LineText.{code_digits, directed, direction_of, is_remark, without_return}
 
 -- the name of a fault of a text
@@ -59,16 +59,23 @@ check_note mask code =
 abbrev pub check_line : ℕ → Mask → List ℕ → List ℕ
 check_line line mask code = error_text line fault.Crc ++ check_note mask code ++ codes "\n"
 
--- where it stands: the direction and the mask of the codes, how many lines came, and the first that had a fault
+-- where it stands: the direction and the mask of the codes, whether messages are told with names of the standard, how
+-- many lines came, and the first that had a fault
 pub record DecodeState : Type 0 where
   pub direction : Direction
   pub mask : Mask
+  pub names : Bool
   pub lines : ℕ
   pub first : Option FaultAt
 
--- before the first line
+-- before the first line, with names of the standard or without
+abbrev pub opened_in : Bool → Direction → Mask → DecodeState
+opened_in names direction mask =
+    record { direction = direction; mask = mask; names = names; lines = 0; first = None }
+
+-- the same without
 abbrev pub opened_lines : Direction → Mask → DecodeState
-opened_lines direction mask = record { direction = direction; mask = mask; lines = 0; first = None }
+opened_lines direction mask = opened_in false direction mask
 
 -- the same where all codes are of one direction
 abbrev pub opened_decode : Bool → Mask → DecodeState
@@ -97,28 +104,28 @@ after (Some fault) state = faulted fault state
 
 -- the digits of a code with this fault, or none: they are answered by the line of the code's message; or by what would
 -- be right of a wrong check octet; or by their first fault
-abbrev pub SaysToDigits : Bool → Mask → ℕ → List ℕ → Option LineFault → List ℕ → Type 0
-SaysToDigits upstream mask line digits None said = Says upstream mask digits said
-SaysToDigits upstream mask line digits (Some fault.Crc) said = (code : List ℕ) × (decode_of digits ≡ Ok code)
+abbrev pub SaysToDigits : Bool → Bool → Mask → ℕ → List ℕ → Option LineFault → List ℕ → Type 0
+SaysToDigits names upstream mask line digits None said = SaysIn names upstream mask digits said
+SaysToDigits names upstream mask line digits (Some fault.Crc) said = (code : List ℕ) × (decode_of digits ≡ Ok code)
     × (length code ≡ 13) × HasWrongCheck mask code × (said ≡ check_line line mask code)
-SaysToDigits upstream mask line digits (Some fault) said =
+SaysToDigits names upstream mask line digits (Some fault) said =
     HasLineFault mask digits fault × (said ≡ error_line line fault)
 
 -- the same of a text whose code is a unit's or not; or of one that would have to say it and doesn't
-abbrev pub SaysToWay : Mask → ℕ → Option (Bool × List ℕ) → Option LineFault → List ℕ → Type 0
-SaysToWay mask line None told said = (told ≡ Some fault.Direction) × (said ≡ error_line line fault.Direction)
-SaysToWay mask line (Some way) told said = SaysToDigits way.0 mask line (code_digits way.1) told said
+abbrev pub SaysToWay : Bool → Mask → ℕ → Option (Bool × List ℕ) → Option LineFault → List ℕ → Type 0
+SaysToWay names mask line None told said = (told ≡ Some fault.Direction) × (said ≡ error_line line fault.Direction)
+SaysToWay names mask line (Some way) told said = SaysToDigits names way.0 mask line (code_digits way.1) told said
 
 -- a text that is no remark is answered so
-abbrev pub SaysToText : Direction → Mask → ℕ → List ℕ → Option LineFault → List ℕ → Type 0
-SaysToText direction mask line text fault said = SaysToWay mask line (directed direction text) fault said
+abbrev pub SaysToText : Bool → Direction → Mask → ℕ → List ℕ → Option LineFault → List ℕ → Type 0
+SaysToText names direction mask line text fault said = SaysToWay names mask line (directed direction text) fault said
 
 -- a line without its carriage return is passed over, or answered, and counted
 abbrev pub SaysOrPasses : DecodeState → List ℕ → List ℕ → DecodeState → Type 0
 SaysOrPasses old text said new =
     ((is_remark text ≡ true) × (said ≡ []) × (new ≡ counted old))
     ⊎ ((is_remark text ≡ false) × (fault : Option LineFault)
-    × SaysToText old.direction old.mask (old.lines + 1) text fault said × (new ≡ after fault old))
+    × SaysToText old.names old.direction old.mask (old.lines + 1) text fault said × (new ≡ after fault old))
 
 -- what is said to a line; one that is too long to be looked at has the fault of its length
 abbrev pub SaysToLine : DecodeState → Option (List ℕ) → List ℕ → DecodeState → Type 0
@@ -138,13 +145,18 @@ abbrev pub IsAnswer : Result LinesEnd LinesFault → DecodeState → Result (Opt
 IsAnswer (Ok end) new answer = answer ≡ Ok new.first
 IsAnswer (Err fault) new answer = answer ≡ Err fault
 
--- each line of an input was answered, in their order, from where none had come
-pub record DecodesEach {R W : Type 0} (direction : Direction) (mask : Mask) (from to : SourceState R)
+-- each line of an input was answered, in their order, from where none had come, with names of the standard or without
+pub record DecodesIn {R W : Type 0} (names : Bool) (direction : Direction) (mask : Mask) (from to : SourceState R)
     (before after : SinkState W) (answer : Result (Option FaultAt) LinesFault) : Type 0 where
   pub new : DecodeState
   pub end : Result LinesEnd LinesFault
-  pub served : Serves Decoding never 4096 from to (opened_lines direction mask) new before after end
+  pub served : Serves Decoding never 4096 from to (opened_in names direction mask) new before after end
   pub told : IsAnswer end new answer
+
+-- the same without
+abbrev pub DecodesEach : {R W : Type 0} → Direction → Mask → SourceState R → SourceState R → SinkState W → SinkState W
+    → Result (Option FaultAt) LinesFault → Type 0
+DecodesEach direction mask from to before after answer = DecodesIn false direction mask from to before after answer
 
 -- the same where all codes are of one direction
 abbrev pub DecodesLines : {R W : Type 0} → Bool → Mask → SourceState R → SourceState R → SinkState W → SinkState W

@@ -11,7 +11,7 @@ other_down_name id =
     else if id == 15 then Some (codes "PEE")
     else if id == 16 then Some (codes "Change_Power_Level")
     else if id == 17 then Some (codes "PST")
-    else if id == 18 then Some (codes "BER_Interval")
+    else if id == 18 then Some (codes "BER_interval")
     else if id == 19 then Some (codes "Key_Switching_Time")
     else if id == 20 then Some (codes "Extended_Burst_Length")
     else if id == 21 then Some (codes "PON-ID")
@@ -23,7 +23,7 @@ other_down_name id =
 abbrev pub other_up_name : ℕ → Option (List ℕ)
 other_up_name id =
     if id == 2 then Some (codes "Password")
-    else if id == 5 then Some (codes "Encryption_Key")
+    else if id == 5 then Some (codes "Encryption_key")
     else if id == 6 then Some (codes "PEE")
     else if id == 7 then Some (codes "PST")
     else if id == 8 then Some (codes "REI")

@@ -4,7 +4,7 @@ ghost use Rattle.hex.specs.Hex.{decode_of, encode_lower};
 ghost use Rattle.gp_decode.specs.LineText.{code_digits};
 ghost use Rattle.gp_decode.specs.Lines.{SaysToDigits, SaysToText, SaysToWay, check_line, check_note, error_line, error_text, fault_name, mask_text, other_mask};
 
-use crate::append::push_words_of;
+use crate::append::push_words_in;
 use crate::code::code_in;
 use crate::direction::Direction;
 use crate::fault::LineFault;
@@ -111,12 +111,13 @@ fn put_code(
     code: &[u8; 13],
     upstream: bool,
     mask: Mask,
+    names: bool,
 ) -> Result<Option<LineFault>, AllocError>
     ensures { (digits : List ℕ) → decode_of digits ≡ Ok code.now
-        → IfOk result (λ fault. SaysToDigits upstream mask line digits fault out.new.items) }
+        → IfOk result (λ fault. SaysToDigits names upstream mask line digits fault out.new.items) }
 {
     out.clear();
-    match push_words_of(out, code, upstream, mask) {
+    match push_words_in(out, code, upstream, mask, names) {
         Ok(()) => {
             out.extend_from_slice(b"\n")?;
             Ok(None)
@@ -136,11 +137,12 @@ fn put_answer(
     digits: &[u8],
     upstream: bool,
     mask: Mask,
+    names: bool,
 ) -> Result<Option<LineFault>, AllocError>
-    ensures { IfOk result (λ fault. SaysToDigits upstream mask line digits.now fault out.new.items) }
+    ensures { IfOk result (λ fault. SaysToDigits names upstream mask line digits.now fault out.new.items) }
 {
     match code_in(digits) {
-        Ok(code) => put_code(out, line, &code, upstream, mask),
+        Ok(code) => put_code(out, line, &code, upstream, mask, names),
         Err(fault) => {
             put_error_line(out, line, fault)?;
             Ok(Some(fault))
@@ -178,8 +180,9 @@ impl Answer {
         text: &[u8],
         direction: Direction,
         mask: Mask,
+        names: bool,
     ) -> Result<Option<LineFault>, AllocError>
-        ensures { IfOk result (λ fault. SaysToText direction mask line text.now fault self.new.said.items) }
+        ensures { IfOk result (λ fault. SaysToText names direction mask line text.now fault self.new.said.items) }
     {
         let Some((upstream, code)) = directed(direction, text) else {
             self.refuse(line, LineFault::Direction)?;
@@ -187,6 +190,7 @@ impl Answer {
         };
         self.digits.clear();
         push_digits(&mut self.digits, code)?;
-        put_answer(&mut self.said, line, self.digits.as_slice(), upstream, mask)
+        let digits = self.digits.as_slice();
+        put_answer(&mut self.said, line, digits, upstream, mask, names)
     }
 }

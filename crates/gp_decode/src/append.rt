@@ -3,10 +3,12 @@ ghost use Rattle.std.specs.Prelude.{◌≡◌, ◌≢◌, ◌+◌, ◌<◌, ◌�
 ghost use Rattle.hex.specs.Hex.{encode_lower};
 ghost use Rattle.gp_serial.specs.Spelling.{text_of_serial};
 ghost use Rattle.gp_decode.specs.Appending.{Appends};
-ghost use Rattle.gp_decode.specs.Line.{HasWords, LacksWords};
-ghost use Rattle.gp_decode.specs.Message.{down_text, keep_text, other_text, up_text};
+ghost use Rattle.gp_decode.specs.Line.{HasWords, HasWordsIn, LacksWords};
+ghost use Rattle.gp_decode.specs.Message.{down_named, down_text, down_words, keep_text, named_text, other_text, up_named, up_text, up_words};
+ghost use Rattle.gp_decode.specs.Names as standard;
 
 use super::fault::LineFault;
+use super::names::other_name;
 use gp_ploam::{Down, Mask, Serial, Up, decode_down, decode_up};
 use gp_serial::push_serial_text;
 use itoa::Buffer;
@@ -26,6 +28,14 @@ fn push_numbered(out: &mut Vec<u8>, word: &str, number: u32) -> Result<(), Alloc
 {
     out.extend_from_slice(word.as_bytes())?;
     push_number(out, number)
+}
+
+/// Appends a name and a number.
+fn push_named_number(out: &mut Vec<u8>, name: &str, number: u32) -> Result<(), AllocError>
+    ensures { Appends (name.now ++ codes " " ++ decimal number) out.old out.new result }
+{
+    out.extend_from_slice(name.as_bytes())?;
+    push_numbered(out, " ", number)
 }
 
 /// Appends a word and two numbers.
@@ -68,6 +78,31 @@ fn push_other(out: &mut Vec<u8>, id: u8, octet1: u8, body: &[u8; 10]) -> Result<
 {
     push_numbers(out, "Other ", u32::from(id), u32::from(octet1))?;
     push_octets(out, " ", body)
+}
+
+/// Appends a name, its octet 1, and octets 3 to 12.
+fn push_name(out: &mut Vec<u8>, name: &str, octet1: u8, body: &[u8; 10]) -> Result<(), AllocError>
+    ensures { Appends (name.now ++ codes " " ++ decimal octet1 ++ codes " " ++ encode_lower body.now)
+        out.old out.new result }
+{
+    push_named_number(out, name, u32::from(octet1))?;
+    push_octets(out, " ", body)
+}
+
+/// Appends a message that this profile has no name for, by the name that the standard has for it, if it has one.
+fn push_named(
+    out: &mut Vec<u8>,
+    upstream: bool,
+    id: u8,
+    octet1: u8,
+    body: &[u8; 10],
+) -> Result<(), AllocError>
+    ensures { Appends (named_text (standard.other_name upstream id) id octet1 body.now) out.old out.new result }
+{
+    match other_name(upstream, id) {
+        Some(name) => push_name(out, name, octet1, body),
+        None => push_other(out, id, octet1, body),
+    }
 }
 
 /// Gives the word for what becomes of an Alloc-ID, behind a space.
@@ -155,6 +190,48 @@ pub(crate) fn push_up(out: &mut Vec<u8>, message: &Up) -> Result<(), AllocError>
     }
 }
 
+/// Appends a message of the line terminal, with the standard's name of one that this profile has no name for.
+fn push_named_down(out: &mut Vec<u8>, message: &Down) -> Result<(), AllocError>
+    ensures { Appends (down_named message.now) out.old out.new result }
+{
+    match message {
+        Down::Other { id, octet1, body } => push_named(out, false, *id, *octet1, body),
+        _ => push_down(out, message),
+    }
+}
+
+/// The same with such names or without.
+fn push_down_in(out: &mut Vec<u8>, message: &Down, names: bool) -> Result<(), AllocError>
+    ensures { Appends (down_words names message.now) out.old out.new result }
+{
+    if names {
+        push_named_down(out, message)
+    } else {
+        push_down(out, message)
+    }
+}
+
+/// Appends a message of a unit, with the standard's name of one that this profile has no name for.
+fn push_named_up(out: &mut Vec<u8>, message: &Up) -> Result<(), AllocError>
+    ensures { Appends (up_named message.now) out.old out.new result }
+{
+    match message {
+        Up::Other { id, octet1, body } => push_named(out, true, *id, *octet1, body),
+        _ => push_up(out, message),
+    }
+}
+
+/// The same with such names or without.
+fn push_up_in(out: &mut Vec<u8>, message: &Up, names: bool) -> Result<(), AllocError>
+    ensures { Appends (up_words names message.now) out.old out.new result }
+{
+    if names {
+        push_named_up(out, message)
+    } else {
+        push_up(out, message)
+    }
+}
+
 /// Appends the words of the message that a code is read as, as `words_of` makes them. `Crc` is answered where the check
 /// octet is wrong under the mask.
 ///
@@ -176,43 +253,78 @@ pub fn push_words_of(
         × (vec_capacity out.old < vec_len out.old + length words) }
     ensures capacity { vec_capacity out.old ≤ vec_capacity out.new }
 {
+    push_words_in(out, code, upstream, mask, false)
+}
+
+/// Appends them so, and where `names` with the name that G.984.3 has for a message that this profile has no row for, in
+/// the place of `Other` and its identifier: `Request_Password 255 00000000000000000000`. One that has no such name is
+/// told as `Other` then too.
+///
+/// What of memory and of a wrong check octet is the same.
+pub fn push_words_in(
+    out: &mut Vec<u8>,
+    code: &[u8; 13],
+    upstream: bool,
+    mask: Mask,
+    names: bool,
+) -> Result<(), LineFault>
+    ensures words { OnOk result ((words : List ℕ) × HasWordsIn names upstream mask code.now words
+        × (out.new.items ≡ out.old.items ++ words)) }
+    ensures fault { IfErr result (LacksWords upstream mask code.now) }
+    ensures kept { IfErr result (λ fault. fault ≢ LineFault.OutOfMemory → out.new.items ≡ out.old.items) }
+    ensures part { result ≡ Err LineFault.OutOfMemory → (part rest : List ℕ)
+        × HasWordsIn names upstream mask code.now (part ++ rest) × (out.new.items ≡ out.old.items ++ part) }
+    ensures room { result ≡ Err LineFault.OutOfMemory → (words : List ℕ) × HasWordsIn names upstream mask code.now words
+        × (vec_capacity out.old < vec_len out.old + length words) }
+    ensures capacity { vec_capacity out.old ≤ vec_capacity out.new }
+{
     if upstream {
-        push_up_words(out, code, mask)
+        push_up_words(out, code, mask, names)
     } else {
-        push_down_words(out, code, mask)
+        push_down_words(out, code, mask, names)
     }
 }
 
 /// Appends the words of the upstream message that a code is read as.
-fn push_up_words(out: &mut Vec<u8>, code: &[u8; 13], mask: Mask) -> Result<(), LineFault>
-    ensures words { OnOk result ((words : List ℕ) × HasWords true mask code.now words
+fn push_up_words(
+    out: &mut Vec<u8>,
+    code: &[u8; 13],
+    mask: Mask,
+    names: bool,
+) -> Result<(), LineFault>
+    ensures words { OnOk result ((words : List ℕ) × HasWordsIn names true mask code.now words
         × (out.new.items ≡ out.old.items ++ words)) }
     ensures fault { IfErr result (LacksWords true mask code.now) }
     ensures kept { IfErr result (λ fault. fault ≢ LineFault.OutOfMemory → out.new.items ≡ out.old.items) }
-    ensures part { result ≡ Err LineFault.OutOfMemory → (part rest : List ℕ) × HasWords true mask code.now (part ++ rest)
-        × (out.new.items ≡ out.old.items ++ part) }
-    ensures room { result ≡ Err LineFault.OutOfMemory → (words : List ℕ) × HasWords true mask code.now words
+    ensures part { result ≡ Err LineFault.OutOfMemory → (part rest : List ℕ)
+        × HasWordsIn names true mask code.now (part ++ rest) × (out.new.items ≡ out.old.items ++ part) }
+    ensures room { result ≡ Err LineFault.OutOfMemory → (words : List ℕ) × HasWordsIn names true mask code.now words
         × (vec_capacity out.old < vec_len out.old + length words) }
     ensures capacity { vec_capacity out.old ≤ vec_capacity out.new }
 {
     let message = decode_up(code, mask)?;
-    push_up(out, &message)?;
+    push_up_in(out, &message, names)?;
     Ok(())
 }
 
 /// Appends the words of the downstream message that a code is read as.
-fn push_down_words(out: &mut Vec<u8>, code: &[u8; 13], mask: Mask) -> Result<(), LineFault>
-    ensures words { OnOk result ((words : List ℕ) × HasWords false mask code.now words
+fn push_down_words(
+    out: &mut Vec<u8>,
+    code: &[u8; 13],
+    mask: Mask,
+    names: bool,
+) -> Result<(), LineFault>
+    ensures words { OnOk result ((words : List ℕ) × HasWordsIn names false mask code.now words
         × (out.new.items ≡ out.old.items ++ words)) }
     ensures fault { IfErr result (LacksWords false mask code.now) }
     ensures kept { IfErr result (λ fault. fault ≢ LineFault.OutOfMemory → out.new.items ≡ out.old.items) }
-    ensures part { result ≡ Err LineFault.OutOfMemory → (part rest : List ℕ) × HasWords false mask code.now (part ++ rest)
-        × (out.new.items ≡ out.old.items ++ part) }
-    ensures room { result ≡ Err LineFault.OutOfMemory → (words : List ℕ) × HasWords false mask code.now words
+    ensures part { result ≡ Err LineFault.OutOfMemory → (part rest : List ℕ)
+        × HasWordsIn names false mask code.now (part ++ rest) × (out.new.items ≡ out.old.items ++ part) }
+    ensures room { result ≡ Err LineFault.OutOfMemory → (words : List ℕ) × HasWordsIn names false mask code.now words
         × (vec_capacity out.old < vec_len out.old + length words) }
     ensures capacity { vec_capacity out.old ≤ vec_capacity out.new }
 {
     let message = decode_down(code, mask)?;
-    push_down(out, &message)?;
+    push_down_in(out, &message, names)?;
     Ok(())
 }

@@ -1,6 +1,6 @@
 //! Codes, one on each line.
 ghost use Rattle.std.specs.Prelude.{◌≡◌, ◌+◌, ◌<◌, ◌^◌};
-ghost use Rattle.gp_decode.specs.Lines.{after, opened_decode, opened_lines};
+ghost use Rattle.gp_decode.specs.Lines.{after, opened_decode, opened_in, opened_lines};
 
 use super::answer::Answer;
 use super::direction::Direction;
@@ -23,11 +23,13 @@ pub struct FaultAt {
 }
 
 /// Says to each line the message of the code in it, or its fault, and passes over remarks. Contracts see the direction
-/// and the mask of the codes, how many lines came, and the first that had a fault.
+/// and the mask of the codes, whether names of the standard are told, how many lines came, and the first that had a
+/// fault.
 #[derive(Drop)]
 pub struct Decoder {
     direction: Direction,
     mask: Mask,
+    names: bool,
     lines: u64,
     first: Option<FaultAt>,
     answer: Answer,
@@ -38,7 +40,13 @@ impl Model for Decoder {
 
     ghost Value = { DecodeState };
 
-    ghost view = { λ s. record { direction = s.direction; mask = s.mask; lines = s.lines; first = s.first } };
+    ghost view = { λ s. record {
+      direction = s.direction;
+      mask = s.mask;
+      names = s.names;
+      lines = s.lines;
+      first = s.first;
+    } };
 }
 
 impl Decoder {
@@ -53,9 +61,18 @@ impl Decoder {
     pub fn directed(alloc: Global, direction: Direction, mask: Mask) -> Decoder
         ensures { result ≡ opened_lines direction mask }
     {
+        Decoder::naming(alloc, direction, mask, false)
+    }
+
+    /// Makes one to which no line came, and which tells messages that this profile has no row for by the names that the
+    /// standard has for them, where `names`.
+    pub fn naming(alloc: Global, direction: Direction, mask: Mask, names: bool) -> Decoder
+        ensures { result ≡ opened_in names direction mask }
+    {
         Decoder {
             direction,
             mask,
+            names,
             lines: 0,
             first: None,
             answer: Answer::new(alloc),
@@ -103,7 +120,9 @@ impl LineWork for Decoder {
             return Ok(());
         }
         let line = self.lines + 1;
-        let fault = self.answer.tell(line, text, self.direction, self.mask)?;
+        let fault = self
+            .answer
+            .tell(line, text, self.direction, self.mask, self.names)?;
         sink.put(self.answer.said.as_slice())?;
         self.count(fault);
         Ok(())

@@ -2,12 +2,13 @@
 //!
 //! Promise: a code is told in the words of its message, or its first fault is (`decode_line`, `decode_lines`).
 //!
-//! - `line.rt`: `decode_line`, which reads the digits and writes the message's line.
-//! - `lines.rt`: `decode_lines`, which does so of each line of an input, and `decode_each`, where each says its
-//!   direction; `decoder.rt`: `Decoder`, what serves the lines; `answer.rt`: what is said to one; `text.rt`: what a
-//!   line says; `direction.rt`: whose messages the codes are.
+//! - `line.rt`: `decode_line`, which reads the digits and writes the message's line; `decode_line_in`, with names of
+//!   the standard too.
+//! - `lines.rt`: `decode_lines`, which does so of each line of an input, and `decode_each` and `decode_each_in`, where
+//!   each says its direction; `decoder.rt`: `Decoder`, what serves the lines; `answer.rt`: what is said to one;
+//!   `text.rt`: what a line says; `direction.rt`: whose messages the codes are.
 //! - `words.rt`: `words_of`, the words of thirteen octets. `append.rt`: `push_words_of`, the same behind what a buffer
-//!   holds.
+//!   holds, and `push_words_in`, with names of the standard too.
 //! - `code.rt`: the thirteen octets of a text of hexadecimal digits.
 //! - `message.rt`: a message as its name and its fields; `names.rt`: `other_name`, the names of messages without a row.
 //! - `laws.rt`: a code in digits alone is read as it is; no row has another name.
@@ -33,13 +34,13 @@ mod names;
 mod text;
 mod words;
 
-pub use append::push_words_of;
+pub use append::{push_words_in, push_words_of};
 pub use decoder::{Decoder, FaultAt};
 pub use direction::Direction;
 pub use fault::LineFault;
 pub use laws::{named_rows_stay, plain_digits_stay};
-pub use line::decode_line;
-pub use lines::{decode_each, decode_lines};
+pub use line::{decode_line, decode_line_in};
+pub use lines::{decode_each, decode_each_in, decode_lines};
 pub use names::other_name;
 pub use text::{is_remark, without_return};
 pub use words::words_of;

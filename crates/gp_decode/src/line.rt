@@ -1,13 +1,12 @@
 //! The line of a code.
 ghost use Rattle.std.specs.Prelude.{◌≡◌, ◌≢◌, ◌↔◌, ℕ, List, [], OnOk, OnErr, IfOk, IfErr, IsErr, Err, true, false};
-ghost use Rattle.std.specs.String.{string_bytes};
 ghost use Rattle.gp_stream.specs.Sink.{Takes, TakesPrefix};
 ghost use Rattle.gp_decode.specs.declared.fault.LineFault.{LineFault as AnyFault};
-ghost use Rattle.gp_decode.specs.Line.{HasLineFault, IsOfText, LacksLine, Says};
+ghost use Rattle.gp_decode.specs.Line.{HasLineFault, IsOfText, LacksLine, Says, SaysIn};
 
+use super::append::push_words_in;
 use super::code::code_in;
 use super::fault::LineFault;
-use super::words::words_of;
 use gp_ploam::Mask;
 use gp_stream::Sink;
 use std::alloc::Global;
@@ -38,23 +37,49 @@ pub fn decode_line<W: Write>(
         → (line : List ℕ) × Says upstream mask text.now line × TakesPrefix sink.old sink.new line }
     ensures kept { IfErr result (λ fault. fault ≢ LineFault.Write → sink.new ≡ sink.old) }
 {
-    let line = line_for(alloc, text.as_bytes(), upstream, mask)?;
-    sink.write_whole(line.as_bytes())?;
+    decode_line_in(alloc, text, upstream, mask, false, sink)
+}
+
+/// Writes it so, and where `names` with the name that G.984.3 has for a message that this profile has no row for, in
+/// the place of `Other` and its identifier.
+pub fn decode_line_in<W: Write>(
+    alloc: Global,
+    text: &str,
+    upstream: bool,
+    mask: Mask,
+    names: bool,
+    sink: &mut Sink<W>,
+) -> Result<(), LineFault>
+    ensures ok { OnOk result ((line : List ℕ) × SaysIn names upstream mask text.now line
+        × Takes sink.old sink.new line) }
+    ensures written { OnOk result (sink.new.gathered ≡ []) }
+    ensures flushed { sink.old.flushed ≡ true → OnOk result (sink.new.flushed ≡ true) }
+    ensures finished { OnOk result (sink.new.stopped ≡ false) }
+    ensures fault { (fault : AnyFault) → IsOfText fault → (result ≡ Err fault) ↔ HasLineFault mask text.now fault }
+    ensures write { result ≡ Err LineFault.Write → sink.new.stopped ≡ true }
+    ensures prefix { result ≡ Err LineFault.Write
+        → (line : List ℕ) × SaysIn names upstream mask text.now line × TakesPrefix sink.old sink.new line }
+    ensures kept { IfErr result (λ fault. fault ≢ LineFault.Write → sink.new ≡ sink.old) }
+{
+    let line = line_for(alloc, text.as_bytes(), upstream, mask, names)?;
+    sink.write_whole(line.as_slice())?;
     Ok(())
 }
 
 /// Makes the line of the message that a text is the code of.
-pub(crate) fn line_for(
+fn line_for(
     alloc: Global,
     text: &[u8],
     upstream: bool,
     mask: Mask,
-) -> Result<String, LineFault>
-    ensures line { IfOk result (λ line. Says upstream mask text.now (string_bytes line)) }
+    names: bool,
+) -> Result<Vec<u8>, LineFault>
+    ensures line { IfOk result (λ line. SaysIn names upstream mask text.now line.items) }
     ensures fault { IfErr result (LacksLine upstream mask text.now) }
 {
     let code = code_in(text)?;
-    let mut line = words_of(alloc, &code, upstream, mask)?;
-    line.push('\n')?;
+    let mut line = Vec::new(alloc);
+    push_words_in(&mut line, &code, upstream, mask, names)?;
+    line.extend_from_slice(b"\n")?;
     Ok(line)
 }

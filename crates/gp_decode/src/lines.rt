@@ -1,6 +1,6 @@
 //! All lines of an input.
 ghost use Rattle.std.specs.Prelude.{◌≡◌, true};
-ghost use Rattle.gp_decode.specs.Lines.{DecodesEach, DecodesLines};
+ghost use Rattle.gp_decode.specs.Lines.{DecodesEach, DecodesIn, DecodesLines};
 
 use super::decoder::{Decoder, FaultAt};
 use super::direction::Direction;
@@ -41,7 +41,23 @@ pub fn decode_each<R: Read, W: Write>(
     requires { sink.old.flushed ≡ true }
     ensures { DecodesEach direction mask source.old source.new sink.old sink.new result }
 {
-    let mut decoder = Decoder::directed(alloc, direction, mask);
+    decode_each_in(alloc, source, sink, direction, mask, false)
+}
+
+/// Does so, and where `names` with the names that G.984.3 has for messages that this profile has no row for, in the
+/// place of `Other` and the identifier.
+pub fn decode_each_in<R: Read, W: Write>(
+    alloc: Global,
+    source: &mut Source<R>,
+    sink: &mut Sink<W>,
+    direction: Direction,
+    mask: Mask,
+    names: bool,
+) -> Result<Option<FaultAt>, LinesFault>
+    requires { sink.old.flushed ≡ true }
+    ensures { DecodesIn names direction mask source.old source.new sink.old sink.new result }
+{
+    let mut decoder = Decoder::naming(alloc, direction, mask, names);
     run_lines(alloc, source, sink, &mut decoder)?;
     Ok(decoder.first_fault())
 }

@@ -15,7 +15,7 @@ fn other_down_name(id: u8) -> Option<&'static str>
         15 => Some("PEE"),
         16 => Some("Change_Power_Level"),
         17 => Some("PST"),
-        18 => Some("BER_Interval"),
+        18 => Some("BER_interval"),
         19 => Some("Key_Switching_Time"),
         20 => Some("Extended_Burst_Length"),
         21 => Some("PON-ID"),
@@ -31,7 +31,7 @@ fn other_up_name(id: u8) -> Option<&'static str>
 {
     match id {
         2 => Some("Password"),
-        5 => Some("Encryption_Key"),
+        5 => Some("Encryption_key"),
         6 => Some("PEE"),
         7 => Some("PST"),
         8 => Some("REI"),

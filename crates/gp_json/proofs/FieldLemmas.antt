@@ -1,11 +1,14 @@
 -- The field that a part makes, by what it is told as.
-use Rattle.std.proofs.Common.{◌≡◌, ℕ, Bool, List, ◌++◌, Result, subst}
+use Rattle.std.proofs.Common.{◌≡◌, ℕ, Bool, List, ◌++◌, Ok, Result, codes, refl, subst, ap, ◌∙◌, append_assoc}
 use Rattle.std.specs.Prelude.{IfOk, MatchBool}
 use Rattle.gp_ploam.specs.declared.check.Mask.{Mask}
 use Rattle.gp_json.specs.declared.slot.Slot.{Slot}
 use Rattle.gp_json.specs.declared.slot.Kind.{Kind}
 use Rattle.gp_json.specs.Slots.{kind_of}
-use Rattle.gp_json.specs.Fields.{TellsAs}
+use Rattle.hex.specs.Hex.{decode_sized}
+use Rattle.gp_json.specs.Allocs.{alloc_list}
+use Rattle.gp_json.specs.Spelling.{quoted}
+use Rattle.gp_json.specs.Fields.{TellsAs, TellsCode, TellsFields, TellsMessage, allocs_field, fields_opening, message_opening, opening}
 
 -- the part was told as this, or can't be
 abbrev pub ToldAs : Kind → Mask → Slot → List ℕ → List ℕ → List ℕ → Bool → Type 0
@@ -15,3 +18,28 @@ ToldAs kind mask slot part old new told =
 pub by_kind : {E : Type 0} (r : Result Bool E) (kind : Kind) (mask : Mask) (slot : Slot) (part old new : List ℕ) → kind ≡ kind_of slot → IfOk r (ToldAs kind mask slot part old new)
     → IfOk r (ToldAs (kind_of slot) mask slot part old new)
 by_kind r kind mask slot part old new same h = subst (λ (k : Kind). IfOk r (ToldAs k mask slot part old new)) same h
+
+-- a text behind what was appended
+behind : (old text more mid new : List ℕ) → mid ≡ old ++ text → new ≡ mid ++ more → new ≡ old ++ (text ++ more)
+behind old text more mid new first second = second ∙ ap (λ (l : List ℕ). l ++ more) first ∙ append_assoc old text more
+
+-- a code was told, its message, and the object of that
+pub code_told : (upstream : Bool) (mask : Mask) (slot : Slot) (part octets message fields old name digits opened told named new : List ℕ)
+    → decode_sized part 13 ≡ Ok octets → TellsMessage upstream mask octets message → TellsFields upstream mask octets fields
+    → name ≡ old ++ opening slot → digits ≡ name ++ quoted part → opened ≡ digits ++ message_opening upstream → told ≡ opened ++ message
+    → named ≡ told ++ fields_opening upstream → new ≡ named ++ fields → (said : List ℕ) × TellsCode upstream mask slot part said × (new ≡ old ++ said)
+code_told upstream mask slot part octets message fields old name digits opened told named new spelled tells shows first second third fourth fifth sixth =
+    let one = behind old (opening slot) (quoted part) name digits first second in
+    let two = behind old (opening slot ++ quoted part) (message_opening upstream) digits opened one third in
+    let three = behind old (opening slot ++ quoted part ++ message_opening upstream) message opened told two fourth in
+    let four = behind old (opening slot ++ quoted part ++ message_opening upstream ++ message) (fields_opening upstream) told named three fifth in
+    let five = behind old (opening slot ++ quoted part ++ message_opening upstream ++ message ++ fields_opening upstream) fields named new four sixth in
+    (opening slot ++ quoted part ++ message_opening upstream ++ message ++ fields_opening upstream ++ fields, (octets, message, fields, spelled, tells, shows, refl), five)
+
+-- Alloc-IDs were told, and their list
+pub allocs_told : (slot : Slot) (part old name digits opened new : List ℕ) → name ≡ old ++ opening slot → digits ≡ name ++ quoted part
+    → opened ≡ digits ++ codes ",\"alloc_list\":" → new ≡ opened ++ alloc_list part → new ≡ old ++ allocs_field slot part
+allocs_told slot part old name digits opened new first second third fourth =
+    let one = behind old (opening slot) (quoted part) name digits first second in
+    let two = behind old (opening slot ++ quoted part) (codes ",\"alloc_list\":") digits opened one third in
+    behind old (opening slot ++ quoted part ++ codes ",\"alloc_list\":") (alloc_list part) opened new two fourth

@@ -2,3 +2,4 @@ pub mod FieldLemmas
 pub mod PartsLemmas
 pub mod RunsLemmas
 pub mod MessageLemmas
+pub mod AllocLemmas

@@ -2,11 +2,18 @@
 use Rattle.std.specs.Prelude.{◌≡◌, ◌⊎◌, ℕ, Bool, true, false, List, [], ◌∷◌, ◌++◌, Ok, codes}
 use Rattle.hex.specs.Hex.{decode_sized}
 use Rattle.gp_ploam.specs.declared.check.Mask.{Mask}
+use Rattle.gp_ploam.specs.declared.message.Down.{Down}
+use Rattle.gp_ploam.specs.declared.message.Up.{Up}
+use Rattle.gp_ploam.specs.Down.{ReadsDown}
+use Rattle.gp_ploam.specs.Mask.{mask_value}
+use Rattle.gp_ploam.specs.Up.{ReadsUp}
 use Rattle.gp_decode.specs.Line.{HasWords, HasWrongCheck}
 use Rattle.gp_json.specs.declared.slot.Slot.{Slot}
 use Rattle.gp_json.specs.declared.slot.Slot.TheVariants as slots
 use Rattle.gp_json.specs.declared.slot.Kind.{Kind}
 use Rattle.gp_json.specs.declared.slot.Kind.TheVariants as kinds
+use Rattle.gp_json.specs.Allocs.{alloc_list}
+use Rattle.gp_json.specs.Message.{down_object, up_object}
 use Rattle.gp_json.specs.Slots.{key_of, kind_of, may_end, slot_after}
 use Rattle.gp_json.specs.Spelling.{is_number, quoted}
 
@@ -30,11 +37,31 @@ abbrev pub message_opening : Bool → List ℕ
 message_opening true = codes ",\"message\":"
 message_opening false = codes ",\"sent_message\":"
 
--- a code of thirteen octets, as the line spells it, and its message
+-- the object of the message that a code is read as
+abbrev pub HasObject : Bool → Mask → List ℕ → List ℕ → Type 0
+HasObject true mask octets said = (m : Up) × ReadsUp octets (mask_value mask) m × (said ≡ up_object m)
+HasObject false mask octets said = (m : Down) × ReadsDown octets (mask_value mask) m × (said ≡ down_object m)
+
+-- the same, or nothing where the check octet is wrong
+abbrev pub TellsFields : Bool → Mask → List ℕ → List ℕ → Type 0
+TellsFields upstream mask octets said =
+    HasObject upstream mask octets said ⊎ (HasWrongCheck mask octets × (said ≡ codes "null"))
+
+-- its name
+abbrev pub fields_opening : Bool → List ℕ
+fields_opening true = codes ",\"message_fields\":"
+fields_opening false = codes ",\"sent_fields\":"
+
+-- a code of thirteen octets, as the line spells it, its message, and the object of that
 abbrev pub TellsCode : Bool → Mask → Slot → List ℕ → List ℕ → Type 0
 TellsCode upstream mask slot part said =
-    (octets message : List ℕ) × (decode_sized part 13 ≡ Ok octets) × TellsMessage upstream mask octets message
-    × (said ≡ opening slot ++ quoted part ++ message_opening upstream ++ message)
+    (octets message fields : List ℕ) × (decode_sized part 13 ≡ Ok octets) × TellsMessage upstream mask octets message
+    × TellsFields upstream mask octets fields
+    × (said ≡ opening slot ++ quoted part ++ message_opening upstream ++ message ++ fields_opening upstream ++ fields)
+
+-- Alloc-IDs, as the line spells them, and their list
+abbrev pub allocs_field : Slot → List ℕ → List ℕ
+allocs_field slot part = opening slot ++ quoted part ++ codes ",\"alloc_list\":" ++ alloc_list part
 
 -- a part, by what it is told as
 abbrev pub TellsAs : Kind → Mask → Slot → List ℕ → List ℕ → Type 0
@@ -42,7 +69,7 @@ TellsAs kinds.Number mask slot part said = (is_number part ≡ true) × (said �
 TellsAs kinds.Text mask slot part said = said ≡ opening slot ++ quoted part
 TellsAs kinds.UnitCode mask slot part said = TellsCode true mask slot part said
 TellsAs kinds.TerminalCode mask slot part said = TellsCode false mask slot part said
-TellsAs kinds.Allocs mask slot part said = said ≡ opening slot ++ quoted part
+TellsAs kinds.Allocs mask slot part said = said ≡ allocs_field slot part
 TellsAs kinds.Silent mask slot part said = said ≡ []
 TellsAs kinds.Unknown mask slot part said = ⊥
 

@@ -7,6 +7,7 @@ use Rattle.gp_lines.specs.Parts.{parts_of}
 use Rattle.gp_json.specs.declared.slot.Slot.TheVariants.{Port}
 use Rattle.gp_json.specs.Spelling.{is_number, quoted}
 use Rattle.gp_json.specs.Fields.{TellsParts}
+use Rattle.gp_json.specs.Units.{UnitFields, unit_fields_object, unit_of}
 
 -- how many frames the port has had, if that is told
 abbrev pub frames_field : Option ℕ → List ℕ
@@ -56,11 +57,17 @@ abbrev pub done_of : List (List ℕ) → Option (List ℕ)
 done_of [] = None
 done_of (word ∷ others) = done_behind word (one_of others)
 
+-- what is told of a unit, or any other line
+abbrev pub unit_object : Option UnitFields → List ℕ → List ℕ
+unit_object None text = line_object text
+unit_object (Some unit) text = unit_fields_object unit
+
+-- the number of a line that is done; else a line of a unit, or any other
 abbrev pub done_object : Option (List ℕ) → List ℕ → List ℕ
-done_object None text = line_object text
+done_object None text = unit_object (unit_of (parts_of text)) text
 done_object (Some line) text = codes "{\"done\":" ++ line ++ codes "}\n"
 
--- the number of a line that is no turn, and its fault; else a line that is done, or any other
+-- the number of a line that is no turn, and its fault; else a line that is done, that of a unit, or any other
 abbrev pub error_object : Option (List ℕ × List ℕ) → List ℕ → List ℕ
 error_object None text = done_object (done_of (parts_of text)) text
 error_object (Some (line, kind)) text = codes "{\"error\":" ++ quoted kind ++ codes ",\"line\":" ++ line ++ codes "}\n"

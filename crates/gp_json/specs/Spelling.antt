@@ -1,4 +1,4 @@
--- How JSON spells texts and numbers (RFC 8259), in printable ASCII alone.
+-- How JSON spells texts and numbers (RFC 8259): octets in printable ASCII alone, a text in UTF-8 with its characters.
 use Rattle.std.specs.Prelude.{ℕ, ◌+◌, ◌/◌, ◌%◌, ◌==◌, ◌&&◌, ◌||◌, nat_le, nat_lt, not, Bool, true, false, if◌then◌else◌, List, [], ◌∷◌, ◌++◌, codes}
 use Rattle.std.specs.List.{flat_map, list_all}
 
@@ -17,6 +17,14 @@ escaped octet =
 -- a text
 abbrev pub quoted : List ℕ → List ℕ
 quoted text = codes "\"" ++ flat_map escaped text ++ codes "\""
+
+-- an octet within a text in UTF-8: one of a character beyond ASCII stands for itself
+abbrev pub escaped_utf8 : ℕ → List ℕ
+escaped_utf8 octet = if nat_lt 127 octet then octet ∷ [] else escaped octet
+
+-- a text in UTF-8
+abbrev pub quoted_utf8 : List ℕ → List ℕ
+quoted_utf8 text = codes "\"" ++ flat_map escaped_utf8 text ++ codes "\""
 
 abbrev pub is_digit : ℕ → Bool
 is_digit octet = nat_le 48 octet && nat_le octet 57

@@ -1,12 +1,14 @@
 //! The field that a part of a line makes.
 ghost use Rattle.std.specs.Prelude.{◌≡◌, ◌++◌, ℕ, List, OnOk, IfOk, MatchBool, false, true};
 ghost use Rattle.gp_json.specs.Spelling.{is_number, quoted};
-ghost use Rattle.gp_json.specs.Fields.{TellsCode, TellsMessage, TellsPart, message_opening, opening};
+ghost use Rattle.gp_json.specs.Fields.{TellsCode, TellsFields, TellsMessage, TellsPart, allocs_field, fields_opening, message_opening, opening};
 
+use crate::allocs::push_list;
+use crate::message::{push_down_object, push_up_object};
 use crate::slot::{Kind, Slot};
 use crate::text::{end_quoted, is_number, push_quoted};
 use gp_decode::{LineFault, push_words_of};
-use gp_ploam::Mask;
+use gp_ploam::{Mask, decode_down, decode_up};
 use hex::FromHex;
 use std::alloc::{AllocError, Global};
 
@@ -41,6 +43,56 @@ fn push_message(
     }
 }
 
+/// Appends the object of a unit's message, or `null` where the check octet is wrong.
+fn push_up_fields(out: &mut Vec<u8>, octets: &[u8; 13], mask: Mask) -> Result<(), AllocError>
+    ensures { OnOk result ((said : List ℕ) × TellsFields true mask octets.now said
+        × (out.new.items ≡ out.old.items ++ said)) }
+{
+    match decode_up(octets, mask) {
+        Ok(message) => push_up_object(out, &message),
+        Err(_) => out.extend_from_slice(b"null"),
+    }
+}
+
+/// The same of a message of the line terminal.
+fn push_down_fields(out: &mut Vec<u8>, octets: &[u8; 13], mask: Mask) -> Result<(), AllocError>
+    ensures { OnOk result ((said : List ℕ) × TellsFields false mask octets.now said
+        × (out.new.items ≡ out.old.items ++ said)) }
+{
+    match decode_down(octets, mask) {
+        Ok(message) => push_down_object(out, &message),
+        Err(_) => out.extend_from_slice(b"null"),
+    }
+}
+
+/// Appends the object of a code's message.
+fn push_fields(
+    out: &mut Vec<u8>,
+    octets: &[u8; 13],
+    upstream: bool,
+    mask: Mask,
+) -> Result<(), AllocError>
+    ensures { OnOk result ((said : List ℕ) × TellsFields upstream mask octets.now said
+        × (out.new.items ≡ out.old.items ++ said)) }
+{
+    if upstream {
+        push_up_fields(out, octets, mask)
+    } else {
+        push_down_fields(out, octets, mask)
+    }
+}
+
+/// Gives the name of the field that this is.
+fn fields_opening(upstream: bool) -> &'static str
+    ensures { result.now ≡ fields_opening upstream }
+{
+    if upstream {
+        ",\"message_fields\":"
+    } else {
+        ",\"sent_fields\":"
+    }
+}
+
 /// Gives the name of a message.
 fn message_opening(upstream: bool) -> &'static str
     ensures { result.now ≡ message_opening upstream }
@@ -72,6 +124,8 @@ fn push_code(
     push_quoted(out, part)?;
     out.extend_from_slice(message_opening(upstream).as_bytes())?;
     push_message(alloc, out, &octets, upstream, mask)?;
+    out.extend_from_slice(fields_opening(upstream).as_bytes())?;
+    push_fields(out, &octets, upstream, mask)?;
     Ok(true)
 }
 
@@ -99,6 +153,17 @@ fn push_text(out: &mut Vec<u8>, slot: Slot, part: &[u8]) -> Result<bool, AllocEr
     Ok(true)
 }
 
+/// Appends Alloc-IDs, and their list.
+fn push_allocs(out: &mut Vec<u8>, slot: Slot, part: &[u8]) -> Result<bool, AllocError>
+    ensures { IfOk result (λ told. (told ≡ true) × (out.new.items ≡ out.old.items ++ allocs_field slot part.now)) }
+{
+    push_opening(out, slot)?;
+    push_quoted(out, part)?;
+    out.extend_from_slice(b",\"alloc_list\":")?;
+    push_list(out, part)?;
+    Ok(true)
+}
+
 /// Appends the field that a part makes, if it can stand there.
 pub(crate) fn push_part(
     alloc: Global,
@@ -113,7 +178,8 @@ pub(crate) fn push_part(
 {
     match slot.kind() {
         Kind::Number => push_number(out, slot, part),
-        Kind::Text | Kind::Allocs => push_text(out, slot, part),
+        Kind::Text => push_text(out, slot, part),
+        Kind::Allocs => push_allocs(out, slot, part),
         Kind::UnitCode => push_code(alloc, out, slot, part, true, mask),
         Kind::TerminalCode => push_code(alloc, out, slot, part, false, mask),
         Kind::Silent => Ok(true),

@@ -2,20 +2,30 @@
 //!
 //! Promise: a line is the object of its parts, or that of a line that is none (`write_object`, `write_other`).
 //!
-//! - `object.rt`: `write_object`, a line as an object; `other.rt`: `write_other`, one that is none of a trace.
+//! - `object.rt`: `write_object`, a line as an object; `other.rt`: `write_other`, one that is none of a trace, with
+//!   `unit.rt`, what is told of a simulated unit.
 //! - `slot.rt`: what stands where in a line, and which field it makes; `field.rt`: that field.
-//! - `text.rt`: texts and numbers as JSON spells them.
+//! - `message.rt`: a message as an object; `allocs.rt`: Alloc-IDs as a list of objects.
+//! - `text.rt`: `push_quoted`, a text of any octets, and numbers, as JSON spells them; `quoted.rt`: `quoted_text`, a text
+//!   in UTF-8.
 //!
 //! Where to make which change: which field a part makes, and what stands behind it, in `specs/Slots.antt` and `slot.rt`;
-//! how a field is spelled in `specs/Fields.antt` and `field.rt`.
+//! how a field is spelled in `specs/Fields.antt` and `field.rt`; the fields of a message in `specs/Message.antt` and
+//! `message.rt`.
 #![tactic(auto)]
 
+mod allocs;
 mod field;
+mod message;
 mod object;
 mod other;
+mod quoted;
 mod slot;
 mod text;
+mod unit;
 
 pub use object::write_object;
 pub use other::write_other;
+pub use quoted::quoted_text;
 pub use slot::{Kind, Slot};
+pub use text::push_quoted;

@@ -4,6 +4,7 @@ ghost use Rattle.gp_lines.specs.Parts.{parts_of};
 ghost use Rattle.gp_json.specs.Object.{done_object, done_of, error_of, line_object, one_of, other_object, two_of};
 
 use crate::text::{is_number, push_quoted};
+use crate::unit::write_unit;
 use gp_lines::cut;
 use std::alloc::AllocError;
 
@@ -72,12 +73,12 @@ fn done_in(text: &[u8]) -> Option<&[u8]>
     }
 }
 
-/// Writes that a line is done, or any other line.
+/// Writes that a line is done, what is told of a unit, or any other line.
 fn write_done(text: &[u8], out: &mut Vec<u8>) -> Result<(), AllocError>
     ensures { OnOk result (out.new.items ≡ done_object (done_of (parts_of text.now)) text.now) }
 {
     let Some(line) = done_in(text) else {
-        return write_line(text, out);
+        return write_unit(text, out);
     };
     out.clear();
     out.extend_from_slice(b"{\"done\":")?;
@@ -87,7 +88,8 @@ fn write_done(text: &[u8], out: &mut Vec<u8>) -> Result<(), AllocError>
 
 /// Writes a line that is none of a trace as a JSON object, with a line feed behind it, in the place of what the buffer
 /// holds: `error LINE KIND`, by which a line that is no turn is answered, as two fields, `done LINE`, which ends an
-/// answer, as a number, and any other line as a text.
+/// answer, as a number, `unit I STATE [onu N] [eqd EQD] [dark]`, which tells what a simulated unit is, as the fields of
+/// its parts, and any other line as a text.
 pub fn write_other(text: &[u8], out: &mut Vec<u8>) -> Result<(), AllocError>
     ensures { OnOk result (out.new.items ≡ other_object text.now) }
 {

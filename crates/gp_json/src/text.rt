@@ -19,7 +19,7 @@ fn hex_digit(number: u8) -> u8
 }
 
 /// Appends an octet within a text.
-fn push_octet(out: &mut Vec<u8>, octet: u8) -> Result<(), AllocError>
+pub(crate) fn push_octet(out: &mut Vec<u8>, octet: u8) -> Result<(), AllocError>
     ensures { OnOk result (out.new.items ≡ out.old.items ++ spec.escaped octet) }
 {
     if octet == b'"' || octet == b'\\' {
@@ -91,8 +91,10 @@ pub(crate) fn end_quoted(alloc: Global, out: &mut Vec<u8>, from: usize) -> Resul
     out.extend_from_slice(b"\"")
 }
 
-/// Appends a text, between quotation marks.
-pub(crate) fn push_quoted(out: &mut Vec<u8>, text: &[u8]) -> Result<(), AllocError>
+/// Appends a text of any octets, between quotation marks: a quotation mark and a backslash behind a backslash, other
+/// printable ASCII as it is, and the rest by their numbers, as `\u00c3`. Where memory is refused, a part of it may have
+/// been appended.
+pub fn push_quoted(out: &mut Vec<u8>, text: &[u8]) -> Result<(), AllocError>
     ensures { OnOk result (out.new.items ≡ out.old.items ++ spec.quoted text.now) }
 {
     out.extend_from_slice(b"\"")?;

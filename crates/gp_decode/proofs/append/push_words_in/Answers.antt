@@ -1,4 +1,4 @@
-use Rattle.gp_decode.proofs.append.push_words_of.Goals as goal
+use Rattle.gp_decode.proofs.append.push_words_in.Goals as goal
 
 pub returns-then-upstream-clause-fault : goal.returns-then-upstream-clause-fault
 returns-then-upstream-clause-fault c = rw c.if-upstream.true c.push_up_words.ensures.fault

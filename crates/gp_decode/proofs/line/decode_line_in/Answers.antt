@@ -1,9 +1,8 @@
 use Rattle.std.proofs.Common.{rules}
-use Rattle.std.specs.String.{string_bytes}
 use Rattle.std.proofs.lemmas.Result.{err_from_is_err_and}
 use Rattle.gp_decode.specs.declared.fault.LineFault.TheVariants as fault
 use Rattle.gp_decode.proofs.Faults.{fault_without_line, no_fault_with_line, foreign_fault}
-use Rattle.gp_decode.proofs.line.decode_line.Goals as goal
+use Rattle.gp_decode.proofs.line.decode_line_in.Goals as goal
 
 pub returns-in_err-line-clause-fault : goal.returns-in_err-line-clause-fault
 returns-in_err-line-clause-fault g c f own =
@@ -13,10 +12,10 @@ returns-in_err-line-clause-fault g c f own =
 pub returns-in_err-write_whole-clause-fault : goal.returns-in_err-write_whole-clause-fault
 returns-in_err-write_whole-clause-fault g c f own =
     let p = err_from_is_err_and c.from_residual-in_err-write_whole.result c.from_residual-in_err-write_whole.ensures.1 in
-    rw (p.1, p.2) (foreign_fault c.args.upstream c.args.mask c.args.text.now (string_bytes c.in_ok-line.line) fault.Write f (rw c.as_bytes.ensures.value at c.in_ok-line.ensures.line) own (λ x. x))
+    rw (p.1, p.2) (foreign_fault c.args.names c.args.upstream c.args.mask c.args.text.now c.in_ok-line.line.items fault.Write f (rw c.as_bytes.ensures.value at c.in_ok-line.ensures.line) own (λ x. x))
 
 pub returns-clause-fault : goal.returns-clause-fault
-returns-clause-fault g c f own = no_fault_with_line c.args.upstream c.args.mask c.args.text.now (string_bytes c.in_ok-line.line) f (rw c.as_bytes.ensures.value at c.in_ok-line.ensures.line)
+returns-clause-fault g c f own = no_fault_with_line c.args.names c.args.upstream c.args.mask c.args.text.now c.in_ok-line.line.items f (rw c.as_bytes.ensures.value at c.in_ok-line.ensures.line)
 
 pub returns-in_err-line-clause-kept : goal.returns-in_err-line-clause-kept
 returns-in_err-line-clause-kept g c = search rules

@@ -1,8 +1,8 @@
 use Rattle.std.proofs.Common.{Err, refl}
 use Rattle.std.proofs.lemmas.Result.{err_from_is_err_and}
-use Rattle.gp_decode.proofs.lines.decode_each.Goals as goal
+use Rattle.gp_decode.proofs.lines.decode_each_in.Goals as goal
 
 pub returns-in_err-run_lines : goal.returns-in_err-run_lines
 returns-in_err-run_lines g c =
     let p = err_from_is_err_and c.from_residual.result c.from_residual.ensures.1 in
-    rw (p.1, p.2) (record { new = c.run_lines.new.work; end = Err c.in_err-run_lines.field-0.0; served = rw c.directed-decoder.ensures at c.in_err-run_lines.ensures; told = refl })
+    rw (p.1, p.2) (record { new = c.run_lines.new.work; end = Err c.in_err-run_lines.field-0.0; served = rw c.naming-decoder.ensures at c.in_err-run_lines.ensures; told = refl })
