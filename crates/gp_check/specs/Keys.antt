@@ -4,6 +4,7 @@ use Rattle.std.specs.Prelude.{ℕ, ◌==◌, ◌||◌, Bool, true, false, List, 
 use Rattle.std.specs.List.{find}
 use Rattle.std.specs.Str.{bytes_eq}
 use Rattle.gp_script.specs.declared.place.Key.{Key}
+use Rattle.gp_script.specs.declared.place.Key.TheVariants as keys
 use Rattle.gp_script.specs.declared.place.TablePlace.{TablePlace}
 use Rattle.gp_script.specs.Keys.{is_one_of}
 use Rattle.gp_script.specs.Mistake.{key_name}
@@ -46,9 +47,18 @@ listed (text ∷ more) = text ++ codes ", " ++ listed more
 abbrev pub keys_text : TablePlace → List ℕ
 keys_text table = listed (map key_name (keys_of table))
 
+-- the keys of the top that have a value of their own, and no list of tables
+abbrev pub top_values : List Key
+top_values = keys.Licences ∷ keys.Mask ∷ keys.JournalLimit ∷ []
+
+-- this is the name of one of them
+abbrev pub is_of_top : List ℕ → Bool
+is_of_top name = is_one_of top_values name
+
 -- what is told of a key that a table may not have; of an event, whose keys are those of its form, it may be one of
 -- another form
 abbrev pub unknown_key_text : TablePlace → List ℕ → List ℕ
 unknown_key_text table name =
     if is_one_of (keys_of table) name then codes "unknown key in this form of an event"
+    else if is_of_top name then codes "unknown key here; it has to stand before the first table"
     else codes "unknown key" ++ meant_text (meant (keys_of table) name) ++ codes "; there are " ++ keys_text table

@@ -90,10 +90,33 @@ line_below (Some name) script header = unwrap_or (key_line name (header + 1) (dr
 abbrev pub line_in_list : List ℕ → ℕ → Option (List ℕ) → List (List ℕ) → Option ℕ
 line_in_list header place key script = option_map (line_below key script) (header_line header place 1 script)
 
--- the line of a key of the top
+-- a text closes the header of a table with this name: the name stands at its front, and behind it, with spaces and tabs
+-- around, this and a remark at most
+abbrev pub is_closed : List ℕ → List ℕ → List ℕ → Bool
+is_closed name close text = starts_with nat_eq text name && is_header close (drop (length name) text)
+
+-- a line is the header of the table with this name, or of one of a list of tables
+abbrev pub is_header_of : List ℕ → List ℕ → Bool
+is_header_of name line =
+    let text = behind_blanks line in
+    if starts_with nat_eq text (codes "[[") then is_closed name (codes "]]") (behind_blanks (drop 2 text))
+    else begins_with 91 text && is_closed name (codes "]") (behind_blanks (drop 1 text))
+
+-- the number of the first line that is a header with this name, in lines of which the first has this number
+abbrev pub first_header : List ℕ → ℕ → List (List ℕ) → Option ℕ
+first_header name number [] = None
+first_header name number (line ∷ below) =
+    if is_header_of name line then Some number else first_header name (number + 1) below
+
+-- this number, or where there is none the other
+abbrev pub or_else : Option ℕ → Option ℕ → Option ℕ
+or_else None other = other
+or_else (Some number) other = Some number
+
+-- the line of a key of the top: its own, before the first table, or the first header with its name
 abbrev pub line_in_top : Option (List ℕ) → List (List ℕ) → Option ℕ
 line_in_top None script = None
-line_in_top (Some name) script = key_line name 1 script
+line_in_top (Some name) script = or_else (key_line name 1 script) (first_header name 1 script)
 
 -- the line of a table, or of a key of it
 abbrev pub line_in_table : TablePlace → Option (List ℕ) → List (List ℕ) → Option ℕ
@@ -119,10 +142,11 @@ abbrev pub has_odd_header : List ℕ → Bool
 has_odd_header text = list_any is_odd_header (lines text)
 
 -- the line of a table, or of a key of it, in a text whose lines tell it: no text in it goes over several of them, and no
--- header is odd
+-- header is odd, which matters where headers are counted
 abbrev pub line_in_text : TablePlace → Option (List ℕ) → List ℕ → Option ℕ
 line_in_text table key text =
-    if has_long_text text || has_odd_header text then None else line_in_table table key (lines text)
+    if has_long_text text || (not (is_top table) && has_odd_header text) then None
+    else line_in_table table key (lines text)
 
 -- the same of bytes, where they are a text
 abbrev pub line_in_bytes : TablePlace → Option (List ℕ) → List ℕ → Option ℕ

@@ -76,13 +76,26 @@ unknown_word (spots.Key keys.Command) =
     codes "unknown word; there are search, alloc, dealloc, deactivate, disable, enable, enable-all, popup, popup-all, show"
 unknown_word _ = codes "unknown word"
 
+-- a value is missing; of the top it has to stand before the first table, whose key it would be behind that
+abbrev pub missing_text : Spot → List ℕ
+missing_text (spots.Key keys.Licences) = codes "missing; it has to stand before the first table"
+missing_text _ = codes "missing"
+
+-- something is no list; a list of tables has headers of its own
+abbrev pub no_list_text : Spot → List ℕ
+no_list_text (spots.Key keys.Port) = codes "not a list; each table of it begins with [[port]]"
+no_list_text (spots.Key keys.Unit) = codes "not a list; each table of it begins with [[unit]]"
+no_list_text (spots.Key keys.Lose) = codes "not a list; each table of it begins with [[lose]]"
+no_list_text (spots.Key keys.Event) = codes "not a list; each table of it begins with [[event]]"
+no_list_text _ = codes "not a list"
+
 -- what is wanted at a spot, or what is wrong with what stands there
 abbrev pub wanted_text : Spot → Wanted → List ℕ
-wanted_text spot wanted.Value = codes "missing"
-wanted_text spot wanted.Number = codes "not a number"
+wanted_text spot wanted.Value = missing_text spot
+wanted_text spot wanted.Number = codes "not a whole number"
 wanted_text spot wanted.Text = codes "not a text"
 wanted_text spot wanted.Truth = codes "not true or false"
-wanted_text spot wanted.List = codes "not a list"
+wanted_text spot wanted.List = no_list_text spot
 wanted_text spot wanted.Table = codes "not a table"
 wanted_text spot wanted.Form = codes "no form of an event, which has frames, burst, say, command or light"
 wanted_text spot wanted.Word = unknown_word spot

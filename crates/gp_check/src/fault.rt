@@ -1,3 +1,4 @@
+//! Why a file was not told of to the end.
 ghost use Rattle.std.specs.Prelude.{◌≡◌};
 ghost use Rattle.gp_check.specs.declared.fault.ScriptCheckFault.TheVariants.{OutOfMemory, Write};
 
@@ -5,7 +6,7 @@ use gp_stream::WriteStopped;
 use std::alloc::AllocError;
 use thiserror::Error;
 
-/// Why the line of a source was not written.
+/// Why what is told of a source was not written, or not all of it.
 #[derive(Clone, Copy, Debug, PartialEq, Eq, Error)]
 pub enum ScriptCheckFault {
     /// Out of memory for the bytes, for the script or for the line.

@@ -89,6 +89,16 @@ fn meant_text(alloc: Global, meant: Option<Key>) -> Result<String, AllocError>
     }
 }
 
+/// The keys of the top that have a value of their own, and no list of tables.
+static TOP_VALUES: [Key; 3] = [Key::Licences, Key::Mask, Key::JournalLimit];
+
+/// Tells whether this is the name of one of them.
+fn is_of_top(name: &str) -> bool
+    ensures { result ≡ spec.is_of_top name.now }
+{
+    is_key_of(TOP_VALUES.as_slice(), name)
+}
+
 /// Gives what is told of a key that the table may not have.
 pub(crate) fn unknown_key_text(
     alloc: Global,
@@ -100,6 +110,12 @@ pub(crate) fn unknown_key_text(
     let keys = table.keys();
     if is_key_of(keys, name) {
         return String::from_str(alloc, "unknown key in this form of an event");
+    }
+    if is_of_top(name) {
+        return String::from_str(
+            alloc,
+            "unknown key here; it has to stand before the first table",
+        );
     }
     let meant = meant_text(alloc, meant(keys, name))?;
     let there_are = keys_text(table);

@@ -154,6 +154,53 @@ fn key_line(mut lines: &[&str], first: usize, name: &[u8]) -> Option<usize>
     None
 }
 
+/// Tells whether a text closes the header of a table with this name: the name stands at its front and this behind it.
+fn is_closed(name: &[u8], close: &[u8], text: &[u8]) -> bool
+    ensures { result ≡ spec.is_closed name.now close.now text.now }
+{
+    text.starts_with(name) && is_header(close, &text[name.len()..])
+}
+
+/// Tells whether a line is the header of the table with this name, or of one of a list of tables.
+fn is_header_of(name: &[u8], line: &[u8]) -> bool
+    ensures { result ≡ spec.is_header_of name.now line.now }
+{
+    let text = behind_blanks(line);
+    if text.starts_with(b"[[") {
+        is_closed(name, b"]]", behind_blanks(&text[2..]))
+    } else {
+        begins_with(b'[', text) && is_closed(name, b"]", behind_blanks(&text[1..]))
+    }
+}
+
+/// Gives the number of the first line that is a header with this name.
+fn first_header(mut lines: &[&str], name: &[u8]) -> Option<usize>
+    requires { length lines.now + 1 < 2 ^ 64 }
+    ensures { result ≡ spec.first_header name.now 1 (map (λ line. line.now) lines.entry.now) }
+{
+    let mut line_number = 1;
+    while let [line, rest @ ..] = lines {
+        if is_header_of(name, line.as_bytes()) {
+            return Some(line_number);
+        }
+        line_number += 1;
+        lines = rest;
+    }
+    None
+}
+
+/// Gives the line of a key of the top, or of the first header with its name.
+fn line_in_top(lines: &[&str], key: Option<&[u8]>) -> Option<usize>
+    requires { length lines.now + 1 < 2 ^ 64 }
+    ensures { result ≡ spec.line_in_top (option_copied key.entry) (map (λ line. line.now) lines.now) }
+{
+    let name = key?;
+    match key_line(lines, 1, name) {
+        Some(line) => Some(line),
+        None => first_header(lines, name),
+    }
+}
+
 /// Gives the line of a key of the table whose header is this line.
 fn line_below(lines: &[&str], header: usize, key: Option<&[u8]>) -> usize
     requires within { header ≤ length lines.now }
@@ -182,7 +229,7 @@ fn line_in_table(lines: &[&str], table: TablePlace, key: Option<&[u8]>) -> Optio
     ensures { result ≡ spec.line_in_table table (option_copied key.entry) (map (λ line. line.now) lines.now) }
 {
     match table {
-        TablePlace::Top => key_line(lines, 1, key?),
+        TablePlace::Top => line_in_top(lines, key),
         TablePlace::Port(place) => line_in_list(lines, b"[[port]]", place, key),
         TablePlace::Unit(place) => line_in_list(lines, b"[[unit]]", place, key),
         TablePlace::Lose(place) => line_in_list(lines, b"[[lose]]", place, key),
@@ -226,7 +273,7 @@ fn line_in_text(
 ) -> Result<Option<usize>, AllocError>
     ensures { IfOk result (λ line. line ≡ spec.line_in_text table (option_copied key.entry) text.now) }
 {
-    if has_long_text(text.as_bytes()) || has_odd_header(text) {
+    if has_long_text(text.as_bytes()) || (!is_top(table) && has_odd_header(text)) {
         return Ok(None);
     }
     let lines = lines_of(alloc, text)?;
@@ -253,10 +300,12 @@ fn line_in_bytes(
 /// missing or is written in another way, or the mistake is about the whole table, the header of the table. Fails where
 /// memory was refused.
 ///
+/// Of a key of the top that stands in no line of its own it is the first header with its name, as `[[events]]`.
+///
 /// `None` where no line is known: of a mistake of the top whose key stands nowhere, of a table that has no header of its
-/// own, as one in a list in one line, and of any mistake in a text that has `"""` or `'''` anywhere or a header of a
-/// list that is written in another way than `[[port]]`, `[[unit]]`, `[[lose]]` and `[[event]]`. A syntax mistake has its
-/// line already.
+/// own, as one in a list in one line, of any mistake in a text that has `"""` or `'''` anywhere, and of one in a table
+/// in a text with a header of a list that is written in another way than `[[port]]`, `[[unit]]`, `[[lose]]` and
+/// `[[event]]`. A syntax mistake has its line already.
 pub fn line_of_mistake(
     alloc: Global,
     text: &[u8],

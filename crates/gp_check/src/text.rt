@@ -100,16 +100,39 @@ fn unknown_word(spot: Spot) -> &'static str
     }
 }
 
+/// Gives that a value is missing, and where it has to stand if that is not in its own table alone.
+fn missing_text(spot: Spot) -> &'static str
+    ensures { result.now ≡ spec.missing_text spot }
+{
+    match spot {
+        Spot::Key(Key::Licences) => "missing; it has to stand before the first table",
+        _ => "missing",
+    }
+}
+
+/// Gives that something is no list, and how the tables of one begin.
+fn no_list_text(spot: Spot) -> &'static str
+    ensures { result.now ≡ spec.no_list_text spot }
+{
+    match spot {
+        Spot::Key(Key::Port) => "not a list; each table of it begins with [[port]]",
+        Spot::Key(Key::Unit) => "not a list; each table of it begins with [[unit]]",
+        Spot::Key(Key::Lose) => "not a list; each table of it begins with [[lose]]",
+        Spot::Key(Key::Event) => "not a list; each table of it begins with [[event]]",
+        _ => "not a list",
+    }
+}
+
 /// Gives what is wanted at a spot, or what is wrong with what stands there.
-fn wanted_text(alloc: Global, spot: Spot, want: Wanted) -> Result<String, AllocError>
+pub(crate) fn wanted_text(alloc: Global, spot: Spot, want: Wanted) -> Result<String, AllocError>
     ensures { IfOk result (λ text. string_bytes text ≡ spec.wanted_text spot want) }
 {
     match want {
-        Wanted::Value => String::from_str(alloc, "missing"),
-        Wanted::Number => String::from_str(alloc, "not a number"),
+        Wanted::Value => String::from_str(alloc, missing_text(spot)),
+        Wanted::Number => String::from_str(alloc, "not a whole number"),
         Wanted::Text => String::from_str(alloc, "not a text"),
         Wanted::Truth => String::from_str(alloc, "not true or false"),
-        Wanted::List => String::from_str(alloc, "not a list"),
+        Wanted::List => String::from_str(alloc, no_list_text(spot)),
         Wanted::Table => String::from_str(alloc, "not a table"),
         Wanted::Form => String::from_str(
             alloc,

@@ -48,6 +48,19 @@ light_event units members = do
   unit ← at_key key.Unit (place_in units unit)
   Ok (Light unit lit)
 
+-- the keys of an event table, each of which some form of an event has
+abbrev pub event_keys : List Key
+event_keys =
+    key.Port ∷ key.Frames ∷ key.Burst ∷ key.Say ∷ key.Command ∷ key.Light ∷ key.At ∷ key.Serial ∷ key.Onu ∷ key.Id
+    ∷ key.Alloc ∷ key.Unit ∷ []
+
+-- an event table of no form: it has a key that no event has, which may be a form's that is written in another way, or
+-- else none of the keys of the forms
+unfoldable pub no_form : Members → Result ScriptEvent TableMistakeView
+no_form members = do
+  _ ← has_only event_keys members
+  Err (unmet spots.Table wanted.Form)
+
 -- an event table; its form is told by the key that this form alone has
 unfoldable pub event_of : ℕ → ℕ → Mask → Members → Result ScriptEvent TableMistakeView
 event_of ports units mask members =
@@ -56,7 +69,7 @@ event_of ports units mask members =
     else if is_some (get_member (key_name key.Say) members) then say_event ports mask members
     else if is_some (get_member (key_name key.Command) members) then command_event ports members
     else if is_some (get_member (key_name key.Light) members) then light_event units members
-    else Err (unmet spots.Table wanted.Form)
+    else no_form members
 
 -- the events of the event tables from this place on, in their order
 unfoldable pub events_from : ℕ → ℕ → ℕ → Mask → Items → Result (List ScriptEvent) MistakeView

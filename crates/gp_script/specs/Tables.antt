@@ -1,19 +1,13 @@
 -- The keys that a table may have (this profile's own rule).
-use Rattle.std.specs.Prelude.{List, [], ◌∷◌}
+use Rattle.std.specs.Prelude.{List}
 use Rattle.gp_script.specs.declared.place.Key.{Key}
-use Rattle.gp_script.specs.declared.place.Key.TheVariants as key
 use Rattle.gp_script.specs.declared.place.TablePlace.{TablePlace}
 use Rattle.gp_script.specs.declared.place.TablePlace.TheVariants as places
 use Rattle.gp_script.specs.Port.{port_keys}
 use Rattle.gp_script.specs.Unit.{unit_keys}
 use Rattle.gp_script.specs.Lose.{lose_keys}
+use Rattle.gp_script.specs.Event.{event_keys}
 use Rattle.gp_script.specs.Script.{top_keys}
-
--- the keys of an event table, each of which some form of an event has
-abbrev pub event_keys : List Key
-event_keys =
-    key.Port ∷ key.Frames ∷ key.Burst ∷ key.Say ∷ key.Command ∷ key.Light ∷ key.At ∷ key.Serial ∷ key.Onu ∷ key.Id
-    ∷ key.Alloc ∷ key.Unit ∷ []
 
 -- the keys of a table; of an event those of all its forms
 abbrev pub keys_of : TablePlace → List Key

@@ -1,3 +1,4 @@
+//! Events that are commands of the operator.
 ghost use Rattle.std.specs.Prelude.{◌≡◌, IfOk};
 ghost use Rattle.toml.specs.View.{table_view};
 ghost use Rattle.gp_script.specs.Fault.{Sees};

@@ -1,3 +1,4 @@
+//! The tables under `event`: what happens, in the order in which it is to happen.
 ghost use Rattle.std.specs.Prelude.{◌≡◌, ◌<◌, IfOk, All, length, vec_len};
 ghost use Rattle.toml.specs.View.{table_view, items_view};
 ghost use Rattle.gp_script.specs.Fault.{Sees, Walks};
@@ -9,6 +10,7 @@ use crate::keys::{has_only, member, needed_bool, needed_number, needed_text, nee
 use crate::place::{Key, Spot, TablePlace, Wanted};
 use crate::say::say_event;
 use crate::script::ScriptEvent;
+use crate::tables::EVENT_KEYS;
 use crate::values::{delay_in, in_range, octets_of, place_in, port_in};
 use crate::walk::{TableFault, WalkError, no_table};
 use gp_ploam::Mask;
@@ -59,8 +61,9 @@ fn light_event(units: u16, table: &Table) -> Result<ScriptEvent, TableFault<'_>>
     Ok(ScriptEvent::Light { unit, lit })
 }
 
-/// Reads an event table, whose form is told by the key that this form alone has.
-#[tactic(auto, unfolding(crate::specs::Event::event_of), using(crate::proofs::PlacesLemmas::named_port, crate::proofs::PlacesLemmas::named_unit))]
+/// Reads an event table, whose form is told by the key that this form alone has. Of a table that has none of these keys
+/// the first key that no event has is told, where there is one.
+#[tactic(auto, unfolding(crate::specs::Event::event_of, crate::specs::Event::no_form), using(crate::proofs::PlacesLemmas::named_port, crate::proofs::PlacesLemmas::named_unit))]
 fn event_of(ports: u8, units: u16, mask: Mask, table: &Table) -> Result<ScriptEvent, TableFault<'_>>
     ensures value { Sees (λ e. e) result (spec.event_of ports units mask (table_view table.now)) }
     ensures names { IfOk result (λ e. NamesOneOf ports units e) }
@@ -76,6 +79,7 @@ fn event_of(ports: u8, units: u16, mask: Mask, table: &Table) -> Result<ScriptEv
     } else if member(table, Key::Light).is_some() {
         light_event(units, table)
     } else {
+        has_only(table, EVENT_KEYS.as_slice())?;
         Err(TableFault::Unmet(Spot::Table, Wanted::Form))
     }
 }

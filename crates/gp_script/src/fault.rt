@@ -1,3 +1,4 @@
+//! The faults that a script may have, by number and name.
 ghost use Rattle.std.specs.Prelude.{◌≡◌};
 ghost use Rattle.gp_script.specs.declared.fault.ScriptError.TheVariants.{OutOfMemory, Fault};
 

@@ -1,3 +1,4 @@
+//! The keys of a table: those that it may have, and the value at each, of its type.
 ghost use Rattle.std.specs.Prelude.{◌≡◌, option_map};
 ghost use Rattle.toml.specs.Data.{get_member};
 ghost use Rattle.toml.specs.View.{table_view, items_view, view};

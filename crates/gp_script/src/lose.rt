@@ -1,3 +1,4 @@
+//! The tables under `lose`: copies and bursts that don't arrive.
 ghost use Rattle.std.specs.Prelude.{◌≡◌, OnOk};
 ghost use Rattle.toml.specs.View.{table_view, items_view};
 ghost use Rattle.gp_script.specs.Fault.{Sees, Walks};

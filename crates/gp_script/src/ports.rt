@@ -1,3 +1,4 @@
+//! The tables under `port`: each port's parameters and admitted serial numbers.
 ghost use Rattle.std.specs.Prelude.{◌≡◌, [], ◌<◌, ◌≤◌, ◌++◌, length, option_map, IfOk, IsTrue, All, vec_len};
 ghost use Rattle.toml.specs.View.{table_view, items_view, view};
 ghost use Rattle.gp_machine.specs.Config.{is_distinct, is_within_limits};

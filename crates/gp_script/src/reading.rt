@@ -1,3 +1,4 @@
+//! Octets read as a script: first as a text, then as TOML, then table by table.
 ghost use Rattle.std.specs.Prelude.{◌≡◌, ℕ, List, [], Err, IfOk, IsTrue, false};
 ghost use Rattle.std.specs.Str.{is_utf8};
 ghost use Rattle.toml.specs.Parse.{parse_document};

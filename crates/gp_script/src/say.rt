@@ -1,3 +1,4 @@
+//! Events in which a unit says something: its burst is encoded here.
 ghost use Rattle.std.specs.Prelude.{◌≡◌, ℕ, ◌<◌, IfOk};
 ghost use Rattle.toml.specs.View.{table_view};
 ghost use Rattle.gp_ploam.specs.Up.{IsProperUp};

@@ -1,3 +1,4 @@
+//! What a script says, once it was read.
 use gp_machine::{Command, PortConfig};
 use gp_ploam::{Mask, Serial};
 

@@ -13,7 +13,7 @@ pub(crate) static UNIT_KEYS: [Key; 3] = [Key::Serial, Key::Delay, Key::Random];
 pub(crate) static LOSE_KEYS: [Key; 2] = [Key::Copy, Key::Burst];
 
 /// The keys of an event table, each of which some form of an event has.
-static EVENT_KEYS: [Key; 12] = [
+pub(crate) static EVENT_KEYS: [Key; 12] = [
     Key::Port,
     Key::Frames,
     Key::Burst,

@@ -1,3 +1,4 @@
+//! The tables under `unit`: the simulated units on the fibre.
 ghost use Rattle.std.specs.Prelude.{◌≡◌, [], IfOk, IsTrue, All, length, vec_len};
 ghost use Rattle.toml.specs.View.{table_view, items_view};
 ghost use Rattle.gp_script.specs.Fault.{Sees, Walks};

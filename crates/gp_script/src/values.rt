@@ -1,3 +1,4 @@
+//! Values in their ranges: numbers, places, delays, codes, serial numbers.
 ghost use Rattle.std.specs.Prelude.{◌≡◌, ◌<◌, ◌≤◌, IfOk, length};
 ghost use Rattle.std.specs.Range.{range_inclusive_start as low_of, range_inclusive_end as high_of};
 ghost use Rattle.toml.specs.View.{items_view};
