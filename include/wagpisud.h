@@ -49,7 +49,8 @@ enum wp_status {
     WP_LINE_HEX = 14,    /* of a line: a code isn't 26 hexadecimal digits */
     WP_LINE_RANGE = 15,  /* of a line: a number is outside its range */
     WP_LINE_LONG = 16,   /* of a line: it has more than 4,096 octets */
-    WP_NO_ENTRY = 17     /* the port's journal keeps no entry with this number */
+    WP_NO_ENTRY = 17,    /* the port's journal keeps no entry with this number */
+    WP_LINE_SPACE = 18   /* of a line: a space too many, at its front, at its end, or beside another one */
 };
 
 /* A chassis: closed where it is all zeros. Its fields are the library's. */
@@ -238,7 +239,8 @@ enum wp_turn_kind {
     WP_TURN_EVENT = 1,   /* port, event */
     WP_TURN_FRAMES = 2,  /* port, count: so many frames */
     WP_TURN_UNTIL = 3,   /* port, grant, grant_onu, count: frames up to the one that makes this grant, at most so many */
-    WP_TURN_LIGHT = 4    /* unit, is_lit: the light of a simulated unit, which this library has none of */
+    WP_TURN_LIGHT = 4,   /* unit, is_lit: the light of a simulated unit, which this library has none of */
+    WP_TURN_UNIT = 5     /* unit: what a simulated unit is */
 };
 
 /* What a line of text asks for. A number that its kind has no use for is 0. */
@@ -370,9 +372,10 @@ uint32_t wp_cut(wp_chassis *chassis, uint8_t port);
 uint32_t wp_close(wp_chassis *chassis);
 
 /* Reads the turn that a line of text asks for, without its line feed: `PORT EVENT` with an event as a trace tells it,
- * `PORT frame COUNT`, `PORT until GRANT`, `PORT until GRANT within COUNT`, `unit I light` or `unit I dark`;
- * docs/FORMATS.md has the grammar. Touches no chassis. Answers the first fault from the left, WP_LINE_WORD to
- * WP_LINE_LONG.
+ * `PORT frame COUNT`, `PORT until GRANT`, `PORT until GRANT within COUNT`, `unit I light`, `unit I dark`,
+ * `unit I show`, or `PORT say ..`, which is the event of a unit's burst without a mask: for a chassis that is masked
+ * XOR its last octet with 85. docs/FORMATS.md has the grammar. Touches no chassis. Answers the first fault of the line:
+ * WP_LINE_LONG, then WP_LINE_SPACE, then the first from the left of WP_LINE_WORD to WP_LINE_RANGE.
  *
  *     wp_turn((const uint8_t *)"0 search", 8, &asked); */
 uint32_t wp_turn(const uint8_t *line, size_t length, wp_asked *asked);

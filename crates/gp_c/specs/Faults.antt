@@ -1,7 +1,7 @@
 -- The numbers of faults (this library's own rule; include/wagpisud.h has their names).
 use Rattle.std.specs.Prelude.{ℕ, List, [], ◌∷◌, codes, slice_index_or}
 use Rattle.gp_c.specs.declared.fault.Fault.{Fault}
-use Rattle.gp_c.specs.declared.fault.Fault.TheVariants.{NotOpen, IsOpen, Limit, OutOfMemory, NoPort, JournalFull, NoUnit, NoCommand, Serials, NoEvent, LineWord, LineNumber, LineSerial, LineHex, LineRange, LineLong, NoEntry}
+use Rattle.gp_c.specs.declared.fault.Fault.TheVariants.{NotOpen, IsOpen, Limit, OutOfMemory, NoPort, JournalFull, NoUnit, NoCommand, Serials, NoEvent, LineWord, LineNumber, LineSerial, LineHex, LineRange, LineLong, NoEntry, LineSpace}
 
 -- the number of a fault
 abbrev pub fault_number : Fault → ℕ
@@ -22,6 +22,7 @@ fault_number LineHex = 14
 fault_number LineRange = 15
 fault_number LineLong = 16
 fault_number NoEntry = 17
+fault_number LineSpace = 18
 
 -- the texts of the statuses, in the order of their numbers, from 0
 abbrev pub status_texts : List (List ℕ)
@@ -44,6 +45,7 @@ status_texts =
     ∷ codes "line: range"
     ∷ codes "line: long"
     ∷ codes "no such entry"
+    ∷ codes "line: space"
     ∷ []
 
 -- the text of a status

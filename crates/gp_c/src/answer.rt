@@ -6,7 +6,7 @@ ghost use Rattle.gp_ploam.specs.Mask.{mask_value};
 ghost use Rattle.gp_c.specs.Answers as spec;
 
 use gp_alarms::AlarmKind;
-use gp_machine::{Answer, Receipt, Reply};
+use gp_machine::{Answer, Reply};
 use gp_ploam::{Mask, encode_down};
 use gp_ranging::Grant;
 
@@ -147,18 +147,17 @@ fn kind_number(kind: AlarmKind) -> u8
     }
 }
 
-/// Tells by numbers what an event gave.
+/// Tells by numbers what an event gave, whose entry has this number.
 // An alarm and a message are written where they stand, if they are there: most answers have neither.
 #[inline(always)]
-pub(crate) fn answer_of(mask: Mask, receipt: &Receipt) -> AnswerNumbers
-    requires { ForSome receipt.now.entry.answer.sent IsProperDown }
-    ensures { result ≡ spec.answer_numbers (mask_value mask) receipt.now.number receipt.now.entry.answer }
+pub(crate) fn answer_of(mask: Mask, number: u64, answer: &Answer) -> AnswerNumbers
+    requires { ForSome answer.now.sent IsProperDown }
+    ensures { result ≡ spec.answer_numbers (mask_value mask) number answer.now }
 {
-    let answer: &Answer = &receipt.entry.answer;
     let reply = reply_numbers(&answer.reply);
     let (grant, grant_onu) = grant_numbers(&answer.grant);
     let mut numbers = AnswerNumbers {
-        number: receipt.number,
+        number,
         eqd: reply.eqd,
         alloc: reply.alloc,
         reply: reply.kind,

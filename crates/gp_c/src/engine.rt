@@ -56,12 +56,14 @@ impl<L: Ledger> Engine<L> {
             return Err(Fault::NoPort);
         };
         let mask = desk.config().mask;
-        let applied = self.core.apply(port, event);
-        let receipt = match &applied {
-            Ok(receipt) => receipt,
-            Err(fault) => return Err(fault_of(*fault)),
+        let number = match self.core.apply_kept(port, event, None) {
+            Ok(number) => number,
+            Err(fault) => return Err(fault_of(fault)),
         };
-        Ok(answer_of(mask, receipt))
+        match self.core.last_entry(port) {
+            Some(entry) => Ok(answer_of(mask, number, &entry.answer)),
+            None => unreachable!(),
+        }
     }
 
     /// Tells what a port knows of the unit with this serial number. The faults are `NoPort` and `NoUnit`.

@@ -39,6 +39,8 @@ pub enum Fault {
     LineLong,
     /// The journal of the port keeps no entry with this number.
     NoEntry,
+    /// Of a line: there is a space too many, at its front, at its end, or beside another one.
+    LineSpace,
 }
 
 impl Fault {
@@ -64,6 +66,7 @@ impl Fault {
             Fault::LineRange => 15,
             Fault::LineLong => 16,
             Fault::NoEntry => 17,
+            Fault::LineSpace => 18,
         }
     }
 }
@@ -91,6 +94,7 @@ pub(crate) fn text_of(status: u32) -> &'static str
         15 => "line: range",
         16 => "line: long",
         17 => "no such entry",
+        18 => "line: space",
         _ => "no such status",
     }
 }

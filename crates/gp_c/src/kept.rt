@@ -36,7 +36,7 @@ impl KeptEntry {
         requires { ForSome self.now.receipt.entry.answer.sent IsProperDown }
         ensures { result ≡ answer_numbers (mask_value self.now.mask) self.now.receipt.number self.now.receipt.entry.answer }
     {
-        answer_of(self.mask, &self.receipt)
+        answer_of(self.mask, self.receipt.number, &self.receipt.entry.answer)
     }
 
     /// Gives its line of the trace.

@@ -7,6 +7,7 @@ use crate::event::{EventNumbers, event_numbers, frame_numbers};
 use crate::fault::Fault;
 use crate::row::flag;
 use gp_lines::{Asked, LineFault, parse_turn};
+use gp_ploam::Mask;
 
 /// What a line asks for. A number that its kind has no use for is 0.
 #[repr(C)]
@@ -16,10 +17,10 @@ pub struct TurnNumbers {
     pub event: EventNumbers,
     /// How many frames, of kind 2; at most how many, of kind 3.
     pub count: u32,
-    /// A simulated unit, of kind 4.
+    /// A simulated unit, of kinds 4 and 5.
     pub unit: u16,
     /// The kind: 0 nothing, 1 an event at the port, 2 so many frames, 3 frames up to a grant, 4 the light of a
-    /// simulated unit.
+    /// simulated unit, 5 what a simulated unit is.
     pub kind: u8,
     /// The port, 0 to 15.
     pub port: u8,
@@ -82,6 +83,11 @@ fn turn_numbers(asked: &Asked) -> TurnNumbers
             is_lit: flag(lit),
             ..nothing()
         },
+        Asked::ShowUnit { unit } => TurnNumbers {
+            kind: 5,
+            unit,
+            ..nothing()
+        },
     }
 }
 
@@ -96,14 +102,15 @@ fn line_fault(fault: LineFault) -> Fault
         LineFault::Hex => Fault::LineHex,
         LineFault::Range => Fault::LineRange,
         LineFault::Long => Fault::LineLong,
+        LineFault::Space => Fault::LineSpace,
     }
 }
 
-/// Reads the turn that a line asks for.
+/// Reads the turn that a line asks for. What a unit says is the burst of its message under no mask.
 pub(crate) fn turn_of(line: &[u8]) -> Result<TurnNumbers, Fault>
     ensures { result ≡ spec.turn_of line.now }
 {
-    match parse_turn(line) {
+    match parse_turn(Mask::Plain, line) {
         Ok(asked) => Ok(turn_numbers(&asked)),
         Err(fault) => Err(line_fault(fault)),
     }
