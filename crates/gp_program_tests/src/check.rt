@@ -1,4 +1,5 @@
 //! What is told of a file that may be a script: its counts, or where it is wrong and what is wanted there.
+mod objects;
 mod rows;
 
 use gp_check::{Purpose, ScriptCheckFault, check_script, placed_line};
@@ -141,7 +142,7 @@ fn lines_without_a_name(rt: HostRuntime) -> Result<(), AllocError> {
         true
     );
     let told = placed_line(rt.alloc(), Purpose::Storm, text)?;
-    let line = "unit: 2 shape, not in a storm";
+    let line = "unit: 2 shape, not in a storm, line 3";
     assert_eq!(rt; told.as_ref().map(|told| told.as_str()), Some(line));
     Ok(())
 }

@@ -1,6 +1,7 @@
+//! Codes that are decoded, one and line by line: what is written, faults, memory that runs out, writers that end.
 use gp_decode::{
-    Direction, FaultAt, LineFault, decode_each, decode_line, decode_lines, other_name,
-    push_words_of,
+    Direction, FaultAt, LineFault, decode_each, decode_each_in, decode_line, decode_line_in,
+    decode_lines, other_name, push_words_in, push_words_of,
 };
 use gp_ploam::Mask;
 use gp_stream::{Sink, Source};
@@ -438,14 +439,14 @@ const NAMES: [(bool, u8, &'static str); 18] = [
     (DOWN, 0x0f, "PEE"),
     (DOWN, 0x10, "Change_Power_Level"),
     (DOWN, 0x11, "PST"),
-    (DOWN, 0x12, "BER_Interval"),
+    (DOWN, 0x12, "BER_interval"),
     (DOWN, 0x13, "Key_Switching_Time"),
     (DOWN, 0x14, "Extended_Burst_Length"),
     (DOWN, 0x15, "PON-ID"),
     (DOWN, 0x16, "Swift_POPUP"),
     (DOWN, 0x17, "Ranging_Adjustment"),
     (UP, 0x02, "Password"),
-    (UP, 0x05, "Encryption_Key"),
+    (UP, 0x05, "Encryption_key"),
     (UP, 0x06, "PEE"),
     (UP, 0x07, "PST"),
     (UP, 0x08, "REI"),
@@ -464,4 +465,96 @@ fn names_of_messages_without_a_row(rt: HostRuntime) {
             assert_eq!(rt; other_name(upstream, id), wanted, "{id}");
         }
     }
+}
+
+/// Codes, whose they are, and what is written of each where names are asked for, and where not.
+const NAMED: [(&'static str, bool, &'static str, &'static str); 9] = [
+    (
+        "ff0900000000000000000000a0",
+        DOWN,
+        "Request_Password 255 00000000000000000000\n",
+        "Other 9 255 00000000000000000000\n",
+    ),
+    (
+        "000e000102030405060708093f",
+        DOWN,
+        "Configure_Port-ID 0 00010203040506070809\n",
+        "Other 14 0 00010203040506070809\n",
+    ),
+    (
+        "000500010203040506070809e6",
+        UP,
+        "Encryption_key 0 00010203040506070809\n",
+        "Other 5 0 00010203040506070809\n",
+    ),
+    (
+        "0008000102030405060708097d",
+        UP,
+        "REI 0 00010203040506070809\n",
+        "Other 8 0 00010203040506070809\n",
+    ),
+    (
+        "0008000102030405060708097d",
+        DOWN,
+        "Encrypted_Port-ID 0 00010203040506070809\n",
+        "Other 8 0 00010203040506070809\n",
+    ),
+    // no name, and an identifier whose row doesn't agree
+    (
+        "00ff0001020304050607080946",
+        DOWN,
+        "Other 255 0 00010203040506070809\n",
+        "Other 255 0 00010203040506070809\n",
+    ),
+    (
+        "ff06010000000000000000006d",
+        DOWN,
+        "Other 6 255 01000000000000000000\n",
+        "Other 6 255 01000000000000000000\n",
+    ),
+    // what has a row
+    (
+        "ff03004142434400000001001b",
+        DOWN,
+        "Assign_ONU-ID 0 ABCD00000001\n",
+        "Assign_ONU-ID 0 ABCD00000001\n",
+    ),
+    (
+        "00090a0000000000000000007e",
+        UP,
+        "Acknowledge 0 10\n",
+        "Acknowledge 0 10\n",
+    ),
+];
+
+/// One code, a line of an input, and words behind what stands in a buffer.
+#[test]
+fn names_of_the_standard(rt: HostRuntime) -> Result<(), AllocError> {
+    for (text, upstream, named, plain) in NAMED {
+        for (names, wanted) in [(true, named), (false, plain)] {
+            let mut sink = Sink::new(rt.alloc(), Vec::new(rt.alloc()))?;
+            let outcome = decode_line_in(rt.alloc(), text, upstream, Mask::Plain, names, &mut sink);
+            assert_eq!(rt; outcome, Ok(()), "{text}");
+            assert!(rt; sink.into_inner().as_slice() == wanted.as_bytes(), "{text}");
+            let mut source = Source::endless(text.as_bytes());
+            let mut sink = Sink::new(rt.alloc(), Vec::new(rt.alloc()))?;
+            let direction = Direction::of(upstream);
+            let first = decode_each_in(
+                rt.alloc(),
+                &mut source,
+                &mut sink,
+                direction,
+                Mask::Plain,
+                names,
+            );
+            assert_eq!(rt; first, Ok(None), "{text}");
+            assert!(rt; sink.into_inner().as_slice() == wanted.as_bytes(), "{text}");
+            let mut out = Vec::from_slice(rt.alloc(), FRONT.as_bytes())?;
+            let octets = octets_of(text);
+            let outcome = push_words_in(&mut out, &octets, upstream, Mask::Plain, names);
+            assert_eq!(rt; outcome, Ok(()), "{text}");
+            assert!(rt; holds(&out, wanted), "{text}");
+        }
+    }
+    Ok(())
 }

@@ -22,6 +22,22 @@ const SEARCH: &str = "\
 0 5 frame = ok grant search
 ";
 
+/// Lines in which units say something, and the bursts that these are.
+const SAID: &[u8] =
+    b"0 search\n0 until search\n0 say serial ABCD00000001 at 100000\n0 say none onu 3\n\
+    0 say gasp onu 0 at 7\n0 say ack onu 3 id 10\n";
+
+const BURSTS: &[u8] = b"0 search\n0 until search\n0 burst 100000 ff01414243440000000100002c\n\
+    0 burst 0 0304000000000000000000009b\n0 burst 7 00030000000000000000000021\n0 burst 0 03090a00000000000000000099\n";
+
+/// The same bursts under a mask.
+const MASKED: &[u8] = b"0 search\n0 until search\n0 burst 100000 ff014142434400000001000079\n\
+    0 burst 0 030400000000000000000000ce\n0 burst 7 00030000000000000000000074\n0 burst 0 03090a000000000000000000cc\n";
+
+/// The port with check octets that are XORed with 85.
+const MASKED_PORT: &str =
+    "licences = 1\nmask = 85\n[[port]]\ncycles = 1\nadmit = [\"ABCD00000001\"]\n";
+
 /// What is written of a script and lines, and how it ended; None where memory was refused.
 fn driven(
     alloc: Global,
@@ -70,6 +86,34 @@ fn a_search_in_three_ways(rt: HostRuntime) {
 }
 
 #[test]
+fn what_units_say(rt: HostRuntime) {
+    for (script, bursts) in [(PORT, BURSTS), (MASKED_PORT, MASKED)] {
+        let said = driven(rt.alloc(), script, SAID);
+        let heard = driven(rt.alloc(), script, bursts);
+        assert!(rt; said.is_some());
+        assert!(rt; said == heard);
+    }
+    let found = b"0 search\n0 until search\n0 say serial ABCD00000001 at 200000\n";
+    let expected = "0 0 search = searching\n\
+        0 1 frame = ok\n\
+        0 2 frame = ok sent ff010000000000000000000058\n\
+        0 3 frame = ok sent ff010000000000000000000058\n\
+        0 4 frame = ok sent ff010000000000000000000058\n\
+        0 5 frame = ok grant search\n\
+        0 6 burst 200000 ff01414243440000000100002c = found 0\n";
+    assert!(rt; drives(rt.alloc(), PORT, found, expected, (3, 0)));
+    assert!(rt;
+        drives(
+            rt.alloc(),
+            PORT,
+            b"1 say gasp onu 3\n0 say gasp\n",
+            "error 1 port\nerror 2 word\n",
+            (2, 2)
+        )
+    );
+}
+
+#[test]
 fn lines_that_are_no_turns(rt: HostRuntime) {
     let lines =
         b"0 frmae\nx frame\n0 frame 0\n0 alloc X\n0 burst 5 00\n1 frame\nunit 0 dark\n0 search\n";
@@ -77,6 +121,9 @@ fn lines_that_are_no_turns(rt: HostRuntime) {
         "error 1 word\nerror 2 number\nerror 3 range\nerror 4 serial\nerror 5 hex\nerror 6 port\nerror 7 unit\n\
         0 0 search = searching\n";
     assert!(rt; drives(rt.alloc(), PORT, lines, expected, (8, 7)));
+    let lines = b" 0 frame\n0  frmae\n17 frame \n# a  remark \n0 frame\n";
+    let expected = "error 1 space\nerror 2 space\nerror 3 space\n0 0 frame = ok\n";
+    assert!(rt; drives(rt.alloc(), PORT, lines, expected, (5, 3)));
 }
 
 #[test]
@@ -104,6 +151,46 @@ fn a_unit_on_the_fibre(rt: HostRuntime) {
     let outcome = driven(rt.alloc(), FIBRE, lines);
     let said = outcome.map(|(_, said)| said);
     assert!(rt; said.is_some_and(|said| said.as_slice() == expected.as_bytes()));
+}
+
+/// The unit from its first frame to its operation, what it is on the way, and what it is in the dark.
+const SHOWN: &str = "\
+unit 0 O2
+0 0 search = searching
+0 1 frame = ok
+0 2 frame = ok sent ff010000000000000000000058
+unit 0 O3
+0 3 frame = ok sent ff010000000000000000000058
+0 4 frame = ok sent ff010000000000000000000058
+0 5 frame = ok grant search
+0 6 frame = ok
+0 7 burst 200000 ff01414243440000000100002c = found 0
+0 8 frame = ok sent ff03004142434400000001001b
+unit 0 O4 onu 0
+0 9 frame = ok sent ff03004142434400000001001b
+0 10 frame = ok sent ff03004142434400000001001b
+0 11 frame = ok grant range 0
+0 12 frame = ok
+0 13 burst 200000 0001414243440000000100006b = ranged 0 111040
+0 14 frame = ok sent 0004000001b1c00000000000d2
+unit 0 O5 onu 0 eqd 111040
+error 15 unit
+unit 0 O6 onu 0 eqd 111040 dark
+unit 0 O6 onu 0 eqd 111040
+";
+
+#[test]
+fn what_a_unit_is(rt: HostRuntime) {
+    let lines = b"unit 0 show\n0 search\n0 frame 2\nunit 0 show\n0 until search\n0 frame\n0 frame\n\
+        unit 0 show\n0 until range 0\n0 frame\n0 frame\n# it was ranged\n\nunit 0 show\nunit 1 show\n\
+        unit 0 dark\nunit 0 show\nunit 0 light\nunit 00 show\r\n";
+    assert!(rt; drives(rt.alloc(), FIBRE, lines, SHOWN, (19, 1)));
+    let lines = b"unit 0 show\nunit  0 show\nunit 0 show 1\nunit x show\nunit 1024 show\n";
+    let expected = "error 1 unit\nerror 2 space\nerror 3 word\nerror 4 number\nerror 5 range\n";
+    assert!(rt; drives(rt.alloc(), PORT, lines, expected, (5, 5)));
+    let lines = b"unit 0 dark\nunit 0 show\n0 frame\n";
+    let expected = "done 1\nunit 0 O1 dark\ndone 2\n0 0 frame = ok\ndone 3\n";
+    assert!(rt; drives_and_tells(rt.alloc(), FIBRE, lines, expected, (3, 0)));
 }
 
 /// Tells whether this is written of a script and lines, so many of which are answered, so many of them by errors, where

@@ -5,15 +5,18 @@
 //! - `stream.rt`: readers and writers that fail, or take an octet a call.
 //! - `script.rt`: scripts that are read; `script/ranges.rt` has the ends of each range, `script/faults.rt` what is
 //!   refused.
-//! - `check.rt`: where a script is wrong, and what is wanted there; `check/rows.rt` has the scripts.
+//! - `check.rt`: where a script is wrong, and what is wanted there; `check/rows.rt` has the scripts; `check/objects.rt`
+//!   reads its objects as JSON.
 //! - `decode.rt`, `trace.rt`: lines as they are printed; a code is decoded also where memory is refused.
 //! - `encode.rt`, `explain.rt`: codes of messages in words; traces in words. `tell.rt`: the same while a trace is written.
+//! - `fields.rt`: the objects of messages and of Alloc-IDs, read as JSON.
 //! - `lines.rt`: events and turns that are read, the first fault of each text that is refused, and lines of a trace.
 //! - `replay.rt`, `storm.rt`: whole scripts to their trace or their totals, readers and writers that fail, and memory
 //!   that is refused; `storm/plans.rt` storms plans.
 //! - `turns.rt`: turns of a player that are told, beside turns that are taken.
 //! - `drive.rt`: lines that ask for something, and what is said to each.
-//! - `verify.rt`: traces that are told to be runs, and the first line of each that is not.
+//! - `verify.rt`: traces that are told to be runs, and the first line of each that is not; `verify/objects.rt` reads what
+//!   is told as JSON, `verify/words.rt` has it in words.
 //! - `report.rt`: fault texts and statuses.
 #![tactic(auto)]
 
@@ -27,6 +30,8 @@ mod drive;
 mod encode;
 #[cfg(test)]
 mod explain;
+#[cfg(test)]
+mod fields;
 #[cfg(test)]
 mod lines;
 #[cfg(test)]

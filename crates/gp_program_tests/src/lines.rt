@@ -1,6 +1,7 @@
+//! Lines that tell events and lines that ask for something: what each says, and its first fault.
 use gp_lines::{Asked, LONGEST_LINE, LineFault, parse_event, parse_turn, picked, split_line};
 use gp_machine::{Command, Event};
-use gp_ploam::Serial;
+use gp_ploam::{Mask, Serial};
 use gp_ranging::Grant;
 use std::test::Fail;
 
@@ -86,7 +87,7 @@ const EVENT_FAULTS: [(&'static str, LineFault); 22] = [
 ];
 
 /// Lines, and what each asks for.
-const TURNS: [(&'static str, Asked); 20] = [
+const TURNS: [(&'static str, Asked); 22] = [
     ("", Asked::Nothing),
     ("\r", Asked::Nothing),
     ("#", Asked::Nothing),
@@ -198,23 +199,25 @@ const TURNS: [(&'static str, Asked); 20] = [
             lit: false,
         },
     ),
+    ("unit 0 show", Asked::ShowUnit { unit: 0 }),
+    ("unit 01023 show\r", Asked::ShowUnit { unit: 1023 }),
 ];
 
 /// Lines that are no turn, and the first fault of each.
-const TURN_FAULTS: [(&'static str, LineFault); 42] = [
+const TURN_FAULTS: [(&'static str, LineFault); 82] = [
     ("15", LineFault::Word),
     ("frame", LineFault::Word),
-    (" ", LineFault::Number),
-    (" # x", LineFault::Number),
+    (" ", LineFault::Space),
+    (" # x", LineFault::Space),
     ("x nothing", LineFault::Number),
     ("16 nothing", LineFault::Range),
     ("0 nothing", LineFault::Word),
     ("0 frame\r\r", LineFault::Word),
-    ("0 \r", LineFault::Word),
+    ("0 \r", LineFault::Space),
     ("1 frame 0", LineFault::Range),
     ("1 frame 1000001", LineFault::Range),
     ("1 frame x", LineFault::Number),
-    ("1 frame ", LineFault::Number),
+    ("1 frame ", LineFault::Space),
     ("1 frame 1 2", LineFault::Word),
     ("1 alloc x", LineFault::Serial),
     ("1 burst 1 x", LineFault::Hex),
@@ -244,16 +247,141 @@ const TURN_FAULTS: [(&'static str, LineFault); 42] = [
     ("unit x bright", LineFault::Word),
     ("unit x light", LineFault::Number),
     ("unit 1024 dark", LineFault::Range),
+    ("unit show", LineFault::Word),
+    ("unit 1024 shows", LineFault::Word),
+    ("unit 0 show onu", LineFault::Word),
+    ("unit -1 show", LineFault::Number),
+    ("unit 1024 show", LineFault::Range),
+    ("0  frame", LineFault::Space),
+    (" 0 frame", LineFault::Space),
+    ("0 frame ", LineFault::Space),
+    ("0 frame \r", LineFault::Space),
+    ("x  nothing", LineFault::Space),
+    ("16 burst  5 ff0141424344000000010000zz", LineFault::Space),
+    ("0 alloc ABCD00000001 ", LineFault::Space),
+    ("unit  0 light", LineFault::Space),
+    ("0 until search  within 5", LineFault::Space),
+    ("0\tframe", LineFault::Word),
+    ("0 say", LineFault::Word),
+    ("0 say nothing", LineFault::Word),
+    ("0 say serial", LineFault::Word),
+    ("0 say serial X at", LineFault::Word),
+    ("0 say serial X onu", LineFault::Word),
+    ("0 say serial X at 1 onu 3", LineFault::Word),
+    ("0 say serial X id 3", LineFault::Word),
+    ("0 say serial X onu x at x", LineFault::Serial),
+    (
+        "0 say serial ABCD00000001 onu x at 4294967296",
+        LineFault::Number,
+    ),
+    ("0 say serial ABCD00000001 onu 256 at x", LineFault::Range),
+    ("0 say serial ABCD00000001 at 4294967296", LineFault::Range),
+    ("0 say serial ABCD00000001 at x", LineFault::Number),
+    ("0 say gasp", LineFault::Word),
+    ("0 say gasp 3", LineFault::Word),
+    ("0 say gasp onu x at", LineFault::Word),
+    ("0 say gasp onu 256", LineFault::Range),
+    ("0 say none onu 3 4", LineFault::Word),
+    ("0 say none onu -1", LineFault::Number),
+    ("0 say ack onu 3", LineFault::Word),
+    ("0 say ack id 3 onu 3", LineFault::Word),
+    ("0 say ack onu 3 id 256", LineFault::Range),
+    ("0 say ack onu x id 256", LineFault::Number),
+    ("16 say ack onu x id 256", LineFault::Range),
+    ("0 say  gasp onu 3", LineFault::Space),
+    ("say gasp onu 3", LineFault::Number),
+];
+
+/// Lines in which a unit says something, the mask, and the port, the delay and the octets of the burst.
+const SAID: [(&'static str, Mask, u8, u32, [u8; 13]); 11] = [
+    (
+        "0 say serial ABCD00000001",
+        Mask::Plain,
+        0,
+        0,
+        [255, 1, 65, 66, 67, 68, 0, 0, 0, 1, 0, 0, 44],
+    ),
+    (
+        "1 say serial 4142434400000001 at 90000",
+        Mask::Plain,
+        1,
+        90_000,
+        [255, 1, 65, 66, 67, 68, 0, 0, 0, 1, 0, 0, 44],
+    ),
+    (
+        "0 say serial ABCD00000001 onu 3\r",
+        Mask::Plain,
+        0,
+        0,
+        [3, 1, 65, 66, 67, 68, 0, 0, 0, 1, 0, 0, 140],
+    ),
+    (
+        "15 say serial ABCD00000001 onu 003 at 04294967295",
+        Mask::Plain,
+        15,
+        4_294_967_295,
+        [3, 1, 65, 66, 67, 68, 0, 0, 0, 1, 0, 0, 140],
+    ),
+    (
+        "0 say serial ABCD00000001",
+        Mask::Coset,
+        0,
+        0,
+        [255, 1, 65, 66, 67, 68, 0, 0, 0, 1, 0, 0, 121],
+    ),
+    (
+        "0 say gasp onu 3",
+        Mask::Plain,
+        0,
+        0,
+        [3, 3, 0, 0, 0, 0, 0, 0, 0, 0, 0, 0, 198],
+    ),
+    (
+        "0 say gasp onu 3 at 5",
+        Mask::Coset,
+        0,
+        5,
+        [3, 3, 0, 0, 0, 0, 0, 0, 0, 0, 0, 0, 147],
+    ),
+    (
+        "0 say none onu 7 at 100000",
+        Mask::Plain,
+        0,
+        100_000,
+        [7, 4, 0, 0, 0, 0, 0, 0, 0, 0, 0, 0, 232],
+    ),
+    (
+        "0 say ack onu 3 id 10",
+        Mask::Plain,
+        0,
+        0,
+        [3, 9, 10, 0, 0, 0, 0, 0, 0, 0, 0, 0, 153],
+    ),
+    (
+        "0 say ack onu 3 id 10 at 1",
+        Mask::Coset,
+        0,
+        1,
+        [3, 9, 10, 0, 0, 0, 0, 0, 0, 0, 0, 0, 204],
+    ),
+    (
+        "0 say none onu 255",
+        Mask::Plain,
+        0,
+        0,
+        [255, 4, 0, 0, 0, 0, 0, 0, 0, 0, 0, 0, 59],
+    ),
 ];
 
 /// Faults, and the word by which each is printed.
-const WORDS: [(LineFault, &'static str); 6] = [
+const WORDS: [(LineFault, &'static str); 7] = [
     (LineFault::Word, "word"),
     (LineFault::Number, "number"),
     (LineFault::Serial, "serial"),
     (LineFault::Hex, "hex"),
     (LineFault::Range, "range"),
     (LineFault::Long, "long"),
+    (LineFault::Space, "space"),
 ];
 
 #[test]
@@ -270,10 +398,27 @@ fn events_of_a_trace(rt: HostRuntime) {
 #[test]
 fn turns(rt: HostRuntime) {
     for (text, asked) in TURNS {
-        assert_eq!(rt; parse_turn(text.as_bytes()), Ok(asked), "{text}");
+        assert_eq!(rt;
+            parse_turn(Mask::Plain, text.as_bytes()),
+            Ok(asked),
+            "{text}"
+        );
     }
     for (text, fault) in TURN_FAULTS {
-        assert_eq!(rt; parse_turn(text.as_bytes()), Err(fault), "{text}");
+        assert_eq!(rt;
+            parse_turn(Mask::Plain, text.as_bytes()),
+            Err(fault),
+            "{text}"
+        );
+    }
+}
+
+#[test]
+fn what_units_say(rt: HostRuntime) {
+    for (text, mask, port, at, bytes) in SAID {
+        let event = Event::Burst { at, bytes };
+        let asked = Asked::Event { port, event };
+        assert_eq!(rt; parse_turn(mask, text.as_bytes()), Ok(asked), "{text}");
     }
 }
 
@@ -281,8 +426,11 @@ fn turns(rt: HostRuntime) {
 fn long_lines(rt: HostRuntime) {
     let mut line = [b' '; LONGEST_LINE + 1];
     line[0] = b'#';
-    assert_eq!(rt; parse_turn(&line[..LONGEST_LINE]), Ok(Asked::Nothing));
-    assert_eq!(rt; parse_turn(&line), Err(LineFault::Long));
+    assert_eq!(rt;
+        parse_turn(Mask::Plain, &line[..LONGEST_LINE]),
+        Ok(Asked::Nothing)
+    );
+    assert_eq!(rt; parse_turn(Mask::Plain, &line), Err(LineFault::Long));
 }
 
 #[test]

@@ -1,3 +1,4 @@
+//! Replays of scripts: what is written, and how each ends where the script, memory, a read or a write fails.
 use gp_replay::{RunFault, run_replay};
 use gp_script::ScriptFault;
 use gp_stream::{Sink, Source};

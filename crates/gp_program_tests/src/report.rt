@@ -1,3 +1,4 @@
+//! The line on standard error and the exit status of each ending.
 use gp_decode::LineFault;
 use gp_encode::WordsFault;
 use gp_explain::{ExplainFault, NoLine};

@@ -1,3 +1,4 @@
+//! Scripts that are read: what each says, and its first fault.
 mod faults;
 mod ranges;
 

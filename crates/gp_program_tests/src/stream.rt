@@ -1,3 +1,4 @@
+//! Sources and sinks over readers and writers that are slow or fail.
 use gp_stream::{Sink, Source, SourceFault, WriteStopped, read_all};
 use std::alloc::{AllocError, Global};
 use std::io;

@@ -80,10 +80,10 @@ fn rows() -> [Row; 7] {
         ),
         // what is no line of a trace stays as it is
         (
-            "error 3 word\ndone 3\n\nx sent ff03004142434400000001001b\n",
+            "error 3 word\ndone 3\nunit 0 O4 onu 0\n\nx sent ff03004142434400000001001b\n",
             Form::Words,
             true,
-            "error 3 word\ndone 3\n\nx sent ff03004142434400000001001b\n",
+            "error 3 word\ndone 3\nunit 0 O4 onu 0\n\nx sent ff03004142434400000001001b\n",
         ),
         // a millisecond has eight frames
         (
@@ -101,21 +101,23 @@ fn rows() -> [Row; 7] {
 }
 
 /// The same as JSON.
-fn objects() -> [Row; 11] {
+fn objects() -> [Row; 13] {
     [
         (
             "0 6 burst 100000 ff01414243440000000100002c = found 0\n",
             Form::Json,
             false,
             "{\"port\":0,\"number\":6,\"event\":\"burst\",\"at\":100000,\"code\":\"ff01414243440000000100002c\",\
-             \"message\":\"Serial_Number_ONU 255 ABCD00000001 0 0\",\"reply\":\"found\",\"onu\":0}\n",
+             \"message\":\"Serial_Number_ONU 255 ABCD00000001 0 0\",\"message_fields\":{\"name\":\"Serial_Number_ONU\",\
+             \"onu\":255,\"serial\":\"ABCD00000001\",\"random\":0,\"flags\":0},\"reply\":\"found\",\"onu\":0}\n",
         ),
         (
             "0 7 frame = ok sent ff03004142434400000001001b\n",
             Form::Json,
             true,
             "{\"frames\":1,\"port\":0,\"number\":7,\"event\":\"frame\",\"reply\":\"ok\",\
-             \"sent\":\"ff03004142434400000001001b\",\"sent_message\":\"Assign_ONU-ID 0 ABCD00000001\"}\n",
+             \"sent\":\"ff03004142434400000001001b\",\"sent_message\":\"Assign_ONU-ID 0 ABCD00000001\",\
+             \"sent_fields\":{\"name\":\"Assign_ONU-ID\",\"onu\":0,\"serial\":\"ABCD00000001\"}}\n",
         ),
         (
             "0 5 frame = ok grant range 0\n",
@@ -135,7 +137,7 @@ fn objects() -> [Row; 11] {
             Form::Json,
             false,
             "{\"port\":3,\"number\":1,\"event\":\"burst\",\"at\":5,\"code\":\"ff01414243440000000100002d\",\
-             \"message\":null,\"reply\":\"refused\",\"refusal\":2,\"reason\":\"garbled\"}\n",
+             \"message\":null,\"message_fields\":null,\"reply\":\"refused\",\"refusal\":2,\"reason\":\"garbled\"}\n",
         ),
         (
             "0 23 dealloc ABCD00000001 256 = releasing 256\n",
@@ -149,7 +151,9 @@ fn objects() -> [Row; 11] {
             Form::Json,
             false,
             "{\"port\":0,\"number\":11,\"event\":\"burst\",\"at\":100000,\"code\":\"0001414243440000000100006b\",\
-             \"message\":\"Serial_Number_ONU 0 ABCD00000001 0 0\",\"reply\":\"ranged\",\"onu\":0,\"eqd\":211040}\n",
+             \"message\":\"Serial_Number_ONU 0 ABCD00000001 0 0\",\"message_fields\":{\"name\":\"Serial_Number_ONU\",\
+             \"onu\":0,\"serial\":\"ABCD00000001\",\"random\":0,\"flags\":0},\"reply\":\"ranged\",\"onu\":0,\
+             \"eqd\":211040}\n",
         ),
         (
             "error 3 word\n",
@@ -171,6 +175,27 @@ fn objects() -> [Row; 11] {
             false,
             "{\"line\":\"done\"}\n{\"line\":\"done 03\"}\n{\"line\":\"done 3 \"}\n{\"line\":\"done x\"}\n\
              {\"line\":\"Done 3\"}\n{\"line\":\"done 3 word\"}\n{\"line\":\"error 3\"}\n",
+        ),
+        // what a simulated unit is
+        (
+            "unit 0 O2\nunit 1023 O4 onu 253\nunit 7 O5 onu 0 eqd 4294967295\n\
+             unit 7 O6 onu 0 eqd 0 dark\nunit 3 O7 dark\n",
+            Form::Json,
+            true,
+            "{\"unit\":0,\"state\":\"O2\",\"light\":true}\n\
+             {\"unit\":1023,\"state\":\"O4\",\"onu\":253,\"light\":true}\n\
+             {\"unit\":7,\"state\":\"O5\",\"onu\":0,\"eqd\":4294967295,\"light\":true}\n\
+             {\"unit\":7,\"state\":\"O6\",\"onu\":0,\"eqd\":0,\"light\":false}\n\
+             {\"unit\":3,\"state\":\"O7\",\"light\":false}\n",
+        ),
+        // what looks like it
+        (
+            "unit 0\nunit 00 O2\nunit 0 O8\nunit 0 O2 light\nunit 0 O5 eqd 1 onu 0\nunit 0 O4 onu x\nunit 0 O2 dark \n",
+            Form::Json,
+            false,
+            "{\"line\":\"unit 0\"}\n{\"line\":\"unit 00 O2\"}\n{\"line\":\"unit 0 O8\"}\n\
+             {\"line\":\"unit 0 O2 light\"}\n{\"line\":\"unit 0 O5 eqd 1 onu 0\"}\n\
+             {\"line\":\"unit 0 O4 onu x\"}\n{\"line\":\"unit 0 O2 dark \"}\n",
         ),
         // what no trace spells so
         (

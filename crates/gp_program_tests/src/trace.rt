@@ -1,3 +1,4 @@
+//! Lines of a trace: every event, reply, alarm and grant.
 ghost use Rattle.std.specs.Option.{ForSome};
 ghost use Rattle.gp_ploam.specs.Down.{IsProperDown};
 

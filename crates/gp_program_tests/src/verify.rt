@@ -1,8 +1,12 @@
 //! Traces that are told to be runs, and the first line of each that is not.
+mod objects;
+mod words;
+
+use gp_explain::Form;
 use gp_replay::RunFault;
 use gp_script::ScriptFault;
 use gp_stream::{Sink, Source};
-use gp_verify::{CheckFault, Verdict, VerifyFault, verify_script};
+use gp_verify::{CheckFault, Verdict, VerifyFault, verify_script, verify_told};
 use std::alloc::Global;
 
 /// A port that admits one unit and searches once.
@@ -90,6 +94,22 @@ fn found(alloc: Global, script: &str, text: &[u8]) -> Option<(Result<u64, CheckF
     Some((outcome, sink.into_inner()))
 }
 
+/// What is found of a text, where so many lines are asked for, and all that is told of it in a form; None where memory
+/// was refused.
+fn told(
+    alloc: Global,
+    form: Form,
+    at_least: Option<u64>,
+    script: &str,
+    text: &[u8],
+) -> Option<(Result<u64, CheckFault>, Vec<u8>)> {
+    let mut script = Source::new(script.as_bytes());
+    let mut trace = Source::endless(text);
+    let mut sink = Sink::new(alloc, Vec::new(alloc)).ok()?;
+    let outcome = verify_told(alloc, form, at_least, &mut script, &mut trace, &mut sink);
+    Some((outcome, sink.into_inner()))
+}
+
 /// What is found of a search and this behind it.
 fn found_behind(alloc: Global, last: &[u8]) -> Option<(Result<u64, CheckFault>, Vec<u8>)> {
     let mut text = Vec::new(alloc);
@@ -116,16 +136,19 @@ const TOLD: [(&'static str, &'static str); 9] = [
     ("1 0 frame = ok\n", "line 17: 1 0 frame = ok\n"),
     (
         "0 17 frame = ok\n",
-        "line 17: 0 17 frame = ok\nmachine: 0 16 frame = ok grant poll 0\n",
+        "line 17: 0 17 frame = ok\nmachine: 0 16 frame = ok grant poll 0\n\
+why: the number: `16` is next, not `17`\n",
     ),
     (
         "0 16 search = found 0\n0 17 frame = ok\n",
-        "line 17: 0 16 search = found 0\nmachine: 0 16 search = searching\n",
+        "line 17: 0 16 search = found 0\nmachine: 0 16 search = searching\n\
+why: the reply: `searching`, not `found 0`\n",
     ),
     (
         "0 16 alloc ABCD00000001 = allocated 4096\n",
         "line 17: 0 16 alloc ABCD00000001 = allocated 4096\n\
-machine: 0 16 alloc ABCD00000001 = allocated 256\nany free Alloc-ID would do\n",
+machine: 0 16 alloc ABCD00000001 = allocated 256\nany free Alloc-ID would do\n\
+why: the reply: `allocated 256`, not `allocated 4096`\n",
     ),
 ];
 
@@ -135,19 +158,162 @@ const TOLD_FOUND: [(&'static str, &'static str); 4] = [
     (
         "0 6 burst 100000 ff01414243440000000100002c = found 254\n",
         "line 7: 0 6 burst 100000 ff01414243440000000100002c = found 254\n\
-machine: 0 6 burst 100000 ff01414243440000000100002c = found 0\nany free ONU-ID would do\n",
+machine: 0 6 burst 100000 ff01414243440000000100002c = found 0\nany free ONU-ID would do\n\
+why: the reply: `found 0`, not `found 254`\n",
     ),
     (
         "0 6 burst 100000 ff01414243440000000100002c = found 007\n",
         "line 7: 0 6 burst 100000 ff01414243440000000100002c = found 007\n\
-machine: 0 6 burst 100000 ff01414243440000000100002c = found 7\nany free ONU-ID would do\n",
+machine: 0 6 burst 100000 ff01414243440000000100002c = found 7\nany free ONU-ID would do\n\
+why: the reply: `found 7`, not `found 007`\n",
     ),
     (
         "0 5 burst 100000 ff01414243440000000100002c = stray\n",
         "line 7: 0 5 burst 100000 ff01414243440000000100002c = stray\n\
-machine: 0 6 burst 100000 ff01414243440000000100002c = found 0\nany free ONU-ID would do\n",
+machine: 0 6 burst 100000 ff01414243440000000100002c = found 0\nany free ONU-ID would do\n\
+why: the number: `6` is next, not `5`\n",
     ),
 ];
+
+/// The frame behind the unit's answer, which sends the first copy of its ONU-ID.
+const FIRST: &str = "0 7 frame = ok sent ff03004142434400000001001b\n";
+
+/// The three frames behind the unit's answer, which send the copies of its ONU-ID.
+const THREE: &str = "\
+0 7 frame = ok sent ff03004142434400000001001b
+0 8 frame = ok sent ff03004142434400000001001b
+0 9 frame = ok sent ff03004142434400000001001b
+";
+
+/// The same, and the frame that asks the unit for its round-trip delay.
+const RANGE_ASKED: &str = "\
+0 7 frame = ok sent ff03004142434400000001001b
+0 8 frame = ok sent ff03004142434400000001001b
+0 9 frame = ok sent ff03004142434400000001001b
+0 10 frame = ok grant range 0
+";
+
+/// What comes behind a search and a line that can't be, and why it can't.
+const WHY: [(&'static str, &'static str, &'static str); 9] = [
+    ("", "00 6 frame = ok\n", "the port: `0`, not `00`"),
+    ("", "0 06 frame = ok\n", "the number: `6` is next, not `06`"),
+    (
+        "",
+        "0 6 burst 0100000 ff01414243440000000100002c = found 7\n",
+        "the event: it is spelled `burst 100000 ff01414243440000000100002c`, \
+not `burst 0100000 ff01414243440000000100002c`",
+    ),
+    (
+        "",
+        "0 6 frame = ok\r\n",
+        "a carriage return stands at octet 15",
+    ),
+    ("", "0 6 frame = ok \n", "a space stands at octet 15"),
+    ("", "0 6 frame = ok\t\n", "a tab stands at octet 15"),
+    (
+        RANGED,
+        "0 16 frame = okgrant poll 0\n",
+        "a space is missing at octet 16",
+    ),
+    (
+        RANGED,
+        "0 16 frame = ok alarm LOS ABCD00000001\n",
+        "the grant: `poll 0`, the operating unit whose turn it is, and the line has none",
+    ),
+    (
+        RANGED,
+        "0 16 frame = ok grant poll 0 alarm LOS ABCD00000001\n",
+        "the alarm: none, not `LOS ABCD00000001`",
+    ),
+];
+
+/// What comes behind a unit's answer and a line that can't be, and why it can't.
+const WHY_SENT: [(&'static str, &'static str, &'static str); 10] = [
+    (
+        "",
+        "0 7 frame = ok sent ff03004142434400000001001c\n",
+        "the message sent: the first copy of `Assign_ONU-ID 0 ABCD00000001` is owed, \
+not `ff03004142434400000001001c`",
+    ),
+    (
+        FIRST,
+        "0 8 frame = ok sent ff030141424344000000010073\n",
+        "the message sent: the second copy of `Assign_ONU-ID 0 ABCD00000001` is owed, \
+not `Assign_ONU-ID 1 ABCD00000001`",
+    ),
+    (
+        FIRST,
+        "0 8 frame = ok grant range 0\n",
+        "the message sent: the second copy of `Assign_ONU-ID 0 ABCD00000001` is owed, and the line has none",
+    ),
+    (
+        FIRST,
+        "0 8 frame = ok sent ff03004142434400000001001b grant range 0\n",
+        "the grant: none, since a message was owed, not `range 0`",
+    ),
+    (
+        FIRST,
+        "0 8 search = refused 14 already-searching sent ff03004142434400000001001b\n",
+        "the message sent: none, since only a frame sends one, not `Assign_ONU-ID 0 ABCD00000001`",
+    ),
+    (
+        FIRST,
+        "0 8 search = refused 14 already-searching grant search\n",
+        "the grant: none, since only a frame grants, not `search`",
+    ),
+    (
+        "0 7 frame = ok sent ff03004142434400000001001b\n0 8 frame = ok sent ff03004142434400000001001b\n",
+        "0 9 frame = ok\n",
+        "the message sent: the third copy of `Assign_ONU-ID 0 ABCD00000001` is owed, and the line has none",
+    ),
+    (
+        THREE,
+        "0 10 frame = ok sent ff03004142434400000001001b\n",
+        "the message sent: none is owed, not `Assign_ONU-ID 0 ABCD00000001`",
+    ),
+    (
+        THREE,
+        "0 10 frame = ok grant range 1\n",
+        "the grant: `range 0`, the least ONU-ID of a ranging unit, not `range 1`",
+    ),
+    (
+        RANGE_ASKED,
+        "0 11 burst 100000 00030000000000000000000021 = gasp 0\n",
+        "the alarm: `DG ABCD00000001`, and the line has none",
+    ),
+];
+
+/// Tells whether this is why the line behind a search and these is none of a run.
+fn is_why(alloc: Global, behind: &str, line: &str, reason: &str) -> bool {
+    let (Ok(text), Ok(why)) = (
+        format!(in alloc; "{behind}{line}"),
+        format!(in alloc; "\nwhy: {reason}\n"),
+    ) else {
+        return false;
+    };
+    found_behind(alloc, text.as_bytes()).is_some_and(|found| found
+        .1
+        .as_slice()
+        .ends_with(why.as_bytes()))
+}
+
+#[test]
+fn why_it_is_none(rt: HostRuntime) {
+    for (behind, line, reason) in WHY {
+        assert!(rt; is_why(rt.alloc(), behind, line, reason), "{line}");
+    }
+}
+
+#[test]
+fn why_no_message_is(rt: HostRuntime) {
+    for (behind, line, reason) in WHY_SENT {
+        let answered = format!(in rt.alloc(); "{FOUND}{behind}");
+        assert!(rt;
+            answered.is_ok_and(|text| is_why(rt.alloc(), &text, line, reason)),
+            "{line}"
+        );
+    }
+}
 
 /// Tells whether this is what is written of a search and these behind it.
 fn writes(alloc: Global, behind: &str, last: &str, told: &str) -> bool {

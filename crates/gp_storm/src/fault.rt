@@ -1,3 +1,4 @@
+//! Why a storm has no totals.
 ghost use Rattle.std.specs.Prelude.{◌≡◌};
 ghost use Rattle.gp_storm.specs.Faults.{storm_fault_of};
 

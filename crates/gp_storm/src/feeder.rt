@@ -1,3 +1,4 @@
+//! The thread that feeds a port's bursts into its ring.
 ghost use Rattle.std.specs.Prelude.{◌≡◌, ◌++◌, ◌∷◌, [], IsTrue};
 ghost use Rattle.rtrb.specs.Ring.{sent};
 ghost use Rattle.gp_workers.specs.Ring.{in_ring, up_to_end};

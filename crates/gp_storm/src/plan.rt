@@ -1,3 +1,4 @@
+//! What each thread of a storm is to do, by a script.
 ghost use Rattle.std.specs.Prelude.{◌≡◌, ◌++◌, ℕ, [], IfOk, OnOk, length, replicate};
 ghost use Rattle.gp_script.specs.Playable.{IsPlayable};
 ghost use Rattle.gp_script.specs.View.{NamesOneOf, script_view};

@@ -1,3 +1,4 @@
+//! A script that was read, run as a storm, and its five totals as text.
 ghost use Rattle.std.specs.Prelude.{◌≡◌, ◌+◌, IfErr, IfOk};
 ghost use Rattle.std.specs.String.{string_bytes};
 ghost use Rattle.gp_script.specs.Playable.{IsPlayable};

@@ -1,3 +1,4 @@
+//! What one thread of a storm has while it runs.
 ghost use Rattle.std.specs.Prelude.{◌≡◌, ◌+◌, ◌<◌, ◌≤◌, ◌∷◌, [], ◌⊎◌, map, All, IfErr, IfOk, vec_len, vec_capacity};
 ghost use Rattle.gp_storm.specs.Serving.{first_fault_of};
 

@@ -1,3 +1,4 @@
+//! The rings between feeders and readers, and the loops of readers, clock and operator.
 ghost use Rattle.std.specs.Prelude.{◌≡◌, ◌+◌, ◌-◌, ◌<◌, ◌≤◌, [], ℕ, length, map, All, Ok, Err, IfErr, IfOk, MatchResult, slice_index_or, vec_len};
 ghost use Rattle.gp_machine.specs.Config.{max_ports};
 ghost use Rattle.gp_workers.specs.Ring.{GrowsByBursts};

@@ -1,22 +1,37 @@
 -- What a run found in its input, from how it ended.
-use Rattle.std.proofs.Common.{◌≡◌, ℕ, List, [], Option, Result, Ok, Err, OnOk, IsErrAnd, subst, sym, refl, ap, ◌∙◌}
+use Rattle.std.proofs.Common.{◌≡◌, ℕ, List, [], Option, Result, Ok, Err, OnOk, IfOk, IsErrAnd, subst, sym, refl, ap, ◌∙◌}
 use Rattle.gp_script.specs.declared.fault.ScriptFault.{ScriptFault}
 use Rattle.gp_script.specs.Script.{ScriptView, script_of}
 use Rattle.gp_stream.specs.Source.{SourceState, ReadsTooMuch, max_bytes}
 use Rattle.gp_stream.specs.Sink.{SinkState}
 use Rattle.gp_replay.specs.declared.fault.RunFault.{RunFault}
 use Rattle.gp_replay.specs.declared.fault.RunFault.TheVariants as runs
-use Rattle.gp_replay.specs.Outcome.{ReadsBy, RunAnswer, RunEnds}
+use Rattle.gp_replay.specs.Outcome.{OfScript, ReadsBy, RunAnswer, RunEnds}
+use Rattle.gp_check.specs.declared.fault.ScriptCheckFault.{ScriptCheckFault}
+use Rattle.gp_check.specs.declared.found.Found.{Found}
+use Rattle.gp_check.specs.declared.found.Found.TheVariants as founds
+use Rattle.gp_check.specs.declared.telling.CheckManner.{CheckManner}
+use Rattle.gp_check.specs.declared.telling.Told.{Told}
+use Rattle.gp_check.specs.declared.telling.Told.TheVariants as told
+use Rattle.gp_check.specs.Check.{IsFound}
+use Rattle.gp_check.specs.Telling.{Tells}
 use Rattle.gp_verify.specs.declared.outcome.CheckFault.{CheckFault}
-use Rattle.gp_verify.specs.declared.outcome.CheckFault.TheVariants.{Script}
-use Rattle.gp_verify.specs.Checking.{ChecksScript}
+use Rattle.gp_verify.specs.declared.outcome.CheckFault.TheVariants.{Script, Trace}
+use Rattle.gp_verify.specs.declared.outcome.VerifyFault.{VerifyFault}
+use Rattle.gp_verify.specs.declared.outcome.VerifyFault.TheVariants as verifies
+use Rattle.gp_verify.specs.Checking.{ChecksScript, ChecksTrace}
+use Rattle.gp_verify.specs.Ending.{ChecksTold, Ends, EndsCheck, TellsEnd, after_writing, as_checked}
+use Rattle.gp_explain.specs.declared.form.Form.{Form}
+use Rattle.gp_flow.specs.declared.fault.LineFault.TheVariants as lines
+use Rattle.gp_flow.specs.declared.fault.LinesFault.TheVariants.{Line}
+use Rattle.gp_stream.specs.declared.sink.WriteStopped.{WriteStopped}
 use Rattle.gp_drive.specs.declared.driven.Driven.{Driven}
 use Rattle.gp_drive.specs.declared.fault.DriveFault.{DriveFault}
 use Rattle.gp_drive.specs.declared.fault.DriveFault.TheVariants as drives
 use Rattle.gp_drive.specs.declared.manner.DriveManner.{DriveManner}
 use Rattle.gp_drive.specs.Outcome.{DrivesInputIn, DrivesScriptIn, IsNoScript}
 use Rattle.gp_drive.specs.Outcome.DrivesInputIn.{NotRead, Read}
-use Rattle.oltctl.specs.Replays.{IsCheckedBy, IsReadBy, IsTooLong, unread, unread_endless}
+use Rattle.oltctl.specs.Replays.{IsCheckedBy, IsReadBy, IsToldBy, IsTooLong, unread, unread_endless}
 
 pub found_script : {R W : Type 0} (says_of : List ℕ → Result ScriptView ScriptFault) (leaves : RunAnswer → ScriptView → Type 0) (reader : R)
     (remaining : Option (List ℕ)) (before after : SourceState R) (old new : SinkState W) (r : RunAnswer) → before ≡ unread reader remaining
@@ -40,24 +55,66 @@ found_long {R = R} says_of leaves reader remaining before after old new r is p t
     (after, subst (λ (s : SourceState R). ReadsTooMuch max_bytes s after) is q.0)
 
 -- for want of memory neither the script nor the trace was read
-pub unchecked : {S T : Type 0} (script : S) (of_script : Option (List ℕ)) (trace : T) (of_trace : Option (List ℕ)) (r : Result ℕ CheckFault)
-    → IsErrAnd r (λ told. told ≡ Script runs.OutOfMemory) → IsCheckedBy script of_script trace of_trace r
-unchecked script of_script trace of_trace (Ok lines) same = absurd same
-unchecked script of_script trace of_trace (Err told) same =
-    subst (λ (e : CheckFault). IsCheckedBy script of_script trace of_trace (Err e)) (sym same)
+pub unchecked : {S T : Type 0} (form : Form) (script : S) (of_script : Option (List ℕ)) (trace : T) (of_trace : Option (List ℕ)) (r : Result ℕ CheckFault)
+    → IsErrAnd r (λ told. told ≡ Script runs.OutOfMemory) → IsCheckedBy form script of_script trace of_trace r
+unchecked form script of_script trace of_trace (Ok lines) same = absurd same
+unchecked form script of_script trace of_trace (Err told) same =
+    subst (λ (e : CheckFault). IsCheckedBy form script of_script trace of_trace (Err e)) (sym same)
     (unread script of_script, unread_endless trace of_trace, [], (tt, refl, refl))
 
+-- where what is told at the end was not written, the trace was verified all the same
+module _ {S T : Type 0} (form : Form) (before after : SourceState S) (from to : SourceState T) (told : List ℕ) where
+  unwritten : (answer : Result ℕ VerifyFault) → OfScript script_of before after (ChecksTrace form from to told answer)
+      → ChecksScript form before after from to told (Err (Trace (verifies.Lines (Line lines.Write))))
+  unwritten answer h = record { script = h.script; input = h.input; held = (h.held.0, tt) }
+
+  written_or : (found : Result ℕ VerifyFault) (written : Result (Unit {0}) WriteStopped) → ChecksScript form before after from to told (as_checked found)
+      → ChecksScript form before after from to told (as_checked (after_writing found written))
+  written_or found (Ok done) h = h
+  written_or (Ok lines) (Err stopped) h = unwritten (Ok lines) h
+  written_or (Err fault) (Err stopped) h = unwritten (Err fault) h
+
+  by_writing : {W : Type 0} (text : List ℕ) (found answer : Result ℕ VerifyFault) (mid new : SinkState W) → TellsEnd text found mid new answer
+      → ChecksScript form before after from to told (as_checked found) → ChecksScript form before after from to told (as_checked answer)
+  by_writing text found answer mid new e h =
+      subst (λ (a : Result ℕ VerifyFault). ChecksScript form before after from to told (as_checked a)) (sym e.2) (written_or found e.0 h)
+
+  ended_trace : {W : Type 0} (at_least : Option ℕ) (found answer : Result ℕ VerifyFault) (mid new : SinkState W) → Ends form at_least found mid new answer
+      → ChecksScript form before after from to told (as_checked found) → ChecksScript form before after from to told (as_checked answer)
+  ended_trace at_least (Ok lines) answer mid new e h = by_writing _ (Ok lines) answer mid new e h
+  ended_trace at_least (Err (verifies.Refused line verdict)) answer mid new e h = by_writing _ (Err (verifies.Refused line verdict)) answer mid new e h
+  ended_trace at_least (Err (verifies.Unended line)) answer mid new e h = by_writing _ (Err (verifies.Unended line)) answer mid new e h
+  ended_trace at_least (Err (verifies.Lines fault)) answer mid new e h =
+      subst (λ (a : Result ℕ VerifyFault). ChecksScript form before after from to told (as_checked a)) (sym e.0) h
+
+  pub ended_check : {W : Type 0} (at_least : Option ℕ) (found answer : Result ℕ CheckFault) (mid new : SinkState W) → EndsCheck form at_least found mid new answer
+      → ChecksScript form before after from to told found → ChecksScript form before after from to told answer
+  ended_check at_least (Ok lines) answer mid new e h =
+      subst (λ (a : Result ℕ CheckFault). ChecksScript form before after from to told a) (sym e.2) (ended_trace at_least (Ok lines) e.0 mid new e.1 h)
+  ended_check at_least (Err (Trace fault)) answer mid new e h =
+      subst (λ (a : Result ℕ CheckFault). ChecksScript form before after from to told a) (sym e.2) (ended_trace at_least (Err fault) e.0 mid new e.1 h)
+  ended_check at_least (Err (Script fault)) answer mid new e h =
+      subst (λ (a : Result ℕ CheckFault). ChecksScript form before after from to told a) (sym e.0) h
+
 -- both were checked from where sources stand of which nothing was read
-pub checked_from : {S T : Type 0} (script : S) (of_script : Option (List ℕ)) (trace : T) (of_trace : Option (List ℕ)) (before after : SourceState S)
+pub checked_from : {S T : Type 0} (form : Form) (script : S) (of_script : Option (List ℕ)) (trace : T) (of_trace : Option (List ℕ)) (before after : SourceState S)
     (from to : SourceState T) (told : List ℕ) (r : Result ℕ CheckFault) → before ≡ unread script of_script → from ≡ unread_endless trace of_trace
-    → ChecksScript before after from to told r → IsCheckedBy script of_script trace of_trace r
-checked_from {S = S} {T = T} script of_script trace of_trace before after from to told r is also checked = (
+    → ChecksScript form before after from to told r → IsCheckedBy form script of_script trace of_trace r
+checked_from {S = S} {T = T} form script of_script trace of_trace before after from to told r is also checked = (
   after,
   to,
   told,
-  subst (λ (s : SourceState S). ChecksScript s after (unread_endless trace of_trace) to told r) is
-      (subst (λ (s : SourceState T). ChecksScript before after s to told r) also checked),
+  subst (λ (s : SourceState S). ChecksScript form s after (unread_endless trace of_trace) to told r) is
+      (subst (λ (s : SourceState T). ChecksScript form before after s to told r) also checked),
 )
+
+-- the same, with what is told at the end
+pub told_from : {S T W : Type 0} (form : Form) (at_least : Option ℕ) (script : S) (of_script : Option (List ℕ)) (trace : T) (of_trace : Option (List ℕ))
+    (before after : SourceState S) (from to : SourceState T) (old new : SinkState W) (r : Result ℕ CheckFault) → before ≡ unread script of_script
+    → from ≡ unread_endless trace of_trace → ChecksTold form at_least before after from to old new r → IsCheckedBy form script of_script trace of_trace r
+told_from form at_least script of_script trace of_trace before after from to old new r is also all =
+    checked_from form script of_script trace of_trace before after from to all.checked.told r is also
+    (ended_check form before after from to all.checked.told at_least all.found r all.mid new all.ended all.checked.checked)
 
 -- ---- a drive
 
@@ -112,3 +169,33 @@ drive_long {R = R} manner reader remaining before after from to old new r is (Re
 drive_long {R = R} manner reader remaining before after from to old new r is (NotRead other also why lines kept) told =
     let same : other ≡ runs.TooLong = ap fault_told (sym also ∙ told) in
     (after, subst (λ (f : RunFault). FaultOf reader remaining after f) same (told_fault reader remaining after other (subst (λ (s : SourceState R). IsNoScript s after other) is why)))
+
+-- what was told of a source of which nothing was read yet is told of its reader
+pub told_by : {R W : Type 0} (manner : CheckManner) (name : List ℕ) (reader : R) (remaining : Option (List ℕ)) (before after : SourceState R)
+    (old new : SinkState W) (r : Result Told ScriptCheckFault) → before ≡ unread reader remaining → Tells manner name before after old new r
+    → IfOk r (IsToldBy manner.purpose reader remaining)
+told_by {R = R} manner name reader remaining before after old new (Ok told.Script) is p = record {
+  after = after;
+  found = p.found;
+  is = subst (λ (s : SourceState R). IsFound manner.purpose s after p.found) is p.is;
+  tells = sym p.tells.0;
+}
+told_by {R = R} manner name reader remaining before after old new (Ok told.NoScript) is p = record {
+  after = after;
+  found = p.found;
+  is = subst (λ (s : SourceState R). IsFound manner.purpose s after p.found) is p.is;
+  tells = sym p.tells.0;
+}
+told_by {R = R} manner name reader remaining before after old new (Ok (told.Wrong line)) is p = record {
+  after = after;
+  found = p.found;
+  is = subst (λ (s : SourceState R). IsFound manner.purpose s after p.found) is p.is;
+  tells = sym p.tells.0;
+}
+told_by {R = R} manner name reader remaining before after old new (Ok told.Unread) is p = record {
+  after = after;
+  found = founds.Unread;
+  is = subst (λ (s : SourceState R). IsFound manner.purpose s after founds.Unread) is p.0;
+  tells = refl;
+}
+told_by manner name reader remaining before after old new (Err fault) is p = tt

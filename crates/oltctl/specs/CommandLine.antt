@@ -1,10 +1,10 @@
--- The command line (this profile's own rule): `oltctl replay [--explain] [--progress] [FORM] [FILE]`,
--- `oltctl drive [--explain] [--done] [FORM] FILE`, `oltctl storm [--explain] [--progress] [FILE]`,
--- `oltctl check [--storm] [-q] FILE..`, `oltctl verify [--explain] [--at-least N] [--progress] FILE [TRACE]`,
--- `oltctl explain [--mask MASK] [FORM] [TRACE]`, `oltctl decode [--up] [--both] [--mask MASK] [HEX..]` and `oltctl
--- encode [--up] [--mask MASK] [WORDS..]`, where FORM is `[--words] [--time] [--format text|json]`, of `explain` without `--words`, and MASK
--- is `0`, `85` or `0x55`.
-use Rattle.std.specs.Prelude.{◌≡◌, List, [], ◌∷◌, Option, None, Some, map, Bool, true, codes, if◌then◌else◌, ◌||◌}
+-- The command line (this profile's own rule): `oltctl replay [--explain] [--progress] [FORM] [FILE]`, `oltctl drive
+-- [--explain] [--done] [FORM] FILE`, `oltctl storm [--explain] [--progress] [FILE]`, `oltctl check [--storm] [-q]
+-- [--format text|json] FILE..`, `oltctl verify [--explain] [--at-least N] [--progress] [--words] [--format text|json]
+-- FILE [TRACE]`, `oltctl explain [--mask MASK] [FORM] [TRACE]`, `oltctl decode [--up] [--both] [--names]
+-- [--mask MASK] [HEX..]` and `oltctl encode [--up] [--mask MASK] [WORDS..]`, where FORM is `[--words] [--time] [--format
+-- text|json]`, of `explain` without `--words`, and MASK is `0`, `85` or `0x55`.
+use Rattle.std.specs.Prelude.{◌≡◌, List, [], ◌∷◌, Option, None, Some, map, Bool, true, false, codes, if◌then◌else◌, ◌||◌}
 use Rattle.std.specs.Borrow.{Bor}
 use Rattle.std.specs.Str.{bytes_eq}
 use Rattle.clap.specs.Simple.{on_top}
@@ -104,9 +104,12 @@ drive_command names = with_rule (with_words drive_flags names) script_rule
 abbrev pub quiet_rule : Rule
 quiet_rule = record (flag_rule (codes "quiet")) { short = Some 113 }
 
-abbrev pub check_command : App
-check_command =
-    with_rule (with_rule (with_rule (new_app (codes "check")) (flag_rule (codes "storm"))) quiet_rule) files_rule
+-- `check` up to the form of its lines
+abbrev pub check_flags : App
+check_flags = with_rule (with_rule (new_app (codes "check")) (flag_rule (codes "storm"))) quiet_rule
+
+abbrev pub check_command : FormatNames → App
+check_command names = with_rule (with_rule check_flags (format_rule names)) files_rule
 
 abbrev pub storm_command : App
 storm_command =
@@ -119,18 +122,24 @@ at_least_rule =
     record (new_rule (codes "at-least"))
     { long = Some (codes "at-least"); value_names = 1; parser = Some (Unsigned 0 18446744073709551615) }
 
--- `verify` up to its files
+-- `verify` up to the form of what it says
 abbrev pub verify_flags : App
 verify_flags =
     with_rule (with_rule (with_rule (new_app (codes "verify")) (flag_rule (codes "explain"))) at_least_rule)
     (flag_rule (codes "progress"))
 
-abbrev pub verify_command : App
-verify_command = with_rule (with_rule verify_flags script_rule) trace_rule
+-- the same with the form of what it says
+abbrev pub verify_form : FormatNames → App
+verify_form names = with_rule (with_rule verify_flags (flag_rule (codes "words"))) (format_rule names)
+
+abbrev pub verify_command : FormatNames → App
+verify_command names = with_rule (with_rule (verify_form names) script_rule) trace_rule
 
 -- `decode` up to its mask
 abbrev pub decode_flags : App
-decode_flags = with_rule (with_rule (new_app (codes "decode")) up_rule) (flag_rule (codes "both"))
+decode_flags =
+    with_rule (with_rule (with_rule (new_app (codes "decode")) up_rule) (flag_rule (codes "both")))
+    (flag_rule (codes "names"))
 
 abbrev pub decode_command : MaskNames → App
 decode_command names = with_rule (with_rule decode_flags (mask_rule names)) code_rule
@@ -147,6 +156,8 @@ explain_command masks formats =
 pub record AllNames : Type 0 where
   pub replay : FormatNames
   pub drive : FormatNames
+  pub check : FormatNames
+  pub verify : FormatNames
   pub explain_format : FormatNames
   pub explain : MaskNames
   pub decode : MaskNames
@@ -155,6 +166,8 @@ pub record AllNames : Type 0 where
 pub record AreAllNames (names : AllNames) : Type 0 where
   pub replay : AreFormats names.replay
   pub drive : AreFormats names.drive
+  pub check : AreFormats names.check
+  pub verify : AreFormats names.verify
   pub explain_format : AreFormats names.explain_format
   pub explain : AreMasks names.explain
   pub decode : AreMasks names.decode
@@ -177,16 +190,18 @@ abbrev pub line_commands : FormatNames → FormatNames → App
 line_commands replay drive = with_subcommand (script_commands replay) (drive_command drive).top
 
 -- the program as far as it is about scripts, lines and traces
-abbrev pub trace_commands : FormatNames → FormatNames → App
-trace_commands replay drive =
-    with_subcommand (with_subcommand (line_commands replay drive) check_command.top) verify_command.top
+abbrev pub trace_commands : FormatNames → FormatNames → FormatNames → FormatNames → App
+trace_commands replay drive check verify =
+    with_subcommand (with_subcommand (line_commands replay drive) (check_command check).top)
+    (verify_command verify).top
 
 -- the whole program
 abbrev pub oltctl_command : AllNames → App
 oltctl_command names =
     with_subcommand
     (with_subcommand
-    (with_subcommand (trace_commands names.replay names.drive) (explain_command names.explain names.explain_format).top)
+    (with_subcommand (trace_commands names.replay names.drive names.check names.verify)
+    (explain_command names.explain names.explain_format).top)
     (decode_command names.decode).top) (encode_command names.encode).top
 
 -- the words have no fault, and what was parsed is the subcommand that they name, with the values that they give it
@@ -212,6 +227,33 @@ abbrev pub form_named : Bool → Option Text → Form
 form_named words None = if words then Words else Plain
 form_named words (Some name) =
     if bytes_eq name (codes "json") then Json else if words then Words else Plain
+
+-- a format is the one of this name
+abbrev pub is_json : Option Text → Bool
+is_json None = false
+is_json (Some name) = bytes_eq name (codes "json")
+
+-- words are `-` alone, which stands for standard input
+abbrev pub is_input : List Text → Bool
+is_input [] = false
+is_input (word ∷ []) = bytes_eq word (codes "-")
+is_input (word ∷ next ∷ others) = false
+
+-- the words of a message: there are none where no words are given, and where they stand for standard input
+abbrev pub words_named : Option (List Text) → Option (List Text)
+words_named None = None
+words_named (Some words) = if is_input words then None else Some words
+
+-- one code alone, if that is what is given, and it isn't `-`, which stands for standard input
+abbrev pub code_alone : List Text → Option Text
+code_alone [] = None
+code_alone (code ∷ []) = if bytes_eq code (codes "-") then None else Some code
+code_alone (code ∷ next ∷ others) = None
+
+-- the same of the codes that may be given
+abbrev pub code_named : Option (List Text) → Option Text
+code_named None = None
+code_named (Some words) = code_alone words
 
 -- the file that a name stands for: `-` stands for standard input, as no name does
 abbrev pub file_named : Option Text → Option Text

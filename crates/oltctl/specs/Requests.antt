@@ -1,12 +1,15 @@
 -- What a parsed command line asks for (this profile's own rule).
-use Rattle.std.specs.Prelude.{◌≡◌, ◌≢◌, if◌then◌else◌, ℕ, ok_or, List, [], ◌∷◌, Bool, true, false, Option, None, Some, map, option_map, codes}
+use Rattle.std.specs.Prelude.{◌≡◌, ◌≢◌, if◌then◌else◌, ℕ, ok_or, List, [], ◌∷◌, ◌++◌, ◌==◌, Bool, true, false, Option, None, Some, map, option_map, codes}
 use Rattle.std.specs.Borrow.{Bor}
 use Rattle.std.specs.Str.Parse.{ParsesUnsigned}
 use Rattle.clap.specs.Words.{Row, Text, all_of, first_of, one_of}
+use Rattle.gp_check.specs.declared.checking.Purpose.{Purpose}
+use Rattle.gp_check.specs.declared.checking.Purpose.TheVariants as purpose
 use Rattle.gp_decode.specs.declared.direction.Direction.{Direction}
 use Rattle.gp_decode.specs.declared.direction.Direction.TheVariants.{Each}
-use Rattle.gp_decode.specs.LineText.{direction_of}
-use Rattle.oltctl.specs.CommandLine.{file_named, form_named, mask_named}
+use Rattle.gp_decode.specs.declared.direction.Direction.TheVariants as direction
+use Rattle.gp_decode.specs.LineText.{direction_of, is_remark, without_return}
+use Rattle.oltctl.specs.CommandLine.{code_named, file_named, form_named, is_json, mask_named, words_named}
 use Rattle.oltctl.specs.declared.request.Request.{Request}
 use Rattle.oltctl.specs.declared.request.Request.TheVariants.{Replay, Drive, Storm, Check, Verify, Decode, DecodeLines, Encode, EncodeLines, Explain}
 use Rattle.oltctl.specs.declared.request.Play.{Play}
@@ -63,12 +66,23 @@ AsksToDrive rows (Drive script told done) =
     (first_of (codes "script") rows ≡ Some script.now) × AsksForTrace rows told × IsFlag rows (codes "done") done
 AsksToDrive rows _ = ⊥
 
+-- what scripts are to be for: a storm, or else a replay
+abbrev pub purpose_of : Bool → Purpose
+purpose_of true = purpose.Storm
+purpose_of false = purpose.Replay
+
+-- the rows ask for scripts for this, those of storms with `--storm`
+pub record AsksForPurpose (rows : List Row) (purpose : Purpose) : Type 0 where
+  pub storm : Bool
+  pub flag : IsFlag rows (codes "storm") storm
+  pub is : purpose ≡ purpose_of storm
+
 -- the rows of `check` ask whether each FILE is a script, with `--storm` one of a storm, with `--quiet` without a word
--- of those that are
+-- of those that are, by lines or as JSON
 abbrev pub AsksToCheck : List Row → Request → Type 0
-AsksToCheck rows (Check files checking) =
-    (all_of (codes "files") rows ≡ Some (texts files)) × IsFlag rows (codes "storm") checking.storm
-    × IsFlag rows (codes "quiet") checking.quiet
+AsksToCheck rows (Check files manner) =
+    (all_of (codes "files") rows ≡ Some (texts files)) × AsksForPurpose rows manner.purpose
+    × IsFlag rows (codes "quiet") manner.quiet × (manner.json ≡ is_json (first_of (codes "format") rows))
 AsksToCheck rows _ = ⊥
 
 -- the rows of `storm` ask for the storm of FILE, or of standard input where it is left out
@@ -78,11 +92,15 @@ AsksToStorm rows (Storm file play) =
     × IsFlag rows (codes "progress") play.progress
 AsksToStorm rows _ = ⊥
 
--- the rows of `verify` ask to verify TRACE, or standard input where it is left out, against the script of FILE
+-- the rows of `verify` ask to verify TRACE, or standard input where it is left out, against the script of FILE, and to
+-- say what is found in this form
 pub record AsksForVerification (rows : List Row) (wanted : Verification) : Type 0 where
   pub script : first_of (codes "script") rows ≡ Some wanted.script.now
   pub trace : name_in wanted.trace ≡ file_named (first_of (codes "trace") rows)
   pub at_least : IsNumber rows (codes "at-least") wanted.at_least
+  pub words : Bool
+  pub in_words : IsFlag rows (codes "words") words
+  pub form : wanted.form ≡ form_named words (first_of (codes "format") rows)
   pub progress : IsFlag rows (codes "progress") wanted.progress
 
 abbrev pub AsksToVerify : List Row → Request → Type 0
@@ -93,33 +111,54 @@ AsksToVerify rows _ = ⊥
 abbrev pub direction_asked : Bool → Bool → Direction
 direction_asked upstream both = if both then Each else direction_of upstream
 
--- the rows ask for codes of this direction
+-- the word before a code that says whose message it is; none where the code says that itself
+abbrev pub word_of : Direction → List ℕ
+word_of direction.Up = codes "up "
+word_of direction.Down = codes "down "
+word_of direction.Each = []
+
+-- the octet that stands for one of an argument that is a line: a space for a line feed
+abbrev pub on_a_line : ℕ → ℕ
+on_a_line octet = if octet == 10 then 32 else octet
+
+-- what keeps a line from being passed over
+abbrev pub blank_before : List ℕ → List ℕ
+blank_before code = if is_remark (without_return code) then 32 ∷ [] else []
+
+-- a code as a line, behind a word that says whose message it is
+abbrev pub line_of_code : List ℕ → List ℕ → List ℕ
+line_of_code word code = word ++ blank_before code ++ map on_a_line code ++ 10 ∷ []
+
+-- the rows ask for codes of this direction, and not for a single one, unless that says itself whose message it is
 pub record AsksForDirection (rows : List Row) (direction : Direction) : Type 0 where
   pub upstream : Bool
   pub both : Bool
   pub up : IsFlag rows (codes "up") upstream
   pub each : IsFlag rows (codes "both") both
   pub is : direction ≡ direction_asked upstream both
+  pub several : both ≡ false → code_named (all_of (codes "code") rows) ≡ None
 
 -- the rows of `decode` ask for the words of one HEX, or of each of several or of standard input, as upstream messages
--- with `--up`, under the mask of `--mask`; with `--both` each says itself whose message it is
+-- with `--up`, under the mask of `--mask`; with `--both` each says itself whose message it is, and with `--names` names of
+-- the standard are told too
 abbrev pub AsksToDecode : List Row → Request → Type 0
-AsksToDecode rows (Decode code upstream mask) =
+AsksToDecode rows (Decode code upstream mask names) =
     (all_of (codes "code") rows ≡ Some (code.now ∷ [])) × IsFlag rows (codes "up") upstream
     × IsFlag rows (codes "both") false × (mask ≡ mask_named (first_of (codes "mask") rows))
-AsksToDecode rows (DecodeLines many direction mask) =
+    × IsFlag rows (codes "names") names
+AsksToDecode rows (DecodeLines many direction mask names) =
     (option_map texts many ≡ all_of (codes "code") rows) × AsksForDirection rows direction
-    × (mask ≡ mask_named (first_of (codes "mask") rows))
+    × (mask ≡ mask_named (first_of (codes "mask") rows)) × IsFlag rows (codes "names") names
 AsksToDecode rows _ = ⊥
 
--- the rows of `encode` ask for the code of WORDS, or where there are none of those of each line of standard input, of
--- upstream messages with `--up`, under the mask of `--mask`
+-- the rows of `encode` ask for the code of WORDS, or where there are none or `-` alone of those of each line of standard
+-- input, of upstream messages with `--up`, under the mask of `--mask`
 abbrev pub AsksToEncode : List Row → Request → Type 0
 AsksToEncode rows (Encode words upstream mask) =
-    (all_of (codes "words") rows ≡ Some (texts words)) × IsFlag rows (codes "up") upstream
+    (words_named (all_of (codes "words") rows) ≡ Some (texts words)) × IsFlag rows (codes "up") upstream
     × (mask ≡ mask_named (first_of (codes "mask") rows))
 AsksToEncode rows (EncodeLines upstream mask) =
-    (all_of (codes "words") rows ≡ None) × IsFlag rows (codes "up") upstream
+    (words_named (all_of (codes "words") rows) ≡ None) × IsFlag rows (codes "up") upstream
     × (mask ≡ mask_named (first_of (codes "mask") rows))
 AsksToEncode rows _ = ⊥
 
@@ -135,13 +174,13 @@ abbrev pub Asks : Option (Text × List Row) → Request → Type 0
 Asks None request = ⊥
 Asks (Some (name, rows)) (Replay file play) = (name ≡ codes "replay") × AsksToReplay rows (Replay file play)
 Asks (Some (name, rows)) (Drive script told done) = (name ≡ codes "drive") × AsksToDrive rows (Drive script told done)
-Asks (Some (name, rows)) (Check files checking) = (name ≡ codes "check") × AsksToCheck rows (Check files checking)
+Asks (Some (name, rows)) (Check files manner) = (name ≡ codes "check") × AsksToCheck rows (Check files manner)
 Asks (Some (name, rows)) (Storm file play) = (name ≡ codes "storm") × AsksToStorm rows (Storm file play)
 Asks (Some (name, rows)) (Verify wanted) = (name ≡ codes "verify") × AsksToVerify rows (Verify wanted)
-Asks (Some (name, rows)) (Decode code upstream mask) =
-    (name ≡ codes "decode") × AsksToDecode rows (Decode code upstream mask)
-Asks (Some (name, rows)) (DecodeLines many direction mask) =
-    (name ≡ codes "decode") × AsksToDecode rows (DecodeLines many direction mask)
+Asks (Some (name, rows)) (Decode code upstream mask names) =
+    (name ≡ codes "decode") × AsksToDecode rows (Decode code upstream mask names)
+Asks (Some (name, rows)) (DecodeLines many direction mask names) =
+    (name ≡ codes "decode") × AsksToDecode rows (DecodeLines many direction mask names)
 Asks (Some (name, rows)) (EncodeLines upstream mask) =
     (name ≡ codes "encode") × AsksToEncode rows (EncodeLines upstream mask)
 Asks (Some (name, rows)) (Encode words upstream mask) =

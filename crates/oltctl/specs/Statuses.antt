@@ -1,5 +1,5 @@
 -- The exit statuses of the program (this profile's own rule).
-use Rattle.std.specs.Prelude.{◌≡◌, ◌≢◌, ◌<◌, ◌≤◌, ◌==◌, if◌then◌else◌, unwrap_or, ℕ, Bool, true, false, List, ◌⊎◌, Option, None, Some, Result, Ok, Err}
+use Rattle.std.specs.Prelude.{◌≡◌, ◌≢◌, ◌<◌, ◌≤◌, ◌==◌, if◌then◌else◌, ℕ, Bool, true, false, List, ◌⊎◌, Option, None, Some, Result, Ok, Err}
 use Rattle.std.specs.declared.io.ErrorKind.{ErrorKind as IoErrorKind}
 use Rattle.std.specs.declared.io.ErrorKind.TheVariants as io_error
 use Rattle.clap.specs.declared.error.kind.ErrorKind.{ErrorKind}
@@ -7,7 +7,7 @@ use Rattle.clap.specs.declared.error.kind.ErrorKind.TheVariants as error
 use Rattle.gp_ploam.specs.declared.check.Mask.{Mask}
 use Rattle.gp_decode.specs.declared.decoder.FaultAt.{FaultAt}
 use Rattle.gp_decode.specs.declared.fault.LineFault.{LineFault}
-use Rattle.gp_decode.specs.Line.{HasLineFault, IsOfText, Says}
+use Rattle.gp_decode.specs.Line.{HasLineFault, IsOfText, SaysIn}
 use Rattle.gp_drive.specs.declared.driven.Driven.{Driven}
 use Rattle.gp_drive.specs.declared.fault.DriveFault.{DriveFault}
 use Rattle.gp_drive.specs.declared.fault.DriveFault.TheVariants as drives
@@ -23,6 +23,7 @@ use Rattle.gp_check.specs.declared.fault.ScriptCheckFault.{ScriptCheckFault}
 use Rattle.gp_check.specs.declared.fault.ScriptCheckFault.TheVariants as checks
 use Rattle.gp_verify.specs.declared.outcome.CheckFault.{CheckFault}
 use Rattle.gp_verify.specs.declared.outcome.CheckFault.TheVariants as check
+use Rattle.gp_verify.specs.Ending.{wanted_lines}
 use Rattle.clap.specs.Words.{Text, subcommand_rows_of}
 use Rattle.clap.specs.declared.parser.matches.ArgMatches.{ArgMatches}
 use Rattle.oltctl.specs.CommandLine.{IsFaultOf, IsParseOf}
@@ -73,9 +74,9 @@ drive_status (Err (drives.Turns fault)) = input_status fault
 abbrev pub IsDriven : ℕ → Type 0
 IsDriven status = (outcome : Result Driven DriveFault) × (status ≡ drive_status outcome)
 
--- all went well, and the code has a line
-abbrev pub IsSaid : List ℕ → Bool → Mask → ℕ → Type 0
-IsSaid code upstream mask status = (status ≡ SUCCESS) × ((line : List ℕ) × Says upstream mask code line)
+-- all went well, and the code has a line, with names of the standard or without
+abbrev pub IsSaid : List ℕ → Bool → Mask → Bool → ℕ → Type 0
+IsSaid code upstream mask names status = (status ≡ SUCCESS) × ((line : List ℕ) × SaysIn names upstream mask code line)
 
 -- it is the status of a fault, and the code has that fault, where it isn't one of memory or of the output
 abbrev pub IsFaulty : List ℕ → Mask → ℕ → Type 0
@@ -83,21 +84,15 @@ IsFaulty code mask status =
     (fault : LineFault) × (status ≡ code_status fault) × (IsOfText fault → HasLineFault mask code fault)
 
 -- the status after a code was to be said in words
-pub record IsDecoded (code : List ℕ) (upstream : Bool) (mask : Mask) (status : ℕ) : Type 0 where
-  pub ended : IsSaid code upstream mask status ⊎ IsFaulty code mask status
+pub record IsDecoded (code : List ℕ) (upstream : Bool) (mask : Mask) (names : Bool) (status : ℕ) : Type 0 where
+  pub ended : IsSaid code upstream mask names status ⊎ IsFaulty code mask status
   -- memory aside, a code that has a fault has its status
   pub faulty : status ≢ OUT_OF_MEMORY → (fault : LineFault) → IsOfText fault → HasLineFault mask code fault
       → status ≡ code_status fault
 
--- how many lines a trace has to have: as many as are asked for, and else one
-abbrev pub wanted_lines : Option ℕ → ℕ
-wanted_lines at_least = unwrap_or at_least 1
-
--- the status of a run of so many lines: of one that has too few it is that of no run, and else the lines are told, which
--- may not get out
+-- the status of a run of so many lines: of one that has too few it is that of no run
 abbrev pub IsRunStatus : ℕ → ℕ → ℕ → Type 0
-IsRunStatus wanted lines status =
-    (lines < wanted → status ≡ NOT_A_RUN) × (wanted ≤ lines → (status ≡ SUCCESS) ⊎ (status ≡ NOT_WRITTEN))
+IsRunStatus wanted lines status = (lines < wanted → status ≡ NOT_A_RUN) × (wanted ≤ lines → status ≡ SUCCESS)
 
 -- the status after a verification that ended so
 abbrev pub IsVerifyStatus : Option ℕ → Result ℕ CheckFault → ℕ → Type 0
@@ -157,11 +152,11 @@ IsChecked status = (outcome : Result Bool ScriptCheckFault) × (status ≡ check
 abbrev pub IsServed : Request → ℕ → Type 0
 IsServed (Replay file play) status = IsPlayed status
 IsServed (Drive script told done) status = IsDriven status
-IsServed (Check files checking) status = IsChecked status
+IsServed (Check files manner) status = IsChecked status
 IsServed (Storm file play) status = IsStormed status
 IsServed (Verify wanted) status = IsVerified wanted.at_least status
-IsServed (Decode code upstream mask) status = IsDecoded code.now upstream mask status
-IsServed (DecodeLines many direction mask) status = AreDecoded status
+IsServed (Decode code upstream mask names) status = IsDecoded code.now upstream mask names status
+IsServed (DecodeLines many direction mask names) status = AreDecoded status
 IsServed (EncodeLines upstream mask) status = AreEncoded status
 IsServed (Encode words upstream mask) status = IsEncoded status
 IsServed (Explain trace mask told) status = IsExplained status

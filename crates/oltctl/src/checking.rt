@@ -1,22 +1,15 @@
-//! Whether files are scripts: of each a line, on standard output where it is one, and else on standard error.
+//! Whether files are scripts: of each a line, on standard output where it is one, and else on standard error; or of each
+//! an object on standard output.
+ghost use Rattle.std.specs.Prelude.{◌≡◌, IfOk};
+ghost use Rattle.oltctl.specs.Replays.{IsToldBy, is_told_script};
+
 use crate::observed::{Observed, Seen};
 use crate::reporting::unread_cause;
-use crate::request::Checking;
-use gp_check::{Found, Purpose, ScriptCheckFault, find_script, found_line};
+use gp_check::{CheckManner, ScriptCheckFault, Told, tell_script, unread_object};
 use gp_stream::{Sink, Source};
-use std::alloc::AllocError;
 use std::io;
 use std::io::{Read, Write};
 use std::rt::Files;
-
-/// What the scripts are to be for.
-fn purpose_of(checking: Checking) -> Purpose {
-    if checking.storm {
-        Purpose::Storm
-    } else {
-        Purpose::Replay
-    }
-}
 
 /// The name of a file; None for standard input, which `-` stands for.
 fn file_named(path: &str) -> Option<&str> {
@@ -26,83 +19,91 @@ fn file_named(path: &str) -> Option<&str> {
     }
 }
 
-/// Says of a file that it was not looked at, and why.
-fn tell_unread<R: AllocGlobal + Eprint>(
+/// Says of a file that it was not looked at, and why, where that is known.
+fn tell_unread<R: AllocGlobal + Eprint, W: Write>(
     rt: &R,
     path: &str,
     what: &str,
-    error: &io::Error,
-) -> Result<(), AllocError> {
-    let cause = unread_cause(rt.alloc(), file_named(path), Some(error))?;
-    let _ = eprintln!(rt; "{path}: {what}: {cause}");
+    error: Option<&io::Error>,
+    json: bool,
+    sink: &mut Sink<W>,
+) -> Result<(), ScriptCheckFault> {
+    let why = match error {
+        None => String::from_str(rt.alloc(), what)?,
+        Some(_) => {
+            let cause = unread_cause(rt.alloc(), file_named(path), error)?;
+            format!(in rt.alloc(); "{what}: {cause}")?
+        }
+    };
+    if json {
+        let object = unread_object(rt.alloc(), path, why.as_str())?;
+        sink.write_whole(object.as_slice())?;
+    } else {
+        let _ = eprintln!(rt; "{path}: {why}");
+    }
     Ok(())
 }
 
-/// Says what was found in a file, of one that is a script only where that is wanted, and tells whether it is one.
-fn tell_found<R: AllocGlobal + Eprint, W: Write>(
-    rt: &R,
-    path: &str,
-    found: &Found,
-    quiet: bool,
-    sink: &mut Sink<W>,
-) -> Result<bool, ScriptCheckFault> {
-    let is_script = found.is_script();
-    if is_script && quiet {
-        return Ok(true);
+/// Tells whether what was told of is a script.
+fn is_told_script(told: &Told) -> bool
+    ensures { result ≡ is_told_script told.now }
+{
+    match told {
+        Told::Script => true,
+        Told::NoScript | Told::Wrong(_) | Told::Unread => false,
     }
-    let line = found_line(rt.alloc(), path, found)?;
-    if is_script {
-        sink.write_whole(line.as_bytes())?;
-    } else {
-        let _ = eprint!(rt; "{line}");
-    }
-    Ok(is_script)
 }
 
-/// Says so of what a reader gives.
+/// Tells of what a reader gives whether it is a script.
+fn tell_from<R: AllocGlobal, T: Read + Drop, W: Write>(
+    rt: &R,
+    path: &str,
+    reader: T,
+    manner: CheckManner,
+    sink: &mut Sink<W>,
+) -> Result<Told, ScriptCheckFault>
+    ensures { IfOk result (IsToldBy manner.purpose reader (T.remaining reader)) }
+{
+    let mut source = Source::new(reader);
+    tell_script(rt.alloc(), manner, path, &mut source, sink)
+}
+
+/// Says so, also where it was not read or is none, and tells whether it is one.
 fn check_reader<R: AllocGlobal + Eprint, T: Read + Drop, W: Write>(
     rt: &R,
     path: &str,
     reader: T,
-    checking: Checking,
+    manner: CheckManner,
     sink: &mut Sink<W>,
 ) -> Result<bool, ScriptCheckFault> {
     let mut seen = Seen::new(file_named(path));
-    let found = find_seen(rt, reader, purpose_of(checking), &mut seen)?;
-    match (&found, seen.cause()) {
-        (Found::Unread, Some(error)) => {
-            tell_unread(rt, path, "can't be read", error)?;
-            Ok(false)
+    let told = tell_from(rt, path, Observed::new(reader, &mut seen), manner, sink)?;
+    match &told {
+        Told::Script | Told::NoScript => {}
+        Told::Wrong(line) => {
+            let _ = eprint!(rt; "{line}");
         }
-        _ => tell_found(rt, path, &found, checking.quiet, sink),
+        Told::Unread => {
+            tell_unread(rt, path, "can't be read", seen.cause(), manner.json, sink)?;
+        }
     }
-}
-
-/// Looks for a script in what a reader gives, of which is remembered why a read failed.
-fn find_seen<R: AllocGlobal, T: Read + Drop>(
-    rt: &R,
-    reader: T,
-    purpose: Purpose,
-    seen: &mut Seen<'_>,
-) -> Result<Found, AllocError> {
-    let mut source = Source::new(Observed::new(reader, seen));
-    find_script(rt.alloc(), purpose, &mut source)
+    Ok(is_told_script(&told))
 }
 
 /// Says of a file that it is a script, or where it is wrong, and tells whether it is one. `-` stands for standard input.
 fn check_file<R: AllocGlobal + Files + Eprint + Input, W: Write>(
     rt: &R,
     path: &str,
-    checking: Checking,
+    manner: CheckManner,
     sink: &mut Sink<W>,
 ) -> Result<bool, ScriptCheckFault> {
     if path == "-" {
-        return check_reader(rt, path, rt.reader(), checking, sink);
+        return check_reader(rt, path, rt.reader(), manner, sink);
     }
     match std::fs::open(rt, path) {
-        Ok(file) => check_reader(rt, path, file, checking, sink),
+        Ok(file) => check_reader(rt, path, file, manner, sink),
         Err(error) => {
-            tell_unread(rt, path, "can't be opened", &error)?;
+            tell_unread(rt, path, "can't be opened", Some(&error), manner.json, sink)?;
             Ok(false)
         }
     }
@@ -112,12 +113,12 @@ fn check_file<R: AllocGlobal + Files + Eprint + Input, W: Write>(
 pub(crate) fn check_files<R: AllocGlobal + Files + Print + Eprint + Input>(
     rt: &R,
     files: &[&str],
-    checking: Checking,
+    manner: CheckManner,
 ) -> Result<bool, ScriptCheckFault> {
     let mut sink = Sink::new(rt.alloc(), io::writer(rt))?;
     let mut are_scripts = true;
     for path in files {
-        let is_script = check_file(rt, path, checking, &mut sink)?;
+        let is_script = check_file(rt, path, manner, &mut sink)?;
         are_scripts = are_scripts && is_script;
     }
     Ok(are_scripts)

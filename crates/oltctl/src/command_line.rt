@@ -2,7 +2,7 @@
 ghost use Rattle.std.specs.Prelude.{◌≡◌, ◌≢◌, IfErr, IfOk, codes, false, map};
 ghost use Rattle.clap.specs.Words.{app_of, kind_of, rule_of};
 ghost use Rattle.clap.specs.declared.builder.command.Command.TheViews.{out-Command as fields_of};
-ghost use Rattle.oltctl.specs.CommandLine.{AllNames, AreAllNames, AreFormats, AreMasks, FormatNames, IsFaultOf, IsParseOf, MaskNames, at_least_rule, check_command, code_rule, files_rule, flag_rule, format_rule, decode_flags as spec_decode_flags, replay_flags as spec_replay_flags, verify_flags as spec_verify_flags, with_form as spec_form, with_words as spec_words, decode_command, drive_command, encode_command, explain_command, file_rule, line_commands, mask_rule, oltctl_command, replay_command, script_commands, script_rule, storm_command, trace_commands, trace_rule, up_rule, verify_command, words_rule};
+ghost use Rattle.oltctl.specs.CommandLine.{AllNames, AreAllNames, AreFormats, AreMasks, FormatNames, IsFaultOf, IsParseOf, MaskNames, at_least_rule, check_command, code_rule, files_rule, flag_rule, format_rule, check_flags as spec_check_flags, decode_flags as spec_decode_flags, replay_flags as spec_replay_flags, verify_flags as spec_verify_flags, verify_form as spec_verify_form, with_form as spec_form, with_words as spec_words, decode_command, drive_command, encode_command, explain_command, file_rule, line_commands, mask_rule, oltctl_command, quiet_rule, replay_command, script_commands, script_rule, storm_command, trace_commands, trace_rule, up_rule, verify_command, words_rule};
 ghost use Rattle.std.specs.String.{string_bytes};
 
 use crate::help::{
@@ -76,7 +76,7 @@ fn explained_always<'a>(alloc: Global) -> Arg<'a>
     )
 }
 
-fn format<'a>(alloc: Global) -> Arg<'a>
+fn format<'a>(alloc: Global, help: &'a str) -> Arg<'a>
     ensures rule { (names : FormatNames) × AreFormats names × (rule_of result ≡ format_rule names) }
     ensures local { result.global ≡ false }
 {
@@ -85,7 +85,7 @@ fn format<'a>(alloc: Global) -> Arg<'a>
         .value_name("FORMAT")
         .value_parser(FORMATS.as_slice())
         .default_value("text")
-        .help("How each line is written; json: one object a line")
+        .help(help)
 }
 
 /// Adds how a trace is written.
@@ -101,7 +101,7 @@ fn with_form<'a>(alloc: Global, command: Command<'a>) -> Result<Command<'a>, All
             "time",
             "Puts its port's time before each line, in frames and milliseconds",
         ))?
-        .arg(format(alloc))
+        .arg(format(alloc, "How each line is written; json: one object a line"))
 }
 
 /// Adds how a trace is written, also that its codes may be in words.
@@ -145,8 +145,16 @@ fn files<'a>(alloc: Global) -> Arg<'a>
         .help("The scripts; - for standard input")
 }
 
-fn check<'a>(alloc: Global) -> Result<Command<'a>, AllocError>
-    ensures app { IfOk result (λ c. app_of c ≡ check_command) }
+fn quiet<'a>(alloc: Global) -> Arg<'a>
+    ensures rule { rule_of result ≡ quiet_rule }
+    ensures local { result.global ≡ false }
+{
+    flag(alloc, "quiet", "Says nothing of files that are right").short('q')
+}
+
+/// Begins `check`, up to the form of its lines.
+fn check_flags<'a>(alloc: Global) -> Result<Command<'a>, AllocError>
+    ensures app { IfOk result (λ c. app_of c ≡ spec_check_flags) }
     ensures local { IfOk result (λ c. (fields_of c).has_globals ≡ false) }
 {
     Command::new(alloc, "check")
@@ -157,7 +165,15 @@ fn check<'a>(alloc: Global) -> Result<Command<'a>, AllocError>
             "storm",
             "Looks whether it is one of a storm, which has no simulated units",
         ))?
-        .arg(flag(alloc, "quiet", "Says nothing of files that are right").short('q'))?
+        .arg(quiet(alloc))
+}
+
+fn check<'a>(alloc: Global) -> Result<Command<'a>, AllocError>
+    ensures app { IfOk result (λ c. (names : FormatNames) × AreFormats names × (app_of c ≡ check_command names)) }
+    ensures local { IfOk result (λ c. (fields_of c).has_globals ≡ false) }
+{
+    check_flags(alloc)?
+        .arg(format(alloc, "How each file is told of; json: one object a file"))?
         .arg(files(alloc))
 }
 
@@ -233,7 +249,7 @@ fn at_least<'a>(alloc: Global) -> Arg<'a>
         .help("A trace of fewer lines is no run; 1 if left out")
 }
 
-/// Begins `verify`, up to its files.
+/// Begins `verify`, up to the form of what it says.
 fn verify_flags<'a>(alloc: Global) -> Result<Command<'a>, AllocError>
     ensures app { IfOk result (λ c. app_of c ≡ spec_verify_flags) }
     ensures local { IfOk result (λ c. (fields_of c).has_globals ≡ false) }
@@ -246,11 +262,27 @@ fn verify_flags<'a>(alloc: Global) -> Result<Command<'a>, AllocError>
         .arg(progress(alloc))
 }
 
-fn verify<'a>(alloc: Global) -> Result<Command<'a>, AllocError>
-    ensures app { IfOk result (λ c. app_of c ≡ verify_command) }
+/// Adds that form.
+fn verify_form<'a>(alloc: Global) -> Result<Command<'a>, AllocError>
+    ensures app { IfOk result (λ c. (names : FormatNames) × AreFormats names × (app_of c ≡ spec_verify_form names)) }
     ensures local { IfOk result (λ c. (fields_of c).has_globals ≡ false) }
 {
-    verify_flags(alloc)?.arg(script(alloc))?.arg(trace(alloc))
+    let words = flag(
+        alloc,
+        "words",
+        "Tells both lines with their codes in words, as explain does",
+    );
+    verify_flags(alloc)?.arg(words)?.arg(format(
+        alloc,
+        "How what was found is told; json: one object in all",
+    ))
+}
+
+fn verify<'a>(alloc: Global) -> Result<Command<'a>, AllocError>
+    ensures app { IfOk result (λ c. (names : FormatNames) × AreFormats names × (app_of c ≡ verify_command names)) }
+    ensures local { IfOk result (λ c. (fields_of c).has_globals ≡ false) }
+{
+    verify_form(alloc)?.arg(script(alloc))?.arg(trace(alloc))
 }
 
 fn up<'a>(alloc: Global) -> Arg<'a>
@@ -264,7 +296,22 @@ fn both<'a>(alloc: Global) -> Arg<'a>
     ensures rule { rule_of result ≡ flag_rule (codes "both") }
     ensures local { result.global ≡ false }
 {
-    flag(alloc, "both", "Each code has up or down before it")
+    flag(
+        alloc,
+        "both",
+        "Each code has up or down before it; --up then changes nothing",
+    )
+}
+
+fn names<'a>(alloc: Global) -> Arg<'a>
+    ensures rule { rule_of result ≡ flag_rule (codes "names") }
+    ensures local { result.global ≡ false }
+{
+    flag(
+        alloc,
+        "names",
+        "Names of the standard in the place of Other and its number",
+    )
 }
 
 fn mask<'a>(alloc: Global) -> Arg<'a>
@@ -300,7 +347,8 @@ fn decode_flags<'a>(alloc: Global) -> Result<Command<'a>, AllocError>
         .about("Says in words which messages codes are")
         .after_help(DECODE_HELP)
         .arg(up(alloc))?
-        .arg(both(alloc))
+        .arg(both(alloc))?
+        .arg(names(alloc))
 }
 
 fn decode<'a>(alloc: Global) -> Result<Command<'a>, AllocError>
@@ -318,7 +366,7 @@ fn words<'a>(alloc: Global) -> Arg<'a>
         .value_name("WORDS")
         .action(ArgAction::Append)
         .help(
-            "The words that decode writes for a message: its name and its fields; those of one a line from standard input if left out",
+            "The words that decode writes for a message: its name and its fields; those of one a line from standard input if left out, or for -",
         )
 }
 
@@ -370,8 +418,8 @@ fn of_lines<'a>(alloc: Global) -> Result<Command<'a>, AllocError>
 
 /// Makes the program's command line as far as it is about scripts, lines and traces.
 fn of_traces<'a>(alloc: Global) -> Result<Command<'a>, AllocError>
-    ensures { IfOk result (λ c. (replay drive : FormatNames) × AreFormats replay × AreFormats drive
-        × (app_of c ≡ trace_commands replay drive)) }
+    ensures { IfOk result (λ c. (replay drive check verify : FormatNames) × AreFormats replay × AreFormats drive
+        × AreFormats check × AreFormats verify × (app_of c ≡ trace_commands replay drive check verify)) }
 {
     of_lines(alloc)?
         .subcommand(check(alloc)?)?

@@ -10,10 +10,11 @@ ghost use Rattle.std.specs.String.{string_bytes};
 ghost use Rattle.clap.specs.Values.{kind_of};
 ghost use Rattle.std.specs.IoError.{error_kind};
 ghost use Rattle.gp_decode.specs.declared.fault.LineFault.{LineFault as AnyFault};
-ghost use Rattle.gp_decode.specs.Line.{HasLineFault, IsOfText, Says};
+ghost use Rattle.gp_decode.specs.Line.{HasLineFault, IsOfText, SaysIn};
 ghost use Rattle.gp_script.specs.declared.fault.ScriptFault.{ScriptFault};
 ghost use Rattle.gp_script.specs.Script.{ScriptView, script_of, storm_script_of};
 ghost use Rattle.oltctl.specs.Replays.{IsReadBy, IsTooLong};
+ghost use Rattle.oltctl.specs.Requests.{word_of};
 ghost use Rattle.oltctl.specs.Statuses.{AreDecoded, AreEncoded, IsArgumentsReport, IsDriven, IsEncoded, IsExplained, IsPlayed, IsRun, IsServed, IsStatusOf, IsStormed, check_status, drive_status, encoded_status, end_status, greatest_status, lines_status, told_status};
 
 mod checking;
@@ -34,7 +35,7 @@ use clap::Error;
 use clap::error::ErrorKind;
 use descriptors::hold;
 use gp_check::{Purpose, ScriptCheckFault};
-use gp_decode::{Direction, FaultAt, LineFault, decode_each, decode_line};
+use gp_decode::{Direction, FaultAt, LineFault, decode_each_in, decode_line_in};
 use gp_drive::{DriveFault, DriveManner, Driven, run_drive_in};
 use gp_encode::{EncodeFault, WordsFaultAt, encode_line, encode_lines};
 use gp_explain::{ExplainFault, Telling, explain_trace};
@@ -47,7 +48,7 @@ use gp_report::{
 };
 use gp_storm::run_storm;
 use gp_stream::{Sink, Source, SourceFault, read_all};
-use joined::joined;
+use joined::{joined, lines_of_codes};
 use observed::{Observed, Seen};
 use reporting::{report, report_at, tell_mistake};
 use request::{Play, Request, StormPlay, Told, request_of};
@@ -226,11 +227,11 @@ fn drive<R: AllocGlobal + Files + Print + Eprint + Input>(
     end_drive(rt, &outcome, &of_script, &of_turns)
 }
 
-/// Says on standard error how many lines were no turns, and answers the exit status.
+/// Says on standard error how many lines were answered by an error, and answers the exit status.
 fn report_errors<R: Eprint>(rt: &R, errors: u64) -> u8
     ensures { result ≡ BAD_INPUT }
 {
-    let _ = eprintln!(rt; "oltctl: lines that are no turns: {errors}");
+    let _ = eprintln!(rt; "oltctl: lines answered by an error: {errors}");
     BAD_INPUT
 }
 
@@ -365,13 +366,14 @@ fn decode<R: AllocGlobal + Print>(
     code: &str,
     upstream: bool,
     mask: Mask,
+    names: bool,
 ) -> Result<(), LineFault>
-    ensures ok { OnOk result ((line : List ℕ) × Says upstream mask code.now line) }
+    ensures ok { OnOk result ((line : List ℕ) × SaysIn names upstream mask code.now line) }
     ensures fault { result ≢ Err LineFault.OutOfMemory → (fault : AnyFault) → IsOfText fault
         → (result ≡ Err fault) ↔ HasLineFault mask code.now fault }
 {
     let mut sink = Sink::new(rt.alloc(), io::writer(rt))?;
-    decode_line(rt.alloc(), code, upstream, mask, &mut sink)
+    decode_line_in(rt.alloc(), code, upstream, mask, names, &mut sink)
 }
 
 /// Says of each line that a reader gives which message's code it is, on standard output.
@@ -380,25 +382,41 @@ fn decode_from<R: AllocGlobal + Print, S: Read + Drop>(
     reader: S,
     direction: Direction,
     mask: Mask,
+    names: bool,
 ) -> Result<Option<FaultAt>, LinesFault> {
     let mut source = Source::endless(reader);
     let mut sink = Sink::new(rt.alloc(), io::writer(rt))?;
-    decode_each(rt.alloc(), &mut source, &mut sink, direction, mask)
+    decode_each_in(rt.alloc(), &mut source, &mut sink, direction, mask, names)
 }
 
-/// Says so of these codes, as if each were a line, or of each line of standard input.
+/// Gives the word before a code that says whose it is; none where it says that itself.
+fn word_of(direction: Direction) -> &'static str
+    ensures { result.now ≡ word_of direction }
+{
+    match direction {
+        Direction::Up => "up ",
+        Direction::Down => "down ",
+        Direction::Each => "",
+    }
+}
+
+/// Says so of these codes, each as a line that says whose it is, so that an empty one is not passed over; or of each line
+/// of standard input.
 fn decode_all<R: AllocGlobal + Print + Input>(
     rt: &R,
     codes: Option<&[&str]>,
     direction: Direction,
     mask: Mask,
+    names: bool,
     seen: &mut Seen<'_>,
 ) -> Result<Option<FaultAt>, LinesFault> {
     match codes {
-        None | Some(["-"]) => decode_from(rt, Observed::new(rt.reader(), seen), direction, mask),
+        None | Some(["-"]) => {
+            decode_from(rt, Observed::new(rt.reader(), seen), direction, mask, names)
+        }
         Some(codes) => {
-            let text = joined(rt.alloc(), codes, b'\n')?;
-            decode_from(rt, text.as_slice(), direction, mask)
+            let text = lines_of_codes(rt.alloc(), word_of(direction), codes)?;
+            decode_from(rt, text.as_slice(), Direction::Each, mask, names)
         }
     }
 }
@@ -425,11 +443,12 @@ fn decode_lines_of<R: AllocGlobal + Print + Eprint + Input>(
     codes: Option<&[&str]>,
     direction: Direction,
     mask: Mask,
+    names: bool,
 ) -> u8
     ensures { AreDecoded result }
 {
     let mut seen = Seen::new(None);
-    let outcome = decode_all(rt, codes, direction, mask, &mut seen);
+    let outcome = decode_all(rt, codes, direction, mask, names, &mut seen);
     end_lines(rt, &outcome, &seen)
 }
 
@@ -567,14 +586,15 @@ fn serve<R: AllocGlobal + Files + Print + Eprint + Input + Clock + Threads + Wai
     match request {
         Request::Replay { file, play } => replay(rt, file, play),
         Request::Drive { script, told, done } => drive(rt, script, told, done),
-        Request::Check { files, checking } => end_check(rt, &check_files(rt, files, checking)),
+        Request::Check { files, manner } => end_check(rt, &check_files(rt, files, manner)),
         Request::Storm { file, play } => storm(rt, file, play),
         Request::Verify(wanted) => verify(rt, wanted),
         Request::Decode {
             code,
             upstream,
             mask,
-        } => match decode(rt, code, upstream, mask) {
+            names,
+        } => match decode(rt, code, upstream, mask, names) {
             Ok(()) => SUCCESS,
             Err(fault) => report(rt, line_report(&fault)),
         },
@@ -582,7 +602,8 @@ fn serve<R: AllocGlobal + Files + Print + Eprint + Input + Clock + Threads + Wai
             codes,
             direction,
             mask,
-        } => decode_lines_of(rt, codes, direction, mask),
+            names,
+        } => decode_lines_of(rt, codes, direction, mask, names),
         Request::EncodeLines { upstream, mask } => encode_lines_of(rt, upstream, mask),
         Request::Encode {
             words,

@@ -34,6 +34,15 @@ pub(crate) fn report_count<R: Eprint>(rt: &R, told: (&'static str, u8), count: u
     status
 }
 
+/// Says on standard error how many lines came.
+pub(crate) fn tell_came<R: Eprint>(rt: &R, lines: u64) {
+    let _ = match lines {
+        0 => eprintln!(rt; "oltctl: no line came"),
+        1 => eprintln!(rt; "oltctl: 1 line came"),
+        lines => eprintln!(rt; "oltctl: {lines} lines came"),
+    };
+}
+
 /// Gives why something failed, without the number that the system has for it.
 fn cause_text(alloc: Global, error: &io::Error) -> Result<String, AllocError> {
     let text = format!(in alloc; "{error}")?;

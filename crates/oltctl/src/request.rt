@@ -1,10 +1,11 @@
 //! What a command line asks for.
 ghost use Rattle.std.specs.Prelude.{◌≡◌, ◌∷◌, [], true, IfSome, IfNone, Some, None, codes, option_map};
 ghost use Rattle.clap.specs.Words.{all_of, first_of, found_of, rows_of, subcommand_rows_of};
-ghost use Rattle.oltctl.specs.CommandLine.{file_named, form_named, mask_named};
-ghost use Rattle.oltctl.specs.Requests.{Asks, AsksForForm, AsksForPlay, AsksForTrace, AsksNothing, AsksToCheck, AsksToDecode, AsksToDrive, AsksToEncode, AsksToExplain, AsksToReplay, AsksToStorm, AsksToVerify, IsNumber, direction_asked, name_in, texts};
+ghost use Rattle.oltctl.specs.CommandLine.{code_alone, code_named, file_named, form_named, is_input, is_json, mask_named, words_named};
+ghost use Rattle.oltctl.specs.Requests.{Asks, AsksForForm, AsksForPlay, AsksForTrace, AsksNothing, AsksToCheck, AsksToDecode, AsksToDrive, AsksToEncode, AsksToExplain, AsksToReplay, AsksToStorm, AsksToVerify, IsNumber, direction_asked, name_in, purpose_of, texts};
 
 use clap::ArgMatches;
+use gp_check::{CheckManner, Purpose};
 use gp_decode::Direction;
 use gp_explain::Form;
 use gp_ploam::Mask;
@@ -38,15 +39,6 @@ pub struct StormPlay {
     pub progress: bool,
 }
 
-/// What is wanted of files that may be scripts.
-#[derive(Clone, Copy)]
-pub struct Checking {
-    /// They are to be scripts of storms.
-    pub storm: bool,
-    /// Nothing is said of those that are right.
-    pub quiet: bool,
-}
-
 /// A verification that is wanted.
 #[derive(Clone, Copy)]
 pub struct Verification<'a> {
@@ -56,6 +48,8 @@ pub struct Verification<'a> {
     pub trace: Option<&'a str>,
     /// It has to have so many lines, and one where this is left out.
     pub at_least: Option<u64>,
+    /// What is found is said by lines as they are, by lines in words, or by objects.
+    pub form: Form,
     /// Once a second, how many lines were read.
     pub progress: bool,
 }
@@ -78,7 +72,7 @@ pub enum Request<'m, 'a> {
     /// Say of each of these files whether it is a script, or where it is wrong.
     Check {
         files: &'m [&'a str],
-        checking: Checking,
+        manner: CheckManner,
     },
     /// Run the storm of this file's script, or of standard input's.
     Storm {
@@ -88,17 +82,19 @@ pub enum Request<'m, 'a> {
     /// Verify a trace against a script.
     Verify(Verification<'a>),
     /// Say which message this code is, in hexadecimal digits: one of a unit where `upstream`, else one of the
-    /// line terminal.
+    /// line terminal; with names of the standard where `names`.
     Decode {
         code: &'a str,
         upstream: bool,
         mask: Mask,
+        names: bool,
     },
     /// Say so of each of these codes, or, where there are none or `-` alone, of each line of standard input.
     DecodeLines {
         codes: Option<&'m [&'a str]>,
         direction: Direction,
         mask: Mask,
+        names: bool,
     },
     /// Give the code of the message that the words of each line of standard input say.
     EncodeLines {
@@ -197,16 +193,35 @@ fn replay_of<'m, 'a>(found: &'m ArgMatches<'a>) -> Request<'m, 'a>
     }
 }
 
-#[tactic(auto, using(crate::proofs::Rows::values_by_rows, crate::proofs::Rows::flag_by_rows))]
+/// Tells whether a format is that of objects.
+fn is_json(format: Option<&str>) -> bool
+    ensures { result ≡ is_json (name_in format.entry) }
+{
+    matches!(format, Some("json"))
+}
+
+/// What scripts are to be for: a storm, or else a replay.
+fn purpose_of(storm: bool) -> Purpose
+    ensures { result ≡ purpose_of storm }
+{
+    if storm {
+        Purpose::Storm
+    } else {
+        Purpose::Replay
+    }
+}
+
+#[tactic(auto, using(crate::proofs::Rows::value_by_rows, crate::proofs::Rows::values_by_rows, crate::proofs::Rows::flag_by_rows))]
 fn check_of<'m, 'a>(found: &'m ArgMatches<'a>) -> Option<Request<'m, 'a>>
     ensures asks { IfSome result (AsksToCheck (rows_of (found_of found.now))) }
     ensures nothing { IfNone result (all_of (codes "files") (rows_of (found_of found.now)) ≡ None) }
 {
     Some(Request::Check {
         files: found.get_strs("files")?,
-        checking: Checking {
-            storm: found.get_flag("storm"),
+        manner: CheckManner {
+            purpose: purpose_of(found.get_flag("storm")),
             quiet: found.get_flag("quiet"),
+            json: is_json(found.get_str("format")),
         },
     })
 }
@@ -253,18 +268,28 @@ fn verify_of<'m, 'a>(found: &'m ArgMatches<'a>) -> Option<Request<'m, 'a>>
         script: found.get_str("script")?,
         trace: file_of(found.get_str("trace")),
         at_least: number_at(found, "at-least"),
+        form: form_of(found.get_flag("words"), found.get_str("format")),
         progress: found.get_flag("progress"),
     }))
 }
 
-/// Gives the code, where one alone is given, and it isn't `-`, which stands for standard input.
-fn code_alone<'a>(codes: Option<&[&'a str]>) -> Option<&'a str>
-    ensures { IfSome result (λ code. option_map texts codes.entry ≡ Some (code.now ∷ [])) }
+/// Gives the one code that there is, where there is one alone that isn't `-`, which stands for standard input.
+fn code_alone<'a>(codes: &[&'a str]) -> Option<&'a str>
+    ensures { name_in result ≡ code_alone (texts codes.entry) }
 {
     match codes {
-        Some(codes) if codes.len() == 1 && codes[0] != "-" => Some(codes[0]),
-        _ => None,
+        [] => None,
+        [code] => { if *code == "-" { None } else { Some(*code) } }
+        [_, _, ..] => None,
     }
+}
+
+/// Gives the code, where one alone is given, and it isn't `-`, which stands for standard input.
+fn code_named<'a>(codes: Option<&[&'a str]>) -> Option<&'a str>
+    ensures is { name_in result ≡ code_named (option_map texts codes.entry) }
+    ensures alone { IfSome result (λ code. option_map texts codes.entry ≡ Some (code.now ∷ [])) }
+{
+    code_alone(codes?)
 }
 
 #[tactic(auto, using(crate::proofs::Rows::value_by_rows, crate::proofs::Rows::flag_by_rows, crate::proofs::Rows::values_by_rows))]
@@ -274,17 +299,20 @@ fn decode_of<'m, 'a>(found: &'m ArgMatches<'a>) -> Request<'m, 'a>
     let codes = found.get_strs("code");
     let upstream = found.get_flag("up");
     let both = found.get_flag("both");
+    let names = found.get_flag("names");
     let mask = mask_of(found.get_str("mask"));
-    match code_alone(codes) {
+    match code_named(codes) {
         Some(code) if !both => Request::Decode {
             code,
             upstream,
             mask,
+            names,
         },
         _ => Request::DecodeLines {
             codes,
             direction: direction_of(upstream, both),
             mask,
+            names,
         },
     }
 }
@@ -300,11 +328,32 @@ fn direction_of(upstream: bool, both: bool) -> Direction
     }
 }
 
+/// Tells whether words are `-` alone, which stands for standard input.
+fn is_input(words: &[&str]) -> bool
+    ensures { result ≡ is_input (texts words.entry) }
+{
+    match words {
+        [] => false,
+        [word] => *word == "-",
+        [_, _, ..] => false,
+    }
+}
+
+/// Gives the words of a message; None where there are none, and for `-` alone, which stands for standard input.
+fn words_of<'m, 'a>(words: Option<&'m [&'a str]>) -> Option<&'m [&'a str]>
+    ensures { option_map texts result ≡ words_named (option_map texts words.entry) }
+{
+    match words {
+        None => None,
+        Some(words) => { if is_input(words) { None } else { Some(words) } }
+    }
+}
+
 #[tactic(auto, using(crate::proofs::Rows::value_by_rows, crate::proofs::Rows::flag_by_rows, crate::proofs::Rows::values_by_rows))]
 fn encode_of<'m, 'a>(found: &'m ArgMatches<'a>) -> Request<'m, 'a>
     ensures { AsksToEncode (rows_of (found_of found.now)) result }
 {
-    match found.get_strs("words") {
+    match words_of(found.get_strs("words")) {
         None => Request::EncodeLines {
             upstream: found.get_flag("up"),
             mask: mask_of(found.get_str("mask")),

@@ -2,55 +2,63 @@
 ghost use Rattle.std.specs.Prelude.{◌≡◌};
 ghost use Rattle.gp_report.specs.Report.{verify_status};
 ghost use Rattle.oltctl.specs.Replays.{IsCheckedBy};
-ghost use Rattle.oltctl.specs.Statuses.{IsVerified, IsVerifyStatus, wanted_lines};
+ghost use Rattle.oltctl.specs.Statuses.{IsRunStatus, IsVerified, IsVerifyStatus};
+ghost use Rattle.gp_verify.specs.Ending.{wanted_lines};
 
 use crate::observed::{Observed, Seen};
 use crate::progress::Counted;
-use crate::reporting::{report, report_at, report_count};
+use crate::reporting::{report, report_at, report_count, tell_came};
 use crate::request::Verification;
 use gp_flow::LinesFault;
 use gp_replay::RunFault;
-use gp_report::{
-    NOT_A_RUN, SUCCESS, few_lines_report, no_line_report, verify_report, write_report,
-};
+use gp_report::{NOT_A_RUN, SUCCESS, few_lines_report, no_line_report, verify_report};
 use gp_stream::{Sink, Source};
-use gp_verify::{CheckFault, VerifyFault, verify_script};
+use gp_verify::{CheckFault, VerifyFault, verify_told, wanted_lines};
 use std::io;
 use std::io::Read;
 use std::rt::{Clock, Files};
 
-/// Verifies the trace that a reader gives against the script that another gives. The line that can't be goes to
-/// standard output, and what the machine says in its place.
+/// Verifies the trace that a reader gives against the script that another gives. What is found goes to standard output:
+/// that it is a run, or the line that can't be, what the machine says in its place, and why.
 fn verify_from<R: AllocGlobal + Print, S: Read + Drop, T: Read + Drop>(
     rt: &R,
+    wanted: Verification<'_>,
     script: S,
     trace: T,
 ) -> Result<u64, CheckFault>
-    ensures { IsCheckedBy script (S.remaining script) trace (T.remaining trace) result }
+    ensures { IsCheckedBy wanted.entry.form script (S.remaining script) trace (T.remaining trace) result }
 {
     let mut script = Source::new(script);
     let mut trace = Source::endless(trace);
     let mut sink = Sink::new(rt.alloc(), io::writer(rt))?;
-    verify_script(rt.alloc(), &mut script, &mut trace, &mut sink)
+    verify_told(
+        rt.alloc(),
+        wanted.form,
+        wanted.at_least,
+        &mut script,
+        &mut trace,
+        &mut sink,
+    )
 }
 
 /// Verifies the trace of a file, or of standard input, against the script that a reader gives.
 fn verify_trace<R: AllocGlobal + Files + Print + Eprint + Input + Clock, S: Read + Drop>(
     rt: &R,
+    wanted: Verification<'_>,
     script: S,
-    trace: Option<&str>,
-    progress: bool,
     of_trace: &mut Seen<'_>,
 ) -> Result<u64, CheckFault> {
-    match trace {
+    match wanted.trace {
         None => {
             let trace = Observed::new(rt.reader(), of_trace);
-            verify_from(rt, script, Counted::new(rt, trace, progress, None))
+            let trace = Counted::new(rt, trace, wanted.progress, None);
+            verify_from(rt, wanted, script, trace)
         }
         Some(path) => match std::fs::open(rt, path) {
             Ok(trace) => {
                 let trace = Observed::new(trace, of_trace);
-                verify_from(rt, script, Counted::new(rt, trace, progress, None))
+                let trace = Counted::new(rt, trace, wanted.progress, None);
+                verify_from(rt, wanted, script, trace)
             }
             Err(error) => {
                 of_trace.failed(&error);
@@ -70,7 +78,7 @@ fn verify_files<R: AllocGlobal + Files + Print + Eprint + Input + Clock>(
     match std::fs::open(rt, wanted.script) {
         Ok(script) => {
             let script = Observed::new(script, of_script);
-            verify_trace(rt, script, wanted.trace, wanted.progress, of_trace)
+            verify_trace(rt, wanted, script, of_trace)
         }
         Err(error) => {
             of_script.failed(&error);
@@ -79,33 +87,28 @@ fn verify_files<R: AllocGlobal + Files + Print + Eprint + Input + Clock>(
     }
 }
 
-/// How many lines a trace has to have: as many as are asked for, and else one.
-fn wanted_lines(at_least: Option<u64>) -> u64
-    ensures { result ≡ wanted_lines at_least }
-{
-    at_least.unwrap_or(1)
-}
-
-/// Says that a run has too few lines, and answers the exit status.
-fn report_few<R: Eprint>(rt: &R, at_least: Option<u64>) -> u8
+/// Says that a run has too few lines, and how many, and answers the exit status.
+fn report_few<R: Eprint>(rt: &R, at_least: Option<u64>, lines: u64) -> u8
     ensures { result ≡ NOT_A_RUN }
 {
     match at_least {
         None => report(rt, no_line_report()),
-        Some(count) => report_count(rt, few_lines_report(), count),
+        Some(count) => {
+            let status = report_count(rt, few_lines_report(), count);
+            tell_came(rt, lines);
+            status
+        }
     }
 }
 
-/// Says on standard output that a trace of so many lines is a run, and answers the exit status.
-fn tell_run<R: Print + Eprint>(rt: &R, at_least: Option<u64>, lines: u64) -> u8
-    ensures { IsVerifyStatus at_least (Ok lines) result }
+/// Says so of a run that has too few lines, and answers the exit status.
+fn end_run<R: Eprint>(rt: &R, at_least: Option<u64>, lines: u64) -> u8
+    ensures { IsRunStatus (wanted_lines at_least) lines result }
 {
     if lines < wanted_lines(at_least) {
-        return report_few(rt, at_least);
-    }
-    match println!(rt; "{lines} lines, a run") {
-        Ok(()) => SUCCESS,
-        Err(_) => report(rt, write_report()),
+        report_few(rt, at_least, lines)
+    } else {
+        SUCCESS
     }
 }
 
@@ -123,7 +126,7 @@ fn end_trace<R: AllocGlobal + Eprint>(rt: &R, fault: &VerifyFault, of_trace: &Se
 }
 
 /// Says how a verification ended, and answers the exit status.
-fn end_verify<R: AllocGlobal + Print + Eprint>(
+fn end_verify<R: AllocGlobal + Eprint>(
     rt: &R,
     at_least: Option<u64>,
     outcome: &Result<u64, CheckFault>,
@@ -133,7 +136,7 @@ fn end_verify<R: AllocGlobal + Print + Eprint>(
     ensures { IsVerifyStatus at_least outcome.now result }
 {
     match outcome {
-        Ok(lines) => tell_run(rt, at_least, *lines),
+        Ok(lines) => end_run(rt, at_least, *lines),
         Err(CheckFault::Script(fault)) => of_script.end_script(rt, fault),
         Err(CheckFault::Trace(fault)) => end_trace(rt, fault, of_trace),
     }

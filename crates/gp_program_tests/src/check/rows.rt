@@ -2,12 +2,23 @@
 use super::Table;
 
 /// Mistakes of the top.
-const TOP: [(&'static str, &'static str); 26] = [
-    ("", "licences: 2 shape, missing"),
+const TOP: [(&'static str, &'static str); 28] = [
+    (
+        "",
+        "licences: 2 shape, missing; it has to stand before the first table",
+    ),
+    (
+        "[[port]]\nlicences = 1",
+        "licences: 2 shape, missing; it has to stand before the first table",
+    ),
+    (
+        "licences = 4.0\nport = [{}]",
+        "licences: 2 shape, not a whole number, line 1",
+    ),
     ("licences = 1", "port: 2 shape, missing"),
     (
         "licences = \"1\"\nport = [{}]",
-        "licences: 2 shape, not a number, line 1",
+        "licences: 2 shape, not a whole number, line 1",
     ),
     (
         "licences = -1\nport = [{}]",
@@ -19,7 +30,7 @@ const TOP: [(&'static str, &'static str); 26] = [
     ),
     (
         "licences = 1\nport = [{}]\nmask = true",
-        "mask: 2 shape, not a number, line 3",
+        "mask: 2 shape, not a whole number, line 3",
     ),
     (
         "licences = 1\nport = [{}]\nmask = 1",
@@ -35,7 +46,7 @@ const TOP: [(&'static str, &'static str); 26] = [
     ),
     (
         "licences = 1\nport = 3",
-        "port: 2 shape, not a list, line 2",
+        "port: 2 shape, not a list; each table of it begins with [[port]], line 2",
     ),
     (
         "licences = 1\nport = []",
@@ -71,7 +82,7 @@ const TOP: [(&'static str, &'static str); 26] = [
     ),
     (
         "licences = 1\nport = [{}]\n[unit]",
-        "unit: 2 shape, not a list",
+        "unit: 2 shape, not a list; each table of it begins with [[unit]], line 3",
     ),
     (
         "licences = 1\nport = [{}]\nunit = [1]",
@@ -87,15 +98,15 @@ const TOP: [(&'static str, &'static str); 26] = [
     ),
     (
         "licences = 1\nport = [{}]\nevent = 0",
-        "event: 2 shape, not a list, line 3",
+        "event: 2 shape, not a list; each table of it begins with [[event]], line 3",
     ),
     (
         "licences = 1\nport = [{}]\n[[lose]]",
-        "lose: 2 shape, only beside units",
+        "lose: 2 shape, only beside units, line 3",
     ),
     (
         "licences = 1\nport = [{}, {}]\n[[unit]]",
-        "unit: 2 shape, only beside one port",
+        "unit: 2 shape, only beside one port, line 3",
     ),
     (
         "licences = 1\nport = [{}, {}]\n[[event]]\nport = 2\nframes = 1",
@@ -133,7 +144,10 @@ const PORTS: [(&'static str, &'static str); 27] = [
         "\"\" = 1",
         "port 1: 2 shape, unknown key; there are teqd, max_units, alloc_last, cycles, search_period, quarantine, overhead, admit, line 4",
     ),
-    ("teqd = 0.5", "port 1, teqd: 2 shape, not a number, line 5"),
+    (
+        "teqd = 0.5",
+        "port 1, teqd: 2 shape, not a whole number, line 5",
+    ),
     (
         "teqd = -1",
         "port 1, teqd: 3 range, 0 to 4294967295, line 5",
@@ -230,7 +244,7 @@ const UNITS: [(&'static str, &'static str); 8] = [
     ),
     (
         "serial = \"ABCD00000001\"\ndelay = \"0\"",
-        "unit 1, delay: 2 shape, not a number, line 8",
+        "unit 1, delay: 2 shape, not a whole number, line 8",
     ),
     (
         "serial = \"ABCD00000001\"\ndelay = 0\nrandom = 4096",
@@ -255,7 +269,7 @@ const LOSSES: [(&'static str, &'static str); 6] = [
     ),
     (
         "copy = \"0\"",
-        "lose 1, copy: 2 shape, not a number, line 9",
+        "lose 1, copy: 2 shape, not a whole number, line 9",
     ),
     (
         "copy = -1",
@@ -380,7 +394,7 @@ const EVENTS: [(&'static str, &'static str); 31] = [
     ),
     (
         "port = 0\ncomand = \"search\"",
-        "event 1: 2 shape, no form of an event, which has frames, burst, say, command or light, line 6",
+        "event 1, comand: 2 shape, unknown key, perhaps command; there are port, frames, burst, say, command, light, at, serial, onu, id, alloc, unit, line 8",
     ),
     (
         "port = 0\ncomand = \"search\"\nframes = 1",
@@ -469,7 +483,7 @@ delay = 0
 ];
 
 /// Scripts whose lines are told, or are not, and what is told of each.
-const LINES: [(&'static str, &'static str); 22] = [
+const LINES: [(&'static str, &'static str); 27] = [
     // spaces and tabs stand around a header, and a remark behind it
     (
         "licences = 1\n[[port]]\n\t [[port]] \t# the second\n \tcycles\t = 0",
@@ -492,7 +506,7 @@ const LINES: [(&'static str, &'static str); 22] = [
     // a key that is written in another way
     (
         "licences = 1\n[[port]]\nadmit = []\nteqd.x = 1",
-        "port 0, teqd: 2 shape, not a number, line 2",
+        "port 0, teqd: 2 shape, not a whole number, line 2",
     ),
     (
         "licences = 1\n[[port]]\n\"cycles\" = 0",
@@ -514,11 +528,11 @@ const LINES: [(&'static str, &'static str); 22] = [
     // a key below the header of another table
     (
         "licences = 1\n[[port]]\nteqd = 0\n[port.cycles]\n[[port]]\ncycles = 1",
-        "port 0, cycles: 2 shape, not a number, line 2",
+        "port 0, cycles: 2 shape, not a whole number, line 2",
     ),
     (
         "licences = 1\n[[port]]\n[mask]\nmask = 1",
-        "mask: 2 shape, not a number",
+        "mask: 2 shape, not a whole number, line 3",
     ),
     // lists in one line have no headers
     (
@@ -540,11 +554,33 @@ const LINES: [(&'static str, &'static str); 22] = [
     ),
     (
         "licences = 1\n[[port]]\n[[port.cycles]]",
-        "port 0, cycles: 2 shape, not a number",
+        "port 0, cycles: 2 shape, not a whole number",
     ),
     (
         "licences = 5000\n[[port]]\n\t[['unit']]",
-        "licences: 3 range, 0 to 4064",
+        "licences: 3 range, 0 to 4064, line 1",
+    ),
+    // a key of the top behind a header
+    (
+        "licences = 1\n[[port]]\nmask = 85",
+        "port 0, mask: 2 shape, unknown key here; it has to stand before the first table, line 3",
+    ),
+    // a header whose word is another one, or that is no list's
+    (
+        "licences = 1\n[[port]]\n[[events]]\nport = 0\nframes = 1",
+        "events: 2 shape, unknown key, perhaps event; there are licences, mask, journal_limit, port, unit, lose, event, line 3",
+    ),
+    (
+        "licences = 1\n[[port]]\n\t[ event ] # one\nport = 0\nframes = 1",
+        "event: 2 shape, not a list; each table of it begins with [[event]], line 3",
+    ),
+    (
+        "licences = 1\n[[port]]\n[[ events ]]#\nport = 0",
+        "events: 2 shape, unknown key, perhaps event; there are licences, mask, journal_limit, port, unit, lose, event, line 3",
+    ),
+    (
+        "licences = 1\n[[port]]\n[[event.x]]\nport = 0",
+        "event: 2 shape, not a list; each table of it begins with [[event]]",
     ),
     // texts that may go over several lines
     (

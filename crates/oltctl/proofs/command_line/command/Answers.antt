@@ -12,19 +12,23 @@ returns c =
     let names : AllNames = record {
       replay = traces.0;
       drive = traces.1;
+      check = traces.2;
+      verify = traces.3;
       explain_format = explain.1;
       explain = explain.0;
       decode = decode.0;
       encode = encode.0;
     } in
     let are : AreAllNames names = record {
-      replay = traces.2;
-      drive = traces.3;
+      replay = traces.4;
+      drive = traces.5;
+      check = traces.6;
+      verify = traces.7;
       explain_format = explain.3;
       explain = explain.2;
       decode = decode.1;
       encode = encode.1;
     } in
-    let first = added _ _ _ _ _ c.in_ok-subcommand.ensures c.in_ok-explain.ensures.local traces.4 explain.4 in
+    let first = added _ _ _ _ _ c.in_ok-subcommand.ensures c.in_ok-explain.ensures.local traces.8 explain.4 in
     let second = added _ _ _ _ _ c.in_ok-subcommand-2.ensures c.in_ok-decode.ensures.local first decode.2 in
     named c.subcommand-3.result names _ _ _ _ are c.subcommand-3.ensures c.in_ok-encode.ensures.local second encode.2 refl
