@@ -14,7 +14,7 @@ use super::sent::Sent;
 use super::sent_burst::SentBurst;
 use super::unit_store::UnitStore;
 use gp_licence::{LicenceBook, Licences};
-use gp_machine::{Answer, Entry, Event, Reply};
+use gp_machine::{Entry, Event};
 use gp_onu::UnitStatus;
 use gp_ploam::Down;
 use gp_port::PortCore;
@@ -127,7 +127,7 @@ impl<L: Ledger> Fibre<L> {
         ensures grants_room { self.old.grants_room ≤ self.new.grants_room + 1 }
         ensures bursts { self.new.bursts_room ≡ self.old.bursts_room }
     {
-        let mut entry = blank_entry();
+        let mut entry = Entry::blank();
         self.take_into(event, &mut entry);
         entry
     }
@@ -146,10 +146,7 @@ impl<L: Ledger> Fibre<L> {
         ensures bursts { self.new.bursts_room ≡ self.old.bursts_room }
     {
         let purse = take_purse(&mut self.book, &event);
-        entry.purse_in = purse.count();
-        entry.event = event;
-        let rest = self.core.step_into(purse, event, None, &mut entry.answer);
-        entry.purse_out = rest.count();
+        let rest = self.core.step_entry(purse, event, None, entry);
         self.book.give(rest);
         self.copies.add(entry.answer.sent);
         self.grants.add(entry.answer.grant);
@@ -321,16 +318,6 @@ impl<L: Ledger> Fibre<L> {
             bursts: _,
         } = self;
         book.close(core.close())
-    }
-}
-
-/// Makes an entry that is to be written over.
-pub(super) fn blank_entry() -> Entry {
-    Entry {
-        purse_in: 0,
-        event: Event::Frame,
-        answer: Answer::from(Reply::Ticked),
-        purse_out: 0,
     }
 }
 

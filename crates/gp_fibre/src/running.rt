@@ -12,7 +12,7 @@ ghost use Rattle.gp_fibre.specs.Step.{UnitAnswers};
 ghost use Rattle.gp_fibre.specs.Schedule.{IsProperEntry};
 ghost use Rattle.gp_fibre.specs.Schedule as spec;
 
-use super::fibre::{Fibre, blank_entry};
+use super::fibre::Fibre;
 use super::flight::Flight;
 use super::flights::Flights;
 use super::lost::Lost;
@@ -192,7 +192,7 @@ fn arrive<L: Ledger, N: Lost>(
     };
     let SentBurst { at, bytes } = burst;
     let place = entries.len();
-    entries.push_reserved(blank_entry());
+    entries.push_reserved(Entry::blank());
     fibre.take_into(Event::Burst { at, bytes }, &mut entries[place]);
 }
 
@@ -248,7 +248,7 @@ fn ask<L: Ledger, N: Lost>(
     let copy = fibre.copies();
     let grant = fibre.grants();
     let place = entries.len();
-    entries.push_reserved(blank_entry());
+    entries.push_reserved(Entry::blank());
     let entry = &mut entries[place];
     fibre.take_into(Event::Frame, entry);
     let sent = entry.answer.sent;

@@ -6,7 +6,7 @@ use super::entries::Entries;
 use super::fault::JournalFault;
 use super::piece::Piece;
 use gp_licence::Licences;
-use gp_machine::{Answer, Entry, Event, Reply};
+use gp_machine::{Entry, Event};
 use gp_port::{PortCore, PortImage};
 use std::alloc::Global;
 use std::marker::Model;
@@ -193,19 +193,8 @@ fn record_in<L: Ledger>(
     ensures room { vec_capacity entries.new ≡ vec_capacity entries.old }
 {
     let place = entries.len();
-    push_within(
-        entries,
-        Entry {
-            purse_in: purse.count(),
-            event,
-            answer: Answer::from(Reply::Ticked),
-            purse_out: 0,
-        },
-    );
-    let entry = &mut entries[place];
-    let rest = core.step_into(purse, event, wished, &mut entry.answer);
-    entry.purse_out = rest.count();
-    rest
+    push_within(entries, Entry::blank());
+    core.step_entry(purse, event, wished, &mut entries[place])
 }
 
 /// Appends an item where there is room for it.

@@ -16,7 +16,7 @@ use super::told::Told;
 use super::turn::Turn;
 use gp_chassis::ChassisConfig;
 use gp_licence::{LicenceBook, Licences, MAX_LICENCES};
-use gp_machine::{Answer, Entry, Event, Receipt, Reply};
+use gp_machine::{Entry, Event, Receipt};
 use gp_ploam::Mask;
 use std::alloc::{AllocError, Global};
 use std::marker::Model;
@@ -98,7 +98,7 @@ impl<L: Ledger> Player<L> {
         ensures wished { IfOk result
             (λ receipt. GrantsTurn self.old.world self.new.world turn.port turn.event wished receipt.entry) }
     {
-        let mut entry = blank_entry();
+        let mut entry = Entry::blank();
         let number = self.serve(turn, wished, &mut entry);
         Ok(Receipt {
             port: turn.port,
@@ -123,7 +123,7 @@ impl<L: Ledger> Player<L> {
         ensures done { OnErr result ⊥ }
         ensures ports { length self.new.next ≡ length self.old.next }
     {
-        let mut entry = blank_entry();
+        let mut entry = Entry::blank();
         let number = self.serve(turn, wished, &mut entry);
         buffer.build_entry(mask, turn.port, number, &entry);
         Ok(Told {
@@ -181,16 +181,6 @@ impl<L: Ledger> Player<L> {
         let rest = seat.take(purse, turn.event, wished, entry);
         self.book.give(rest);
         number
-    }
-}
-
-/// Makes an entry that is to be written over.
-fn blank_entry() -> Entry {
-    Entry {
-        purse_in: 0,
-        event: Event::Frame,
-        answer: Answer::from(Reply::Ticked),
-        purse_out: 0,
     }
 }
 
