@@ -42,6 +42,7 @@ mod unit_command;
 pub use follower::PortFollower;
 pub use gp_alarms::{Alarm, AlarmKind};
 pub use gp_common::Common;
+pub use gp_licence::Licences;
 pub use gp_machine::{
     Admitted, Answer, Command, Entry, Event, Phase, PortConfig, Receipt, Refusal, Reply, Row,
 };
