@@ -105,7 +105,8 @@ fn is_object(alloc: Global, line: &[u8], name: &str, fields: &[Field]) -> bool {
     let Ok(object) = Value::from_str(alloc, text) else {
         return false;
     };
-    let is_line = line.iter().position(|octet| *octet == b'\n') == Some(line.len() - 1);
+    let is_line = line.iter().position(|octet| *octet == b'\n')
+        == Some(line.len().saturating_sub(1));
     is_line
         && object.get("file").and_then(Value::as_str) == Some(name)
         && fields_in(&object) == fields.len() + 1

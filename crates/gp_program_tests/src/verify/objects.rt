@@ -202,7 +202,7 @@ fn is_object(alloc: Global, line: &[u8], fields: &[Field]) -> bool {
         return false;
     };
     text.is_ascii()
-        && line.iter().position(|octet| *octet == b'\n') == Some(line.len() - 1)
+        && line.iter().position(|octet| *octet == b'\n') == Some(line.len().saturating_sub(1))
         && fields_in(&object) == fields.len()
         && fields.iter().all(|field| has_field(&object, *field))
 }
