@@ -2,7 +2,7 @@
 ghost use Rattle.std.specs.Prelude.{IfSome};
 ghost use Rattle.gp_lines.specs.Leading.{NumberLeads, EventLeads};
 
-use crate::code::{CODE_DIGITS, octets_in};
+use gp_code::{CODE_DIGITS, octets_in};
 use gp_machine::Event;
 
 /// The most digits of which each number is below 2 ^ 64.

@@ -11,8 +11,9 @@
 //! - `picks.rt`: `picked`, the number that an answer picks.
 //! - `laws.rt`, `told.rt`, `short.rt`: what `gp_trace` writes is read back, a text tells one thing at most, and a
 //!   line of a trace has no line feed but the one that ends it, and is not too long.
-//! - `word.rt`: the words that events begin with, and those of a simulated unit. `fields.rt`: numbers, codes and serial numbers. `code.rt`: the digits
-//!   of a code. `parts.rt`: what stands between the spaces of a text. `fault.rt`: what is wrong with a line.
+//! - `word.rt`: the words that events begin with, and those of a simulated unit. `fields.rt`: numbers, serial numbers,
+//!   and codes, whose digits `gp_code` reads. `parts.rt`: what stands between the spaces of a text. `fault.rt`: what is
+//!   wrong with a line.
 //!
 //! Where to make which change: what a text spells stands in `specs/Spelling.antt` and `specs/Turn.antt`, its first
 //! fault in `specs/Fault.antt` and `specs/TurnFault.antt`, a line of a trace in `specs/Trace.antt`.
@@ -21,7 +22,6 @@
 //! of an event stands in `specs/Words.antt`, `specs/Spelling.antt` and `word.rt`.
 #![tactic(auto)]
 
-mod code;
 mod event;
 mod fault;
 mod fields;

@@ -1,6 +1,6 @@
 use Rattle.std.proofs.Common.{arith}
-use Rattle.gp_lines.proofs.CodeLemmas.{pair_more, pairs_end}
-use Rattle.gp_lines.proofs.code.octets_of.Goals as goal
+use Rattle.gp_code.proofs.PairLemmas.{pair_more, pairs_end}
+use Rattle.gp_code.proofs.digits.octets_of.Goals as goal
 
 pub pairs-preserved : goal.pairs-preserved
 pairs-preserved c =

@@ -1,5 +1,5 @@
-use Rattle.gp_lines.proofs.CodeLemmas.{digit_told}
-use Rattle.gp_lines.proofs.code.digit_value.Goals as goal
+use Rattle.gp_code.proofs.PairLemmas.{digit_told}
+use Rattle.gp_code.proofs.digits.digit_value.Goals as goal
 
 pub returns-clause-value : goal.returns-clause-value
 returns-clause-value c = (digit_told c.args.digit c.requires).0

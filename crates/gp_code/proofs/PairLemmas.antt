@@ -1,5 +1,5 @@
 -- The digits of a code.
-use Rattle.std.proofs.Common.{◌≡◌, ℕ, ◌+◌, ◌*◌, ◌/◌, ◌%◌, ◌<◌, ◌≤◌, true, false, List, take, drop, length, get_or, Some, Result, Ok, Err, refl, sym, ap, ◌∙◌, arith, slice_set}
+use Rattle.std.proofs.Common.{◌≡◌, ℕ, ◌+◌, ◌*◌, ◌/◌, ◌%◌, ◌<◌, ◌≤◌, true, false, List, take, drop, length, get_or, Some, Result, Ok, Err, refl, sym, ◌∙◌, arith, slice_set}
 use Rattle.std.proofs.lemmas.Bool.{false≢true}
 use Rattle.std.proofs.lemmas.Bool.Decides.{nat_tests}
 use Rattle.std.proofs.lemmas.List.{length-set}
@@ -11,8 +11,6 @@ use Rattle.hex.specs.Hex.{decode_pairs, decode_sized, hex_digit_value, is_hex_di
 use Rattle.hex.specs.declared.error.FromHexError.{FromHexError}
 use Rattle.hex.proofs.HexLemmas.{IsOk-decode_sized}
 use Rattle.hex.proofs.Pairs.{prepend, decode_step, decode_done, decode_sized-pairs}
-use Rattle.gp_lines.specs.declared.fault.LineFault.TheVariants as fault
-use Rattle.gp_lines.specs.Reading.{code_in, octets_or_fault}
 
 -- the value of a digit: its low four bits, and nine more for a letter
 pub digit_told : (digit : ℕ) → is_ascii_hexdigit digit ≡ true → (hex_digit_value digit ≡ Some (digit % 16 + digit / 64 * 9)) × (digit % 16 + digit / 64 * 9 < 16)
@@ -37,27 +35,27 @@ pair_more text octets i h l long within high low a = record {
   read = decode_step text octets i (h * 16 + l) (omega arith) (omega (arith, a.long)) (pair_told (get_or text (2 * i) 0) (get_or text (2 * i + 1) 0) (2 * i) h l high low) a.read;
 }
 
-pub pairs_end : (text octets : List ℕ) (i : ℕ) → length text ≡ 26 → 13 ≤ i → AreRead text octets i → code_in text ≡ Ok octets
+pub pairs_end : (text octets : List ℕ) (i : ℕ) → length text ≡ 26 → 13 ≤ i → AreRead text octets i → decode_sized text 13 ≡ Ok octets
 pairs_end text octets i long end a =
-    ap octets_or_fault (decode_sized-pairs text 13 (omega arith) (omega arith) ∙ decode_done text octets i (omega (arith, a.long)) (omega arith) a.read)
+    decode_sized-pairs text 13 (omega arith) (omega arith) ∙ decode_done text octets i (omega (arith, a.long)) (omega arith) a.read
 
 -- ---- no code
 
-code_refused : (r : Result (List ℕ) FromHexError) → (IsOk r → ⊥) → octets_or_fault r ≡ Err fault.Hex
-code_refused (Ok octets) none = absurd (none refl)
-code_refused (Err e) none = refl
+refused : (r : Result (List ℕ) FromHexError) → (IsOk r → ⊥) → (fault : FromHexError) × (r ≡ Err fault)
+refused (Ok octets) none = absurd (none refl)
+refused (Err fault) none = (fault, refl)
 
 -- another length
-pub no_code_length : (text : List ℕ) → (length text ≡ 26 → ⊥) → code_in text ≡ Err fault.Hex
-no_code_length text other = code_refused (decode_sized text 13) (λ is. other ((IsOk-decode_sized text 13).0 is).0)
+pub no_code_length : (text : List ℕ) → (length text ≡ 26 → ⊥) → (fault : FromHexError) × (decode_sized text 13 ≡ Err fault)
+no_code_length text other = refused (decode_sized text 13) (λ is. other ((IsOk-decode_sized text 13).0 is).0)
 
 hex_digit_same : (octet : ℕ) → is_hex_digit octet ≡ true → is_ascii_hexdigit octet ≡ true
 hex_digit_same octet h = grind (arith, nat_tests, h)
 
 -- an octet that is no digit
-pub no_code_digits : (text : List ℕ) → list_all is_ascii_hexdigit text ≡ false → code_in text ≡ Err fault.Hex
+pub no_code_digits : (text : List ℕ) → list_all is_ascii_hexdigit text ≡ false → (fault : FromHexError) × (decode_sized text 13 ≡ Err fault)
 no_code_digits text other =
-    code_refused (decode_sized text 13) (
+    refused (decode_sized text 13) (
     λ is.
     let all = ((IsOk-decode_sized text 13).0 is).1 in
     false≢true (sym other ∙ list_all-from_AllPass is_ascii_hexdigit text (λ k d within. hex_digit_same (get_or text k d) (all k d within)))

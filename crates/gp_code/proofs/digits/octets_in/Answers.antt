@@ -1,7 +1,7 @@
 use Rattle.std.proofs.Common.{sym, ◌∙◌}
-use Rattle.gp_lines.proofs.CodeLemmas.{no_code_length, no_code_digits}
-use Rattle.gp_lines.proofs.code.octets_in.Goals as goal
-use Rattle.gp_lines.proofs.code.octets_in.Goals.{else-text-eq-CODE_DIGITS-via-then-text-eq-CODE_DIGITS+else-are_hex_digits, else-text-eq-CODE_DIGITS-via-else-text-eq-CODE_DIGITS}
+use Rattle.gp_code.proofs.PairLemmas.{no_code_length, no_code_digits}
+use Rattle.gp_code.proofs.digits.octets_in.Goals as goal
+use Rattle.gp_code.proofs.digits.octets_in.Goals.{else-text-eq-CODE_DIGITS-via-then-text-eq-CODE_DIGITS+else-are_hex_digits, else-text-eq-CODE_DIGITS-via-else-text-eq-CODE_DIGITS}
 
 pub returns-else-text-eq-CODE_DIGITS-clause-none : goal.returns-else-text-eq-CODE_DIGITS-clause-none
 returns-else-text-eq-CODE_DIGITS-clause-none c =

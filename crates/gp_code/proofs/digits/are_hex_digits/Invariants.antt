@@ -1,7 +1,7 @@
 use Rattle.std.proofs.Common.{◌≡◌, take}
 use Rattle.std.specs.Char.{is_ascii_hexdigit}
 use Rattle.std.specs.List.{list_all}
-use Rattle.gp_lines.proofs.code.are_hex_digits.Given as goal
+use Rattle.gp_code.proofs.digits.are_hex_digits.Given as goal
 
 abbrev pub invariant-loop-octet : goal.invariant-loop-octet
 invariant-loop-octet l = l.all ≡ list_all is_ascii_hexdigit (take l.octet-index l.text)

@@ -2,12 +2,11 @@
 ghost use Rattle.std.specs.Prelude.{◌≡◌, ◌<◌, true, Some, Ok, Err, IfSome, IfNone, length};
 ghost use Rattle.std.specs.Char.{is_ascii_hexdigit};
 ghost use Rattle.std.specs.List.{list_all};
-ghost use Rattle.hex.specs.Hex.{hex_digit_value};
-ghost use Rattle.gp_lines.specs.declared.fault.LineFault.TheVariants as fault;
-ghost use Rattle.gp_lines.specs.Reading as spec;
+ghost use Rattle.hex.specs.Hex.{decode_sized, hex_digit_value};
+ghost use Rattle.hex.specs.declared.error.FromHexError.{FromHexError};
 
 /// How many digits a code has.
-pub(crate) const CODE_DIGITS: usize = 26;
+pub const CODE_DIGITS: usize = 26;
 
 /// Tells whether each character is a hexadecimal digit, in either case. It looks at each, also behind one that isn't.
 fn are_hex_digits(text: &[u8]) -> bool
@@ -33,7 +32,7 @@ fn digit_value(digit: u8) -> u8
 fn octets_of(digits: &[u8]) -> [u8; 13]
     requires digits { list_all is_ascii_hexdigit digits.now ≡ true }
     requires count { length digits.now ≡ 26 }
-    ensures { spec.code_in digits.now ≡ Ok result }
+    ensures { decode_sized digits.now 13 ≡ Ok result }
 {
     let mut octets = [0u8; 13];
     'pairs: for i in 0..13 {
@@ -42,10 +41,11 @@ fn octets_of(digits: &[u8]) -> [u8; 13]
     octets
 }
 
-/// Reads the octets of a code. None for a text that isn't 26 hexadecimal digits.
-pub(crate) fn octets_in(text: &[u8]) -> Option<[u8; 13]>
-    ensures octets { IfSome result (λ octets. spec.code_in text.now ≡ Ok octets) }
-    ensures none { IfNone result (spec.code_in text.now ≡ Err fault.Hex) }
+/// Reads the octets of a code, whose digits stand in either case. None for a text that isn't 26 hexadecimal digits.
+/// Takes no memory.
+pub fn octets_in(text: &[u8]) -> Option<[u8; 13]>
+    ensures octets { IfSome result (λ octets. decode_sized text.now 13 ≡ Ok octets) }
+    ensures none { IfNone result ((fault : FromHexError) × (decode_sized text.now 13 ≡ Err fault)) }
 {
     if text.len() == CODE_DIGITS && are_hex_digits(text) {
         Some(octets_of(text))
