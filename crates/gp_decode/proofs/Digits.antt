@@ -1,14 +1,16 @@
--- The text of octets in hexadecimal digits is ASCII.
-use Rattle.std.proofs.Common.{◌≡◌, ◌≢◌, ℕ, ◌<◌, ◌%◌, true, List, length, Err, refl, sym, ◌∙◌, arith, nat_lt}
+-- The text of octets in hexadecimal digits is ASCII, and what a text of digits is read as.
+use Rattle.std.proofs.Common.{◌≡◌, ◌≢◌, ℕ, ◌<◌, ◌%◌, true, List, length, Ok, Err, refl, sym, ap, ◌∙◌, arith, nat_lt}
 use Rattle.std.specs.List.{list_all}
 use Rattle.hex.specs.declared.error.FromHexError.{FromHexError}
 use Rattle.std.proofs.lemmas.Bool.Decides.{nat_tests}
 use Rattle.std.proofs.lemmas.List.Elements.{All-weaker}
-use Rattle.std.proofs.lemmas.List.Sums.{AllPass-from_list_all}
+use Rattle.std.proofs.lemmas.List.Sums.{AllPass-from_list_all, list_all-from_AllPass}
 use Rattle.std.proofs.lemmas.Str.Ascii.{IsAscii-from_all}
 use Rattle.std.specs.Str.{IsAscii}
-use Rattle.hex.specs.Hex.{decode_sized, encode_lower, is_hex_digit, lower_digits}
-use Rattle.hex.proofs.HexLemmas.{IsAscii-encode_with, decode_of-digits, decode_sized-twice}
+use Rattle.hex.specs.Hex.{decode_of, decode_sized, encode_lower, is_hex_digit, lower_digits}
+use Rattle.hex.proofs.HexLemmas.{IsAscii-encode_with, decode_of-digits, decode_of-ok, decode_sized-ok, decode_sized-twice}
+use Rattle.gp_decode.specs.LineText.{code_digits}
+use Rattle.gp_decode.proofs.LawLemmas.{digits_stay}
 
 pub IsAscii-encode_lower : (octets : List ℕ) → IsAscii (encode_lower octets)
 IsAscii-encode_lower octets =
@@ -28,3 +30,13 @@ other_length text e not_odd digits refused =
           let sized = decode_sized-twice text 13 long in
           cc (sym refused ∙ sized ∙ read.1),
     )
+
+-- the thirteen octets of a text are those that its digits stand for
+pub octets_spelled : (text code : List ℕ) → decode_sized text 13 ≡ Ok code → decode_of text ≡ Ok code
+octets_spelled text code read = sym (decode_sized-twice text 13 (decode_sized-ok text 13 code read)) ∙ read
+
+-- so are those that stand for them where nothing is passed over
+pub octets_stay : (text code : List ℕ) → decode_sized text 13 ≡ Ok code → decode_of (code_digits text) ≡ Ok code
+octets_stay text code read =
+    let spelled = octets_spelled text code read in
+    ap decode_of (digits_stay text (list_all-from_AllPass is_hex_digit text (decode_of-ok text code spelled).1)) ∙ spelled

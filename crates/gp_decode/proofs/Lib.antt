@@ -1,7 +1,8 @@
 pub mod Appending
 pub mod Faults
+pub mod LawLemmas
 pub mod Digits
+pub mod Ascii
 pub mod LineLemmas
 pub mod TextLemmas
 pub mod DecoderLemmas
-pub mod LawLemmas

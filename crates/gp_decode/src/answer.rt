@@ -9,6 +9,7 @@ use crate::code::code_in;
 use crate::direction::Direction;
 use crate::fault::LineFault;
 use crate::text::{directed, push_digits};
+use gp_code::octets_in;
 use gp_ploam::{Mask, crc};
 use itoa::Buffer;
 use std::alloc::{AllocError, Global};
@@ -173,7 +174,8 @@ impl Answer {
         put_error_line(&mut self.said, line, fault)
     }
 
-    /// Says which message a text is the code of, or its fault, which is answered.
+    /// Says which message a text is the code of, or its fault, which is answered. Its digits are gathered only where
+    /// it isn't written in digits alone.
     pub(crate) fn tell(
         &mut self,
         line: u64,
@@ -184,12 +186,30 @@ impl Answer {
     ) -> Result<Option<LineFault>, AllocError>
         ensures { IfOk result (λ fault. SaysToText names direction mask line text.now fault self.new.said.items) }
     {
-        let Some((upstream, code)) = directed(direction, text) else {
+        let Some((upstream, spelled)) = directed(direction, text) else {
             self.refuse(line, LineFault::Direction)?;
             return Ok(Some(LineFault::Direction));
         };
+        match octets_in(spelled) {
+            Some(code) => put_code(&mut self.said, line, &code, upstream, mask, names),
+            None => self.tell_spelled(line, spelled, upstream, mask, names),
+        }
+    }
+
+    /// Says which message the code in a text is, or its fault, which is answered.
+    fn tell_spelled(
+        &mut self,
+        line: u64,
+        text: &[u8],
+        upstream: bool,
+        mask: Mask,
+        names: bool,
+    ) -> Result<Option<LineFault>, AllocError>
+        ensures { IfOk result (λ fault. SaysToDigits names upstream mask line (code_digits text.now) fault
+            self.new.said.items) }
+    {
         self.digits.clear();
-        push_digits(&mut self.digits, code)?;
+        push_digits(&mut self.digits, text)?;
         let digits = self.digits.as_slice();
         put_answer(&mut self.said, line, digits, upstream, mask, names)
     }

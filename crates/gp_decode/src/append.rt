@@ -127,7 +127,7 @@ fn push_alloc(
     out.extend_from_slice(keep_word(keep).as_bytes())
 }
 
-/// Appends a message of the line terminal, as `DownText` shows it.
+/// Appends a message of the line terminal: its name and its fields.
 pub(crate) fn push_down(out: &mut Vec<u8>, message: &Down) -> Result<(), AllocError>
     ensures { Appends (down_text message.now) out.old out.new result }
 {
@@ -166,7 +166,7 @@ fn push_unit_numbers(
     push_numbers(out, " ", first, second)
 }
 
-/// Appends a message of a unit, as `UpText` shows it.
+/// Appends a message of a unit: its name and its fields; of an Acknowledge the copy of the message is left out.
 pub(crate) fn push_up(out: &mut Vec<u8>, message: &Up) -> Result<(), AllocError>
     ensures { Appends (up_text message.now) out.old out.new result }
 {
@@ -232,8 +232,8 @@ fn push_up_in(out: &mut Vec<u8>, message: &Up, names: bool) -> Result<(), AllocE
     }
 }
 
-/// Appends the words of the message that a code is read as, as `words_of` makes them. `Crc` is answered where the check
-/// octet is wrong under the mask.
+/// Appends the words of the message that a code is read as, upstream or downstream: its name and its fields. `Crc` is
+/// answered where the check octet is wrong under the mask.
 ///
 /// Memory is taken only where the buffer has no room for the words. Where it is refused, what the buffer held stands
 /// there, and behind it maybe the first part of the words. The room never gets less.

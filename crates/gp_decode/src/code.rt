@@ -1,12 +1,13 @@
 //! The octets of a code, from hexadecimal digits.
-ghost use Rattle.std.specs.Prelude.{◌≡◌, IfOk, IfErr, Ok};
+ghost use Rattle.std.specs.Prelude.{◌≡◌, IfOk, IfErr, Ok, Err};
 ghost use Rattle.std.specs.List.{list_all};
-ghost use Rattle.hex.specs.Hex.{decode_of, is_hex_digit};
+ghost use Rattle.hex.specs.Hex.{decode_of, decode_sized, is_hex_digit};
+ghost use Rattle.hex.specs.declared.error.FromHexError.{FromHexError};
 ghost use Rattle.gp_ploam.specs.declared.check.Mask.{Mask};
 ghost use Rattle.gp_decode.specs.Line.{HasLineFault, IsOfSpelling};
 
 use super::fault::LineFault;
-use hex::FromHex;
+use gp_code::octets_in;
 
 /// Reads the thirteen octets that a text of 26 digits stands for, or answers the text's first fault.
 pub fn code_in(text: &[u8]) -> Result<[u8; 13], LineFault>
@@ -14,16 +15,25 @@ pub fn code_in(text: &[u8]) -> Result<[u8; 13], LineFault>
     ensures fault { IfErr result (λ fault. (mask : Mask) → HasLineFault mask text.now fault) }
     ensures spelling { IfErr result IsOfSpelling }
 {
+    match octets_in(text) {
+        Some(code) => Ok(code),
+        None => Err(fault_of(text)),
+    }
+}
+
+/// Gives the first fault of a text that isn't 26 hexadecimal digits.
+fn fault_of(text: &[u8]) -> LineFault
+    requires { (fault : FromHexError) × (decode_sized text.now 13 ≡ Err fault) }
+    ensures fault { (mask : Mask) → HasLineFault mask text.now result }
+    ensures spelling { IsOfSpelling result }
+{
     if text.len() % 2 == 1 {
-        return Err(LineFault::Length);
+        return LineFault::Length;
     }
     if !are_digits(text) {
-        return Err(LineFault::Digit);
+        return LineFault::Digit;
     }
-    match <[u8; 13] as FromHex>::from_hex(text) {
-        Ok(code) => Ok(code),
-        Err(_) => Err(LineFault::Length),
-    }
+    LineFault::Length
 }
 
 /// Tells whether each byte is a hexadecimal digit.

@@ -7,14 +7,14 @@
 //! - `lines.rt`: `decode_lines`, which does so of each line of an input, and `decode_each` and `decode_each_in`, where
 //!   each says its direction; `decoder.rt`: `Decoder`, what serves the lines; `answer.rt`: what is said to one;
 //!   `text.rt`: what a line says; `direction.rt`: whose messages the codes are.
-//! - `words.rt`: `words_of`, the words of thirteen octets. `append.rt`: `push_words_of`, the same behind what a buffer
-//!   holds, and `push_words_in`, with names of the standard too.
-//! - `code.rt`: the thirteen octets of a text of hexadecimal digits.
-//! - `message.rt`: a message as its name and its fields; `names.rt`: `other_name`, the names of messages without a row.
+//! - `append.rt`: a message as its name and its fields; `push_words_of`, the words of thirteen octets behind what a
+//!   buffer holds, and `push_words_in`, with names of the standard too. `words.rt`: `words_of`, the same as a text.
+//! - `names.rt`: `other_name`, the names of messages without a row.
+//! - `code.rt`: the thirteen octets of a text of hexadecimal digits, which `gp_code` reads, or its first fault.
 //! - `laws.rt`: a code in digits alone is read as it is; no row has another name.
 //! - `fault.rt`: what may be wrong with a text, and the line and the exit status of a program that meets it.
 //!
-//! Where to make which change: the words for a message stand in `message.rt`, `append.rt` and `specs/Message.antt`;
+//! Where to make which change: the words for a message stand in `append.rt` and `specs/Message.antt`;
 //! what is wrong with a text, and in which order, in `code.rt` and `specs/Line.antt`; what is passed over in a line of
 //! many in `text.rt` and `specs/LineText.antt`; what is said to it in `answer.rt` and `specs/Lines.antt`; a line on
 //! standard error or an exit status in `fault.rt` and `specs/Faults.antt`.
@@ -29,7 +29,6 @@ mod fault;
 mod laws;
 mod line;
 mod lines;
-mod message;
 mod names;
 mod text;
 mod words;

@@ -1,15 +1,15 @@
-//! The words of a code's message.
-ghost use Rattle.std.specs.Prelude.{IfOk, IfErr, true, false};
+//! The words of a code's message, as a text of their own.
+ghost use Rattle.std.specs.Prelude.{IfOk, IfErr};
 ghost use Rattle.std.specs.String.{string_bytes};
 ghost use Rattle.gp_decode.specs.Line.{HasWords, LacksWords};
 
+use super::append::push_words_of;
 use super::fault::LineFault;
-use super::message::{DownText, UpText};
-use gp_ploam::{Mask, decode_down, decode_up};
+use gp_ploam::Mask;
 use std::alloc::Global;
 
-/// Makes the words of the message that a code is read as, upstream or downstream: its name and its fields.
-/// `Crc` is answered where the check octet is wrong under the mask.
+/// Makes the words of the message that a code is read as, as `push_words_of` appends them. `Crc` is answered where the
+/// check octet is wrong under the mask.
 pub fn words_of(
     alloc: Global,
     code: &[u8; 13],
@@ -19,27 +19,10 @@ pub fn words_of(
     ensures words { IfOk result (λ words. HasWords upstream mask code.now (string_bytes words)) }
     ensures fault { IfErr result (LacksWords upstream mask code.now) }
 {
-    if upstream {
-        up_words(alloc, code, mask)
-    } else {
-        down_words(alloc, code, mask)
+    let mut words = Vec::new(alloc);
+    push_words_of(&mut words, code, upstream, mask)?;
+    match String::from_utf8(words) {
+        Ok(text) => Ok(text),
+        Err(_) => unreachable!(),
     }
-}
-
-/// Makes the words of the upstream message that a code is read as.
-fn up_words(alloc: Global, code: &[u8; 13], mask: Mask) -> Result<String, LineFault>
-    ensures words { IfOk result (λ words. HasWords true mask code.now (string_bytes words)) }
-    ensures fault { IfErr result (LacksWords true mask code.now) }
-{
-    let message = UpText(decode_up(code, mask)?);
-    Ok(format!(in alloc; "{message}")?)
-}
-
-/// Makes the words of the downstream message that a code is read as.
-fn down_words(alloc: Global, code: &[u8; 13], mask: Mask) -> Result<String, LineFault>
-    ensures words { IfOk result (λ words. HasWords false mask code.now (string_bytes words)) }
-    ensures fault { IfErr result (LacksWords false mask code.now) }
-{
-    let message = DownText(decode_down(code, mask)?);
-    Ok(format!(in alloc; "{message}")?)
 }

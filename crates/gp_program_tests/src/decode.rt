@@ -1,7 +1,7 @@
 //! Codes that are decoded, one and line by line: what is written, faults, memory that runs out, writers that end.
 use gp_decode::{
     Direction, FaultAt, LineFault, decode_each, decode_each_in, decode_line, decode_line_in,
-    decode_lines, other_name, push_words_in, push_words_of,
+    decode_lines, other_name, push_words_in, push_words_of, words_of,
 };
 use gp_ploam::Mask;
 use gp_stream::{Sink, Source};
@@ -414,6 +414,20 @@ fn words_behind_what_stands(rt: HostRuntime) {
                 return;
             }
             assert!(rt; outcome == Ok(()) && holds(&out, line), "{text}");
+        }
+    }
+}
+
+/// Where an allocation was made to fail it is told; else the words are a text of their own.
+#[test]
+fn words_as_a_text(rt: HostRuntime) {
+    for (text, upstream, mask, line) in LINES {
+        match words_of(rt.alloc(), &octets_of(text), upstream, mask) {
+            Ok(words) => assert!(rt; words.as_str() == line.trim_end_matches('\n'), "{text}"),
+            Err(fault) => {
+                assert_eq!(rt; fault, LineFault::OutOfMemory, "{text}");
+                return;
+            }
         }
     }
 }
