@@ -2,9 +2,9 @@
 ghost use Rattle.std.specs.Prelude.{◌≡◌, ◌++◌, ℕ, List, IfOk, OnOk};
 ghost use Rattle.gp_differ.specs.Reasons.{TellsMessage, TellsOctets};
 
+use gp_code::octets_in;
 use gp_decode::{LineFault, push_words_of};
 use gp_ploam::Mask;
-use hex::FromHex;
 use std::alloc::{AllocError, Global};
 
 /// Appends the words of a code of the line terminal, or its digits where the check octet is wrong.
@@ -29,9 +29,9 @@ fn push_message(out: &mut Vec<u8>, part: &[u8], mask: Mask) -> Result<(), AllocE
     ensures { OnOk result ((told : List ℕ) × TellsMessage mask part.now told
         × (out.new.items ≡ out.old.items ++ told)) }
 {
-    match <[u8; 13] as FromHex>::from_hex(part) {
-        Ok(octets) => push_octets(out, part, &octets, mask),
-        Err(_) => out.extend_from_slice(part),
+    match octets_in(part) {
+        Some(octets) => push_octets(out, part, &octets, mask),
+        None => out.extend_from_slice(part),
     }
 }
 

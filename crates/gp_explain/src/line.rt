@@ -4,10 +4,10 @@ ghost use Rattle.gp_explain.specs.Words.{TellsCode, TellsLine, TellsOctets, Tell
 ghost use Rattle.gp_explain.specs.Runs.{RunsOn, front};
 
 use crate::place::Place;
+use gp_code::octets_in;
 use gp_decode::{LineFault, push_words_of};
 use gp_lines::cut;
 use gp_ploam::Mask;
-use hex::FromHex;
 use std::alloc::AllocError;
 
 /// Appends what is told of a code with a wrong check octet, behind its bracket.
@@ -43,9 +43,9 @@ fn push_code(out: &mut Vec<u8>, part: &[u8], upstream: bool, mask: Mask) -> Resu
     ensures { OnOk result ((told : List ℕ) × TellsCode upstream mask part.now told
         × (out.new.items ≡ out.old.items ++ told)) }
 {
-    match <[u8; 13] as FromHex>::from_hex(part) {
-        Ok(octets) => push_octets(out, part, &octets, upstream, mask),
-        Err(_) => out.extend_from_slice(part),
+    match octets_in(part) {
+        Some(octets) => push_octets(out, part, &octets, upstream, mask),
+        None => out.extend_from_slice(part),
     }
 }
 

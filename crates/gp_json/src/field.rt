@@ -7,9 +7,9 @@ use crate::allocs::push_list;
 use crate::message::{push_down_object, push_up_object};
 use crate::slot::{Kind, Slot};
 use crate::text::{end_quoted, is_number, push_quoted};
+use gp_code::octets_in;
 use gp_decode::{LineFault, push_words_of};
 use gp_ploam::{Mask, decode_down, decode_up};
-use hex::FromHex;
 use std::alloc::{AllocError, Global};
 
 /// Appends the name of a field.
@@ -117,7 +117,7 @@ fn push_code(
         ((said : List ℕ) × TellsCode upstream mask slot part.now said × (out.new.items ≡ out.old.items ++ said))
         ((said : List ℕ) → TellsCode upstream mask slot part.now said → ⊥)) }
 {
-    let Ok(octets) = <[u8; 13] as FromHex>::from_hex(part) else {
+    let Some(octets) = octets_in(part) else {
         return Ok(false);
     };
     push_opening(out, slot)?;
