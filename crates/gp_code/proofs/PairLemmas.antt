@@ -1,4 +1,4 @@
--- The digits of a code.
+-- The digits of octets.
 use Rattle.std.proofs.Common.{◌≡◌, ℕ, ◌+◌, ◌*◌, ◌/◌, ◌%◌, ◌<◌, ◌≤◌, true, false, List, take, drop, length, get_or, Some, Result, Ok, Err, refl, sym, ◌∙◌, arith, slice_set}
 use Rattle.std.proofs.lemmas.Bool.{false≢true}
 use Rattle.std.proofs.lemmas.Bool.Decides.{nat_tests}
@@ -24,39 +24,39 @@ pair_told : (high low i h l : ℕ) → hex_digit_value high ≡ Some h → hex_d
 pair_told high low i h l one other = rw (one, other) refl
 
 -- the octets of the first pairs of digits
-pub record AreRead (text octets : List ℕ) (i : ℕ) : Type 0 where
-  pub long : length octets ≡ 13
+pub record AreRead (count : ℕ) (text octets : List ℕ) (i : ℕ) : Type 0 where
+  pub long : length octets ≡ count
   pub read : decode_pairs 0 text ≡ prepend (take i octets) (decode_pairs (2 * i) (drop (2 * i) text))
 
-pub pair_more : (text octets : List ℕ) (i h l : ℕ) → length text ≡ 26 → i < 13 → hex_digit_value (get_or text (2 * i) 0) ≡ Some h
-    → hex_digit_value (get_or text (2 * i + 1) 0) ≡ Some l → AreRead text octets i → AreRead text (slice_set octets i (h * 16 + l)) (i + 1)
-pair_more text octets i h l long within high low a = record {
+pub pair_more : (count : ℕ) (text octets : List ℕ) (i h l : ℕ) → length text ≡ 2 * count → i < count → hex_digit_value (get_or text (2 * i) 0) ≡ Some h
+    → hex_digit_value (get_or text (2 * i + 1) 0) ≡ Some l → AreRead count text octets i → AreRead count text (slice_set octets i (h * 16 + l)) (i + 1)
+pair_more count text octets i h l long within high low a = record {
   long = length-set _ _ _ ∙ a.long;
   read = decode_step text octets i (h * 16 + l) (omega arith) (omega (arith, a.long)) (pair_told (get_or text (2 * i) 0) (get_or text (2 * i + 1) 0) (2 * i) h l high low) a.read;
 }
 
-pub pairs_end : (text octets : List ℕ) (i : ℕ) → length text ≡ 26 → 13 ≤ i → AreRead text octets i → decode_sized text 13 ≡ Ok octets
-pairs_end text octets i long end a =
-    decode_sized-pairs text 13 (omega arith) (omega arith) ∙ decode_done text octets i (omega (arith, a.long)) (omega arith) a.read
+pub pairs_end : (count : ℕ) (text octets : List ℕ) (i : ℕ) → length text ≡ 2 * count → count ≤ i → AreRead count text octets i → decode_sized text count ≡ Ok octets
+pairs_end count text octets i long end a =
+    decode_sized-pairs text count (omega arith) (omega arith) ∙ decode_done text octets i (omega (arith, a.long)) (omega arith) a.read
 
--- ---- no code
+-- ---- other texts
 
 refused : (r : Result (List ℕ) FromHexError) → (IsOk r → ⊥) → (fault : FromHexError) × (r ≡ Err fault)
 refused (Ok octets) none = absurd (none refl)
 refused (Err fault) none = (fault, refl)
 
 -- another length
-pub no_code_length : (text : List ℕ) → (length text ≡ 26 → ⊥) → (fault : FromHexError) × (decode_sized text 13 ≡ Err fault)
-no_code_length text other = refused (decode_sized text 13) (λ is. other ((IsOk-decode_sized text 13).0 is).0)
+pub no_octets_length : (count : ℕ) (text : List ℕ) → (length text ≡ 2 * count → ⊥) → (fault : FromHexError) × (decode_sized text count ≡ Err fault)
+no_octets_length count text other = refused (decode_sized text count) (λ is. other ((IsOk-decode_sized text count).0 is).0)
 
 hex_digit_same : (octet : ℕ) → is_hex_digit octet ≡ true → is_ascii_hexdigit octet ≡ true
 hex_digit_same octet h = grind (arith, nat_tests, h)
 
 -- an octet that is no digit
-pub no_code_digits : (text : List ℕ) → list_all is_ascii_hexdigit text ≡ false → (fault : FromHexError) × (decode_sized text 13 ≡ Err fault)
-no_code_digits text other =
-    refused (decode_sized text 13) (
+pub no_octets_digits : (count : ℕ) (text : List ℕ) → list_all is_ascii_hexdigit text ≡ false → (fault : FromHexError) × (decode_sized text count ≡ Err fault)
+no_octets_digits count text other =
+    refused (decode_sized text count) (
     λ is.
-    let all = ((IsOk-decode_sized text 13).0 is).1 in
+    let all = ((IsOk-decode_sized text count).0 is).1 in
     false≢true (sym other ∙ list_all-from_AllPass is_ascii_hexdigit text (λ k d within. hex_digit_same (get_or text k d) (all k d within)))
     )

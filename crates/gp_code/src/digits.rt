@@ -1,5 +1,5 @@
-//! Codes, of 26 hexadecimal digits, read with no branch that depends on a digit.
-ghost use Rattle.std.specs.Prelude.{◌≡◌, ◌<◌, true, Some, Ok, Err, IfSome, IfNone, length};
+//! Octets, of two hexadecimal digits each, read with no branch that depends on a digit.
+ghost use Rattle.std.specs.Prelude.{◌≡◌, ◌*◌, ◌<◌, true, Some, Ok, Err, IfSome, IfNone, length};
 ghost use Rattle.std.specs.Char.{is_ascii_hexdigit};
 ghost use Rattle.std.specs.List.{list_all};
 ghost use Rattle.hex.specs.Hex.{decode_sized, hex_digit_value};
@@ -28,26 +28,28 @@ fn digit_value(digit: u8) -> u8
     digit % 16 + digit / 64 * 9
 }
 
-/// Gives the octets of the digits of a code.
-fn octets_of(digits: &[u8]) -> [u8; 13]
+/// Gives the octets that digits stand for.
+fn octets_of<const N: usize>(digits: &[u8]) -> [u8; N]
+    requires few { N < 32768 }
     requires digits { list_all is_ascii_hexdigit digits.now ≡ true }
-    requires count { length digits.now ≡ 26 }
-    ensures { decode_sized digits.now 13 ≡ Ok result }
+    requires count { length digits.now ≡ 2 * N }
+    ensures { decode_sized digits.now N ≡ Ok result }
 {
-    let mut octets = [0u8; 13];
-    'pairs: for i in 0..13 {
+    let mut octets = [0u8; N];
+    'pairs: for i in 0..N {
         octets[i] = digit_value(digits[2 * i]) * 16 + digit_value(digits[2 * i + 1]);
     }
     octets
 }
 
-/// Reads the octets of a code, whose digits stand in either case. None for a text that isn't 26 hexadecimal digits.
-/// Takes no memory.
-pub fn octets_in(text: &[u8]) -> Option<[u8; 13]>
-    ensures octets { IfSome result (λ octets. decode_sized text.now 13 ≡ Ok octets) }
-    ensures none { IfNone result ((fault : FromHexError) × (decode_sized text.now 13 ≡ Err fault)) }
+/// Reads so many octets, thirteen of a code, from their digits, which stand in either case. None for a text that isn't
+/// two hexadecimal digits for each. Takes no memory.
+pub fn octets_in<const N: usize>(text: &[u8]) -> Option<[u8; N]>
+    requires { N < 32768 }
+    ensures octets { IfSome result (λ octets. decode_sized text.now N ≡ Ok octets) }
+    ensures none { IfNone result ((fault : FromHexError) × (decode_sized text.now N ≡ Err fault)) }
 {
-    if text.len() == CODE_DIGITS && are_hex_digits(text) {
+    if text.len() == 2 * N && are_hex_digits(text) {
         Some(octets_of(text))
     } else {
         None

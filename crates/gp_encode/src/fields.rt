@@ -7,9 +7,9 @@ ghost use Rattle.hex.specs.Hex.{decode_sized};
 ghost use Rattle.gp_lines.specs.Reading.{octets_or_fault};
 ghost use Rattle.gp_encode.specs.Fields as spec;
 
+use gp_code::octets_in;
 use gp_lines::{LineFault, cut, number_in, serial_in};
 use gp_ploam::Serial;
-use hex::FromHex;
 
 /// Tells whether a word is this name.
 pub(crate) fn is_name(word: &[u8], name: &str) -> bool
@@ -65,7 +65,7 @@ pub(crate) fn next_serial(rest: Option<&[u8]>) -> Result<(Serial, Option<&[u8]>)
 fn body_in(part: &[u8]) -> Result<[u8; 10], LineFault>
     ensures { result ≡ octets_or_fault (decode_sized part.now 10) }
 {
-    <[u8; 10] as FromHex>::from_hex(part).map_err(|_| LineFault::Hex)
+    octets_in(part).ok_or(LineFault::Hex)
 }
 
 /// Reads the ten octets of a body, with what stands behind.
