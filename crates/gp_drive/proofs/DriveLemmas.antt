@@ -29,9 +29,9 @@ use Rattle.gp_replay.specs.declared.fault.PlayFault.TheVariants as faults
 use Rattle.gp_replay.specs.Chassis.{opened_play}
 use Rattle.gp_replay.specs.Fault.{fault_of_play, fault_of_script, fault_of_source}
 use Rattle.gp_replay.specs.Playing.{HasRoomFor, Keeps, LossyPlay, Playing, PlaysAll, chassis_playing, fibre_playing}
-use Rattle.gp_replay.specs.WorldPlay.{opening_fibre}
+use Rattle.gp_replay.specs.Opening.{OpensFibre}
 use Rattle.gp_replay.specs.Writing.{EndsPlay, Happening, LeavesScript, PlaysOn, PlaysScript, Writes}
-use Rattle.gp_replay.proofs.PlayingLemmas.{opening_fibre_room}
+use Rattle.gp_replay.proofs.PlayingLemmas.{opened_fibre_room}
 use Rattle.gp_replay.proofs.RoomLemmas.{opening_room}
 use Rattle.gp_replay.proofs.ScriptPlayLemmas.{StandsFor, play_ends}
 use Rattle.gp_drive.specs.declared.fault.DriveFault.{DriveFault}
@@ -152,10 +152,10 @@ room_behind playing count a b k r = k.room most_turns r
 pub chassis_room_for : (ports : List PortConfig) (licences count : ℕ) → count ≤ 2 ^ 52 → HasRoomFor chassis_playing (count + most_turns) (opened_play ports licences)
 chassis_room_for ports licences count few = (count + most_turns, omega arith, opening_room (count + most_turns) ports licences (omega (arith, few)))
 
-pub fibre_room_for : (script : ScriptView) (config : PortConfig) (start : LossyPlay) (count : ℕ) → count ≤ 2 ^ 52 → length script.units ≤ 1024
-    → start.play.world ≡ opening_fibre script config → start.play.next ≡ 0 → HasRoomFor fibre_playing (count + most_turns) start
-fibre_room_for script config start count within few world next =
-    (count + most_turns, omega arith, opening_fibre_room (count + most_turns) script config start.play few (omega (arith, within)) world next)
+pub fibre_room_for : (script : ScriptView) (start : LossyPlay) (count : ℕ) → count ≤ 2 ^ 52 → length script.units ≤ 1024 → OpensFibre script start
+    → HasRoomFor fibre_playing (count + most_turns) start
+fibre_room_for script start count within few opens =
+    (count + most_turns, omega arith, opened_fibre_room (count + most_turns) script start few (omega (arith, within)) opens)
 
 -- there is room for fewer, too
 pub room_for_less : {S : Type 0} (playing : Playing S) (few more : ℕ) (a : S) → HasRoomFor playing (few + more) a → HasRoomFor playing few a

@@ -1,8 +1,7 @@
 -- How a drive may end (this profile's own rule).
-use Rattle.std.specs.Prelude.{◌≡◌, ◌<◌, ◌⊎◌, Bool, true, ℕ, List, [], ◌∷◌, ◌++◌, Option, Result, Ok, Err, length, map}
+use Rattle.std.specs.Prelude.{◌≡◌, ◌<◌, ◌⊎◌, Bool, true, ℕ, List, [], ◌++◌, Option, Result, Ok, Err, length, map}
 use Rattle.std.specs.Io.KnownBytes.{Appends, Consumes}
 use Rattle.gp_ploam.specs.declared.check.Mask.{Mask}
-use Rattle.gp_machine.specs.declared.config.PortConfig.{PortConfig}
 use Rattle.gp_machine.specs.declared.entry.Receipt.{Receipt}
 use Rattle.gp_stream.specs.Sink.{SinkState, KeepsNothing}
 use Rattle.gp_stream.specs.Source.{SourceState, ReadsTooMuch, ReadsWhole, max_bytes}
@@ -17,9 +16,9 @@ use Rattle.gp_replay.specs.declared.fault.PlayFault.TheVariants as plays
 use Rattle.gp_replay.specs.declared.fault.RunFault.{RunFault}
 use Rattle.gp_replay.specs.declared.fault.RunFault.TheVariants as runs
 use Rattle.gp_replay.specs.Chassis.{opening_play}
+use Rattle.gp_replay.specs.Opening.{OpensFibre}
 use Rattle.gp_replay.specs.Outcome.{OfScript, ReadsBy}
 use Rattle.gp_replay.specs.Playing.{LossyPlay, Playing, PlaysAll, chassis_playing, fibre_playing}
-use Rattle.gp_replay.specs.WorldPlay.{opening_fibre}
 use Rattle.gp_replay.specs.Writing.{LeavesScript}
 use Rattle.gp_drive.specs.declared.fault.DriveFault.{DriveFault}
 use Rattle.gp_drive.specs.declared.fault.DriveFault.TheVariants as drives
@@ -105,14 +104,6 @@ DrivesTo manner playing start mask events (Err lines.Read) from to before after 
     × ((to.failed ≡ true) ⊎ (to.left ≡ 0))
 DrivesTo manner playing start mask events (Err (lines.Line fault)) from to before after =
     DrivesSome manner playing start mask events fault from to before after
-
--- the fibre that a script opens
-pub record OpensFibre (script : ScriptView) (start : LossyPlay) : Type 0 where
-  pub config : PortConfig
-  pub one_port : script.ports ≡ config ∷ []
-  pub world : start.play.world ≡ opening_fibre script config
-  pub next : start.play.next ≡ 0
-  pub losses : start.losses ≡ script.losses
 
 -- the lines were driven on what the script opens: a chassis, or, where it has simulated units, a fibre
 pub data Drives {T W : Type 0} (manner : DriveManner) (script : ScriptView) (answer : Result Driven LinesFault) (from to : SourceState T)

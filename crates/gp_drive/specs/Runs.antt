@@ -13,7 +13,7 @@ use Rattle.gp_replay.specs.Runs.{PortsRun}
 use Rattle.gp_replay.specs.ScriptPlay.{Plays, ends_of}
 use Rattle.gp_drive.specs.declared.manner.DriveManner.{DriveManner}
 use Rattle.gp_drive.specs.Drive.{DriveState, begun_in, done_line, driving}
-use Rattle.gp_drive.specs.Outcome.{OpensFibre}
+use Rattle.gp_replay.specs.Opening.{OpensFibre}
 use Rattle.gp_drive.specs.Shown.{unit_line}
 
 -- a part of the answer to a line: the entries of what it asks for, what is told of a simulated unit, an error line, or

@@ -10,15 +10,14 @@ use crate::driven::Driven;
 use crate::driver::Driver;
 use crate::fault::DriveFault;
 use crate::manner::DriveManner;
-use gp_chassis::ChassisConfig;
-use gp_fibre::LossPlan;
 use gp_flow::{LinesFault, run_lines};
 use gp_licence::MAX_LICENCES;
 use gp_ploam::Mask;
 use gp_replay::{
-    EventPlayer, FibrePlayer, LineBuffer, Player, each_port_runs, end_play, play_events,
+    EventPlayer, LineBuffer, Opened, each_port_runs, end_play, open_chassis, open_fibre,
+    play_events,
 };
-use gp_script::{Script, ScriptLosses};
+use gp_script::Script;
 use gp_stream::{Sink, Source};
 use std::alloc::Global;
 use std::io::{Read, Write};
@@ -79,22 +78,12 @@ fn drive_chassis<L: Ledger, T: Read, W: Write>(
     ensures { DrivesScriptIn manner result turns.old turns.new sink.old sink.new (script_view script) }
 {
     each_port_runs();
-    let Script {
-        licences,
+    let Opened {
+        mut player,
+        mut buffer,
         mask,
-        journal_limit,
-        ports,
-        units: _,
-        losses: _,
         events,
-    } = script;
-    let config = ChassisConfig {
-        licences,
-        journal_limit,
-        ports,
-    };
-    let mut buffer = LineBuffer::new(alloc)?;
-    let mut player = Player::<L>::begin(alloc, blank, &config)?;
+    } = open_chassis::<L>(alloc, blank, script)?;
     if let Err(fault) = play_events(&mut player, sink, &mut buffer, mask, events.as_slice()) {
         player.close();
         let _ = end_play(sink, Err(fault));
@@ -121,26 +110,12 @@ fn drive_fibre<L: Ledger, T: Read, W: Write>(
     requires flushed { sink.old.flushed ≡ true }
     ensures { DrivesScriptIn manner result turns.old turns.new sink.old sink.new (script_view script) }
 {
-    let Script {
-        licences,
+    let Opened {
+        mut player,
+        mut buffer,
         mask,
-        journal_limit: _,
-        ports,
-        units,
-        losses,
         events,
-    } = script;
-    let ScriptLosses { copies, bursts } = losses;
-    let loss = LossPlan { copies, bursts };
-    let mut buffer = LineBuffer::new(alloc)?;
-    let mut player = FibrePlayer::<L>::begin(
-        alloc,
-        blank,
-        &ports[0],
-        licences,
-        units.as_slice(),
-        loss,
-    )?;
+    } = open_fibre::<L>(alloc, blank, script)?;
     if let Err(fault) = play_events(&mut player, sink, &mut buffer, mask, events.as_slice()) {
         player.close();
         let _ = end_play(sink, Err(fault));
@@ -153,7 +128,7 @@ fn drive_fibre<L: Ledger, T: Read, W: Write>(
 
 /// Drives a script on a ledger of its own, which is the blank: on a chassis, or, where it has simulated units, on the
 /// fibre of its one port.
-fn drive_script<L: Ledger, T: Read, W: Write>(
+fn drive_on<L: Ledger, T: Read, W: Write>(
     alloc: Global,
     manner: DriveManner,
     blank: Blank,
@@ -174,12 +149,28 @@ fn drive_script<L: Ledger, T: Read, W: Write>(
     }
 }
 
-/// Reads a script to the end of its source, at most 1,048,576 bytes, opens what it says, plays its events, and then
-/// answers the lines of an input, one after another, for as long as they come: each by the trace lines of its
-/// entries, or by an error line where it is no turn. Whenever more of the input is asked for, the answers to all lines
-/// that a line feed ended before are written and flushed.
+/// Opens what a script says that was read, plays its events, and then answers the lines of an input, one after another,
+/// for as long as they come: each by the trace lines of its entries, or by an error line where it is no turn. Whenever
+/// more of the input is asked for, the answers to all lines that a line feed ended before are written and flushed.
 ///
 /// All lines together may ask for `MOST_TURNS` frames and other events.
+pub fn drive_script<T: Read, W: Write>(
+    alloc: Global,
+    manner: DriveManner,
+    script: Script,
+    turns: &mut Source<T>,
+    sink: &mut Sink<W>,
+) -> Result<Driven, DriveFault>
+    requires playable { IsPlayable (script_view script) }
+    requires flushed { sink.old.flushed ≡ true }
+    ensures { DrivesScriptIn manner result turns.old turns.new sink.old sink.new (script_view script) }
+{
+    let blank = Blank::new(u64::from(MAX_LICENCES));
+    drive_on::<Brand, T, W>(alloc, manner, blank, script, turns, sink)
+}
+
+/// Reads a script to the end of its source, at most 1,048,576 bytes, and drives it as `drive_script` does. It isn't told
+/// that lines are done.
 pub fn run_drive<R: Read, T: Read, W: Write>(
     alloc: Global,
     script: &mut Source<R>,
@@ -205,6 +196,5 @@ pub fn run_drive_in<R: Read, T: Read, W: Write>(
 {
     let bytes = gp_stream::read_all(alloc, script)?;
     let read = gp_script::read_script(alloc, bytes.as_slice())?;
-    let blank = Blank::new(u64::from(MAX_LICENCES));
-    drive_script::<Brand, T, W>(alloc, manner, blank, read, turns, sink)
+    drive_script(alloc, manner, read, turns, sink)
 }

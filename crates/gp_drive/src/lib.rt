@@ -4,7 +4,8 @@
 //! be shown, or by an error, and all of them together are a run (`run_drive`, `drives_are_runs`); if that is wanted,
 //! each answer ends by telling so (`run_drive_in`).
 //!
-//! - `driving.rt`: `run_drive`, from the bytes of a script and of an input of lines to the answers.
+//! - `driving.rt`: `drive_script`, from a script that was read and an input of lines to the answers, and `run_drive`,
+//!   from the bytes of a script.
 //! - `driver.rt`: `Driver`, which answers one line after another on a player, as what serves lines.
 //!   `driven.rt`: how many lines there were. `manner.rt`: in what manner they are answered.
 //! - `turn.rt`: plays what a line asks for. `shown.rt`: what is told of a simulated unit. `ending.rt`: what ends an
@@ -28,7 +29,7 @@ mod turn;
 
 pub use driven::Driven;
 pub use driver::{Driver, MOST_TURNS};
-pub use driving::{run_drive, run_drive_in};
+pub use driving::{drive_script, run_drive, run_drive_in};
 pub use fault::{DriveFault, TurnFault};
 pub use laws::drives_are_runs;
 pub use manner::DriveManner;

@@ -1,6 +1,6 @@
 -- Events that are played one after the other on any player.
 use Rattle.std.specs.Prelude.{◌↔◌, ◌⊎◌}
-use Rattle.std.proofs.Common.{◌≡◌, ℕ, zero, suc, ◌+◌, ◌*◌, ◌^◌, ◌<◌, ◌≤◌, Bool, IsTrue, List, [], ◌∷◌, ◌++◌, Some, Result, Ok, Err, IfOk, OnOk, length, map, take, drop, get_or, subst, refl, sym, ap, ◌∙◌, inl, inr, append_assoc, arith}
+use Rattle.std.proofs.Common.{◌≡◌, All, ℕ, zero, suc, ◌+◌, ◌*◌, ◌^◌, ◌<◌, ◌≤◌, Bool, IsTrue, List, [], ◌∷◌, ◌++◌, Some, Result, Ok, Err, IfOk, OnOk, length, map, take, drop, get_or, subst, refl, sym, ap, ◌∙◌, inl, inr, append_assoc, arith}
 use Rattle.std.proofs.lemmas.List.{append-nil, length-replicate, take_more, take-append-drop}
 use Rattle.gp_ploam.specs.declared.check.Mask.{Mask}
 use Rattle.gp_ranging.specs.declared.grant.Grant.{Grant}
@@ -11,13 +11,16 @@ use Rattle.gp_fibre.specs.Schedule.{WorldState}
 use Rattle.gp_script.specs.declared.script.ScriptEvent.{ScriptEvent}
 use Rattle.gp_script.specs.declared.script.ScriptEvent.TheVariants as events
 use Rattle.gp_script.specs.Lose.{LossesView}
+use Rattle.gp_script.specs.Playable.{IsPlayable}
 use Rattle.gp_script.specs.Script.{ScriptView}
+use Rattle.gp_script.specs.View.{NamesOneOf}
 use Rattle.gp_stream.specs.Sink.{SinkState}
 use Rattle.gp_trace.specs.Text.{trace_text}
 use Rattle.gp_replay.specs.declared.fault.PlayFault.{PlayFault}
 use Rattle.gp_replay.specs.declared.fault.PlayFault.TheVariants as faults
 use Rattle.gp_replay.specs.declared.turn.Turn.{Turn}
 use Rattle.gp_replay.specs.Chassis.{HasRoom, PlayState}
+use Rattle.gp_replay.specs.Opening.{OpensFibre}
 use Rattle.gp_replay.specs.Play.{TakesAllTurns, TakesSomeTurns, TakesTurns, all_turns, frame_turn, turns_of}
 use Rattle.gp_replay.specs.Playing.{HasGrant, HasRoomFor, Keeps, Loses, LossyPlay, MakesGrant, Playing, PlaysAll, PlaysSome, Tells, chassis_playing, count_of, fibre_playing}
 use Rattle.gp_replay.specs.WorldPlay.{MakesFrames, WorldTakes, WorldTakesAll, opening_fibre, receipts_from}
@@ -28,7 +31,7 @@ use Rattle.gp_replay.proofs.RoomLemmas.{room_for_fewer, room_left}
 use Rattle.gp_replay.proofs.RunLemmas.{no_turns, turns_append}
 use Rattle.gp_replay.proofs.TurnLemmas.{takes_all}
 use Rattle.gp_replay.proofs.WorldLemmas.{WorldJoins, all_are_prefix, numbered_as, numbered_join, numbered_none, part_joins}
-use Rattle.gp_replay.proofs.WorldPlayLemmas.{opening_units}
+use Rattle.gp_replay.proofs.WorldPlayLemmas.{names_one, opening_units}
 use Rattle.gp_replay.proofs.WorldRoomLemmas.{room_after_event, units_after_event}
 use Rattle.gp_replay.proofs.WorldRoomLemmas.{room_for_fewer as fewer_frames}
 
@@ -363,3 +366,17 @@ opening_fibre_room count script config play few within world next =
     let flights : length play.world.flights ≡ 0 = ap (λ (w : WorldState). length w.flights) world in
     let units : length play.world.fibre.units ≡ length script.units = ap (λ (w : WorldState). length w.fibre.units) world ∙ opening_units script config in
     record { frames = omega arith; numbers = omega arith; few = omega arith }
+
+-- ---- the fibre that a script opens
+
+-- its events name what is there
+pub fibre_names : (script : ScriptView) (start : LossyPlay) → IsPlayable script → 0 < length script.units → OpensFibre script start
+    → All (NamesOneOf 1 (length start.play.world.fibre.units)) script.events
+fibre_names script start playable some o =
+    names_one script 1 (length start.play.world.fibre.units) playable (playable.one_fibre some)
+    (ap (λ (w : WorldState). length w.fibre.units) o.world ∙ opening_units script o.config)
+
+-- and there is room
+pub opened_fibre_room : (count : ℕ) (script : ScriptView) (start : LossyPlay) → length script.units ≤ 1024 → count ≤ 2 ^ 52 + 2 ^ 51 → OpensFibre script start
+    → HasFibreRoom count start.play
+opened_fibre_room count script start few within o = opening_fibre_room count script o.config start.play few within o.world o.next

@@ -9,5 +9,6 @@ pub mod Runs
 pub mod Laws
 pub mod WorldWriting
 pub mod Playing
+pub mod Opening
 pub mod Telling
 pub mod Seats

@@ -3,7 +3,9 @@
 //! Promise: what is written is the whole trace of a play of the script, and nothing else; each port's entries are a
 //! run (`run_replay`).
 //!
-//! - `replaying.rt`: `run_replay`, from the bytes of a script to those of its trace.
+//! - `replaying.rt`: `play_script`, from a script that was read to the bytes of its trace, and `run_replay`, from the
+//!   bytes of a script.
+//! - `opening.rt`: `open_chassis` and `open_fibre`, which take a script apart and open what its events are played on.
 //! - `event_player.rt`: `EventPlayer`, what events are played on, and `play_events`, which plays the events of a script
 //!   on it; `play_end.rt`: the end of a play.
 //! - `player.rt`: `Player`, the ports of a script (`seat.rt`) with the book of their licences: it keeps no journal, and a
@@ -26,6 +28,7 @@ mod fault;
 mod fibre_player;
 mod laws;
 mod line_buffer;
+mod opening;
 mod play_end;
 mod player;
 mod playing;
@@ -41,8 +44,9 @@ pub use fault::{PlayFault, RunFault};
 pub use fibre_player::FibrePlayer;
 pub use laws::{each_port_runs, licences_are_kept};
 pub use line_buffer::LineBuffer;
+pub use opening::{Opened, open_chassis, open_fibre};
 pub use play_end::end_play;
 pub use player::Player;
-pub use replaying::run_replay;
+pub use replaying::{play_script, run_replay};
 pub use told::Told;
 pub use turn::Turn;

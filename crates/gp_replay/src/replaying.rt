@@ -8,15 +8,11 @@ ghost use Rattle.gp_replay.specs.Writing.{PlaysScript};
 
 use super::event_player::play_events;
 use super::fault::{PlayFault, RunFault};
-use super::fibre_player::FibrePlayer;
 use super::laws::each_port_runs;
-use super::line_buffer::LineBuffer;
+use super::opening::{Opened, open_chassis, open_fibre};
 use super::play_end::end_play;
-use super::player::Player;
-use gp_chassis::ChassisConfig;
-use gp_fibre::LossPlan;
 use gp_licence::MAX_LICENCES;
-use gp_script::{Script, ScriptLosses};
+use gp_script::Script;
 use gp_stream::{Sink, Source};
 use std::alloc::Global;
 use std::io::{Read, Write};
@@ -37,22 +33,12 @@ fn play_on_chassis<L: Ledger, W: Write>(
     ensures { PlaysScript (script_view script) sink.old sink.new result }
 {
     each_port_runs();
-    let Script {
-        licences,
+    let Opened {
+        mut player,
+        mut buffer,
         mask,
-        journal_limit,
-        ports,
-        units: _,
-        losses: _,
         events,
-    } = script;
-    let config = ChassisConfig {
-        licences,
-        journal_limit,
-        ports,
-    };
-    let mut buffer = LineBuffer::new(alloc)?;
-    let mut player = Player::<L>::begin(alloc, blank, &config)?;
+    } = open_chassis::<L>(alloc, blank, script)?;
     let played = play_events(&mut player, sink, &mut buffer, mask, events.as_slice());
     player.close();
     end_play(sink, played)
@@ -73,26 +59,12 @@ fn play_on_fibre<L: Ledger, W: Write>(
     requires units { 0 < length script.units.items }
     ensures { PlaysScript (script_view script) sink.old sink.new result }
 {
-    let Script {
-        licences,
+    let Opened {
+        mut player,
+        mut buffer,
         mask,
-        journal_limit: _,
-        ports,
-        units,
-        losses,
         events,
-    } = script;
-    let ScriptLosses { copies, bursts } = losses;
-    let loss = LossPlan { copies, bursts };
-    let mut buffer = LineBuffer::new(alloc)?;
-    let mut player = FibrePlayer::<L>::begin(
-        alloc,
-        blank,
-        &ports[0],
-        licences,
-        units.as_slice(),
-        loss,
-    )?;
+    } = open_fibre::<L>(alloc, blank, script)?;
     let outcome = play_events(&mut player, sink, &mut buffer, mask, events.as_slice());
     player.close();
     end_play(sink, outcome)
@@ -100,7 +72,7 @@ fn play_on_fibre<L: Ledger, W: Write>(
 
 /// Plays a script on a ledger of its own, which is the blank: on a chassis, or, where it has simulated units, on the
 /// fibre of its one port.
-fn play_script<L: Ledger, W: Write>(
+fn play_on<L: Ledger, W: Write>(
     alloc: Global,
     blank: Blank,
     script: Script,
@@ -118,15 +90,30 @@ fn play_script<L: Ledger, W: Write>(
     }
 }
 
-/// Reads a script to the end of the source, plays it, and writes its trace, all of it or up to the
-/// first fault. Memory for the script and its ports is taken before the first event is played. No entry is kept longer
-/// than its line takes; with simulated units those of 256 frames are kept at most, for which memory is taken too, so
-/// there `OutOfMemory` can also come while the script is played. The lines of all entries up to there are written out
-/// then, and `OutOfMemory` is told even where that write fails. The script's `journal_limit` means nothing here.
+/// Plays a script that was read, and writes its trace, all of it or up to the first fault. Memory for its ports is taken
+/// before the first event is played. No entry is kept longer than its line takes; with simulated units those of 256
+/// frames are kept at most, for which memory is taken too, so there `OutOfMemory` can also come while the script is
+/// played. The lines of all entries up to there are written out then, and `OutOfMemory` is told even where that write
+/// fails. The script's `journal_limit` means nothing here.
 ///
-/// What the sink gathered before goes out first. Of a source with a failed read nothing is read, and
-/// `Read` is answered. To a sink that has stopped nothing is written; a fault of reading, of the
-/// script or of memory still comes first, and else `Write` is answered.
+/// What the sink gathered before goes out first. To a sink that has stopped nothing is written; a fault of memory still
+/// comes first, and else `Write` is answered.
+pub fn play_script<W: Write>(
+    alloc: Global,
+    script: Script,
+    sink: &mut Sink<W>,
+) -> Result<(), PlayFault>
+    requires { IsPlayable (script_view script) }
+    ensures { PlaysScript (script_view script) sink.old sink.new result }
+{
+    play_on::<Brand, W>(alloc, Blank::new(u64::from(MAX_LICENCES)), script, sink)
+}
+
+/// Reads a script to the end of the source, and plays it as `play_script` does. Memory for the script is taken before
+/// that for its ports.
+///
+/// Of a source with a failed read nothing is read, and `Read` is answered. To a sink that has stopped nothing is written;
+/// a fault of reading, of the script or of memory still comes first, and else `Write` is answered.
 pub fn run_replay<R: Read, W: Write>(
     alloc: Global,
     source: &mut Source<R>,
@@ -140,6 +127,6 @@ pub fn run_replay<R: Read, W: Write>(
 {
     let bytes = gp_stream::read_all(alloc, source)?;
     let script = gp_script::read_script(alloc, bytes.as_slice())?;
-    play_script::<Brand, W>(alloc, Blank::new(u64::from(MAX_LICENCES)), script, sink)?;
+    play_script(alloc, script, sink)?;
     Ok(())
 }

@@ -9,10 +9,11 @@ ghost use Rattle.gp_verify.specs.Outcome.{Writes};
 use super::ending::tell_end;
 use super::outcome::{CheckFault, VerifyFault};
 use super::running::run_verify;
+use super::typed::configs_are_typed;
 use super::verifier::Verifier;
-use gp_chassis::ChassisConfig;
 use gp_explain::Form;
 use gp_licence::MAX_LICENCES;
+use gp_replay::{Opened, open_chassis};
 use gp_script::Script;
 use gp_stream::{Sink, Source};
 use std::alloc::Global;
@@ -36,21 +37,14 @@ fn verify_on<L: Ledger, T: Read, W: Write>(
     ensures { (told : List ℕ) × ChecksTrace form trace.old trace.new told result (script_view script)
         × Writes sink.old sink.new told result }
 {
-    let Script {
-        licences,
+    configs_are_typed(script.ports.as_slice());
+    let Opened {
+        player,
+        buffer,
         mask,
-        journal_limit,
-        ports,
-        units: _,
-        losses: _,
         events: _,
-    } = script;
-    let config = ChassisConfig {
-        licences,
-        journal_limit,
-        ports,
-    };
-    let mut verifier = Verifier::<L>::begin_in(alloc, form, blank, &config, mask)?;
+    } = open_chassis::<L>(alloc, blank, script)?;
+    let mut verifier = Verifier::<L>::on(alloc, form, player, buffer, mask);
     let found = run_verify(alloc, trace, sink, &mut verifier);
     verifier.close();
     found

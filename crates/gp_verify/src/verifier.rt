@@ -1,7 +1,8 @@
 //! Where a verification stands between two lines, and what it does with one.
-ghost use Rattle.std.specs.Prelude.{◌≡◌, ◌+◌, ◌≤◌, All, None, Some, Ok, Err, IfOk, OnErr};
+ghost use Rattle.std.specs.Prelude.{◌≡◌, ◌+◌, ◌≤◌, All, None, Some, Ok, Err, IfOk, OnErr, length};
 ghost use Rattle.gp_chassis.specs.Limits.{IsWithin};
 ghost use Rattle.gp_chassis.specs.World.{IsBalanced};
+ghost use Rattle.gp_replay.specs.Chassis.{HasRoom};
 ghost use Rattle.gp_verify.specs.declared.fault.LineRefusal.TheVariants.{Full};
 ghost use Rattle.gp_verify.specs.declared.verdict.Verdict.{Verdict as AnyVerdict};
 ghost use Rattle.gp_verify.specs.declared.verdict.Verdict.TheVariants.{TooLong};
@@ -108,7 +109,23 @@ impl<L: Ledger> Verifier<L> {
         configs_are_typed(config.ports.as_slice());
         let buffer = LineBuffer::new(alloc)?;
         let player = Player::begin(alloc, blank, config)?;
-        Ok(Verifier {
+        Ok(Verifier::on(alloc, form, player, buffer, mask))
+    }
+
+    /// Makes one on ports that were opened, before the first line.
+    pub(crate) fn on(
+        alloc: Global,
+        form: Form,
+        player: Player<L>,
+        buffer: LineBuffer,
+        mask: Mask,
+    ) -> Verifier<L>
+        requires few { length player.next ≤ 16 }
+        requires room { HasRoom most_lines player }
+        requires orderly { All IsOrderlyPort player.world.ports }
+        ensures { result ≡ record { mask = mask; form = form; play = player; lines = 0; said = buffer; ended = None } }
+    {
+        Verifier {
             alloc,
             player,
             buffer,
@@ -116,7 +133,7 @@ impl<L: Ledger> Verifier<L> {
             form,
             lines: 0,
             ended: None,
-        })
+        }
     }
 
     /// Judges the next line, without its line feed. A verdict other than `Follows` ends it: that verdict is then

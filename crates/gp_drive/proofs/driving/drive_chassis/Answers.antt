@@ -14,13 +14,13 @@ play_events-requires-clause-room g c =
     let few : length c.args.script.events.items ≤ 1048576 = c.requires.playable.few_events in
     let many = length c.args.script.events.items * 2 ^ 32 in
     let within : many ≤ 2 ^ 52 = omega (arith, few) in
-    rw (c.in_ok-player.ensures, c.as_slice.ensures.value)
+    rw (c.in_ok-player.ensures.player, c.as_slice.ensures.value, c.in_ok-player.ensures.events)
     (room_for_less chassis_playing many most_turns (opened_play c.args.script.ports.items c.args.script.licences) (chassis_room_for c.args.script.ports.items c.args.script.licences many within))
 
 pub returns-in-Err : goal.returns-in-Err
 returns-in-Err g c =
     let script = script_view c.args.script in
-    let played = rw (c.in_ok-player.ensures, c.as_slice.ensures.value) at c.in-Err.ensures.plays in
+    let played = rw (c.in_ok-player.ensures.player, c.in_ok-player.ensures.mask, c.as_slice.ensures.value, c.in_ok-player.ensures.events) at c.in-Err.ensures.plays in
     told_unplayed c.args.manner script _ _ _ c.in-Err.fault _ c.from.ensures
     (events_unplayed c.args.manner script _ _ _ _ _ _ _ _ c.in-Err.fault _ (chassis_stands c.each_port_runs.ensures script c.requires.no_units)
     (λ is. absurd (c.in-Err.ensures.memory (ap Err is))) (chassis_plays script.mask script.events _ _ _ _ _ played) c.end_play.ensures)
@@ -30,12 +30,13 @@ drive_lines-player-requires-clause-room g c =
     let few : length c.args.script.events.items ≤ 1048576 = c.requires.playable.few_events in
     let many = length c.args.script.events.items * 2 ^ 32 in
     let within : many ≤ 2 ^ 52 = omega (arith, few) in
-    let kept = rw (c.in_ok-player.ensures, c.as_slice.ensures.value) at c.in_default.ensures.keeps in
+    let kept = rw (c.in_ok-player.ensures.player, c.as_slice.ensures.value, c.in_ok-player.ensures.events) at c.in_default.ensures.keeps in
     room_behind chassis_playing many _ _ kept (chassis_room_for c.args.script.ports.items c.args.script.licences many within)
 
 pub returns : goal.returns
 returns g c =
     let script = script_view c.args.script in
-    let written = rw (c.in_ok-player.ensures, c.as_slice.ensures.value) at c.in_default.ensures.plays.ok in
+    let written = rw (c.in_ok-player.ensures.player, c.in_ok-player.ensures.mask, c.as_slice.ensures.value, c.in_ok-player.ensures.events) at c.in_default.ensures.plays.ok in
+    let driven = rw (c.in_ok-player.ensures.mask) at c.drive_lines-player.ensures in
     rw c.told.ensures
-    (drives_told c.args.manner script _ _ _ _ _ (OnChassis c.requires.no_units (drives_to c.args.manner chassis_playing _ _ script.mask script.events _ _ _ _ _ _ written c.drive_lines-player.ensures)))
+    (drives_told c.args.manner script _ _ _ _ _ (OnChassis c.requires.no_units (drives_to c.args.manner chassis_playing _ _ script.mask script.events _ _ _ _ _ _ written driven)))

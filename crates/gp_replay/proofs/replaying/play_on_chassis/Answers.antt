@@ -10,17 +10,15 @@ play_events-played-requires-clause-room g c =
     let few : length c.args.script.events.items ≤ 1048576 = c.requires.playable.few_events in
     let many = length c.args.script.events.items * 2 ^ 32 in
     let within : many < 2 ^ 64 = omega (arith, few) in
-    rw (c.in_ok-player.ensures, c.as_slice.ensures.value) (many, omega arith, opening_room many c.args.script.ports.items c.args.script.licences within)
-
-pub returns-in_err-buffer : goal.returns-in_err-buffer
-returns-in_err-buffer g c = play_refused (script_view c.args.script) c.args.sink.now _ c.from_residual.ensures.1
+    rw (c.in_ok-player.ensures.player, c.as_slice.ensures.value, c.in_ok-player.ensures.events)
+    (many, omega arith, opening_room many c.args.script.ports.items c.args.script.licences within)
 
 pub returns-in_err-player : goal.returns-in_err-player
-returns-in_err-player g c = play_refused (script_view c.args.script) c.args.sink.now _ c.from_residual-in_err-player.ensures.1
+returns-in_err-player g c = play_refused (script_view c.args.script) c.args.sink.now _ c.from_residual.ensures.1
 
 pub returns : goal.returns
 returns g c =
     let script = script_view c.args.script in
-    let played = rw (c.in_ok-player.ensures, c.as_slice.ensures.value) at c.play_events-played.ensures.plays in
+    let played = rw (c.in_ok-player.ensures.player, c.in_ok-player.ensures.mask, c.as_slice.ensures.value, c.in_ok-player.ensures.events) at c.play_events-played.ensures.plays in
     play_ends script _ _ _ c.play_events-played.new.player c.args.sink.now c.play_events-played.new.sink _ c.play_events-played.result _
     (chassis_stands c.each_port_runs.ensures script c.requires.no_units) (λ is. absurd (c.play_events-played.ensures.memory is)) (chassis_plays script.mask script.events _ _ _ _ _ played) c.end_play.ensures
