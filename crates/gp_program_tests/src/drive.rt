@@ -1,9 +1,10 @@
 //! Lines that ask for something, and what is said to each.
-use gp_drive::{DriveFault, DriveManner, Driven, run_drive, run_drive_in};
+use gp_drive::{DriveFault, DriveManner, Driven, drive_script, run_drive, run_drive_in};
 use gp_replay::RunFault;
-use gp_script::ScriptFault;
+use gp_script::{ScriptFault, read_script};
 use gp_stream::{Sink, Source};
 use std::alloc::Global;
+use std::test::Fail;
 
 /// A port that admits one unit and searches once.
 const PORT: &str = "licences = 1\n[[port]]\ncycles = 1\nadmit = [\"ABCD00000001\"]\n";
@@ -261,6 +262,26 @@ fn lines_that_are_done(rt: HostRuntime) {
             (1, 1)
         )
     );
+}
+
+/// A script that was read before is driven as it is where it is read first: on its ports, and on its fibre.
+#[test]
+fn a_script_that_was_read(rt: HostRuntime) -> Result<(), Fail> {
+    let all = Driven {
+        lines: 2,
+        errors: 0,
+    };
+    for text in [PORT, FIBRE] {
+        let script = read_script(rt.alloc(), text.as_bytes())?;
+        let lines: &[u8] = b"0 search\n0 until search\n";
+        let manner = DriveManner { done: false };
+        let mut turns = Source::endless(lines);
+        let mut sink = Sink::new(rt.alloc(), Vec::new(rt.alloc()))?;
+        let outcome = drive_script(rt.alloc(), manner, script, &mut turns, &mut sink);
+        assert!(rt; outcome == Ok(all), "{text}");
+        assert!(rt; sink.into_inner().as_slice() == SEARCH.as_bytes(), "{text}");
+    }
+    Ok(())
 }
 
 #[test]

@@ -1,6 +1,6 @@
 //! Replays of scripts: what is written, and how each ends where the script, memory, a read or a write fails.
-use gp_replay::{RunFault, run_replay};
-use gp_script::ScriptFault;
+use gp_replay::{RunFault, play_script, run_replay};
+use gp_script::{ScriptFault, read_script};
 use gp_stream::{Sink, Source};
 use std::alloc::{AllocError, Global};
 use std::io;
@@ -261,6 +261,26 @@ fn memory_short_or_ample(rt: HostRuntime) {
         assert!(rt; outcome == Ok(()));
         assert!(rt; trace.as_slice() == row.trace.as_bytes());
     }
+}
+
+/// A script that was read before is played as it is where it is read first.
+#[test]
+fn scripts_that_were_read(rt: HostRuntime) -> Result<(), Fail> {
+    for row in &SCRIPTS[..4] {
+        let mut text = String::from_str(rt.alloc(), row.before)?;
+        text.push_str(row.script)?;
+        let script = read_script(rt.alloc(), text.as_bytes())?;
+        let mut sink = Sink::new(rt.alloc(), Vec::new(rt.alloc()))?;
+        assert!(rt;
+            play_script(rt.alloc(), script, &mut sink) == Ok(()),
+            "{text}"
+        );
+        assert!(rt;
+            sink.into_inner().as_slice() == row.trace.as_bytes(),
+            "{text}"
+        );
+    }
+    Ok(())
 }
 
 /// With memory enough each of many frames has its line, to the last.
