@@ -41,11 +41,12 @@ use gp_encode::{EncodeFault, WordsFaultAt, encode_line, encode_lines};
 use gp_explain::{ExplainFault, Telling, explain_trace};
 use gp_flow::LinesFault;
 use gp_ploam::Mask;
-use gp_replay::{RunFault, run_replay};
+use gp_replay::{PlayFault, RunFault, run_replay};
 use gp_report::{
     BAD_ARGUMENTS, BAD_INPUT, SUCCESS, arguments_report, encode_report, explain_report,
     input_report, line_report, memory_report, run_report, write_report,
 };
+use gp_script::{ScriptError, read_script};
 use gp_storm::run_storm;
 use gp_stream::{Sink, Source, SourceFault, read_all};
 use joined::{joined, lines_of_codes};
@@ -59,7 +60,7 @@ use std::process::ExitCode;
 use std::rt::{Clock, Env, Files};
 use std::sync::Wait;
 use std::thread::Threads;
-use telling::{drive_told, is_plain, replay_bytes};
+use telling::{drive_told, is_plain, play_so};
 use ticking::with_ticks;
 use verifying::verify;
 
@@ -123,6 +124,39 @@ fn read_seen<S: Read + Drop>(
     read_all(alloc, &mut source)
 }
 
+/// Says on standard error why what was read is no script, where that is wanted with its place, and answers the exit
+/// status.
+fn end_unsaid<R: AllocGlobal + Eprint>(
+    rt: &R,
+    error: ScriptError,
+    bytes: &[u8],
+    explain: bool,
+) -> u8
+    ensures { IsPlayed result }
+{
+    match error {
+        ScriptError::OutOfMemory => end_replay(rt, &Err(RunFault::OutOfMemory)),
+        ScriptError::Fault(fault) => {
+            let status = end_replay(rt, &Err(RunFault::Script(fault)));
+            if explain {
+                tell_mistake(rt, Purpose::Replay, bytes);
+            }
+            status
+        }
+    }
+}
+
+/// Says on standard error why a script was not played to its end, if it wasn't, and answers the exit status.
+fn end_play<R: Eprint>(rt: &R, played: Result<(), PlayFault>) -> u8
+    ensures { IsPlayed result }
+{
+    match played {
+        Ok(()) => end_replay(rt, &Ok(())),
+        Err(PlayFault::OutOfMemory) => end_replay(rt, &Err(RunFault::OutOfMemory)),
+        Err(PlayFault::Write) => end_replay(rt, &Err(RunFault::Write)),
+    }
+}
+
 /// Plays the script that a reader gives, and writes what is wanted of it to standard output. Says on standard error
 /// what went wrong, if anything did, and answers the exit status.
 fn replay_so<R: AllocGlobal + Print + Eprint + Clock, S: Read + Drop>(
@@ -140,12 +174,13 @@ fn replay_so<R: AllocGlobal + Print + Eprint + Clock, S: Read + Drop>(
         Ok(bytes) => bytes,
         Err(fault) => return end_unread(rt, fault, seen, play.explain),
     };
-    let played = replay_bytes(rt, bytes.as_slice(), play);
-    let status = end_replay(rt, &played);
-    if play.explain && status == BAD_INPUT {
-        tell_mistake(rt, Purpose::Replay, bytes.as_slice());
+    match read_script(rt.alloc(), bytes.as_slice()) {
+        Ok(script) => {
+            drop(bytes);
+            end_play(rt, play_so(rt, script, play))
+        }
+        Err(error) => end_unsaid(rt, error, bytes.as_slice(), play.explain),
     }
-    status
 }
 
 /// Does so with the script of a file, or of standard input.

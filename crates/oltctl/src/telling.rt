@@ -1,14 +1,15 @@
 //! Traces that are told otherwise than they are.
-ghost use Rattle.std.specs.Prelude.{◌≡◌, ◌≢◌, ◌↔◌, Err, IsTrue, false};
+ghost use Rattle.std.specs.Prelude.{◌≡◌, ◌↔◌, IfOk, IsTrue, false};
+ghost use Rattle.gp_script.specs.Playable.{IsPlayable};
+ghost use Rattle.gp_script.specs.View.{script_view};
 
 use crate::progress::Counted;
 use crate::request::{Play, Told};
-use gp_drive::{DriveFault, DriveManner, Driven, run_drive_in};
+use gp_drive::{DriveFault, DriveManner, Driven, drive_script};
 use gp_explain::{Form, Telling};
 use gp_flow::{LineFault, LinesFault};
-use gp_ploam::Mask;
-use gp_replay::{RunFault, run_replay};
-use gp_script::{ScriptEvent, read_script};
+use gp_replay::{PlayFault, play_script};
+use gp_script::{Script, ScriptEvent, read_script};
 use gp_stream::{Sink, Source, read_all};
 use gp_tell::{Began, TellFault, Teller};
 use std::alloc::Global;
@@ -24,14 +25,6 @@ pub(crate) fn is_plain(told: Told) -> bool
     told.form == Form::Plain && !told.timed
 }
 
-/// Gives the mask of the script that bytes are, and the plain one where they are none.
-fn mask_in(alloc: Global, bytes: &[u8]) -> Mask {
-    match read_script(alloc, bytes) {
-        Ok(script) => script.mask,
-        Err(_) => Mask::Plain,
-    }
-}
-
 /// How many lines an event of a script without simulated units makes.
 fn lines_of(event: &ScriptEvent) -> u64 {
     match event {
@@ -41,9 +34,8 @@ fn lines_of(event: &ScriptEvent) -> u64 {
     }
 }
 
-/// How many lines the trace has of the script that bytes are, where that is known: with simulated units it isn't.
-fn expected_lines(alloc: Global, bytes: &[u8]) -> Option<u64> {
-    let script = read_script(alloc, bytes).ok()?;
+/// How many lines the trace of a script has, where that is known: with simulated units it isn't.
+fn expected_lines(script: &Script) -> Option<u64> {
     if !script.units.is_empty() {
         return None;
     }
@@ -57,98 +49,87 @@ fn expected_lines(alloc: Global, bytes: &[u8]) -> Option<u64> {
 /// Gives standard output, whose lines are counted and told once a second where that is wanted.
 fn output<'r, R: AllocGlobal + Print + Eprint + Clock>(
     rt: &'r R,
-    bytes: &[u8],
+    script: &Script,
     progress: bool,
 ) -> Counted<'r, R, io::Printer<'r, R>> {
     let expected = if progress {
-        expected_lines(rt.alloc(), bytes)
+        expected_lines(script)
     } else {
         None
     };
     Counted::new(rt, io::writer(rt), progress, expected)
 }
 
-/// How a replay ended, where what was told of it may have had a fault.
-fn ended(told: Option<TellFault>, played: Result<(), RunFault>) -> Result<(), RunFault>
-    requires mismatch { played ≢ Err RunFault.Mismatch }
-    requires journal_full { played ≢ Err RunFault.JournalFull }
-    ensures mismatch { result ≢ Err RunFault.Mismatch }
-    ensures journal_full { result ≢ Err RunFault.JournalFull }
-{
+/// How a play ended, where what was told of it may have had a fault.
+fn ended(told: Option<TellFault>, played: Result<(), PlayFault>) -> Result<(), PlayFault> {
     match told {
-        Some(TellFault::OutOfMemory) => Err(RunFault::OutOfMemory),
+        Some(TellFault::OutOfMemory) => Err(PlayFault::OutOfMemory),
         Some(TellFault::Write) | None => played,
     }
 }
 
-/// Plays the script that bytes are, and writes its trace as it is told.
-fn replay_by<B: Began, W: Write + Drop>(
+/// Plays a script, and writes its trace as it is told.
+fn play_by<B: Began, W: Write + Drop>(
     alloc: Global,
-    bytes: &[u8],
+    script: Script,
     telling: Telling,
     writer: W,
-) -> Result<(), RunFault>
+) -> Result<(), PlayFault>
     requires manner { telling ≡ B.manner }
     requires held { W.contents writer ≡ B.held }
-    ensures mismatch { result ≢ Err RunFault.Mismatch }
-    ensures journal_full { result ≢ Err RunFault.JournalFull }
+    requires playable { IsPlayable (script_view script) }
 {
     let teller = Teller::<B, W>::new(alloc, telling, writer)?;
     let mut sink = Sink::new(alloc, teller)?;
-    let mut source = Source::new(bytes);
-    let played = run_replay(alloc, &mut source, &mut sink);
+    let played = play_script(alloc, script, &mut sink);
     ended(sink.into_inner().fault(), played)
 }
 
-/// Plays the script that bytes are, and writes its trace so.
-fn replay_told<W: Write + Drop>(
+/// Plays a script, and writes its trace so.
+fn play_told<W: Write + Drop>(
     alloc: Global,
-    bytes: &[u8],
+    script: Script,
     told: Told,
     writer: W,
-) -> Result<(), RunFault>
-    ensures mismatch { result ≢ Err RunFault.Mismatch }
-    ensures journal_full { result ≢ Err RunFault.JournalFull }
+) -> Result<(), PlayFault>
+    requires { IsPlayable (script_view script) }
 {
-    let mask = mask_in(alloc, bytes);
-    let telling = Telling::new(alloc, mask, told.form, told.timed);
-    replay_by::<Brand, W>(alloc, bytes, telling, writer)
+    let telling = Telling::new(alloc, script.mask, told.form, told.timed);
+    play_by::<Brand, W>(alloc, script, telling, writer)
 }
 
-/// Plays the script that bytes are, and writes its trace as it is wanted.
-pub(crate) fn replay_bytes<R: AllocGlobal + Print + Eprint + Clock>(
+/// Plays a script, and writes its trace as it is wanted.
+pub(crate) fn play_so<R: AllocGlobal + Print + Eprint + Clock>(
     rt: &R,
-    bytes: &[u8],
+    script: Script,
     play: Play,
-) -> Result<(), RunFault>
-    ensures mismatch { result ≢ Err RunFault.Mismatch }
-    ensures journal_full { result ≢ Err RunFault.JournalFull }
+) -> Result<(), PlayFault>
+    requires { IsPlayable (script_view script) }
 {
-    let writer = output(rt, bytes, play.progress);
+    let writer = output(rt, &script, play.progress);
     if !is_plain(play.told) {
-        return replay_told(rt.alloc(), bytes, play.told, writer);
+        return play_told(rt.alloc(), script, play.told, writer);
     }
     let mut sink = Sink::new(rt.alloc(), writer)?;
-    let mut source = Source::new(bytes);
-    run_replay(rt.alloc(), &mut source, &mut sink)
+    play_script(rt.alloc(), script, &mut sink)
 }
 
-/// Plays the script that bytes are, and answers lines, by trace lines as they are told.
+/// Plays a script, and answers lines, by trace lines as they are told.
 fn drive_by<B: Began, T: Read, W: Write + Drop>(
     alloc: Global,
     manner: DriveManner,
-    bytes: &[u8],
+    script: Script,
     turns: &mut Source<T>,
     telling: Telling,
     writer: W,
 ) -> Result<Driven, DriveFault>
     requires manner { telling ≡ B.manner }
     requires held { W.contents writer ≡ B.held }
+    requires playable { IsPlayable (script_view script) }
 {
     let teller = Teller::<B, W>::new(alloc, telling, writer)?;
     let mut sink = Sink::new(alloc, teller)?;
-    let mut script = Source::new(bytes);
-    let driven = run_drive_in(alloc, manner, &mut script, turns, &mut sink);
+    let driven = drive_script(alloc, manner, script, turns, &mut sink);
     match sink.into_inner().fault() {
         Some(TellFault::OutOfMemory) => {
             let fault = LinesFault::Line(LineFault::OutOfMemory);
@@ -156,6 +137,15 @@ fn drive_by<B: Began, T: Read, W: Write + Drop>(
         }
         Some(TellFault::Write) | None => driven,
     }
+}
+
+/// Reads the script that a reader gives to its end.
+fn script_from<S: Read + Drop>(alloc: Global, reader: S) -> Result<Script, DriveFault>
+    ensures { IfOk result (λ script. IsPlayable (script_view script)) }
+{
+    let mut source = Source::new(reader);
+    let bytes = read_all(alloc, &mut source)?;
+    Ok(read_script(alloc, bytes.as_slice())?)
 }
 
 /// Plays the script that a reader gives, and answers the lines that another gives, by trace lines that are told so.
@@ -166,15 +156,13 @@ pub(crate) fn drive_told<R: AllocGlobal + Print, S: Read + Drop, T: Read + Drop>
     turns: T,
     told: Told,
 ) -> Result<Driven, DriveFault> {
-    let mut source = Source::new(script);
-    let bytes = read_all(rt.alloc(), &mut source)?;
-    let mask = mask_in(rt.alloc(), bytes.as_slice());
-    let telling = Telling::new(rt.alloc(), mask, told.form, told.timed);
+    let script = script_from(rt.alloc(), script)?;
+    let telling = Telling::new(rt.alloc(), script.mask, told.form, told.timed);
     let mut turns = Source::endless(turns);
     drive_by::<Brand, T, io::Printer<'_, R>>(
         rt.alloc(),
         manner,
-        bytes.as_slice(),
+        script,
         &mut turns,
         telling,
         io::writer(rt),
