@@ -80,8 +80,9 @@ fn push_wanted(out: &mut Vec<u8>, octet: u8) -> Result<(), AllocError>
     out.extend_from_slice(b" should stand")
 }
 
-/// Appends what would be right of a code whose check octet is wrong under the mask.
-fn push_note(out: &mut Vec<u8>, code: &[u8; 13], mask: Mask) -> Result<(), AllocError>
+/// Appends what would be right of a code whose check octet is wrong under the mask: that it is right under the other
+/// mask, or else which octet should stand.
+pub fn push_check_note(out: &mut Vec<u8>, code: &[u8; 13], mask: Mask) -> Result<(), AllocError>
     ensures { OnOk result (out.new.items ≡ out.old.items ++ check_note mask code.now) }
 {
     let other = other_mask(mask);
@@ -101,7 +102,7 @@ fn put_check_line(
     ensures { OnOk result (out.new.items ≡ check_line line mask code.now) }
 {
     put_error(out, line, LineFault::Crc)?;
-    push_note(out, code, mask)?;
+    push_check_note(out, code, mask)?;
     out.extend_from_slice(b"\n")
 }
 

@@ -5,8 +5,9 @@
 //! - `line.rt`: `decode_line`, which reads the digits and writes the message's line; `decode_line_in`, with names of
 //!   the standard too.
 //! - `lines.rt`: `decode_lines`, which does so of each line of an input, and `decode_each` and `decode_each_in`, where
-//!   each says its direction; `decoder.rt`: `Decoder`, what serves the lines; `answer.rt`: what is said to one;
-//!   `text.rt`: what a line says; `direction.rt`: whose messages the codes are.
+//!   each says its direction; `decoder.rt`: `Decoder`, what serves the lines; `answer.rt`: what is said to one, and
+//!   `push_check_note`, what would be right of a wrong check octet; `text.rt`: what a line says; `direction.rt`: whose
+//!   messages the codes are.
 //! - `append.rt`: a message as its name and its fields; `push_words_of`, the words of thirteen octets behind what a
 //!   buffer holds, and `push_words_in`, with names of the standard too. `words.rt`: `words_of`, the same as a text.
 //! - `names.rt`: `other_name`, the names of messages without a row.
@@ -33,6 +34,7 @@ mod names;
 mod text;
 mod words;
 
+pub use answer::push_check_note;
 pub use append::{push_words_in, push_words_of};
 pub use decoder::{Decoder, FaultAt};
 pub use direction::Direction;

@@ -1,3 +1,4 @@
 pub mod Parts
 pub mod Alike
+pub mod NoLine
 pub mod Reasons

@@ -1,10 +1,12 @@
 -- Why a line is not the one that the machine says in its place (this profile's own rule).
-use Rattle.std.specs.Prelude.{◌≡◌, ℕ, ◌⊎◌, ◌%◌, ◌==◌, Bool, true, false, List, [], ◌++◌, Option, None, Some, MatchResult, codes, if◌then◌else◌}
+use Rattle.std.specs.Prelude.{◌≡◌, ℕ, ◌⊎◌, ◌%◌, ◌==◌, Bool, true, false, List, [], ◌++◌, Option, None, Some, Result, Ok, Err, MatchResult, codes, slice_index, if◌then◌else◌}
 use Rattle.std.specs.List.{starts_with}
 use Rattle.std.specs.Str.{bytes_eq}
 use Rattle.hex.specs.Hex.{decode_sized}
+use Rattle.hex.specs.declared.error.FromHexError.{FromHexError}
 use Rattle.gp_ploam.specs.declared.check.Mask.{Mask}
 use Rattle.gp_decode.specs.Line.{HasWords, HasWrongCheck}
+use Rattle.gp_decode.specs.Lines.{check_note, wanted_check}
 use Rattle.gp_differ.specs.declared.difference.Difference.{Difference}
 use Rattle.gp_differ.specs.declared.difference.Difference.TheVariants.{Blank, Port, Number, Event, Reply, Sent, Grant, Alarm}
 use Rattle.gp_differ.specs.Parts.{Spelled, or_empty, spelled}
@@ -111,10 +113,37 @@ reason_for difference left given said wanted told =
     then reason_by difference left given said (or_empty (spelled said).sent) (or_empty (spelled given).sent)
     else reason_by difference left given said wanted told
 
+-- what would be right of a code whose check octet is wrong under the mask
+abbrev pub octets_remark : Mask → List ℕ → List ℕ
+octets_remark mask octets =
+    if wanted_check mask octets == slice_index octets 12 then []
+    else codes " (crc" ++ check_note mask octets ++ codes ")"
+
+-- the same of a text that should be a code, by what its digits say
+abbrev pub code_remark : Mask → Result (List ℕ) FromHexError → List ℕ
+code_remark mask (Ok octets) = octets_remark mask octets
+code_remark mask (Err fault) = []
+
+-- behind the reason, where another message was sent than this text
+abbrev pub sent_remark : Difference → Mask → List ℕ → List ℕ
+sent_remark Blank mask part = []
+sent_remark Port mask part = []
+sent_remark Number mask part = []
+sent_remark Event mask part = []
+sent_remark Reply mask part = []
+sent_remark Sent mask part = code_remark mask (decode_sized part 13)
+sent_remark Grant mask part = []
+sent_remark Alarm mask part = []
+
+-- the same, with what would be right of a wrong check octet
+abbrev pub full_reason : Difference → Mask → ℕ → List ℕ → List ℕ → List ℕ → List ℕ → List ℕ
+full_reason difference mask left given said wanted told =
+    reason_for difference left given said wanted told ++ sent_remark difference mask (or_empty (spelled given).sent)
+
 -- the line is not the one that is said in its place for this reason, where so many copies are owed behind what was sent
 abbrev pub IsReason : Mask → ℕ → List ℕ → List ℕ → List ℕ → Type 0
 IsReason mask left given said reason =
     (wanted : List ℕ) × (told : List ℕ)
     × TellsMessage mask (or_empty (spelled said).sent) wanted
     × TellsMessage mask (or_empty (spelled given).sent) told
-    × (reason ≡ reason_for (difference_of given said) left given said wanted told)
+    × (reason ≡ full_reason (difference_of given said) mask left given said wanted told)

@@ -7,7 +7,7 @@ ghost use Rattle.gp_differ.specs.Reasons as spec;
 
 use crate::alike::{difference_of, push_blank};
 use crate::difference::Difference;
-use crate::message::message_of;
+use crate::message::{message_of, push_code_remark};
 use crate::parts::{LineParts, or_empty, spelled};
 use crate::wanted::{
     push_alarm, push_grant, push_marked, push_not, push_not_part, push_not_words, push_sent,
@@ -120,10 +120,10 @@ fn push_part(
     }
 }
 
-/// Appends why a line is not the one that is said, whose messages are told in these words.
+/// Appends why a line is not the one that is said, by how it differs. The messages are told in these words.
 fn push_told(
-    alloc: Global,
     out: &mut Vec<u8>,
+    difference: Difference,
     left: usize,
     given: &[u8],
     said: &[u8],
@@ -131,9 +131,9 @@ fn push_told(
     told: &[u8],
 ) -> Result<(), AllocError>
     ensures { OnOk result (out.new.items ≡ out.old.items
-        ++ spec.reason_by (difference_of given.now said.now) left given.now said.now wanted.now told.now) }
+        ++ spec.reason_by difference left given.now said.now wanted.now told.now) }
 {
-    match difference_of(alloc, given, said)? {
+    match difference {
         Difference::Blank => push_blank(out, given, said),
         difference => push_part(
             out,
@@ -147,9 +147,51 @@ fn push_told(
     }
 }
 
+/// Appends the same, where messages with the same words are told by their codes as they are spelled.
+fn push_apart(
+    out: &mut Vec<u8>,
+    difference: Difference,
+    left: usize,
+    given: &[u8],
+    said: &[u8],
+    wanted: &[u8],
+    told: &[u8],
+) -> Result<(), AllocError>
+    ensures { OnOk result (out.new.items ≡ out.old.items
+        ++ spec.reason_for difference left given.now said.now wanted.now told.now) }
+{
+    if wanted == told {
+        // What differs is not said in words.
+        let (wanted, told) = (or_empty(spelled(said).sent), or_empty(spelled(given).sent));
+        return push_told(out, difference, left, given, said, wanted, told);
+    }
+    push_told(out, difference, left, given, said, wanted, told)
+}
+
+/// Appends what would be right of the message that a line has, where another one was sent.
+fn push_remark(
+    out: &mut Vec<u8>,
+    difference: Difference,
+    mask: Mask,
+    part: &[u8],
+) -> Result<(), AllocError>
+    ensures { OnOk result (out.new.items ≡ out.old.items ++ spec.sent_remark difference mask part.now) }
+{
+    match difference {
+        Difference::Sent => push_code_remark(out, part, mask),
+        Difference::Blank
+        | Difference::Port
+        | Difference::Number
+        | Difference::Event
+        | Difference::Reply
+        | Difference::Grant
+        | Difference::Alarm => Ok(()),
+    }
+}
+
 /// Appends why a line is not the one that the machine says in its place, where so many copies of messages are owed
 /// behind that: the first part that differs, what the machine has there, and what the line has. Codes are those under
-/// the mask. Both lines come without their line feeds.
+/// the mask; of one whose check octet is wrong it says what would be right. Both lines come without their line feeds.
 ///
 /// Where memory is refused, a part of the text may have been appended.
 pub fn push_reason(
@@ -163,20 +205,18 @@ pub fn push_reason(
     ensures { OnOk result ((reason : List ℕ) × spec.IsReason mask left given.now said.now reason
         × (out.new.items ≡ out.old.items ++ reason)) }
 {
+    let sent = or_empty(spelled(given).sent);
     let wanted = message_of(alloc, or_empty(spelled(said).sent), mask)?;
-    let told = message_of(alloc, or_empty(spelled(given).sent), mask)?;
-    if wanted.as_slice() == told.as_slice() {
-        // What differs is not said in words.
-        let (wanted, told) = (or_empty(spelled(said).sent), or_empty(spelled(given).sent));
-        return push_told(alloc, out, left, given, said, wanted, told);
-    }
-    push_told(
-        alloc,
+    let told = message_of(alloc, sent, mask)?;
+    let difference = difference_of(alloc, given, said)?;
+    push_apart(
         out,
+        difference,
         left,
         given,
         said,
         wanted.as_slice(),
         told.as_slice(),
-    )
+    )?;
+    push_remark(out, difference, mask, sent)
 }

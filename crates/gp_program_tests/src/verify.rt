@@ -131,9 +131,18 @@ const TOLD: [(&'static str, &'static str); 9] = [
     ("", ""),
     ("0 16 frame = ok grant poll 0\n", ""),
     ("0 16 frame = ok grant poll 0", ""),
-    ("found 7\n", "line 17: found 7\n"),
-    ("\n", "line 17: \n"),
-    ("1 0 frame = ok\n", "line 17: 1 0 frame = ok\n"),
+    (
+        "found 7\n",
+        "line 17: found 7\nwhy: the port: a line begins with one, 0 to 15\n",
+    ),
+    (
+        "\n",
+        "line 17: \nwhy: the port: a line begins with one, 0 to 15\n",
+    ),
+    (
+        "1 0 frame = ok\n",
+        "line 17: 1 0 frame = ok\nwhy: the port: the last of the script is 0\n",
+    ),
     (
         "0 17 frame = ok\n",
         "line 17: 0 17 frame = ok\nmachine: 0 16 frame = ok grant poll 0\n\
@@ -228,12 +237,24 @@ not `burst 0100000 ff01414243440000000100002c`",
 ];
 
 /// What comes behind a unit's answer and a line that can't be, and why it can't.
-const WHY_SENT: [(&'static str, &'static str, &'static str); 10] = [
+const WHY_SENT: [(&'static str, &'static str, &'static str); 12] = [
     (
         "",
         "0 7 frame = ok sent ff03004142434400000001001c\n",
         "the message sent: the first copy of `Assign_ONU-ID 0 ABCD00000001` is owed, \
-not `ff03004142434400000001001c`",
+not `ff03004142434400000001001c` (crc, 1b should stand)",
+    ),
+    (
+        "",
+        "0 7 frame = ok sent ff03004142434400000001004e\n",
+        "the message sent: the first copy of `Assign_ONU-ID 0 ABCD00000001` is owed, \
+not `ff03004142434400000001004e` (crc, right under mask 85)",
+    ),
+    (
+        "",
+        "0 7 frame = ok sent ff0300414243440000000100\n",
+        "the message sent: the first copy of `Assign_ONU-ID 0 ABCD00000001` is owed, \
+not `ff0300414243440000000100`",
     ),
     (
         FIRST,
@@ -283,6 +304,66 @@ not `Assign_ONU-ID 1 ABCD00000001`",
     ),
 ];
 
+/// What comes behind a search and is no line of a trace, and why.
+const WHY_NONE: [(&'static str, &'static str); 14] = [
+    (
+        "16 0 frame = ok\n",
+        "the port: a line begins with one, 0 to 15",
+    ),
+    (
+        " 0 6 frame = ok\n",
+        "the port: a line begins with one, 0 to 15",
+    ),
+    (
+        "0\n",
+        "the number: how many entries the port had before stands behind the port",
+    ),
+    (
+        "0 frame = ok\n",
+        "the number: how many entries the port had before stands behind the port",
+    ),
+    (
+        "0 18446744073709551616 frame = ok\n",
+        "the number: how many entries the port had before stands behind the port",
+    ),
+    (
+        "0 6 = ok\n",
+        "the event: `frame`, `burst AT CODE` or a command stands behind the number",
+    ),
+    (
+        "0 6 frmae = ok\n",
+        "the event: `frame`, `burst AT CODE` or a command stands behind the number",
+    ),
+    (
+        "0 6  frame = ok\n",
+        "the event: `frame`, `burst AT CODE` or a command stands behind the number",
+    ),
+    (
+        "0 6 burst x ff01414243440000000100002c = stray\n",
+        "the event: a number has decimal digits alone",
+    ),
+    (
+        "0 6 burst 4294967296 ff01414243440000000100002c = stray\n",
+        "the event: a delay is 4294967295 at most, and an Alloc-ID 4095",
+    ),
+    (
+        "0 6 burst 5 ff01414243440000000100002 = stray\n",
+        "the event: a code has 26 hexadecimal digits",
+    ),
+    (
+        "0 6 show ABCD0000000G = ok\n",
+        "the event: a serial number has 12 characters, as `ABCD00000001`, or 16 hexadecimal digits",
+    ),
+    (
+        "0 6 frame\n",
+        "the answer: ` = ` and the reply stand behind the event",
+    ),
+    (
+        "0 6 frame=ok\n",
+        "the event: `frame`, `burst AT CODE` or a command stands behind the number",
+    ),
+];
+
 /// Tells whether this is why the line behind a search and these is none of a run.
 fn is_why(alloc: Global, behind: &str, line: &str, reason: &str) -> bool {
     let (Ok(text), Ok(why)) = (
@@ -301,6 +382,13 @@ fn is_why(alloc: Global, behind: &str, line: &str, reason: &str) -> bool {
 fn why_it_is_none(rt: HostRuntime) {
     for (behind, line, reason) in WHY {
         assert!(rt; is_why(rt.alloc(), behind, line, reason), "{line}");
+    }
+}
+
+#[test]
+fn why_it_is_no_line(rt: HostRuntime) {
+    for (line, reason) in WHY_NONE {
+        assert!(rt; is_why(rt.alloc(), "", line, reason), "{line}");
     }
 }
 

@@ -1,17 +1,27 @@
 -- What is told of the line that can't be, in words.
-use Rattle.std.proofs.Common.{◌≡◌, ℕ, List, Result, Ok, Err, IfOk, sym, subst}
+use Rattle.std.proofs.Common.{◌≡◌, ℕ, List, [], ◌++◌, Result, Ok, Err, IfOk, ap, sym, subst, ◌∙◌}
 use Rattle.std.specs.Global.{Vec}
+use Rattle.gp_ploam.specs.declared.check.Mask.{Mask}
+use Rattle.gp_differ.specs.Reasons.{IsReason}
 use Rattle.gp_explain.specs.declared.form.Form.{Form}
 use Rattle.gp_explain.specs.declared.form.Form.TheVariants.{Words}
 use Rattle.gp_verify.specs.declared.verdict.Verdict.{Verdict}
-use Rattle.gp_verify.specs.Report.{IsInWords, TellsFor, TellsLine, both_lines, numbered_line, without_feed}
+use Rattle.gp_verify.specs.Report.{Explains, IsInWords, TellsFor, TellsLine, both_lines, left_behind, line_alone, without_feed}
 use Rattle.gp_verify.specs.Verdicts.{VerifyState}
 
 -- a line in words, in its steps
-pub line_in_words : {E : Type 0} (r : Result (Vec ℕ) E) (state : VerifyState) (verdict : Verdict) (line : ℕ) (text shown held : List ℕ) → held ≡ shown
-    → IsInWords state.mask text shown → IfOk r (λ report. report.items ≡ numbered_line line held) → IfOk r (λ report. TellsLine Words verdict line state text report.items)
-line_in_words (Ok x) state verdict line text shown held same words is = (held, subst (IsInWords state.mask text) (sym same) words, is)
-line_in_words (Err e) state verdict line text shown held same words is = tt
+pub line_in_words : {E : Type 0} (r : Result (Vec ℕ) E) (state : VerifyState) (verdict : Verdict) (line : ℕ) (text shown held reason : List ℕ) → held ≡ shown
+    → IsInWords state.mask text shown → IfOk r (λ report. report.items ≡ line_alone line held reason) → IfOk r (λ report. TellsLine Words verdict line state text reason report.items)
+line_in_words (Ok x) state verdict line text shown held reason same words is = (held, subst (IsInWords state.mask text) (sym same) words, is)
+line_in_words (Err e) state verdict line text shown held reason same words is = tt
+
+-- why a line is another, in its steps
+pub explained : (state : VerifyState) (mask : Mask) (left : ℕ) (text said bare start new reason : List ℕ) → mask ≡ state.mask → left ≡ left_behind state → said ≡ state.said → bare ≡ without_feed said → start ≡ []
+    → IsReason mask left text bare reason → new ≡ start ++ reason → Explains state text new
+explained state mask left text said bare start new reason same owed is without empty why grown =
+    subst (λ (r : List ℕ). Explains state text r) (sym (grown ∙ ap (λ (l : List ℕ). l ++ reason) empty))
+    (subst (λ (m : Mask). IsReason m (left_behind state) text (without_feed state.said) reason) same
+    (subst (λ (n : ℕ). IsReason mask n text (without_feed state.said) reason) owed (subst (λ (l : List ℕ). IsReason mask left text l reason) (without ∙ ap without_feed is) why)))
 
 -- both lines in words, in their steps
 pub both_in_words : {E : Type 0} (r : Result (Vec ℕ) E) (state : VerifyState) (line : ℕ) (text shown held machine kept bare said reason : List ℕ) → held ≡ shown → kept ≡ machine

@@ -27,9 +27,11 @@ abbrev pub text_field_if : List ℕ → Option (List ℕ) → List ℕ
 text_field_if name None = []
 text_field_if name (Some text) = text_field name text
 
--- a line in whose place nothing is said
-abbrev pub line_object : Verdict → ℕ → List ℕ → List ℕ
-line_object verdict line text = object_begun (kind_of verdict) line ++ text_field (codes "text") text ++ codes "}\n"
+-- a line in whose place nothing is said, and the reason
+abbrev pub line_object : Verdict → ℕ → List ℕ → List ℕ → List ℕ
+line_object verdict line text reason =
+    object_begun (kind_of verdict) line ++ text_field (codes "text") text ++ text_field (codes "why") reason
+    ++ codes "}\n"
 
 -- a line, the one that the machine says in its place, whether another free number would do there, and the reason
 abbrev pub both_object : Verdict → ℕ → List ℕ → List ℕ → Option (List ℕ) → List ℕ → List ℕ

@@ -3,6 +3,7 @@ use Rattle.std.specs.Prelude.{◌≡◌, ℕ, ◌-◌, ◌==◌, Bool, false, if
 use Rattle.std.specs.List.{starts_with}
 use Rattle.std.specs.Result.{result_ok}
 use Rattle.gp_ploam.specs.declared.check.Mask.{Mask}
+use Rattle.gp_differ.specs.NoLine.{why_no_line}
 use Rattle.gp_differ.specs.Reasons.{IsReason}
 use Rattle.gp_explain.specs.declared.form.Form.{Form}
 use Rattle.gp_explain.specs.declared.form.Form.TheVariants.{Plain, Words, Json}
@@ -63,6 +64,10 @@ left_behind state = left_at state.play (port_of state.said)
 abbrev pub Explains : VerifyState → List ℕ → List ℕ → Type 0
 Explains state text reason = IsReason state.mask (left_behind state) text (without_feed state.said) reason
 
+-- the script's last port, where a line tells of one behind it
+abbrev pub why_no_port : VerifyState → List ℕ
+why_no_port state = codes "the port: the last of the script is " ++ decimal (length state.play.next - 1)
+
 -- ---- lines
 
 -- how a line is told in words: as `oltctl explain` tells one
@@ -94,6 +99,10 @@ told_instead machine said = codes "machine: " ++ machine ++ line_if (free_choice
 abbrev pub why_line : List ℕ → List ℕ
 why_line reason = codes "why: " ++ reason ++ codes "\n"
 
+-- a line and the reason
+abbrev pub line_alone : ℕ → List ℕ → List ℕ → List ℕ
+line_alone line shown reason = numbered_line line shown ++ why_line reason
+
 -- both lines, as they are shown, and the reason
 abbrev pub both_lines : ℕ → List ℕ → List ℕ → List ℕ → List ℕ → List ℕ
 both_lines line shown machine said reason =
@@ -101,12 +110,12 @@ both_lines line shown machine said reason =
 
 -- ---- what is told
 
--- of a line in whose place the machine says nothing, by the form
-abbrev pub TellsLine : Form → Verdict → ℕ → VerifyState → List ℕ → List ℕ → Type 0
-TellsLine Plain verdict line state text told = told ≡ numbered_line line (as_it_is text)
-TellsLine Words verdict line state text told =
-    (shown : List ℕ) × IsInWords state.mask text shown × (told ≡ numbered_line line shown)
-TellsLine Json verdict line state text told = told ≡ line_object verdict line text
+-- of a line in whose place the machine says nothing, for this reason, by the form
+abbrev pub TellsLine : Form → Verdict → ℕ → VerifyState → List ℕ → List ℕ → List ℕ → Type 0
+TellsLine Plain verdict line state text reason told = told ≡ line_alone line (as_it_is text) reason
+TellsLine Words verdict line state text reason told =
+    (shown : List ℕ) × IsInWords state.mask text shown × (told ≡ line_alone line shown reason)
+TellsLine Json verdict line state text reason told = told ≡ line_object verdict line text reason
 
 -- of a line in whose place it says another, for this reason, by the form
 abbrev pub TellsFor : Form → Verdict → ℕ → VerifyState → List ℕ → List ℕ → List ℕ → Type 0
@@ -127,8 +136,10 @@ TellsBoth form verdict line state text told =
 -- of one that follows nothing is told; of one that is too long nothing either, since it was not kept
 abbrev pub Reports : Form → Verdict → ℕ → VerifyState → List ℕ → List ℕ → Type 0
 Reports form verdict.Follows line state text told = told ≡ []
-Reports form verdict.NotALine line state text told = TellsLine form verdict.NotALine line state text told
-Reports form verdict.NoPort line state text told = TellsLine form verdict.NoPort line state text told
+Reports form verdict.NotALine line state text told =
+    TellsLine form verdict.NotALine line state text (why_no_line text) told
+Reports form verdict.NoPort line state text told =
+    TellsLine form verdict.NoPort line state text (why_no_port state) told
 Reports form verdict.WrongNumber line state text told = TellsBoth form verdict.WrongNumber line state text told
 Reports form verdict.NotAStep line state text told = TellsBoth form verdict.NotAStep line state text told
 Reports form verdict.TooLong line state text told = told ≡ []

@@ -54,17 +54,19 @@ fn push_field_if(object: &mut Vec<u8>, name: &str, text: Option<&str>) -> Result
     }
 }
 
-/// Makes the object of a line in whose place the machine says nothing.
+/// Makes the object of a line in whose place the machine says nothing, for this reason.
 pub(crate) fn line_object(
     alloc: Global,
     verdict: Verdict,
     line: u64,
     text: &[u8],
+    reason: &[u8],
 ) -> Result<Vec<u8>, AllocError>
-    ensures { IfOk result (λ object. object.items ≡ spec.line_object verdict line text.now) }
+    ensures { IfOk result (λ object. object.items ≡ spec.line_object verdict line text.now reason.now) }
 {
     let mut object = begun(alloc, verdict, line)?;
     push_field(&mut object, "text", text)?;
+    push_field(&mut object, "why", reason)?;
     object.extend_from_slice(b"}\n")?;
     Ok(object)
 }

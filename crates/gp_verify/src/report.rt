@@ -67,7 +67,7 @@ pub(crate) fn in_words(alloc: Global, mask: Mask, text: &[u8]) -> Result<Vec<u8>
 }
 
 /// Begins a report with a line behind its number. The line comes as it is shown, with its line feed.
-pub(crate) fn numbered_line(alloc: Global, line: u64, shown: &[u8]) -> Result<Vec<u8>, AllocError>
+fn numbered_line(alloc: Global, line: u64, shown: &[u8]) -> Result<Vec<u8>, AllocError>
     ensures { IfOk result (λ report. report.items ≡ spec.numbered_line line shown.now) }
 {
     let head = format!(in alloc; "line {line}: ")?;
@@ -106,6 +106,21 @@ fn push_why(report: &mut Vec<u8>, reason: &[u8]) -> Result<(), AllocError>
     report.extend_from_slice(b"why: ")?;
     report.extend_from_slice(reason)?;
     report.extend_from_slice(b"\n")
+}
+
+/// Makes what is told of a line in whose place the machine says nothing, by its number, as it is shown, and by why that
+/// is so.
+pub(crate) fn line_alone(
+    alloc: Global,
+    line: u64,
+    shown: &[u8],
+    reason: &[u8],
+) -> Result<Vec<u8>, AllocError>
+    ensures { IfOk result (λ report. report.items ≡ spec.line_alone line shown.now reason.now) }
+{
+    let mut report = numbered_line(alloc, line, shown)?;
+    push_why(&mut report, reason)?;
+    Ok(report)
 }
 
 /// Makes what is told of a line by its number and the machine's line, as they are shown, by what the machine said, and

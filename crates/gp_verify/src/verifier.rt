@@ -5,25 +5,24 @@ ghost use Rattle.gp_chassis.specs.World.{IsBalanced};
 ghost use Rattle.gp_replay.specs.Chassis.{HasRoom};
 ghost use Rattle.gp_verify.specs.declared.fault.LineRefusal.TheVariants.{Full};
 ghost use Rattle.gp_verify.specs.declared.verdict.Verdict.{Verdict as AnyVerdict};
-ghost use Rattle.gp_verify.specs.declared.verdict.Verdict.TheVariants.{TooLong};
+ghost use Rattle.gp_verify.specs.declared.verdict.Verdict.TheVariants.{NoPort, TooLong};
 ghost use Rattle.gp_verify.specs.Ports.{IsOrderlyPort};
-ghost use Rattle.gp_verify.specs.Report.{Explains, Reports, TellsBoth, TellsFor, TellsLine, left_behind};
+ghost use Rattle.gp_verify.specs.Report.{Explains, Reports, TellsBoth, TellsFor, TellsLine, left_behind, why_no_port};
 ghost use Rattle.gp_verify.specs.Verdicts.{Judges, ending, most_lines, opened_in, opened_verify};
 
 use super::fault::LineRefusal;
 use super::judging::judge_line;
 use super::object::{both_object, line_object};
-use super::report::{
-    as_it_is, both_lines, choice_in, in_words, numbered_line, port_of, without_feed,
-};
+use super::report::{as_it_is, both_lines, choice_in, in_words, line_alone, port_of, without_feed};
 use super::typed::configs_are_typed;
 use super::verdict::Verdict;
 use gp_chassis::ChassisConfig;
-use gp_differ::push_reason;
+use gp_differ::{push_reason, why_no_line};
 use gp_explain::Form;
 use gp_licence::MAX_LICENCES;
 use gp_ploam::Mask;
 use gp_replay::{LineBuffer, Player};
+use itoa::Buffer;
 use std::alloc::{AllocError, Global};
 use std::marker::Model;
 use std::sync::ledger::{Blank, Ledger};
@@ -241,22 +240,47 @@ impl<L: Ledger> Verifier<L> {
         Ok(reason)
     }
 
-    /// Makes what is told of a line in whose place the machine said nothing.
-    fn report_line(&self, verdict: Verdict, text: &[u8]) -> Result<Vec<u8>, AllocError>
-        ensures { IfOk result
-            (λ report. TellsLine self.now.form verdict self.now.lines self.now text.now report.items) }
+    /// Makes what is told of a line in whose place the machine said nothing, for this reason.
+    fn report_line(
+        &self,
+        verdict: Verdict,
+        text: &[u8],
+        reason: &[u8],
+    ) -> Result<Vec<u8>, AllocError>
+        ensures { IfOk result (λ report.
+            TellsLine self.now.form verdict self.now.lines self.now text.now reason.now report.items) }
     {
         match self.form {
             Form::Plain => {
                 let shown = as_it_is(self.alloc, text)?;
-                numbered_line(self.alloc, self.lines, shown.as_slice())
+                line_alone(self.alloc, self.lines, shown.as_slice(), reason)
             }
             Form::Words => {
                 let shown = in_words(self.alloc, self.mask, text)?;
-                numbered_line(self.alloc, self.lines, shown.as_slice())
+                line_alone(self.alloc, self.lines, shown.as_slice(), reason)
             }
-            Form::Json => line_object(self.alloc, verdict, self.lines, text),
+            Form::Json => line_object(self.alloc, verdict, self.lines, text, reason),
         }
+    }
+
+    /// Gives why a line tells of no port: which one is the script's last.
+    fn no_port(&self) -> Result<Vec<u8>, AllocError>
+        ensures { IfOk result (λ reason. reason.items ≡ why_no_port self.now) }
+    {
+        let mut digits = Buffer::new();
+        let last = self.player.ports().saturating_sub(1);
+        let mut reason = Vec::from_slice(self.alloc, b"the port: the last of the script is ")?;
+        reason.extend_from_slice(digits.format(last as u64).as_bytes())?;
+        Ok(reason)
+    }
+
+    /// Makes what is told of a line that tells of a port that is not there.
+    fn report_port(&self, text: &[u8]) -> Result<Vec<u8>, AllocError>
+        ensures { IfOk result (λ report.
+            TellsLine self.now.form NoPort self.now.lines self.now text.now (why_no_port self.now) report.items) }
+    {
+        let reason = self.no_port()?;
+        self.report_line(Verdict::NoPort, text, reason.as_slice())
     }
 
     /// Makes what is told of a line, as it is, in whose place the machine said another for this reason.
@@ -346,7 +370,8 @@ impl<L: Ledger> Verifier<L> {
     {
         match verdict {
             Verdict::Follows | Verdict::TooLong => Ok(Vec::new(self.alloc)),
-            Verdict::NotALine | Verdict::NoPort => self.report_line(verdict, text),
+            Verdict::NotALine => self.report_line(verdict, text, why_no_line(text).as_bytes()),
+            Verdict::NoPort => self.report_port(text),
             Verdict::WrongNumber | Verdict::NotAStep => self.report_both(verdict, text),
         }
     }

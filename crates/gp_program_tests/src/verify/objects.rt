@@ -55,6 +55,7 @@ const NO_PORT: Row = (
         Field::Text("kind", "no such port"),
         Field::Number("line", 7),
         Field::Text("text", "1 0 frame = ok"),
+        Field::Text("why", "the port: the last of the script is 0"),
     ],
 );
 
@@ -66,6 +67,7 @@ const NO_LINE: Row = (
         Field::Text("kind", "no line of a trace"),
         Field::Number("line", 7),
         Field::Text("text", "found \"7\"\\\t\u{ff}\u{c3}\u{a4}\u{7f}\r"),
+        Field::Text("why", "the port: a line begins with one, 0 to 15"),
     ],
 );
 

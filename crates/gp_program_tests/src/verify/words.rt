@@ -26,11 +26,12 @@ why: the reply: `refused 2 garbled`, not `found 0`\n",
     ),
     (
         "1 0 burst 5 ff01414243440000000100002c = stray\n",
-        "line 7: 1 0 burst 5 [Serial_Number_ONU 255 ABCD00000001 0 0] = stray\n",
+        "line 7: 1 0 burst 5 [Serial_Number_ONU 255 ABCD00000001 0 0] = stray\n\
+why: the port: the last of the script is 0\n",
     ),
     (
         "burst 5 ff01414243440000000100002c\n",
-        "line 7: burst 5 ff01414243440000000100002c\n",
+        "line 7: burst 5 ff01414243440000000100002c\nwhy: the port: a line begins with one, 0 to 15\n",
     ),
     (
         "0 7 frame = ok\n",
