@@ -10,10 +10,12 @@ use Rattle.gp_machine.specs.declared.event.Event.TheVariants.{Burst, Frame}
 use Rattle.gp_machine.specs.declared.config.PortConfig.{PortConfig}
 use Rattle.gp_machine.specs.declared.entry.Entry.{Entry}
 use Rattle.gp_machine.specs.declared.entry.Receipt.{Receipt}
+use Rattle.gp_journal.specs.declared.piece.Piece.{Piece}
 use Rattle.gp_journal.specs.Kept.{Kept, history_of}
+use Rattle.gp_journal.specs.Piece.{history_of_piece}
 use Rattle.gp_accounts.specs.Accounted.{Accounted}
 use Rattle.gp_workers.specs.Asked.{asked_of, bursts_on, command_on, commands_of, frames_of, frames_on}
-use Rattle.gp_workers.specs.Closing.{Ending}
+use Rattle.gp_workers.specs.Closing.{CutEnding, Ending}
 use Rattle.gp_workers.specs.Ring.{GrowsByBursts}
 use Rattle.gp_workers.specs.Totals.{command_event, frame_event}
 use Rattle.gp_workers.specs.declared.totals.Totals.{Totals}
@@ -160,3 +162,26 @@ pub commands_planned : (plan : Plan) (last : ℕ) (configs : List PortConfig) (j
     → Ending configs journals totals → Accounted (map history_of journals) workers → AreServed plan last workers → totals.commands ≡ length plan.commands.items
 commands_planned plan last configs journals totals workers some ending accounted served =
     ending.counted.commands ∙ journals_count command_event journals workers accounted ∙ commands_served plan last workers some served
+
+-- ---- what pieces have
+
+entries_of_pieces : (pieces : List Piece) → map entries_of (map history_of_piece pieces) ≡ map (λ (piece : Piece). piece.entries) pieces
+entries_of_pieces [] = refl
+entries_of_pieces (p ∷ ps) = ap (λ (w : List (List Entry)). p.entries ∷ w) (entries_of_pieces ps)
+
+pieces_count : (p : Event → Bool) (pieces : List Piece) (workers : List (List Receipt)) → Accounted (map history_of_piece pieces) workers
+    → sum_by (count_by (λ (e : Entry). p e.event)) (map (λ (piece : Piece). piece.entries) pieces) ≡ sum_by (receipts_passing p) workers
+pieces_count p pieces workers accounted =
+    ap (sum_by (count_by (λ (e : Entry). p e.event))) (sym (entries_of_pieces pieces)) ∙ accounted_counts p (map history_of_piece pieces) workers accounted
+
+-- the totals of a round have all frames of its part of the plan
+pub frames_of_round : (plan : Plan) (last : ℕ) (configs : List PortConfig) (pieces : List Piece) (totals : Totals) (workers : List (List Receipt)) → 0 < last
+    → CutEnding configs pieces totals → Accounted (map history_of_piece pieces) workers → AreServed plan last workers → totals.frames ≡ frame_count plan.frames.items
+frames_of_round plan last configs pieces totals workers some ending accounted served =
+    ending.counted.frames ∙ pieces_count frame_event pieces workers accounted ∙ frames_served plan last workers some served
+
+-- and all its commands
+pub commands_of_round : (plan : Plan) (last : ℕ) (configs : List PortConfig) (pieces : List Piece) (totals : Totals) (workers : List (List Receipt)) → 0 < last
+    → CutEnding configs pieces totals → Accounted (map history_of_piece pieces) workers → AreServed plan last workers → totals.commands ≡ length plan.commands.items
+commands_of_round plan last configs pieces totals workers some ending accounted served =
+    ending.counted.commands ∙ pieces_count command_event pieces workers accounted ∙ commands_served plan last workers some served

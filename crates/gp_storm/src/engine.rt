@@ -1,5 +1,5 @@
 //! A storm's threads, started, joined and added up.
-ghost use Rattle.std.specs.Prelude.{◌≡◌, ◌+◌, ◌<◌, ◌≤◌, ◌⊎◌, Err, IfErr, IfOk, length, map};
+ghost use Rattle.std.specs.Prelude.{◌≡◌, ◌+◌, ◌<◌, ◌≤◌, ◌⊎◌, [], All, Err, IfErr, IfOk, length, map, vec_len};
 ghost use Rattle.gp_licence.specs.declared.ledger_parts.TheConstants.{MAX_LICENCES};
 ghost use Rattle.gp_machine.specs.Config.{max_ports};
 ghost use Rattle.gp_chassis.specs.Limits.{IsWithin};
@@ -9,6 +9,7 @@ ghost use Rattle.gp_storm.specs.Serving.{AreServed, IsFaultOf, IsStormFaultOf};
 
 use super::fault::{PlanFault, StormFault, storm_fault};
 use super::plan::Plan;
+use super::task::{retire_all, workers_for};
 use super::threads::{rings, run};
 use gp_accounts::CloseFault;
 use gp_chassis::ChassisConfig;
@@ -53,7 +54,15 @@ pub fn storm<L: Ledger + Send + Sync, R: Threads + Wait + Sync>(
     let Ok(chassis) = Chassis::<NoGate, L>::begin(alloc, blank, config, NoGate) else {
         return Err(StormFault::OutOfMemory);
     };
-    let workers = match work(rt, alloc, &chassis, config.ports.len(), plan) {
+    let ports = config.ports.len();
+    let workers = match workers_for(rt, alloc, &chassis, ports + 2) {
+        Ok(workers) => workers,
+        Err(fault) => {
+            chassis.discard(rt);
+            return Err(storm_fault(fault));
+        }
+    };
+    let workers = match work(rt, alloc, &chassis, ports, plan, workers) {
         Ok(workers) => workers,
         Err(fault) => {
             chassis.discard(rt);
@@ -67,26 +76,32 @@ pub fn storm<L: Ledger + Send + Sync, R: Threads + Wait + Sync>(
 }
 
 /// Runs the plan over a chassis of so many ports, and hands back all its workers.
-fn work<L: Ledger + Send + Sync, R: Threads + Wait + Sync>(
+pub(crate) fn work<L: Ledger + Send + Sync, R: Threads + Wait + Sync>(
     rt: &R,
     alloc: Global,
     chassis: &Chassis<NoGate, L>,
     ports: usize,
     plan: &Plan,
+    workers: Vec<Worker<L>>,
 ) -> Result<Vec<Worker<L>>, PlanFault>
-    requires { ports ≤ max_ports }
+    requires ports { ports ≤ max_ports }
+    requires count { vec_len workers ≡ ports + 2 }
+    requires fresh { All (λ worker. worker.receipts ≡ []) workers.items }
     ensures served { IfOk result
         (λ workers. AreServed plan.now (ports + 1) (map (λ worker. worker.receipts) workers.items)) }
     ensures fault { IfErr result (IsFaultOf plan.now (ports + 1)) }
 {
     match rings(alloc, ports) {
-        Ok(rings) => run(rt, alloc, chassis, plan, rings),
-        Err(_) => Err(PlanFault::OutOfMemory),
+        Ok(rings) => run(rt, alloc, chassis, plan, rings, workers),
+        Err(_) => {
+            retire_all(workers);
+            Err(PlanFault::OutOfMemory)
+        }
     }
 }
 
 /// Ends a chassis that does not close, with its workers.
-fn given_up<L: Ledger, R: Wait>(rt: &R, refused: CloseRefused<NoGate, L>) -> StormFault
+pub(crate) fn given_up<L: Ledger, R: Wait>(rt: &R, refused: CloseRefused<NoGate, L>) -> StormFault
     ensures { (result ≡ StormFault.OutOfMemory) ⊎ (result ≡ StormFault.Mismatch) }
 {
     let CloseRefused {
@@ -100,13 +115,4 @@ fn given_up<L: Ledger, R: Wait>(rt: &R, refused: CloseRefused<NoGate, L>) -> Sto
         CloseFault::OutOfMemory => StormFault::OutOfMemory,
         _ => StormFault::Mismatch,
     }
-}
-
-/// Ends workers.
-fn retire_all<L: Ledger>(workers: Vec<Worker<L>>) {
-    let mut workers = workers;
-    while let Some(worker) = workers.pop() {
-        worker.retire();
-    }
-    workers.destroy_empty();
 }

@@ -8,7 +8,10 @@
 //! - `plan.rt`: `Plan`, what a storm does, and `plan_of` a script. `fault.rt`: `StormFault`, why it has no totals.
 //! - `feeder.rt`: what puts a port's bursts into its ring.
 //! - `task.rt`: what one thread has: its worker, its end of a ring, and how its loop ended.
-//! - `threads.rt`: the threads of one storm. `engine.rt`: `storm`, a chassis from its opening to its close.
+//! - `threads.rt`: the threads of one storm. `engine.rt`: `storm`, a chassis from its opening to its close, which keeps
+//!   all that its threads were told.
+//! - `rounds.rt`: `storm_in_rounds`, which runs a part of the plan at a time and cuts the journals between. `left.rt`:
+//!   what of a plan is left. `so_far.rt`: where the ports stand after a round, and the totals of all rounds.
 //!
 //! What a thread does is a loop of `gp_workers`; another kind of thread is one more loop there, and a line in `serve`
 //! of `threads.rt` and in `IsServed` of `specs/Serving.antt`. What is planned for whom stands in `specs/Plan.antt`,
@@ -19,7 +22,10 @@
 mod engine;
 mod fault;
 mod feeder;
+mod left;
 mod plan;
+mod rounds;
+mod so_far;
 mod storming;
 mod task;
 mod threads;

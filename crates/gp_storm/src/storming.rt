@@ -9,14 +9,14 @@ ghost use Rattle.gp_storm.specs.Faults.{IsOfStorm};
 ghost use Rattle.gp_storm.specs.Outcome.{LeavesStorm};
 ghost use Rattle.gp_storm.specs.Totals.{IsTotalsOf, totals_text};
 
-use super::engine::storm;
 use super::plan::plan_of;
+use super::rounds::{Counted, storm_in_rounds};
 use gp_chassis::ChassisConfig;
 use gp_licence::MAX_LICENCES;
 use gp_replay::RunFault;
 use gp_script::Script;
 use gp_stream::{Sink, Source};
-use gp_workers::{Closed, Totals};
+use gp_workers::Totals;
 use std::alloc::{AllocError, Global};
 use std::io::{Read, Write};
 use std::marker::Brand;
@@ -24,20 +24,20 @@ use std::sync::Wait;
 use std::sync::ledger::{Blank, Ledger};
 use std::thread::Threads;
 
-/// Makes the five lines of what a chassis left.
-fn text_of(alloc: Global, closed: &Closed) -> Result<String, AllocError>
-    ensures { IfOk result (λ text. let totals = closed.now.totals in
-        string_bytes text ≡ totals_text totals (totals.frames + totals.bursts + totals.commands) closed.now.licences) }
+/// Makes the five lines of what a storm adds up to.
+fn text_of(alloc: Global, counted: &Counted) -> Result<String, AllocError>
+    ensures { IfOk result (λ text. let totals = counted.now.totals in
+        string_bytes text ≡ totals_text totals (totals.frames + totals.bursts + totals.commands) counted.now.licences) }
 {
     let Totals {
         frames,
         bursts,
         commands,
         ..
-    } = closed.totals;
+    } = counted.totals;
     // Each is a count of its own, and three of 64 bits need not fit into 64.
     let entries = u128::from(frames) + u128::from(bursts) + u128::from(commands);
-    let licences = closed.licences;
+    let licences = counted.licences;
     format!(in alloc;
         "frames {frames}\nbursts {bursts}\ncommands {commands}\nentries {entries}\nlicences {licences}\n"
     )
@@ -63,19 +63,20 @@ fn storm_of<L: Ledger + Send + Sync, R: Threads + Wait + Sync>(
         journal_limit: script.journal_limit,
         ports: script.ports,
     };
-    let closed = storm::<L, R>(rt, alloc, blank, &config, &plan)?;
-    Ok(text_of(alloc, &closed)?)
+    let counted = storm_in_rounds::<L, R>(rt, alloc, blank, &config, &plan)?;
+    Ok(text_of(alloc, &counted)?)
 }
 
 /// Reads a script to the end of the source, runs its bursts, frames and commands at once, by a feeder and a reader
 /// for each port, a clock and an operator, each in a thread, and writes the totals of the chassis that was closed
 /// then: five lines, `frames`, `bursts`, `commands`, `entries` and `licences`, each with its number.
 ///
-/// Nothing is written before all threads are joined and the chassis is closed. `JournalFull` is answered where a port
-/// has more entries than its journal may keep, which is not cut. Of several threads' faults the operator's is told,
-/// else that of the first reader by port, else the clock's. `Mismatch` is answered where a thread was not started,
-/// for whatever cause, or where the chassis does not close; of a script that was read its limits and its ports never
-/// are the cause, and no clause says so.
+/// It goes in rounds: a part of the bursts, frames and commands at once, and then the next one, so that memory follows
+/// the script and not what it asks for. Nothing is written before all threads are joined and the chassis is closed.
+/// `JournalFull` is answered where a port has more entries than its journal may keep, though it is cut between rounds.
+/// Of several threads' faults the operator's is told, else that of the first reader by port, else the clock's.
+/// `Mismatch` is answered where a thread was not started, for whatever cause, or where the chassis is not cut or
+/// closed; of a script that was read its limits and its ports never are the cause, and no clause says so.
 ///
 /// What the sink gathered before goes out first. Of a source with a failed read nothing is read, and `Read` is
 /// answered. To a sink that has stopped nothing is written; any other fault still comes first, and else `Write` is

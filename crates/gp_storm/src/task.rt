@@ -16,33 +16,68 @@ pub(crate) struct Task<L: Ledger> {
     pub(crate) ended: Result<(), PlanFault>,
 }
 
-/// Makes a task for each end of a ring, with a new worker in each.
-pub(crate) fn tasks_for<L: Ledger, R: Wait>(
+/// Makes so many workers of a chassis. Where one isn't made those before it end.
+pub(crate) fn workers_for<L: Ledger, R: Wait>(
     rt: &R,
     alloc: Global,
     chassis: &Chassis<NoGate, L>,
-    rings: Vec<Option<Consumer<RingItem>>>,
-) -> Result<Vec<Task<L>>, PlanFault>
-    ensures count { IfOk result (λ tasks. vec_len tasks ≡ vec_len rings) }
-    ensures fresh { IfOk result (λ tasks. All (λ task. task.worker.receipts ≡ []) tasks.items) }
+    count: usize,
+) -> Result<Vec<Worker<L>>, PlanFault>
+    ensures count { IfOk result (λ workers. vec_len workers ≡ count) }
+    ensures fresh { IfOk result (λ workers. All (λ worker. worker.receipts ≡ []) workers.items) }
     ensures fault { IfErr result
         (λ fault. (fault ≡ PlanFault.OutOfMemory) ⊎ (fault ≡ PlanFault.Mismatch)) }
 {
+    let Ok(workers) = Vec::with_capacity(alloc, count) else {
+        return Err(PlanFault::OutOfMemory);
+    };
+    let mut workers = workers;
+    for _ in 0..count {
+        let Ok(worker) = chassis.worker(rt, alloc) else {
+            retire_all(workers);
+            return Err(PlanFault::Mismatch);
+        };
+        workers.push_reserved(worker);
+    }
+    Ok(workers)
+}
+
+/// Ends workers.
+pub(crate) fn retire_all<L: Ledger>(workers: Vec<Worker<L>>) {
+    let mut workers = workers;
+    while let Some(worker) = workers.pop() {
+        worker.retire();
+    }
+    workers.destroy_empty();
+}
+
+/// Makes a task for each end of a ring, with one of the workers in each.
+pub(crate) fn tasks_for<L: Ledger>(
+    alloc: Global,
+    rings: Vec<Option<Consumer<RingItem>>>,
+    workers: Vec<Worker<L>>,
+) -> Result<Vec<Task<L>>, PlanFault>
+    requires count { vec_len workers ≡ vec_len rings }
+    requires fresh { All (λ worker. worker.receipts ≡ []) workers.items }
+    ensures count { IfOk result (λ tasks. vec_len tasks ≡ vec_len rings) }
+    ensures fresh { IfOk result (λ tasks. All (λ task. task.worker.receipts ≡ []) tasks.items) }
+    ensures fault { IfErr result (λ fault. fault ≡ PlanFault.OutOfMemory) }
+{
     let Ok(tasks) = Vec::with_capacity(alloc, rings.len()) else {
+        retire_all(workers);
         return Err(PlanFault::OutOfMemory);
     };
     let mut tasks = tasks;
-    for ring in rings {
-        let Ok(worker) = chassis.worker(rt, alloc) else {
-            end_tasks(tasks);
-            return Err(PlanFault::Mismatch);
-        };
+    let mut workers = workers;
+    let mut rings = rings;
+    while !rings.is_empty() {
         tasks.push_reserved(Task {
-            worker,
-            ring,
+            worker: workers.remove(0),
+            ring: rings.remove(0),
             ended: Ok(()),
         });
     }
+    workers.destroy_empty();
     Ok(tasks)
 }
 

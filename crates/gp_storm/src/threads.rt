@@ -9,7 +9,7 @@ ghost use Rattle.gp_storm.specs.Serving.{AreServed, IsFaultOf, IsServed};
 use super::fault::PlanFault;
 use super::feeder::feed;
 use super::plan::Plan;
-use super::task::{Task, end_tasks, first_fault, tasks_for, workers_of};
+use super::task::{Task, end_tasks, first_fault, retire_all, tasks_for, workers_of};
 use gp_chassis::ApplyFault;
 use gp_workers::{Chassis, NoGate, RingItem, Worker, clock_loop, operator_loop, reader_loop};
 use rtrb::{Consumer, Producer, RingBuffer};
@@ -175,8 +175,11 @@ pub(crate) fn run<L: Ledger + Send + Sync, R: Threads + Wait + Sync>(
     chassis: &Chassis<NoGate, L>,
     plan: &Plan,
     rings: RingEnds,
+    workers: Vec<Worker<L>>,
 ) -> Result<Vec<Worker<L>>, PlanFault>
-    requires { 1 < vec_len rings.consumers }
+    requires some { 1 < vec_len rings.consumers }
+    requires count { vec_len workers ≡ vec_len rings.consumers }
+    requires fresh { All (λ worker. worker.receipts ≡ []) workers.items }
     ensures served { IfOk result
         (λ workers. AreServed plan.now (vec_len rings.consumers - 1) (map (λ worker. worker.receipts) workers.items)) }
     ensures fault { IfErr result (IsFaultOf plan.now (vec_len rings.consumers - 1)) }
@@ -185,17 +188,23 @@ pub(crate) fn run<L: Ledger + Send + Sync, R: Threads + Wait + Sync>(
         producers,
         consumers,
     } = rings;
-    thread::scope(
+    // A closure holds nothing that can't be dropped, so it takes the workers out of a list that it borrows.
+    let mut handed = workers;
+    let lent = &mut handed;
+    let served = thread::scope(
         thread::scope_env(),
         rt,
         move |scope| -> Result<Vec<Worker<L>>, PlanFault>
-            requires { 1 < vec_len consumers }
+            requires some { 1 < vec_len consumers }
+            requires count { vec_len lent.now ≡ vec_len consumers }
+            requires fresh { All (λ worker. worker.receipts ≡ []) lent.now.items }
             ensures { MatchResult result
                 (λ workers. AreServed plan.entry.now (vec_len consumers - 1)
                 (map (λ worker. worker.receipts) workers.items))
                 (IsFaultOf plan.entry.now (vec_len consumers - 1)) }
         {
-            let tasks = match tasks_for(rt, alloc, chassis, consumers) {
+            let workers = mem::replace(lent, Vec::new(alloc));
+            let tasks = match tasks_for(alloc, consumers, workers) {
                 Ok(tasks) => tasks,
                 Err(fault) => return Err(fault),
             };
@@ -213,5 +222,7 @@ pub(crate) fn run<L: Ledger + Send + Sync, R: Threads + Wait + Sync>(
             }
             workers_after(rt, alloc, chassis, plan, tasks)
         },
-    )
+    );
+    retire_all(handed);
+    served
 }

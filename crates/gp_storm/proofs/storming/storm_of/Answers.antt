@@ -7,6 +7,7 @@ use Rattle.gp_storm.proofs.storming.storm_of.Goals as goal
 
 pub returns-clause-totals : goal.returns-clause-totals
 returns-clause-totals g c =
-    totals_told (script_view c.args.script) c.in_ok-closed.closed.journals.items c.in_ok-closed.closed.totals c.in_ok-closed.closed.licences (string_bytes c.in_ok-text_of.field-0)
-    c.in_ok-closed.ensures.ending c.in_ok-closed.ensures.licences (c.in_ok-closed.ensures.frames ∙ ap frame_count c.in_ok-plan.ensures.frames)
-    (c.in_ok-closed.ensures.commands ∙ ap length c.in_ok-plan.ensures.commands) c.in_ok-text_of.ensures
+    let counted = c.in_ok-counted.ensures in
+    totals_told (script_view c.args.script) counted.ending.journals c.in_ok-counted.counted.totals c.in_ok-counted.counted.licences (string_bytes c.in_ok-text_of.field-0)
+    counted.ending.ending counted.licences (counted.frames ∙ ap frame_count c.in_ok-plan.ensures.frames)
+    (counted.commands ∙ ap length c.in_ok-plan.ensures.commands) c.in_ok-text_of.ensures
