@@ -1,5 +1,5 @@
 -- What is handed on at a line feed.
-use Rattle.std.proofs.Common.{◌≡◌, ◌≤◌, ℕ, Bool, true, false, List, ◌++◌, Result, Ok, Err, IsErrAnd, OnErr, refl, sym, subst}
+use Rattle.std.proofs.Common.{◌≡◌, ℕ, Bool, List, ◌++◌, Result, Ok, Err, IsErrAnd, refl, sym, subst}
 use Rattle.gp_stream.specs.Sink.{SinkState, Gives, TakesPrefix}
 use Rattle.gp_stream.proofs.SinkLemmas.{takes_prefix_more}
 use Rattle.gp_explain.specs.Telling.{Manner}

@@ -1,6 +1,6 @@
 -- What is told of octets when more of them come.
-use Rattle.std.specs.Prelude.{◌==◌, if◌then◌else◌, nat_le}
-use Rattle.std.proofs.Common.{◌≡◌, ◌≤◌, ◌<◌, ℕ, ◌+◌, Bool, true, false, List, [], ◌∷◌, ◌++◌, refl, sym, ap, subst, ◌∙◌, append_assoc, append-nil, length, length-append, arith, inl, inr}
+use Rattle.std.specs.Prelude.{◌==◌, if◌then◌else◌}
+use Rattle.std.proofs.Common.{◌≡◌, ◌≤◌, ◌<◌, ℕ, true, false, List, [], ◌∷◌, ◌++◌, refl, sym, ap, subst, ◌∙◌, append_assoc, append-nil, length, length-append, arith, inl, inr}
 use Rattle.std.proofs.lemmas.Bool.{lt-leb, le-leb}
 use Rattle.gp_flow.specs.Lines.{ended_lines, onto_first}
 use Rattle.gp_flow.proofs.LineLemmas.{NoFeed}

@@ -9,7 +9,7 @@ use Rattle.std.specs.Io.KnownBytes.{Appends}
 use Rattle.std.proofs.KnownBytes.{Appends-trans}
 use Rattle.gp_stream.specs.Sink.{SinkState, Gives, Takes, TakesPrefix}
 use Rattle.gp_stream.specs.Sink as sink
-use Rattle.gp_stream.proofs.SinkLemmas.{gives_unstopped, takes_prefix_of}
+use Rattle.gp_stream.proofs.SinkLemmas.{gives_unstopped}
 use Rattle.gp_flow.proofs.LineLemmas.{NoFeed}
 use Rattle.gp_lines.specs.Trace.{is_feed}
 use Rattle.gp_stream.specs.declared.sink.WriteStopped.{WriteStopped}
@@ -240,3 +240,32 @@ module _ {W : Type 0} (fault : Option TellFault) (began : Manner) (first : Optio
   ends_unsaid why after r is ends f =
       let lost : EndsLine long handed manner next old new (Err OutOfMemory) = subst (λ (e : TellFault). EndsLine long handed manner next old new (Err e)) is ends in
       memory_lost began first taken manner old after line long r told_so_far (subst (λ (s : SinkState W). sink.Finishes s after r) lost.1 f)
+
+-- ---- the same of a line that stands whole, and of which nothing was taken before
+
+module _ {W : Type 0} (fault : Option TellFault) (began : Manner) (first : Option (List ℕ)) (taken noted all : List ℕ) (manner next : Manner) (old new : SinkState W) (line part : List ℕ) (long : Bool) (none : fault ≡ None) (h : TellsBy fault began first taken manner old long line) (free : All (λ octet. is_feed octet ≡ false) part) (short : long ≡ false) (empty : line ≡ []) (fits : length part ≤ longest_line) (note : noted ≡ taken ++ part) (feed : all ≡ noted ++ 10 ∷ []) where
+  nothing_kept : Runs began first taken manner old false []
+  nothing_kept =
+      subst (λ (b : Bool). Runs began first taken manner old b []) short
+      (subst (λ (l : List ℕ). Runs began first taken manner old long l) empty (runs_of fault began first taken manner old long line none h))
+
+  whole_kept : Runs began first noted manner old false part
+  whole_kept = subst (λ (t : List ℕ). Runs began first t manner old false part) (sym note) (part_kept began first taken manner old old [] part nothing_kept (part_fed part free) (omega (arith, fits)))
+
+  pub whole_told : EndsLine false part manner next old new (Ok tt) → TellsBy fault began first all next new long line
+  whole_told ends =
+      tells_of fault began first all next new long line none
+      (subst (λ (t : List ℕ). Runs began first t next new long line) (sym feed) (subst (λ (b : Bool). Runs began first (noted ++ 10 ∷ []) next new b line) (sym short) (subst (λ (l : List ℕ). Runs began first (noted ++ 10 ∷ []) next new false l) (sym empty) (line_told began first noted manner old new part false next whole_kept ends))))
+
+  pub whole_lost : (why : TellFault) → why ≡ Write → EndsLine false part manner next old new (Err why) → HasPrefix began all first new.held
+  whole_lost why is ends =
+      subst (λ (t : List ℕ). HasPrefix began t first new.held) (sym feed)
+      (line_lost began first noted manner old new part false next whole_kept (subst (λ (f : TellFault). EndsLine false part manner next old new (Err f)) is ends))
+
+-- without memory for it nothing of it was taken
+pub whole_unsaid : {W : Type 0} (fault : Option TellFault) (began : Manner) (first : Option (List ℕ)) (taken : List ℕ) (manner next : Manner) (old new : SinkState W) (line part : List ℕ) (long : Bool) → fault ≡ None
+    → TellsBy fault began first taken manner old long line → (why : TellFault) (after : SinkState W) (r : Result (Unit {0}) WriteStopped) → why ≡ OutOfMemory → EndsLine false part manner next old new (Err why)
+    → sink.Finishes new after r → HasPrefix began taken first after.held
+whole_unsaid fault began first taken manner next old new line part long none h why after r is ends f =
+    let lost : EndsLine false part manner next old new (Err OutOfMemory) = subst (λ (e : TellFault). EndsLine false part manner next old new (Err e)) is ends in
+    memory_lost began first taken manner old after line long r (runs_of fault began first taken manner old long line none h) (subst (λ (s : SinkState _). sink.Finishes s after r) lost.1 f)

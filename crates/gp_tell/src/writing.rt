@@ -1,5 +1,5 @@
 //! A teller takes octets.
-ghost use Rattle.std.specs.Prelude.{◌≡◌, ◌≤◌, ◌∷◌, ◌++◌, [], Err, None, OnErr, OnOk, false, length, take, vec_capacity};
+ghost use Rattle.std.specs.Prelude.{◌≡◌, ◌∷◌, ◌++◌, [], Err, IfOk, MatchBool, None, OnErr, OnOk, false, vec_capacity};
 ghost use Rattle.std.specs.List.{All};
 ghost use Rattle.gp_lines.specs.Trace.{is_feed};
 ghost use Rattle.gp_stream.specs.Sink.{Gives};
@@ -12,22 +12,12 @@ use crate::teller::Teller;
 use gp_explain::Telling;
 use gp_flow::MAX_LINE_BYTES;
 use gp_stream::{Sink, WriteStopped};
+use memchr::memchr;
 use std::io;
 use std::io::{ErrorKind, Write};
 
 /// The octet that ends a line.
 const LINE_FEED: u8 = b'\n';
-
-/// Counts the octets before the first line feed.
-fn part_len(bytes: &[u8]) -> usize
-    ensures within { result ≤ length bytes.now }
-    ensures part { All (λ octet. is_feed octet ≡ false) (take result bytes.now) }
-{
-    match bytes.iter().position(|octet| *octet == LINE_FEED) {
-        Some(at) => at,
-        None => bytes.len(),
-    }
-}
 
 /// Hands on what was kept of a line, and then a part of it.
 fn pass_on<W: Write>(below: &mut Sink<W>, kept: &[u8], part: &[u8]) -> Result<(), WriteStopped>
@@ -98,6 +88,45 @@ impl<B: Began, W: Write> Teller<B, W> {
         }
     }
 
+    /// Takes a line that stands whole, and its line feed, if nothing of it was taken before and it is not too long: it is
+    /// told where it stands. Tells whether it did. Where there is no memory for what is told of it, it is not taken, and
+    /// what was told before is written out.
+    fn take_whole(&mut self, line: &[u8]) -> Result<bool, TellFault>
+        requires running { self.old.fault ≡ None }
+        requires line { All (λ octet. is_feed octet ≡ false) line.now }
+        ensures ok { IfOk result
+            (λ whole. MatchBool whole (self.new.taken ≡ self.old.taken ++ line.now ++ 10 ∷ []) (self.new ≡ self.old)) }
+        ensures err { OnErr result (self.new.taken ≡ self.old.taken) }
+    {
+        if self.long || !self.line.is_empty() || line.len() > MAX_LINE_BYTES {
+            return Ok(false);
+        }
+        match end_line(
+            &mut self.telling,
+            &mut self.below,
+            line,
+            false,
+            &mut self.told,
+        ) {
+            Ok(()) => {
+                self.taken.note(line);
+                self.taken.note(b"\n");
+                Ok(true)
+            }
+            Err(TellFault::Write) => {
+                self.taken.note(line);
+                self.taken.note(b"\n");
+                self.fault = Some(TellFault::Write);
+                Ok(true)
+            }
+            Err(TellFault::OutOfMemory) => {
+                let _ = self.below.finish();
+                self.fault = Some(TellFault::OutOfMemory);
+                Err(TellFault::OutOfMemory)
+            }
+        }
+    }
+
     /// Takes a line feed, unless there is no memory for what is told of the line: then what was told before is written
     /// out.
     fn end(&mut self) -> Result<(), TellFault>
@@ -135,23 +164,26 @@ impl<B: Began, W: Write> Write for Teller<B, W> {
 
     ghost contents = { λ s. Some s.taken };
 
-    /// Takes the octets up to the first line feed, or that line feed alone.
+    /// Takes the first line, with its line feed, where it stands whole; else the octets up to the first line feed, or
+    /// that line feed alone.
     fn write(&mut self, bytes: &[u8]) -> io::Result<usize> {
         if let Some(fault) = self.fault() {
             return Err(error_of(fault));
         }
-        match bytes {
-            [] => Ok(0),
-            [LINE_FEED, ..] => {
-                self.end().map_err(error_of)?;
-                Ok(1)
-            }
-            _ => {
-                let count = part_len(bytes);
-                self.keep(&bytes[..count]);
-                Ok(count)
-            }
+        let Some(count) = memchr(LINE_FEED, bytes) else {
+            self.keep(bytes);
+            return Ok(bytes.len());
+        };
+        let line = &bytes[..count];
+        if self.take_whole(line).map_err(error_of)? {
+            return Ok(count + 1);
         }
+        if count == 0 {
+            self.end().map_err(error_of)?;
+            return Ok(1);
+        }
+        self.keep(line);
+        Ok(count)
     }
 
     /// Writes out all that was told, and flushes the writer below behind it.

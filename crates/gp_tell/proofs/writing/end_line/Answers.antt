@@ -1,4 +1,4 @@
-use Rattle.std.proofs.Common.{rules, refl}
+use Rattle.std.proofs.Common.{rules}
 use Rattle.gp_tell.proofs.EndingLemmas.{ends_short}
 use Rattle.gp_tell.proofs.writing.end_line.Goals as goal
 

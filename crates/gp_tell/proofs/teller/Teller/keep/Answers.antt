@@ -1,5 +1,4 @@
-use Rattle.std.proofs.Common.{◌≡◌, ◌<◌, ◌≤◌, ◌-◌, ◌++◌, ◌∙◌, Bool, true, false, None, ap, sym, arith, length, length-append, rules}
-use Rattle.std.specs.Prelude.{not}
+use Rattle.std.proofs.Common.{◌≡◌, ◌<◌, ◌≤◌, ◌-◌, ◌++◌, ◌∙◌, false, None, ap, arith, length, length-append, rules}
 use Rattle.gp_explain.specs.Outcome.{longest_line}
 use Rattle.gp_tell.proofs.TellerLemmas.{keeps_part, loses_part, passes_part}
 use Rattle.gp_tell.proofs.teller.Teller.keep.Goals as goal
