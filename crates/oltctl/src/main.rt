@@ -51,7 +51,7 @@ use gp_storm::run_storm;
 use gp_stream::{Sink, Source, SourceFault, read_all};
 use joined::{joined, lines_of_codes};
 use observed::{Observed, Seen};
-use reporting::{report, report_at, tell_mistake};
+use reporting::{report, report_at};
 use request::{Play, Request, StormPlay, Told, request_of};
 use std::alloc::Global;
 use std::io;
@@ -130,6 +130,7 @@ fn end_unsaid<R: AllocGlobal + Eprint>(
     rt: &R,
     error: ScriptError,
     bytes: &[u8],
+    seen: &Seen<'_>,
     explain: bool,
 ) -> u8
     ensures { IsPlayed result }
@@ -139,7 +140,7 @@ fn end_unsaid<R: AllocGlobal + Eprint>(
         ScriptError::Fault(fault) => {
             let status = end_replay(rt, &Err(RunFault::Script(fault)));
             if explain {
-                tell_mistake(rt, Purpose::Replay, bytes);
+                seen.tell_mistake(rt, Purpose::Replay, bytes);
             }
             status
         }
@@ -179,7 +180,7 @@ fn replay_so<R: AllocGlobal + Print + Eprint + Clock, S: Read + Drop>(
             drop(bytes);
             end_play(rt, play_so(rt, script, play))
         }
-        Err(error) => end_unsaid(rt, error, bytes.as_slice(), play.explain),
+        Err(error) => end_unsaid(rt, error, bytes.as_slice(), seen, play.explain),
     }
 }
 

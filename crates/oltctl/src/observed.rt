@@ -85,10 +85,20 @@ impl<'a> Seen<'a> {
         status
     }
 
+    /// Says on standard error where these octets, which came from it, are no script for this, if they are none.
+    pub(crate) fn tell_mistake<R: AllocGlobal + Eprint>(
+        &self,
+        rt: &R,
+        purpose: Purpose,
+        octets: &[u8],
+    ) {
+        tell_mistake(rt, self.name, purpose, octets);
+    }
+
     /// Says on standard error where the octets are no script for this, where they were kept and are none.
     pub(crate) fn tell_place<R: AllocGlobal + Eprint>(&self, rt: &R, purpose: Purpose) {
         if let Some(octets) = &self.octets {
-            tell_mistake(rt, purpose, octets.as_slice());
+            self.tell_mistake(rt, purpose, octets.as_slice());
         }
     }
 }

@@ -86,9 +86,17 @@ pub(crate) fn tell_cause<R: AllocGlobal + Eprint>(
     };
 }
 
-/// Says on standard error where octets are no script for this, if they are none.
-pub(crate) fn tell_mistake<R: AllocGlobal + Eprint>(rt: &R, purpose: Purpose, octets: &[u8]) {
+/// Says on standard error where the octets of a file, or of standard input, are no script for this, if they are none.
+pub(crate) fn tell_mistake<R: AllocGlobal + Eprint>(
+    rt: &R,
+    name: Option<&str>,
+    purpose: Purpose,
+    octets: &[u8],
+) {
     if let Ok(Some(place)) = placed_line(rt.alloc(), purpose, octets) {
-        let _ = eprintln!(rt; "oltctl: {place}");
+        let _ = match name {
+            Some(name) => eprintln!(rt; "oltctl: {name}: {place}"),
+            None => eprintln!(rt; "oltctl: {place}"),
+        };
     }
 }
