@@ -1,0 +1,10 @@
+pub mod CutLemmas
+pub mod CodeLemmas
+pub mod DigitLemmas
+pub mod OnceLemmas
+pub mod TimeLemmas
+pub mod BackLemmas
+pub mod WholeLemmas
+pub mod FrameLemmas
+pub mod TraceLemmas
+pub mod KindLemmas

@@ -1,0 +1,9 @@
+pub mod Fields
+pub mod Code
+pub mod Time
+pub mod Says
+pub mod Log
+pub mod Trace
+pub mod Line
+pub mod Text
+pub mod Told
