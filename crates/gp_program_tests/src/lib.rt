@@ -1,5 +1,6 @@
 //! The tests of `gp_stream`, `gp_script`, `gp_check`, `gp_decode`, `gp_encode`, `gp_explain`, `gp_json`, `gp_tell`,
-//! `gp_trace`, `gp_lines`, `gp_replay`, `gp_verify`, `gp_drive`, `gp_storm` and `gp_report`: what no clause says of them.
+//! `gp_trace`, `gp_lines`, `gp_log`, `gp_replay`, `gp_verify`, `gp_drive`, `gp_storm` and `gp_report`: what no clause
+//! says of them.
 //! They stand here, since a crate with tests is proved twice.
 //!
 //! - `stream.rt`: readers and writers that fail, or take an octet a call.
@@ -11,6 +12,7 @@
 //! - `encode.rt`, `explain.rt`: codes of messages in words; traces in words. `tell.rt`: the same while a trace is written.
 //! - `fields.rt`: the objects of messages and of Alloc-IDs, read as JSON.
 //! - `lines.rt`: events and turns that are read, the first fault of each text that is refused, and lines of a trace.
+//! - `log.rt`: lines of a log and of a trace: what each says on the fibre, its first fault, and lines that are written.
 //! - `replay.rt`, `storm.rt`: whole scripts to their trace or their totals, readers and writers that fail, and memory
 //!   that is refused; `storm/plans.rt` storms plans.
 //! - `turns.rt`: turns of a player that are told, beside turns that are taken.
@@ -34,6 +36,8 @@ mod explain;
 mod fields;
 #[cfg(test)]
 mod lines;
+#[cfg(test)]
+mod log;
 #[cfg(test)]
 mod replay;
 #[cfg(test)]
