@@ -5,9 +5,8 @@ ghost use Rattle.gp_journal.specs.Recording.{Records};
 use super::entries::Entries;
 use super::fault::JournalFault;
 use super::piece::Piece;
-use gp_licence::Licences;
-use gp_machine::{Answer, Entry, Event, Reply};
-use gp_port::{PortCore, PortImage};
+use gp_machine::{Entry, Event};
+use gp_port::{Licences, PortCore, PortImage};
 use std::alloc::Global;
 use std::marker::Model;
 use std::mem;
@@ -193,19 +192,8 @@ fn record_in<L: Ledger>(
     ensures room { vec_capacity entries.new ≡ vec_capacity entries.old }
 {
     let place = entries.len();
-    push_within(
-        entries,
-        Entry {
-            purse_in: purse.count(),
-            event,
-            answer: Answer::from(Reply::Ticked),
-            purse_out: 0,
-        },
-    );
-    let entry = &mut entries[place];
-    let rest = core.step_into(purse, event, wished, &mut entry.answer);
-    entry.purse_out = rest.count();
-    rest
+    push_within(entries, Entry::blank());
+    core.step_entry(purse, event, wished, &mut entries[place])
 }
 
 /// Appends an item where there is room for it.

@@ -9,8 +9,8 @@
 //! - `frame.rt`, `burst.rt`, `search_window.rt`, `range_window.rt`, `poll_window.rt`, `command.rt`, `unit_command.rt`,
 //!   `alloc_command.rt`: a method for each table of `gp_machine`, whose clause is that table.
 //! - `answers.rt`: what a frame and a burst give, small enough to hand up; it is written to an `Answer` once.
-//! - `port_core.rt`: `PortCore`, a `PortMachine` with one licence for each active unit. Its `step_into` carries the
-//!   promises; `step` and `step_wishing` stand on it.
+//! - `port_core.rt`: `PortCore`, a `PortMachine` with one licence for each active unit; `step_entry` writes the entry
+//!   that tells of a step, `step` and `step_wishing` hand out its answer.
 //! - `image.rt`: `PortImage`, what a port knows as plain data, and the machine made of it again; `comparing.rt`: when
 //!   two ports know the same.
 //! - `follower.rt`: `PortFollower`, a `PortMachine` without licences that follows the entries of a history.
@@ -42,6 +42,7 @@ mod unit_command;
 pub use follower::PortFollower;
 pub use gp_alarms::{Alarm, AlarmKind};
 pub use gp_common::Common;
+pub use gp_licence::Licences;
 pub use gp_machine::{
     Admitted, Answer, Command, Entry, Event, Phase, PortConfig, Receipt, Refusal, Reply, Row,
 };

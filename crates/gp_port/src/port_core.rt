@@ -12,6 +12,7 @@ ghost use Rattle.gp_machine.specs.Config.{is_within_limits};
 ghost use Rattle.gp_machine.specs.State.{opening_of, rows_of};
 ghost use Rattle.gp_machine.specs.Sound.{IsSound};
 ghost use Rattle.gp_machine.specs.Changes.{step_result_of};
+ghost use Rattle.gp_machine.specs.Run.{IsStep, entry_outcome};
 ghost use Rattle.gp_machine.specs.Responses.{bare_answer};
 ghost use Rattle.gp_machine.specs.Step.{Step, StepOwing};
 ghost use Rattle.gp_machine.specs.OneStep.{state_refused};
@@ -24,8 +25,8 @@ use super::port_machine::PortMachine;
 use gp_common::Common;
 use gp_licence::Licences;
 use gp_machine::{
-    Answer, Event, PortConfig, Reply, refusals_change_nothing, sound_step, step_keeps_licences,
-    step_sends_in_order,
+    Answer, Entry, Event, PortConfig, Reply, refusals_change_nothing, sound_step,
+    step_keeps_licences, step_sends_in_order,
 };
 use gp_ploam::Serial;
 use gp_unit::RowView;
@@ -120,9 +121,40 @@ impl<L: Ledger> PortCore<L> {
         (answer, rest)
     }
 
-    /// Does the same, and writes the answer where the caller wants it, whatever stood there.
+    /// Does the same, and writes the entry that tells of the step where the caller wants it, whatever stood there.
     #[inline(always)]
-    pub fn step_into(
+    pub fn step_entry(
+        &mut self,
+        purse: Licences<L>,
+        event: Event,
+        wished: Option<u16>,
+        entry: &mut Entry,
+    ) -> Licences<L>
+        ensures purse_in { entry.new.purse_in ≡ purse }
+        ensures event { entry.new.event ≡ event }
+        ensures purse_out { entry.new.purse_out ≡ result }
+        ensures step { IsStep self.old entry.new self.new }
+        ensures sound { IsSound self.new }
+        ensures licences { result + rows_of self.new ≡ purse + rows_of self.old }
+        ensures sends { (messages : List Down)
+            × StepOwing purse self.old event (entry_outcome entry.new self.new) messages
+            × (option_to_list entry.new.answer.sent ++ self.new.owed ≡ self.old.owed ++ three_times messages) }
+        ensures refused { (refusal : Refusal) → entry.new.answer.reply ≡ Refused refusal
+            → entry_outcome entry.new self.new
+            ≡ record { answer = bare_answer (Refused refusal); purse = purse; state = state_refused self.old event } }
+        ensures proper { ForSome entry.new.answer.sent IsProperDown }
+        ensures wished { GrantsWish purse self.old event wished (entry_outcome entry.new self.new) }
+    {
+        entry.purse_in = purse.count();
+        entry.event = event;
+        let rest = self.step_into(purse, event, wished, &mut entry.answer);
+        entry.purse_out = rest.count();
+        rest
+    }
+
+    /// Makes the step, and writes the answer where the caller wants it, whatever stood there.
+    #[inline(always)]
+    fn step_into(
         &mut self,
         purse: Licences<L>,
         event: Event,
