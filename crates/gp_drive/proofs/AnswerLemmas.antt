@@ -1,5 +1,5 @@
 -- Answers to a line, by how what it asks for was played.
-use Rattle.std.proofs.Common.{◌≡◌, ◌≤◌, ◌||◌, ℕ, ◌+◌, ◌-◌, Bool, true, false, List, [], ◌++◌, Option, None, Some, Result, Ok, Err, IsErrAnd, refl, ap, ◌∙◌, arith}
+use Rattle.std.proofs.Common.{◌≡◌, ◌≤◌, ◌||◌, ℕ, ◌+◌, ◌-◌, Bool, true, false, List, [], ◌++◌, Option, None, Some, Result, Ok, Err, IsErrAnd, refl, subst, ap, ◌∙◌, arith}
 use Rattle.gp_flow.specs.declared.fault.LineFault.{LineFault}
 use Rattle.gp_flow.specs.declared.fault.LineFault.TheVariants.{Write}
 use Rattle.gp_flow.specs.Lines.{Answers, Speech}
@@ -8,12 +8,13 @@ use Rattle.gp_flow.proofs.AnswerLemmas.{answers_as}
 use Rattle.gp_lines.specs.declared.turn.Asked.{Asked}
 use Rattle.gp_lines.specs.TurnReading.{turn_of}
 use Rattle.gp_stream.specs.declared.sink.WriteStopped.{WriteStopped}
+use Rattle.gp_ploam.specs.declared.check.Mask.{Mask}
 use Rattle.gp_stream.specs.Sink.{SinkState}
 use Rattle.gp_stream.proofs.SinkLemmas.{takes_nothing, takes_more, takes_prefix_after, takes_prefix_more}
 use Rattle.gp_replay.specs.declared.fault.PlayFault.{PlayFault}
 use Rattle.gp_replay.specs.declared.fault.PlayFault.TheVariants as faults
 use Rattle.gp_replay.specs.Playing.{Playing}
-use Rattle.gp_replay.specs.Writing.{HandsIn, PlaysOn}
+use Rattle.gp_replay.specs.Writing.{HandsIn, Happening, PlaysOn}
 use Rattle.gp_trace.specs.Text.{trace_text}
 use Rattle.gp_drive.specs.declared.fault.TurnFault.{TurnFault}
 use Rattle.gp_drive.specs.Drive.{DriveState, Says, answering, driving, ending, errors_of, line_fault, playing_of, refusing}
@@ -102,6 +103,14 @@ unanswered does line old new next x y said e d h = record {
 abbrev pub tells : {S W A : Type 0} → Playing S → Asked → Option TurnFault → DriveState S → S → SinkState W → SinkState W → A → Type 0
 tells playing turn fault old end x y u =
     PlaysOn old.mask (PlaysTo playing turn fault) (PlaysTurnPart playing turn) old.player end x y (Ok u)
+
+-- the same of a sink that is the same
+pub plays_into : {S W A : Type 0} (mask : Mask) (T P : Happening S) (a b : S) (x y z : SinkState W) (r : Result A PlayFault) → y ≡ z
+    → PlaysOn mask T P a b x y r → PlaysOn mask T P a b x z r
+plays_into mask T P a b x y z r same p = subst (λ s. PlaysOn mask T P a b x s r) same p
+
+pub hands_from : {W T E : Type 0} (x y z : SinkState W) (bytes : List ℕ) (r : Result T E) → x ≡ y → HandsIn x z bytes r → HandsIn y z bytes r
+hands_from x y z bytes r same h = subst (λ s. HandsIn s z bytes r) same h
 
 pub played : {S W A B C : Type 0} (playing : Playing S) (turn : Asked) (fault : Option TurnFault) (old new : DriveState S) (x y z : SinkState W) (u : A) (w : C) (v : B)
     → new.mask ≡ old.mask → new.done ≡ old.done → new.lines ≡ old.lines + 1 → new.errors ≡ old.errors + errors_of fault → new.left + cost_of turn ≡ old.left

@@ -14,7 +14,7 @@ use crate::turn::{cost_of, missing_in, play_turn};
 use gp_flow::{LineFault, LineWork};
 use gp_lines::{Asked, LineFault as Fault, parse_turn};
 use gp_ploam::Mask;
-use gp_replay::{EventPlayer, LineBuffer, PlayFault};
+use gp_replay::{EventPlayer, LineBuffer, PlayFault, TraceOut};
 use gp_stream::Sink;
 use std::alloc::Global;
 use std::io::Write;
@@ -144,7 +144,12 @@ impl<P: EventPlayer> Driver<P> {
         if self.lines == u64::MAX || self.left <= cost {
             return Err(LineFault::Full);
         }
-        match play_turn(&mut self.player, sink, &mut self.buffer, self.mask, asked) {
+        let mut out = TraceOut {
+            sink,
+            buffer: &mut self.buffer,
+            mask: self.mask,
+        };
+        match play_turn(&mut self.player, &mut out, asked) {
             Ok(told) => {
                 self.left -= cost;
                 let done = self.manner.done;

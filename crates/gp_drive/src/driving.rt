@@ -14,7 +14,7 @@ use gp_flow::{LinesFault, run_lines};
 use gp_licence::MAX_LICENCES;
 use gp_ploam::Mask;
 use gp_replay::{
-    EventPlayer, LineBuffer, Opened, each_port_runs, end_play, open_chassis, open_fibre,
+    EventPlayer, LineBuffer, Opened, TraceOut, each_port_runs, end_play, open_chassis, open_fibre,
     play_events,
 };
 use gp_script::Script;
@@ -84,7 +84,12 @@ fn drive_chassis<L: Ledger, T: Read, W: Write>(
         mask,
         events,
     } = open_chassis::<L>(alloc, blank, script)?;
-    if let Err(fault) = play_events(&mut player, sink, &mut buffer, mask, events.as_slice()) {
+    let mut out = TraceOut {
+        sink,
+        buffer: &mut buffer,
+        mask,
+    };
+    if let Err(fault) = play_events(&mut player, &mut out, events.as_slice()) {
         player.close();
         let _ = end_play(sink, Err(fault));
         return Err(DriveFault::from(fault));
@@ -116,7 +121,12 @@ fn drive_fibre<L: Ledger, T: Read, W: Write>(
         mask,
         events,
     } = open_fibre::<L>(alloc, blank, script)?;
-    if let Err(fault) = play_events(&mut player, sink, &mut buffer, mask, events.as_slice()) {
+    let mut out = TraceOut {
+        sink,
+        buffer: &mut buffer,
+        mask,
+    };
+    if let Err(fault) = play_events(&mut player, &mut out, events.as_slice()) {
         player.close();
         let _ = end_play(sink, Err(fault));
         return Err(DriveFault::from(fault));

@@ -2,17 +2,16 @@
 ghost use Rattle.std.specs.Prelude.{◌≡◌, ◌<◌, OnOk, None};
 ghost use Rattle.gp_replay.specs.Playing.{HasRoomFor, Keeps};
 ghost use Rattle.gp_replay.specs.Writing.{PlaysOn};
+ghost use Rattle.gp_replay.specs.Out.{KeepsOut};
 ghost use Rattle.gp_lines.specs.declared.turn.Asked.TheVariants as asks;
 ghost use Rattle.gp_drive.specs.Turns.{PlaysTo, PlaysTurnPart, cost_of, event_of, missing_in, told_by};
 
 use crate::fault::TurnFault;
 use gp_lines::Asked;
 use gp_machine::Event;
-use gp_ploam::Mask;
 use gp_ranging::Grant;
-use gp_replay::{EventPlayer, LineBuffer, PlayFault};
+use gp_replay::{EventPlayer, PlayFault, TraceOut};
 use gp_script::ScriptEvent;
-use gp_stream::Sink;
 use std::io::Write;
 
 /// Gives an event of a port as a script has it.
@@ -69,9 +68,7 @@ pub(crate) fn cost_of(asked: Asked) -> u64
 /// is told.
 fn play_until<P: EventPlayer, W: Write>(
     player: &mut P,
-    sink: &mut Sink<W>,
-    buffer: &mut LineBuffer,
-    mask: Mask,
+    out: &mut TraceOut<'_, W>,
     port: u8,
     grant: Grant,
     most: u32,
@@ -79,12 +76,13 @@ fn play_until<P: EventPlayer, W: Write>(
     requires named { port < P.playing.ports player.old }
     requires room { HasRoomFor P.playing most player.old }
     ensures plays { let asked = asks.Until port grant most in
-        PlaysOn mask (PlaysTo P.playing asked (told_by result)) (PlaysTurnPart P.playing asked)
-        player.old player.new sink.old sink.new result }
+        PlaysOn out.old.mask (PlaysTo P.playing asked (told_by result)) (PlaysTurnPart P.playing asked)
+        player.old player.new out.old.sink.now out.new.sink.now result }
     ensures keeps { OnOk result (Keeps P.playing most player.old player.new) }
+    ensures same { KeepsOut out.old out.new }
 {
     for _ in 0..most {
-        if player.play_frame(sink, buffer, mask, port, grant)? {
+        if player.play_frame(out, port, grant)? {
             return Ok(None);
         }
     }
@@ -95,27 +93,26 @@ fn play_until<P: EventPlayer, W: Write>(
 /// be shown, nothing is played.
 pub(crate) fn play_turn<P: EventPlayer, W: Write>(
     player: &mut P,
-    sink: &mut Sink<W>,
-    buffer: &mut LineBuffer,
-    mask: Mask,
+    out: &mut TraceOut<'_, W>,
     asked: Asked,
 ) -> Result<Option<TurnFault>, PlayFault>
     requires there { missing_in (P.playing.ports player.old) (P.playing.units player.old) asked ≡ None }
     requires room { HasRoomFor P.playing (cost_of asked) player.old }
-    ensures plays { PlaysOn mask (PlaysTo P.playing asked (told_by result)) (PlaysTurnPart P.playing asked)
-        player.old player.new sink.old sink.new result }
+    ensures plays { PlaysOn out.old.mask (PlaysTo P.playing asked (told_by result)) (PlaysTurnPart P.playing asked)
+        player.old player.new out.old.sink.now out.new.sink.now result }
     ensures keeps { OnOk result (Keeps P.playing (cost_of asked) player.old player.new) }
+    ensures same { KeepsOut out.old out.new }
 {
     let event = match asked {
         Asked::Nothing => return Ok(None),
         Asked::ShowUnit { .. } => return Ok(None),
         Asked::Until { port, grant, most } => {
-            return play_until(player, sink, buffer, mask, port, grant, most);
+            return play_until(player, out, port, grant, most);
         }
         Asked::Event { port, event } => event_of(port, event),
         Asked::Frames { port, count } => ScriptEvent::Frames { port, count },
         Asked::Light { unit, lit } => ScriptEvent::Light { unit, lit },
     };
-    player.play_event(sink, buffer, mask, &event)?;
+    player.play_event(out, &event)?;
     Ok(None)
 }

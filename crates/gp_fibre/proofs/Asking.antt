@@ -4,7 +4,7 @@ use Rattle.std.specs.Prelude.{All, ◌&&◌, ◌||◌, not, slice_set, slice_ind
 use Rattle.std.specs.Cmp.{nat_cmp_total, unsigned_tied}
 use Rattle.std.specs.Ordering.{nat_cmp}
 use Rattle.std.specs.FinSet.{FinSet, contains, contains-empty, contains-insert, contains-remove, empty, insert, remove}
-use Rattle.std.proofs.lemmas.Bool.{cases_Bool, eqb-false, eq-eqb}
+use Rattle.std.proofs.lemmas.Bool.{cases_Bool, eqb-false, eq-eqb, ne_eqb}
 use Rattle.std.proofs.lemmas.List.{get_or-set_same, get_or-set_other}
 use Rattle.std.proofs.lemmas.List.Elements.{All-head, All-tail, All-same, All-push}
 use Rattle.gp_ploam.specs.declared.check.Mask.{Mask}
@@ -99,29 +99,37 @@ place_stays places place kind was asked other =
 
 -- ---- the first sets
 
-pub record AreEmpty (sets : Vec (FinSet nat_cmp) Global) (count : ℕ) : Type 0 where
-  pub each : All (λ s. s ≡ empty) sets.items
+-- the sets of no unit, which the place behind the last one ends
+pub record AreEmpty (units : ℕ) (sets : Vec (FinSet nat_cmp) Global) (count : ℕ) : Type 0 where
+  pub each : All (λ s. s ≡ insert empty units) sets.items
   pub len : vec_len sets ≡ count
   pub capacity : 256 ≤ vec_capacity sets
 
-pub empty_more : (old new : Vec (FinSet nat_cmp) Global) (count : ℕ) (s : FinSet nat_cmp) → AreEmpty old count → s ≡ empty → new.items ≡ old.items ++ s ∷ []
-    → vec_len new ≡ vec_len old + 1 → vec_capacity new ≡ vec_capacity old → AreEmpty new (count + 1)
-empty_more old new count s so_far is items len capacity =
+pub empty_more : (units : ℕ) (old new : Vec (FinSet nat_cmp) Global) (count : ℕ) (s : FinSet nat_cmp) → AreEmpty units old count → s ≡ insert empty units
+    → new.items ≡ old.items ++ s ∷ [] → vec_len new ≡ vec_len old + 1 → vec_capacity new ≡ vec_capacity old → AreEmpty units new (count + 1)
+empty_more units old new count s so_far is items len capacity =
+    let Ended : FinSet nat_cmp → Type 0 = λ t. t ≡ insert empty units in
     record {
-      each = All-same (λ t. t ≡ empty) new.items (old.items ++ s ∷ []) items (All-push (λ t. t ≡ empty) old.items s so_far.each is);
+      each = All-same Ended new.items (old.items ++ s ∷ []) items (All-push Ended old.items s so_far.each is);
       len = let l = so_far.len in omega arith;
       capacity = let l = so_far.capacity in omega arith;
     }
 
-none_at : (sets : List (FinSet nat_cmp)) (onu : ℕ) → All (λ s. s ≡ empty) sets → slice_index_or sets onu empty ≡ empty
-none_at [] onu all = refl
-none_at (x ∷ xs) zero all = All-head (λ s. s ≡ empty) x xs all
-none_at (x ∷ xs) (suc onu) all = none_at xs onu (All-tail (λ s. s ≡ empty) x xs all)
+none_before : (units place : ℕ) → place < units → contains {R = nat_cmp} (insert empty units) place ≡ false
+none_before units place low =
+    contains-insert nat_cmp_total empty units place
+    ∙ ap (λ (b : Bool). b || contains {R = nat_cmp} empty place) (unsigned_tied place units ∙ ne_eqb place units (λ e. omega arith))
+    ∙ contains-empty nat_cmp place
 
-pub asks_nobody : (places : AskedPlaces) → places.searched ≡ empty → All (λ s. s ≡ empty) places.by_onu_id → AsksNobody places
-asks_nobody places none all grant.Search place = ap (λ (s : FinSet nat_cmp). contains s place) none ∙ contains-empty nat_cmp place
-asks_nobody places none all (grant.Range onu) place = ap (λ (s : FinSet nat_cmp). contains s place) (none_at places.by_onu_id onu all) ∙ contains-empty nat_cmp place
-asks_nobody places none all (grant.Poll onu) place = ap (λ (s : FinSet nat_cmp). contains s place) (none_at places.by_onu_id onu all) ∙ contains-empty nat_cmp place
+none_at : (units : ℕ) (sets : List (FinSet nat_cmp)) (onu place : ℕ) → All (λ s. s ≡ insert empty units) sets → place < units → contains (slice_index_or sets onu empty) place ≡ false
+none_at units [] onu place all low = contains-empty nat_cmp place
+none_at units (x ∷ xs) zero place all low = ap (λ (s : FinSet nat_cmp). contains s place) (All-head (λ s. s ≡ insert empty units) x xs all) ∙ none_before units place low
+none_at units (x ∷ xs) (suc onu) place all low = none_at units xs onu place (All-tail (λ s. s ≡ insert empty units) x xs all) low
+
+pub asks_nobody : (units : ℕ) (places : AskedPlaces) → places.searched ≡ insert empty units → All (λ s. s ≡ insert empty units) places.by_onu_id → AsksNobody units places
+asks_nobody units places none all grant.Search place low = ap (λ (s : FinSet nat_cmp). contains s place) none ∙ none_before units place low
+asks_nobody units places none all (grant.Range onu) place low = none_at units places.by_onu_id onu place all low
+asks_nobody units places none all (grant.Poll onu) place low = none_at units places.by_onu_id onu place all low
 
 -- ---- a unit
 

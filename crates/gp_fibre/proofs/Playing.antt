@@ -1,10 +1,9 @@
 -- A frame of a run, put together from its parts, and runs of many frames.
-use Rattle.std.proofs.Common.{◌≡◌, ℕ, zero, suc, ◌+◌, ◌-◌, ◌*◌, ◌/◌, ◌<◌, ◌≤◌, Bool, true, false, cond, List, [], ◌∷◌, ◌++◌, length, drop, Option, None, Some, refl, sym, ap, subst, ◌∙◌, arith, append_assoc}
+use Rattle.std.proofs.Common.{◌≡◌, ℕ, zero, suc, ◌+◌, ◌-◌, ◌/◌, ◌<◌, ◌≤◌, List, [], ◌∷◌, ◌++◌, length, drop, Option, None, Some, refl, sym, ap, subst, ◌∙◌, arith, append_assoc}
 use Rattle.std.specs.Prelude.{min, All, not}
 use Rattle.std.proofs.lemmas.List.{append-nil, length-append, length-drop}
 use Rattle.std.proofs.lemmas.List.FromFn.{length-map-range_with_len}
 use Rattle.std.proofs.lemmas.List.Elements.{All-nil, All-cons, All-head, All-tail, All-append, All-weaker, All-filter, All-same}
-use Rattle.gp_ploam.specs.declared.message.Down.{Down}
 use Rattle.gp_ranging.specs.declared.grant.Grant.{Grant}
 use Rattle.gp_machine.specs.declared.entry.Entry.{Entry}
 use Rattle.gp_machine.specs.declared.event.Event.TheVariants as event
@@ -18,16 +17,20 @@ use Rattle.gp_fibre.specs.Flights.{AreKept}
 use Rattle.gp_fibre.specs.Forgetting.{first_to_come}
 use Rattle.gp_fibre.specs.Step.{FibreInput, Whole, PortTakes, world_after_frame}
 use Rattle.gp_fibre.specs.Parts.{Asks, Comes, PortPuts, UnitsTake}
-use Rattle.gp_fibre.specs.Schedule.{WorldState, FrameRuns, FramesRun, PutsFrame, IsRunFault, StopsShort, arrivals, deliveries, flights_of, flights_after, inputs_of_copy, inputs_of_grant, is_due, is_lost}
+use Rattle.gp_fibre.specs.Schedule.{WorldState, FrameRuns, FramesRun, PutsFrame, IsRunFault, StopsShort, arrivals, flights_of, flights_after, inputs_of_copy, inputs_of_grant, is_due}
 use Rattle.gp_fibre.proofs.Parts.{takes_both}
 
 -- ---- what a port asks
 
+few_grants : (grant units : ℕ) (issued : Option Grant) → length (inputs_of_grant grant units issued) ≤ units
+few_grants grant units None = omega arith
+few_grants grant units (Some g) = let many = length-map-range_with_len (λ unit. Whole (steps.Give grant unit)) 0 units in omega arith
+
 pub asked : (lost : List ℕ) (old sent mid new : FibreWorld) (copy grant : ℕ) (entry : Entry) (before after : List Entry) → PortTakes old event.Frame entry sent → copy ≡ length old.copies
     → grant ≡ length old.grants
     → UnitsTake sent (inputs_of_copy lost copy (length sent.units) entry.answer.sent) mid → UnitsTake mid (inputs_of_grant grant (length mid.units) entry.answer.grant) new
-    → after ≡ before ++ entry ∷ [] → Asks lost old before after new
-asked lost old sent mid new copy grant entry before after port is_copy is_grant first second is =
+    → mid.bursts ≡ sent.bursts → after ≡ before ++ entry ∷ [] → Asks lost old before after new
+asked lost old sent mid new copy grant entry before after port is_copy is_grant first second silent is =
     let units : length sent.units ≡ length old.units = ap (λ (us : List FibreUnit). length us) port.units in
     let copied : inputs_of_copy lost copy (length sent.units) entry.answer.sent ≡ inputs_of_copy lost (length old.copies) (length old.units) entry.answer.sent =
     ap (λ (n : ℕ). inputs_of_copy lost n (length sent.units) entry.answer.sent) is_copy ∙ ap (λ (n : ℕ). inputs_of_copy lost (length old.copies) n entry.answer.sent) units in
@@ -39,33 +42,21 @@ asked lost old sent mid new copy grant entry before after port is_copy is_grant 
       port = port;
       reaches = takes_both sent mid new (inputs_of_copy lost (length old.copies) (length old.units) entry.answer.sent) (inputs_of_grant (length old.grants) (length old.units) entry.answer.grant)
           (subst (λ (is : List FibreInput). UnitsTake sent is mid) copied first) (subst (λ (is : List FibreInput). UnitsTake mid is new) granted second);
+      most =
+          let same : length mid.bursts ≡ length old.bursts = ap (λ (bs : List SentBurst). length bs) (silent ∙ port.bursts) in
+          let few = few_grants grant (length mid.units) entry.answer.grant in
+          let many = first.many in
+          let most = second.most in
+          omega arith;
       after_is = is;
     }
 
-few_copies : (lost : List ℕ) (copy units : ℕ) (sent : Option Down) → length (inputs_of_copy lost copy units sent) ≤ units
-few_copies lost copy units None = omega arith
-few_copies lost copy units (Some m) = by_test (is_lost lost copy)
-  where
-    by_test : (b : Bool) → length (cond b [] (deliveries copy units)) ≤ units
-    by_test true = omega arith
-    by_test false = let many = length-map-range_with_len (λ unit. Whole (steps.Deliver copy unit)) 0 units in omega arith
-
-few_grants : (grant units : ℕ) (issued : Option Grant) → length (inputs_of_grant grant units issued) ≤ units
-few_grants grant units None = omega arith
-few_grants grant units (Some g) = let many = length-map-range_with_len (λ unit. Whole (steps.Give grant unit)) 0 units in omega arith
-
 pub asks_bursts : (lost : List ℕ) (old : FibreWorld) (before after : List Entry) (new : FibreWorld) → Asks lost old before after new
-    → (length old.bursts ≤ length new.bursts) × (length new.bursts ≤ length old.bursts + 2 * length old.units)
+    → (length old.bursts ≤ length new.bursts) × (length new.bursts ≤ length old.bursts + length old.units)
 asks_bursts lost old before after new asks =
-    let copied = inputs_of_copy lost (length old.copies) (length old.units) asks.entry.answer.sent in
-    let granted = inputs_of_grant (length old.grants) (length old.units) asks.entry.answer.grant in
     let same : length asks.sent.bursts ≡ length old.bursts = ap (λ (bs : List SentBurst). length bs) asks.port.bursts in
-    let few = few_copies lost (length old.copies) (length old.units) asks.entry.answer.sent in
-    let more = few_grants (length old.grants) (length old.units) asks.entry.answer.grant in
-    let both = length-append copied granted in
     let least = asks.reaches.more in
-    let most = asks.reaches.most in
-    (omega arith, omega arith)
+    (omega arith, asks.most)
 
 -- ---- bursts that will come
 

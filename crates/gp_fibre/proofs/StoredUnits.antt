@@ -6,8 +6,8 @@ use Rattle.std.specs.Option.{ForSome, option_map}
 use Rattle.std.specs.Cmp.{nat_cmp_total, unsigned_tied}
 use Rattle.std.specs.FinMap.{get, insert, remove, get-insert, get-remove}
 use Rattle.std.proofs.lemmas.Bool.{le-leb, lt-leb, cases_Bool, eqb-false, eq-eqb, ne_eqb}
-use Rattle.std.proofs.lemmas.List.{length-set, map-set, map_push, map_more, set-get_or}
-use Rattle.std.proofs.lemmas.List.Elements.{All-set, All-head, All-tail, All-same, All-push, All-weaker}
+use Rattle.std.proofs.lemmas.List.{length-map, length-set, map-set, map_push, map_more, set-get_or}
+use Rattle.std.proofs.lemmas.List.Elements.{All-nil, All-cons, All-set, All-head, All-tail, All-same, All-push, All-weaker}
 use Rattle.std.proofs.lemmas.List.Sums.{sum_by-set}
 use Rattle.std.proofs.lemmas.Option.{slice_get-map, slice_get_read, slice_get_within, get_or_from_slice_get}
 use Rattle.gp_ploam.specs.declared.check.Mask.{Mask}
@@ -37,7 +37,7 @@ use Rattle.gp_fibre.specs.Step.{ChangesAt, burst_with, unit_granted, unit_hearin
 use Rattle.gp_fibre.specs.declared.asked_by.AskedBy.{AskedBy}
 use Rattle.gp_fibre.specs.declared.asked_by.AskedBy.TheVariants.{Nothing}
 use Rattle.gp_fibre.specs.AskedUnits.{AskedPlaces, AsksNobody, asked_by_of, asks, is_in_set, places_asked}
-use Rattle.gp_fibre.specs.UnitStore.{Answers, UnitStoreState, unit_at, units_at, due_of, due_at, asked_by_at, is_asked_at, with_timer, AreIndexed, IsNextAsked, IsStoredUnit, IsUnitStore}
+use Rattle.gp_fibre.specs.UnitStore.{Answers, IsCodeFor, UnitStoreState, unit_at, units_at, due_of, due_at, asked_by_at, is_asked_at, with_timer, AreIndexed, IsNextAsked, IsStoredUnit, IsUnitStore}
 use Rattle.gp_numbers.specs.Least.{IsLeastFrom}
 use Rattle.gp_onu.specs.Noticing.{is_asked}
 use Rattle.gp_fibre.proofs.Asking.{asked_later}
@@ -134,9 +134,10 @@ asks_either false x y asked = refl
 pub indexed_after : (stored_units : List StoredUnit) (places after : AskedPlaces) (place : ℕ) (y : StoredUnit) (kind : AskedBy) → AreIndexed stored_units places → place < length stored_units
     → kind ≡ asked_by_of y.unit.stage → ((asked : Grant) (other : ℕ) → is_in_set after asked other ≡ cond (eqb other place) (asks kind asked) (is_in_set places asked other))
     → AreIndexed (slice_set stored_units place y) after
-indexed_after stored_units places after place y kind indexed low is change asked other =
+indexed_after stored_units places after place y kind indexed low is change asked other within =
+    let many = length-set stored_units place y in
     change asked other
-    ∙ ap (λ (b : Bool). cond (eqb other place) (asks kind asked) b) (indexed asked other)
+    ∙ ap (λ (b : Bool). cond (eqb other place) (asks kind asked) b) (indexed asked other (omega arith))
     ∙ ap (λ (k : AskedBy). cond (eqb other place) (asks k asked) (asks (asked_by_at stored_units other) asked)) is
     ∙ sym (asks_either (eqb other place) (asked_by_of y.unit.stage) (asked_by_at stored_units other) asked)
     ∙ ap (λ (k : AskedBy). asks k asked) (sym (asked_set stored_units place other y low))
@@ -155,7 +156,7 @@ asked_there (x ∷ xs) (suc place) d low = asked_there xs place d (omega arith)
 pub indexed_there : (stored_units : List StoredUnit) (places : AskedPlaces) → AreIndexed stored_units places → (place : ℕ) → place < length stored_units → (x : StoredUnit)
     → x ≡ slice_index_or stored_units place x → (kind : AskedBy) → kind ≡ asked_by_of x.unit.stage → (asked : Grant) → is_in_set places asked place ≡ asks kind asked
 indexed_there stored_units places indexed place low x is kind kind_is asked =
-    indexed asked place
+    indexed asked place low
     ∙ ap (λ (k : AskedBy). asks k asked) (asked_there stored_units place x low ∙ ap (λ (s : StoredUnit). asked_by_of s.unit.stage) (sym is) ∙ sym kind_is)
 
 -- ---- a unit that is brought up to date
@@ -185,6 +186,16 @@ later_unit mask frames x stored =
     omega arith in
     skips x.unit.serial x.unit.mask x.unit.lit x.unit.stage (frames - x.brought) few_left
 
+-- the code of a message under the mask of all units is that which each hears
+pub code_for_each : (mask : Mask) (frames least : ℕ) (stored_units : List StoredUnit) (m : Down) (code : List ℕ) → All (IsStoredUnit mask frames least) stored_units
+    → code ≡ code_of_down m (mask_value mask) → IsCodeFor (units_at frames stored_units) m code
+code_for_each mask frames least [] m code all is = All-nil (λ (u : FibreUnit). code ≡ code_of_down m (mask_value u.state.mask))
+code_for_each mask frames least (x ∷ xs) m code all is =
+    let same : (unit_after_frames (frames - x.brought) x.unit).mask ≡ mask =
+    frames_mask (frames - x.brought) x.unit ∙ (All-head (IsStoredUnit mask frames least) x xs all).mask_is in
+    All-cons (λ (u : FibreUnit). code ≡ code_of_down m (mask_value u.state.mask)) (unit_at frames x) (units_at frames xs)
+    (is ∙ ap (λ (k : Mask). code_of_down m (mask_value k)) (sym same)) (code_for_each mask frames least xs m code (All-tail (IsStoredUnit mask frames least) x xs all) is)
+
 module _ (mask : Mask) (frames : ℕ) (stored_units : List StoredUnit) (timers : Timers) (kept : IsUnitStore mask frames (frames + 1) stored_units timers) (place : ℕ)
     (low : place < length stored_units) (x : StoredUnit) (is : x ≡ slice_index_or stored_units place x) where
   pub stored_at : IsStoredUnit mask frames (frames + 1) x
@@ -206,6 +217,14 @@ module _ (mask : Mask) (frames : ℕ) (stored_units : List StoredUnit) (timers :
   -- its timer, and for how many frames it has been stored
   pub timer_there : (due : Option ℕ) → due ≡ due_of x → get timers.frames place ≡ due
   timer_there due e = kept.set place ∙ due_there stored_units place x low ∙ ap due_of (sym is) ∙ sym e
+
+  -- a code that every unit hears of a message is that of the message under their mask
+  pub code_there : (m : Down) (code : List ℕ) → IsCodeFor (units_at frames stored_units) m code → code ≡ code_of_down m (mask_value mask)
+  code_there m code all =
+      let u = unit_at frames x in
+      let within : place < length (units_at frames stored_units) = rw length-map low in
+      subst (λ (v : FibreUnit). code ≡ code_of_down m (mask_value v.state.mask)) (get_or_from_slice_get (units_at frames stored_units) place u u there) (all place u within)
+      ∙ ap (λ (k : Mask). code_of_down m (mask_value k)) brought_mask
 
   pub brought_fits : x.brought ≤ MAX_FRAMES
   brought_fits = let b = stored_at.brought in let f = kept.fits in omega arith
@@ -285,33 +304,48 @@ asked_now mask frames (x ∷ xs) all asked zero =
     ap (is_asked asked) (later_unit mask frames x (All-head (IsStoredUnit mask frames (frames + 1)) x xs all)) ∙ asked_later x.unit.serial x.unit.mask x.unit.lit x.unit.stage k asked
 asked_now mask frames (x ∷ xs) all asked (suc place) = asked_now mask frames xs (All-tail (IsStoredUnit mask frames (frames + 1)) x xs all) asked place
 
--- the index says which units are asked now
+-- of the places of units the index says which are asked now
 pub asked_indexed : (mask : Mask) (frames : ℕ) (stored_units : List StoredUnit) (timers : Timers) (places : AskedPlaces) → IsUnitStore mask frames (frames + 1) stored_units timers
-    → AreIndexed stored_units places → (asked : Grant) (place : ℕ) → is_asked_at (units_at frames stored_units) asked place ≡ is_in_set places asked place
-asked_indexed mask frames stored_units timers places kept indexed asked place = asked_now mask frames stored_units kept.each asked place ∙ sym (indexed asked place)
+    → AreIndexed stored_units places → (asked : Grant) (place : ℕ) → place < length (units_at frames stored_units) → is_asked_at (units_at frames stored_units) asked place ≡ is_in_set places asked place
+asked_indexed mask frames stored_units timers places kept indexed asked place low =
+    asked_now mask frames stored_units kept.each asked place ∙ sym (indexed asked place (rw length-map at low))
 
 pub asked_within : (units : List FibreUnit) (asked : Grant) (place : ℕ) → is_asked_at units asked place ≡ true → place < length units
 asked_within [] asked place e = let no : false ≡ true = e in absurd (cc)
 asked_within (u ∷ us) asked zero e = omega arith
 asked_within (u ∷ us) asked (suc place) e = let low = asked_within us asked place e in omega arith
 
-pub next_indexed : (units : List FibreUnit) (places : AskedPlaces) (asked : Grant) (first : ℕ) (next : Option ℕ)
-    → ((place : ℕ) → is_asked_at units asked place ≡ is_in_set places asked place)
-    → IsLeastFrom (places_asked places asked) first next → IsNextAsked units asked first next
-next_indexed units places asked first None same least = λ place from.
-    elim (cases_Bool (is_asked_at units asked place)) [
-      | inl asks_it ↦ absurd (least place from (sym (same place) ∙ asks_it))
-      | inr isnt ↦ isnt
-    ]
-next_indexed units places asked first (Some next) same least = (
-  least.0,
-  same next ∙ least.1,
-  λ place from before.
+-- the first place of the index, where it is that of a unit
+module _ (units : List FibreUnit) (places : AskedPlaces) (asked : Grant) (first : ℕ)
+    (same : (place : ℕ) → place < length units → is_asked_at units asked place ≡ is_in_set places asked place) where
+  unless_asked : (place : ℕ) → (is_asked_at units asked place ≡ true → ⊥) → is_asked_at units asked place ≡ false
+  unless_asked place never =
       elim (cases_Bool (is_asked_at units asked place)) [
-        | inl asks_it ↦ let most : next ≤ place = least.2 place from (sym (same place) ∙ asks_it) in absurd (omega arith)
+        | inl asks_it ↦ absurd (never asks_it)
         | inr isnt ↦ isnt
-      ],
-)
+      ]
+
+  in_index : (place : ℕ) → is_asked_at units asked place ≡ true → is_in_set places asked place ≡ true
+  in_index place asks_it = sym (same place (asked_within units asked place asks_it)) ∙ asks_it
+
+  pub next_found : (next : ℕ) → next < length units → IsLeastFrom (places_asked places asked) first (Some next) → IsNextAsked units asked first (Some next)
+  next_found next low least = (
+    least.0,
+    same next low ∙ least.1,
+    λ place from before.
+        unless_asked place (λ asks_it. let most : next ≤ place = least.2 place from (in_index place asks_it) in absurd (omega arith)),
+  )
+
+  pub none_found : IsLeastFrom (places_asked places asked) first None → IsNextAsked units asked first None
+  none_found least = λ place from. unless_asked place (λ asks_it. least place from (in_index place asks_it))
+
+  pub next_behind : (next : ℕ) → length units ≤ next → IsLeastFrom (places_asked places asked) first (Some next) → IsNextAsked units asked first None
+  next_behind next high least = λ place from.
+      unless_asked place
+      (λ asks_it.
+      let most : next ≤ place = least.2 place from (in_index place asks_it) in
+      let low = asked_within units asked place asks_it in
+      absurd (omega arith))
 
 pub next_within : (units : List FibreUnit) (asked : Grant) (first most : ℕ) (next : Option ℕ) → IsNextAsked units asked first next → length units ≤ most → IfSome next (λ place. place < most)
 next_within units asked first most None is few = tt
@@ -379,8 +413,8 @@ none_asked [] place all = refl
 none_asked (x ∷ xs) zero all = All-head (λ stored. asked_by_of stored.unit.stage ≡ Nothing) x xs all
 none_asked (x ∷ xs) (suc place) all = none_asked xs place (All-tail (λ stored. asked_by_of stored.unit.stage ≡ Nothing) x xs all)
 
-pub none_indexed : (stored_units : List StoredUnit) (places : AskedPlaces) → All (λ stored. asked_by_of stored.unit.stage ≡ Nothing) stored_units → AsksNobody places → AreIndexed stored_units places
-none_indexed stored_units places all nobody asked place = nobody asked place ∙ ap (λ (k : AskedBy). asks k asked) (sym (none_asked stored_units place all))
+pub none_indexed : (stored_units : List StoredUnit) (places : AskedPlaces) → All (λ stored. asked_by_of stored.unit.stage ≡ Nothing) stored_units → (units : ℕ) → units ≡ length stored_units → AsksNobody units places → AreIndexed stored_units places
+none_indexed stored_units places all units many nobody asked place low = nobody asked place (omega arith) ∙ ap (λ (k : AskedBy). asks k asked) (sym (none_asked stored_units place all))
 
 pub planned_more : (mask : Mask) (plans : List UnitPlan) (old new : Vec StoredUnit Global) (count : ℕ) (plan : UnitPlan) (stored : StoredUnit) → ArePlanned mask plans old count → count < length plans
     → plan ≡ slice_index_or plans count plan → unit_at 0 stored ≡ planned_unit mask plan → IsStoredUnit mask 0 1 stored → due_of stored ≡ None → asked_by_of stored.unit.stage ≡ Nothing → new.items ≡ old.items ++ stored ∷ []

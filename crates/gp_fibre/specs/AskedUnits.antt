@@ -42,9 +42,9 @@ places_asked places (grant.Poll onu) = slice_index_or places.by_onu_id onu empty
 abbrev pub is_in_set : AskedPlaces → Grant → ℕ → Bool
 is_in_set places asked place = contains (places_asked places asked) place
 
--- no grant asks any place
-abbrev pub AsksNobody : AskedPlaces → Type 0
-AsksNobody places = (asked : Grant) (place : ℕ) → is_in_set places asked place ≡ false
+-- no grant asks any of the first so many places
+abbrev pub AsksNobody : ℕ → AskedPlaces → Type 0
+AsksNobody units places = (asked : Grant) (place : ℕ) → place < units → is_in_set places asked place ≡ false
 
 -- another set in place of the one that these grants ask
 abbrev pub updated : AskedPlaces → AskedBy → (FinSet nat_cmp → FinSet nat_cmp) → AskedPlaces

@@ -7,6 +7,8 @@ use Rattle.std.specs.FinMap.{get, insert, remove}
 use Rattle.gp_ploam.specs.declared.check.Mask.{Mask}
 use Rattle.gp_ploam.specs.declared.message.Down.{Down}
 use Rattle.gp_ploam.specs.declared.message.Down.TheVariants as down
+use Rattle.gp_ploam.specs.Down.{code_of_down}
+use Rattle.gp_ploam.specs.Mask.{mask_value}
 use Rattle.gp_ploam.specs.OnuIds.{broadcast_onu}
 use Rattle.gp_ranging.specs.declared.grant.Grant.{Grant}
 use Rattle.gp_ranging.specs.declared.grant.Grant.TheVariants.{Poll}
@@ -62,6 +64,10 @@ abbrev pub IsNextOf : List FibreUnit → Option ℕ → ℕ → Option ℕ → T
 IsNextOf units (Some onu) first next = IsNextAsked units (Poll onu) first next
 IsNextOf units None first None = length units ≤ first
 IsNextOf units None first (Some next) = (next ≡ first) × (next < length units)
+
+-- these octets are the code of a message, under the mask of each of these units
+abbrev pub IsCodeFor : List FibreUnit → Down → List ℕ → Type 0
+IsCodeFor units message code = All (λ unit. code ≡ code_of_down message (mask_value unit.state.mask)) units
 
 -- ---- the representation
 
@@ -120,7 +126,8 @@ pub record IsUnitStore
   pub few : length stored_units ≤ max_simulated_units
   pub fits : frames ≤ MAX_FRAMES
 
--- each grant asks exactly the places of the units that it asks as they were stored
+-- of the places of units each grant asks exactly those whose units it asks as they were stored
 abbrev pub AreIndexed : List StoredUnit → AskedPlaces → Type 0
 AreIndexed stored_units asked =
-    (grant : Grant) (place : ℕ) → is_in_set asked grant place ≡ asks (asked_by_at stored_units place) grant
+    (grant : Grant) (place : ℕ) → place < length stored_units
+    → is_in_set asked grant place ≡ asks (asked_by_at stored_units place) grant

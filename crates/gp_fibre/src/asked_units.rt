@@ -1,7 +1,8 @@
-ghost use Rattle.std.specs.Prelude.{◌≡◌, ◌<◌, ◌==◌, ℕ, IfOk, if◌then◌else◌};
+ghost use Rattle.std.specs.Prelude.{◌≡◌, ◌<◌, ◌≤◌, ◌==◌, ℕ, IfOk, if◌then◌else◌};
 ghost use Rattle.gp_ranging.specs.declared.grant.Grant.{Grant};
 ghost use Rattle.gp_numbers.specs.Least.{IsLeastFrom};
 ghost use Rattle.gp_onu.specs.declared.limits.TheConstants.{MAX_SIMULATED_UNITS};
+ghost use Rattle.std.specs.FinSet as set;
 ghost use Rattle.gp_fibre.specs.AskedUnits.{AsksNobody, HasSet, asks, is_in_set, places_asked, with_place, without_place};
 
 use super::asked_by::AskedBy;
@@ -10,14 +11,14 @@ use gp_ranging::Grant;
 use std::alloc::{AllocError, Global};
 use std::marker::Model;
 
-/// How many words of 64 places a set has: one place for each unit that there may be.
-const WORDS: usize = 16;
+/// How many words of 64 places a set has: one place for each unit that there may be, and one behind them.
+const WORDS: usize = 17;
 
 /// How many values the octet of an ONU-ID has.
 const ONU_IDS: usize = 256;
 
-/// Which units each grant asks, as sets of their places, so that a grant need not go through all units. After `begin`
-/// it takes no memory.
+/// Which units each grant asks, as sets of their places, so that a grant need not go through all units. The place behind
+/// the last unit stands in each set, so that no look-up goes further. After `begin` it takes no memory.
 #[derive(Drop)]
 pub struct AskedUnits {
     /// The units in O3, which serial number requests ask.
@@ -43,21 +44,23 @@ impl Model for AskedUnits {
 }
 
 impl AskedUnits {
-    /// Begins with no unit that a grant asks.
-    pub(super) fn begin(alloc: Global) -> Result<AskedUnits, AllocError>
-        ensures { IfOk result AsksNobody }
+    /// Begins with so many units, none of which a grant asks.
+    pub(super) fn begin(alloc: Global, units: u16) -> Result<AskedUnits, AllocError>
+        requires { units ≤ MAX_SIMULATED_UNITS }
+        ensures { IfOk result (AsksNobody units) }
     {
         let mut by_onu_id = Vec::with_capacity(alloc, ONU_IDS)?;
         for _ in 0..ONU_IDS {
-            by_onu_id.push_reserved(NumberSet::new());
+            by_onu_id.push_reserved(ended_at(units));
         }
         Ok(AskedUnits {
-            searched: NumberSet::new(),
+            searched: ended_at(units),
             by_onu_id,
         })
     }
 
-    /// Finds the first place from `from` on whose unit a grant asks, by words.
+    /// Finds the first place from `from` on whose unit a grant asks, by words. Where there is none, it is the place
+    /// behind the last unit, or none.
     pub(super) fn next(&self, grant: Grant, from: u16) -> Option<u16>
         ensures { IsLeastFrom (places_asked self.now grant) from result }
     {
@@ -108,4 +111,14 @@ impl AskedUnits {
             AskedBy::OnuId(onu) => self.by_onu_id[usize::from(onu)].insert(place),
         }
     }
+}
+
+/// The set of no unit: the place behind the last one ends it.
+fn ended_at(units: u16) -> NumberSet<0, WORDS>
+    requires { units ≤ MAX_SIMULATED_UNITS }
+    ensures { result ≡ set.insert set.empty units }
+{
+    let mut places = NumberSet::new();
+    places.insert(units);
+    places
 }

@@ -5,7 +5,7 @@ ghost use Rattle.gp_machine.specs.State.{rows_of};
 ghost use Rattle.gp_onu.specs.declared.limits.TheConstants.{MAX_DELAY, MAX_SIMULATED_UNITS};
 ghost use Rattle.gp_onu.specs.Table.{Dark, Light};
 ghost use Rattle.gp_fibre.specs.declared.world.TheConstants.{MAX_FRAMES};
-ghost use Rattle.gp_fibre.specs.UnitStore.{IsNextAsked, IsNextOf, onu_id_meant};
+ghost use Rattle.gp_fibre.specs.UnitStore.{IsCodeFor, IsNextAsked, IsNextOf, onu_id_meant};
 ghost use Rattle.gp_fibre.specs.Forgetting.{FibreForgets, forgotten_before};
 ghost use Rattle.gp_fibre.specs.World.{kept_at, nothing_forgotten, status_at};
 ghost use Rattle.gp_fibre.specs.Step.{PortTakes, UnitAnswers, UnitChanges, purse_for, unit_hearing, unit_taking, world_after_frame};
@@ -14,7 +14,7 @@ use super::sent::Sent;
 use super::sent_burst::SentBurst;
 use super::unit_store::UnitStore;
 use gp_licence::{LicenceBook, Licences};
-use gp_machine::{Answer, Entry, Event, Reply};
+use gp_machine::{Entry, Event};
 use gp_onu::UnitStatus;
 use gp_ploam::Down;
 use gp_port::PortCore;
@@ -127,7 +127,7 @@ impl<L: Ledger> Fibre<L> {
         ensures grants_room { self.old.grants_room ≤ self.new.grants_room + 1 }
         ensures bursts { self.new.bursts_room ≡ self.old.bursts_room }
     {
-        let mut entry = blank_entry();
+        let mut entry = Entry::blank();
         self.take_into(event, &mut entry);
         entry
     }
@@ -146,10 +146,7 @@ impl<L: Ledger> Fibre<L> {
         ensures bursts { self.new.bursts_room ≡ self.old.bursts_room }
     {
         let purse = take_purse(&mut self.book, &event);
-        entry.purse_in = purse.count();
-        entry.event = event;
-        let rest = self.core.step_into(purse, event, None, &mut entry.answer);
-        entry.purse_out = rest.count();
+        let rest = self.core.step_entry(purse, event, None, entry);
         self.book.give(rest);
         self.copies.add(entry.answer.sent);
         self.grants.add(entry.answer.grant);
@@ -232,14 +229,16 @@ impl<L: Ledger> Fibre<L> {
         self.store.next_meant(message, from)
     }
 
-    /// Lets a copy of a message reach a unit.
-    pub fn hear(&mut self, place: usize, message: &Down)
+    /// Lets a copy of a message reach a unit. Its code is made for the first that heeds it, and kept for the others.
+    pub fn hear(&mut self, place: usize, message: &Down, code: &mut Option<[u8; 13]>)
         requires place { place < length self.old.world.units }
         requires proper { IsProperDown message.now }
+        requires code { ForSome code.old (IsCodeFor self.old.world.units message.now) }
         ensures unit { UnitChanges self.old.world place (unit_hearing message.now) self.new.world }
         ensures rest { self.new ≡ record self.old { world = self.new.world } }
+        ensures code { ForSome code.new (IsCodeFor self.new.world.units message.now) }
     {
-        self.store.hear(place, message);
+        self.store.hear(place, message, code);
     }
 
     /// Lets light reach a unit.
@@ -321,16 +320,6 @@ impl<L: Ledger> Fibre<L> {
             bursts: _,
         } = self;
         book.close(core.close())
-    }
-}
-
-/// Makes an entry that is to be written over.
-pub(super) fn blank_entry() -> Entry {
-    Entry {
-        purse_in: 0,
-        event: Event::Frame,
-        answer: Answer::from(Reply::Ticked),
-        purse_out: 0,
     }
 }
 

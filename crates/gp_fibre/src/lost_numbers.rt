@@ -6,11 +6,10 @@ ghost use Rattle.gp_fibre.specs.Schedule as spec;
 ghost use Rattle.gp_fibre.specs.LostNumbers.{IsPlaceOf, IsInOrder};
 ghost use Rattle.gp_fibre.specs.LostNumbers as spec_place;
 
-use super::given_numbers::GivenNumbers;
-use super::lost::Lost;
 use std::collections::BinaryHeap;
 use std::marker::Model;
 use std::mem;
+use std::snapshot::Snapshot;
 
 /// Numbers that are lost, of copies or of bursts. A look-up walks over them, until all look-ups took as long as it takes
 /// to put them in order. Then they are put in order once, where they stand, and a number is looked up by halvings; in a
@@ -20,7 +19,7 @@ use std::mem;
 #[derive(Drop)]
 pub struct LostNumbers {
     /// As they were given, in contracts alone.
-    given: GivenNumbers,
+    given: Snapshot<Vec<u64>>,
     numbers: Vec<u64>,
     /// Whether they were put in ascending order.
     is_ordered: bool,
@@ -37,9 +36,9 @@ impl Model for LostNumbers {
 
     ghost Value = { List ℕ };
 
-    ghost view = { λ l. l.given.numbers };
+    ghost view = { λ l. l.given.value.items };
 
-    ghost invariant = { λ l. AreHeld l.given.numbers l.numbers.items l.is_ordered };
+    ghost invariant = { λ l. AreHeld l.given.value.items l.numbers.items l.is_ordered };
 }
 
 impl From<Vec<u64>> for LostNumbers {
@@ -47,7 +46,7 @@ impl From<Vec<u64>> for LostNumbers {
 
     fn from(given: Vec<u64>) -> LostNumbers {
         LostNumbers {
-            given: GivenNumbers::of(&given),
+            given: Snapshot::of(&given),
             numbers: given,
             is_ordered: false,
             place: 0,
@@ -85,14 +84,6 @@ impl LostNumbers {
         let none = Vec::new(*self.numbers.allocator());
         self.numbers = in_order(mem::replace(&mut self.numbers, none));
         self.is_ordered = true;
-    }
-}
-
-impl Lost for LostNumbers {
-    ghost lost = { λ l. l };
-
-    fn is_lost(&mut self, number: u64) -> bool {
-        LostNumbers::is_lost(self, number)
     }
 }
 

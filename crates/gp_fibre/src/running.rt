@@ -12,10 +12,10 @@ ghost use Rattle.gp_fibre.specs.Step.{UnitAnswers};
 ghost use Rattle.gp_fibre.specs.Schedule.{IsProperEntry};
 ghost use Rattle.gp_fibre.specs.Schedule as spec;
 
-use super::fibre::{Fibre, blank_entry};
+use super::fibre::Fibre;
 use super::flight::Flight;
 use super::flights::Flights;
-use super::lost::Lost;
+use super::lost_numbers::LostNumbers;
 use super::sent_burst::SentBurst;
 use gp_machine::{Entry, Event};
 use gp_onu::FRAME_BIT_TIMES;
@@ -24,7 +24,7 @@ use gp_ranging::Grant;
 use std::sync::ledger::Ledger;
 
 /// Lets a copy reach each unit, one after the other. Those without the ONU-ID that it is meant for are the same after
-/// it, so they are passed over.
+/// it, so they are passed over. Its code is made once, where a unit heeds it.
 fn deliver_all<L: Ledger>(fibre: &mut Fibre<L>, copy: u64, message: &Down)
     requires sent { kept_at fibre.old.world.forgotten.copies fibre.old.world.copies copy ≡ Some message.now }
     requires proper { IsProperDown message.now }
@@ -32,9 +32,10 @@ fn deliver_all<L: Ledger>(fibre: &mut Fibre<L>, copy: u64, message: &Down)
     ensures bursts { fibre.new.world.bursts ≡ fibre.old.world.bursts }
     ensures rest { fibre.new ≡ record fibre.old { world = fibre.new.world } }
 {
+    let mut code = None;
     let mut from = 0;
     while let Some(place) = fibre.next_meant(message, from) {
-        fibre.hear(usize::from(place), message);
+        fibre.hear(usize::from(place), message, &mut code);
         from = place + 1;
     }
 }
@@ -93,20 +94,20 @@ fn give_all<L: Ledger>(
 }
 
 /// Lets the copy that was sent with this number, if one was, and is not lost, reach each unit.
-pub(super) fn pass_on<L: Ledger, N: Lost>(
+pub(super) fn pass_on<L: Ledger>(
     fibre: &mut Fibre<L>,
     copy: u64,
     sent: Option<Down>,
-    lost: &mut N,
+    lost: &mut LostNumbers,
 )
     requires sent { ForSome sent (λ message.
         kept_at fibre.old.world.forgotten.copies fibre.old.world.copies copy ≡ Some message) }
     requires proper { ForSome sent IsProperDown }
     ensures taken { UnitsTake fibre.old.world
-        (spec.inputs_of_copy (N.lost lost.old) copy (length fibre.old.world.units) sent) fibre.new.world }
+        (spec.inputs_of_copy lost.old copy (length fibre.old.world.units) sent) fibre.new.world }
     ensures bursts { fibre.new.world.bursts ≡ fibre.old.world.bursts }
     ensures rest { fibre.new ≡ record fibre.old { world = fibre.new.world } }
-    ensures lost { N.lost lost.new ≡ N.lost lost.old }
+    ensures lost { lost.new ≡ lost.old }
 {
     let Some(message) = sent else {
         return;
@@ -143,22 +144,22 @@ pub(super) fn give_on<L: Ledger>(
 }
 
 /// Gives the port the bursts that come in this frame, but for those that are lost.
-fn arrive_all<L: Ledger, N: Lost>(
+fn arrive_all<L: Ledger>(
     fibre: &mut Fibre<L>,
     flights: &[Flight],
     entries: &mut Vec<Entry>,
-    lost: &mut N,
+    lost: &mut LostNumbers,
     frame: u64,
 )
     requires room { HasEventRoom (length flights.now) fibre.old entries.old }
     requires kept { AreKept fibre.old.world flights.now }
     requires proper { All IsProperEntry entries.old.items }
     ensures puts { PortPuts fibre.old.world
-        (spec.arrivals (N.lost lost.old) frame flights.now) entries.old.items entries.new.items fibre.new.world }
+        (spec.arrivals lost.old frame flights.now) entries.old.items entries.new.items fibre.new.world }
     ensures counts { KeepsCounts fibre.old fibre.new }
     ensures capacity { vec_capacity entries.new ≡ vec_capacity entries.old }
     ensures proper { All IsProperEntry entries.new.items }
-    ensures lost { N.lost lost.new ≡ N.lost lost.old }
+    ensures lost { lost.new ≡ lost.old }
 {
     for place in 0..flights.len() {
         arrive(fibre, flights[place], entries, lost, frame);
@@ -166,11 +167,11 @@ fn arrive_all<L: Ledger, N: Lost>(
 }
 
 /// Gives the port a burst, if it comes in this frame and is not lost.
-fn arrive<L: Ledger, N: Lost>(
+fn arrive<L: Ledger>(
     fibre: &mut Fibre<L>,
     flight: Flight,
     entries: &mut Vec<Entry>,
-    lost: &mut N,
+    lost: &mut LostNumbers,
     frame: u64,
 )
     requires room { HasEventRoom 1 fibre.old entries.old }
@@ -178,11 +179,11 @@ fn arrive<L: Ledger, N: Lost>(
     requires number { flight.number < length fibre.old.world.bursts }
     requires proper { All IsProperEntry entries.old.items }
     ensures puts { PortPuts fibre.old.world
-        (spec.arrivals (N.lost lost.old) frame (flight ∷ [])) entries.old.items entries.new.items fibre.new.world }
+        (spec.arrivals lost.old frame (flight ∷ [])) entries.old.items entries.new.items fibre.new.world }
     ensures counts { KeepsCounts fibre.old fibre.new }
     ensures room { TakesEventRoom 1 fibre.old fibre.new entries.old entries.new }
     ensures proper { All IsProperEntry entries.new.items }
-    ensures lost { N.lost lost.new ≡ N.lost lost.old }
+    ensures lost { lost.new ≡ lost.old }
 {
     if !flight.is_due(frame) || lost.is_lost(flight.number) {
         return;
@@ -192,17 +193,17 @@ fn arrive<L: Ledger, N: Lost>(
     };
     let SentBurst { at, bytes } = burst;
     let place = entries.len();
-    entries.push_reserved(blank_entry());
+    entries.push_reserved(Entry::blank());
     fibre.take_into(Event::Burst { at, bytes }, &mut entries[place]);
 }
 
 /// Gives the port the bursts that come in this frame, but for those that are lost, and takes them away from those
 /// that are to come. Where none comes, it walks over none.
-fn land<L: Ledger, N: Lost>(
+fn land<L: Ledger>(
     fibre: &mut Fibre<L>,
     flights: &mut Flights,
     entries: &mut Vec<Entry>,
-    lost: &mut N,
+    lost: &mut LostNumbers,
     frame: u64,
 )
     requires room { HasEventRoom (length flights.old.flights) fibre.old entries.old }
@@ -210,12 +211,12 @@ fn land<L: Ledger, N: Lost>(
     requires reach { AreInReach frame flights.old.flights }
     requires proper { All IsProperEntry entries.old.items }
     ensures puts { PortPuts fibre.old.world
-        (spec.arrivals (N.lost lost.old) frame flights.old.flights) entries.old.items entries.new.items fibre.new.world }
+        (spec.arrivals lost.old frame flights.old.flights) entries.old.items entries.new.items fibre.new.world }
     ensures left { flights.new.flights ≡ spec.flights_after frame flights.old.flights }
     ensures counts { KeepsCounts fibre.old fibre.new }
     ensures capacity { vec_capacity entries.new ≡ vec_capacity entries.old }
     ensures proper { All IsProperEntry entries.new.items }
-    ensures lost { N.lost lost.new ≡ N.lost lost.old }
+    ensures lost { lost.new ≡ lost.old }
 {
     if !flights.comes_in(frame) {
         return;
@@ -225,11 +226,11 @@ fn land<L: Ledger, N: Lost>(
 }
 
 /// Makes the port's part of a frame, and what follows from what it sends and grants.
-fn ask<L: Ledger, N: Lost>(
+fn ask<L: Ledger>(
     fibre: &mut Fibre<L>,
     flights: &mut Flights,
     entries: &mut Vec<Entry>,
-    lost: &mut N,
+    lost: &mut LostNumbers,
     frame: u64,
 )
     requires room { HasEventRoom 1 fibre.old entries.old }
@@ -237,18 +238,18 @@ fn ask<L: Ledger, N: Lost>(
     requires frame { frame < MAX_FRAMES }
     requires reach { AreInReach frame flights.old.flights }
     requires proper { All IsProperEntry entries.old.items }
-    ensures asks { Asks (N.lost lost.old) fibre.old.world entries.old.items entries.new.items fibre.new.world }
+    ensures asks { Asks lost.old fibre.old.world entries.old.items entries.new.items fibre.new.world }
     ensures comes { Comes frame fibre.old.world flights.old.flights fibre.new.world flights.new.flights }
     ensures reach { AreInReach frame flights.new.flights }
     ensures counts { KeepsCounts fibre.old fibre.new }
     ensures room { TakesEventRoom 1 fibre.old fibre.new entries.old entries.new }
     ensures proper { All IsProperEntry entries.new.items }
-    ensures lost { N.lost lost.new ≡ N.lost lost.old }
+    ensures lost { lost.new ≡ lost.old }
 {
     let copy = fibre.copies();
     let grant = fibre.grants();
     let place = entries.len();
-    entries.push_reserved(blank_entry());
+    entries.push_reserved(Entry::blank());
     let entry = &mut entries[place];
     fibre.take_into(Event::Frame, entry);
     let sent = entry.answer.sent;
@@ -258,12 +259,12 @@ fn ask<L: Ledger, N: Lost>(
 }
 
 /// Plays a frame of a run, for which all room was made.
-pub(super) fn play_frame<L: Ledger, N: Lost>(
+pub(super) fn play_frame<L: Ledger>(
     fibre: &mut Fibre<L>,
     flights: &mut Flights,
     entries: &mut Vec<Entry>,
-    lost_copies: &mut N,
-    lost_bursts: &mut N,
+    lost_copies: &mut LostNumbers,
+    lost_bursts: &mut LostNumbers,
 )
     requires frames { fibre.old.frames < MAX_FRAMES }
     requires kept { AreKept fibre.old.world flights.old.flights }
@@ -271,14 +272,14 @@ pub(super) fn play_frame<L: Ledger, N: Lost>(
     requires room { HasEventRoom (events_of fibre.old flights.old) fibre.old entries.old }
     requires answers { HasAnswerRoom fibre.old flights.old }
     requires proper { All IsProperEntry entries.old.items }
-    ensures puts { spec.PutsFrame (N.lost lost_copies.old) (N.lost lost_bursts.old)
+    ensures puts { spec.PutsFrame lost_copies.old lost_bursts.old
         (world_state fibre.old flights.old) entries.old.items entries.new.items (world_state fibre.new flights.new) }
     ensures kept { AreKept fibre.new.world flights.new.flights }
     ensures reach { AreInReach fibre.new.frames flights.new.flights }
     ensures capacity { vec_capacity entries.new ≡ vec_capacity entries.old }
     ensures proper { All IsProperEntry entries.new.items }
-    ensures lost_copies { N.lost lost_copies.new ≡ N.lost lost_copies.old }
-    ensures lost_bursts { N.lost lost_bursts.new ≡ N.lost lost_bursts.old }
+    ensures lost_copies { lost_copies.new ≡ lost_copies.old }
+    ensures lost_bursts { lost_bursts.new ≡ lost_bursts.old }
 {
     let frame = fibre.frames();
     ask(fibre, flights, entries, lost_copies, frame);

@@ -1,6 +1,7 @@
 ghost use Rattle.std.specs.Prelude.{◌≡◌, ◌+◌, ◌-◌, ◌<◌, ◌≤◌, ◌==◌, ℕ, All, IfOk, None, Some, if◌then◌else◌, length, map, false};
 ghost use Rattle.std.specs.Option.{ForSome, IfSome, IsSome, option_map};
-ghost use Rattle.gp_ploam.specs.Down.{IsProperDown};
+ghost use Rattle.gp_ploam.specs.Down.{IsProperDown, code_of_down};
+ghost use Rattle.gp_ploam.specs.Mask.{mask_value};
 ghost use Rattle.gp_onu.specs.Frames.{frames_left, unit_after_frames};
 ghost use Rattle.gp_onu.specs.declared.limits.TheConstants.{MAX_DELAY, MAX_RANDOM_DELAY, MAX_SIMULATED_UNITS};
 ghost use Rattle.gp_onu.specs.Table.{Dark, Frame, Light};
@@ -8,7 +9,7 @@ ghost use Rattle.std.specs.FinMap.{get};
 ghost use Rattle.gp_fibre.specs.declared.world.TheConstants.{MAX_FRAMES};
 ghost use Rattle.gp_fibre.specs.World.{planned_unit, status_at};
 ghost use Rattle.gp_fibre.specs.Step.{ChangesAt, burst_with, unit_hearing, unit_taking};
-ghost use Rattle.gp_fibre.specs.UnitStore.{Answers, IsNextAsked, IsNextOf, due_of, unit_at, with_timer};
+ghost use Rattle.gp_fibre.specs.UnitStore.{Answers, IsCodeFor, IsNextAsked, IsNextOf, due_of, unit_at, with_timer};
 ghost use Rattle.gp_fibre.specs.UnitStore as spec;
 
 use super::asked_units::AskedUnits;
@@ -64,7 +65,7 @@ impl UnitStore {
             Ok(timers) => timers,
             Err(TimerFault::OutOfMemory) => return Err(AllocError),
         };
-        let asked = AskedUnits::begin(alloc)?;
+        let asked = AskedUnits::begin(alloc, plans.len() as u16)?;
         Ok(UnitStore {
             mask,
             frames: 0,
@@ -101,23 +102,26 @@ impl UnitStore {
         }
     }
 
-    /// Lets a copy of a message reach a unit. One that it surely passes over costs a comparison or two.
-    pub fn hear(&mut self, place: usize, message: &Down)
+    /// Lets a copy of a message reach a unit. One that it surely passes over costs a comparison or two. Its code is
+    /// made for the first unit that heeds it, and kept for the others.
+    pub fn hear(&mut self, place: usize, message: &Down, code: &mut Option<[u8; 13]>)
         requires place { place < length self.old.units }
         requires proper { IsProperDown message.now }
+        requires code { ForSome code.old (IsCodeFor self.old.units message.now) }
         ensures unit { ChangesAt self.old.units place (unit_hearing message.now) self.new.units }
         ensures frames { self.new.frames ≡ self.old.frames }
+        ensures code { ForSome code.new (IsCodeFor self.new.units message.now) }
     {
         if !self.stored_units[place].unit.may_notice(message) {
             return;
         }
-        let code = encode_down(message, self.mask);
+        let octets = code_of(message, self.mask, code);
         down_round_trip();
         let stored = &mut self.stored_units[place];
         let due_before = stored.due();
         let asked_before = stored.asked_by();
         stored.bring(self.frames);
-        stored.unit.hear(&code);
+        stored.unit.hear(&octets);
         let due = stored.due();
         let asked_by = stored.asked_by();
         renew_timer(&mut self.timers, place, due_before, due);
@@ -163,7 +167,14 @@ impl UnitStore {
         ensures next { IsNextAsked self.now.units grant from result }
         ensures few { IfSome result (λ place. place < MAX_SIMULATED_UNITS) }
     {
-        self.asked.next(grant, from)
+        let Some(place) = self.asked.next(grant, from) else {
+            return None;
+        };
+        if usize::from(place) < self.stored_units.len() {
+            Some(place)
+        } else {
+            None
+        }
     }
 
     /// Finds the first place from `from` on whose unit a message may be meant for. Of a message for one ONU-ID that
@@ -173,7 +184,7 @@ impl UnitStore {
         ensures few { IfSome result (λ place. place < MAX_SIMULATED_UNITS) }
     {
         match onu_id_meant(message) {
-            Some(onu) => self.asked.next(Grant::Poll(onu), from),
+            Some(onu) => self.next_asked(Grant::Poll(onu), from),
             None => self.place_from(from),
         }
     }
@@ -230,6 +241,21 @@ impl UnitStore {
             self.asked.change(place, asked_before, asked_by);
         }
     }
+}
+
+/// Gives the code of a message, and makes it where it was not made before.
+fn code_of(message: &Down, mask: Mask, made: &mut Option<[u8; 13]>) -> [u8; 13]
+    requires proper { IsProperDown message.now }
+    requires made { ForSome made.old (λ code. code ≡ code_of_down message.now (mask_value mask)) }
+    ensures value { result ≡ code_of_down message.now (mask_value mask) }
+    ensures made { made.new ≡ Some result }
+{
+    if let Some(code) = *made {
+        return code;
+    }
+    let code = encode_down(message, mask);
+    *made = Some(code);
+    code
 }
 
 /// Gives the ONU-ID that a message is meant for, if it is meant for the units that have one.

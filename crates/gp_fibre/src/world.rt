@@ -10,7 +10,7 @@ use super::fibre::Fibre;
 use super::flights::Flights;
 use super::loss_plan::LossPlan;
 use super::losses::Losses;
-use super::lost::{Listed, Lost};
+use super::lost_numbers::LostNumbers;
 use super::running::play_frame;
 use super::sent_burst::SentBurst;
 use super::unit_plan::UnitPlan;
@@ -171,7 +171,7 @@ impl<L: Ledger> World<L> {
             return Err(WorldFault::NoCopy);
         };
         let place = self.place_of(unit)?;
-        self.fibre.hear(place, &message);
+        self.fibre.hear(place, &message, &mut None);
         Ok(None)
     }
 
@@ -235,7 +235,7 @@ impl<L: Ledger> World<L> {
     /// each unit, in order; its grant each unit, in order; each answer reaches the port after as many whole frames as
     /// its round trip has; and the frame of each unit. The copies and bursts of the loss plan reach nobody. It
     /// answers the entries of the port, in order. After a fault, which is `OutOfMemory` or, after 2^63 frames,
-    /// `Limit`, the whole frames before it stand.
+    /// `Limit`, the whole frames before it stand. It runs `run_into`, with a copy of the loss plan.
     pub fn run(
         &mut self,
         alloc: Global,
@@ -249,19 +249,19 @@ impl<L: Ledger> World<L> {
         ensures proper { IfOk result (λ entries. All IsProperEntry entries.items) }
     {
         let mut entries = Vec::new(alloc);
-        let mut copies = Listed(&loss.copies);
-        let mut bursts = Listed(&loss.bursts);
-        for _ in 0..frames {
-            if let Err(fault) = self.run_frame(&mut entries, &mut copies, &mut bursts) {
-                return Err(fault);
-            }
+        if frames == 0 {
+            return Ok(entries);
+        }
+        let mut losses = Losses::listed(loss)?;
+        if let Err(fault) = self.run_into(frames, &mut losses, &mut entries) {
+            return Err(fault);
         }
         Ok(entries)
     }
 
-    /// Does the same in less time, where much is lost or memory is dear: what is lost is looked up in order, and the
-    /// entries go into a list that the caller lends, in place of what it held; its room never falls. After a fault the
-    /// entries of the whole frames before it stand there.
+    /// Does the same, and copies no losses: those that the caller lends are looked up, and put in order where that
+    /// saves time. The entries go into a list that the caller lends, in place of what it held; its room never falls.
+    /// After a fault the entries of the whole frames before it stand there.
     pub fn run_into(
         &mut self,
         frames: u32,
@@ -289,29 +289,29 @@ impl<L: Ledger> World<L> {
     }
 
     /// Makes a frame of a run. All memory is taken first.
-    fn run_frame<N: Lost>(
+    fn run_frame(
         &mut self,
         entries: &mut Vec<Entry>,
-        lost_copies: &mut N,
-        lost_bursts: &mut N,
+        lost_copies: &mut LostNumbers,
+        lost_bursts: &mut LostNumbers,
     ) -> Result<(), WorldFault>
         requires proper { All IsProperEntry entries.old.items }
         ensures runs { OnOk result
-            (PutsFrame (N.lost lost_copies.old) (N.lost lost_bursts.old) self.old entries.old.items entries.new.items
+            (PutsFrame lost_copies.old lost_bursts.old self.old entries.old.items entries.new.items
             self.new) }
         ensures unchanged { OnErr result (self.new ≡ self.old) }
         ensures fault { IfErr result (λ fault. IsRunFault self.old fault) }
         ensures kept { OnErr result (entries.new.items ≡ entries.old.items) }
         ensures capacity { vec_capacity entries.old ≤ vec_capacity entries.new }
         ensures proper { OnOk result (All IsProperEntry entries.new.items) }
-        ensures lost_copies { N.lost lost_copies.new ≡ N.lost lost_copies.old }
-        ensures lost_bursts { N.lost lost_bursts.new ≡ N.lost lost_bursts.old }
+        ensures lost_copies { lost_copies.new ≡ lost_copies.old }
+        ensures lost_bursts { lost_bursts.new ≡ lost_bursts.old }
     {
         if self.fibre.frames() >= MAX_FRAMES {
             return Err(WorldFault::Limit);
         }
         let units = self.fibre.units();
-        let events = 1 + self.flights.len() + 2 * units;
+        let events = 1 + self.flights.len() + units;
         self.fibre.reserve(events, units)?;
         self.flights.reserve(units)?;
         entries.reserve(events)?;

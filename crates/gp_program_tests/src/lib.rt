@@ -15,7 +15,7 @@
 //! - `log.rt`: lines of a log and of a trace: what each says on the fibre, its first fault, and lines that are written.
 //! - `replay.rt`, `storm.rt`: whole scripts to their trace or their totals, readers and writers that fail, and memory
 //!   that is refused; `storm/plans.rt` storms plans.
-//! - `turns.rt`: turns of a player that are told, beside turns that are taken.
+//! - `turns.rt`: turns that a player tells, beside turns that a chassis serves.
 //! - `drive.rt`: lines that ask for something, and what is said to each.
 //! - `verify.rt`: traces that are told to be runs, and the first line of each that is not; `verify/objects.rt` reads what
 //!   is told as JSON, `verify/words.rt` has it in words.

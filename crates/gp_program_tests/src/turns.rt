@@ -1,17 +1,18 @@
-//! Turns that a player tells, beside turns of which it gives the receipts: numbers, grants and lines are the same,
-//! however few entries the journals keep, and the wished number is handed out.
+//! Turns that a player tells, beside turns of which a chassis gives the receipts: numbers, grants and lines are the
+//! same, however few entries the journals keep, and the wished number is handed out.
 ghost use Rattle.std.specs.Prelude.{◌≡◌, ◌+◌, ◌<◌, ◌≤◌, ℕ, IfOk, length};
 ghost use Rattle.gp_chassis.specs.Limits.{IsWithin};
 ghost use Rattle.gp_replay.specs.Chassis.{HasRoom};
 
 use super::replay::ONE_UNIT;
-use gp_chassis::ChassisConfig;
+use gp_chassis::{ChassisConfig, ChassisCore};
 use gp_licence::MAX_LICENCES;
 use gp_machine::{Command, Event};
 use gp_ploam::{Mask, Serial, Up, encode_up};
 use gp_ranging::Grant;
 use gp_replay::{LineBuffer, Player, Turn};
 use gp_script::read_script;
+use gp_trace::push_line;
 use std::alloc::{AllocError, Global};
 use std::marker::Brand;
 use std::sync::ledger::{Blank, Ledger};
@@ -75,13 +76,13 @@ fn event_of(asked: Asked) -> Event {
 /// How a turn is asked for.
 #[derive(Clone, Copy)]
 enum Way {
-    /// Its receipt is given, and the line built from that.
+    /// A chassis gives its receipt, and the line is built from that.
     Taken,
-    /// Its line is told.
+    /// A player tells its line.
     Told,
 }
 
-/// What a player said of all turns: their lines, and the number and the grant of each.
+/// What was said of all turns: their lines, and the number and the grant of each.
 #[derive(PartialEq, Debug, Drop)]
 struct Said {
     lines: Vec<u8>,
@@ -89,50 +90,80 @@ struct Said {
     grants: Vec<Option<Grant>>,
 }
 
-/// Takes a turn, and gives its number and its grant. The buffer holds its line then.
-fn said_of<L: Ledger>(
+/// What is said before the first turn.
+fn nothing_said(alloc: Global) -> Said {
+    Said {
+        lines: Vec::new(alloc),
+        numbers: Vec::new(alloc),
+        grants: Vec::new(alloc),
+    }
+}
+
+/// Has a chassis serve all turns, and cuts its journal after each, so that it keeps no more than one entry.
+fn all_taken<L: Ledger>(alloc: Global, core: &mut ChassisCore<L>) -> Result<Said, AllocError> {
+    let mut said = nothing_said(alloc);
+    for place in 0..TURNS.len() {
+        let (asked, wished) = TURNS[place];
+        let Ok(receipt) = core.apply_wishing(0, event_of(asked), wished) else {
+            return Err(AllocError);
+        };
+        push_line(&mut said.lines, Mask::Plain, &receipt)?;
+        said.numbers.push(receipt.number)?;
+        said.grants.push(receipt.entry.answer.grant)?;
+        let Ok(_) = core.cut(alloc, 0) else {
+            return Err(AllocError);
+        };
+    }
+    Ok(said)
+}
+
+/// Opens a chassis with its journals, and has it serve all turns.
+fn taken_on<L: Ledger>(
+    alloc: Global,
+    blank: Blank,
+    config: &ChassisConfig,
+) -> Result<Said, AllocError>
+    requires name { blank.name ≡ L.name }
+    requires parts { (blank.parts ≡ L.parts) × (L.parts ≡ MAX_LICENCES) }
+{
+    let Ok(mut core) = ChassisCore::<L>::begin(alloc, blank, config) else {
+        return Err(AllocError);
+    };
+    let said = all_taken(alloc, &mut core);
+    core.close();
+    said
+}
+
+/// Has a player tell a turn, and gives its number and its grant. The buffer holds its line then.
+fn told_of<L: Ledger>(
     player: &mut Player<L>,
     buffer: &mut LineBuffer,
     turn: Turn,
     wished: Option<u16>,
-    way: Way,
 ) -> Result<(u64, Option<Grant>), AllocError>
     requires port { turn.port < length player.old.next }
     requires room { HasRoom 1 player.old }
     ensures ports { length player.new.next ≡ length player.old.next }
     ensures left { IfOk result (λ said. (count : ℕ) → HasRoom (1 + count) player.old → HasRoom count player.new) }
 {
-    match way {
-        Way::Taken => {
-            let receipt = player.take_turn_wishing(turn, wished)?;
-            buffer.build(Mask::Plain, &receipt);
-            Ok((receipt.number, receipt.entry.answer.grant))
-        }
-        Way::Told => {
-            let told = player.tell_turn(turn, wished, Mask::Plain, buffer)?;
-            Ok((told.number, told.grant))
-        }
-    }
+    let told = player.tell_turn(turn, wished, Mask::Plain, buffer)?;
+    Ok((told.number, told.grant))
 }
 
-/// Takes all turns.
-fn all_said<L: Ledger>(alloc: Global, player: &mut Player<L>, way: Way) -> Result<Said, AllocError>
+/// Has a player tell all turns.
+fn all_told<L: Ledger>(alloc: Global, player: &mut Player<L>) -> Result<Said, AllocError>
     requires port { 0 < length player.old.next }
     requires room { HasRoom 18 player.old }
 {
     let mut buffer = LineBuffer::new(alloc)?;
-    let mut said = Said {
-        lines: Vec::new(alloc),
-        numbers: Vec::new(alloc),
-        grants: Vec::new(alloc),
-    };
+    let mut said = nothing_said(alloc);
     for place in 0..TURNS.len() {
         let (asked, wished) = TURNS[place];
         let turn = Turn {
             port: 0,
             event: event_of(asked),
         };
-        let (number, grant) = said_of(player, &mut buffer, turn, wished, way)?;
+        let (number, grant) = told_of(player, &mut buffer, turn, wished)?;
         said.lines.extend_from_slice(buffer.as_bytes())?;
         said.numbers.push(number)?;
         said.grants.push(grant)?;
@@ -140,7 +171,24 @@ fn all_said<L: Ledger>(alloc: Global, player: &mut Player<L>, way: Way) -> Resul
     Ok(said)
 }
 
-/// Opens a chassis, and takes all turns on it.
+/// Opens a player, and has it tell all turns.
+fn told_on<L: Ledger>(
+    alloc: Global,
+    blank: Blank,
+    config: &ChassisConfig,
+) -> Result<Said, AllocError>
+    requires name { blank.name ≡ L.name }
+    requires parts { (blank.parts ≡ L.parts) × (L.parts ≡ MAX_LICENCES) }
+    requires within { IsWithin config.now }
+    requires port { 0 < length config.now.ports.items }
+{
+    let mut player = Player::<L>::begin(alloc, blank, config)?;
+    let said = all_told(alloc, &mut player);
+    player.close();
+    said
+}
+
+/// What is said in one of the ways.
 fn said_on<L: Ledger>(
     alloc: Global,
     blank: Blank,
@@ -152,10 +200,10 @@ fn said_on<L: Ledger>(
     requires within { IsWithin config.now }
     requires port { 0 < length config.now.ports.items }
 {
-    let mut player = Player::<L>::begin(alloc, blank, config)?;
-    let said = all_said(alloc, &mut player, way);
-    player.close();
-    said
+    match way {
+        Way::Taken => taken_on::<L>(alloc, blank, config),
+        Way::Told => told_on::<L>(alloc, blank, config),
+    }
 }
 
 /// What is said with journals of so many entries; None where the script is none.

@@ -12,3 +12,4 @@ pub mod Playing
 pub mod Opening
 pub mod Telling
 pub mod Seats
+pub mod Out

@@ -3,6 +3,7 @@ use Rattle.std.specs.Prelude.{◌≡◌, ℕ, List, [], ◌∷◌, Option}
 use Rattle.std.specs.Option.{ForSome}
 use Rattle.gp_ploam.specs.declared.check.Mask.{Mask}
 use Rattle.gp_ploam.specs.Down.{IsProperDown}
+use Rattle.gp_ranging.specs.declared.grant.Grant.{Grant}
 use Rattle.gp_stream.specs.Sink.{SinkState}
 use Rattle.gp_machine.specs.declared.entry.Receipt.{Receipt}
 use Rattle.gp_chassis.specs.Core.{GrantsTurn}
@@ -26,9 +27,10 @@ pub record TellsTurn
   pub number_is : told.number ≡ receipt.number
   pub grant_is : told.grant ≡ receipt.entry.answer.grant
 
--- the turn is taken and its line written, and what is told is its entry's. Inside: no public contract cites this
+-- the turn is taken and its line written, and this grant is its entry's, if one is made. Inside: no public contract
+-- cites this
 pub record WritesTurn {W : Type 0}
-    (mask : Mask) (turn : Turn) (told : Told) (old new : PlayState) (before after : SinkState W) : Type 0 where
+    (mask : Mask) (turn : Turn) (made : Option Grant) (old new : PlayState) (before after : SinkState W) : Type 0 where
   pub receipt : Receipt
-  pub grant_is : told.grant ≡ receipt.entry.answer.grant
+  pub grant_is : made ≡ receipt.entry.answer.grant
   pub written : Writes mask (Tells (receipt.entry ∷ []) (TakesAllTurns (turn ∷ []))) old new before after

@@ -3,15 +3,14 @@ ghost use Rattle.std.specs.Prelude.{◌≡◌, ◌↔◌, ◌≤◌, ◌*◌, �
 ghost use Rattle.gp_script.specs.View.{NamesOneOf};
 ghost use Rattle.gp_replay.specs.Playing.{HasRoomFor, Keeps, PlaysAll, PlaysSome, count_of};
 ghost use Rattle.gp_replay.specs.Writing.{PlaysOn};
+ghost use Rattle.gp_replay.specs.Out.{KeepsOut};
 
 use super::fault::PlayFault;
-use super::line_buffer::LineBuffer;
+use super::trace_out::TraceOut;
 use gp_machine::Entry;
 use gp_onu::UnitStatus;
-use gp_ploam::Mask;
 use gp_ranging::Grant;
 use gp_script::ScriptEvent;
-use gp_stream::Sink;
 use std::io::Write;
 
 /// What the events of a script are played on, which writes the line of each entry: a chassis, or the fibre of one
@@ -22,6 +21,7 @@ pub trait EventPlayer {
     ghost use Rattle.gp_script.specs.View.{NamesOneOf};
     ghost use Rattle.gp_replay.specs.Playing.{HasRoomFor, Keeps, MakesGrant, Playing, count_of};
     ghost use Rattle.gp_replay.specs.Writing.{PlaysOn, Writes};
+    ghost use Rattle.gp_replay.specs.Out.{KeepsOut};
 
     // What playing an event means, and for how many there is room.
     ghost playing: { Playing Self };
@@ -41,35 +41,35 @@ pub trait EventPlayer {
     /// Plays an event, and writes its lines.
     fn play_event<W: Write>(
         &mut self,
-        sink: &mut Sink<W>,
-        buffer: &mut LineBuffer,
-        mask: Mask,
+        out: &mut TraceOut<'_, W>,
         event: &ScriptEvent,
     ) -> Result<(), PlayFault>
         requires named { NamesOneOf (playing.ports self.old) (playing.units self.old) event.now }
         requires room { HasRoomFor playing (count_of event.now) self.old }
-        ensures plays { PlaysOn mask (playing.whole event.now) (playing.part event.now)
-            self.old self.new sink.old sink.new result }
+        ensures plays { PlaysOn out.old.mask (playing.whole event.now) (playing.part event.now)
+            self.old self.new out.old.sink.now out.new.sink.now result }
         ensures keeps { OnOk result (Keeps playing (count_of event.now) self.old self.new) }
-        ensures memory { result ≡ Err PlayFault.OutOfMemory → playing.refuses };
+        ensures memory { result ≡ Err PlayFault.OutOfMemory → playing.refuses }
+        ensures same { KeepsOut out.old out.new };
 
     /// Plays one frame of a port, writes its lines, and tells whether the port makes this grant in it.
     fn play_frame<W: Write>(
         &mut self,
-        sink: &mut Sink<W>,
-        buffer: &mut LineBuffer,
-        mask: Mask,
+        out: &mut TraceOut<'_, W>,
         port: u8,
         grant: Grant,
     ) -> Result<bool, PlayFault>
         requires named { port < playing.ports self.old }
         requires room { HasRoomFor playing 1 self.old }
         ensures plays { let frame = events.Frames port 1 in
-            PlaysOn mask (playing.whole frame) (playing.part frame) self.old self.new sink.old sink.new result }
+            PlaysOn out.old.mask (playing.whole frame) (playing.part frame)
+            self.old self.new out.old.sink.now out.new.sink.now result }
         ensures made { IfOk result (λ made.
-            Writes mask (MakesGrant grant made (playing.whole (events.Frames port 1))) self.old self.new sink.old sink.new) }
+            Writes out.old.mask (MakesGrant grant made (playing.whole (events.Frames port 1)))
+            self.old self.new out.old.sink.now out.new.sink.now) }
         ensures keeps { OnOk result (Keeps playing 1 self.old self.new) }
-        ensures memory { result ≡ Err PlayFault.OutOfMemory → playing.refuses };
+        ensures memory { result ≡ Err PlayFault.OutOfMemory → playing.refuses }
+        ensures same { KeepsOut out.old out.new };
 }
 
 /// Tells whether an entry makes this grant.
@@ -104,21 +104,20 @@ fn count_is_short(count: u32)
 /// Plays the events of a script, in their order, and writes the line of each entry.
 pub fn play_events<P: EventPlayer, W: Write>(
     player: &mut P,
-    sink: &mut Sink<W>,
-    buffer: &mut LineBuffer,
-    mask: Mask,
+    out: &mut TraceOut<'_, W>,
     events: &[ScriptEvent],
 ) -> Result<(), PlayFault>
     requires named { All (NamesOneOf (P.playing.ports player.old) (P.playing.units player.old)) events.now }
     requires room { HasRoomFor P.playing (length events.now * 2 ^ 32) player.old }
-    ensures plays { PlaysOn mask (PlaysAll P.playing events.now) (PlaysSome P.playing events.now)
-        player.old player.new sink.old sink.new result }
+    ensures plays { PlaysOn out.old.mask (PlaysAll P.playing events.now) (PlaysSome P.playing events.now)
+        player.old player.new out.old.sink.now out.new.sink.now result }
     ensures keeps { OnOk result (Keeps P.playing (length events.now * 2 ^ 32) player.old player.new) }
     ensures memory { result ≡ Err PlayFault.OutOfMemory → P.playing.refuses }
+    ensures same { KeepsOut out.old out.new }
 {
     'events: for event in events {
         event_is_short(event);
-        player.play_event(sink, buffer, mask, event)?;
+        player.play_event(out, event)?;
     }
     Ok(())
 }

@@ -7,17 +7,15 @@ ghost use Rattle.gp_replay.specs.WorldWriting.{losses_of};
 
 use super::event_player::EventPlayer;
 use super::fault::PlayFault;
-use super::line_buffer::LineBuffer;
+use super::trace_out::TraceOut;
 use super::world_player::WorldPlayer;
 use super::world_playing::{play_one_world_frame, play_world_event};
 use gp_fibre::{LossPlan, Losses};
 use gp_licence::MAX_LICENCES;
 use gp_machine::PortConfig;
 use gp_onu::UnitStatus;
-use gp_ploam::Mask;
 use gp_ranging::Grant;
 use gp_script::{ScriptEvent, ScriptUnit};
-use gp_stream::Sink;
 use std::alloc::{AllocError, Global};
 use std::io::Write;
 use std::marker::Model;
@@ -101,36 +99,18 @@ impl<L: Ledger> EventPlayer for FibrePlayer<L> {
 
     fn play_event<W: Write>(
         &mut self,
-        sink: &mut Sink<W>,
-        buffer: &mut LineBuffer,
-        mask: Mask,
+        out: &mut TraceOut<'_, W>,
         event: &ScriptEvent,
     ) -> Result<(), PlayFault> {
-        play_world_event(
-            &mut self.player,
-            sink,
-            buffer,
-            mask,
-            &mut self.losses,
-            event,
-        )
+        play_world_event(&mut self.player, out, &mut self.losses, event)
     }
 
     fn play_frame<W: Write>(
         &mut self,
-        sink: &mut Sink<W>,
-        buffer: &mut LineBuffer,
-        mask: Mask,
+        out: &mut TraceOut<'_, W>,
         _port: u8,
         grant: Grant,
     ) -> Result<bool, PlayFault> {
-        play_one_world_frame(
-            &mut self.player,
-            sink,
-            buffer,
-            mask,
-            &mut self.losses,
-            grant,
-        )
+        play_one_world_frame(&mut self.player, out, &mut self.losses, grant)
     }
 }

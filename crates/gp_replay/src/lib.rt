@@ -9,11 +9,11 @@
 //! - `event_player.rt`: `EventPlayer`, what events are played on, and `play_events`, which plays the events of a script
 //!   on it; `play_end.rt`: the end of a play.
 //! - `player.rt`: `Player`, the ports of a script (`seat.rt`) with the book of their licences: it keeps no journal, and a
-//!   turn takes no memory. `playing.rt`: plays an event on it, which is a turn or more (`turn.rt`), and writes the line
-//!   of each (`told.rt`: what is asked of it behind that).
+//!   turn (`turn.rt`) takes no memory, of which only what is asked behind its line is told (`told.rt`). `playing.rt`:
+//!   plays an event on it, which is a turn or more, and writes the line of each.
 //! - `fibre_player.rt`: `FibrePlayer`, the fibre of one port with its simulated units, by `world_player.rt`;
 //!   `world_playing.rt`: plays an event on it, and writes the lines of what its port does.
-//! - `line_buffer.rt`: the memory in which a line is built.
+//! - `trace_out.rt`: `TraceOut`, where the lines of a trace go. `line_buffer.rt`: the memory in which a line is built.
 //! - `fault.rt`: why a replay ended early. `laws.rt`: what holds of all that is played.
 //!
 //! Where to make which change: what playing means stands in `specs/ScriptPlay.antt`, by `specs/Play.antt` on a
@@ -35,6 +35,7 @@ mod playing;
 mod replaying;
 mod seat;
 mod told;
+mod trace_out;
 mod turn;
 mod world_player;
 mod world_playing;
@@ -49,4 +50,5 @@ pub use play_end::end_play;
 pub use player::Player;
 pub use replaying::{play_script, run_replay};
 pub use told::Told;
+pub use trace_out::TraceOut;
 pub use turn::Turn;

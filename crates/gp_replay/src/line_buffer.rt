@@ -4,7 +4,7 @@ ghost use Rattle.std.specs.Option.{ForSome};
 ghost use Rattle.gp_ploam.specs.Down.{IsProperDown};
 ghost use Rattle.gp_trace.specs.Text.{line_of};
 
-use gp_machine::{Entry, Receipt};
+use gp_machine::Entry;
 use gp_ploam::Mask;
 use gp_trace::MAX_LINE;
 use std::alloc::{AllocError, Global};
@@ -39,14 +39,6 @@ impl LineBuffer {
         let bytes = vec![in alloc; 0; MAX_LINE]?;
         let start = bytes.len();
         Ok(LineBuffer { bytes, start })
-    }
-
-    /// Builds the line of an entry.
-    pub fn build(&mut self, mask: Mask, receipt: &Receipt)
-        requires { ForSome receipt.now.entry.answer.sent IsProperDown }
-        ensures { self.new ≡ line_of mask receipt.now }
-    {
-        self.start = gp_trace::write_line(&mut self.bytes, mask, receipt);
     }
 
     /// Builds the line of an entry that has this number on this port.

@@ -16,7 +16,7 @@ use super::told::Told;
 use super::turn::Turn;
 use gp_chassis::ChassisConfig;
 use gp_licence::{LicenceBook, Licences, MAX_LICENCES};
-use gp_machine::{Answer, Entry, Event, Receipt, Reply};
+use gp_machine::{Entry, Event};
 use gp_ploam::Mask;
 use std::alloc::{AllocError, Global};
 use std::marker::Model;
@@ -68,47 +68,10 @@ impl<L: Ledger> Player<L> {
         Ok(Player { seats, book })
     }
 
-    /// Takes one event to its port. A burst takes one licence where one is free, and gives back what it does not use.
-    /// It takes no memory, and never fails.
-    pub fn take_turn(&mut self, turn: Turn) -> Result<Receipt, AllocError>
-        requires port { turn.port < length self.old.next }
-        requires room { HasRoom 1 self.old }
-        ensures taken { IfOk result (λ receipt. TakesTurns self.old (turn ∷ []) (receipt ∷ []) self.new) }
-        ensures proper { IfOk result (λ receipt. ForSome receipt.entry.answer.sent IsProperDown) }
-        ensures refused { OnErr result (self.new ≡ self.old) }
-        ensures done { OnErr result ⊥ }
-        ensures ports { length self.new.next ≡ length self.old.next }
-    {
-        self.take_turn_wishing(turn, None)
-    }
-
-    /// Does the same, and hands out the wished number where it is free and one is handed out.
-    pub fn take_turn_wishing(
-        &mut self,
-        turn: Turn,
-        wished: Option<u16>,
-    ) -> Result<Receipt, AllocError>
-        requires port { turn.port < length self.old.next }
-        requires room { HasRoom 1 self.old }
-        ensures taken { IfOk result (λ receipt. TakesTurns self.old (turn ∷ []) (receipt ∷ []) self.new) }
-        ensures proper { IfOk result (λ receipt. ForSome receipt.entry.answer.sent IsProperDown) }
-        ensures refused { OnErr result (self.new ≡ self.old) }
-        ensures done { OnErr result ⊥ }
-        ensures ports { length self.new.next ≡ length self.old.next }
-        ensures wished { IfOk result
-            (λ receipt. GrantsTurn self.old.world self.new.world turn.port turn.event wished receipt.entry) }
-    {
-        let mut entry = blank_entry();
-        let number = self.serve(turn, wished, &mut entry);
-        Ok(Receipt {
-            port: turn.port,
-            number,
-            entry,
-        })
-    }
-
-    /// Does the same, builds the line of the entry, and gives of it only what is asked for behind that: the answer is not
-    /// copied. The mask is that of the port's codes.
+    /// Takes one event to its port, builds the line of the entry, and gives of it only what is asked for behind that: the
+    /// answer is not copied. A burst takes one licence where one is free, and gives back what it does not use. The wished
+    /// number is handed out where it is free and one is handed out. The mask is that of the port's codes. It takes no
+    /// memory, and never fails.
     pub fn tell_turn(
         &mut self,
         turn: Turn,
@@ -123,7 +86,7 @@ impl<L: Ledger> Player<L> {
         ensures done { OnErr result ⊥ }
         ensures ports { length self.new.next ≡ length self.old.next }
     {
-        let mut entry = blank_entry();
+        let mut entry = Entry::blank();
         let number = self.serve(turn, wished, &mut entry);
         buffer.build_entry(mask, turn.port, number, &entry);
         Ok(Told {
@@ -166,7 +129,7 @@ impl<L: Ledger> Player<L> {
     /// Has the port serve the event of a turn, as actor 0, and writes the entry where the caller wants it. Its number
     /// is told.
     #[inline(always)]
-    fn serve(&mut self, turn: Turn, wished: Option<u16>, entry: &mut Entry) -> u64
+    pub(crate) fn serve(&mut self, turn: Turn, wished: Option<u16>, entry: &mut Entry) -> u64
         requires port { turn.port < length self.old.next }
         requires room { HasRoom 1 self.old }
         ensures taken { TakesTurns self.old (turn ∷ []) (record
@@ -181,16 +144,6 @@ impl<L: Ledger> Player<L> {
         let rest = seat.take(purse, turn.event, wished, entry);
         self.book.give(rest);
         number
-    }
-}
-
-/// Makes an entry that is to be written over.
-fn blank_entry() -> Entry {
-    Entry {
-        purse_in: 0,
-        event: Event::Frame,
-        answer: Answer::from(Reply::Ticked),
-        purse_out: 0,
     }
 }
 

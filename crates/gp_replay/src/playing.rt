@@ -6,65 +6,65 @@ ghost use Rattle.gp_replay.specs.Play.{TakesAllTurns, TakesSomeTurns, frame_turn
 ghost use Rattle.gp_replay.specs.Playing.{count_of};
 ghost use Rattle.gp_replay.specs.Telling.{WritesTurn};
 ghost use Rattle.gp_replay.specs.Writing.{PlaysOn};
+ghost use Rattle.gp_replay.specs.Out.{KeepsOut};
 
 use super::event_player::{EventPlayer, is_grant};
 use super::fault::PlayFault;
-use super::line_buffer::LineBuffer;
 use super::player::Player;
-use super::told::Told;
+use super::trace_out::TraceOut;
 use super::turn::Turn;
-use gp_machine::Event;
+use gp_machine::{Entry, Event};
 use gp_onu::UnitStatus;
-use gp_ploam::Mask;
 use gp_ranging::Grant;
 use gp_script::ScriptEvent;
-use gp_stream::Sink;
 use std::io::Write;
 use std::sync::ledger::Ledger;
 
-/// Takes one turn, writes its line, and gives what is asked of its entry.
+/// Takes one turn, writes its line, and gives the grant that was made in it.
 fn play_turn<L: Ledger, W: Write>(
     player: &mut Player<L>,
-    sink: &mut Sink<W>,
-    buffer: &mut LineBuffer,
-    mask: Mask,
+    out: &mut TraceOut<'_, W>,
     turn: Turn,
-) -> Result<Told, PlayFault>
+) -> Result<Option<Grant>, PlayFault>
     requires port { turn.port < length player.old.next }
     requires room { HasRoom 1 player.old }
     ensures plays { let turns = turn ∷ [] in
-        PlaysOn mask (TakesAllTurns turns) (TakesSomeTurns turns) player.old player.new sink.old sink.new result }
-    ensures told { IfOk result (λ told. WritesTurn mask turn told player.old player.new sink.old sink.new) }
+        PlaysOn out.old.mask (TakesAllTurns turns) (TakesSomeTurns turns)
+        player.old player.new out.old.sink.now out.new.sink.now result }
+    ensures made { IfOk result (λ made.
+        WritesTurn out.old.mask turn made player.old player.new out.old.sink.now out.new.sink.now) }
     ensures ports { length player.new.next ≡ length player.old.next }
     ensures memory { result ≡ Err PlayFault.OutOfMemory → ⊥ }
+    ensures same { KeepsOut out.old out.new }
 {
-    let told = player.tell_turn(turn, None, mask, buffer)?;
-    sink.put(buffer.as_bytes())?;
-    Ok(told)
+    let mut entry = Entry::blank();
+    let number = player.serve(turn, None, &mut entry);
+    out.entry(turn.port, number, &entry)?;
+    Ok(entry.answer.grant)
 }
 
 /// Plays so many frames of a port.
 fn play_frames<L: Ledger, W: Write>(
     player: &mut Player<L>,
-    sink: &mut Sink<W>,
-    buffer: &mut LineBuffer,
-    mask: Mask,
+    out: &mut TraceOut<'_, W>,
     port: u8,
     count: u32,
 ) -> Result<(), PlayFault>
     requires port { port < length player.old.next }
     requires room { HasRoom count player.old }
     ensures plays { let turns = replicate count (frame_turn port) in
-        PlaysOn mask (TakesAllTurns turns) (TakesSomeTurns turns) player.old player.new sink.old sink.new result }
+        PlaysOn out.old.mask (TakesAllTurns turns) (TakesSomeTurns turns)
+        player.old player.new out.old.sink.now out.new.sink.now result }
     ensures ports { length player.new.next ≡ length player.old.next }
     ensures memory { result ≡ Err PlayFault.OutOfMemory → ⊥ }
+    ensures same { KeepsOut out.old out.new }
 {
     let frame = Turn {
         port,
         event: Event::Frame,
     };
     for _ in 0..count {
-        play_turn(player, sink, buffer, mask, frame)?;
+        play_turn(player, out, frame)?;
     }
     Ok(())
 }
@@ -72,29 +72,29 @@ fn play_frames<L: Ledger, W: Write>(
 /// Plays one event of a script.
 fn play_event<L: Ledger, W: Write>(
     player: &mut Player<L>,
-    sink: &mut Sink<W>,
-    buffer: &mut LineBuffer,
-    mask: Mask,
+    out: &mut TraceOut<'_, W>,
     event: &ScriptEvent,
 ) -> Result<(), PlayFault>
     requires port { NamesPort (length player.old.next) event.now }
     requires room { HasRoom (count_of event.now) player.old }
     ensures plays { let turns = turns_of event.now in
-        PlaysOn mask (TakesAllTurns turns) (TakesSomeTurns turns) player.old player.new sink.old sink.new result }
+        PlaysOn out.old.mask (TakesAllTurns turns) (TakesSomeTurns turns)
+        player.old player.new out.old.sink.now out.new.sink.now result }
     ensures ports { length player.new.next ≡ length player.old.next }
     ensures memory { result ≡ Err PlayFault.OutOfMemory → ⊥ }
+    ensures same { KeepsOut out.old out.new }
 {
     match *event {
         ScriptEvent::Frames { port, count } => {
-            play_frames(player, sink, buffer, mask, port, count)?;
+            play_frames(player, out, port, count)?;
         }
         ScriptEvent::Burst { port, at, bytes } => {
             let event = Event::Burst { at, bytes };
-            play_turn(player, sink, buffer, mask, Turn { port, event })?;
+            play_turn(player, out, Turn { port, event })?;
         }
         ScriptEvent::Command { port, command } => {
             let event = Event::Command(command);
-            play_turn(player, sink, buffer, mask, Turn { port, event })?;
+            play_turn(player, out, Turn { port, event })?;
         }
         ScriptEvent::Light { .. } => unreachable!(),
     }
@@ -120,19 +120,15 @@ impl<L: Ledger> EventPlayer for Player<L> {
 
     fn play_event<W: Write>(
         &mut self,
-        sink: &mut Sink<W>,
-        buffer: &mut LineBuffer,
-        mask: Mask,
+        out: &mut TraceOut<'_, W>,
         event: &ScriptEvent,
     ) -> Result<(), PlayFault> {
-        play_event(self, sink, buffer, mask, event)
+        play_event(self, out, event)
     }
 
     fn play_frame<W: Write>(
         &mut self,
-        sink: &mut Sink<W>,
-        buffer: &mut LineBuffer,
-        mask: Mask,
+        out: &mut TraceOut<'_, W>,
         port: u8,
         grant: Grant,
     ) -> Result<bool, PlayFault> {
@@ -140,7 +136,7 @@ impl<L: Ledger> EventPlayer for Player<L> {
             port,
             event: Event::Frame,
         };
-        let told = play_turn(self, sink, buffer, mask, frame)?;
-        Ok(is_grant(told.grant, grant))
+        let made = play_turn(self, out, frame)?;
+        Ok(is_grant(made, grant))
     }
 }

@@ -11,6 +11,7 @@ use super::fault::{PlayFault, RunFault};
 use super::laws::each_port_runs;
 use super::opening::{Opened, open_chassis, open_fibre};
 use super::play_end::end_play;
+use super::trace_out::TraceOut;
 use gp_licence::MAX_LICENCES;
 use gp_script::Script;
 use gp_stream::{Sink, Source};
@@ -39,9 +40,14 @@ fn play_on_chassis<L: Ledger, W: Write>(
         mask,
         events,
     } = open_chassis::<L>(alloc, blank, script)?;
-    let played = play_events(&mut player, sink, &mut buffer, mask, events.as_slice());
+    let mut out = TraceOut {
+        sink,
+        buffer: &mut buffer,
+        mask,
+    };
+    let played = play_events(&mut player, &mut out, events.as_slice());
     player.close();
-    end_play(sink, played)
+    end_play(out.sink, played)
 }
 
 /// Plays a script with simulated units on a fibre of its own, whose ledger is the blank. Entries are written as they
@@ -65,9 +71,14 @@ fn play_on_fibre<L: Ledger, W: Write>(
         mask,
         events,
     } = open_fibre::<L>(alloc, blank, script)?;
-    let outcome = play_events(&mut player, sink, &mut buffer, mask, events.as_slice());
+    let mut out = TraceOut {
+        sink,
+        buffer: &mut buffer,
+        mask,
+    };
+    let outcome = play_events(&mut player, &mut out, events.as_slice());
     player.close();
-    end_play(sink, outcome)
+    end_play(out.sink, outcome)
 }
 
 /// Plays a script on a ledger of its own, which is the blank: on a chassis, or, where it has simulated units, on the

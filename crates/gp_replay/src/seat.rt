@@ -58,10 +58,7 @@ impl<L: Ledger> Seat<L> {
         requires { self.old.next + 1 < 2 ^ 64 }
         ensures { SeatTakes self.old self.new purse event wished entry.new result }
     {
-        entry.purse_in = purse.count();
-        entry.event = event;
-        let rest = self.core.step_into(purse, event, wished, &mut entry.answer);
-        entry.purse_out = rest.count();
+        let rest = self.core.step_entry(purse, event, wished, entry);
         self.next += 1;
         // What the port was opened with never changes: that it is within its limits is known once it is looked at.
         let _ = self.core.config();

@@ -1,10 +1,12 @@
-use Rattle.std.proofs.Common.{arith, ap, Err, ◌*◌, ◌^◌, ◌≤◌, length}
+use Rattle.std.proofs.Common.{arith, ap, rules, subst, Err, ◌*◌, ◌^◌, ◌≤◌, length}
 use Rattle.gp_script.specs.View.{script_view}
 use Rattle.gp_replay.specs.Chassis.{opened_play}
 use Rattle.gp_replay.specs.Playing.{chassis_playing}
 use Rattle.gp_replay.proofs.PlayingLemmas.{chassis_plays}
 use Rattle.gp_replay.proofs.ScriptPlayLemmas.{chassis_stands}
+use Rattle.gp_replay.specs.Writing.{EndsPlay}
 use Rattle.gp_drive.specs.Drive.{most_turns}
+use Rattle.gp_drive.specs.Outcome.{ServesTurns}
 use Rattle.gp_drive.specs.Outcome.Drives.{OnChassis}
 use Rattle.gp_drive.proofs.DriveLemmas.{chassis_room_for, drives_to, drives_told, events_unplayed, room_behind, room_for_less, told_unplayed}
 use Rattle.gp_drive.proofs.driving.drive_chassis.Goals as goal
@@ -23,7 +25,7 @@ returns-in-Err g c =
     let played = rw (c.in_ok-player.ensures.player, c.in_ok-player.ensures.mask, c.as_slice.ensures.value, c.in_ok-player.ensures.events) at c.in-Err.ensures.plays in
     told_unplayed c.args.manner script _ _ _ c.in-Err.fault _ c.from.ensures
     (events_unplayed c.args.manner script _ _ _ _ _ _ _ _ c.in-Err.fault _ (chassis_stands c.each_port_runs.ensures script c.requires.no_units)
-    (λ is. absurd (c.in-Err.ensures.memory (ap Err is))) (chassis_plays script.mask script.events _ _ _ _ _ played) c.end_play.ensures)
+    (λ is. absurd (c.in-Err.ensures.memory (ap Err is))) (chassis_plays script.mask script.events _ _ _ _ _ played) (subst (λ s. EndsPlay s c.end_play.new.sink (Err c.in-Err.fault) c.end_play.result) (search rules) c.end_play.ensures))
 
 pub drive_lines-player-requires-clause-room : goal.drive_lines-player-requires-clause-room
 drive_lines-player-requires-clause-room g c =
@@ -39,4 +41,6 @@ returns g c =
     let written = rw (c.in_ok-player.ensures.player, c.in_ok-player.ensures.mask, c.as_slice.ensures.value, c.in_ok-player.ensures.events) at c.in_default.ensures.plays.ok in
     let driven = rw (c.in_ok-player.ensures.mask) at c.drive_lines-player.ensures in
     rw c.told.ensures
-    (drives_told c.args.manner script _ _ _ _ _ (OnChassis c.requires.no_units (drives_to c.args.manner chassis_playing _ _ script.mask script.events _ _ _ _ _ _ written driven)))
+    (drives_told c.args.manner script _ _ _ _ _ (OnChassis c.requires.no_units (drives_to c.args.manner chassis_playing _ _ script.mask script.events _ _ _ _ _ _ written
+    (subst (λ s. ServesTurns c.args.manner chassis_playing c.play_events.new.player script.mask c.drive_lines-player.result.1 c.args.turns.now c.drive_lines-player.new.turns s c.drive_lines-player.new.sink)
+    (search rules) driven))))

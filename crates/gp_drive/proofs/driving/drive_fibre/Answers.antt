@@ -1,9 +1,11 @@
-use Rattle.std.proofs.Common.{arith, ◌*◌, ◌^◌, ◌≤◌, length}
+use Rattle.std.proofs.Common.{arith, rules, subst, Err, ◌*◌, ◌^◌, ◌≤◌, length}
 use Rattle.gp_script.specs.View.{script_view}
 use Rattle.gp_replay.specs.Playing.{fibre_playing}
 use Rattle.gp_replay.proofs.PlayingLemmas.{fibre_names, fibre_plays}
 use Rattle.gp_replay.proofs.WorldPlayLemmas.{world_stands}
+use Rattle.gp_replay.specs.Writing.{EndsPlay}
 use Rattle.gp_drive.specs.Drive.{most_turns}
+use Rattle.gp_drive.specs.Outcome.{ServesTurns}
 use Rattle.gp_drive.specs.Outcome.Drives.{OnFibre}
 use Rattle.gp_drive.proofs.DriveLemmas.{drives_to, drives_told, events_unplayed, fibre_room_for, room_behind, room_for_less, told_unplayed}
 use Rattle.gp_drive.proofs.driving.drive_fibre.Goals as goal
@@ -29,7 +31,7 @@ returns-in-Err g c =
     (rw (c.in_ok-player.ensures.mask, c.as_slice.ensures.value, c.in_ok-player.ensures.events) at c.in-Err.ensures.plays) in
     told_unplayed c.args.manner script _ _ _ c.in-Err.fault _ c.from.ensures
     (events_unplayed c.args.manner script _ _ _ _ _ _ _ _ c.in-Err.fault _ (world_stands script opens.config c.in_ok-player.field-0.player.play c.requires.units opens.one_port opens.world opens.next)
-    (λ is. c.requires.units) played c.end_play.ensures)
+    (λ is. c.requires.units) played (subst (λ s. EndsPlay s c.end_play.new.sink (Err c.in-Err.fault) c.end_play.result) (search rules) c.end_play.ensures))
 
 pub drive_lines-player-requires-clause-room : goal.drive_lines-player-requires-clause-room
 drive_lines-player-requires-clause-room g c =
@@ -46,4 +48,6 @@ returns g c =
     let driven = rw (c.in_ok-player.ensures.mask) at c.drive_lines-player.ensures in
     rw c.told.ensures
     (drives_told c.args.manner script _ _ _ _ _
-    (OnFibre c.requires.units c.in_ok-player.field-0.player c.in_ok-player.ensures.player (drives_to c.args.manner fibre_playing _ _ script.mask script.events _ _ _ _ _ _ written driven)))
+    (OnFibre c.requires.units c.in_ok-player.field-0.player c.in_ok-player.ensures.player (drives_to c.args.manner fibre_playing _ _ script.mask script.events _ _ _ _ _ _ written
+    (subst (λ s. ServesTurns c.args.manner fibre_playing c.play_events.new.player script.mask c.drive_lines-player.result.1 c.args.turns.now c.drive_lines-player.new.turns s c.drive_lines-player.new.sink)
+    (search rules) driven))))

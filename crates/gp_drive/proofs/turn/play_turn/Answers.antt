@@ -9,6 +9,6 @@ returns-in-Until-clause-plays g c =
     let playing = g.P.EventPlayer.playing in
     subst
     (λ (turn : Asked).
-    PlaysOn c.args.mask (PlaysTo playing turn (told_by c.play_until.result)) (PlaysTurnPart playing turn) c.args.player.now c.play_until.new.player c.args.sink.now c.play_until.new.sink
-    c.play_until.result)
+    PlaysOn c.args.out.now.mask (PlaysTo playing turn (told_by c.play_until.result)) (PlaysTurnPart playing turn) c.args.player.now c.play_until.new.player c.args.out.now.sink.now
+    c.play_until.new.out.sink.now c.play_until.result)
     (sym c.in-Until.is) c.play_until.ensures.plays

@@ -11,11 +11,11 @@ pub returns-clause-puts : goal.returns-clause-puts
 returns-clause-puts g c =
     let before = c.args.entries.now.items in
     let due : is_due c.args.frame c.args.flight ≡ true = search rules in
-    let kept : is_lost (g.N.Lost.lost c.args.lost.now) c.args.flight.number ≡ false = search rules in
+    let kept : is_lost c.args.lost.now c.args.flight.number ≡ false = search rules in
     let place : c.len-place.result ≡ length before = search (rules, c.len-place.ensures) in
     let after : List Entry = set c.push_reserved.new.self.items c.len-place.result c.take_into.new.entry in
     subst (λ (is : List FibreInput). PortPuts c.args.fibre.now.world is before after c.take_into.new.self.world)
-    (sym (arrives_one (g.N.Lost.lost c.args.lost.now) c.args.frame c.args.flight due kept))
+    (sym (arrives_one c.args.lost.now c.args.frame c.args.flight due kept))
     (puts_one c.args.fibre.now.world c.take_into.new.self.world c.args.flight.number c.in-Some.burst c.take_into.new.entry before after
     (sym c.in-Some.ensures) c.take_into.ensures.taken (written_last before _ _ c.take_into.new.entry c.len-place.result c.push_reserved.ensures.items place))
 

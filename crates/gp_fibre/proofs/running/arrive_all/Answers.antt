@@ -11,7 +11,7 @@ loop-place-preserved g c =
     let low : c.loop-place.place < length c.args.flights.now = omega arith in
     let puts = rw same at now.puts in (
       record {
-        puts = puts_more c.args.fibre.now.world c.loop-place.fibre.world c.arrive.new.fibre.world (g.N.Lost.lost c.args.lost.now) c.args.frame c.loop-place.place c.args.flights.now _
+        puts = puts_more c.args.fibre.now.world c.loop-place.fibre.world c.arrive.new.fibre.world c.args.lost.now c.args.frame c.loop-place.place c.args.flights.now _
             c.args.entries.now.items c.loop-place.entries.items c.arrive.new.entries.items (slice_get-get_or c.args.flights.now c.loop-place.place _ low) so_far.puts puts;
         counts = record { total = now.counts.total ∙ so_far.counts.total; frames = now.counts.frames ∙ so_far.counts.frames };
         room = record {

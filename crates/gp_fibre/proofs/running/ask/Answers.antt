@@ -8,9 +8,9 @@ pub returns-clause-asks : goal.returns-clause-asks
 returns-clause-asks g c =
     let before = c.args.entries.now.items in
     let place : c.len-place.result ≡ length before = search (rules, c.len-place.ensures) in
-    asked (g.N.Lost.lost c.args.lost.now) c.args.fibre.now.world c.take_into.new.self.world c.pass_on.new.fibre.world c.give_on.new.fibre.world c.copies-copy.result c.grants-grant.result
+    asked c.args.lost.now c.args.fibre.now.world c.take_into.new.self.world c.pass_on.new.fibre.world c.give_on.new.fibre.world c.copies-copy.result c.grants-grant.result
     c.take_into.new.entry before _ c.take_into.ensures.taken c.copies-copy.ensures.value c.grants-grant.ensures.value
-    c.pass_on.ensures.taken c.give_on.ensures.taken (written_last before _ _ c.take_into.new.entry c.len-place.result c.push_reserved.ensures.items place)
+    c.pass_on.ensures.taken c.give_on.ensures.taken c.pass_on.ensures.bursts (written_last before _ _ c.take_into.new.entry c.len-place.result c.push_reserved.ensures.items place)
 
 pub returns-clause-comes : goal.returns-clause-comes
 returns-clause-comes g c =

@@ -11,7 +11,7 @@ returns-then-not-comes_in-clause-puts g c =
     let world = c.args.fibre.now.world in
     let entries = c.args.entries.now.items in
     subst (λ (is : List FibreInput). PortPuts world is entries entries world)
-    (none_arrives (g.N.Lost.lost c.args.lost.now) c.args.frame c.args.flights.now.flights (c.comes_in.ensures unset)) (puts_nothing world entries)
+    (none_arrives c.args.lost.now c.args.frame c.args.flights.now.flights (c.comes_in.ensures unset)) (puts_nothing world entries)
 
 pub returns-then-not-comes_in-clause-left : goal.returns-then-not-comes_in-clause-left
 returns-then-not-comes_in-clause-left g c =

@@ -9,7 +9,7 @@ use Rattle.gp_fibre.proofs.running.play_frame.Goals as goal
 
 pub land-requires-clause-room : goal.land-requires-clause-room
 land-requires-clause-room g c =
-    let bounds = asks_bursts (g.N.Lost.lost c.args.lost_copies.now) c.args.fibre.now.world c.args.entries.now.items c.ask.new.entries.items c.ask.new.fibre.world c.ask.ensures.asks in
+    let bounds = asks_bursts c.args.lost_copies.now c.args.fibre.now.world c.args.entries.now.items c.ask.new.entries.items c.ask.new.fibre.world c.ask.ensures.asks in
     let most = bounds.1 in
     let many = answered_length c.frames-frame.result (length c.args.fibre.now.world.bursts) c.args.flights.now.flights c.ask.new.flights.flights c.ask.new.fibre.world.bursts c.ask.ensures.comes in
     let room = c.requires.room in
@@ -24,7 +24,7 @@ pub land-requires-clause-kept : goal.land-requires-clause-kept
 land-requires-clause-kept g c =
     let old = c.args.fibre.now.world in
     let asks = c.ask.ensures.asks in
-    let bounds = asks_bursts (g.N.Lost.lost c.args.lost_copies.now) old c.args.entries.now.items c.ask.new.entries.items c.ask.new.fibre.world asks in
+    let bounds = asks_bursts c.args.lost_copies.now old c.args.entries.now.items c.ask.new.entries.items c.ask.new.fibre.world asks in
     answered_kept c.frames-frame.result old c.ask.new.fibre.world c.args.flights.now.flights c.ask.new.flights.flights c.requires.kept (asks.reaches.forgotten ∙ asks.port.forgotten) bounds.0
     c.ask.ensures.comes
 
@@ -35,8 +35,8 @@ pub returns-clause-puts : goal.returns-clause-puts
 returns-clause-puts g c =
     let old = world_state c.args.fibre.now c.args.flights.now in
     let new = world_state c.end_frame.new.self c.land.new.flights in
-    let lc = g.N.Lost.lost c.args.lost_copies.now in
-    let lb = g.N.Lost.lost c.args.lost_bursts.now in
+    let lc = c.args.lost_copies.now in
+    let lb = c.args.lost_bursts.now in
     let mid = c.ask.new.entries.items in
     let flights = c.ask.new.flights.flights in
     let frame = c.frames-frame.ensures.value in
@@ -56,7 +56,7 @@ returns-clause-kept g c =
     let old = c.args.fibre.now.world in
     let asked = c.ask.new.fibre.world in
     let asks = c.ask.ensures.asks in
-    let bounds = asks_bursts (g.N.Lost.lost c.args.lost_copies.now) old c.args.entries.now.items c.ask.new.entries.items asked asks in
+    let bounds = asks_bursts c.args.lost_copies.now old c.args.entries.now.items c.ask.new.entries.items asked asks in
     let kept = answered_kept c.frames-frame.result old asked c.args.flights.now.flights c.ask.new.flights.flights c.requires.kept (asks.reaches.forgotten ∙ asks.port.forgotten) bounds.0 c.ask.ensures.comes in
     let ended = c.end_frame.ensures in
     left_kept c.frames-frame.result asked c.end_frame.new.self.world c.ask.new.flights.flights c.land.new.flights.flights kept

@@ -1,10 +1,12 @@
 use Rattle.std.proofs.Common.{◌*◌, ◌^◌, take}
+use Rattle.gp_replay.specs.Out.{KeepsOut}
 use Rattle.gp_replay.specs.Playing.{Keeps, PlaysAll}
 use Rattle.gp_replay.proofs.PlayLemmas.{Stands}
 use Rattle.gp_replay.proofs.event_player.play_events.Given as goal
 
 abbrev pub invariant-events : goal.invariant-events
 invariant-events g l = record {
-  played : Stands l.mask (PlaysAll g.P.EventPlayer.playing (take l.event-index l.events)) l.initial.player l.player l.initial.sink l.sink;
+  played : Stands l.initial.out.mask (PlaysAll g.P.EventPlayer.playing (take l.event-index l.events)) l.initial.player l.player l.initial.out.sink.now l.out.sink.now;
   keeps : Keeps g.P.EventPlayer.playing (l.event-index * 2 ^ 32) l.initial.player l.player;
+  same : KeepsOut l.initial.out l.out;
 }

@@ -8,7 +8,7 @@ use Rattle.gp_replay.proofs.RoomLemmas.{room_left}
 use Rattle.gp_replay.proofs.playing.play_frames.Goals as goal
 
 pub loop-init : goal.loop-init
-loop-init g c = record { played = stands_at_first _ _ _ _ (no_turns c.args.player.now); ports = refl }
+loop-init g c = record { played = stands_at_first _ _ _ _ (no_turns c.args.player.now); ports = refl; same = (refl, refl, refl) }
 
 pub play_turn-requires-clause-room : goal.play_turn-requires-clause-room
 play_turn-requires-clause-room g c =
@@ -17,11 +17,12 @@ play_turn-requires-clause-room g c =
 
 pub returns-in_err-play_turn-clause-plays : goal.returns-in_err-play_turn-clause-plays
 returns-in_err-play_turn-clause-plays g c =
-    stops_on c.args.mask _ _ _ _ _ (some_turns_join _ _ _ _ (frames_rest c.loop.counter c.args.count (frame_turn c.args.port) c.loop-test.true)) _ _ _ _ _ _ _ _
-    c.loop.invariant.played c.in_err-play_turn.ensures.plays c.from_residual.ensures.1
+    stops_on c.args.out.now.mask _ _ _ _ _ (some_turns_join _ _ _ _ (frames_rest c.loop.counter c.args.count (frame_turn c.args.port) c.loop-test.true)) _ _ _ _ _ _ _ _
+    c.loop.invariant.played (rw c.loop.invariant.same.0 at c.in_err-play_turn.ensures.plays) c.from_residual.ensures.1
 
 pub loop-preserved : goal.loop-preserved
 loop-preserved g c = record {
-  played = stands_on c.args.mask _ _ _ _ (turns_join _ _ _ (frames_more c.loop.counter (frame_turn c.args.port))) _ _ _ _ _ _ _ c.loop.invariant.played c.in_ok-play_turn.ensures.plays;
+  played = stands_on c.args.out.now.mask _ _ _ _ (turns_join _ _ _ (frames_more c.loop.counter (frame_turn c.args.port))) _ _ _ _ _ _ _ c.loop.invariant.played (rw c.loop.invariant.same.0 at c.in_ok-play_turn.ensures.plays);
   ports = search rules;
+  same = search rules;
 }

@@ -1,5 +1,6 @@
-use Rattle.std.proofs.Common.{arith, ◌*◌, ◌^◌, ◌<◌, ◌≤◌, length}
+use Rattle.std.proofs.Common.{arith, rules, subst, ◌*◌, ◌^◌, ◌<◌, ◌≤◌, length}
 use Rattle.gp_script.specs.View.{script_view}
+use Rattle.gp_replay.specs.Writing.{PlaysScript}
 use Rattle.gp_replay.proofs.PlayingLemmas.{chassis_plays}
 use Rattle.gp_replay.proofs.RoomLemmas.{opening_room}
 use Rattle.gp_replay.proofs.ScriptPlayLemmas.{chassis_stands, play_ends, play_refused}
@@ -20,5 +21,6 @@ pub returns : goal.returns
 returns g c =
     let script = script_view c.args.script in
     let played = rw (c.in_ok-player.ensures.player, c.in_ok-player.ensures.mask, c.as_slice.ensures.value, c.in_ok-player.ensures.events) at c.play_events-played.ensures.plays in
-    play_ends script _ _ _ c.play_events-played.new.player c.args.sink.now c.play_events-played.new.sink _ c.play_events-played.result _
-    (chassis_stands c.each_port_runs.ensures script c.requires.no_units) (λ is. absurd (c.play_events-played.ensures.memory is)) (chassis_plays script.mask script.events _ _ _ _ _ played) c.end_play.ensures
+    let done = play_ends script _ _ _ c.play_events-played.new.player c.args.sink.now c.play_events-played.new.out.sink.now _ c.play_events-played.result _
+    (chassis_stands c.each_port_runs.ensures script c.requires.no_units) (λ is. absurd (c.play_events-played.ensures.memory is)) (chassis_plays script.mask script.events _ _ _ _ _ played) c.end_play.ensures in
+    subst (λ s. PlaysScript script c.args.sink.now s c.end_play.result) (search rules) done

@@ -1,5 +1,6 @@
-use Rattle.std.proofs.Common.{◌≤◌, ◌+◌, ◌*◌, ◌^◌, arith, length}
+use Rattle.std.proofs.Common.{◌≤◌, ◌+◌, ◌*◌, ◌^◌, arith, length, rules, subst}
 use Rattle.gp_script.specs.View.{script_view}
+use Rattle.gp_replay.specs.Writing.{PlaysScript}
 use Rattle.gp_replay.proofs.PlayingLemmas.{fibre_names, fibre_plays, opened_fibre_room}
 use Rattle.gp_replay.proofs.ScriptPlayLemmas.{play_ends, play_refused}
 use Rattle.gp_replay.proofs.WorldPlayLemmas.{world_stands}
@@ -27,5 +28,6 @@ returns g c =
     let opens = c.in_ok-player.ensures.player in
     let played = fibre_plays script.mask script.losses script.events c.in_ok-player.field-0.player c.play_events-outcome.new.player _ _ c.play_events-outcome.result opens.losses
     (rw (c.in_ok-player.ensures.mask, c.as_slice.ensures.value, c.in_ok-player.ensures.events) at c.play_events-outcome.ensures.plays) in
-    play_ends script _ _ c.in_ok-player.field-0.player.play c.play_events-outcome.new.player.play c.args.sink.now c.play_events-outcome.new.sink _ c.play_events-outcome.result _
-    (world_stands script opens.config c.in_ok-player.field-0.player.play c.requires.units opens.one_port opens.world opens.next) (λ is. c.requires.units) played c.end_play.ensures
+    let done = play_ends script _ _ c.in_ok-player.field-0.player.play c.play_events-outcome.new.player.play c.args.sink.now c.play_events-outcome.new.out.sink.now _ c.play_events-outcome.result _
+    (world_stands script opens.config c.in_ok-player.field-0.player.play c.requires.units opens.one_port opens.world opens.next) (λ is. c.requires.units) played c.end_play.ensures in
+    subst (λ s. PlaysScript script c.args.sink.now s c.end_play.result) (search rules) done

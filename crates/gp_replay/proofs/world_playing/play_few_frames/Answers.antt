@@ -18,7 +18,7 @@ write_entries-requires-clause-room g c =
 pub returns-in_err-run_frames-clause-plays : goal.returns-in_err-run_frames-clause-plays
 returns-in_err-run_frames-clause-plays g c =
     let losses = lost_by c.args.losses.now in
-    stops_at_first c.args.mask (Numbered (FramesRun losses.copies losses.bursts c.args.frames)) (Numbered (TakesSomeFrames losses c.args.frames)) c.args.player.now _ c.args.sink.now _
+    stops_at_first c.args.out.now.mask (Numbered (FramesRun losses.copies losses.bursts c.args.frames)) (Numbered (TakesSomeFrames losses c.args.frames)) c.args.player.now _ c.args.out.now.sink.now _
     (numbered_none (TakesSomeFrames losses c.args.frames) c.args.player.now (λ w. (0, omega arith, (refl, refl)))) c.from_residual.ensures.1
 
 pub returns-in_err-write_entries-clause-plays : goal.returns-in_err-write_entries-clause-plays
@@ -26,7 +26,7 @@ returns-in_err-write_entries-clause-plays g c =
     let losses = lost_by c.args.losses.now in
     let mid = c.run_frames.new.self in
     let entries = c.run_frames.new.entries.items in
-    stops_in_lines c.args.mask (Numbered (FramesRun losses.copies losses.bursts c.args.frames)) (Numbered (TakesSomeFrames losses c.args.frames)) c.args.player.now
+    stops_in_lines c.args.out.now.mask (Numbered (FramesRun losses.copies losses.bursts c.args.frames)) (Numbered (TakesSomeFrames losses c.args.frames)) c.args.player.now
     (record { world = mid.world; next = mid.next + length entries }) _ (receipts_from mid.next entries) _ _ _ _
     (some_frames_happen losses c.args.frames entries c.args.player.now mid c.in_ok-run_frames.ensures.ran c.in_ok-run_frames.ensures.next)
     (rw c.as_slice.ensures.value at c.in_err-write_entries.ensures.hands) c.from_residual-in_err-write_entries.ensures.1
@@ -36,7 +36,7 @@ returns-clause-plays g c =
     let losses = lost_by c.args.losses.now in
     let mid = c.run_frames.new.self in
     let entries = c.run_frames.new.entries.items in
-    plays_lines c.args.mask (Numbered (FramesRun losses.copies losses.bursts c.args.frames)) (Numbered (TakesSomeFrames losses c.args.frames)) c.args.player.now
+    plays_lines c.args.out.now.mask (Numbered (FramesRun losses.copies losses.bursts c.args.frames)) (Numbered (TakesSomeFrames losses c.args.frames)) c.args.player.now
     c.forget.new.self (receipts_from mid.next entries) _ _ _ _
     (frames_happen losses c.args.frames entries c.args.player.now mid c.forget.new.self c.in_ok-run_frames.ensures.ran c.in_ok-run_frames.ensures.next
     (subst (λ (w : WorldState). WorldForgets w c.forget.new.self.world) c.in_ok-write_entries.ensures.world c.forget.ensures.world)
@@ -48,7 +48,7 @@ returns-clause-told g c =
     let losses = lost_by c.args.losses.now in
     let mid = c.run_frames.new.self in
     let entries = c.run_frames.new.entries.items in
-    frames_told c.args.mask entries (FramesRun losses.copies losses.bursts c.args.frames) c.args.player.now c.forget.new.self mid.next _ _ _
+    frames_told c.args.out.now.mask entries (FramesRun losses.copies losses.bursts c.args.frames) c.args.player.now c.forget.new.self mid.next _ _ _
     (frames_happen losses c.args.frames entries c.args.player.now mid c.forget.new.self c.in_ok-run_frames.ensures.ran c.in_ok-run_frames.ensures.next
     (subst (λ (w : WorldState). WorldForgets w c.forget.new.self.world) c.in_ok-write_entries.ensures.world c.forget.ensures.world)
     (c.forget.ensures.next ∙ rw c.as_slice.ensures.value at c.in_ok-write_entries.ensures.next))

@@ -12,20 +12,20 @@ pub returns-in-Frames-clause-plays : goal.returns-in-Frames-clause-plays
 returns-in-Frames-clause-plays g c =
     let losses = lost_by c.args.losses.now in
     subst
-    (λ (e : ScriptEvent). PlaysOn c.args.mask (Numbered (WorldTakes losses e)) (Numbered (WorldTakesPart losses e)) c.args.player.now c.play_frames.new.player c.args.sink.now
-    c.play_frames.new.sink c.play_frames.result)
+    (λ (e : ScriptEvent). PlaysOn c.args.out.now.mask (Numbered (WorldTakes losses e)) (Numbered (WorldTakesPart losses e)) c.args.player.now c.play_frames.new.player c.args.out.now.sink.now
+    c.play_frames.new.out.sink.now c.play_frames.result)
     (sym c.in-Frames.is) c.play_frames.ensures.plays
 
 pub returns-clause-plays : goal.returns-clause-plays
 returns-clause-plays g c = elim c.match-event.branch [
-  | in-Burst w ↦ step_plays c.args.mask (lost_by c.args.losses.now) c.args.event.now c.match-event.step _ _ c.args.player.now c.play_step.new.player _ _ c.play_step.result w.in-Burst.is w.step-is (λ h. h) c.play_step.ensures
-  | in-Command w ↦ step_plays c.args.mask (lost_by c.args.losses.now) c.args.event.now c.match-event.step _ _ c.args.player.now c.play_step.new.player _ _ c.play_step.result w.in-Command.is w.step-is (λ h. h) c.play_step.ensures
+  | in-Burst w ↦ step_plays c.args.out.now.mask (lost_by c.args.losses.now) c.args.event.now c.match-event.step _ _ c.args.player.now c.play_step.new.player _ _ c.play_step.result w.in-Burst.is w.step-is (λ h. h) c.play_step.ensures.plays
+  | in-Command w ↦ step_plays c.args.out.now.mask (lost_by c.args.losses.now) c.args.event.now c.match-event.step _ _ c.args.player.now c.play_step.new.player _ _ c.play_step.result w.in-Command.is w.step-is (λ h. h) c.play_step.ensures.plays
   | in-Light-default-true w ↦
       let on : w.in-Light-default-true.lit ≡ true = search rules in
       let is : c.args.event.now ≡ events.Light w.in-Light-default-true.unit true = w.in-Light-default-true.is ∙ ap (λ (lit : Bool). events.Light w.in-Light-default-true.unit lit) on in
-      step_plays c.args.mask (lost_by c.args.losses.now) c.args.event.now c.match-event.step _ _ c.args.player.now c.play_step.new.player _ _ c.play_step.result is w.step-is (λ h. h) c.play_step.ensures
+      step_plays c.args.out.now.mask (lost_by c.args.losses.now) c.args.event.now c.match-event.step _ _ c.args.player.now c.play_step.new.player _ _ c.play_step.result is w.step-is (λ h. h) c.play_step.ensures.plays
   | in-Light-default-false w ↦
       let off : w.in-Light-default-false.lit ≡ false = search rules in
       let is : c.args.event.now ≡ events.Light w.in-Light-default-false.unit false = w.in-Light-default-false.is ∙ ap (λ (lit : Bool). events.Light w.in-Light-default-false.unit lit) off in
-      step_plays c.args.mask (lost_by c.args.losses.now) c.args.event.now c.match-event.step _ _ c.args.player.now c.play_step.new.player _ _ c.play_step.result is w.step-is (λ h. h) c.play_step.ensures
+      step_plays c.args.out.now.mask (lost_by c.args.losses.now) c.args.event.now c.match-event.step _ _ c.args.player.now c.play_step.new.player _ _ c.play_step.result is w.step-is (λ h. h) c.play_step.ensures.plays
 ]

@@ -12,8 +12,8 @@ invariant_of-self g c =
     let was = c.self.invariant in
     let copies = was.2 in
     let grants = was.3 in (
-      holds_more IsProperDown i.copies.items.items c.add.new.self.items.items _ c.add.ensures.items was.0 c.step_into-rest.ensures.proper,
-      omega (arith, c.give.ensures.free, c.give.ensures.total, c.take_purse-purse.ensures.free, c.take_purse-purse.ensures.total, c.step_into-rest.ensures.licences, was.1),
+      holds_more IsProperDown i.copies.items.items c.add.new.self.items.items _ c.add.ensures.items was.0 c.step_entry-rest.ensures.proper,
+      omega (arith, c.give.ensures.free, c.give.ensures.total, c.take_purse-purse.ensures.free, c.take_purse-purse.ensures.total, c.step_entry-rest.ensures.licences, was.1),
       omega (arith, c.add.ensures.forgotten),
       omega (arith, c.add-2.ensures.forgotten),
       was.4,
@@ -22,15 +22,14 @@ invariant_of-self g c =
 pub returns-clause-taken : goal.returns-clause-taken
 returns-clause-taken g c =
     let i = c.self.inside in
-    let counted_in = c.count-entry.ensures.count in
-    let counted_out = c.count-entry-2.ensures.count in
+    let told = c.step_entry-rest.ensures in
     let taken = c.take_purse-purse.ensures.free in
     let given = c.give.ensures.free in
     rw (← c.self.view_is)
     (record {
-      event_is = refl;
-      purse = counted_in ∙ c.take_purse-purse.ensures.purse;
-      step = rw counted_in (rw counted_out c.step_into-rest.ensures.step);
+      event_is = told.event;
+      purse = told.purse_in ∙ c.take_purse-purse.ensures.purse;
+      step = told.step;
       free = omega arith;
       units = refl;
       copies = kept_more NoMessage i.copies.forgotten c.add.new.self.forgotten i.copies.items.items c.add.new.self.items.items _ c.add.ensures.forgotten c.add.ensures.items;

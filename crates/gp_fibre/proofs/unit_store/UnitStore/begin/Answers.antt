@@ -18,5 +18,5 @@ invariant_of-result c =
         few = let low = c.requires.few in omega arith;
         fits = lit≤ tt;
       },
-      none_indexed stored_units.items c.in_ok-asked.asked inv.asked c.in_ok-asked.ensures,
+      none_indexed stored_units.items c.in_ok-asked.asked inv.asked _ (sym many) c.in_ok-asked.ensures,
     )

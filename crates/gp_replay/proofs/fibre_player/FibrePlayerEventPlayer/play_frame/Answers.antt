@@ -8,15 +8,15 @@ pub returns-clause-plays : goal.returns-clause-plays
 returns-clause-plays g c =
     let frame = Frames c.args._port 1 in
     rw (← c.self.view_is, c.play_one_world_frame.ensures.losses)
-    (loses c.args.mask (λ losses. Numbered (WorldTakes losses frame)) (λ losses. Numbered (WorldTakesPart losses frame)) (lost_by c.self.inside.losses) _ _ _ _ _
+    (loses c.args.out.now.mask (λ losses. Numbered (WorldTakes losses frame)) (λ losses. Numbered (WorldTakesPart losses frame)) (lost_by c.self.inside.losses) _ _ _ _ _
     c.play_one_world_frame.ensures.plays)
 
 pub returns-clause-made : goal.returns-clause-made
 returns-clause-made g c =
     let frame = Frames c.args._port 1 in
     rw (← c.self.view_is, c.play_one_world_frame.ensures.losses)
-    (loses_made c.args.mask c.args.grant (λ losses. Numbered (WorldTakes losses frame)) (lost_by c.self.inside.losses) _ _ _ _ _ c.play_one_world_frame.ensures.made)
+    (loses_made c.args.out.now.mask c.args.grant (λ losses. Numbered (WorldTakes losses frame)) (lost_by c.self.inside.losses) _ _ _ _ _ c.play_one_world_frame.ensures.made)
 
 pub returns-clause-keeps : goal.returns-clause-keeps
 returns-clause-keeps g c =
-    rw (← c.self.view_is, c.play_one_world_frame.ensures.losses) (fibre_keeps_on c.args.mask (Frames c.args._port 1) _ (lost_by c.self.inside.losses) _ _ _ _ _ c.play_one_world_frame.ensures.plays)
+    rw (← c.self.view_is, c.play_one_world_frame.ensures.losses) (fibre_keeps_on c.args.out.now.mask (Frames c.args._port 1) _ (lost_by c.self.inside.losses) _ _ _ _ _ c.play_one_world_frame.ensures.plays)

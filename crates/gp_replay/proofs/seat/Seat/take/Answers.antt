@@ -3,19 +3,18 @@ use Rattle.gp_replay.proofs.seat.Seat.take.Goals as goal
 
 pub returns : goal.returns
 returns g c =
-    let counted_in = c.count-entry.ensures.count in
-    let counted_out = c.count-entry-2.ensures.count in
+    let told = c.step_entry-rest.ensures in
     rw (← c.self.view_is)
     (record {
-      purse_in = counted_in;
-      event_is = refl;
-      purse_out = counted_out;
-      step = rw counted_in (rw counted_out c.step_into-rest.ensures.step);
+      purse_in = told.purse_in;
+      event_is = told.event;
+      purse_out = told.purse_out;
+      step = told.step;
       stands = record {
-        sound = c.step_into-rest.ensures.sound;
+        sound = told.sound;
         within = rw c.config.ensures.config at c.config.ensures.limits;
       };
-      proper = c.step_into-rest.ensures.proper;
-      grants = rw counted_out c.step_into-rest.ensures.wished;
+      proper = told.proper;
+      grants = told.wished;
       next_is = refl;
     })

@@ -1,6 +1,6 @@
 use Rattle.std.proofs.Common.{◌<◌, ◌-◌, length}
 use Rattle.gp_replay.specs.Chassis.{HasRoom}
-use Rattle.gp_program_tests.proofs.turns.all_said.Given as goal
+use Rattle.gp_program_tests.proofs.turns.all_told.Given as goal
 
 abbrev pub invariant-loop-place : goal.invariant-loop-place
 invariant-loop-place g l = record {
