@@ -349,8 +349,8 @@ uint32_t wp_entry(wp_chassis *chassis, uint8_t port, uint64_t number, wp_event *
 
 /* The same as a line of the trace, in ASCII with its line feed and without a zero at its end: the line that `oltctl
  * replay` writes of it and `oltctl verify` reads. It is written where the buffer has room for all of it; else nothing
- * is. *length is how many octets it has, at most 256. Takes memory for the line, and gives it back.
- * Answers WP_NOT_OPEN, WP_NO_PORT, WP_NO_ENTRY or WP_NO_MEMORY.
+ * is. *length is how many octets it has, at most 256. Takes no memory.
+ * Answers WP_NOT_OPEN, WP_NO_PORT or WP_NO_ENTRY.
  *
  *     uint8_t line[256];
  *     size_t length;

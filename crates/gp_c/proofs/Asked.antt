@@ -1,13 +1,13 @@
 -- What is asked of a handle, by the kind of question.
-use Rattle.std.proofs.Common.{◌≡◌, ◌⊎◌, ℕ, refl, ap, inl, Option, None, Some, Ok, Err, IfOk, IfErr}
+use Rattle.std.proofs.Common.{◌≡◌, ℕ, refl, ap, Option, None, Some, IfOk}
+use Rattle.std.specs.Option.{ForSome}
 use Rattle.gp_ploam.specs.declared.message.Serial.{Serial}
+use Rattle.gp_ploam.specs.Down.{IsProperDown}
 use Rattle.gp_machine.specs.declared.event.Event.{Event}
 use Rattle.gp_chassis.specs.Core.{CoreState}
-use Rattle.gp_c.specs.declared.op.Op.TheVariants.{Apply, Show, Count, Cut, Close, Tally, EntryEvent, EntryAnswer, EntryLine}
+use Rattle.gp_c.specs.declared.op.Op.TheVariants.{Apply, Show, Count, Cut, Close, Tally, Entry}
 use Rattle.gp_c.specs.declared.op.Out.{Out}
-use Rattle.gp_c.specs.Outs.{done_of, answered_of, shown_of, counted_of, tallied_of, happened_of, spelled_of}
-use Rattle.gp_c.specs.declared.fault.Fault.TheVariants.{OutOfMemory}
-use Rattle.gp_c.specs.Entries.{told_by, event_told, answer_told, line_told}
+use Rattle.gp_c.specs.Outs.{done_of, answered_of, shown_of, counted_of, tallied_of, kept_of}
 use Rattle.gp_c.specs.Serves.{Serves}
 use Rattle.gp_c.specs.Calls.{ServesEvent, CutsJournal, shown_at, free_at, closed_at, tallied_at, kept_at}
 
@@ -40,26 +40,12 @@ pub tallied : (before after : Option CoreState) (port : ℕ) (out : Out) → Ser
 tallied None after port out s = ((s.0 refl).0, ap tallied_of (s.0 refl).1)
 tallied (Some core) after port out s = s.6 core port refl refl
 
--- an entry: what happened in it
-pub happened : (before after : Option CoreState) (port number : ℕ) (out : Out) → Serves before (EntryEvent port number) after out
-    → (after ≡ before) × (happened_of out ≡ told_by event_told (kept_at before port number))
-happened None after port number out s = ((s.0 refl).0, ap happened_of (s.0 refl).1)
-happened (Some core) after port number out s = s.7 core port number refl refl
-
--- what was given for it
-pub given : (before after : Option CoreState) (port number : ℕ) (out : Out) → Serves before (EntryAnswer port number) after out
-    → (after ≡ before) × (answered_of out ≡ told_by answer_told (kept_at before port number))
-given None after port number out s = ((s.0 refl).0, ap answered_of (s.0 refl).1)
-given (Some core) after port number out s = s.8 core port number refl refl
-
--- its line
-pub spelled : (before after : Option CoreState) (port number : ℕ) (out : Out) → Serves before (EntryLine port number) after out
+-- an entry
+pub kept : (before after : Option CoreState) (port number : ℕ) (out : Out) → Serves before (Entry port number) after out
     → (after ≡ before)
-    × IfOk (spelled_of out) (λ line. told_by line_told (kept_at before port number) ≡ Ok line.items)
-    × IfErr (spelled_of out) (λ fault. (told_by line_told (kept_at before port number) ≡ Err fault) ⊎ (fault ≡ OutOfMemory))
-spelled None after port number out s =
-    let none = ap spelled_of (s.0 refl).1 in
-    ((s.0 refl).0, rw none tt, rw none (inl refl))
-spelled (Some core) after port number out s =
-    let given = s.9 core port number refl refl in
-    (given.0, given.1.0, given.1.1)
+    × (kept_of out ≡ kept_at before port number)
+    × IfOk (kept_of out) (λ kept. ForSome kept.receipt.entry.answer.sent IsProperDown)
+kept None after port number out s =
+    let none = ap kept_of (s.0 refl).1 in
+    ((s.0 refl).0, none, rw none tt)
+kept (Some core) after port number out s = s.7 core port number refl refl

@@ -1,5 +1,5 @@
 -- What a call from C answers, and what it leaves.
-use Rattle.std.specs.Prelude.{ℕ, ◌≡◌, ◌++◌, nat_le, if◌then◌else◌, length, drop, List, Option, None, Some, Result, Ok, Err, OnOk, OnErr, ◌⊎◌}
+use Rattle.std.specs.Prelude.{ℕ, ◌≡◌, ◌++◌, nat_le, if◌then◌else◌, length, drop, List, Option, None, Some, Result, Ok, Err, OnOk, OnErr}
 use Rattle.gp_ploam.specs.declared.message.Serial.{Serial}
 use Rattle.gp_machine.specs.declared.config.PortConfig.{PortConfig}
 use Rattle.gp_machine.specs.declared.event.Event.{Event}
@@ -10,14 +10,14 @@ use Rattle.gp_c.specs.declared.answer.AnswerNumbers.{AnswerNumbers}
 use Rattle.gp_c.specs.declared.counts.PortCounts.{PortCounts}
 use Rattle.gp_c.specs.declared.row.RowNumbers.{RowNumbers}
 use Rattle.gp_c.specs.declared.fault.Fault.{Fault}
-use Rattle.gp_c.specs.declared.fault.Fault.TheVariants.{NotOpen, IsOpen, Limit, Serials, OutOfMemory}
+use Rattle.gp_c.specs.declared.fault.Fault.TheVariants.{NotOpen, IsOpen, Limit, Serials}
 use Rattle.gp_c.specs.declared.settings.ChassisSettings.{ChassisSettings}
 use Rattle.gp_c.specs.declared.settings.PortSettings.{PortSettings}
 use Rattle.gp_c.specs.declared.settings.SerialNumber.{SerialNumber}
 use Rattle.gp_c.specs.Faults.{fault_number}
 use Rattle.gp_c.specs.Settings.{ports_of}
 use Rattle.gp_c.specs.declared.kept.KeptEntry.{KeptEntry}
-use Rattle.gp_c.specs.Entries.{entry_at, told_by, line_told}
+use Rattle.gp_c.specs.Entries.{entry_at}
 use Rattle.gp_c.specs.Serves.{Answers, Cuts, StaysOpen, row_at, counts_at}
 
 -- ---- what crosses
@@ -156,12 +156,3 @@ line_in buffer (Err fault) = buffer
 abbrev pub length_in : {E : Type 0} → ℕ → Result (List ℕ) E → ℕ
 length_in old (Ok line) = length line
 length_in old (Err fault) = old
-
--- the caller is told the line of an entry, or that memory for it was refused
-pub record TellsLine (before : Option CoreState) (port number status : ℕ) (old new : List ℕ)
-    (was is : ℕ) : Type 0 where
-  pub line : Result (List ℕ) Fault
-  pub told : (line ≡ told_by line_told (kept_at before port number)) ⊎ (line ≡ Err OutOfMemory)
-  pub status_is : status ≡ status_of line
-  pub buffer : new ≡ line_in old line
-  pub length_is : is ≡ length_in was line

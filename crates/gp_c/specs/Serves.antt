@@ -1,8 +1,9 @@
 -- What is asked of the chassis behind a handle, and what is answered.
 use Rattle.std.specs.Prelude.{ℕ, ◌≡◌, ◌<◌, ◌≤◌, ◌↔◌, ◌⊎◌, Option, None, Some, Result, Ok, Err, length, slice_get, IfOk, IfErr, OnOk, OnErr, IfSome, IfNone}
 use Rattle.std.specs.FinMap.{get}
-use Rattle.std.specs.Global.{Vec}
+use Rattle.std.specs.Option.{ForSome}
 use Rattle.gp_ploam.specs.declared.message.Serial.{Serial}
+use Rattle.gp_ploam.specs.Down.{IsProperDown}
 use Rattle.gp_ploam.specs.Mask.{mask_value}
 use Rattle.gp_unit.specs.declared.row.Row.{Row}
 use Rattle.gp_unit.specs.Records.{view_of}
@@ -18,15 +19,15 @@ use Rattle.gp_c.specs.declared.row.RowNumbers.{RowNumbers}
 use Rattle.gp_c.specs.declared.fault.Fault.{Fault}
 use Rattle.gp_c.specs.declared.fault.Fault.TheVariants.{Limit, OutOfMemory, NoPort, JournalFull, NoUnit}
 use Rattle.gp_c.specs.declared.op.Op.{Op}
-use Rattle.gp_c.specs.declared.op.Op.TheVariants.{Apply, Show, Count, Cut, Close, Tally, EntryEvent, EntryAnswer, EntryLine}
+use Rattle.gp_c.specs.declared.op.Op.TheVariants.{Apply, Show, Count, Cut, Close, Tally, Entry}
 use Rattle.gp_c.specs.declared.op.Out.{Out}
 use Rattle.gp_c.specs.declared.op.Out.TheVariants.{NotOpen}
 use Rattle.gp_c.specs.Answers.{answer_numbers}
 use Rattle.gp_c.specs.declared.counts.PortCounts.{PortCounts}
 use Rattle.gp_c.specs.Counts.{counts_of}
 use Rattle.gp_c.specs.Rows.{row_numbers}
-use Rattle.gp_c.specs.Entries.{entry_at, told_by, event_told, answer_told, line_told}
-use Rattle.gp_c.specs.Outs.{done_of, answered_of, shown_of, counted_of, tallied_of, happened_of, spelled_of}
+use Rattle.gp_c.specs.Entries.{entry_at}
+use Rattle.gp_c.specs.Outs.{done_of, answered_of, shown_of, counted_of, tallied_of, kept_of}
 
 -- ---- opening
 
@@ -109,14 +110,6 @@ Cuts core port after cut =
     × OnErr cut (after ≡ core)
     × IfErr cut (λ fault. KeepsJournal core port fault)
 
--- ---- an entry
-
--- the line of the entry that is asked for is given, or why there is none: memory for it may be refused
-abbrev pub GivesLine : CoreState → ℕ → ℕ → Result (Vec ℕ) Fault → Type 0
-GivesLine core port number given =
-    IfOk given (λ line. told_by line_told (entry_at core port number) ≡ Ok line.items)
-    × IfErr given (λ fault. (told_by line_told (entry_at core port number) ≡ Err fault) ⊎ (fault ≡ OutOfMemory))
-
 -- ---- whatever is asked
 
 -- a chassis that was asked stays open, and this holds of it
@@ -138,9 +131,6 @@ Serves before op after out =
     × ((core : CoreState) → before ≡ Some core → op ≡ Close → (after ≡ None) × (done_of out ≡ Ok tt))
     × ((core : CoreState) (port : ℕ) → before ≡ Some core → op ≡ Tally port
     → (after ≡ Some core) × (tallied_of out ≡ counts_at core port))
-    × ((core : CoreState) (port number : ℕ) → before ≡ Some core → op ≡ EntryEvent port number
-    → (after ≡ Some core) × (happened_of out ≡ told_by event_told (entry_at core port number)))
-    × ((core : CoreState) (port number : ℕ) → before ≡ Some core → op ≡ EntryAnswer port number
-    → (after ≡ Some core) × (answered_of out ≡ told_by answer_told (entry_at core port number)))
-    × ((core : CoreState) (port number : ℕ) → before ≡ Some core → op ≡ EntryLine port number
-    → (after ≡ Some core) × GivesLine core port number (spelled_of out))
+    × ((core : CoreState) (port number : ℕ) → before ≡ Some core → op ≡ Entry port number
+    → (after ≡ Some core) × (kept_of out ≡ entry_at core port number)
+    × IfOk (kept_of out) (λ kept. ForSome kept.receipt.entry.answer.sent IsProperDown))

@@ -1,14 +1,14 @@
 //! What a handle is asked: one function for each kind of call.
-ghost use Rattle.std.specs.Prelude.{◌≡◌, ◌⊎◌, None, IfOk, IfErr};
-ghost use Rattle.gp_c.specs.declared.fault.Fault.{Fault as AnyFault};
-ghost use Rattle.gp_c.specs.Entries.{told_by, event_told, answer_told, line_told};
+ghost use Rattle.std.specs.Prelude.{◌≡◌, None, IfOk};
+ghost use Rattle.std.specs.Option.{ForSome};
+ghost use Rattle.gp_ploam.specs.Down.{IsProperDown};
 ghost use Rattle.gp_c.specs.Calls as spec;
 
 use crate::answer::AnswerNumbers;
 use crate::counts::PortCounts;
-use crate::event::EventNumbers;
 use crate::fault::Fault;
 use crate::handle::{Handle, ask};
+use crate::kept::KeptEntry;
 use crate::op::Op;
 use crate::row::RowNumbers;
 use crate::settings::{ChassisSettings, PortSettings, SerialNumber, ports_of};
@@ -90,49 +90,19 @@ pub(crate) fn tally(handle: &mut Handle, alloc: Global, port: u8) -> Result<Port
     ask(handle, alloc, Op::Tally { port }).tallied()
 }
 
-/// Tells what happened in an entry that a port's journal keeps.
+/// Gives an entry that a port's journal keeps.
 #[inline(always)]
-pub(crate) fn entry_event(
+pub(crate) fn entry(
     handle: &mut Handle,
     alloc: Global,
     port: u8,
     number: u64,
-) -> Result<EventNumbers, Fault>
+) -> Result<KeptEntry, Fault>
     ensures unchanged { handle.new.value ≡ handle.old.value }
-    ensures told { result ≡ told_by event_told (spec.kept_at handle.old.value port number) }
+    ensures kept { result ≡ spec.kept_at handle.old.value port number }
+    ensures proper { IfOk result (λ kept. ForSome kept.receipt.entry.answer.sent IsProperDown) }
 {
-    ask(handle, alloc, Op::EntryEvent { port, number }).happened()
-}
-
-/// Tells what the port gave for it.
-#[inline(always)]
-pub(crate) fn entry_answer(
-    handle: &mut Handle,
-    alloc: Global,
-    port: u8,
-    number: u64,
-) -> Result<AnswerNumbers, Fault>
-    ensures unchanged { handle.new.value ≡ handle.old.value }
-    ensures told { result ≡ told_by answer_told (spec.kept_at handle.old.value port number) }
-{
-    ask(handle, alloc, Op::EntryAnswer { port, number }).answered()
-}
-
-/// Gives its line of the trace.
-#[inline(always)]
-pub(crate) fn entry_line(
-    handle: &mut Handle,
-    alloc: Global,
-    port: u8,
-    number: u64,
-) -> Result<Vec<u8>, Fault>
-    ensures unchanged { handle.new.value ≡ handle.old.value }
-    ensures line { IfOk result
-        (λ line. told_by line_told (spec.kept_at handle.old.value port number) ≡ Ok line.items) }
-    ensures fault { IfErr result (λ fault. (told_by line_told (spec.kept_at handle.old.value port number) ≡ Err fault)
-        ⊎ (fault ≡ AnyFault.OutOfMemory)) }
-{
-    ask(handle, alloc, Op::EntryLine { port, number }).spelled()
+    ask(handle, alloc, Op::Entry { port, number }).kept()
 }
 
 /// Lets go what a port's journal keeps.

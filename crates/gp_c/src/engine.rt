@@ -2,12 +2,11 @@
 ghost use Rattle.std.specs.Prelude.{◌≡◌, ◌↔◌, ◌⊎◌, IfOk, IfErr, OnOk, OnErr};
 ghost use Rattle.std.specs.Option.{ForSome};
 ghost use Rattle.gp_ploam.specs.Down.{IsProperDown};
-ghost use Rattle.gp_c.specs.Entries.{entry_at, told_by, event_told, answer_told};
-ghost use Rattle.gp_c.specs.Serves.{IsServed, Refuses, IsCut, KeepsJournal, GivesLine, row_at, counts_at};
+ghost use Rattle.gp_c.specs.Entries.{entry_at};
+ghost use Rattle.gp_c.specs.Serves.{IsServed, Refuses, IsCut, KeepsJournal, row_at, counts_at};
 
 use crate::answer::{AnswerNumbers, answer_of};
 use crate::counts::{PortCounts, counts_of};
-use crate::event::EventNumbers;
 use crate::fault::Fault;
 use crate::kept::KeptEntry;
 use crate::row::{RowNumbers, row_of};
@@ -98,7 +97,7 @@ impl<L: Ledger> Engine<L> {
     }
 
     /// Gives an entry that a port's journal keeps. The faults are `NoPort` and `NoEntry`.
-    fn entry(&self, port: u8, number: u64) -> Result<KeptEntry, Fault>
+    pub(crate) fn entry(&self, port: u8, number: u64) -> Result<KeptEntry, Fault>
         ensures kept { result ≡ entry_at self.now port number }
         ensures proper { IfOk result (λ kept. ForSome kept.receipt.entry.answer.sent IsProperDown) }
     {
@@ -116,39 +115,6 @@ impl<L: Ledger> Engine<L> {
                 },
             }),
             None => Err(Fault::NoEntry),
-        }
-    }
-
-    /// Tells by numbers what happened in an entry that a port's journal keeps.
-    pub(crate) fn entry_event(&self, port: u8, number: u64) -> Result<EventNumbers, Fault>
-        ensures { result ≡ told_by event_told (entry_at self.now port number) }
-    {
-        match self.entry(port, number) {
-            Ok(kept) => Ok(kept.event()),
-            Err(fault) => Err(fault),
-        }
-    }
-
-    /// Tells by numbers what the port gave for it.
-    pub(crate) fn entry_answer(&self, port: u8, number: u64) -> Result<AnswerNumbers, Fault>
-        ensures { result ≡ told_by answer_told (entry_at self.now port number) }
-    {
-        match self.entry(port, number) {
-            Ok(kept) => Ok(kept.answer()),
-            Err(fault) => Err(fault),
-        }
-    }
-
-    /// Gives its line of the trace.
-    pub(crate) fn entry_line(&self, alloc: Global, port: u8, number: u64) -> Result<Vec<u8>, Fault>
-        ensures { GivesLine self.now port number result }
-    {
-        match self.entry(port, number) {
-            Ok(kept) => match kept.line(alloc) {
-                Ok(line) => Ok(line),
-                Err(_) => Err(Fault::OutOfMemory),
-            },
-            Err(fault) => Err(fault),
         }
     }
 

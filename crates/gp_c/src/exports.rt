@@ -1,31 +1,33 @@
 //! What C calls. Each answers a status: 0 where it is done, else the number of a fault.
 ghost use Rattle.std.specs.Prelude.{◌≡◌, ◌⊎◌, Some, None, Ok, Err, IfOk, IfErr, length};
+ghost use Rattle.std.specs.Option.{ForSome};
+ghost use Rattle.gp_ploam.specs.Down.{IsProperDown};
 ghost use Rattle.gp_machine.specs.declared.event.Command.{Command as AnyCommand};
 ghost use Rattle.gp_machine.specs.declared.event.Event.{Event as AnyEvent};
 ghost use Rattle.gp_machine.specs.declared.event.Event.TheVariants.{Frame, Burst, Command as Commanded};
 ghost use Rattle.gp_c.specs.declared.fault.Fault.{Fault as AnyFault};
 ghost use Rattle.gp_c.specs.Faults.{fault_number, status_text};
 ghost use Rattle.gp_c.specs.Events.{event_of};
-ghost use Rattle.gp_c.specs.Entries.{told_by, event_told, answer_told};
+ghost use Rattle.gp_c.specs.Entries.{told_by, event_told, answer_told, line_told};
 ghost use Rattle.gp_c.specs.Turns.{turn_of};
 ghost use Rattle.gp_c.specs.Commands as spec;
 ghost use Rattle.gp_c.specs.Settings.{serial_of};
-ghost use Rattle.gp_c.specs.Calls.{asked_for, TellsOpen, Tells, TellsCut, TellsLine, kept_at, shown_at, free_at, closed_at, tallied_at, status_of, written, text_in};
+ghost use Rattle.gp_c.specs.Calls.{asked_for, TellsOpen, Tells, TellsCut, kept_at, shown_at, free_at, closed_at, tallied_at, status_of, written, text_in, line_in, length_in};
 
 use crate::answer::AnswerNumbers;
-use crate::calls::{
-    apply, close, cut, entry_answer, entry_event, entry_line, free, open, show, tally,
-};
+use crate::calls::{apply, close, cut, entry, free, open, show, tally};
 use crate::command::command_of;
 use crate::counts::PortCounts;
 use crate::event::{EventNumbers, event_of as event_in};
 use crate::fault::{Fault, text_of};
 use crate::handle::Handle;
+use crate::kept::KeptEntry;
 use crate::row::RowNumbers;
 use crate::settings::{ChassisSettings, PortSettings, SerialNumber};
 use crate::turn::{TurnNumbers, turn_of as turn_in};
 use gp_machine::Event;
 use gp_ploam::Serial;
+use gp_trace::{MAX_LINE, write_line};
 use std::alloc::Global;
 
 /// The status of a call that is done.
@@ -196,18 +198,13 @@ pub extern "C" fn wp_entry(
     ensures event { event.new ≡ written event.old (told_by event_told (kept_at handle.old.value port number)) }
     ensures answer { answer.new ≡ written answer.old (told_by answer_told (kept_at handle.old.value port number)) }
 {
-    let happened = match entry_event(handle, alloc, port, number) {
-        Ok(happened) => happened,
+    let kept = match entry(handle, alloc, port, number) {
+        Ok(kept) => kept,
         Err(fault) => return fault.number(),
     };
-    match entry_answer(handle, alloc, port, number) {
-        Ok(told) => {
-            *event = happened;
-            *answer = told;
-            DONE
-        }
-        Err(fault) => fault.number(),
-    }
+    *event = kept.event();
+    *answer = kept.answer();
+    DONE
 }
 
 /// Writes the trace line of an entry that a port's journal keeps, where the buffer has room for it, and tells how many
@@ -222,11 +219,13 @@ pub extern "C" fn wp_line(
     length: &mut usize,
 ) -> u32
     ensures unchanged { handle.new.value ≡ handle.old.value }
-    ensures told { TellsLine handle.old.value port number result buffer.old buffer.new length.old length.new }
+    ensures status { result ≡ status_of (kept_at handle.old.value port number) }
+    ensures text { buffer.new ≡ line_in buffer.old (told_by line_told (kept_at handle.old.value port number)) }
+    ensures length { length.new ≡ length_in length.old (told_by line_told (kept_at handle.old.value port number)) }
 {
-    match entry_line(handle, alloc, port, number) {
-        Ok(line) => {
-            *length = write_text(line.as_slice(), buffer);
+    match entry(handle, alloc, port, number) {
+        Ok(kept) => {
+            *length = write_entry_line(&kept, buffer);
             DONE
         }
         Err(fault) => fault.number(),
@@ -298,6 +297,17 @@ pub extern "C" fn wp_text(status: u32, buffer: &mut [u8]) -> usize
     ensures text { buffer.new ≡ text_in buffer.old (status_text status) }
 {
     write_text(text_of(status).as_bytes(), buffer)
+}
+
+/// Writes the line of an entry where the buffer has room for it, and tells how many octets it has.
+fn write_entry_line(kept: &KeptEntry, buffer: &mut [u8]) -> usize
+    requires { ForSome kept.now.receipt.entry.answer.sent IsProperDown }
+    ensures length { result ≡ length (line_told kept.now) }
+    ensures text { buffer.new ≡ text_in buffer.old (line_told kept.now) }
+{
+    let mut line = [0u8; MAX_LINE];
+    let start = write_line(&mut line, kept.mask, &kept.receipt);
+    write_text(&line[start..], buffer)
 }
 
 /// Writes a text where the buffer has room for it, and tells how many octets it has.

@@ -1,9 +1,8 @@
 //! An entry that a port's journal keeps.
-ghost use Rattle.std.specs.Prelude.{◌≡◌, ◌++◌, [], IfOk};
+ghost use Rattle.std.specs.Prelude.{◌≡◌};
 ghost use Rattle.std.specs.Option.{ForSome};
 ghost use Rattle.gp_ploam.specs.Down.{IsProperDown};
 ghost use Rattle.gp_ploam.specs.Mask.{mask_value};
-ghost use Rattle.gp_trace.specs.Text.{line_of};
 ghost use Rattle.gp_c.specs.Answers.{answer_numbers};
 ghost use Rattle.gp_c.specs.Events.{event_numbers as numbers_of_event};
 
@@ -11,8 +10,6 @@ use crate::answer::{AnswerNumbers, answer_of};
 use crate::event::{EventNumbers, event_numbers};
 use gp_machine::Receipt;
 use gp_ploam::Mask;
-use gp_trace::push_line;
-use std::alloc::{AllocError, Global};
 
 /// An entry that a port's journal keeps.
 #[derive(Clone, Copy)]
@@ -37,15 +34,5 @@ impl KeptEntry {
         ensures { result ≡ answer_numbers (mask_value self.now.mask) self.now.receipt.number self.now.receipt.entry.answer }
     {
         answer_of(self.mask, self.receipt.number, &self.receipt.entry.answer)
-    }
-
-    /// Gives its line of the trace.
-    pub(crate) fn line(&self, alloc: Global) -> Result<Vec<u8>, AllocError>
-        requires { ForSome self.now.receipt.entry.answer.sent IsProperDown }
-        ensures { IfOk result (λ line. line.items ≡ line_of self.now.mask self.now.receipt) }
-    {
-        let mut line = Vec::new(alloc);
-        push_line(&mut line, self.mask, &self.receipt)?;
-        Ok(line)
     }
 }

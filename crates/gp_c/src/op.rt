@@ -1,12 +1,11 @@
-//! What is asked of a chassis, and what it answers. Answers are small, since each is moved a few times: an entry is told
-//! in parts.
+//! What is asked of a chassis, and what it answers.
 ghost use Rattle.std.specs.Prelude.{◌≡◌};
 ghost use Rattle.gp_c.specs.Outs as spec;
 
 use crate::answer::AnswerNumbers;
 use crate::counts::PortCounts;
-use crate::event::EventNumbers;
 use crate::fault::Fault;
+use crate::kept::KeptEntry;
 use crate::row::RowNumbers;
 use gp_machine::Event;
 use gp_ploam::Serial;
@@ -22,12 +21,8 @@ pub enum Op {
     Count,
     /// Tell what is counted of a port.
     Tally { port: u8 },
-    /// Tell what happened in an entry that a port's journal keeps.
-    EntryEvent { port: u8, number: u64 },
-    /// Tell what the port gave for it.
-    EntryAnswer { port: u8, number: u64 },
-    /// Give its line of the trace.
-    EntryLine { port: u8, number: u64 },
+    /// Give an entry that a port's journal keeps.
+    Entry { port: u8, number: u64 },
     /// Let go what a port's journal keeps.
     Cut { port: u8 },
     /// Close the chassis.
@@ -41,7 +36,7 @@ pub enum Out {
     NotOpen,
     /// To opening one, or to `Close`, or to `Cut`.
     Done(Result<(), Fault>),
-    /// To `Apply` and `EntryAnswer`.
+    /// To `Apply`.
     Answered(Result<AnswerNumbers, Fault>),
     /// To `Show`.
     Shown(Result<RowNumbers, Fault>),
@@ -49,10 +44,8 @@ pub enum Out {
     Counted(u32),
     /// To `Tally`.
     Tallied(Result<PortCounts, Fault>),
-    /// To `EntryEvent`.
-    Happened(Result<EventNumbers, Fault>),
-    /// To `EntryLine`.
-    Spelled(Result<Vec<u8>, Fault>),
+    /// To `Entry`.
+    Kept(Result<KeptEntry, Fault>),
 }
 
 impl Out {
@@ -67,7 +60,7 @@ impl Out {
         }
     }
 
-    /// Gives the answer to `Apply` and `EntryAnswer`.
+    /// Gives the answer to `Apply`.
     #[inline(always)]
     pub(crate) fn answered(self) -> Result<AnswerNumbers, Fault>
         ensures { result ≡ spec.answered_of self }
@@ -111,24 +104,13 @@ impl Out {
         }
     }
 
-    /// Gives the answer to `EntryEvent`.
+    /// Gives the answer to `Entry`.
     #[inline(always)]
-    pub(crate) fn happened(self) -> Result<EventNumbers, Fault>
-        ensures { result ≡ spec.happened_of self }
+    pub(crate) fn kept(self) -> Result<KeptEntry, Fault>
+        ensures { result ≡ spec.kept_of self }
     {
         match self {
-            Out::Happened(happened) => happened,
-            _ => Err(Fault::NotOpen),
-        }
-    }
-
-    /// Gives the answer to `EntryLine`.
-    #[inline(always)]
-    pub(crate) fn spelled(self) -> Result<Vec<u8>, Fault>
-        ensures { result ≡ spec.spelled_of self }
-    {
-        match self {
-            Out::Spelled(line) => line,
+            Out::Kept(kept) => kept,
             _ => Err(Fault::NotOpen),
         }
     }

@@ -121,17 +121,9 @@ pub(crate) fn serve_slot<L: Ledger>(slot: Slot<L>, op: Op, alloc: Global) -> (Sl
             let counts = engine.tally(port);
             (Slot::of(Loose::of(engine)), Out::Tallied(counts))
         }
-        Op::EntryEvent { port, number } => {
-            let happened = engine.entry_event(port, number);
-            (Slot::of(Loose::of(engine)), Out::Happened(happened))
-        }
-        Op::EntryAnswer { port, number } => {
-            let answered = engine.entry_answer(port, number);
-            (Slot::of(Loose::of(engine)), Out::Answered(answered))
-        }
-        Op::EntryLine { port, number } => {
-            let line = engine.entry_line(alloc, port, number);
-            (Slot::of(Loose::of(engine)), Out::Spelled(line))
+        Op::Entry { port, number } => {
+            let kept = engine.entry(port, number);
+            (Slot::of(Loose::of(engine)), Out::Kept(kept))
         }
         Op::Cut { port } => {
             let done = engine.cut(alloc, port);
