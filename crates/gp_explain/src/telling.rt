@@ -87,8 +87,7 @@ impl Telling {
     /// Writes what is told of a line, with a line feed behind it, in the place of what the buffer holds. The line comes
     /// without its line feed.
     ///
-    /// Memory is taken where the buffer has no room, and for the words of a code if JSON escapes an octet of them. Where
-    /// it is refused, the buffer may hold a part of it.
+    /// Memory is taken only where the buffer has no room. Where it is refused, the buffer may hold a part of it.
     pub fn tell(&mut self, text: &[u8], out: &mut Vec<u8>) -> Result<(), AllocError>
         ensures ok { OnOk result (Tells self.old text.now out.new.items self.new) }
         ensures err { OnErr result (self.new ≡ self.old) }

@@ -8,7 +8,8 @@ use Rattle.gp_json.specs.Slots.{kind_of}
 use Rattle.hex.specs.Hex.{decode_sized}
 use Rattle.gp_json.specs.Allocs.{alloc_list}
 use Rattle.gp_json.specs.Spelling.{quoted}
-use Rattle.gp_json.specs.Fields.{TellsAs, TellsCode, TellsFields, TellsMessage, allocs_field, fields_opening, message_opening, opening}
+use Rattle.gp_json.specs.Messages.{TellsBoth}
+use Rattle.gp_json.specs.Fields.{TellsAs, TellsCode, allocs_field, fields_opening, message_opening, opening}
 
 -- the part was told as this, or can't be
 abbrev pub ToldAs : Kind → Mask → Slot → List ℕ → List ℕ → List ℕ → Bool → Type 0
@@ -23,18 +24,18 @@ by_kind r kind mask slot part old new same h = subst (λ (k : Kind). IfOk r (Tol
 behind : (old text more mid new : List ℕ) → mid ≡ old ++ text → new ≡ mid ++ more → new ≡ old ++ (text ++ more)
 behind old text more mid new first second = second ∙ ap (λ (l : List ℕ). l ++ more) first ∙ append_assoc old text more
 
--- a code was told, its message, and the object of that
-pub code_told : (upstream : Bool) (mask : Mask) (slot : Slot) (part octets message fields old name digits opened told named new : List ℕ)
-    → decode_sized part 13 ≡ Ok octets → TellsMessage upstream mask octets message → TellsFields upstream mask octets fields
-    → name ≡ old ++ opening slot → digits ≡ name ++ quoted part → opened ≡ digits ++ message_opening upstream → told ≡ opened ++ message
-    → named ≡ told ++ fields_opening upstream → new ≡ named ++ fields → (said : List ℕ) × TellsCode upstream mask slot part said × (new ≡ old ++ said)
-code_told upstream mask slot part octets message fields old name digits opened told named new spelled tells shows first second third fourth fifth sixth =
+-- a code was told, and its message
+pub code_told : (upstream : Bool) (mask : Mask) (slot : Slot) (part octets old name digits new : List ℕ)
+    → decode_sized part 13 ≡ Ok octets → name ≡ old ++ opening slot → digits ≡ name ++ quoted part → TellsBoth upstream mask octets digits new
+    → (said : List ℕ) × TellsCode upstream mask slot part said × (new ≡ old ++ said)
+code_told upstream mask slot part octets old name digits new spelled first second both =
     let one = behind old (opening slot) (quoted part) name digits first second in
-    let two = behind old (opening slot ++ quoted part) (message_opening upstream) digits opened one third in
-    let three = behind old (opening slot ++ quoted part ++ message_opening upstream) message opened told two fourth in
-    let four = behind old (opening slot ++ quoted part ++ message_opening upstream ++ message) (fields_opening upstream) told named three fifth in
-    let five = behind old (opening slot ++ quoted part ++ message_opening upstream ++ message ++ fields_opening upstream) fields named new four sixth in
-    (opening slot ++ quoted part ++ message_opening upstream ++ message ++ fields_opening upstream ++ fields, (octets, message, fields, spelled, tells, shows, refl), five)
+    let rest = message_opening upstream ++ both.message ++ fields_opening upstream ++ both.fields in
+    let whole : new ≡ old ++ ((opening slot ++ quoted part) ++ rest) = behind old (opening slot ++ quoted part) rest digits new one both.stands in (
+      opening slot ++ quoted part ++ message_opening upstream ++ both.message ++ fields_opening upstream ++ both.fields,
+      (octets, both.message, both.fields, spelled, both.tells, both.shows, refl),
+      whole ∙ ap (λ (l : List ℕ). old ++ l) (simp append_assoc),
+    )
 
 -- Alloc-IDs were told, and their list
 pub allocs_told : (slot : Slot) (part old name digits opened new : List ℕ) → name ≡ old ++ opening slot → digits ≡ name ++ quoted part

@@ -1,12 +1,11 @@
 -- Runs of octets that stand for themselves.
-use Rattle.std.proofs.Common.{◌≡◌, ℕ, ◌+◌, ◌<◌, ◌≤◌, suc, false, List, [], ◌∷◌, ◌++◌, append_assoc, length, take, drop, Option, None, Some, Result, Ok, Err, OnOk, refl, sym, ap, subst, ◌∙◌, inl, inr, arith, ltb}
-use Rattle.std.proofs.Math.Seq.{take-add}
+use Rattle.std.proofs.Common.{◌≡◌, ℕ, ◌+◌, ◌<◌, ◌≤◌, suc, false, true, List, [], ◌∷◌, ◌++◌, append_assoc, length, take, drop, Option, None, Some, Result, Ok, Err, OnOk, refl, sym, ap, subst, ◌∙◌, inl, inr, arith, ltb}
 use Rattle.std.proofs.lemmas.Bool.{cases_Bool, ltb-false, ltb-true}
-use Rattle.std.proofs.lemmas.List.{append-nil, drop_all, take-append-drop, take_all}
-use Rattle.std.specs.List.{flat_map, position, position_or_len}
+use Rattle.std.proofs.lemmas.List.{append-nil, drop_all, take_all}
+use Rattle.std.specs.List.{flat_map, list_all, position, position_or_len}
 use Rattle.std.specs.Option.{unwrap_or}
 use Rattle.gp_json.specs.Spelling.{escaped}
-use Rattle.gp_json.specs.Runs.{is_escaped}
+use Rattle.gp_json.specs.Runs.{is_escaped, is_plain}
 
 -- such an octet is spelled as it is
 plain : (octet : ℕ) → is_escaped octet ≡ false → escaped octet ≡ octet ∷ []
@@ -45,9 +44,6 @@ nowhere text none =
       | inr without ↦ ltb-false _ _ without
     ]
 
-pub place_within : (text : List ℕ) (at : ℕ) → Some at ≡ position is_escaped text → at < length text
-place_within text at is = (here text at is).1
-
 -- the octets that stand for themselves, and the rest
 pub plain_and_rest : (text : List ℕ) (found : Option ℕ) (at : ℕ) → found ≡ position is_escaped text → at ≡ unwrap_or found (length text)
     → (at ≤ length text) × (spelled text ≡ take at text ++ spelled (drop at text))
@@ -75,22 +71,11 @@ appended_both (Ok x) out between new text front rest found at is value first las
     ∙ ap (λ (l : List ℕ). out ++ l) (ap (λ (l : List ℕ). l ++ spelled rest) first ∙ ap (λ (l : List ℕ). take at text ++ spelled l) last ∙ sym both)
 appended_both (Err e) out between new text front rest found at is value first last before h = tt
 
--- where no octet from a place on is another
-pub escaped_none : (items text : List ℕ) (from : ℕ) → text ≡ drop from items → None ≡ position is_escaped text
-    → items ≡ take from items ++ spelled (drop from items)
-escaped_none items text from is none =
-    let same : spelled text ≡ text = (plain_and_rest text None (length text) none refl).1
-    ∙ ap (λ (l : List ℕ). l ++ spelled (drop (length text) text)) (take_all (length text) text (omega arith))
-    ∙ ap (λ (l : List ℕ). text ++ spelled l) (drop_all (length text) text (omega arith)) ∙ append-nil text in
-    sym (take-append-drop from items) ∙ ap (λ (l : List ℕ). take from items ++ l) (sym (ap spelled (sym is) ∙ same ∙ is))
-
--- what stands before the first of them stays in place
-pub escaped_behind : {E : Type 0} (r : Result (Unit {0}) E) (items text kept rest new : List ℕ) (from at : ℕ) → text ≡ drop from items
-    → Some at ≡ position is_escaped text → kept ≡ take (from + at) items → rest ≡ drop at text → OnOk r (new ≡ kept ++ spelled rest)
-    → OnOk r (new ≡ take from items ++ spelled (drop from items))
-escaped_behind (Ok x) items text kept rest new from at is found before last h =
-    let both = (plain_and_rest text (Some at) at found refl).1 in
-    let front : kept ≡ take from items ++ take at text = before ∙ take-add from at items ∙ ap (λ (l : List ℕ). take from items ++ take at l) (sym is) in
-    h ∙ ap (λ (l : List ℕ). l ++ spelled rest) front ∙ append_assoc (take from items) (take at text) (spelled rest)
-    ∙ ap (λ (l : List ℕ). take from items ++ l) (ap (λ (l : List ℕ). take at text ++ spelled l) last ∙ sym both ∙ ap spelled is)
-escaped_behind (Err e) items text kept rest new from at is found before last h = tt
+-- a text of which each octet stands for itself
+pub spelled_plain : (text : List ℕ) → list_all is_plain text ≡ true → spelled text ≡ text
+spelled_plain [] all = refl
+spelled_plain (octet ∷ text) all =
+    elim (cases_Bool (is_escaped octet)) [
+      | inl other ↦ absurd (let clash : false ≡ true = rw other at all in cc)
+      | inr same ↦ ap (λ (l : List ℕ). l ++ spelled text) (plain octet same) ∙ ap (λ (l : List ℕ). octet ∷ l) (spelled_plain text (rw same at all))
+    ]

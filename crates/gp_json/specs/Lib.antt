@@ -1,6 +1,7 @@
 pub mod Slots
 pub mod Spelling
 pub mod Message
+pub mod Messages
 pub mod Allocs
 pub mod Fields
 pub mod Units

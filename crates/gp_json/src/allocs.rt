@@ -5,6 +5,7 @@ ghost use Rattle.gp_json.specs.Allocs as spec;
 
 use crate::message::truth;
 use crate::text::is_number;
+use crate::writer::ObjectWriter;
 use std::alloc::AllocError;
 
 /// Gives what stands before the mark of one that is leaving, or all, and tells whether the mark stands at the end.
@@ -41,28 +42,28 @@ fn first_comma(text: &[u8]) -> Option<usize>
 }
 
 /// Appends an Alloc-ID, and whether it is leaving.
-fn push_alloc(out: &mut Vec<u8>, part: &[u8]) -> Result<(), AllocError>
-    ensures { OnOk result (out.new.items ≡ out.old.items ++ spec.alloc_object part.now) }
+fn push_alloc(out: &mut ObjectWriter, part: &[u8]) -> Result<(), AllocError>
+    ensures { OnOk result (out.new ≡ out.old ++ spec.alloc_object part.now) }
 {
     let (number, is_leaving) = marked(part);
-    out.extend_from_slice(b"{\"alloc\":")?;
-    out.extend_from_slice(number)?;
-    out.extend_from_slice(b",\"leaving\":")?;
-    out.extend_from_slice(truth(is_leaving).as_bytes())?;
-    out.extend_from_slice(b"}")
+    out.put(b"{\"alloc\":")?;
+    out.put(number)?;
+    out.put(b",\"leaving\":")?;
+    out.put(truth(is_leaving).as_bytes())?;
+    out.put(b"}")
 }
 
 /// Appends one that another stands behind.
-fn push_next(out: &mut Vec<u8>, part: &[u8]) -> Result<(), AllocError>
-    ensures { OnOk result (out.new.items ≡ out.old.items ++ (spec.alloc_object part.now ++ codes ",")) }
+fn push_next(out: &mut ObjectWriter, part: &[u8]) -> Result<(), AllocError>
+    ensures { OnOk result (out.new ≡ out.old ++ (spec.alloc_object part.now ++ codes ",")) }
 {
     push_alloc(out, part)?;
-    out.extend_from_slice(b",")
+    out.put(b",")
 }
 
 /// Appends the objects of all that commas part.
-fn push_objects(out: &mut Vec<u8>, text: &[u8]) -> Result<(), AllocError>
-    ensures { OnOk result (out.new.items ≡ out.old.items ++ spec.alloc_objects (spec.split_allocs text.now)) }
+fn push_objects(out: &mut ObjectWriter, text: &[u8]) -> Result<(), AllocError>
+    ensures { OnOk result (out.new ≡ out.old ++ spec.alloc_objects (spec.split_allocs text.now)) }
 {
     let mut rest = text;
     'parts: while let Some(at) = first_comma(rest) {
@@ -73,24 +74,24 @@ fn push_objects(out: &mut Vec<u8>, text: &[u8]) -> Result<(), AllocError>
 }
 
 /// Appends a list with the objects of all that commas part.
-fn push_listed(out: &mut Vec<u8>, text: &[u8]) -> Result<(), AllocError>
-    ensures { OnOk result (out.new.items ≡ out.old.items
+fn push_listed(out: &mut ObjectWriter, text: &[u8]) -> Result<(), AllocError>
+    ensures { OnOk result (out.new ≡ out.old
         ++ (codes "[" ++ spec.alloc_objects (spec.split_allocs text.now) ++ codes "]")) }
 {
-    out.extend_from_slice(b"[")?;
+    out.put(b"[")?;
     push_objects(out, text)?;
-    out.extend_from_slice(b"]")
+    out.put(b"]")
 }
 
 /// Appends the list of the Alloc-IDs that a text tells, or `null`.
-pub(crate) fn push_list(out: &mut Vec<u8>, text: &[u8]) -> Result<(), AllocError>
-    ensures { OnOk result (out.new.items ≡ out.old.items ++ spec.alloc_list text.now) }
+pub(crate) fn push_list(out: &mut ObjectWriter, text: &[u8]) -> Result<(), AllocError>
+    ensures { OnOk result (out.new ≡ out.old ++ spec.alloc_list text.now) }
 {
     if text == b"-".as_slice() {
-        out.extend_from_slice(b"[]")
+        out.put(b"[]")
     } else if are_allocs(text) {
         push_listed(out, text)
     } else {
-        out.extend_from_slice(b"null")
+        out.put(b"null")
     }
 }

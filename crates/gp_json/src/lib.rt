@@ -5,7 +5,8 @@
 //! - `object.rt`: `write_object`, a line as an object; `other.rt`: `write_other`, one that is none of a trace, with
 //!   `unit.rt`, what is told of a simulated unit.
 //! - `slot.rt`: what stands where in a line, and which field it makes; `field.rt`: that field.
-//! - `message.rt`: a message as an object; `allocs.rt`: Alloc-IDs as a list of objects.
+//! - `message.rt`: a message as an object; `words.rt`: in words; `allocs.rt`: Alloc-IDs as a list of objects.
+//! - `writer.rt`: `ObjectWriter`, which gathers the pieces of an object.
 //! - `text.rt`: `push_quoted`, a text of any octets, and numbers, as JSON spells them; `quoted.rt`: `quoted_text`, a text
 //!   in UTF-8.
 //!
@@ -23,6 +24,8 @@ mod quoted;
 mod slot;
 mod text;
 mod unit;
+mod words;
+mod writer;
 
 pub use object::write_object;
 pub use other::write_other;

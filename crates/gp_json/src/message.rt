@@ -3,46 +3,45 @@ ghost use Rattle.std.specs.Prelude.{◌≡◌, ◌++◌, OnOk, codes, decimal};
 ghost use Rattle.gp_decode.specs.Names as standard;
 ghost use Rattle.gp_json.specs.Message as spec;
 
+use crate::writer::ObjectWriter;
 use gp_decode::other_name;
 use gp_ploam::{Down, Serial, Up};
-use gp_serial::push_serial_text;
-use itoa::Buffer;
+use gp_serial::SerialText;
 use std::alloc::AllocError;
 
 /// Appends a field that is a number, behind what opens it: a comma and the field's name.
-fn push_number(out: &mut Vec<u8>, opening: &str, number: u32) -> Result<(), AllocError>
-    ensures { OnOk result (out.new.items ≡ out.old.items ++ (opening.now ++ decimal number)) }
+fn push_number(out: &mut ObjectWriter, opening: &str, number: u32) -> Result<(), AllocError>
+    ensures { OnOk result (out.new ≡ out.old ++ (opening.now ++ decimal number)) }
 {
-    let mut digits = Buffer::new();
-    out.extend_from_slice(opening.as_bytes())?;
-    out.extend_from_slice(digits.format(number).as_bytes())
+    out.put(opening.as_bytes())?;
+    out.put_number(u64::from(number))
 }
 
 /// Appends an ONU-ID.
-fn push_onu(out: &mut Vec<u8>, onu: u8) -> Result<(), AllocError>
-    ensures { OnOk result (out.new.items ≡ out.old.items ++ spec.onu_field onu) }
+fn push_onu(out: &mut ObjectWriter, onu: u8) -> Result<(), AllocError>
+    ensures { OnOk result (out.new ≡ out.old ++ spec.onu_field onu) }
 {
     push_number(out, ",\"onu\":", u32::from(onu))
 }
 
 /// Appends a serial number.
-fn push_serial(out: &mut Vec<u8>, serial: &Serial) -> Result<(), AllocError>
-    ensures { OnOk result (out.new.items ≡ out.old.items ++ spec.serial_field serial.now) }
+fn push_serial(out: &mut ObjectWriter, serial: &Serial) -> Result<(), AllocError>
+    ensures { OnOk result (out.new ≡ out.old ++ spec.serial_field serial.now) }
 {
-    out.extend_from_slice(b",\"serial\":\"")?;
-    push_serial_text(out, serial)?;
-    out.extend_from_slice(b"\"")
+    out.put(b",\"serial\":\"")?;
+    out.put(SerialText::of(serial).as_bytes())?;
+    out.put(b"\"")
 }
 
 /// Appends ten octets.
-fn push_octets(out: &mut Vec<u8>, octets: &[u8; 10]) -> Result<(), AllocError>
-    ensures { OnOk result (out.new.items ≡ out.old.items ++ spec.octets_field octets.now) }
+fn push_octets(out: &mut ObjectWriter, octets: &[u8; 10]) -> Result<(), AllocError>
+    ensures { OnOk result (out.new ≡ out.old ++ spec.octets_field octets.now) }
 {
     let mut digits = [0u8; 20];
     hex::encode_to_slice(octets.as_slice(), &mut digits).unwrap();
-    out.extend_from_slice(b",\"octets\":\"")?;
-    out.extend_from_slice(&digits)?;
-    out.extend_from_slice(b"\"")
+    out.put(b",\"octets\":\"")?;
+    out.put(&digits)?;
+    out.put(b"\"")
 }
 
 /// Gives the word for what is so or isn't.
@@ -53,16 +52,21 @@ pub(crate) fn truth(is_so: bool) -> &'static str
 }
 
 /// Appends an ONU-ID and a serial number.
-fn push_unit(out: &mut Vec<u8>, onu: u8, serial: &Serial) -> Result<(), AllocError>
-    ensures { OnOk result (out.new.items ≡ out.old.items ++ (spec.onu_field onu ++ spec.serial_field serial.now)) }
+fn push_unit(out: &mut ObjectWriter, onu: u8, serial: &Serial) -> Result<(), AllocError>
+    ensures { OnOk result (out.new ≡ out.old ++ (spec.onu_field onu ++ spec.serial_field serial.now)) }
 {
     push_onu(out, onu)?;
     push_serial(out, serial)
 }
 
 /// Appends an ONU-ID and a number.
-fn push_onu_number(out: &mut Vec<u8>, onu: u8, opening: &str, number: u32) -> Result<(), AllocError>
-    ensures { OnOk result (out.new.items ≡ out.old.items ++ (spec.onu_field onu ++ (opening.now ++ decimal number))) }
+fn push_onu_number(
+    out: &mut ObjectWriter,
+    onu: u8,
+    opening: &str,
+    number: u32,
+) -> Result<(), AllocError>
+    ensures { OnOk result (out.new ≡ out.old ++ (spec.onu_field onu ++ (opening.now ++ decimal number))) }
 {
     push_onu(out, onu)?;
     push_number(out, opening, number)
@@ -80,17 +84,17 @@ fn keep_field(keep: bool) -> &'static str
 }
 
 /// Appends an ONU-ID, an Alloc-ID, and whether the unit keeps it.
-fn push_alloc(out: &mut Vec<u8>, onu: u8, alloc: u16, keep: bool) -> Result<(), AllocError>
-    ensures { OnOk result (out.new.items ≡ out.old.items ++ (spec.onu_field onu
+fn push_alloc(out: &mut ObjectWriter, onu: u8, alloc: u16, keep: bool) -> Result<(), AllocError>
+    ensures { OnOk result (out.new ≡ out.old ++ (spec.onu_field onu
         ++ spec.number_field (codes "alloc") alloc ++ (spec.key_text (codes "keep") ++ spec.truth keep))) }
 {
     push_onu_number(out, onu, ",\"alloc\":", u32::from(alloc))?;
-    out.extend_from_slice(keep_field(keep).as_bytes())
+    out.put(keep_field(keep).as_bytes())
 }
 
 /// Appends the identifier and octet 1 of a message that this profile has no row for.
-fn push_other_numbers(out: &mut Vec<u8>, id: u8, octet1: u8) -> Result<(), AllocError>
-    ensures { OnOk result (out.new.items ≡ out.old.items
+fn push_other_numbers(out: &mut ObjectWriter, id: u8, octet1: u8) -> Result<(), AllocError>
+    ensures { OnOk result (out.new ≡ out.old
         ++ (spec.number_field (codes "id") id ++ spec.number_field (codes "octet1") octet1)) }
 {
     push_number(out, ",\"id\":", u32::from(id))?;
@@ -98,8 +102,8 @@ fn push_other_numbers(out: &mut Vec<u8>, id: u8, octet1: u8) -> Result<(), Alloc
 }
 
 /// Appends the fields of a message that this profile has no row for.
-fn push_other(out: &mut Vec<u8>, id: u8, octet1: u8, body: &[u8; 10]) -> Result<(), AllocError>
-    ensures { OnOk result (out.new.items ≡ out.old.items ++ spec.other_fields id octet1 body.now) }
+fn push_other(out: &mut ObjectWriter, id: u8, octet1: u8, body: &[u8; 10]) -> Result<(), AllocError>
+    ensures { OnOk result (out.new ≡ out.old ++ spec.other_fields id octet1 body.now) }
 {
     push_other_numbers(out, id, octet1)?;
     push_octets(out, body)
@@ -135,8 +139,8 @@ fn down_name(message: &Down) -> &'static str
 }
 
 /// Appends its fields.
-fn push_down_fields(out: &mut Vec<u8>, message: &Down) -> Result<(), AllocError>
-    ensures { OnOk result (out.new.items ≡ out.old.items ++ spec.down_fields message.now) }
+fn push_down_fields(out: &mut ObjectWriter, message: &Down) -> Result<(), AllocError>
+    ensures { OnOk result (out.new ≡ out.old ++ spec.down_fields message.now) }
 {
     match message {
         Down::UpstreamOverhead { burst } => push_octets(out, burst),
@@ -165,13 +169,13 @@ fn up_name(message: &Up) -> &'static str
 
 /// Appends an ONU-ID, a serial number, a random delay and flags.
 fn push_serial_number(
-    out: &mut Vec<u8>,
+    out: &mut ObjectWriter,
     onu: u8,
     serial: &Serial,
     random: u16,
     flags: u8,
 ) -> Result<(), AllocError>
-    ensures { OnOk result (out.new.items ≡ out.old.items ++ (spec.onu_field onu ++ spec.serial_field serial.now
+    ensures { OnOk result (out.new ≡ out.old ++ (spec.onu_field onu ++ spec.serial_field serial.now
         ++ spec.number_field (codes "random") random ++ spec.number_field (codes "flags") flags)) }
 {
     push_unit(out, onu, serial)?;
@@ -180,8 +184,8 @@ fn push_serial_number(
 }
 
 /// Appends its fields.
-fn push_up_fields(out: &mut Vec<u8>, message: &Up) -> Result<(), AllocError>
-    ensures { OnOk result (out.new.items ≡ out.old.items ++ spec.up_fields message.now) }
+fn push_up_fields(out: &mut ObjectWriter, message: &Up) -> Result<(), AllocError>
+    ensures { OnOk result (out.new ≡ out.old ++ spec.up_fields message.now) }
 {
     match message {
         Up::SerialNumber {
@@ -197,28 +201,28 @@ fn push_up_fields(out: &mut Vec<u8>, message: &Up) -> Result<(), AllocError>
 }
 
 /// Appends the name with which an object begins.
-fn push_name(out: &mut Vec<u8>, name: &str) -> Result<(), AllocError>
-    ensures { OnOk result (out.new.items ≡ out.old.items ++ (codes "{\"name\":\"" ++ name.now ++ codes "\"")) }
+fn push_name(out: &mut ObjectWriter, name: &str) -> Result<(), AllocError>
+    ensures { OnOk result (out.new ≡ out.old ++ (codes "{\"name\":\"" ++ name.now ++ codes "\"")) }
 {
-    out.extend_from_slice(b"{\"name\":\"")?;
-    out.extend_from_slice(name.as_bytes())?;
-    out.extend_from_slice(b"\"")
+    out.put(b"{\"name\":\"")?;
+    out.put(name.as_bytes())?;
+    out.put(b"\"")
 }
 
 /// Appends a message of the line terminal as an object.
-pub(crate) fn push_down_object(out: &mut Vec<u8>, message: &Down) -> Result<(), AllocError>
-    ensures { OnOk result (out.new.items ≡ out.old.items ++ spec.down_object message.now) }
+pub(crate) fn push_down_object(out: &mut ObjectWriter, message: &Down) -> Result<(), AllocError>
+    ensures { OnOk result (out.new ≡ out.old ++ spec.down_object message.now) }
 {
     push_name(out, down_name(message))?;
     push_down_fields(out, message)?;
-    out.extend_from_slice(b"}")
+    out.put(b"}")
 }
 
 /// Appends a message of a unit as an object.
-pub(crate) fn push_up_object(out: &mut Vec<u8>, message: &Up) -> Result<(), AllocError>
-    ensures { OnOk result (out.new.items ≡ out.old.items ++ spec.up_object message.now) }
+pub(crate) fn push_up_object(out: &mut ObjectWriter, message: &Up) -> Result<(), AllocError>
+    ensures { OnOk result (out.new ≡ out.old ++ spec.up_object message.now) }
 {
     push_name(out, up_name(message))?;
     push_up_fields(out, message)?;
-    out.extend_from_slice(b"}")
+    out.put(b"}")
 }

@@ -1,6 +1,5 @@
 //! What stands where in a line of a trace.
 ghost use Rattle.std.specs.Prelude.{◌≡◌};
-ghost use Rattle.gp_json.specs.Fields.{opening};
 ghost use Rattle.gp_json.specs.Slots as spec;
 
 /// What stands at a part of a line.
@@ -128,44 +127,6 @@ impl Slot {
             Slot::Equals | Slot::AllocsWord | Slot::Behind | Slot::BehindSent | Slot::BehindGrant =>
                 Kind::Silent,
             Slot::End | Slot::Unknown => Kind::Unknown,
-        }
-    }
-
-    /// Gives what stands before the part in the field that it makes: the field's name, and a comma before that unless the
-    /// field is the first.
-    pub(crate) fn opening(self) -> &'static str
-        ensures { result.now ≡ opening self }
-    {
-        match self {
-            Slot::Port => "\"port\":",
-            Slot::Number => ",\"number\":",
-            Slot::Event => ",\"event\":",
-            Slot::At => ",\"at\":",
-            Slot::Code => ",\"code\":",
-            Slot::Serial | Slot::DeallocSerial => ",\"serial\":",
-            Slot::Dealloc => ",\"alloc\":",
-            Slot::Equals
-            | Slot::AllocsWord
-            | Slot::Behind
-            | Slot::BehindSent
-            | Slot::BehindGrant
-            | Slot::End
-            | Slot::Unknown => ",\"\":",
-            Slot::Reply => ",\"reply\":",
-            Slot::Onu | Slot::RangedOnu | Slot::UnitOnu => ",\"onu\":",
-            Slot::Alloc => ",\"reply_alloc\":",
-            Slot::Refusal => ",\"refusal\":",
-            Slot::Reason => ",\"reason\":",
-            Slot::Eqd | Slot::UnitEqd => ",\"eqd\":",
-            Slot::Count => ",\"count\":",
-            Slot::Phase => ",\"phase\":",
-            Slot::Attempts => ",\"attempts\":",
-            Slot::Allocs => ",\"allocs\":",
-            Slot::Sent => ",\"sent\":",
-            Slot::Grant => ",\"grant\":",
-            Slot::GrantOnu => ",\"grant_onu\":",
-            Slot::Alarm => ",\"alarm\":",
-            Slot::AlarmSerial => ",\"alarm_serial\":",
         }
     }
 

@@ -1,10 +1,10 @@
 //! Texts and numbers as JSON spells them.
-ghost use Rattle.std.specs.Prelude.{◌≡◌, ◌<◌, ◌≤◌, ◌++◌, OnOk, codes, drop, position, take, vec_len};
+ghost use Rattle.std.specs.Prelude.{◌≡◌, ◌<◌, ◌++◌, OnOk, position};
 ghost use Rattle.std.specs.List.{flat_map, list_all};
 ghost use Rattle.gp_json.specs.Spelling as spec;
-ghost use Rattle.gp_json.specs.Runs.{is_escaped};
+ghost use Rattle.gp_json.specs.Runs.{is_escaped, is_plain};
 
-use std::alloc::{AllocError, Global};
+use std::alloc::AllocError;
 
 /// Gives a hexadecimal digit.
 fn hex_digit(number: u8) -> u8
@@ -39,6 +39,17 @@ fn is_escaped(octet: u8) -> bool
     octet == b'"' || octet == b'\\' || octet < b' ' || octet > b'~'
 }
 
+/// Tells whether each octet of a text stands for itself. It looks at each, also behind one that doesn't.
+pub(crate) fn is_plain(text: &[u8]) -> bool
+    ensures { result ≡ list_all is_plain text.now }
+{
+    let mut all = true;
+    for octet in text {
+        all &= !is_escaped(*octet);
+    }
+    all
+}
+
 /// Gives the place of the first octet that doesn't stand for itself.
 fn first_escaped(text: &[u8]) -> Option<usize>
     ensures { result ≡ position is_escaped text.now }
@@ -57,38 +68,12 @@ fn push_each(out: &mut Vec<u8>, text: &[u8]) -> Result<(), AllocError>
 }
 
 /// Appends the octets of a text: at once those before the first that doesn't stand for itself, and then one by one.
-fn push_octets(out: &mut Vec<u8>, text: &[u8]) -> Result<(), AllocError>
+pub(crate) fn push_octets(out: &mut Vec<u8>, text: &[u8]) -> Result<(), AllocError>
     ensures { OnOk result (out.new.items ≡ out.old.items ++ flat_map spec.escaped text.now) }
 {
     let plain = first_escaped(text).unwrap_or(text.len());
     out.extend_from_slice(&text[..plain])?;
     push_each(out, &text[plain..])
-}
-
-/// Spells the octets of a buffer from a place on as those of a text. Those before the first that doesn't stand for
-/// itself stay in place; memory is taken only where there is one.
-fn escape_from(alloc: Global, out: &mut Vec<u8>, from: usize) -> Result<(), AllocError>
-    requires { from ≤ vec_len out.old }
-    ensures { OnOk result (out.new.items ≡ take from out.old.items ++ flat_map spec.escaped (drop from out.old.items)) }
-{
-    let text = &out.as_slice()[from..];
-    let Some(plain) = first_escaped(text) else {
-        return Ok(());
-    };
-    let place = from + plain;
-    let rest = Vec::from_slice(alloc, &text[plain..])?;
-    out.truncate(place);
-    push_each(out, rest.as_slice())
-}
-
-/// Ends the text of which a buffer holds the octets from a place on, behind a quotation mark.
-pub(crate) fn end_quoted(alloc: Global, out: &mut Vec<u8>, from: usize) -> Result<(), AllocError>
-    requires { from ≤ vec_len out.old }
-    ensures { OnOk result (out.new.items
-        ≡ take from out.old.items ++ flat_map spec.escaped (drop from out.old.items) ++ codes "\"") }
-{
-    escape_from(alloc, out, from)?;
-    out.extend_from_slice(b"\"")
 }
 
 /// Appends a text of any octets, between quotation marks: a quotation mark and a backslash behind a backslash, other

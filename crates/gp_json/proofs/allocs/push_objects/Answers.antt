@@ -13,11 +13,11 @@ overflow_add-rest c =
 pub parts-preserved : goal.parts-preserved
 parts-preserved c = (
   shorter c.parts.rest.now c.args.text.now c.in-Some.at c.parts.invariant.0,
-  object_more c.args.out.now.items c.parts.out.items c.parts.rest.now c.args.text.now _ c.push_next.new.out.items c.in-Some.at
+  object_more c.args.out.now c.parts.out c.parts.rest.now c.args.text.now _ c.push_next.new.out c.in-Some.at
       c.parts.invariant.1 c.in-Some.ensures c.in_ok-push_next.ensures refl,
 )
 
 pub returns : goal.returns
 returns c =
-    object_last c.push_alloc.result c.args.out.now.items c.parts.out.items c.parts.rest.now c.args.text.now c.push_alloc.new.out.items
+    object_last c.push_alloc.result c.args.out.now c.parts.out c.parts.rest.now c.args.text.now c.push_alloc.new.out
     c.parts.invariant.1 c.in_default.ensures c.push_alloc.ensures

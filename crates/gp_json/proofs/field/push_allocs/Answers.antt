@@ -5,6 +5,6 @@ use Rattle.gp_json.proofs.field.push_allocs.Goals as goal
 pub returns : goal.returns
 returns c = (
   refl,
-  allocs_told c.args.slot c.args.part.now c.args.out.now.items c.push_opening.new.out.items c.push_quoted.new.out.items c.extend_from_slice.new.self.items c.push_list.new.out.items
-      (search rules) (search rules) c.in_ok-extend_from_slice.ensures.items (search rules),
+  allocs_told c.args.slot c.args.part.now c.args.out.now c.push_opening.new.out c.put_quoted.new.self c.put.new.self c.push_list.new.out
+      (search rules) (search rules) c.in_ok-put.ensures (search rules),
 )

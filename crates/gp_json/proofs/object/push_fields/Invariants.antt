@@ -5,7 +5,7 @@ use Rattle.gp_json.proofs.PartsLemmas.{Leads}
 use Rattle.gp_json.proofs.object.push_fields.Given as goal
 
 abbrev pub invariant-parts : goal.invariant-parts
-invariant-parts l = Leads l.mask (parts_of l.text) l.slot (parts_behind (option_copied l.rest)) l.fn.out.items l.out.items
+invariant-parts l = Leads l.mask (parts_of l.text) l.slot (parts_behind (option_copied l.rest)) l.fn.out l.out
 
 abbrev pub decreases-parts : goal.decreases-parts
 decreases-parts l = length (parts_behind (option_copied l.rest))
