@@ -1,0 +1,9 @@
+pub mod Observer
+pub mod Watch
+pub mod Rules
+pub mod UnitRules
+pub mod Heard
+pub mod Knows
+pub mod Sent
+pub mod Fibre
+pub mod Watches
