@@ -1,0 +1,13 @@
+pub mod Sets
+pub mod Places
+pub mod Ranks
+pub mod Followeds
+pub mod Delays
+pub mod Ages
+pub mod Numbers
+pub mod Indexed
+pub mod Watching
+pub mod GivingUp
+pub mod Noting
+pub mod Holding
+pub mod Gathered

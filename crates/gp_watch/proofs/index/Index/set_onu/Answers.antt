@@ -1,0 +1,18 @@
+use Rattle.std.proofs.Common.{◌∙◌}
+use Rattle.std.proofs.lemmas.List.{get_or_default}
+use Rattle.gp_watch.specs.Index.{IsPlaceOf, blank_place, with_onu}
+use Rattle.gp_watch.proofs.Followeds.{changed_absent}
+use Rattle.gp_watch.proofs.Ranks.{changed_found, found_none}
+use Rattle.gp_watch.proofs.index.Index.set_onu.Goals as goal
+
+pub returns-in-Ok : goal.returns-in-Ok
+returns-in-Ok c =
+    let at : IsPlaceOf c.self.inside.places.items c.rank_of.result c.in-Ok.at = rw c.as_slice.ensures.value at c.in-Ok.ensures.found in
+    let read = c.index_mut.ensures.value ∙ get_or_default c.self.inside.places.items c.in-Ok.at c.index_mut.result.now blank_place at.within in
+    rw (← c.self.view_is, ← c.rank_of.ensures.serial)
+    (changed_found c.self.inside.places.items c.rank_of.result c.in-Ok.at c.index_mut.result.now (with_onu c.args.onu) c.self.invariant at read)
+
+pub returns-in_default : goal.returns-in_default
+returns-in_default c =
+    let none = found_none c.self.inside.places.items c.rank_of.result _ c.rank_of.ensures.fits c.self.invariant (rw c.as_slice.ensures.value at c.in_default.ensures.absent) in
+    rw (← c.self.view_is, ← c.rank_of.ensures.serial) (changed_absent _ _ (with_onu c.args.onu) none)
