@@ -1,6 +1,6 @@
 //! What an observer of the messages on a port's fibre knows of its units, and which rules a message breaks by what is
 //! known before it (G.984.3, clauses 9 and 10; what is judged is this profile's own rule): definitions that compute, and
-//! laws of them. Nothing runs here, and no program judges logs yet.
+//! laws of them. Nothing runs here; `gp_watch` keeps what is known.
 //!
 //! Promise: along each run of the machine the messages tell the unit table, and the terminal breaks no rule, whatever
 //! bursts come (`messages_tell_units`, `watchers_know_units`, `terminal_breaks_no_rule`, `sent_codes_are_heard`).
