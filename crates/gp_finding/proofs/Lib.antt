@@ -1,0 +1,6 @@
+pub mod Reading
+pub mod Holding
+pub mod Pieces
+pub mod Telling
+pub mod Cases
+pub mod Naming

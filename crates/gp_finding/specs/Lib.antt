@@ -1,0 +1,10 @@
+pub mod Names
+pub mod Piece
+pub mod Hearing
+pub mod Words
+pub mod Why
+pub mod Reason
+pub mod Text
+pub mod Object
+pub mod Told
+pub mod Laws
