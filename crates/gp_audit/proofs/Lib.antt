@@ -1,0 +1,9 @@
+pub mod TextLemmas
+pub mod ReadLemmas
+pub mod BookLemmas
+pub mod FindingLemmas
+pub mod PortLemmas
+pub mod AgainLemmas
+pub mod CountLemmas
+pub mod ServingLemmas
+pub mod OutcomeLemmas

@@ -1,0 +1,65 @@
+-- Lines that are handed to an auditor.
+use Rattle.std.proofs.Common.{◌≡◌, ℕ, ◌+◌, List, ◌++◌, Option, Result, Ok, Err, IsErrAnd, sym, ap, subst, ◌∙◌}
+use Rattle.gp_flow.specs.declared.fault.LineFault.{LineFault}
+use Rattle.gp_flow.specs.declared.fault.LineFault.TheVariants.{Write}
+use Rattle.gp_flow.specs.Lines.{Answers}
+use Rattle.gp_flow.proofs.AnswerLemmas.{put_stopped}
+use Rattle.gp_stream.specs.declared.sink.WriteStopped.{WriteStopped}
+use Rattle.gp_stream.specs.Sink.{SinkState, Puts}
+use Rattle.gp_ploam.specs.declared.check.Mask.{Mask}
+use Rattle.gp_log.specs.declared.fault.LogFault.{LogFault}
+use Rattle.gp_log.specs.declared.line.LogLine.{LogLine}
+use Rattle.gp_finding.specs.declared.error.AuditSum.{AuditSum}
+use Rattle.gp_audit.specs.declared.book.Book.{Book}
+use Rattle.gp_audit.specs.declared.options.AuditForm.{AuditForm}
+use Rattle.gp_audit.specs.Again.{TellsAgain}
+use Rattle.gp_audit.specs.Audit.{AuditState, Auditing, Audits, ReadsLine, TellsLineAgain, next_told}
+use Rattle.gp_audit.specs.Book.{Tells}
+use Rattle.gp_audit.specs.Hearing.{ports_after, told_of}
+use Rattle.gp_audit.specs.Notice.{notices_text, sum_behind, sum_with}
+use Rattle.gp_audit.specs.Port.{PortState}
+
+-- where it stands behind a line
+abbrev pub stands : AuditState → List PortState → AuditSum → AuditState
+stands old ports sum = record old { ports = ports; sum = sum }
+
+-- what the book says of a line is what is said to it
+pub audited : (old : AuditState) (line : Option (List ℕ)) (read : Result LogLine LogFault) (again : List ℕ) (a b : Book) (ports : List PortState)
+    → ReadsLine line read → TellsLineAgain old.options line read again → a.said.items ≡ again → a.sum ≡ sum_behind old.sum
+    → Tells old.options (next_told old read) a b → ports ≡ ports_after old.options old.ports read → Audits old line b.said.items (stands old ports b.sum)
+audited old line read again a b ports reads tells first begun told noted =
+    let sums = told.sum ∙ ap (λ (s : AuditSum). sum_with s (next_told old read)) begun in (
+      read,
+      reads,
+      record {
+        again = again;
+        tells = tells;
+        said_is = told.said ∙ ap (λ (l : List ℕ). l ++ notices_text old.options (next_told old read)) first;
+        next = λ i. stands old (noted i) (sums i);
+      },
+    )
+
+-- the same of a line with this number, and how it stood before it
+pub line_says : (old now : AuditState) (line : Option (List ℕ)) (read : Result LogLine LogFault) (again said : List ℕ) (number : ℕ) (a b : Book) (ports : List PortState) → old ≡ now
+    → ReadsLine line read → TellsLineAgain old.options line read again → a.said.items ≡ again → a.sum ≡ sum_behind old.sum → number ≡ old.sum.lines + 1
+    → Tells old.options (told_of old.options old.ports number read) a b → ports ≡ ports_after old.options old.ports read → said ≡ b.said.items
+    → Audits now line said (stands old ports b.sum)
+line_says old now line read again said number a b ports is reads tells first begun counted told noted all =
+    let here = subst (λ (n : ℕ). Tells old.options (told_of old.options old.ports n read) a b) counted told in
+    let says = audited old line read again a b ports reads tells first begun here noted in
+    subst (λ (o : AuditState). Audits o line said (stands old ports b.sum)) is
+    (subst (λ (l : List ℕ). Audits old line l (stands old ports b.sum)) (sym all) says)
+
+-- a line is told again with the mask and the text that it has
+pub again_told : (form : AuditForm) (m mask : Mask) (t text : List ℕ) (read : Result LogLine LogFault) (out : List ℕ) → m ≡ mask → t ≡ text → TellsAgain form m t read out
+    → TellsAgain form mask text read out
+again_told form m mask t text read out masked same h =
+    subst (λ (x : Mask). TellsAgain form x text read out) masked (subst (λ (x : List ℕ). TellsAgain form m x read out) same h)
+
+-- a line of which the writer took a part
+pub stopped_as : {W T : Type 0} (line : Option (List ℕ)) (old new next : AuditState) (before after : SinkState W) (said : List ℕ) (e : WriteStopped) (r : Result (Unit {0}) LineFault)
+    → Audits old line said next → Puts {T = T} before after said (Err e) → IsErrAnd r (λ f. f ≡ Write) → Answers Auditing line old new before after r
+stopped_as line old new next before after said e (Ok x) says puts told = absurd told
+stopped_as line old new next before after said e (Err f) says puts told =
+    subst (λ (g : LineFault). Answers {T = Unit {0}} Auditing line old new before after (Err g)) (sym told)
+    (put_stopped Auditing line old new next before after said e says puts)

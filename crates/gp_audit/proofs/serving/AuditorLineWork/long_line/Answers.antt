@@ -1,0 +1,14 @@
+use Rattle.std.proofs.Common.{[], None, Err, refl, rules}
+use Rattle.gp_log.specs.declared.fault.LogFault.TheVariants.{Long}
+use Rattle.gp_audit.specs.Audit.{AuditState, Audits}
+use Rattle.gp_audit.proofs.ServingLemmas.{line_says, stands, stopped_as}
+use Rattle.gp_audit.proofs.serving.AuditorLineWork.long_line.Goals as goal
+
+pub returns-in_err-put : goal.returns-in_err-put
+returns-in_err-put g c =
+    let old : AuditState = record { options = c.self.inside.options; ports = c.self.inside.ports; sum = c.self.inside.book.sum } in
+    let says : Audits c.args.self.now None c.as_slice.result.now (stands old c.self.inside.ports c.tell_error.new.self.sum) =
+    line_says old c.args.self.now None (Err Long) [] c.as_slice.result.now c.in_ok-number.number c.begin_line.new.self c.tell_error.new.self c.self.inside.ports c.self.view_is refl refl
+    c.in_ok-number.ensures.empty c.in_ok-number.ensures.sum c.in_ok-number.ensures.number c.in_ok-tell_error.ensures refl c.as_slice.ensures.value in
+    stopped_as {T = Unit {0}} None c.args.self.now _ (stands old c.self.inside.ports c.tell_error.new.self.sum) c.args.sink.now c.put.new.self c.as_slice.result.now _ _ says
+    (search rules) c.from_residual-in_err-put.ensures.1

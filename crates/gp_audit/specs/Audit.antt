@@ -1,0 +1,83 @@
+-- What is said to the lines of a log, one after another (this profile's own rule).
+use Rattle.std.specs.Prelude.{◌≡◌, ℕ, ◌+◌, Bool, false, List, [], ◌++◌, replicate, Option, None, Some, Result, Err}
+use Rattle.std.specs.List.{list_all}
+use Rattle.gp_flow.specs.Lines.{Speech, WholeLines}
+use Rattle.gp_log.specs.declared.fault.LogFault.{LogFault}
+use Rattle.gp_log.specs.declared.fault.LogFault.TheVariants as faults
+use Rattle.gp_log.specs.declared.line.LogLine.{LogLine}
+use Rattle.gp_log.specs.Line.{Reads, text_of}
+use Rattle.gp_finding.specs.declared.error.AuditSum.{AuditSum}
+use Rattle.gp_audit.specs.declared.options.AuditOptions.{AuditOptions}
+use Rattle.gp_audit.specs.Again.{TellsAgain}
+use Rattle.gp_audit.specs.Hearing.{ports_after, told_of}
+use Rattle.gp_audit.specs.Notice.{Notice, notices_text, sum_behind, sum_with}
+use Rattle.gp_audit.specs.Port.{PortState, port_begun}
+use Rattle.gp_audit.specs.Port as port
+
+-- how many ports a log may tell of
+abbrev pub most_ports : ℕ
+most_ports = 16
+
+-- where it stands: what is known of each port, and how many lines, findings and errors there were
+pub record AuditState : Type 0 where
+  pub options : AuditOptions
+  pub ports : List PortState
+  pub sum : AuditSum
+
+-- before the first line
+abbrev pub audit_begun : AuditOptions → AuditState
+audit_begun options =
+    record {
+      options = options;
+      ports = replicate most_ports (port_begun options.midway);
+      sum = record { lines = 0; findings = 0; errors = 0 };
+    }
+
+-- nothing was heard on any port
+abbrev pub is_silent : AuditState → Bool
+is_silent state = list_all port.is_silent state.ports
+
+-- ---- a line that was read
+
+-- what is told of the next line, by what was read of it
+abbrev pub next_told : AuditState → Result LogLine LogFault → List Notice
+next_told state read = told_of state.options state.ports (state.sum.lines + 1) read
+
+-- how it stands then: the line is counted, and what is told of it
+abbrev pub audit_after : AuditState → Result LogLine LogFault → AuditState
+audit_after state read =
+    record state {
+      ports = ports_after state.options state.ports read;
+      sum = sum_with (sum_behind state.sum) (next_told state read);
+    }
+
+-- ---- what is said
+
+-- what is read of a line, or of one that is too long to be looked at
+abbrev pub ReadsLine : Option (List ℕ) → Result LogLine LogFault → Type 0
+ReadsLine None read = read ≡ Err faults.Long
+ReadsLine (Some line) read = Reads line read
+
+-- how it is told again; of one that is too long there is nothing to tell
+abbrev pub TellsLineAgain : AuditOptions → Option (List ℕ) → Result LogLine LogFault → List ℕ → Type 0
+TellsLineAgain options None read again = again ≡ []
+TellsLineAgain options (Some line) read again = TellsAgain options.form options.mask (text_of line) read again
+
+-- what is said to a line: it is told again, and behind it what is told of it
+pub record SaysRead (old : AuditState) (line : Option (List ℕ)) (read : Result LogLine LogFault) (said : List ℕ)
+    (new : AuditState) : Type 0 where
+  pub again : List ℕ
+  pub tells : TellsLineAgain old.options line read again
+  pub said_is : said ≡ again ++ notices_text old.options (next_told old read)
+  pub next : new ≡ audit_after old read
+
+abbrev pub Audits : AuditState → Option (List ℕ) → List ℕ → AuditState → Type 0
+Audits old line said new = (read : Result LogLine LogFault) × ReadsLine line read × SaysRead old line read said new
+
+-- what is said to lines, each of which is answered whole or not at all
+abbrev pub Auditing : Speech AuditState
+Auditing = WholeLines Audits
+
+-- it goes on to the end of the input
+abbrev pub never : AuditState → Bool
+never state = false

@@ -1,0 +1,11 @@
+pub mod RuleSet
+pub mod Faults
+pub mod Port
+pub mod Notice
+pub mod Hearing
+pub mod Book
+pub mod Places
+pub mod Again
+pub mod Audit
+pub mod Ending
+pub mod Outcome

@@ -1,0 +1,95 @@
+//! The lines of a log, one after another.
+ghost use Rattle.std.specs.Prelude.{◌≡◌, IfOk};
+ghost use Rattle.gp_audit.specs.Audit.{audit_begun, is_silent};
+ghost use Rattle.gp_audit.specs.Outcome.{TellsEnd};
+
+use crate::again::Again;
+use crate::book::Book;
+use crate::options::AuditOptions;
+use crate::ports::Ports;
+use gp_finding::{AuditSum, push_sum};
+use gp_flow::LineFault;
+use gp_stream::Sink;
+use std::alloc::{AllocError, Global};
+use std::io::Write;
+use std::marker::Model;
+
+/// How much room the buffer of a line has at first.
+const LINE_ROOM: usize = 512;
+
+/// Audits the lines of a log, one after another. Contracts see what it judges by and tells, what is known of each port,
+/// and how many lines, findings and errors there were.
+#[derive(Drop)]
+pub struct Auditor {
+    pub(crate) options: AuditOptions,
+    pub(crate) ports: Ports,
+    pub(crate) book: Book,
+    pub(crate) again: Again,
+}
+
+impl Model for Auditor {
+    ghost use Rattle.std.specs.Prelude.{◌≡◌};
+    ghost use Rattle.std.specs.Coded.{codes};
+    ghost use Rattle.gp_census.specs.Kept.{census_code};
+    ghost use Rattle.gp_watch.specs.Kept.{watch_code};
+    ghost use Rattle.gp_audit.specs.Audit.{AuditState};
+
+    ghost Value = { AuditState };
+
+    ghost coded = { Prim.hlevel (codes, watch_code, census_code) };
+
+    ghost view = { λ a. record { options = a.options; ports = a.ports; sum = a.book.sum } };
+
+    ghost invariant = { λ a. a.again ≡ a.options.mask };
+}
+
+impl Auditor {
+    /// Makes one to which no line came. Fails only where there is no memory; a line takes more only for a serial number
+    /// that is new, or where what is said to it needs more room than any line before.
+    pub fn begin(alloc: Global, options: &AuditOptions) -> Result<Auditor, AllocError>
+        ensures { IfOk result (λ auditor. auditor ≡ audit_begun options.now) }
+    {
+        let ports = Ports::begin(alloc, options.midway)?;
+        let said = Vec::with_capacity(alloc, LINE_ROOM)?;
+        let sum = AuditSum {
+            lines: 0,
+            findings: 0,
+            errors: 0,
+        };
+        Ok(Auditor {
+            options: *options,
+            ports,
+            book: Book { said, sum },
+            again: Again::begin(alloc, options.mask),
+        })
+    }
+
+    /// How many lines, findings and errors there were.
+    pub fn sum(&self) -> AuditSum
+        ensures { result ≡ self.now.sum }
+    {
+        self.book.sum
+    }
+
+    /// Tells whether nothing was heard on any port, whatever lines came: neither a message nor a grant.
+    pub fn is_silent(&self) -> bool
+        ensures { result ≡ is_silent self.now }
+    {
+        self.ports.are_silent()
+    }
+
+    /// Writes what was counted of the units, where that is wanted, and the sum.
+    pub(crate) fn tell_end<W: Write>(&mut self, sink: &mut Sink<W>) -> Result<(), LineFault>
+        ensures told { TellsEnd self.old sink.old sink.new result }
+        ensures same { self.new ≡ self.old }
+    {
+        let form = self.options.finding_form();
+        self.book.said.clear();
+        if self.options.units {
+            self.ports.push_units(&mut self.book.said, &self.options)?;
+        }
+        push_sum(&mut self.book.said, form, &self.book.sum)?;
+        sink.write_whole(self.book.said.as_slice())?;
+        Ok(())
+    }
+}

@@ -1,0 +1,48 @@
+//! Why nothing is said of a line.
+ghost use Rattle.std.specs.Prelude.{◌≡◌};
+ghost use Rattle.gp_audit.specs.Faults.{of_watch, unanswered};
+
+use gp_flow::LineFault;
+use gp_watch::WatchFault;
+use std::alloc::AllocError;
+
+/// Why nothing is said of a line.
+#[derive(Clone, Copy, Debug, PartialEq, Eq)]
+pub(crate) enum AuditFault {
+    /// Out of memory.
+    OutOfMemory,
+    /// A count can't go on.
+    Full,
+}
+
+impl From<AllocError> for AuditFault {
+    ghost use Rattle.gp_audit.specs.declared.fault.AuditFault.{AuditFault};
+
+    ghost from_gives = { λ _ fault. fault ≡ AuditFault.OutOfMemory };
+
+    fn from(_error: AllocError) -> AuditFault {
+        AuditFault::OutOfMemory
+    }
+}
+
+impl From<WatchFault> for AuditFault {
+    ghost from_gives = { λ watch fault. fault ≡ of_watch watch };
+
+    fn from(fault: WatchFault) -> AuditFault {
+        match fault {
+            WatchFault::OutOfMemory => AuditFault::OutOfMemory,
+            WatchFault::Full => AuditFault::Full,
+        }
+    }
+}
+
+impl From<AuditFault> for LineFault {
+    ghost from_gives = { λ audit fault. fault ≡ unanswered audit };
+
+    fn from(fault: AuditFault) -> LineFault {
+        match fault {
+            AuditFault::OutOfMemory => LineFault::OutOfMemory,
+            AuditFault::Full => LineFault::Full,
+        }
+    }
+}

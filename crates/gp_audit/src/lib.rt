@@ -1,0 +1,37 @@
+//! Judges the lines of a log, or of a trace, by the rules that don't depend on a schedule, as they come.
+//!
+//! Promise: for any input, what is written is what each line breaks, by the definitions, in order, then what was counted
+//! of the units, where that is wanted, and the sum; each line's findings are out before more is waited for (`audit_log`,
+//! `Auditor`).
+//!
+//! - `options.rt`: `AuditOptions`, what it judges by and tells; `rule_set.rt`: `RuleSet`, some of the rules.
+//! - `port.rt`: what is known of one port, and what is told of something that is heard there; `ports.rt`: the ports.
+//! - `book.rt`: what is said of the line at hand, and the counts. `again.rt`: a line told again, in words.
+//!   `text.rt`: the text of a line.
+//! - `auditor.rt`: `Auditor`, which is given lines one after another; `serving.rt`: as what serves lines.
+//!   `fault.rt`: why nothing is said of a line.
+//! - `running.rt`: `audit_log`, from the bytes of a log to its findings and the sum.
+//!
+//! Where to make which change: which rules there are stands in `gp_observer`, how they are told in `gp_finding`, how a
+//! line is read in `gp_log`. What is told of something heard stands in `specs/Hearing.antt`, which of it is told in
+//! `specs/RuleSet.antt`, what is said to a line in `specs/Audit.antt`, how it is told again in `specs/Again.antt`,
+//! what is told at the end in `specs/Ending.antt`, and how it may end in `specs/Outcome.antt`. What is counted of units
+//! stands in `gp_census`.
+#![tactic(auto)]
+
+mod again;
+mod auditor;
+mod book;
+mod fault;
+mod options;
+mod port;
+mod ports;
+mod rule_set;
+mod running;
+mod serving;
+mod text;
+
+pub use auditor::Auditor;
+pub use options::{AuditForm, AuditOptions, Told};
+pub use rule_set::RuleSet;
+pub use running::audit_log;

@@ -1,0 +1,156 @@
+//! What is known of the ports.
+ghost use Rattle.std.specs.Prelude.{◌≡◌, ◌<◌, ◌++◌, IfOk, OnOk, replicate, length, slice_set};
+ghost use Rattle.gp_audit.specs.Book.{Tells};
+ghost use Rattle.gp_audit.specs.Audit.{most_ports};
+ghost use Rattle.gp_audit.specs.Ending.{first_units};
+ghost use Rattle.gp_audit.specs.Hearing.{log_told, port_at, port_logged, port_ticked, port_traced, ports_after, told_of, trace_told};
+ghost use Rattle.gp_audit.specs.Port.{is_silent, port_begun};
+ghost use Rattle.std.specs.List.{list_all};
+ghost use Rattle.gp_audit.specs.Places.{IsNear};
+
+use crate::book::Book;
+use crate::fault::AuditFault;
+use crate::options::{AuditOptions, PORTS};
+use crate::port::Port;
+use gp_finding::{LineError, Place};
+use gp_log::{LogFault, LogLine, Said};
+use std::alloc::{AllocError, Global};
+use std::marker::Model;
+
+/// What is known of each of sixteen ports.
+#[derive(Drop)]
+pub(crate) struct Ports {
+    ports: Vec<Port>,
+}
+
+impl Model for Ports {
+    ghost use Rattle.std.specs.Prelude.{◌≡◌, List, length};
+    ghost use Rattle.std.specs.Coded.{codes};
+    ghost use Rattle.gp_census.specs.Kept.{census_code};
+    ghost use Rattle.gp_watch.specs.Kept.{watch_code};
+    ghost use Rattle.gp_audit.specs.Port.{PortState};
+
+    ghost Value = { List PortState };
+
+    ghost coded = { Prim.hlevel (codes, watch_code, census_code) };
+
+    ghost view = { λ p. p.ports.items };
+
+    ghost invariant = { λ p. length p.ports.items ≡ 16 };
+}
+
+/// Opens each port: nothing was heard.
+fn open(alloc: Global, midway: bool) -> Result<Vec<Port>, AllocError>
+    ensures { IfOk result (λ ports. ports.items ≡ replicate 16 (port_begun midway)) }
+{
+    let mut ports = Vec::with_capacity(alloc, PORTS)?;
+    for _ in 0..PORTS {
+        ports.push(Port::begin(alloc, midway)?)?;
+    }
+    Ok(ports)
+}
+
+impl Ports {
+    /// Nothing was heard on any of them.
+    pub(crate) fn begin(alloc: Global, midway: bool) -> Result<Ports, AllocError>
+        ensures { IfOk result (λ ports. ports ≡ replicate 16 (port_begun midway)) }
+    {
+        Ok(Ports {
+            ports: open(alloc, midway)?,
+        })
+    }
+
+    /// Tells whether nothing was heard on any of them.
+    pub(crate) fn are_silent(&self) -> bool
+        ensures { result ≡ list_all is_silent self.now }
+    {
+        self.ports.iter().all(|port| port.is_silent())
+    }
+
+    /// Tells what was counted of the units of each port on which something was heard.
+    pub(crate) fn push_units(
+        &self,
+        out: &mut Vec<u8>,
+        options: &AuditOptions,
+    ) -> Result<(), AllocError>
+        ensures { OnOk result (out.new.items ≡ out.old.items ++ first_units options.now self.now most_ports) }
+    {
+        for place in 0..PORTS {
+            self.ports[place].push_units(out, options, place as u8)?;
+        }
+        Ok(())
+    }
+
+    /// Hears a line of a log on its port, unless its time is before the port's.
+    fn hear_log(
+        &mut self,
+        book: &mut Book,
+        options: &AuditOptions,
+        place: &Place,
+        time: u64,
+        said: &Said,
+    ) -> Result<(), AuditFault>
+        requires { place.now.port < 16 }
+        ensures told { OnOk result (Tells options.now (log_told options.now place.now
+            (port_at options.now self.old place.now.port) time said.now) book.old book.new) }
+        ensures noted { OnOk result (self.new ≡ slice_set self.old place.now.port
+            (port_logged options.now (port_at options.now self.old place.now.port) time said.now)) }
+    {
+        let port = &mut self.ports[usize::from(place.port)];
+        port.hear_log(book, options, place, time, said)
+    }
+
+    /// Hears a line of a trace on its port: what it says, one behind the other.
+    fn hear_trace(
+        &mut self,
+        book: &mut Book,
+        options: &AuditOptions,
+        place: &Place,
+        is_frame: bool,
+        first: &Option<Said>,
+        second: &Option<Said>,
+    ) -> Result<(), AuditFault>
+        requires { place.now.port < 16 }
+        ensures told { OnOk result (Tells options.now (trace_told options.now place.now
+            (port_ticked (port_at options.now self.old place.now.port) is_frame) first.now second.now)
+            book.old book.new) }
+        ensures noted { OnOk result (self.new ≡ slice_set self.old place.now.port (port_traced options.now
+            (port_ticked (port_at options.now self.old place.now.port) is_frame) first.now second.now)) }
+    {
+        let port = &mut self.ports[usize::from(place.port)];
+        port.hear_trace(book, options, place, is_frame, first, second)
+    }
+
+    /// Audits a line, by what was read of it.
+    pub(crate) fn audit(
+        &mut self,
+        book: &mut Book,
+        options: &AuditOptions,
+        line: u64,
+        read: &Result<LogLine, LogFault>,
+    ) -> Result<(), AuditFault>
+        requires { IsNear read.now }
+        ensures told { OnOk result (Tells options.now (told_of options.now self.old line read.now) book.old book.new) }
+        ensures noted { OnOk result (self.new ≡ ports_after options.now self.old read.now) }
+    {
+        match read {
+            Ok(LogLine::Remark) => Ok(()),
+            Ok(LogLine::Log { port, time, said }) => {
+                let place = Place { line, port: *port };
+                self.hear_log(book, options, &place, *time, said)
+            }
+            Ok(
+                LogLine::Trace {
+                    port,
+                    is_frame,
+                    first,
+                    second,
+                },
+            ) => {
+                let place = Place { line, port: *port };
+                self.hear_trace(book, options, &place, *is_frame, first, second)
+            }
+            Err(fault) => book.tell_error(options, line, LineError::Log(*fault)),
+        }
+    }
+}

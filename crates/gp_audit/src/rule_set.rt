@@ -1,0 +1,65 @@
+//! Some of the rules.
+ghost use Rattle.std.specs.Prelude.{◌≡◌, ◌<◌, true, false, slice_set};
+ghost use Rattle.gp_observer.specs.declared.rule.Rule.{Rule as AnyRule};
+ghost use Rattle.gp_audit.specs.RuleSet.{contains, rule_place};
+
+use gp_observer::Rule;
+
+/// How many rules there are.
+const RULES: usize = 19;
+
+/// Some of the rules.
+#[derive(Clone, Copy, Debug, PartialEq, Eq)]
+pub struct RuleSet {
+    /// Whether each is among them, in the order of `Rule`.
+    pub places: [bool; RULES],
+}
+
+/// Gives the place of a rule in their order.
+fn rule_place(rule: Rule) -> usize
+    ensures place { result ≡ rule_place rule }
+    ensures within { result < 19 }
+{
+    rule as usize
+}
+
+impl RuleSet {
+    /// All rules.
+    pub fn all() -> RuleSet
+        ensures { (rule : AnyRule) → contains result rule ≡ true }
+    {
+        RuleSet {
+            places: [true; RULES],
+        }
+    }
+
+    /// No rule.
+    pub fn none() -> RuleSet
+        ensures { (rule : AnyRule) → contains result rule ≡ false }
+    {
+        RuleSet {
+            places: [false; RULES],
+        }
+    }
+
+    /// Tells whether a rule is among them.
+    pub fn contains(&self, rule: Rule) -> bool
+        ensures { result ≡ contains self.now rule }
+    {
+        self.places[rule_place(rule)]
+    }
+
+    /// Puts a rule in.
+    pub fn insert(&mut self, rule: Rule)
+        ensures { self.new ≡ record { places = slice_set self.old.places (rule_place rule) true } }
+    {
+        self.places[rule_place(rule)] = true;
+    }
+
+    /// Takes a rule out.
+    pub fn remove(&mut self, rule: Rule)
+        ensures { self.new ≡ record { places = slice_set self.old.places (rule_place rule) false } }
+    {
+        self.places[rule_place(rule)] = false;
+    }
+}

@@ -1,0 +1,38 @@
+//! An auditor serves lines.
+use crate::auditor::Auditor;
+use crate::text::text_of;
+use gp_finding::LineError;
+use gp_flow::{LineFault, LineWork};
+use gp_log::{LogFault, read_line};
+use gp_stream::Sink;
+use std::io::Write;
+
+impl LineWork for Auditor {
+    ghost use Rattle.gp_audit.specs.Audit.{Auditing, never};
+
+    ghost speech = { Auditing };
+
+    ghost over = { never };
+
+    fn is_over(&self) -> bool {
+        false
+    }
+
+    fn line<W: Write>(&mut self, text: &[u8], sink: &mut Sink<W>) -> Result<(), LineFault> {
+        let read = read_line(text);
+        let number = self.book.begin_line()?;
+        self.again.tell_in(self.options.form, text_of(text), &read, &mut self.book.said)?;
+        self.ports
+            .audit(&mut self.book, &self.options, number, &read)?;
+        sink.put(self.book.said.as_slice())?;
+        Ok(())
+    }
+
+    fn long_line<W: Write>(&mut self, sink: &mut Sink<W>) -> Result<(), LineFault> {
+        let number = self.book.begin_line()?;
+        self.book
+            .tell_error(&self.options, number, LineError::Log(LogFault::Long))?;
+        sink.put(self.book.said.as_slice())?;
+        Ok(())
+    }
+}
