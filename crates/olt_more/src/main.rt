@@ -2,13 +2,14 @@
 //! itself, and prints a digest of every octet that was written and of every field that was answered. Each seed gives
 //! other inputs of the same kinds and sizes, and the same digest on every run.
 //!
-//! Jobs: `ports`, `storm`, `codes`, `told`. Each has PARTS parts, one after the other, of kinds that take turns. `each`
+//! Jobs: `ports`, `storm`, `codes`, `told`, `audit`. Each has PARTS parts, one after the other, of kinds that take turns. `each`
 //! does the first part of each job, then the second of each, and so on.
 //!
 //! - `ports.rt`: sixteen ports in a program of its own, all of whose pieces and images are read.
 //! - `storm.rt`: storms of one to sixteen ports, by threads.
 //! - `decoding.rt`: codes that are decoded, and words that are encoded; `octets.rt`: the octets of those codes.
 //! - `told.rt`: what is played or driven is told in words and as JSON; `fibre.rt`, `bench.rt`: the scripts and lines.
+//! - `audit.rt`: logs that are audited.
 //! - `picks.rt`: traces in which any free number is picked, verified.
 //! - `traffic.rt`: what goes on at ports, whoever serves it; `units.rt`: the units of a port.
 //! - `fields.rt`, `images.rt`: digests of entries, and of images and pieces.
@@ -16,6 +17,7 @@
 //! - `digest.rt`: a writer that keeps a digest. `fault.rt`: why a job stopped early.
 #![tactic(auto)]
 
+mod audit;
 mod bench;
 mod choices;
 mod codes;
@@ -44,7 +46,7 @@ use std::sync::Wait;
 use std::thread::Threads;
 
 const USAGE: &str =
-    "usage: olt_more ports|storm|codes|told|each PARTS SEED, numbers up to 4294967295";
+    "usage: olt_more ports|storm|codes|told|audit|each PARTS SEED, numbers up to 4294967295";
 
 /// Which job is asked for.
 #[derive(Clone, Copy)]
@@ -53,6 +55,7 @@ enum Job {
     Storm,
     Codes,
     Told,
+    Audit,
     Each,
 }
 
@@ -71,6 +74,7 @@ fn job_of(word: &str) -> Option<Job> {
         "storm" => Some(Job::Storm),
         "codes" => Some(Job::Codes),
         "told" => Some(Job::Told),
+        "audit" => Some(Job::Audit),
         "each" => Some(Job::Each),
         _ => None,
     }
@@ -119,6 +123,7 @@ fn do_part<R: AllocGlobal + Threads + Wait + Sync>(
         Job::Ports => ports::serve(alloc, part, seed, digest),
         Job::Storm => storm::run(rt, part, seed, digest),
         Job::Codes => decoding::decode(alloc, part, seed, digest),
+        Job::Audit => audit::audit(alloc, part, seed, digest),
         Job::Told | Job::Each => told::tell(alloc, part, seed, digest),
     }
 }
