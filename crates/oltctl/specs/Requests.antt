@@ -10,8 +10,10 @@ use Rattle.gp_decode.specs.declared.direction.Direction.TheVariants.{Each}
 use Rattle.gp_decode.specs.declared.direction.Direction.TheVariants as direction
 use Rattle.gp_decode.specs.LineText.{direction_of, is_remark, without_return}
 use Rattle.oltctl.specs.CommandLine.{code_named, file_named, form_named, is_json, mask_named, words_named}
+use Rattle.oltctl.specs.declared.request.Audit.{Audit as WantedAudit}
 use Rattle.oltctl.specs.declared.request.Request.{Request}
-use Rattle.oltctl.specs.declared.request.Request.TheVariants.{Replay, Drive, Storm, Check, Verify, Decode, DecodeLines, Encode, EncodeLines, Explain}
+use Rattle.oltctl.specs.declared.request.Request.TheVariants.{Replay, Drive, Storm, Check, Verify, Audit, Decode, DecodeLines, Encode, EncodeLines, Explain}
+use Rattle.oltctl.specs.declared.request.Explanation.{Explanation}
 use Rattle.oltctl.specs.declared.request.Play.{Play}
 use Rattle.oltctl.specs.declared.request.Told.{Told}
 use Rattle.oltctl.specs.declared.request.Verification.{Verification}
@@ -107,6 +109,25 @@ abbrev pub AsksToVerify : List Row → Request → Type 0
 AsksToVerify rows (Verify wanted) = AsksForVerification rows wanted
 AsksToVerify rows _ = ⊥
 
+-- the rows of `audit` ask to audit LOG, or standard input where it is left out, by these options as they are given
+pub record AsksForAudit (rows : List Row) (wanted : WantedAudit) : Type 0 where
+  pub log : name_in wanted.log ≡ file_named (first_of (codes "log") rows)
+  pub mask : wanted.mask ≡ mask_named (first_of (codes "mask") rows)
+  pub teqd : option_map texts wanted.teqd ≡ all_of (codes "teqd") rows
+  pub drift : IsNumber rows (codes "drift") wanted.drift
+  pub midway : IsFlag rows (codes "midway") wanted.midway
+  pub side : name_in wanted.side ≡ first_of (codes "side") rows
+  pub only : option_map texts wanted.only ≡ all_of (codes "only") rows
+  pub without : option_map texts wanted.without ≡ all_of (codes "without") rows
+  pub words : IsFlag rows (codes "words") wanted.words
+  pub units : IsFlag rows (codes "units") wanted.units
+  pub json : wanted.json ≡ is_json (first_of (codes "format") rows)
+  pub progress : IsFlag rows (codes "progress") wanted.progress
+
+abbrev pub AsksToAudit : List Row → Request → Type 0
+AsksToAudit rows (Audit wanted) = AsksForAudit rows wanted
+AsksToAudit rows _ = ⊥
+
 -- whose messages codes are: where each may be of either, it says so itself
 abbrev pub direction_asked : Bool → Bool → Direction
 direction_asked upstream both = if both then Each else direction_of upstream
@@ -162,11 +183,16 @@ AsksToEncode rows (EncodeLines upstream mask) =
     × (mask ≡ mask_named (first_of (codes "mask") rows))
 AsksToEncode rows _ = ⊥
 
--- the rows of `explain` ask for TRACE in words, or for standard input where it is left out, under the mask of `--mask`
+-- the rows of `explain` ask for TRACE in words, or for standard input where it is left out, under the mask of `--mask`;
+-- with `--log` they ask for it as a log
+pub record AsksForExplanation (rows : List Row) (wanted : Explanation) : Type 0 where
+  pub trace : name_in wanted.trace ≡ file_named (first_of (codes "trace") rows)
+  pub mask : wanted.mask ≡ mask_named (first_of (codes "mask") rows)
+  pub told : AsksForForm rows true wanted.told
+  pub log : IsFlag rows (codes "log") wanted.as_log
+
 abbrev pub AsksToExplain : List Row → Request → Type 0
-AsksToExplain rows (Explain trace mask told) =
-    (name_in trace ≡ file_named (first_of (codes "trace") rows))
-    × (mask ≡ mask_named (first_of (codes "mask") rows)) × AsksForForm rows true told
+AsksToExplain rows (Explain wanted) = AsksForExplanation rows wanted
 AsksToExplain rows _ = ⊥
 
 -- the subcommand that was parsed, with its rows, asks for this
@@ -177,6 +203,7 @@ Asks (Some (name, rows)) (Drive script told done) = (name ≡ codes "drive") × 
 Asks (Some (name, rows)) (Check files manner) = (name ≡ codes "check") × AsksToCheck rows (Check files manner)
 Asks (Some (name, rows)) (Storm file play) = (name ≡ codes "storm") × AsksToStorm rows (Storm file play)
 Asks (Some (name, rows)) (Verify wanted) = (name ≡ codes "verify") × AsksToVerify rows (Verify wanted)
+Asks (Some (name, rows)) (Audit wanted) = (name ≡ codes "audit") × AsksToAudit rows (Audit wanted)
 Asks (Some (name, rows)) (Decode code upstream mask names) =
     (name ≡ codes "decode") × AsksToDecode rows (Decode code upstream mask names)
 Asks (Some (name, rows)) (DecodeLines many direction mask names) =
@@ -185,15 +212,14 @@ Asks (Some (name, rows)) (EncodeLines upstream mask) =
     (name ≡ codes "encode") × AsksToEncode rows (EncodeLines upstream mask)
 Asks (Some (name, rows)) (Encode words upstream mask) =
     (name ≡ codes "encode") × AsksToEncode rows (Encode words upstream mask)
-Asks (Some (name, rows)) (Explain trace mask told) =
-    (name ≡ codes "explain") × AsksToExplain rows (Explain trace mask told)
+Asks (Some (name, rows)) (Explain wanted) = (name ≡ codes "explain") × AsksToExplain rows (Explain wanted)
 
 -- it asks for nothing that is known: there is none, or another one, or one that has no script or no words
 abbrev pub AsksNothing : Option (Text × List Row) → Type 0
 AsksNothing None = Unit {0}
 AsksNothing (Some (name, rows)) =
     (name ≢ codes "replay") × (name ≢ codes "storm") × (name ≢ codes "decode") × (name ≢ codes "encode")
-    × (name ≢ codes "explain")
+    × (name ≢ codes "explain") × (name ≢ codes "audit")
     × (name ≡ codes "check" → all_of (codes "files") rows ≡ None)
     × (name ≡ codes "drive" → first_of (codes "script") rows ≡ None)
     × (name ≡ codes "verify" → first_of (codes "script") rows ≡ None)
