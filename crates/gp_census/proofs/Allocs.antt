@@ -1,37 +1,14 @@
--- The ONU-ID that a serial number holds, and the Alloc-IDs that belong to one.
+-- The Alloc-IDs that belong to an ONU-ID.
 use Rattle.std.proofs.Common.{◌≡◌, ℕ, zero, suc, ◌+◌, ◌<◌, ◌==◌, Bool, true, false, cond, List, [], ◌∷◌, ◌++◌, append_assoc, Option, None, Some, inl, inr, refl, sym, ap, ◌∙◌, arith, eq-eqb}
 use Rattle.std.proofs.lemmas.Bool.{cases_eq, ne_eqb}
 use Rattle.std.proofs.lemmas.Grind.{flat_map-append}
 use Rattle.std.proofs.lemmas.List.{append-nil}
 use Rattle.std.specs.FinMap.{get}
 use Rattle.std.specs.List.{flat_map}
-use Rattle.gp_ploam.specs.declared.message.Serial.{Serial}
-use Rattle.gp_observer.specs.Observer.{some_passes, is_of}
+use Rattle.gp_observer.specs.Observer.{some_passes}
 use Rattle.gp_observer.specs.Watch.{Watch}
-use Rattle.gp_watch.specs.Changes.{IsOnuOf}
-use Rattle.gp_census.specs.Told.{onu_below, onu_held, allocs_below}
+use Rattle.gp_census.specs.Told.{allocs_below}
 use Rattle.gp_census.specs.Text.{number_field, strung}
-
-module _ (w : Watch) (s : Serial) where
-  none_below : ((k : ℕ) → is_of w.seen s k ≡ false) → (count : ℕ) → None ≡ onu_below count w s
-  unfolding onu_below
-  none_below none zero = refl
-  none_below none (suc count) = none_below none count ∙ sym (ap (λ b. cond b (Some count) (onu_below count w s)) (none count))
-
-  one_below : (n : ℕ) → ((k : ℕ) → is_of w.seen s k ≡ (k == n)) → (count : ℕ) → n < count → Some n ≡ onu_below count w s
-  unfolding onu_below
-  one_below n is zero below = absurd (omega arith)
-  one_below n is (suc count) below =
-      elim (cases_eq count n) [
-        | inl same ↦ ap Some (sym same) ∙ sym (ap (λ b. cond b (Some count) (onu_below count w s)) (is count ∙ eq-eqb count n same))
-        | inr other ↦ one_below n is count (omega (arith, other)) ∙ sym (ap (λ b. cond b (Some count) (onu_below count w s)) (is count ∙ ne_eqb count n other))
-      ]
-
-  pub held_is : (o : Option ℕ) → IsOnuOf w s o → o ≡ onu_held w s
-  held_is None none = none_below none 254
-  held_is (Some n) is = one_below n is.1 254 (let low = is.0 in omega (arith, low))
-
--- ---- Alloc-IDs
 
 -- there is a number
 abbrev pub is_any : List ℕ → Bool
