@@ -7,14 +7,16 @@ use Rattle.gp_check.specs.declared.checking.Purpose.{Purpose}
 use Rattle.gp_check.specs.declared.checking.Purpose.TheVariants as purpose
 use Rattle.gp_decode.specs.declared.direction.Direction.{Direction}
 use Rattle.gp_decode.specs.declared.direction.Direction.TheVariants.{Each}
-use Rattle.gp_decode.specs.declared.direction.Direction.TheVariants as direction
-use Rattle.gp_decode.specs.LineText.{direction_of, is_remark, without_return}
-use Rattle.oltctl.specs.CommandLine.{code_named, file_named, form_named, is_json, mask_named, words_named}
-use Rattle.oltctl.specs.declared.request.Request.{Request}
-use Rattle.oltctl.specs.declared.request.Request.TheVariants.{Replay, Drive, Storm, Check, Verify, Decode, DecodeLines, Encode, EncodeLines, Explain}
-use Rattle.oltctl.specs.declared.request.Play.{Play}
-use Rattle.oltctl.specs.declared.request.Told.{Told}
-use Rattle.oltctl.specs.declared.request.Verification.{Verification}
+use Rattle.gp_decode.specs.LineText.{direction_of}
+use Rattle.gp_command_line.specs.CommandLine.{code_named, file_named, form_named, is_json, mask_named, words_named}
+use Rattle.gp_command_line.specs.declared.request.Audit.{Audit as WantedAudit}
+use Rattle.gp_command_line.specs.declared.request.Request.{Request}
+use Rattle.gp_command_line.specs.declared.request.Request.TheVariants.{Replay, Drive, Storm, Check, Verify, Audit, Picture, Decode, DecodeLines, Encode, EncodeLines, Explain}
+use Rattle.gp_command_line.specs.declared.request.Drawing.{Drawing}
+use Rattle.gp_command_line.specs.declared.request.Explanation.{Explanation}
+use Rattle.gp_command_line.specs.declared.request.Play.{Play}
+use Rattle.gp_command_line.specs.declared.request.Told.{Told}
+use Rattle.gp_command_line.specs.declared.request.Verification.{Verification}
 
 -- a flag is given or not, as its text says, and is not where it has none
 pub record IsFlag (rows : List Row) (id : Text) (is_given : Bool) : Type 0 where
@@ -107,27 +109,42 @@ abbrev pub AsksToVerify : List Row → Request → Type 0
 AsksToVerify rows (Verify wanted) = AsksForVerification rows wanted
 AsksToVerify rows _ = ⊥
 
+-- the rows of `audit` ask to audit LOG, or standard input where it is left out, by these options as they are given
+pub record AsksForAudit (rows : List Row) (wanted : WantedAudit) : Type 0 where
+  pub log : name_in wanted.log ≡ file_named (first_of (codes "log") rows)
+  pub mask : wanted.mask ≡ mask_named (first_of (codes "mask") rows)
+  pub teqd : option_map texts wanted.teqd ≡ all_of (codes "teqd") rows
+  pub drift : IsNumber rows (codes "drift") wanted.drift
+  pub midway : IsFlag rows (codes "midway") wanted.midway
+  pub side : name_in wanted.side ≡ first_of (codes "side") rows
+  pub only : option_map texts wanted.only ≡ all_of (codes "only") rows
+  pub without : option_map texts wanted.without ≡ all_of (codes "without") rows
+  pub words : IsFlag rows (codes "words") wanted.words
+  pub units : IsFlag rows (codes "units") wanted.units
+  pub json : wanted.json ≡ is_json (first_of (codes "format") rows)
+  pub progress : IsFlag rows (codes "progress") wanted.progress
+
+abbrev pub AsksToAudit : List Row → Request → Type 0
+AsksToAudit rows (Audit wanted) = AsksForAudit rows wanted
+AsksToAudit rows _ = ⊥
+
+-- the rows of `picture` ask to draw LOG, or standard input where it is left out, by these options as they are given
+pub record AsksForPicture (rows : List Row) (wanted : Drawing) : Type 0 where
+  pub log : name_in wanted.log ≡ file_named (first_of (codes "log") rows)
+  pub from : IsNumber rows (codes "from") wanted.from
+  pub to : IsNumber rows (codes "to") wanted.to
+  pub mask : wanted.mask ≡ mask_named (first_of (codes "mask") rows)
+  pub teqd : option_map texts wanted.teqd ≡ all_of (codes "teqd") rows
+  pub drift : IsNumber rows (codes "drift") wanted.drift
+  pub midway : IsFlag rows (codes "midway") wanted.midway
+
+abbrev pub AsksToPicture : List Row → Request → Type 0
+AsksToPicture rows (Picture wanted) = AsksForPicture rows wanted
+AsksToPicture rows _ = ⊥
+
 -- whose messages codes are: where each may be of either, it says so itself
 abbrev pub direction_asked : Bool → Bool → Direction
 direction_asked upstream both = if both then Each else direction_of upstream
-
--- the word before a code that says whose message it is; none where the code says that itself
-abbrev pub word_of : Direction → List ℕ
-word_of direction.Up = codes "up "
-word_of direction.Down = codes "down "
-word_of direction.Each = []
-
--- the octet that stands for one of an argument that is a line: a space for a line feed
-abbrev pub on_a_line : ℕ → ℕ
-on_a_line octet = if octet == 10 then 32 else octet
-
--- what keeps a line from being passed over
-abbrev pub blank_before : List ℕ → List ℕ
-blank_before code = if is_remark (without_return code) then 32 ∷ [] else []
-
--- a code as a line, behind a word that says whose message it is
-abbrev pub line_of_code : List ℕ → List ℕ → List ℕ
-line_of_code word code = word ++ blank_before code ++ map on_a_line code ++ 10 ∷ []
 
 -- the rows ask for codes of this direction, and not for a single one, unless that says itself whose message it is
 pub record AsksForDirection (rows : List Row) (direction : Direction) : Type 0 where
@@ -162,11 +179,16 @@ AsksToEncode rows (EncodeLines upstream mask) =
     × (mask ≡ mask_named (first_of (codes "mask") rows))
 AsksToEncode rows _ = ⊥
 
--- the rows of `explain` ask for TRACE in words, or for standard input where it is left out, under the mask of `--mask`
+-- the rows of `explain` ask for TRACE in words, or for standard input where it is left out, under the mask of `--mask`;
+-- with `--log` they ask for it as a log
+pub record AsksForExplanation (rows : List Row) (wanted : Explanation) : Type 0 where
+  pub trace : name_in wanted.trace ≡ file_named (first_of (codes "trace") rows)
+  pub mask : wanted.mask ≡ mask_named (first_of (codes "mask") rows)
+  pub told : AsksForForm rows true wanted.told
+  pub log : IsFlag rows (codes "log") wanted.as_log
+
 abbrev pub AsksToExplain : List Row → Request → Type 0
-AsksToExplain rows (Explain trace mask told) =
-    (name_in trace ≡ file_named (first_of (codes "trace") rows))
-    × (mask ≡ mask_named (first_of (codes "mask") rows)) × AsksForForm rows true told
+AsksToExplain rows (Explain wanted) = AsksForExplanation rows wanted
 AsksToExplain rows _ = ⊥
 
 -- the subcommand that was parsed, with its rows, asks for this
@@ -177,6 +199,8 @@ Asks (Some (name, rows)) (Drive script told done) = (name ≡ codes "drive") × 
 Asks (Some (name, rows)) (Check files manner) = (name ≡ codes "check") × AsksToCheck rows (Check files manner)
 Asks (Some (name, rows)) (Storm file play) = (name ≡ codes "storm") × AsksToStorm rows (Storm file play)
 Asks (Some (name, rows)) (Verify wanted) = (name ≡ codes "verify") × AsksToVerify rows (Verify wanted)
+Asks (Some (name, rows)) (Audit wanted) = (name ≡ codes "audit") × AsksToAudit rows (Audit wanted)
+Asks (Some (name, rows)) (Picture wanted) = (name ≡ codes "picture") × AsksToPicture rows (Picture wanted)
 Asks (Some (name, rows)) (Decode code upstream mask names) =
     (name ≡ codes "decode") × AsksToDecode rows (Decode code upstream mask names)
 Asks (Some (name, rows)) (DecodeLines many direction mask names) =
@@ -185,15 +209,14 @@ Asks (Some (name, rows)) (EncodeLines upstream mask) =
     (name ≡ codes "encode") × AsksToEncode rows (EncodeLines upstream mask)
 Asks (Some (name, rows)) (Encode words upstream mask) =
     (name ≡ codes "encode") × AsksToEncode rows (Encode words upstream mask)
-Asks (Some (name, rows)) (Explain trace mask told) =
-    (name ≡ codes "explain") × AsksToExplain rows (Explain trace mask told)
+Asks (Some (name, rows)) (Explain wanted) = (name ≡ codes "explain") × AsksToExplain rows (Explain wanted)
 
 -- it asks for nothing that is known: there is none, or another one, or one that has no script or no words
 abbrev pub AsksNothing : Option (Text × List Row) → Type 0
 AsksNothing None = Unit {0}
 AsksNothing (Some (name, rows)) =
     (name ≢ codes "replay") × (name ≢ codes "storm") × (name ≢ codes "decode") × (name ≢ codes "encode")
-    × (name ≢ codes "explain")
+    × (name ≢ codes "explain") × (name ≢ codes "audit") × (name ≢ codes "picture")
     × (name ≡ codes "check" → all_of (codes "files") rows ≡ None)
     × (name ≡ codes "drive" → first_of (codes "script") rows ≡ None)
     × (name ≡ codes "verify" → first_of (codes "script") rows ≡ None)

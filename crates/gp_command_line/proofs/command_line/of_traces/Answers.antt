@@ -1,8 +1,8 @@
 use Rattle.std.proofs.Common.{◌≡◌, refl}
 use Rattle.clap.specs.Words.{app_of}
-use Rattle.oltctl.specs.CommandLine.{AreFormats, FormatNames, trace_commands}
-use Rattle.oltctl.proofs.Commands.{added, last_added}
-use Rattle.oltctl.proofs.command_line.of_traces.Goals as goal
+use Rattle.gp_command_line.specs.CommandLine.{AreFormats, FormatNames, trace_commands}
+use Rattle.gp_command_line.proofs.Commands.{added, last_added}
+use Rattle.gp_command_line.proofs.command_line.of_traces.Goals as goal
 
 pub returns : goal.returns
 returns c =

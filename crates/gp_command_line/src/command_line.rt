@@ -2,12 +2,12 @@
 ghost use Rattle.std.specs.Prelude.{◌≡◌, ◌≢◌, IfErr, IfOk, codes, false, map};
 ghost use Rattle.clap.specs.Words.{app_of, kind_of, rule_of};
 ghost use Rattle.clap.specs.declared.builder.command.Command.TheViews.{out-Command as fields_of};
-ghost use Rattle.oltctl.specs.CommandLine.{AllNames, AreAllNames, AreFormats, AreMasks, FormatNames, IsFaultOf, IsParseOf, MaskNames, at_least_rule, check_command, code_rule, files_rule, flag_rule, format_rule, check_flags as spec_check_flags, decode_flags as spec_decode_flags, replay_flags as spec_replay_flags, verify_flags as spec_verify_flags, verify_form as spec_verify_form, with_form as spec_form, with_words as spec_words, decode_command, drive_command, encode_command, explain_command, file_rule, line_commands, mask_rule, oltctl_command, quiet_rule, replay_command, script_commands, script_rule, storm_command, trace_commands, trace_rule, up_rule, verify_command, words_rule};
+ghost use Rattle.gp_command_line.specs.CommandLine.{AllNames, AreAllNames, AreFormats, AreLogNames, AreMasks, AreSides, FormatNames, IsFaultOf, IsParseOf, LogNames, MaskNames, SideNames, at_least_rule, check_command, code_rule, files_rule, flag_rule, format_rule, audit_delays as spec_audit_delays, audit_form as spec_audit_form, audit_judged as spec_audit_judged, audit_rules as spec_audit_rules, audit_side as spec_audit_side, audit_told as spec_audit_told, explain_form as spec_explain_form, check_flags as spec_check_flags, decode_flags as spec_decode_flags, replay_flags as spec_replay_flags, verify_flags as spec_verify_flags, verify_form as spec_verify_form, with_form as spec_form, with_words as spec_words, audit_command, decode_command, drawn_commands, drift_rule, drive_command, number_rule, picture_command, picture_delays as spec_picture_delays, picture_frames as spec_picture_frames, picture_judged as spec_picture_judged, encode_command, explain_command, file_rule, line_commands, log_commands, log_rule, mask_rule, oltctl_command, quiet_rule, repeated_rule, replay_command, script_commands, script_rule, side_rule, storm_command, trace_commands, trace_rule, up_rule, verify_command, words_rule};
 ghost use Rattle.std.specs.String.{string_bytes};
 
 use crate::help::{
-    ABOUT_HELP, CHECK_HELP, DECODE_HELP, DRIVE_HELP, ENCODE_HELP, EXPLAIN_HELP, REPLAY_HELP,
-    STORM_HELP, VERIFY_HELP,
+    ABOUT_HELP, AUDIT_HELP, CHECK_HELP, DECODE_HELP, DRIVE_HELP, ENCODE_HELP, EXPLAIN_HELP,
+    PICTURE_HELP, REPLAY_HELP, STORM_HELP, VERIFY_HELP,
 };
 use clap::error::ErrorKind;
 use clap::{Arg, ArgAction, ArgMatches, Command, Error, value_parser};
@@ -18,6 +18,9 @@ static MASKS: [&str; 3] = ["0", "85", "0x55"];
 
 /// The formats in which a trace may be written.
 static FORMATS: [&str; 2] = ["text", "json"];
+
+/// The sides whose findings an audit may tell alone.
+static SIDES: [&str; 2] = ["terminal", "units"];
 
 /// The version of the program, and of all crates of this repository.
 pub const VERSION: &str = "1.0.0";
@@ -285,6 +288,214 @@ fn verify<'a>(alloc: Global) -> Result<Command<'a>, AllocError>
     verify_form(alloc)?.arg(script(alloc))?.arg(trace(alloc))
 }
 
+/// Makes an option with a value that may be given more than once.
+fn repeated<'a>(alloc: Global, name: &'a str, value: &'a str, help: &'a str) -> Arg<'a>
+    ensures rule { rule_of result ≡ repeated_rule name.entry.now }
+    ensures local { result.global ≡ false }
+{
+    Arg::new(alloc, name)
+        .long(name)
+        .value_name(value)
+        .action(ArgAction::Append)
+        .help(help)
+}
+
+fn drift<'a>(alloc: Global) -> Arg<'a>
+    ensures rule { rule_of result ≡ drift_rule }
+    ensures local { result.global ≡ false }
+{
+    Arg::new(alloc, "drift")
+        .long("drift")
+        .value_name("D")
+        .value_parser(value_parser!(u64))
+        .help("How far a unit's delay may be from that of its ranging, in bit times; 8 if left out")
+}
+
+fn side<'a>(alloc: Global) -> Arg<'a>
+    ensures rule { (names : SideNames) × AreSides names × (rule_of result ≡ side_rule names) }
+    ensures local { result.global ≡ false }
+{
+    Arg::new(alloc, "side")
+        .long("side")
+        .value_name("SIDE")
+        .value_parser(SIDES.as_slice())
+        .help("Whose rules are told; both if left out")
+}
+
+fn log<'a>(alloc: Global) -> Arg<'a>
+    ensures rule { rule_of result ≡ log_rule }
+    ensures local { result.global ≡ false }
+{
+    Arg::new(alloc, "log").value_name("LOG").help(
+        "The log, or a trace; standard input if left out, or for -",
+    )
+}
+
+fn teqd<'a>(alloc: Global) -> Arg<'a>
+    ensures rule { rule_of result ≡ repeated_rule (codes "teqd") }
+    ensures local { result.global ≡ false }
+{
+    repeated(
+        alloc,
+        "teqd",
+        "T",
+        "The equalized delay in bit times, 311040 if left out; PORT=T is that of a port",
+    )
+}
+
+fn midway<'a>(alloc: Global) -> Arg<'a>
+    ensures rule { rule_of result ≡ flag_rule (codes "midway") }
+    ensures local { result.global ≡ false }
+{
+    flag(
+        alloc,
+        "midway",
+        "The log begins in the middle; units count once they are heard to be assigned",
+    )
+}
+
+/// Begins `audit`: by what delays are judged.
+fn audit_delays<'a>(alloc: Global) -> Result<Command<'a>, AllocError>
+    ensures app { IfOk result (λ c. app_of c ≡ spec_audit_delays) }
+    ensures local { IfOk result (λ c. (fields_of c).has_globals ≡ false) }
+{
+    Command::new(alloc, "audit")
+        .about("Names each rule that a message of a log breaks, whoever logged it")
+        .after_help(AUDIT_HELP)
+        .arg(teqd(alloc))?
+        .arg(drift(alloc))
+}
+
+/// Adds by what else messages are judged.
+fn audit_judged<'a>(alloc: Global) -> Result<Command<'a>, AllocError>
+    ensures app { IfOk result
+        (λ c. (masks : MaskNames) × AreMasks masks × (app_of c ≡ spec_audit_judged masks)) }
+    ensures local { IfOk result (λ c. (fields_of c).has_globals ≡ false) }
+{
+    audit_delays(alloc)?.arg(midway(alloc))?.arg(mask(alloc))
+}
+
+/// Adds whose findings are told.
+fn audit_side<'a>(alloc: Global) -> Result<Command<'a>, AllocError>
+    ensures app { IfOk result (λ c. (masks : MaskNames) × (sides : SideNames)
+        × AreMasks masks × AreSides sides × (app_of c ≡ spec_audit_side masks sides)) }
+    ensures local { IfOk result (λ c. (fields_of c).has_globals ≡ false) }
+{
+    audit_judged(alloc)?.arg(side(alloc))
+}
+
+/// Adds which rules are told.
+fn audit_rules<'a>(alloc: Global) -> Result<Command<'a>, AllocError>
+    ensures app { IfOk result (λ c. (masks : MaskNames) × (sides : SideNames)
+        × AreMasks masks × AreSides sides × (app_of c ≡ spec_audit_rules masks sides)) }
+    ensures local { IfOk result (λ c. (fields_of c).has_globals ≡ false) }
+{
+    let only = repeated(
+        alloc,
+        "only",
+        "RULES",
+        "The rules that are told, as taken,drift",
+    );
+    let without = repeated(alloc, "without", "RULES", "Rules that are not told");
+    audit_side(alloc)?.arg(only)?.arg(without)
+}
+
+/// Adds what is told besides.
+fn audit_told<'a>(alloc: Global) -> Result<Command<'a>, AllocError>
+    ensures app { IfOk result (λ c. (masks : MaskNames) × (sides : SideNames)
+        × AreMasks masks × AreSides sides × (app_of c ≡ spec_audit_told masks sides)) }
+    ensures local { IfOk result (λ c. (fields_of c).has_globals ≡ false) }
+{
+    let words = flag(
+        alloc,
+        "words",
+        "Tells each line too, with its code in words, before its findings",
+    );
+    let units = flag(
+        alloc,
+        "units",
+        "Tells at the end of each port and of each unit that was heard",
+    );
+    audit_rules(alloc)?.arg(words)?.arg(units)
+}
+
+/// Adds how it is told.
+fn audit_form<'a>(alloc: Global) -> Result<Command<'a>, AllocError>
+    ensures app { IfOk result (λ c. (masks : MaskNames) × (sides : SideNames) × (formats : FormatNames)
+        × AreMasks masks × AreSides sides × AreFormats formats × (app_of c ≡ spec_audit_form masks sides formats)) }
+    ensures local { IfOk result (λ c. (fields_of c).has_globals ≡ false) }
+{
+    audit_told(alloc)?.arg(format(alloc, "How findings are told; json: one object a line"))
+}
+
+fn audit<'a>(alloc: Global) -> Result<Command<'a>, AllocError>
+    ensures app { IfOk result (λ c. (masks : MaskNames) × (sides : SideNames) × (formats : FormatNames)
+        × AreMasks masks × AreSides sides × AreFormats formats × (app_of c ≡ audit_command masks sides formats)) }
+    ensures local { IfOk result (λ c. (fields_of c).has_globals ≡ false) }
+{
+    audit_form(alloc)?.arg(progress(alloc))?.arg(log(alloc))
+}
+
+/// Makes an option whose value is a number.
+fn number<'a>(alloc: Global, name: &'a str, value: &'a str, help: &'a str) -> Arg<'a>
+    ensures rule { rule_of result ≡ number_rule name.entry.now }
+    ensures local { result.global ≡ false }
+{
+    Arg::new(alloc, name)
+        .long(name)
+        .value_name(value)
+        .value_parser(value_parser!(u64))
+        .help(help)
+}
+
+/// Begins `picture`: which frames are drawn.
+fn picture_frames<'a>(alloc: Global) -> Result<Command<'a>, AllocError>
+    ensures app { IfOk result (λ c. app_of c ≡ spec_picture_frames) }
+    ensures local { IfOk result (λ c. (fields_of c).has_globals ≡ false) }
+{
+    let from = number(
+        alloc,
+        "from",
+        "FRAME",
+        "The first frame that is drawn; 0 if left out",
+    );
+    let to = number(
+        alloc,
+        "to",
+        "FRAME",
+        "The last frame that is drawn; that of LOG if left out",
+    );
+    Command::new(alloc, "picture")
+        .about("Draws a log as a picture (SVG): a chart a port, a lane a unit")
+        .after_help(PICTURE_HELP)
+        .arg(from)?
+        .arg(to)
+}
+
+/// Adds by what delays are judged.
+fn picture_delays<'a>(alloc: Global) -> Result<Command<'a>, AllocError>
+    ensures app { IfOk result (λ c. app_of c ≡ spec_picture_delays) }
+    ensures local { IfOk result (λ c. (fields_of c).has_globals ≡ false) }
+{
+    picture_frames(alloc)?.arg(teqd(alloc))?.arg(drift(alloc))
+}
+
+/// Adds by what else messages are judged.
+fn picture_judged<'a>(alloc: Global) -> Result<Command<'a>, AllocError>
+    ensures app { IfOk result
+        (λ c. (masks : MaskNames) × AreMasks masks × (app_of c ≡ spec_picture_judged masks)) }
+    ensures local { IfOk result (λ c. (fields_of c).has_globals ≡ false) }
+{
+    picture_delays(alloc)?.arg(midway(alloc))?.arg(mask(alloc))
+}
+
+fn picture<'a>(alloc: Global) -> Result<Command<'a>, AllocError>
+    ensures app { IfOk result (λ c. (masks : MaskNames) × AreMasks masks × (app_of c ≡ picture_command masks)) }
+    ensures local { IfOk result (λ c. (fields_of c).has_globals ≡ false) }
+{
+    picture_judged(alloc)?.arg(log(alloc))
+}
+
 fn up<'a>(alloc: Global) -> Arg<'a>
     ensures rule { rule_of result ≡ up_rule }
     ensures local { result.global ≡ false }
@@ -382,16 +593,30 @@ fn encode<'a>(alloc: Global) -> Result<Command<'a>, AllocError>
         .arg(words(alloc))
 }
 
-fn explain<'a>(alloc: Global) -> Result<Command<'a>, AllocError>
+/// Begins `explain`, up to how it is told.
+fn explain_form<'a>(alloc: Global) -> Result<Command<'a>, AllocError>
     ensures app { IfOk result (λ c. (masks : MaskNames) × (formats : FormatNames)
-        × AreMasks masks × AreFormats formats × (app_of c ≡ explain_command masks formats)) }
+        × AreMasks masks × AreFormats formats × (app_of c ≡ spec_explain_form masks formats)) }
     ensures local { IfOk result (λ c. (fields_of c).has_globals ≡ false) }
 {
     let command = Command::new(alloc, "explain")
         .about("Writes a trace again with its codes in words, line by line as it comes")
         .after_help(EXPLAIN_HELP)
         .arg(mask(alloc))?;
-    with_form(alloc, command)?.arg(trace(alloc))
+    with_form(alloc, command)
+}
+
+fn explain<'a>(alloc: Global) -> Result<Command<'a>, AllocError>
+    ensures app { IfOk result (λ c. (masks : MaskNames) × (formats : FormatNames)
+        × AreMasks masks × AreFormats formats × (app_of c ≡ explain_command masks formats)) }
+    ensures local { IfOk result (λ c. (fields_of c).has_globals ≡ false) }
+{
+    let as_log = flag(
+        alloc,
+        "log",
+        "Writes it as a log of messages instead, as audit reads; other options then change nothing",
+    );
+    explain_form(alloc)?.arg(as_log)?.arg(trace(alloc))
 }
 
 /// Makes the program's command line as far as it is about scripts.
@@ -426,10 +651,25 @@ fn of_traces<'a>(alloc: Global) -> Result<Command<'a>, AllocError>
         .subcommand(verify(alloc)?)
 }
 
+/// Makes the program's command line as far as it is about scripts, lines, traces and logs.
+fn of_logs<'a>(alloc: Global) -> Result<Command<'a>, AllocError>
+    ensures { IfOk result (λ c. (names : LogNames) × AreLogNames names × (app_of c ≡ log_commands names)) }
+{
+    of_traces(alloc)?.subcommand(audit(alloc)?)
+}
+
+/// Makes it with the command that draws, too.
+fn of_drawn<'a>(alloc: Global) -> Result<Command<'a>, AllocError>
+    ensures { IfOk result (λ c. (logs : LogNames) × (picture : MaskNames) × AreLogNames logs × AreMasks picture
+        × (app_of c ≡ drawn_commands logs picture)) }
+{
+    of_logs(alloc)?.subcommand(picture(alloc)?)
+}
+
 fn command<'a>(alloc: Global) -> Result<Command<'a>, AllocError>
     ensures { IfOk result (λ c. (names : AllNames) × AreAllNames names × (app_of c ≡ oltctl_command names)) }
 {
-    of_traces(alloc)?
+    of_drawn(alloc)?
         .subcommand(explain(alloc)?)?
         .subcommand(decode(alloc)?)?
         .subcommand(encode(alloc)?)

@@ -1,8 +1,8 @@
 //! What a command line asks for.
 ghost use Rattle.std.specs.Prelude.{◌≡◌, ◌∷◌, [], true, IfSome, IfNone, Some, None, codes, option_map};
 ghost use Rattle.clap.specs.Words.{all_of, first_of, found_of, rows_of, subcommand_rows_of};
-ghost use Rattle.oltctl.specs.CommandLine.{code_alone, code_named, file_named, form_named, is_input, is_json, mask_named, words_named};
-ghost use Rattle.oltctl.specs.Requests.{Asks, AsksForForm, AsksForPlay, AsksForTrace, AsksNothing, AsksToCheck, AsksToDecode, AsksToDrive, AsksToEncode, AsksToExplain, AsksToReplay, AsksToStorm, AsksToVerify, IsNumber, direction_asked, name_in, purpose_of, texts};
+ghost use Rattle.gp_command_line.specs.CommandLine.{code_alone, code_named, file_named, form_named, is_input, is_json, mask_named, words_named};
+ghost use Rattle.gp_command_line.specs.Requests.{Asks, AsksForForm, AsksForPlay, AsksForTrace, AsksNothing, AsksToAudit, AsksToCheck, AsksToDecode, AsksToDrive, AsksToEncode, AsksToExplain, AsksToPicture, AsksToReplay, AsksToStorm, AsksToVerify, IsNumber, direction_asked, name_in, purpose_of, texts};
 
 use clap::ArgMatches;
 use gp_check::{CheckManner, Purpose};
@@ -54,6 +54,67 @@ pub struct Verification<'a> {
     pub progress: bool,
 }
 
+/// A trace that is to be written again.
+#[derive(Clone, Copy)]
+pub struct Explanation<'a> {
+    /// The trace of this file, or of standard input.
+    pub trace: Option<&'a str>,
+    /// The mask of its codes.
+    pub mask: Mask,
+    /// In words, or as JSON.
+    pub told: Told,
+    /// As a log, whatever else is wanted.
+    pub as_log: bool,
+}
+
+/// An audit that is wanted. Options are as they are given.
+#[derive(Clone, Copy)]
+pub struct Audit<'m, 'a> {
+    /// The log of this file, or of standard input.
+    pub log: Option<&'a str>,
+    /// The mask of its codes.
+    pub mask: Mask,
+    /// The equalized delay of all ports, or of one each.
+    pub teqd: Option<&'m [&'a str]>,
+    /// How far a delay may be from its unit's own, in bit times.
+    pub drift: Option<u64>,
+    /// The log begins in the middle.
+    pub midway: bool,
+    /// The side whose findings are told alone.
+    pub side: Option<&'a str>,
+    /// The rules that are told alone.
+    pub only: Option<&'m [&'a str]>,
+    /// Rules that are not told.
+    pub without: Option<&'m [&'a str]>,
+    /// Each line is told too, with its code in words.
+    pub words: bool,
+    /// What was heard of each unit is told at the end.
+    pub units: bool,
+    /// What is told is told by objects.
+    pub json: bool,
+    /// Once a second, how many lines were read.
+    pub progress: bool,
+}
+
+/// A picture that is wanted. Options are as they are given.
+#[derive(Clone, Copy)]
+pub struct Drawing<'m, 'a> {
+    /// Of the log of this file, or of standard input.
+    pub log: Option<&'a str>,
+    /// The first frame that is drawn.
+    pub from: Option<u64>,
+    /// The last one.
+    pub to: Option<u64>,
+    /// The mask of its codes.
+    pub mask: Mask,
+    /// The equalized delay of all ports, or of one each.
+    pub teqd: Option<&'m [&'a str]>,
+    /// How far a delay may be from its unit's own, in bit times.
+    pub drift: Option<u64>,
+    /// The log begins in the middle.
+    pub midway: bool,
+}
+
 /// What the program is to do.
 #[derive(Clone, Copy)]
 pub enum Request<'m, 'a> {
@@ -81,6 +142,10 @@ pub enum Request<'m, 'a> {
     },
     /// Verify a trace against a script.
     Verify(Verification<'a>),
+    /// Name each rule that a message of a log breaks.
+    Audit(Audit<'m, 'a>),
+    /// Draw a log as a picture.
+    Picture(Drawing<'m, 'a>),
     /// Say which message this code is, in hexadecimal digits: one of a unit where `upstream`, else one of the
     /// line terminal; with names of the standard where `names`.
     Decode {
@@ -107,12 +172,8 @@ pub enum Request<'m, 'a> {
         upstream: bool,
         mask: Mask,
     },
-    /// Write this trace again, or for none and for `-` that of standard input, with its codes in words.
-    Explain {
-        trace: Option<&'a str>,
-        mask: Mask,
-        told: Told,
-    },
+    /// Write a trace again.
+    Explain(Explanation<'a>),
 }
 
 /// Tells what the subcommand of a parsed command line asks for; None where it has none that is known, or no script
@@ -127,6 +188,8 @@ pub fn request_of<'m, 'a>(matches: &'m ArgMatches<'a>) -> Option<Request<'m, 'a>
         ("storm", found) => Some(storm_of(found)),
         ("check", found) => check_of(found),
         ("verify", found) => verify_of(found),
+        ("audit", found) => Some(audit_of(found)),
+        ("picture", found) => Some(picture_of(found)),
         ("decode", found) => Some(decode_of(found)),
         ("encode", found) => Some(encode_of(found)),
         ("explain", found) => Some(explain_of(found)),
@@ -273,6 +336,41 @@ fn verify_of<'m, 'a>(found: &'m ArgMatches<'a>) -> Option<Request<'m, 'a>>
     }))
 }
 
+#[tactic(auto, using(crate::proofs::Rows::value_by_rows, crate::proofs::Rows::values_by_rows, crate::proofs::Rows::flag_by_rows))]
+fn audit_of<'m, 'a>(found: &'m ArgMatches<'a>) -> Request<'m, 'a>
+    ensures { AsksToAudit (rows_of (found_of found.now)) result }
+{
+    Request::Audit(Audit {
+        log: file_of(found.get_str("log")),
+        mask: mask_of(found.get_str("mask")),
+        teqd: found.get_strs("teqd"),
+        drift: number_at(found, "drift"),
+        midway: found.get_flag("midway"),
+        side: found.get_str("side"),
+        only: found.get_strs("only"),
+        without: found.get_strs("without"),
+        words: found.get_flag("words"),
+        units: found.get_flag("units"),
+        json: is_json(found.get_str("format")),
+        progress: found.get_flag("progress"),
+    })
+}
+
+#[tactic(auto, using(crate::proofs::Rows::value_by_rows, crate::proofs::Rows::values_by_rows, crate::proofs::Rows::flag_by_rows))]
+fn picture_of<'m, 'a>(found: &'m ArgMatches<'a>) -> Request<'m, 'a>
+    ensures { AsksToPicture (rows_of (found_of found.now)) result }
+{
+    Request::Picture(Drawing {
+        log: file_of(found.get_str("log")),
+        from: number_at(found, "from"),
+        to: number_at(found, "to"),
+        mask: mask_of(found.get_str("mask")),
+        teqd: found.get_strs("teqd"),
+        drift: number_at(found, "drift"),
+        midway: found.get_flag("midway"),
+    })
+}
+
 /// Gives the one code that there is, where there is one alone that isn't `-`, which stands for standard input.
 fn code_alone<'a>(codes: &[&'a str]) -> Option<&'a str>
     ensures { name_in result ≡ code_alone (texts codes.entry) }
@@ -366,15 +464,16 @@ fn encode_of<'m, 'a>(found: &'m ArgMatches<'a>) -> Request<'m, 'a>
     }
 }
 
-#[tactic(auto, using(crate::proofs::Rows::value_by_rows))]
+#[tactic(auto, using(crate::proofs::Rows::value_by_rows, crate::proofs::Rows::flag_by_rows))]
 fn explain_of<'m, 'a>(found: &'m ArgMatches<'a>) -> Request<'m, 'a>
     ensures { AsksToExplain (rows_of (found_of found.now)) result }
 {
-    Request::Explain {
+    Request::Explain(Explanation {
         trace: file_of(found.get_str("trace")),
         mask: mask_of(found.get_str("mask")),
         told: form_in(found, true),
-    }
+        as_log: found.get_flag("log"),
+    })
 }
 
 /// Gives the mask that a value of `--mask` names, and the plain one where there is none.

@@ -8,13 +8,13 @@ Examples:
 
 Exit status:
   0  done, or help that was asked for
-  1  the input was not read, is too long, or is no script, code or turn
+  1  the input was not read, is too long, or is no script, code, turn or log
   2  the command line is wrong
   3  out of memory
   4  the output takes no more
   5  a storm's threads and journals do not agree
   6  a port of a storm has more entries than its journal keeps
-  7  the trace is no run, or has too few lines";
+  7  the trace is no run, or has too few lines; or a rule is broken";
 
 /// What stands at the end of the help of `replay`.
 pub const REPLAY_HELP: &str = "\
@@ -128,10 +128,61 @@ pub const EXPLAIN_HELP: &str = "\
 Examples:
   oltctl explain trace.txt
   oltctl replay script.toml | oltctl explain -
+  oltctl explain --log trace.txt | oltctl audit
+
+With --log each line of the trace that says something on the fibre is written as lines
+of a log: PORT TIME down CODE, PORT TIME up CODE DELAY, PORT TIME grant GRANT, TIME in
+frames.
 
 Exit status:
   0  all lines were told
   1  a line is none of a trace, or the trace was not read
+  2  the command line is wrong
+  3  out of memory
+  4  the output takes no more";
+
+/// What stands at the end of the help of `audit`.
+pub const AUDIT_HELP: &str = "\
+Lines of LOG, which may be mixed with those of a trace:
+  [PORT] TIME down CODE         a message of the line terminal
+  [PORT] TIME up CODE [DELAY]   one of a unit; DELAY in bit times, without the
+                                unit's equalization delay
+  [PORT] TIME grant search      a window; or: grant range N, grant poll N
+TIME is a number of frames, or has a unit: 12.125ms, us or s. Codes may have colons,
+hyphens, spaces and 0x, fields spaces, tabs, commas and semicolons between them.
+
+Rules of the terminal: garbled copies range barred unasked taken renumbered nobody
+unranged delay early shared not-held grant; of units: garbled disabled anew number
+acknowledge drift. RULES are some of these, with commas between.
+
+Examples:
+  oltctl audit lab.log
+  oltctl audit --words --units lab.log
+  oltctl audit --midway --without drift < capture.log
+  oltctl audit --teqd 1=250000 two-ports.trace
+  oltctl audit --side terminal --format json lab.log
+
+Exit status:
+  0  no rule that is told is broken
+  1  a line is answered by an error, nothing was heard, or the log was not read
+  2  the command line is wrong
+  3  out of memory
+  4  the output takes no more
+  7  a rule is broken";
+
+/// What stands at the end of the help of `picture`.
+pub const PICTURE_HELP: &str = "\
+LOG is what audit reads: a log of messages or a trace. A chart is drawn for each port,
+with a lane for each unit; findings are marked as audit tells them.
+
+Examples:
+  oltctl picture lab.log > lab.svg
+  oltctl replay script.toml | oltctl picture > run.svg
+  oltctl picture --from 8000 --to 16000 lab.log > second.svg
+
+Exit status:
+  0  the picture was written
+  1  a line is neither one of a log nor of a trace, or LOG was not read
   2  the command line is wrong
   3  out of memory
   4  the output takes no more";

@@ -3,9 +3,9 @@ use Rattle.clap.proofs.OnLiterals.{clap_on_literals}
 use Rattle.clap.specs.Words.{App, FailsBy, HasMatchesOf, Text, fault_of, is_simple, is_simple_and_free, subcommand_of}
 use Rattle.clap.specs.declared.error.Error.{Error}
 use Rattle.clap.specs.declared.parser.matches.ArgMatches.{ArgMatches}
-use Rattle.oltctl.specs.CommandLine.{AllNames, AreAllNames, IsParseOf, oltctl_command}
-use Rattle.oltctl.proofs.Commands.{failed_by}
-use Rattle.oltctl.proofs.command_line.parse.Goals as goal
+use Rattle.gp_command_line.specs.CommandLine.{AllNames, AreAllNames, IsParseOf, oltctl_command}
+use Rattle.gp_command_line.proofs.Commands.{failed_by}
+use Rattle.gp_command_line.proofs.command_line.parse.Goals as goal
 
 -- the command line uses no setting of clap's that its definition leaves out
 is_plain : (names : AllNames) → is_simple (oltctl_command names) ≡ true

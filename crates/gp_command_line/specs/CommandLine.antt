@@ -1,7 +1,9 @@
 -- The command line (this profile's own rule): `oltctl replay [--explain] [--progress] [FORM] [FILE]`, `oltctl drive
 -- [--explain] [--done] [FORM] FILE`, `oltctl storm [--explain] [--progress] [FILE]`, `oltctl check [--storm] [-q]
 -- [--format text|json] FILE..`, `oltctl verify [--explain] [--at-least N] [--progress] [--words] [--format text|json]
--- FILE [TRACE]`, `oltctl explain [--mask MASK] [FORM] [TRACE]`, `oltctl decode [--up] [--both] [--names]
+-- FILE [TRACE]`, `oltctl audit [--teqd T].. [--drift D] [--midway] [--mask MASK] [--side terminal|units] [--only RULES]..
+-- [--without RULES].. [--words] [--units] [--format text|json] [--progress] [LOG]`, `oltctl picture [--from FRAME] [--to
+-- FRAME] [--teqd T].. [--drift D] [--midway] [--mask MASK] [LOG]`, `oltctl explain [--mask MASK] [FORM] [--log] [TRACE]`, `oltctl decode [--up] [--both] [--names]
 -- [--mask MASK] [HEX..]` and `oltctl encode [--up] [--mask MASK] [WORDS..]`, where FORM is `[--words] [--time] [--format
 -- text|json]`, of `explain` without `--words`, and MASK is `0`, `85` or `0x55`.
 use Rattle.std.specs.Prelude.{◌≡◌, List, [], ◌∷◌, Option, None, Some, map, Bool, true, false, codes, if◌then◌else◌, ◌||◌}
@@ -33,6 +35,14 @@ FormatNames = Bor (List (Bor Text))
 -- they are these two
 abbrev pub AreFormats : FormatNames → Type 0
 AreFormats names = map (λ name. name.now) names.now ≡ codes "text" ∷ codes "json" ∷ []
+
+-- the names of the sides whose findings an audit may tell alone, as clap holds them
+abbrev pub SideNames : Type 0
+SideNames = Bor (List (Bor Text))
+
+-- they are these two
+abbrev pub AreSides : SideNames → Type 0
+AreSides names = map (λ name. name.now) names.now ≡ codes "terminal" ∷ codes "units" ∷ []
 
 -- a flag of this name
 abbrev pub flag_rule : Text → Rule
@@ -135,6 +145,56 @@ verify_form names = with_rule (with_rule verify_flags (flag_rule (codes "words")
 abbrev pub verify_command : FormatNames → App
 verify_command names = with_rule (with_rule (verify_form names) script_rule) trace_rule
 
+-- an option with a value, of this name
+abbrev pub valued_rule : Text → Rule
+valued_rule name = record (new_rule name) { long = Some name; value_names = 1 }
+
+-- the same, which may be given more than once
+abbrev pub repeated_rule : Text → Rule
+repeated_rule name = record (valued_rule name) { action = Some Append }
+
+-- `--drift`, a number that has no least
+abbrev pub drift_rule : Rule
+drift_rule = record (valued_rule (codes "drift")) { parser = Some (Unsigned 0 18446744073709551615) }
+
+-- `--side`, one of these
+abbrev pub side_rule : SideNames → Rule
+side_rule names = record (valued_rule (codes "side")) { parser = Some (Names names) }
+
+-- LOG, which may be left out
+abbrev pub log_rule : Rule
+log_rule = record (new_rule (codes "log")) { value_names = 1 }
+
+-- `audit` with what delays are judged by
+abbrev pub audit_delays : App
+audit_delays = with_rule (with_rule (new_app (codes "audit")) (repeated_rule (codes "teqd"))) drift_rule
+
+-- the same with all that messages are judged by
+abbrev pub audit_judged : MaskNames → App
+audit_judged masks = with_rule (with_rule audit_delays (flag_rule (codes "midway"))) (mask_rule masks)
+
+-- the same with the side whose findings are told
+abbrev pub audit_side : MaskNames → SideNames → App
+audit_side masks sides = with_rule (audit_judged masks) (side_rule sides)
+
+-- the same with the rules that are told
+abbrev pub audit_rules : MaskNames → SideNames → App
+audit_rules masks sides =
+    with_rule (with_rule (audit_side masks sides) (repeated_rule (codes "only"))) (repeated_rule (codes "without"))
+
+-- the same with what is told besides
+abbrev pub audit_told : MaskNames → SideNames → App
+audit_told masks sides =
+    with_rule (with_rule (audit_rules masks sides) (flag_rule (codes "words"))) (flag_rule (codes "units"))
+
+-- the same with how it is told
+abbrev pub audit_form : MaskNames → SideNames → FormatNames → App
+audit_form masks sides formats = with_rule (audit_told masks sides) (format_rule formats)
+
+abbrev pub audit_command : MaskNames → SideNames → FormatNames → App
+audit_command masks sides formats =
+    with_rule (with_rule (audit_form masks sides formats) (flag_rule (codes "progress"))) log_rule
+
 -- `decode` up to its mask
 abbrev pub decode_flags : App
 decode_flags =
@@ -148,26 +208,65 @@ abbrev pub encode_command : MaskNames → App
 encode_command names =
     with_rule (with_rule (with_rule (new_app (codes "encode")) up_rule) (mask_rule names)) words_rule
 
+-- `explain` with how it is told
+abbrev pub explain_form : MaskNames → FormatNames → App
+explain_form masks formats = with_form (with_rule (new_app (codes "explain")) (mask_rule masks)) formats
+
 abbrev pub explain_command : MaskNames → FormatNames → App
 explain_command masks formats =
-    with_rule (with_form (with_rule (new_app (codes "explain")) (mask_rule masks)) formats) trace_rule
+    with_rule (with_rule (explain_form masks formats) (flag_rule (codes "log"))) trace_rule
 
--- the names of the formats and of the masks of each command that takes one
-pub record AllNames : Type 0 where
+-- an option whose value is a number that has no least, of this name
+abbrev pub number_rule : Text → Rule
+number_rule name = record (valued_rule name) { parser = Some (Unsigned 0 18446744073709551615) }
+
+-- `picture` with the frames that are drawn
+abbrev pub picture_frames : App
+picture_frames = with_rule (with_rule (new_app (codes "picture")) (number_rule (codes "from"))) (number_rule (codes "to"))
+
+-- the same with what delays are judged by
+abbrev pub picture_delays : App
+picture_delays = with_rule (with_rule picture_frames (repeated_rule (codes "teqd"))) drift_rule
+
+-- the same with all that messages are judged by
+abbrev pub picture_judged : MaskNames → App
+picture_judged masks = with_rule (with_rule picture_delays (flag_rule (codes "midway"))) (mask_rule masks)
+
+abbrev pub picture_command : MaskNames → App
+picture_command masks = with_rule (picture_judged masks) log_rule
+
+-- the names of the formats, of the masks and of the sides of each command about scripts, lines, traces and logs that
+-- takes them
+pub record LogNames : Type 0 where
   pub replay : FormatNames
   pub drive : FormatNames
   pub check : FormatNames
   pub verify : FormatNames
+  pub audit : MaskNames
+  pub audit_side : SideNames
+  pub audit_format : FormatNames
+
+pub record AreLogNames (names : LogNames) : Type 0 where
+  pub replay : AreFormats names.replay
+  pub drive : AreFormats names.drive
+  pub check : AreFormats names.check
+  pub verify : AreFormats names.verify
+  pub audit : AreMasks names.audit
+  pub audit_side : AreSides names.audit_side
+  pub audit_format : AreFormats names.audit_format
+
+-- the same of each command
+pub record AllNames : Type 0 where
+  pub logs : LogNames
+  pub picture : MaskNames
   pub explain_format : FormatNames
   pub explain : MaskNames
   pub decode : MaskNames
   pub encode : MaskNames
 
 pub record AreAllNames (names : AllNames) : Type 0 where
-  pub replay : AreFormats names.replay
-  pub drive : AreFormats names.drive
-  pub check : AreFormats names.check
-  pub verify : AreFormats names.verify
+  pub logs : AreLogNames names.logs
+  pub picture : AreMasks names.picture
   pub explain_format : AreFormats names.explain_format
   pub explain : AreMasks names.explain
   pub decode : AreMasks names.decode
@@ -195,12 +294,22 @@ trace_commands replay drive check verify =
     with_subcommand (with_subcommand (line_commands replay drive) (check_command check).top)
     (verify_command verify).top
 
+-- the program as far as it is about scripts, lines, traces and logs
+abbrev pub log_commands : LogNames → App
+log_commands names =
+    with_subcommand (trace_commands names.replay names.drive names.check names.verify)
+    (audit_command names.audit names.audit_side names.audit_format).top
+
+-- the same with the command that draws
+abbrev pub drawn_commands : LogNames → MaskNames → App
+drawn_commands logs picture = with_subcommand (log_commands logs) (picture_command picture).top
+
 -- the whole program
 abbrev pub oltctl_command : AllNames → App
 oltctl_command names =
     with_subcommand
     (with_subcommand
-    (with_subcommand (trace_commands names.replay names.drive names.check names.verify)
+    (with_subcommand (drawn_commands names.logs names.picture)
     (explain_command names.explain names.explain_format).top)
     (decode_command names.decode).top) (encode_command names.encode).top
 

@@ -6,7 +6,7 @@ use Rattle.clap.specs.declared.builder.command.Command.TheViews.{out-Command as 
 use Rattle.clap.specs.declared.error.Error.{Error}
 use Rattle.clap.specs.declared.error.kind.ErrorKind.TheVariants as kinds
 use Rattle.clap.specs.declared.parser.matches.ArgMatches.{ArgMatches}
-use Rattle.oltctl.specs.CommandLine.{AllNames, AreAllNames, IsFaultOf, oltctl_command}
+use Rattle.gp_command_line.specs.CommandLine.{AllNames, AreAllNames, IsFaultOf, oltctl_command}
 
 -- one command more
 pub added : (old sub new : Command) (before of : App) → AddsSubcommand old sub new → (fields_of sub).has_globals ≡ false → app_of old ≡ before → app_of sub ≡ of
