@@ -11,7 +11,7 @@ use Rattle.gp_flow.specs.declared.lines.LinesEnd.{LinesEnd}
 use Rattle.gp_flow.specs.declared.lines.LinesEnd.TheVariants.{Whole, Open, Over}
 use Rattle.gp_flow.specs.declared.fault.LinesFault.{LinesFault}
 use Rattle.gp_flow.specs.declared.fault.LinesFault.TheVariants as faults
-use Rattle.gp_flow.specs.Lines.{DoesAll, GetsAll, GetsPrefix, Leaves, Serves, ServesTo, ended_lines, handed, lines_of}
+use Rattle.gp_flow.specs.Lines.{DoesAll, DoesSome, GetsAll, GetsPrefix, Leaves, Serves, ServesTo, ended_lines, handed, lines_of}
 use Rattle.gp_flow.proofs.LineLemmas.{ended_first, handed_none, handed_whole}
 use Rattle.gp_lines.specs.Turn.{longest_line}
 use Rattle.gp_stream.specs.Sink.{SinkState, KeepsNothing}
@@ -78,6 +78,11 @@ silent : (ls : List (Option (List ℕ))) (old new : DrawState) (said : List ℕ)
 silent [] old new said h = h.0
 silent (line ∷ ls) old new said h = h.5 ∙ ap (λ (l : List ℕ). l ++ h.1) h.3.0 ∙ silent ls h.2 new h.1 h.4
 
+silent_some : (ls : List (Option (List ℕ))) (old : DrawState) (said : List ℕ) → DoesSome Drawing old ls said → said ≡ []
+silent_some [] old said h = h
+silent_some (line ∷ ls) old said (inl h) = h.5 ∙ ap (λ (l : List ℕ). l ++ h.1) h.3.0 ∙ silent_some ls h.2 h.1 h.4
+silent_some (line ∷ ls) old said (inr h) = absurd h.2
+
 started : (new : DrawState) (ls : List (Option (List ℕ))) (said : List ℕ) → DoesAll Drawing opened ls said new → Course new.ended ls said 0 new.lines
 started new ls said h = course ls opened new said refl h
 
@@ -138,19 +143,21 @@ module _ {R W : Type 0} (from to : SourceState R) (before mid after : SinkState 
         bytes = text;
         came = read.consumed;
         picture = [];
+        svg = inl refl;
         written = before.gathered;
         unwritten = [];
         all = refl;
         appended = subst (λ (s : SinkState W). Appends before.held s.held before.gathered) (sym same) first;
       })
-  whole new text said (Err (Lines (faults.Line fault))) read runs written kept (inr (svg, stopped, w)) =
+  whole new text said (Err (Lines (faults.Line fault))) read runs written kept (inr (picture, svg, stopped, w)) =
       let first = only_gathered said runs.silent written in
       let p = w.gives.error in
-      let rest : svg ≡ p.written ++ p.unwritten = ap (λ (l : List ℕ). l ++ svg) (sym kept.0) ∙ p.rest in
+      let rest : picture ≡ p.written ++ p.unwritten = ap (λ (l : List ℕ). l ++ picture) (sym kept.0) ∙ p.rest in
       inl (record {
         bytes = text;
         came = read.consumed;
-        picture = svg;
+        picture = picture;
+        svg = inr svg;
         written = before.gathered ++ p.written;
         unwritten = p.unwritten;
         all = append_assoc before.gathered p.written p.unwritten ∙ ap (λ (l : List ℕ). before.gathered ++ l) (sym rest);
@@ -188,46 +195,48 @@ module _ {R W : Type 0} (from to : SourceState R) (before mid after : SinkState 
 -- ---- where it was not read, or a line not drawn
 
 module _ {R W : Type 0} (from to : SourceState R) (before after : SinkState W) where
-  begun_prefix : (bytes said : List ℕ) → Consumes from.remaining to.remaining bytes → GetsPrefix before after said → IsBegun from to before after
-  begun_prefix bytes said came p = record {
+  begun_prefix : (bytes said : List ℕ) → said ≡ [] → Consumes from.remaining to.remaining bytes → GetsPrefix before after said → IsBegun from to before after
+  begun_prefix bytes said none came p = record {
     bytes = bytes;
     came = came;
     picture = said;
+    svg = inl none;
     written = take p.count (before.gathered ++ said);
     unwritten = drop p.count (before.gathered ++ said);
     all = take-append-drop p.count (before.gathered ++ said);
     appended = p.written;
   }
 
-  begun_all : (bytes said : List ℕ) → Consumes from.remaining to.remaining bytes → Appends before.held after.held (before.gathered ++ said) → IsBegun from to before after
-  begun_all bytes said came written = record {
+  begun_all : (bytes said : List ℕ) → said ≡ [] → Consumes from.remaining to.remaining bytes → Appends before.held after.held (before.gathered ++ said) → IsBegun from to before after
+  begun_all bytes said none came written = record {
     bytes = bytes;
     came = came;
     picture = said;
+    svg = inl none;
     written = before.gathered ++ said;
     unwritten = [];
     all = append-nil (before.gathered ++ said);
     appended = written;
   }
 
-  begun_either : (bytes said : List ℕ) → Consumes from.remaining to.remaining bytes → GetsAll before after said ⊎ (GetsPrefix before after said × (after.stopped ≡ true))
+  begun_either : (bytes said : List ℕ) → said ≡ [] → Consumes from.remaining to.remaining bytes → GetsAll before after said ⊎ (GetsPrefix before after said × (after.stopped ≡ true))
       → IsBegun from to before after
-  begun_either bytes said came (inl all) = begun_all bytes said came all.written
-  begun_either bytes said came (inr p) = begun_prefix bytes said came p.0
+  begun_either bytes said none came (inl all) = begun_all bytes said none came all.written
+  begun_either bytes said none came (inr p) = begun_prefix bytes said none came p.0
 
-  begun_by : (fault : LineFault) (bytes said : List ℕ) → Consumes from.remaining to.remaining bytes → Leaves fault before after said → IsBegun from to before after
-  begun_by Write bytes said came left = begun_prefix bytes said came left
-  begun_by OutOfMemory bytes said came left = begun_either bytes said came left
-  begun_by Full bytes said came left = begun_either bytes said came left
+  begun_by : (fault : LineFault) (bytes said : List ℕ) → said ≡ [] → Consumes from.remaining to.remaining bytes → Leaves fault before after said → IsBegun from to before after
+  begun_by Write bytes said none came left = begun_prefix bytes said none came left
+  begun_by OutOfMemory bytes said none came left = begun_either bytes said none came left
+  begun_by Full bytes said none came left = begun_either bytes said none came left
 
   unread : (fault : LinesFault) (new : DrawState) → Serves Drawing has_ended longest_line from to opened new before after (Err fault)
       → DrawsTrace from to before after (Err (Lines fault))
   unread faults.Read new s =
       let e = s.read refl in
-      (begun_all e.bytes e.said e.read e.written, s.failed refl)
+      (begun_all e.bytes e.said (silent_some e.begun opened e.said e.spoken) e.read e.written, s.failed refl)
   unread (faults.Line fault) new s =
       let e = s.fault fault refl in
-      inl (begun_by fault e.bytes e.said e.read e.written)
+      inl (begun_by fault e.bytes e.said (silent_some e.begun opened e.said e.spoken) e.read e.written)
 
   pub unread_as : (fault : LinesFault) (old new : DrawState) (answer : Result ℕ ExplainFault) → old ≡ opened
       → IsErrAnd answer (λ told. told ≡ Lines fault) → Serves Drawing has_ended longest_line from to old new before after (Err fault) → DrawsTrace from to before after answer

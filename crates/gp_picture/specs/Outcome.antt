@@ -1,5 +1,5 @@
 -- How drawing a trace or a log may end (this profile's own rule).
-use Rattle.std.specs.Prelude.{◌≡◌, ◌<◌, ◌⊎◌, ℕ, ◌+◌, true, List, ◌∷◌, ◌++◌, length, codes, Option, Some, None, Result, Ok, Err}
+use Rattle.std.specs.Prelude.{◌≡◌, ◌<◌, ◌⊎◌, ℕ, ◌+◌, true, List, [], ◌∷◌, ◌++◌, length, codes, Option, Some, None, Result, Ok, Err}
 use Rattle.std.specs.Io.KnownBytes.{Appends, Consumes}
 use Rattle.std.specs.List.{All}
 use Rattle.gp_flow.specs.declared.fault.LineFault.TheVariants.{OutOfMemory}
@@ -53,11 +53,12 @@ pub record IsRefused {R W : Type 0} (from to : SourceState R) (before after : Si
   pub written : Appends before.held after.held before.gathered
   pub kept : KeepsNothing after
 
--- of what was handed in before, and of a picture, the writer got a prefix, and nothing else
+-- of what was handed in before, and of a picture, if there was to be one, the writer got a prefix, and nothing else
 pub record IsBegun {R W : Type 0} (from to : SourceState R) (before after : SinkState W) : Type 0 where
   pub bytes : List ℕ
   pub came : Consumes from.remaining to.remaining bytes
   pub picture : List ℕ
+  pub svg : (picture ≡ []) ⊎ IsSvg picture
   pub written : List ℕ
   pub unwritten : List ℕ
   pub all : written ++ unwritten ≡ before.gathered ++ picture
@@ -82,7 +83,8 @@ WritesPicture before after (Err (Refused line why)) = ⊥
 WritesPicture before after (Err (Lines faults.Read)) = ⊥
 WritesPicture before after (Err (Lines (faults.Line fault))) =
     (after ≡ before)
-    ⊎ ((picture : List ℕ) × (stopped : WriteStopped) × WritesWhole {T = Unit {0}} before after picture (Err stopped))
+    ⊎ ((picture : List ℕ) × IsSvg picture
+    × (stopped : WriteStopped) × WritesWhole {T = Unit {0}} before after picture (Err stopped))
 
 -- how it ends behind the last line
 abbrev pub EndsAs : {W : Type 0} → Option NoLine → DrawState → SinkState W → SinkState W → Result ℕ ExplainFault

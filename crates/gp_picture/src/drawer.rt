@@ -11,7 +11,7 @@ use std::marker::Model;
 /// Is given the lines of a trace or a log, one after another. The first line that is none ends it. Contracts see how
 /// many lines came, and what ended it.
 #[derive(Drop)]
-pub struct Drawer {
+pub(crate) struct Drawer {
     pub(crate) picture: Picture,
     pub(crate) lines: u64,
     pub(crate) ended: Option<NoLine>,
@@ -27,7 +27,7 @@ impl Model for Drawer {
 
 impl Drawer {
     /// Makes one to which no line came. Fails only where there is no memory.
-    pub fn begin(alloc: Global, options: &PictureOptions) -> Result<Drawer, AllocError>
+    pub(crate) fn begin(alloc: Global, options: &PictureOptions) -> Result<Drawer, AllocError>
         ensures { IfOk result (λ drawer. drawer ≡ opened) }
     {
         Ok(Drawer {
@@ -35,19 +35,5 @@ impl Drawer {
             lines: 0,
             ended: None,
         })
-    }
-
-    /// Why it ended, if it did: the line that came last is none of a trace or a log.
-    pub fn ended(&self) -> Option<NoLine>
-        ensures { result ≡ self.now.ended }
-    {
-        self.ended
-    }
-
-    /// How many lines came, up to the one that ended it.
-    pub fn lines(&self) -> u64
-        ensures { result ≡ self.now.lines }
-    {
-        self.lines
     }
 }

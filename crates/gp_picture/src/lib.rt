@@ -43,6 +43,5 @@ mod touched;
 mod whole;
 mod windows;
 
-pub use drawer::Drawer;
 pub use options::{Frames, PORTS, PictureOptions};
 pub use running::draw_trace;
