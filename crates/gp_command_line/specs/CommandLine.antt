@@ -1,11 +1,16 @@
--- The command line (this profile's own rule): `oltctl replay [--explain] [--progress] [FORM] [FILE]`, `oltctl drive
--- [--explain] [--done] [FORM] FILE`, `oltctl storm [--explain] [--progress] [FILE]`, `oltctl check [--storm] [-q]
--- [--format text|json] FILE..`, `oltctl verify [--explain] [--at-least N] [--progress] [--words] [--format text|json]
--- FILE [TRACE]`, `oltctl audit [--teqd T].. [--drift D] [--midway] [--mask MASK] [--side terminal|units] [--only RULES]..
--- [--without RULES].. [--words] [--units] [--format text|json] [--progress] [LOG]`, `oltctl picture [--from FRAME] [--to
--- FRAME] [--teqd T].. [--drift D] [--midway] [--mask MASK] [LOG]`, `oltctl explain [--mask MASK] [FORM] [--log] [TRACE]`, `oltctl decode [--up] [--both] [--names]
--- [--mask MASK] [HEX..]` and `oltctl encode [--up] [--mask MASK] [WORDS..]`, where FORM is `[--words] [--time] [--format
--- text|json]`, of `explain` without `--words`, and MASK is `0`, `85` or `0x55`.
+-- The command line (this profile's own rule), where FORM is `[--words] [--time] [--format text|json]`, of `explain` without
+-- `--words`, MASK is `0`, `85` or `0x55`, and JUDGED `[--teqd T].. [--drift D] [--midway] [--mask MASK]`:
+-- `oltctl replay [--explain] [--progress] [FORM] [FILE]`
+-- `oltctl storm [--explain] [--progress] [FILE]`
+-- `oltctl drive [--explain] [--done] [FORM] FILE`
+-- `oltctl check [--storm] [-q] [--format text|json] FILE..`
+-- `oltctl verify [--explain] [--at-least N] [--progress] [--words] [--format text|json] FILE [TRACE]`
+-- `oltctl audit [JUDGED] [--side terminal|units] [--only RULES].. [--without RULES].. [--words] [--units]
+-- [--format text|json] [--progress] [LOG]`
+-- `oltctl picture [--from FRAME] [--to FRAME] [JUDGED] [LOG]`
+-- `oltctl explain [--mask MASK] [FORM] [--log] [TRACE]`
+-- `oltctl decode [--up] [--both] [--names] [--mask MASK] [HEX..]`
+-- `oltctl encode [--up] [--mask MASK] [WORDS..]`
 use Rattle.std.specs.Prelude.{◌≡◌, List, [], ◌∷◌, Option, None, Some, map, Bool, true, false, codes, if◌then◌else◌, ◌||◌}
 use Rattle.std.specs.Borrow.{Bor}
 use Rattle.std.specs.Str.{bytes_eq}
@@ -126,16 +131,19 @@ storm_command =
     with_rule
     (with_rule (with_rule (new_app (codes "storm")) (flag_rule (codes "explain"))) (flag_rule (codes "progress"))) file_rule
 
--- `--at-least`, a number that has no least
-abbrev pub at_least_rule : Rule
-at_least_rule =
-    record (new_rule (codes "at-least"))
-    { long = Some (codes "at-least"); value_names = 1; parser = Some (Unsigned 0 18446744073709551615) }
+-- an option with a value, of this name
+abbrev pub valued_rule : Text → Rule
+valued_rule name = record (new_rule name) { long = Some name; value_names = 1 }
+
+-- the same, whose value is a number that has no least
+abbrev pub number_rule : Text → Rule
+number_rule name = record (valued_rule name) { parser = Some (Unsigned 0 18446744073709551615) }
 
 -- `verify` up to the form of what it says
 abbrev pub verify_flags : App
 verify_flags =
-    with_rule (with_rule (with_rule (new_app (codes "verify")) (flag_rule (codes "explain"))) at_least_rule)
+    with_rule
+    (with_rule (with_rule (new_app (codes "verify")) (flag_rule (codes "explain"))) (number_rule (codes "at-least")))
     (flag_rule (codes "progress"))
 
 -- the same with the form of what it says
@@ -145,17 +153,9 @@ verify_form names = with_rule (with_rule verify_flags (flag_rule (codes "words")
 abbrev pub verify_command : FormatNames → App
 verify_command names = with_rule (with_rule (verify_form names) script_rule) trace_rule
 
--- an option with a value, of this name
-abbrev pub valued_rule : Text → Rule
-valued_rule name = record (new_rule name) { long = Some name; value_names = 1 }
-
--- the same, which may be given more than once
+-- an option with a value that may be given more than once, of this name
 abbrev pub repeated_rule : Text → Rule
 repeated_rule name = record (valued_rule name) { action = Some Append }
-
--- `--drift`, a number that has no least
-abbrev pub drift_rule : Rule
-drift_rule = record (valued_rule (codes "drift")) { parser = Some (Unsigned 0 18446744073709551615) }
 
 -- `--side`, one of these
 abbrev pub side_rule : SideNames → Rule
@@ -167,7 +167,8 @@ log_rule = record (new_rule (codes "log")) { value_names = 1 }
 
 -- `audit` with what delays are judged by
 abbrev pub audit_delays : App
-audit_delays = with_rule (with_rule (new_app (codes "audit")) (repeated_rule (codes "teqd"))) drift_rule
+audit_delays =
+    with_rule (with_rule (new_app (codes "audit")) (repeated_rule (codes "teqd"))) (number_rule (codes "drift"))
 
 -- the same with all that messages are judged by
 abbrev pub audit_judged : MaskNames → App
@@ -216,17 +217,14 @@ abbrev pub explain_command : MaskNames → FormatNames → App
 explain_command masks formats =
     with_rule (with_rule (explain_form masks formats) (flag_rule (codes "log"))) trace_rule
 
--- an option whose value is a number that has no least, of this name
-abbrev pub number_rule : Text → Rule
-number_rule name = record (valued_rule name) { parser = Some (Unsigned 0 18446744073709551615) }
-
 -- `picture` with the frames that are drawn
 abbrev pub picture_frames : App
-picture_frames = with_rule (with_rule (new_app (codes "picture")) (number_rule (codes "from"))) (number_rule (codes "to"))
+picture_frames =
+    with_rule (with_rule (new_app (codes "picture")) (number_rule (codes "from"))) (number_rule (codes "to"))
 
 -- the same with what delays are judged by
 abbrev pub picture_delays : App
-picture_delays = with_rule (with_rule picture_frames (repeated_rule (codes "teqd"))) drift_rule
+picture_delays = with_rule (with_rule picture_frames (repeated_rule (codes "teqd"))) (number_rule (codes "drift"))
 
 -- the same with all that messages are judged by
 abbrev pub picture_judged : MaskNames → App
@@ -326,7 +324,8 @@ pub record IsFaultOf (words : List Text) (kind : ErrorKind) : Type 0 where
   pub are : AreAllNames names
   pub among : IsAmong kind (fault_of (oltctl_command names) words)
 
--- the mask that a name stands for: 85, which is 0x55, is the other mask, and everything else the plain one, as where there is none
+-- the mask that a name stands for: 85, which is 0x55, is the other mask, and everything else the plain one, as where
+-- there is none
 abbrev pub mask_named : Option Text → Mask
 mask_named None = masks.Plain
 mask_named (Some name) = if bytes_eq name (codes "85") || bytes_eq name (codes "0x55") then masks.Coset else masks.Plain

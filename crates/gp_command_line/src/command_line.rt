@@ -2,7 +2,7 @@
 ghost use Rattle.std.specs.Prelude.{◌≡◌, ◌≢◌, IfErr, IfOk, codes, false, map};
 ghost use Rattle.clap.specs.Words.{app_of, kind_of, rule_of};
 ghost use Rattle.clap.specs.declared.builder.command.Command.TheViews.{out-Command as fields_of};
-ghost use Rattle.gp_command_line.specs.CommandLine.{AllNames, AreAllNames, AreFormats, AreLogNames, AreMasks, AreSides, FormatNames, IsFaultOf, IsParseOf, LogNames, MaskNames, SideNames, at_least_rule, check_command, code_rule, files_rule, flag_rule, format_rule, audit_delays as spec_audit_delays, audit_form as spec_audit_form, audit_judged as spec_audit_judged, audit_rules as spec_audit_rules, audit_side as spec_audit_side, audit_told as spec_audit_told, explain_form as spec_explain_form, check_flags as spec_check_flags, decode_flags as spec_decode_flags, replay_flags as spec_replay_flags, verify_flags as spec_verify_flags, verify_form as spec_verify_form, with_form as spec_form, with_words as spec_words, audit_command, decode_command, drawn_commands, drift_rule, drive_command, number_rule, picture_command, picture_delays as spec_picture_delays, picture_frames as spec_picture_frames, picture_judged as spec_picture_judged, encode_command, explain_command, file_rule, line_commands, log_commands, log_rule, mask_rule, oltctl_command, quiet_rule, repeated_rule, replay_command, script_commands, script_rule, side_rule, storm_command, trace_commands, trace_rule, up_rule, verify_command, words_rule};
+ghost use Rattle.gp_command_line.specs.CommandLine.{AllNames, AreAllNames, AreFormats, AreLogNames, AreMasks, AreSides, FormatNames, IsFaultOf, IsParseOf, LogNames, MaskNames, SideNames, check_command, code_rule, files_rule, flag_rule, format_rule, audit_delays as spec_audit_delays, audit_form as spec_audit_form, audit_judged as spec_audit_judged, audit_rules as spec_audit_rules, audit_side as spec_audit_side, audit_told as spec_audit_told, explain_form as spec_explain_form, check_flags as spec_check_flags, decode_flags as spec_decode_flags, replay_flags as spec_replay_flags, verify_flags as spec_verify_flags, verify_form as spec_verify_form, with_form as spec_form, with_words as spec_words, audit_command, decode_command, drawn_commands, drive_command, number_rule, picture_command, picture_delays as spec_picture_delays, picture_frames as spec_picture_frames, picture_judged as spec_picture_judged, encode_command, explain_command, file_rule, line_commands, log_commands, log_rule, mask_rule, oltctl_command, quiet_rule, repeated_rule, replay_command, script_commands, script_rule, side_rule, storm_command, trace_commands, trace_rule, up_rule, verify_command, words_rule};
 ghost use Rattle.std.specs.String.{string_bytes};
 
 use crate::help::{
@@ -241,15 +241,28 @@ fn trace<'a>(alloc: Global) -> Arg<'a>
         .help("The trace; standard input if left out, or for -")
 }
 
-fn at_least<'a>(alloc: Global) -> Arg<'a>
-    ensures rule { rule_of result ≡ at_least_rule }
+/// Makes an option whose value is a number.
+fn number<'a>(alloc: Global, name: &'a str, value: &'a str, help: &'a str) -> Arg<'a>
+    ensures rule { rule_of result ≡ number_rule name.entry.now }
     ensures local { result.global ≡ false }
 {
-    Arg::new(alloc, "at-least")
-        .long("at-least")
-        .value_name("N")
+    Arg::new(alloc, name)
+        .long(name)
+        .value_name(value)
         .value_parser(value_parser!(u64))
-        .help("A trace of fewer lines is no run; 1 if left out")
+        .help(help)
+}
+
+fn at_least<'a>(alloc: Global) -> Arg<'a>
+    ensures rule { rule_of result ≡ number_rule (codes "at-least") }
+    ensures local { result.global ≡ false }
+{
+    number(
+        alloc,
+        "at-least",
+        "N",
+        "A trace of fewer lines is no run; 1 if left out",
+    )
 }
 
 /// Begins `verify`, up to the form of what it says.
@@ -301,14 +314,15 @@ fn repeated<'a>(alloc: Global, name: &'a str, value: &'a str, help: &'a str) -> 
 }
 
 fn drift<'a>(alloc: Global) -> Arg<'a>
-    ensures rule { rule_of result ≡ drift_rule }
+    ensures rule { rule_of result ≡ number_rule (codes "drift") }
     ensures local { result.global ≡ false }
 {
-    Arg::new(alloc, "drift")
-        .long("drift")
-        .value_name("D")
-        .value_parser(value_parser!(u64))
-        .help("How far a unit's delay may be from that of its ranging, in bit times; 8 if left out")
+    number(
+        alloc,
+        "drift",
+        "D",
+        "How far a unit's delay may be from that of its ranging, in bit times; 8 if left out",
+    )
 }
 
 fn side<'a>(alloc: Global) -> Arg<'a>
@@ -394,9 +408,9 @@ fn audit_rules<'a>(alloc: Global) -> Result<Command<'a>, AllocError>
         alloc,
         "only",
         "RULES",
-        "The rules that are told, as taken,drift",
+        "Tells of these rules alone, as: taken,drift",
     );
-    let without = repeated(alloc, "without", "RULES", "Rules that are not told");
+    let without = repeated(alloc, "without", "RULES", "Tells of all rules but these");
     audit_side(alloc)?.arg(only)?.arg(without)
 }
 
@@ -414,7 +428,7 @@ fn audit_told<'a>(alloc: Global) -> Result<Command<'a>, AllocError>
     let units = flag(
         alloc,
         "units",
-        "Tells at the end of each port and of each unit that was heard",
+        "Tells at the end what was heard of each port and of each unit, in a line each",
     );
     audit_rules(alloc)?.arg(words)?.arg(units)
 }
@@ -436,18 +450,6 @@ fn audit<'a>(alloc: Global) -> Result<Command<'a>, AllocError>
     audit_form(alloc)?.arg(progress(alloc))?.arg(log(alloc))
 }
 
-/// Makes an option whose value is a number.
-fn number<'a>(alloc: Global, name: &'a str, value: &'a str, help: &'a str) -> Arg<'a>
-    ensures rule { rule_of result ≡ number_rule name.entry.now }
-    ensures local { result.global ≡ false }
-{
-    Arg::new(alloc, name)
-        .long(name)
-        .value_name(value)
-        .value_parser(value_parser!(u64))
-        .help(help)
-}
-
 /// Begins `picture`: which frames are drawn.
 fn picture_frames<'a>(alloc: Global) -> Result<Command<'a>, AllocError>
     ensures app { IfOk result (λ c. app_of c ≡ spec_picture_frames) }
@@ -457,7 +459,7 @@ fn picture_frames<'a>(alloc: Global) -> Result<Command<'a>, AllocError>
         alloc,
         "from",
         "FRAME",
-        "The first frame that is drawn; 0 if left out",
+        "The first frame that is drawn; that of LOG if left out",
     );
     let to = number(
         alloc,

@@ -8,13 +8,14 @@ Examples:
 
 Exit status:
   0  done, or help that was asked for
-  1  the input was not read, is too long, or is no script, code, turn or log
+  1  the input was not read, is too long, or is no script, turn, code, words,
+     trace or log
   2  the command line is wrong
   3  out of memory
   4  the output takes no more
   5  a storm's threads and journals do not agree
   6  a port of a storm has more entries than its journal keeps
-  7  the trace is no run, or has too few lines; or a rule is broken";
+  7  a trace is no run, or has too few lines; or a log breaks a rule";
 
 /// What stands at the end of the help of `replay`.
 pub const REPLAY_HELP: &str = "\

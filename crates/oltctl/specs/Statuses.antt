@@ -28,6 +28,12 @@ use Rattle.clap.specs.Words.{Text, subcommand_rows_of}
 use Rattle.clap.specs.declared.parser.matches.ArgMatches.{ArgMatches}
 use Rattle.gp_command_line.specs.CommandLine.{IsFaultOf, IsParseOf}
 use Rattle.gp_command_line.specs.Requests.{Asks, AsksNothing}
+use Rattle.gp_audit.specs.declared.options.AuditOptions.{AuditOptions}
+use Rattle.gp_picture.specs.declared.options.PictureOptions.{PictureOptions}
+use Rattle.gp_options.specs.Options.{AuditsAs, DrawsAs, IsBadAudit, IsBadPicture}
+use Rattle.gp_options.specs.declared.bad_option.BadOption.{BadOption}
+use Rattle.gp_command_line.specs.declared.request.Audit.{Audit as WantedAudit}
+use Rattle.gp_command_line.specs.declared.request.Drawing.{Drawing}
 use Rattle.oltctl.specs.declared.auditing.Audited.{Audited}
 use Rattle.gp_command_line.specs.declared.request.Request.{Request}
 use Rattle.gp_command_line.specs.declared.request.Request.TheVariants.{Replay, Drive, Storm, Check, Verify, Audit, Picture, Decode, DecodeLines, Encode, EncodeLines, Explain}
@@ -120,9 +126,12 @@ abbrev pub audit_status : Result Audited LinesFault → ℕ
 audit_status (Ok audited) = audited_status audited
 audit_status (Err fault) = input_status fault
 
--- what a file or standard input holds no contract can tell, so it is that of some log; or an option is wrong
-abbrev pub IsAudited : ℕ → Type 0
-IsAudited status = (status ≡ BAD_ARGUMENTS) ⊎ ((outcome : Result Audited LinesFault) × (status ≡ audit_status outcome))
+-- an option can't be read; or a log is judged as is asked for, which no contract can tell, so it is that of some log
+abbrev pub IsAudited : WantedAudit → ℕ → Type 0
+IsAudited wanted status =
+    ((bad : BadOption) × IsBadAudit wanted bad × (status ≡ BAD_ARGUMENTS))
+    ⊎ ((options : AuditOptions) × AuditsAs wanted options
+    × (outcome : Result Audited LinesFault) × (status ≡ audit_status outcome))
 
 -- the status after lines were decoded: that of the first fault, if one had a fault
 abbrev pub lines_status : Result (Option FaultAt) LinesFault → ℕ
@@ -156,9 +165,12 @@ told_status (Err fault) = explain_status fault
 abbrev pub IsExplained : ℕ → Type 0
 IsExplained status = (outcome : Result ℕ ExplainFault) × (status ≡ told_status outcome)
 
--- the status after a log was drawn, likewise; or an option is wrong
-abbrev pub IsPictured : ℕ → Type 0
-IsPictured status = (status ≡ BAD_ARGUMENTS) ⊎ ((outcome : Result ℕ ExplainFault) × (status ≡ told_status outcome))
+-- the status after a log was to be drawn: an option can't be read; or it is drawn as is asked for, likewise
+abbrev pub IsPictured : Drawing → ℕ → Type 0
+IsPictured wanted status =
+    ((bad : BadOption) × IsBadPicture wanted bad × (status ≡ BAD_ARGUMENTS))
+    ⊎ ((options : PictureOptions) × DrawsAs wanted options
+    × (outcome : Result ℕ ExplainFault) × (status ≡ told_status outcome))
 
 -- the status after files were checked, by whether all are scripts
 abbrev pub check_status : Result Bool ScriptCheckFault → ℕ
@@ -178,8 +190,8 @@ IsServed (Drive script told done) status = IsDriven status
 IsServed (Check files manner) status = IsChecked status
 IsServed (Storm file play) status = IsStormed status
 IsServed (Verify wanted) status = IsVerified wanted.at_least status
-IsServed (Audit wanted) status = IsAudited status
-IsServed (Picture wanted) status = IsPictured status
+IsServed (Audit wanted) status = IsAudited wanted status
+IsServed (Picture wanted) status = IsPictured wanted status
 IsServed (Decode code upstream mask names) status = IsDecoded code.now upstream mask names status
 IsServed (DecodeLines many direction mask names) status = AreDecoded status
 IsServed (EncodeLines upstream mask) status = AreEncoded status

@@ -2,24 +2,19 @@
 ghost use Rattle.std.specs.Prelude.{◌≡◌};
 ghost use Rattle.oltctl.specs.Statuses.{IsAudited, audit_status, audited_status};
 
-use crate::audit_options::{BadOption, options_of};
 use crate::observed::{Observed, Seen};
 use crate::progress::Counted;
-use crate::reporting::report;
+use crate::reporting::{refuse_option, report};
 use gp_audit::{AuditOptions, Auditor, audit_log};
 use gp_command_line::Audit;
 use gp_finding::AuditSum;
 use gp_flow::LinesFault;
-use gp_report::{BAD_ARGUMENTS, BAD_INPUT, NOT_A_RUN, SUCCESS, input_report};
+use gp_options::audit_options;
+use gp_report::{BAD_INPUT, NOT_A_RUN, SUCCESS, input_report};
 use gp_stream::{Sink, Source};
 use std::io;
 use std::io::Read;
 use std::rt::{Clock, Files};
-
-/// The rules, as they are named.
-const RULE_NAMES: &str =
-    "the rules are garbled, copies, range, barred, unasked, taken, renumbered, nobody, unranged, \
-delay, early, shared, not-held, grant, disabled, anew, number, acknowledge, drift";
 
 /// A log that was audited to its end.
 #[derive(Clone, Copy)]
@@ -105,31 +100,14 @@ fn end_audit<R: AllocGlobal + Eprint>(
     }
 }
 
-/// Says which option can't be read, and answers the exit status.
-pub(crate) fn refuse_option<R: Eprint>(rt: &R, option: BadOption<'_>) -> u8
-    ensures { result ≡ BAD_ARGUMENTS }
-{
-    let _ = match option {
-        BadOption::Rule(name) => eprintln!(rt;
-            "oltctl: no rule is called \"{name}\"; {RULE_NAMES}"
-        ),
-        BadOption::Delay(text) => {
-            eprintln!(rt;
-                "oltctl: --teqd {text} is no delay; it is T or PORT=T, T below 2^32 bit times, PORT 0 to 15"
-            )
-        }
-    };
-    BAD_ARGUMENTS
-}
-
 /// Audits a log, says how that ended, and answers the exit status.
 pub(crate) fn audit<R: AllocGlobal + Files + Print + Eprint + Input + Clock>(
     rt: &R,
     wanted: &Audit<'_, '_>,
 ) -> u8
-    ensures { IsAudited result }
+    ensures { IsAudited wanted.now result }
 {
-    match options_of(wanted) {
+    match audit_options(wanted) {
         Err(option) => refuse_option(rt, option),
         Ok(options) => {
             let mut seen = Seen::new(wanted.log);

@@ -19,7 +19,6 @@ ghost use Rattle.oltctl.specs.Replays.{IsReadBy, IsTooLong};
 ghost use Rattle.oltctl.specs.Joined.{word_of};
 ghost use Rattle.oltctl.specs.Statuses.{AreDecoded, AreEncoded, IsArgumentsReport, IsDecoded, IsDriven, IsEncoded, IsPlayed, IsRun, IsServed, IsStatusOf, IsStormed, check_status, drive_status, encoded_status, end_status, greatest_status, lines_status};
 
-mod audit_options;
 mod auditing;
 mod checking;
 mod descriptors;

@@ -2,15 +2,14 @@
 ghost use Rattle.std.specs.Prelude.{◌≡◌};
 ghost use Rattle.oltctl.specs.Statuses.{IsPictured, told_status};
 
-use crate::audit_options::{delays_of, drift_of};
-use crate::auditing::refuse_option;
 use crate::observed::{Observed, Seen};
-use crate::reporting::{report, report_at};
+use crate::reporting::{refuse_option, report, report_at};
 use gp_command_line::Drawing;
 use gp_explain::{ExplainFault, NoLine};
 use gp_flow::LinesFault;
-use gp_picture::{Frames, PictureOptions, draw_trace};
-use gp_report::{BAD_ARGUMENTS, BAD_INPUT, SUCCESS, explain_report};
+use gp_options::picture_options;
+use gp_picture::{PictureOptions, draw_trace};
+use gp_report::{BAD_INPUT, SUCCESS, explain_report};
 use gp_stream::{Sink, Source};
 use std::io;
 use std::io::Read;
@@ -77,46 +76,19 @@ fn end_picture<R: AllocGlobal + Eprint>(
     }
 }
 
-/// Gives which frames of a log are drawn: all where neither end is given.
-fn frames_of(from: Option<u64>, to: Option<u64>) -> Frames {
-    Frames {
-        from: from.unwrap_or(0),
-        to: to.unwrap_or(u64::MAX),
-    }
-}
-
-/// Says that the frames that are wanted end before they begin, and answers the exit status.
-fn refuse_frames<R: Eprint>(rt: &R, frames: Frames) -> u8
-    ensures { result ≡ BAD_ARGUMENTS }
-{
-    let Frames { from, to } = frames;
-    let _ = eprintln!(rt; "oltctl: --from {from} is behind --to {to}");
-    BAD_ARGUMENTS
-}
-
 /// Draws a log, says how that ended, and answers the exit status.
 pub(crate) fn picture<R: AllocGlobal + Files + Print + Eprint + Input>(
     rt: &R,
     wanted: &Drawing<'_, '_>,
 ) -> u8
-    ensures { IsPictured result }
+    ensures { IsPictured wanted.now result }
 {
-    let frames = frames_of(wanted.from, wanted.to);
-    if frames.from > frames.to {
-        return refuse_frames(rt, frames);
+    match picture_options(wanted) {
+        Err(option) => refuse_option(rt, option),
+        Ok(options) => {
+            let mut seen = Seen::new(wanted.log);
+            let outcome = draw_file(rt, wanted.log, &options, &mut seen);
+            end_picture(rt, &outcome, &seen)
+        }
     }
-    let teqd = match delays_of(wanted.teqd) {
-        Ok(teqd) => teqd,
-        Err(option) => return refuse_option(rt, option),
-    };
-    let options = PictureOptions {
-        frames,
-        mask: wanted.mask,
-        teqd,
-        drift: drift_of(wanted.drift),
-        midway: wanted.midway,
-    };
-    let mut seen = Seen::new(wanted.log);
-    let outcome = draw_file(rt, wanted.log, &options, &mut seen);
-    end_picture(rt, &outcome, &seen)
 }

@@ -2,6 +2,8 @@
 ghost use Rattle.std.specs.Prelude.{◌≡◌};
 
 use gp_check::{Purpose, placed_line};
+use gp_options::BadOption;
+use gp_report::BAD_ARGUMENTS;
 use std::alloc::{AllocError, Global};
 use std::io;
 use std::io::ErrorKind;
@@ -32,6 +34,14 @@ pub(crate) fn report_count<R: Eprint>(rt: &R, told: (&'static str, u8), count: u
     let (line, status) = told;
     let _ = eprintln!(rt; "{line}, {count}");
     status
+}
+
+/// Says on standard error which option can't be read, and answers the exit status.
+pub(crate) fn refuse_option<R: Eprint>(rt: &R, option: BadOption<'_>) -> u8
+    ensures { result ≡ BAD_ARGUMENTS }
+{
+    let _ = eprintln!(rt; "oltctl: {option}");
+    BAD_ARGUMENTS
 }
 
 /// Says on standard error how many lines came.

@@ -1,0 +1,27 @@
+//! An option that can't be read.
+
+use thiserror::Error;
+
+/// The rules, as they are named.
+const RULES: &str =
+    "garbled, copies, range, barred, unasked, taken, renumbered, nobody, unranged, delay, early, \
+shared, not-held, grant, disabled, anew, number, acknowledge, drift";
+
+/// An option that can't be read, and what stands there.
+#[derive(Clone, Copy, Debug, PartialEq, Eq, Error)]
+pub enum BadOption<'a> {
+    /// Of rules, a name that none has.
+    #[error("no rule is called \"{0}\"; the rules are {rules}", rules = RULES)]
+    Rule(&'a str),
+    /// An equalized delay.
+    #[error("--teqd {0} is no delay; it is T or PORT=T, T below 2^32 bit times, PORT 0 to 15")]
+    Delay(&'a str),
+    /// Frames that end before they begin.
+    #[error("--from {from} is behind --to {to}")]
+    Frames {
+        /// The first.
+        from: u64,
+        /// The last.
+        to: u64,
+    },
+}

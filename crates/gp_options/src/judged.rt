@@ -1,0 +1,37 @@
+//! What both an audit and a picture judge by.
+ghost use Rattle.std.specs.Prelude.{◌≡◌, Ok, Err, MatchResult};
+ghost use Rattle.gp_audit.specs.Delays.{equalized_delays as spec_delays};
+ghost use Rattle.gp_audit.specs.Texts.{given};
+ghost use Rattle.gp_options.specs.Options.{drift_of};
+ghost use Rattle.gp_options.specs.declared.bad_option.BadOption.TheVariants as bad;
+
+use crate::bad_option::BadOption;
+use gp_audit::equalized_delays;
+
+/// How many ports a log may tell of.
+const PORTS: usize = 16;
+
+/// How far a unit's delay may be off where that is left out, in bit times.
+const DRIFT: u32 = 8;
+
+/// Gives the equalized delay of each port, in bit times.
+pub(crate) fn delays_of<'t>(told: Option<&[&'t str]>) -> Result<[u32; PORTS], BadOption<'t>>
+    ensures { MatchResult result
+        (λ delays. spec_delays (given told.entry) ≡ Ok delays)
+        (λ fault. (text : _) × (fault ≡ bad.Delay text) × (spec_delays (given told.entry) ≡ Err text.now)) }
+{
+    match equalized_delays(told) {
+        Ok(delays) => Ok(delays),
+        Err(text) => Err(BadOption::Delay(text)),
+    }
+}
+
+/// Gives how far a delay may be off, in bit times.
+pub(crate) fn drift_of(drift: Option<u64>) -> u32
+    ensures { result ≡ drift_of drift }
+{
+    match drift {
+        Some(drift) => drift.min(u64::from(u32::MAX)) as u32,
+        None => DRIFT,
+    }
+}

@@ -1,0 +1,20 @@
+//! What a log is judged by, as the command line of `oltctl` asks for it.
+//!
+//! Promise: an audit's and a picture's options are read whole, or the first that can't be is given back, and in one way
+//! only (`audit_options`, `picture_options`).
+//!
+//! - `audit.rt`: of an audit. `picture.rt`: of a picture.
+//! - `judged.rt`: what both are judged by. `bad_option.rt`: an option that can't be read, in words.
+//!
+//! Where to make which change: what is asked for stands in `gp_command_line`, how names of rules and delays are read in
+//! `gp_audit`, and what becomes of them in `specs/Options.antt`.
+#![tactic(auto)]
+
+mod audit;
+mod bad_option;
+mod judged;
+mod picture;
+
+pub use audit::audit_options;
+pub use bad_option::BadOption;
+pub use picture::picture_options;
