@@ -201,7 +201,8 @@ impl<L: Ledger> ChassisCore<L> {
             → IfErr result (λ fault. (fault ≡ CoreFault.JournalFull) ↔ IsFullAt self.old port) }
         ensures some_actor { result ≡ Err CoreFault.NoActor → ⊥ }
     {
-        self.apply_wishing(port, event, None)
+        let number = self.apply_kept(port, event, None)?;
+        Ok(self.receipt_kept(port, number))
     }
 
     /// Does the same, and hands out the wished number where it is free and one is handed out.
