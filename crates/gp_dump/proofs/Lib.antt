@@ -1,2 +1,3 @@
 pub mod HeadLemmas
 pub mod DumpLemmas
+pub mod PartLemmas

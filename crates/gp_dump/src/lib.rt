@@ -16,6 +16,7 @@
 mod change;
 mod dump;
 mod head;
+mod laws;
 mod number;
 mod piece;
 mod text;
@@ -23,3 +24,4 @@ mod text;
 pub use change::{Change, PortChange, UnitChange, UnitState, WindowKind};
 pub use dump::{Dump, PORTS};
 pub use head::push_head;
+pub use laws::dumps_continue;

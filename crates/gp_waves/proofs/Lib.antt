@@ -1,0 +1,4 @@
+pub mod WritingLemmas
+pub mod ServingLemmas
+pub mod CourseLemmas
+pub mod OutcomeLemmas

@@ -1,0 +1,359 @@
+-- How dumping an input ends.
+use Rattle.std.specs.Prelude.{is_some}
+use Rattle.std.proofs.Common.{◌≡◌, ◌⊎◌, inl, inr, ℕ, Bool, true, false, List, [], ◌∷◌, ◌++◌, Option, None, Some, Result, Ok, Err, IsErrAnd, length, take, drop, map, refl, sym, ap, subst, ◌∙◌, append_assoc, append-nil, arith}
+use Rattle.std.proofs.lemmas.List.{take-append-drop}
+use Rattle.std.proofs.KnownBytes.{Appends-trans}
+use Rattle.std.specs.List.{All}
+use Rattle.std.specs.Io.KnownBytes.{Appends, Consumes}
+use Rattle.gp_flow.specs.declared.fault.LineFault.{LineFault}
+use Rattle.gp_flow.specs.declared.fault.LineFault.TheVariants.{Write, OutOfMemory, Full}
+use Rattle.gp_flow.specs.declared.lines.LinesEnd.{LinesEnd}
+use Rattle.gp_flow.specs.declared.lines.LinesEnd.TheVariants.{Whole, Open, Over}
+use Rattle.gp_flow.specs.declared.fault.LinesFault.{LinesFault}
+use Rattle.gp_flow.specs.declared.fault.LinesFault.TheVariants as faults
+use Rattle.gp_flow.specs.Lines.{DoesAll, GetsAll, GetsPrefix, Leaves, Serves, ServesTo, ended_lines, handed, lines_of}
+use Rattle.gp_flow.proofs.AnswerLemmas.{all_of_some}
+use Rattle.gp_flow.proofs.LineLemmas.{ended_first, handed_none, handed_whole}
+use Rattle.gp_lines.specs.Turn.{longest_line}
+use Rattle.gp_stream.specs.declared.sink.WriteStopped.{WriteStopped}
+use Rattle.gp_stream.specs.Sink.{SinkState, KeepsNothing, WritesWhole}
+use Rattle.gp_stream.specs.Source.{SourceState, ReadsWhole}
+use Rattle.gp_stream.proofs.SinkLemmas.{takes_whole}
+use Rattle.gp_explain.specs.declared.fault.ExplainFault.{ExplainFault}
+use Rattle.gp_explain.specs.declared.fault.ExplainFault.TheVariants.{Refused, Lines}
+use Rattle.gp_explain.specs.declared.fault.NoLine.{NoLine}
+use Rattle.gp_explain.specs.declared.fault.NoLine.TheVariants.{NotALine, TooLong}
+use Rattle.gp_dump.specs.Dump.{Continues, DumpState, IsDumpTo}
+use Rattle.gp_dump.specs.Head.{head_text}
+use Rattle.gp_dump.proofs.PartLemmas.{continues_none}
+use Rattle.gp_waves.specs.declared.running.WavesSum.{WavesSum}
+use Rattle.gp_waves.specs.Dumping.{Dumping, IsRead, IsUnread, Says, WavesState, has_ended}
+use Rattle.gp_waves.specs.Writing.{Grows, GrowsAs, Written}
+use Rattle.gp_waves.specs.Outcome.{DumpsWaves, GetsDump, IsBegun, IsDump, IsFound, IsFoundBy, IsNone, IsRefused, IsRest, IsUnfinished, WritesRest}
+use Rattle.gp_waves.proofs.CourseLemmas.{Course, Fails, Halts, Runs, course, wholes}
+use Rattle.gp_waves.proofs.WritingLemmas.{grows_more}
+
+-- ---- lines that were handed on
+
+some_cons : {A : Type 0} (x : A) (xs : List A) → x ∷ xs ≡ [] → ⊥
+some_cons x xs h = cc
+
+none_cons : {A : Type 0} (x : A) (xs : List A) → [] ≡ x ∷ xs → ⊥
+none_cons x xs h = cc
+
+head_same : {A : Type 0} (x y : A) (xs ys : List A) → x ∷ xs ≡ y ∷ ys → x ≡ y
+head_same x y xs ys h = cc
+
+tail_same : {A : Type 0} (x y : A) (xs ys : List A) → x ∷ xs ≡ y ∷ ys → xs ≡ ys
+tail_same x y xs ys h = cc
+
+cons_same : {A : Type 0} (x y : A) (xs ys : List A) → x ≡ y → xs ≡ ys → x ∷ xs ≡ y ∷ ys
+cons_same x y xs ys h k = cc
+
+never : false ≡ true → ⊥
+never h = cc
+
+-- all of them whole
+handed_all : (limit : ℕ) (ls texts : List (List ℕ)) → map (handed limit) ls ≡ wholes texts → ls ≡ texts
+handed_all limit [] [] h = refl
+handed_all limit [] (t ∷ texts) h = absurd (none_cons _ _ h)
+handed_all limit (l ∷ ls) [] h = absurd (some_cons _ _ h)
+handed_all limit (l ∷ ls) (t ∷ texts) h =
+    cons_same l t ls texts (handed_whole limit l t (head_same _ _ _ _ h)) (handed_all limit ls texts (tail_same _ _ _ _ h))
+
+-- the first of them whole, and this one
+record Parted (limit : ℕ) (ls before : List (List ℕ)) (line : Option (List ℕ)) : Type 0 where
+  pub raw : List ℕ
+  pub others : List (List ℕ)
+  pub parts : ls ≡ before ++ raw ∷ others
+  pub is : handed limit raw ≡ line
+
+parted : (limit : ℕ) (ls before : List (List ℕ)) (line : Option (List ℕ)) (rest : List (Option (List ℕ))) → map (handed limit) ls ≡ wholes before ++ line ∷ rest → Parted limit ls before line
+parted limit [] [] line rest h = absurd (none_cons _ _ h)
+parted limit [] (t ∷ before) line rest h = absurd (none_cons _ _ h)
+parted limit (l ∷ ls) [] line rest h = record { raw = l; others = ls; parts = refl; is = head_same _ _ _ _ h }
+parted limit (l ∷ ls) (t ∷ before) line rest h =
+    let p = parted limit ls before line rest (tail_same _ _ _ _ h) in
+    record { raw = p.raw; others = p.others; parts = cons_same l t ls _ (handed_whole limit l t (head_same _ _ _ _ h)) p.parts; is = p.is }
+
+-- a line that ends it
+none_of : (why : NoLine) (line : Option (List ℕ)) (raw : List ℕ) → handed longest_line raw ≡ line → Fails why line → IsNone why raw
+none_of why None raw is fails = subst (λ (w : NoLine). IsNone w raw) (sym fails) (handed_none longest_line raw is)
+none_of why (Some text) raw is fails =
+    subst (λ (w : NoLine). IsNone w raw) (sym fails.0) (subst IsUnread (sym (handed_whole longest_line raw text is)) fails.1)
+
+-- ---- a dump
+
+dump_as : (begun : Bool) (a b : DumpState) (text : List ℕ) → begun ≡ true → GrowsAs false begun a text b → IsDump text
+dump_as true a b text yes p = (b.ports, b.last, record { behind = p.0; head = p.1; continues = p.2 })
+dump_as false a b text yes p = absurd (never yes)
+
+-- what was written from the beginning on
+whole_dump : (old new : Written) (text : List ℕ) → old.begun ≡ false → new.begun ≡ true → Grows old text new → IsDump text
+whole_dump old new text no yes p =
+    dump_as new.begun old.dump new.dump text yes (subst (λ (t : Bool). GrowsAs t new.begun old.dump text new.dump) no p)
+
+-- a dump of nothing
+empty_dump : IsDump (head_text [])
+empty_dump = ([], None, record { behind = []; head = sym (append-nil (head_text [])); continues = continues_none [] None })
+
+some_dump_as : (begun : Bool) (a b : DumpState) (text : List ℕ) → GrowsAs false begun a text b → (rest : List ℕ) × IsDump (text ++ rest)
+some_dump_as true a b text p =
+    let whole = dump_as true a b text refl p in
+    ([], subst IsDump (sym (append-nil text)) whole)
+some_dump_as false a b text p = (head_text [], subst (λ (l : List ℕ). IsDump (l ++ head_text [])) (sym p) empty_dump)
+
+-- it is the beginning of one
+some_dump : (old new : Written) (text : List ℕ) → old.begun ≡ false → Grows old text new → (rest : List ℕ) × IsDump (text ++ rest)
+some_dump old new text no p =
+    some_dump_as new.begun old.dump new.dump text (subst (λ (t : Bool). GrowsAs t new.begun old.dump text new.dump) no p)
+
+-- what is known where it begins
+pub record IsOpened (state : WavesState) : Type 0 where
+  pub lines : state.lines ≡ 0
+  pub ended : state.ended ≡ None
+  pub begun : state.written.begun ≡ false
+
+started : (old new : WavesState) (ls : List (Option (List ℕ))) (said : List ℕ) → IsOpened old → DoesAll Dumping old ls said new
+    → Course new.ended old.written ls said new.written 0 new.lines
+started old new ls said o h =
+    subst (λ (n : ℕ). Course new.ended old.written ls said new.written n new.lines) o.lines (course ls old new said o.ended h)
+
+course_grows : (ended : Option NoLine) (a b : Written) (ls : List (Option (List ℕ))) (said : List ℕ) (from to : ℕ) → Course ended a ls said b from to → Grows a said b
+course_grows None a b ls said from to c = c.grown
+course_grows (Some why) a b ls said from to c = c.grown
+
+-- ---- behind the last line
+
+module _ {R W : Type 0} (from to : SourceState R) (before mid after : SinkState W) where
+  -- the rest was written behind what was said to lines
+  dumped : (old state last : WavesState) (said text : List ℕ) → IsOpened old → Grows old.written said state.written → IsRest state last text
+      → Appends before.held mid.held (before.gathered ++ said) → KeepsNothing mid → WritesWhole {T = Unit {0}} {E = WriteStopped} mid after text (Ok (tt {0}))
+      → GetsDump before after
+  dumped old state last said text o grown rest written kept w =
+      let all = before.gathered ++ said in
+      let both = Appends-trans before.held mid.held after.held all text written (takes_whole mid after text w.gives.ok kept.0 w.empty) in
+      record {
+        dump = said ++ text;
+        whole = whole_dump old.written last.written (said ++ text) o.begun rest.begun (grows_more old.written state.written last.written said text grown rest.grown);
+        written = subst (λ (l : List ℕ). Appends before.held after.held l) (append_assoc before.gathered said text) both;
+        kept = (w.empty, w.gives.flushed kept.1);
+      }
+
+  -- or a part of it
+  begun_rest : (old state last : WavesState) (bytes said text : List ℕ) (stopped : WriteStopped) → IsOpened old → Grows old.written said state.written → IsRest state last text
+      → Consumes from.remaining to.remaining bytes → Appends before.held mid.held (before.gathered ++ said) → KeepsNothing mid
+      → WritesWhole {T = Unit {0}} mid after text (Err stopped) → IsBegun from to before after
+  begun_rest old state last bytes said text stopped o grown rest came written kept w =
+      let p = w.gives.error in
+      let all = before.gathered ++ said in
+      let parts : text ≡ p.written ++ p.unwritten = ap (λ (l : List ℕ). l ++ text) (sym kept.0) ∙ p.rest in
+      record {
+        bytes = bytes;
+        came = came;
+        dump = said ++ text;
+        whole = whole_dump old.written last.written (said ++ text) o.begun rest.begun (grows_more old.written state.written last.written said text grown rest.grown);
+        written = all ++ p.written;
+        unwritten = p.unwritten;
+        all = append_assoc all p.written p.unwritten ∙ ap (λ (l : List ℕ). all ++ l) (sym parts) ∙ append_assoc before.gathered said text;
+        appended = Appends-trans before.held mid.held after.held all p.written written p.appended;
+      }
+
+  -- or nothing of it
+  begun_none : (old state : WavesState) (bytes said : List ℕ) → IsOpened old → Grows old.written said state.written → Consumes from.remaining to.remaining bytes
+      → Appends before.held mid.held (before.gathered ++ said) → after ≡ mid → IsBegun from to before after
+  begun_none old state bytes said o grown came written same =
+      let some = some_dump old.written state.written said o.begun grown in
+      record {
+        bytes = bytes;
+        came = came;
+        dump = said ++ some.0;
+        whole = some.1;
+        written = before.gathered ++ said;
+        unwritten = some.0;
+        all = append_assoc before.gathered said some.0;
+        appended = subst (λ (s : SinkState W). Appends before.held s.held (before.gathered ++ said)) (sym same) written;
+      }
+
+  -- the rest could not be written
+  unwritten : (old state last : WavesState) (bytes said : List ℕ) (fault : ExplainFault) → IsOpened old → Grows old.written said state.written
+      → Consumes from.remaining to.remaining bytes → Appends before.held mid.held (before.gathered ++ said) → KeepsNothing mid
+      → WritesRest state last mid after (Err fault) → DumpsWaves from to before after (Err fault)
+  unwritten old state last bytes said (Refused line why) o grown came written kept w = absurd w
+  unwritten old state last bytes said (Lines faults.Read) o grown came written kept w = absurd w
+  unwritten old state last bytes said (Lines (faults.Line fault)) o grown came written kept (inl same) =
+      inl (begun_none old state bytes said o grown came written same)
+  unwritten old state last bytes said (Lines (faults.Line fault)) o grown came written kept (inr (text, stopped, rest, w)) =
+      inl (begun_rest old state last bytes said text stopped o grown rest came written kept w)
+
+  refused : (why : NoLine) (old state : WavesState) (bytes : List ℕ) (ls others : List (List ℕ)) (said : List ℕ) → Consumes from.remaining to.remaining bytes
+      → lines_of bytes ≡ ls ++ others → Halts why old.written (map (handed longest_line) ls) said state.written 0 state.lines → GetsDump before after
+      → IsRefused from to before after state.lines why
+  refused why old state bytes ls others said came is halts gets =
+      let p = parted longest_line ls halts.before halts.line halts.rest halts.all_is in
+      let many = halts.lines in
+      record {
+        bytes = bytes;
+        came = came;
+        first = halts.before;
+        text = p.raw;
+        others = p.others ++ others;
+        lines = is ∙ ap (λ (l : List (List ℕ)). l ++ others) p.parts ∙ append_assoc halts.before (p.raw ∷ p.others) others;
+        all = halts.read;
+        number = omega (arith, many);
+        none = none_of why halts.line p.raw p.is halts.fails;
+        dumped = gets;
+      }
+
+  -- what was found where an input was read to its end
+  found_whole : (ended : Option NoLine) (old state : WavesState) (text said : List ℕ) (answer : Result WavesSum ExplainFault) → ReadsWhole from to text
+      → Course ended old.written (map (handed longest_line) (lines_of text)) said state.written 0 state.lines → GetsDump before after
+      → IsFoundBy ended state answer → DumpsWaves from to before after answer
+  found_whole None old state text said (Ok sum) read c gets found =
+      let same : lines_of text ≡ c.texts = handed_all longest_line (lines_of text) c.texts c.all_is in
+      let many = c.lines in
+      let told = found in
+      let long : length (lines_of text) ≡ length c.texts = ap length same in
+      record {
+        text = text;
+        read = read;
+        all = subst (All IsRead) (sym same) c.read;
+        count = omega (arith, many, told, long);
+        dumped = gets;
+      }
+  found_whole None old state text said (Err fault) read c gets found = absurd found
+  found_whole (Some why) old state text said answer read c gets found =
+      subst (λ (a : Result WavesSum ExplainFault). DumpsWaves from to before after a) (sym found)
+      (refused why old state text (lines_of text) [] said read.consumed (sym (append-nil (lines_of text))) c gets)
+
+  -- or until a line ended it
+  found_over : (ended : Option NoLine) (old state : WavesState) (bytes said : List ℕ) (answer : Result WavesSum ExplainFault) → is_some ended ≡ true
+      → Consumes from.remaining to.remaining bytes → Course ended old.written (map (handed longest_line) (ended_lines bytes)) said state.written 0 state.lines
+      → GetsDump before after → IsFoundBy ended state answer → DumpsWaves from to before after answer
+  found_over None old state bytes said answer some came c gets found = absurd (never some)
+  found_over (Some why) old state bytes said answer some came c gets found =
+      let e = ended_first bytes [] in
+      subst (λ (a : Result WavesSum ExplainFault). DumpsWaves from to before after a) (sym found)
+      (refused why old state bytes (ended_lines bytes) e.0 said came (ap lines_of (sym (append-nil bytes)) ∙ e.1) c gets)
+
+  -- what was found is found of the state before the rest was written, too
+  found_before : (ended same : Option NoLine) (state last : WavesState) (answer : Result WavesSum ExplainFault) → ended ≡ same → last.lines ≡ state.lines
+      → IsFoundBy ended last answer → IsFoundBy same state answer
+  found_before ended (Some why) state last answer is many found =
+      subst (λ (n : ℕ). answer ≡ Err (Refused n why)) many (subst (λ (e : Option NoLine). IsFoundBy e last answer) is found)
+  found_before ended None state last (Ok sum) is many found =
+      let there : IsFoundBy None last (Ok sum) = subst (λ (e : Option NoLine). IsFoundBy e last (Ok sum)) is found in
+      there ∙ many
+  found_before ended None state last (Err fault) is many found = subst (λ (e : Option NoLine). IsFoundBy e last (Err fault)) is found
+
+  pub dumped_as : (end : LinesEnd) (old state last : WavesState) (answer : Result WavesSum ExplainFault) → IsOpened old
+      → ServesTo Dumping has_ended longest_line end from to old state before mid → WritesRest state last mid after (Ok (tt {0})) → IsFound last answer
+      → DumpsWaves from to before after answer
+  dumped_as Whole old state last answer o s w found =
+      let c = started old state (map (handed longest_line) (lines_of s.bytes)) s.said o s.spoken in
+      let grown = course_grows state.ended old.written state.written _ s.said 0 state.lines c in
+      found_whole state.ended old state s.bytes s.said answer s.read c (dumped old state last s.said w.0 o grown w.1 s.written s.kept w.2)
+      (found_before last.ended state.ended state last answer w.1.ended w.1.lines found)
+  dumped_as Open old state last answer o s w found =
+      let c = started old state (map (handed longest_line) (lines_of s.bytes)) s.said o s.spoken in
+      let grown = course_grows state.ended old.written state.written _ s.said 0 state.lines c in
+      found_whole state.ended old state s.bytes s.said answer s.read c (dumped old state last s.said w.0 o grown w.1 s.written s.kept w.2)
+      (found_before last.ended state.ended state last answer w.1.ended w.1.lines found)
+  dumped_as Over old state last answer o s w found =
+      let c = started old state (map (handed longest_line) (ended_lines s.0.bytes)) s.0.said o s.0.spoken in
+      let grown = course_grows state.ended old.written state.written _ s.0.said 0 state.lines c in
+      found_over state.ended old state s.0.bytes s.0.said answer s.1 s.0.read c (dumped old state last s.0.said w.0 o grown w.1 s.0.written s.0.kept w.2)
+      (found_before last.ended state.ended state last answer w.1.ended w.1.lines found)
+
+  -- the rest could not be written where the input was read
+  unwritten_to : (end : LinesEnd) (old state last : WavesState) (fault : ExplainFault) → IsOpened old
+      → ServesTo Dumping has_ended longest_line end from to old state before mid → WritesRest state last mid after (Err fault)
+      → DumpsWaves from to before after (Err fault)
+  unwritten_to Whole old state last fault o s w =
+      let c = started old state (map (handed longest_line) (lines_of s.bytes)) s.said o s.spoken in
+      unwritten old state last s.bytes s.said fault o (course_grows state.ended old.written state.written _ s.said 0 state.lines c) s.read.consumed s.written s.kept w
+  unwritten_to Open old state last fault o s w =
+      let c = started old state (map (handed longest_line) (lines_of s.bytes)) s.said o s.spoken in
+      unwritten old state last s.bytes s.said fault o (course_grows state.ended old.written state.written _ s.said 0 state.lines c) s.read.consumed s.written s.kept w
+  unwritten_to Over old state last fault o s w =
+      let c = started old state (map (handed longest_line) (ended_lines s.0.bytes)) s.0.said o s.0.spoken in
+      unwritten old state last s.0.bytes s.0.said fault o (course_grows state.ended old.written state.written _ s.0.said 0 state.lines c) s.0.read s.0.written s.0.kept w
+
+  pub unwritten_as : (end : LinesEnd) (old state last : WavesState) (fault : ExplainFault) (answer : Result WavesSum ExplainFault) → IsOpened old
+      → ServesTo Dumping has_ended longest_line end from to old state before mid → WritesRest state last mid after (Err fault)
+      → IsErrAnd answer (λ told. told ≡ fault) → DumpsWaves from to before after answer
+  unwritten_as end old state last fault (Ok sum) o s w told = absurd told
+  unwritten_as end old state last fault (Err e) o s w told =
+      subst (λ (x : ExplainFault). DumpsWaves from to before after (Err x)) (sym told) (unwritten_to end old state last fault o s w)
+
+  -- ---- where the input could not be read
+
+  pub unread : (old state last : WavesState) → IsOpened old → Serves Dumping has_ended longest_line from to old state before mid (Err faults.Read)
+      → WritesRest state last mid after (Ok (tt {0})) → DumpsWaves from to before after (Err (Lines faults.Read))
+  unread old state last o s w =
+      let e = s.read refl in
+      let c = started old state (map (handed longest_line) (ended_lines e.bytes)) e.said o e.spoken in
+      let grown = course_grows state.ended old.written state.written _ e.said 0 state.lines c in
+      record {
+        bytes = e.bytes;
+        came = e.read;
+        dumped = dumped old state last e.said w.0 o grown w.1 e.written e.kept w.2;
+        failed = s.failed refl;
+      }
+
+  pub unread_unwritten : (old state last : WavesState) (fault : ExplainFault) (answer : Result WavesSum ExplainFault) → IsOpened old
+      → Serves Dumping has_ended longest_line from to old state before mid (Err faults.Read) → WritesRest state last mid after (Err fault)
+      → IsErrAnd answer (λ told. told ≡ fault) → DumpsWaves from to before after answer
+  unread_unwritten old state last fault (Ok sum) o s w told = absurd told
+  unread_unwritten old state last fault (Err x) o s w told =
+      let e = s.read refl in
+      let c = started old state (map (handed longest_line) (ended_lines e.bytes)) e.said o e.spoken in
+      subst (λ (f : ExplainFault). DumpsWaves from to before after (Err f)) (sym told)
+      (unwritten old state last e.bytes e.said fault o (course_grows state.ended old.written state.written _ e.said 0 state.lines c) e.read e.written e.kept w)
+
+module _ {R W : Type 0} (from to : SourceState R) (before after : SinkState W) where
+  -- a prefix of what was gathered and of what was said
+  prefix_begun : (old state : WavesState) (bytes said : List ℕ) → IsOpened old → Grows old.written said state.written → Consumes from.remaining to.remaining bytes
+      → GetsPrefix before after said → IsBegun from to before after
+  prefix_begun old state bytes said o grown came g =
+      let all = before.gathered ++ said in
+      let some = some_dump old.written state.written said o.begun grown in
+      record {
+        bytes = bytes;
+        came = came;
+        dump = said ++ some.0;
+        whole = some.1;
+        written = take g.count all;
+        unwritten = drop g.count all ++ some.0;
+        all = sym (append_assoc (take g.count all) (drop g.count all) some.0) ∙ ap (λ (l : List ℕ). l ++ some.0) (take-append-drop g.count all)
+        ∙ append_assoc before.gathered said some.0;
+        appended = g.written;
+      }
+
+  all_begun : (old state : WavesState) (bytes said : List ℕ) → IsOpened old → Grows old.written said state.written → Consumes from.remaining to.remaining bytes
+      → GetsAll before after said → IsBegun from to before after
+  all_begun old state bytes said o grown came g = begun_none from to before after after old state bytes said o grown came g.written refl
+
+  leaves_begun : (fault : LineFault) (old state : WavesState) (bytes said : List ℕ) → IsOpened old → Grows old.written said state.written
+      → Consumes from.remaining to.remaining bytes → Leaves fault before after said → IsBegun from to before after
+  leaves_begun Write old state bytes said o grown came g = prefix_begun old state bytes said o grown came g
+  leaves_begun OutOfMemory old state bytes said o grown came (inl g) = all_begun old state bytes said o grown came g
+  leaves_begun OutOfMemory old state bytes said o grown came (inr g) = prefix_begun old state bytes said o grown came g.0
+  leaves_begun Full old state bytes said o grown came (inl g) = all_begun old state bytes said o grown came g
+  leaves_begun Full old state bytes said o grown came (inr g) = prefix_begun old state bytes said o grown came g.0
+
+  -- a line could not be dumped
+  pub line_fault : (fault : LineFault) (old state : WavesState) → IsOpened old → Serves Dumping has_ended longest_line from to old state before after (Err (faults.Line fault))
+      → DumpsWaves from to before after (Err (Lines (faults.Line fault)))
+  line_fault fault old state o s =
+      let e = s.fault fault refl in
+      let whole = all_of_some Says old e.begun e.said e.spoken in
+      let c = started old whole.0 e.begun e.said o whole.1 in
+      inl (leaves_begun fault old whole.0 e.bytes e.said o (course_grows whole.0.ended old.written whole.0.written e.begun e.said 0 whole.0.lines c) e.read e.written)
+
+-- nothing was read, for want of memory
+pub unbegun : {R W : Type 0} (from : SourceState R) (before : SinkState W) (answer : Result WavesSum ExplainFault)
+    → IsErrAnd answer (λ told. told ≡ Lines (faults.Line OutOfMemory)) → DumpsWaves from from before before answer
+unbegun from before (Ok sum) told = absurd told
+unbegun from before (Err e) told =
+    subst (λ (x : ExplainFault). DumpsWaves from from before before (Err x)) (sym told) (inr (refl, refl, refl))

@@ -1,0 +1,60 @@
+-- Lines that are handed to a dumper.
+use Rattle.std.proofs.Common.{◌≡◌, ◌⊎◌, ℕ, List, [], Option, None, Some, Result, Ok, Err, IsErrAnd, inl, inr, refl, sym, ap, subst, ◌∙◌}
+use Rattle.gp_flow.specs.declared.fault.LineFault.{LineFault}
+use Rattle.gp_flow.specs.declared.fault.LineFault.TheVariants.{Write, OutOfMemory, Full}
+use Rattle.gp_flow.specs.Lines.{Answers}
+use Rattle.gp_flow.proofs.AnswerLemmas.{no_memory, no_room, put_stopped, silent_answers}
+use Rattle.gp_stream.specs.declared.sink.WriteStopped.{WriteStopped}
+use Rattle.gp_stream.specs.Sink.{SinkState, Puts}
+use Rattle.gp_explain.specs.declared.fault.NoLine.{NoLine}
+use Rattle.gp_explain.specs.declared.fault.NoLine.TheVariants.{NotALine}
+use Rattle.gp_log.specs.declared.fault.LogFault.{LogFault}
+use Rattle.gp_log.specs.declared.line.LogLine.{LogLine}
+use Rattle.gp_log.specs.Line.{Reads}
+use Rattle.gp_waves.specs.declared.fault.WavesFault.{WavesFault}
+use Rattle.gp_waves.specs.declared.fault.WavesFault.TheVariants as waves
+use Rattle.gp_waves.specs.Faults.{undumped}
+use Rattle.gp_waves.specs.Writing.{Grows, Written}
+use Rattle.gp_waves.specs.Dumping.{Dumping, IsRead, IsUnread, Says, SaysFrom, WavesState, counted, ended_by}
+
+-- a line that is none ends it
+pub refused_line : {W : Type 0} (old new : WavesState) (text : List ℕ) (before : SinkState W) → old.ended ≡ None → IsUnread text
+    → new ≡ ended_by NotALine old → Answers {T = Unit {0}} Dumping (Some text) old new before before (Ok tt)
+refused_line old new text before none unread same =
+    silent_answers Dumping (Some text) old new before (tt {0})
+    (subst (λ (e : Option NoLine). SaysFrom e old (Some text) [] new) (sym none) (inr (unread, refl, same)))
+
+-- what is said to a line that is read
+pub read_line_says : (old new : WavesState) (text said : List ℕ) (written : Written) → old.ended ≡ None → IsRead text → Grows old.written said written
+    → new ≡ counted written old → Says old (Some text) said new
+read_line_says old new text said written none reads grows same =
+    let there : Grows old.written said new.written = subst (λ (s : WavesState). Grows old.written said s.written) (sym same) grows in
+    let is : new ≡ counted new.written old = same ∙ ap (λ (s : WavesState). counted s.written old) (sym same) in
+    subst (λ (e : Option NoLine). SaysFrom e old (Some text) said new) (sym none) (inl (reads, there, is))
+
+-- a line that can't be dumped
+pub undumped_line : {W : Type 0} (line : Option (List ℕ)) (old new : WavesState) (before : SinkState W) (fault : WavesFault) (r : Result (Unit {0}) LineFault)
+    → IsErrAnd r (λ f. f ≡ undumped fault) → Answers Dumping line old new before before r
+undumped_line line old new before fault (Ok x) told = absurd told
+undumped_line line old new before waves.OutOfMemory (Err f) told =
+    subst (λ (e : LineFault). Answers {T = Unit {0}} Dumping line old new before before (Err e)) (sym told) (no_memory Dumping line old new before)
+undumped_line line old new before waves.Full (Err f) told =
+    subst (λ (e : LineFault). Answers {T = Unit {0}} Dumping line old new before before (Err e)) (sym told) (no_room Dumping line old new before)
+
+-- a line with which the writer stopped
+pub stopped_line : {W T : Type 0} (old new : WavesState) (text said : List ℕ) (written : Written) (before after : SinkState W) (e : WriteStopped) (r : Result (Unit {0}) LineFault)
+    → old.ended ≡ None → IsRead text → Grows old.written said written → Puts {T = T} before after said (Err e) → IsErrAnd r (λ f. f ≡ Write)
+    → Answers Dumping (Some text) old new before after r
+stopped_line old new text said written before after e (Ok x) none reads grows puts told = absurd told
+stopped_line old new text said written before after e (Err f) none reads grows puts told =
+    let next : WavesState = counted written old in
+    subst (λ (fault : LineFault). Answers {T = Unit {0}} Dumping (Some text) old new before after (Err fault)) (sym told)
+    (put_stopped Dumping (Some text) old new next before after said e (read_line_says old next text said written none reads grows refl) puts)
+
+-- by the result of reading it, a line is read
+pub read_as : (text : List ℕ) (read : Result LogLine LogFault) (line : LogLine) → read ≡ Ok line → Reads text read → IsRead text
+read_as text read line is reads = (line, subst (λ (r : Result LogLine LogFault). Reads text r) is reads)
+
+-- or not
+pub unread_as : (text : List ℕ) (read : Result LogLine LogFault) (fault : LogFault) → read ≡ Err fault → Reads text read → IsUnread text
+unread_as text read fault is reads = (fault, subst (λ (r : Result LogLine LogFault). Reads text r) is reads)

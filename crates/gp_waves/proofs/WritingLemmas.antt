@@ -1,0 +1,83 @@
+-- What is written, piece by piece.
+use Rattle.std.proofs.Common.{◌≡◌, ℕ, Bool, true, false, List, [], ◌++◌, Option, None, Some, refl, sym, ap, subst, ◌∙◌, append_assoc, append-nil}
+use Rattle.gp_dump.specs.declared.change.Change.{Change}
+use Rattle.gp_dump.specs.Dump.{Continues, DumpState, is_declared, time_behind, time_text}
+use Rattle.gp_dump.specs.Head.{head_text}
+use Rattle.gp_dump.specs.Text.{change_text}
+use Rattle.gp_dump.proofs.PartLemmas.{continues_more, continues_none, put_continues}
+use Rattle.gp_waves.specs.Writing.{Grows, GrowsAs, Grown, Written}
+
+grows_none_as : (begun : Bool) (dump : DumpState) → GrowsAs begun begun dump [] dump
+grows_none_as false dump = refl
+grows_none_as true dump = (refl, continues_none dump.ports dump.last)
+
+-- nothing
+pub grows_none : (written : Written) → Grows written [] written
+grows_none written = grows_none_as written.begun written.dump
+
+pub grown_none : (written : Written) (out : List ℕ) → Grown written out written out
+grown_none written out = ([], sym (append-nil out), grows_none written)
+
+grows_more_as : (x y z : Bool) (a b c : DumpState) (first rest : List ℕ) → GrowsAs x y a first b → GrowsAs y z b rest c
+    → GrowsAs x z a (first ++ rest) c
+grows_more_as false false false a b c first rest p q = ap (λ (l : List ℕ). l ++ rest) p ∙ q
+grows_more_as false false true a b c first rest p q = (q.0, ap (λ (l : List ℕ). l ++ rest) p ∙ q.1, q.2)
+grows_more_as false true false a b c first rest p q = absurd q
+grows_more_as false true true a b c first rest p q = (
+  p.0 ++ rest,
+  ap (λ (l : List ℕ). l ++ rest) p.1 ∙ append_assoc (head_text b.ports) p.0 rest
+      ∙ ap (λ (l : List (Option ℕ)). head_text l ++ (p.0 ++ rest)) (sym q.0),
+  subst (λ (l : List (Option ℕ)). Continues l None (p.0 ++ rest) c.last) (sym q.0)
+      (continues_more b.ports None b.last c.last p.0 rest p.2 q.1),
+)
+grows_more_as true false z a b c first rest p q = absurd p
+grows_more_as true true false a b c first rest p q = absurd q
+grows_more_as true true true a b c first rest p q = (
+  q.0 ∙ p.0,
+  continues_more a.ports a.last b.last c.last first rest p.1 (subst (λ (l : List (Option ℕ)). Continues l b.last rest c.last) p.0 q.1),
+)
+
+-- one behind the other
+pub grows_more : (a b c : Written) (first rest : List ℕ) → Grows a first b → Grows b rest c → Grows a (first ++ rest) c
+grows_more a b c first rest p q = grows_more_as a.begun b.begun c.begun a.dump b.dump c.dump first rest p q
+
+pub grown_more : (a b c : Written) (first second third : List ℕ) → Grown a first b second → Grown b second c third → Grown a first c third
+grown_more a b c first second third p q = (
+  p.0 ++ q.0,
+  q.1 ∙ ap (λ (l : List ℕ). l ++ q.0) p.1 ∙ append_assoc first p.0 q.0,
+  grows_more a b c p.0 q.0 p.2 q.2,
+)
+
+-- behind an empty buffer
+pub grown_all : (a b : Written) (out next : List ℕ) → out ≡ [] → Grown a out b next → Grows a next b
+grown_all a b out next none p = subst (λ (l : List ℕ). Grows a l b) (sym (p.1 ∙ ap (λ (l : List ℕ). l ++ p.0) none)) p.2
+
+opened_as : (x y : Bool) (a b : DumpState) (ports : List (Option ℕ)) → x ≡ false → y ≡ true → b.ports ≡ ports → b.last ≡ None
+    → GrowsAs x y a (head_text ports) b
+opened_as x y a b ports no yes same none =
+    let last : Continues b.ports None [] b.last = subst (λ (l : Option ℕ). Continues b.ports None [] l) (sym none) (continues_none b.ports None) in
+    let is : head_text ports ≡ head_text b.ports ++ [] = ap head_text (sym same) ∙ sym (append-nil (head_text b.ports)) in
+    let there : GrowsAs false true a (head_text ports) b = ([], is, last) in
+    subst (λ (t : Bool). GrowsAs x t a (head_text ports) b) (sym yes) (subst (λ (t : Bool). GrowsAs t true a (head_text ports) b) (sym no) there)
+
+-- the declarations
+pub opened : (old new : Written) (ports : List (Option ℕ)) (out next : List ℕ) → old.begun ≡ false → new.begun ≡ true → new.dump.ports ≡ ports
+    → new.dump.last ≡ None → next ≡ out ++ head_text ports → Grown old out new next
+opened old new ports out next no yes same none is =
+    (head_text ports, is, opened_as old.begun new.begun old.dump new.dump ports no yes same none)
+
+put_as : (x y : Bool) (a b : DumpState) (time : ℕ) (change : Change) → x ≡ true → y ≡ true → is_declared a.ports change ≡ true
+    → b ≡ record a { last = Some (time_behind a.last time) } → GrowsAs x y a (time_text a.last time ++ change_text change) b
+put_as x y a b time change one other declared is =
+    let text = time_text a.last time ++ change_text change in
+    let next : DumpState = record a { last = Some (time_behind a.last time) } in
+    let there : GrowsAs true true a text next = (refl, put_continues a.ports a.last time change declared) in
+    let here : GrowsAs true true a text b = subst (λ (d : DumpState). GrowsAs true true a text d) (sym is) there in
+    subst (λ (t : Bool). GrowsAs x t a text b) (sym other) (subst (λ (t : Bool). GrowsAs t true a text b) (sym one) here)
+
+-- a change
+pub put_grown : (old new : Written) (time : ℕ) (change : Change) (out next : List ℕ) → old.begun ≡ true → new.begun ≡ true
+    → is_declared old.dump.ports change ≡ true → new.dump ≡ record old.dump { last = Some (time_behind old.dump.last time) }
+    → next ≡ out ++ (time_text old.dump.last time ++ change_text change) → Grown old out new next
+put_grown old new time change out next one other declared is text =
+    (time_text old.dump.last time ++ change_text change, text, put_as old.begun new.begun old.dump new.dump time change one other declared is)

@@ -1,0 +1,4 @@
+pub mod Faults
+pub mod Writing
+pub mod Dumping
+pub mod Outcome

@@ -1,0 +1,114 @@
+-- How dumping a trace or a log may end (this profile's own rule).
+use Rattle.std.specs.Prelude.{◌≡◌, ◌<◌, ◌⊎◌, ℕ, ◌+◌, true, List, ◌∷◌, ◌++◌, length, Option, Some, None, Result, Ok, Err}
+use Rattle.std.specs.Io.KnownBytes.{Appends, Consumes}
+use Rattle.std.specs.List.{All}
+use Rattle.gp_flow.specs.declared.fault.LineFault.TheVariants.{OutOfMemory}
+use Rattle.gp_flow.specs.declared.fault.LinesFault.TheVariants as faults
+use Rattle.gp_flow.specs.Lines.{lines_of}
+use Rattle.gp_lines.specs.Turn.{longest_line}
+use Rattle.gp_stream.specs.declared.sink.WriteStopped.{WriteStopped}
+use Rattle.gp_stream.specs.Sink.{SinkState, KeepsNothing, WritesWhole}
+use Rattle.gp_stream.specs.Source.{SourceState, ReadsWhole}
+use Rattle.gp_explain.specs.declared.fault.ExplainFault.{ExplainFault}
+use Rattle.gp_explain.specs.declared.fault.ExplainFault.TheVariants.{Refused, Lines}
+use Rattle.gp_explain.specs.declared.fault.NoLine.{NoLine}
+use Rattle.gp_explain.specs.declared.fault.NoLine.TheVariants.{NotALine, TooLong}
+use Rattle.gp_dump.specs.Dump.{IsDumpTo}
+use Rattle.gp_waves.specs.declared.running.WavesSum.{WavesSum}
+use Rattle.gp_waves.specs.Dumping.{IsRead, IsUnread, WavesState}
+use Rattle.gp_waves.specs.Writing.{Grows}
+
+-- a whole dump, of some ports and up to some time
+abbrev pub IsDump : List ℕ → Type 0
+IsDump text = (ports : List (Option ℕ)) × (to : Option ℕ) × IsDumpTo ports text to
+
+-- the writer got all of one dump, and keeps nothing back
+pub record GetsDump {W : Type 0} (before after : SinkState W) : Type 0 where
+  pub dump : List ℕ
+  pub whole : IsDump dump
+  pub written : Appends before.held after.held (before.gathered ++ dump)
+  pub kept : KeepsNothing after
+
+-- the whole input was read, each of its lines is read, and the writer got one dump
+pub record IsDumped {R W : Type 0} (from to : SourceState R) (before after : SinkState W) (lines : ℕ) : Type 0 where
+  pub text : List ℕ
+  pub read : ReadsWhole from to text
+  pub all : All IsRead (lines_of text)
+  pub count : length (lines_of text) ≡ lines
+  pub dumped : GetsDump before after
+
+-- why a text is no line of a trace or a log
+abbrev pub IsNone : NoLine → List ℕ → Type 0
+IsNone NotALine text = IsUnread text
+IsNone TooLong text = longest_line < length text
+
+-- the lines before this one are read, this one is not, and the writer got one dump
+pub record IsRefused {R W : Type 0} (from to : SourceState R) (before after : SinkState W) (line : ℕ) (why : NoLine)
+    : Type 0 where
+  -- what was read
+  pub bytes : List ℕ
+  pub came : Consumes from.remaining to.remaining bytes
+  -- its lines: those before, this one, and others
+  pub first : List (List ℕ)
+  pub text : List ℕ
+  pub others : List (List ℕ)
+  pub lines : lines_of bytes ≡ first ++ text ∷ others
+  pub all : All IsRead first
+  pub number : length first + 1 ≡ line
+  pub none : IsNone why text
+  pub dumped : GetsDump before after
+
+-- the input was not read to its end, and the writer got one dump
+pub record IsUnfinished {R W : Type 0} (from to : SourceState R) (before after : SinkState W) : Type 0 where
+  pub bytes : List ℕ
+  pub came : Consumes from.remaining to.remaining bytes
+  pub dumped : GetsDump before after
+  pub failed : (to.failed ≡ true) ⊎ (to.left ≡ 0)
+
+-- of what was handed in before, and of a dump, the writer got a prefix, and nothing else
+pub record IsBegun {R W : Type 0} (from to : SourceState R) (before after : SinkState W) : Type 0 where
+  pub bytes : List ℕ
+  pub came : Consumes from.remaining to.remaining bytes
+  pub dump : List ℕ
+  pub whole : IsDump dump
+  pub written : List ℕ
+  pub unwritten : List ℕ
+  pub all : written ++ unwritten ≡ before.gathered ++ dump
+  pub appended : Appends before.held after.held written
+
+-- how it may end; a failed read, and the bound of reads, are told as such. Memory may run out before anything was read.
+abbrev pub DumpsWaves : {R W : Type 0} → SourceState R → SourceState R → SinkState W → SinkState W
+    → Result WavesSum ExplainFault → Type 0
+DumpsWaves from to before after (Ok sum) = IsDumped from to before after sum.lines
+DumpsWaves from to before after (Err (Refused line why)) = IsRefused from to before after line why
+DumpsWaves from to before after (Err (Lines faults.Read)) = IsUnfinished from to before after
+DumpsWaves from to before after (Err (Lines (faults.Line fault))) =
+    IsBegun from to before after ⊎ ((fault ≡ OutOfMemory) × (to ≡ from) × (after ≡ before))
+
+-- the rest of a dump behind what is written
+pub record IsRest (old new : WavesState) (text : List ℕ) : Type 0 where
+  pub grown : Grows old.written text new.written
+  pub begun : new.written.begun ≡ true
+  pub lines : new.lines ≡ old.lines
+  pub ended : new.ended ≡ old.ended
+
+-- how the rest is written, if it is
+abbrev pub WritesRest : {W : Type 0} → WavesState → WavesState → SinkState W → SinkState W
+    → Result (Unit {0}) ExplainFault → Type 0
+WritesRest old new before after (Ok done) =
+    (text : List ℕ) × IsRest old new text × WritesWhole {T = Unit {0}} {E = WriteStopped} before after text (Ok done)
+WritesRest old new before after (Err (Refused line why)) = ⊥
+WritesRest old new before after (Err (Lines faults.Read)) = ⊥
+WritesRest old new before after (Err (Lines (faults.Line fault))) =
+    (after ≡ before)
+    ⊎ ((text : List ℕ) × (stopped : WriteStopped) × IsRest old new text
+    × WritesWhole {T = Unit {0}} before after text (Err stopped))
+
+-- what was found, by what ended it
+abbrev pub IsFoundBy : Option NoLine → WavesState → Result WavesSum ExplainFault → Type 0
+IsFoundBy (Some why) state answer = answer ≡ Err (Refused state.lines why)
+IsFoundBy None state (Ok sum) = sum.lines ≡ state.lines
+IsFoundBy None state (Err fault) = ⊥
+
+abbrev pub IsFound : WavesState → Result WavesSum ExplainFault → Type 0
+IsFound state answer = IsFoundBy state.ended state answer

@@ -1,0 +1,59 @@
+//! The lines of a trace or a log, one after another.
+ghost use Rattle.std.specs.Prelude.{◌≡◌, IfOk, None, false};
+
+use crate::hearing::Waves;
+use crate::options::WavesOptions;
+use crate::writing::Writing;
+use gp_explain::NoLine;
+use std::alloc::{AllocError, Global};
+use std::marker::Model;
+
+/// Is given the lines of a trace or a log, one after another. The first line that is none ends it. Contracts see how
+/// many lines came, what ended it, and what is written of the dump.
+#[derive(Drop)]
+pub struct Dumper {
+    pub(crate) waves: Waves,
+    pub(crate) writing: Writing,
+    pub(crate) buffer: Vec<u8>,
+    pub(crate) lines: u64,
+    pub(crate) ended: Option<NoLine>,
+}
+
+impl Model for Dumper {
+    ghost use Rattle.gp_waves.specs.Dumping.{WavesState};
+
+    ghost Value = { WavesState };
+
+    ghost view = { λ s. record { lines = s.lines; ended = s.ended; written = s.writing } };
+}
+
+impl Dumper {
+    /// Makes one to which no line came. Fails only where there is no memory.
+    pub fn begin(alloc: Global, options: &WavesOptions) -> Result<Dumper, AllocError>
+        ensures lines { IfOk result (λ dumper. dumper.lines ≡ 0) }
+        ensures ended { IfOk result (λ dumper. dumper.ended ≡ None) }
+        ensures written { IfOk result (λ dumper. dumper.written.begun ≡ false) }
+    {
+        Ok(Dumper {
+            waves: Waves::begin(alloc, options)?,
+            writing: Writing::new(),
+            buffer: Vec::new(alloc),
+            lines: 0,
+            ended: None,
+        })
+    }
+
+    /// Why it ended, if it did: the line that came last is none of a trace or a log.
+    pub fn ended(&self) -> Option<NoLine>
+        ensures { result ≡ self.now.ended }
+    {
+        self.ended
+    }
+
+    /// How many lines came, up to the one that ended it.
+    pub fn lines(&self) -> u64
+        ensures { result ≡ self.now.lines }
+    {
+        self.lines
+    }
+}

@@ -1,0 +1,114 @@
+//! What is heard of all ports, and the changes that are held back.
+
+use crate::fault::WavesFault;
+use crate::held::{Due, Held};
+use crate::options::WavesOptions;
+use crate::port::{Port, Scope};
+use gp_dump::PORTS;
+use gp_log::LogLine;
+use std::alloc::{AllocError, Global};
+
+/// What is heard of all ports.
+#[derive(Drop)]
+pub(crate) struct Waves {
+    options: WavesOptions,
+    /// The sixteen ports.
+    ports: Vec<Port>,
+    held: Held,
+    /// How many lines were not heard, since their time is before that of their port.
+    pub(crate) fallen: u64,
+}
+
+/// Opens each port: nothing was heard.
+fn open(alloc: Global, options: &WavesOptions) -> Result<Vec<Port>, AllocError> {
+    let mut ports = Vec::with_capacity(alloc, PORTS)?;
+    for _ in 0..PORTS {
+        ports.push(Port::begin(alloc, options.midway, options.frames)?)?;
+    }
+    Ok(ports)
+}
+
+/// Gives what of a port is dumped.
+fn scope_of(options: &WavesOptions, port: u8) -> Scope {
+    Scope {
+        port,
+        frames: options.frames,
+        mask: options.mask,
+    }
+}
+
+impl Waves {
+    /// Nothing was heard.
+    pub(crate) fn begin(alloc: Global, options: &WavesOptions) -> Result<Waves, AllocError> {
+        Ok(Waves {
+            options: *options,
+            ports: open(alloc, options)?,
+            held: Held::begin(alloc)?,
+            fallen: 0,
+        })
+    }
+
+    /// Hears a line at its port. Where memory is refused, a part of it may have been heard.
+    pub(crate) fn hear(&mut self, text: &[u8], read: &LogLine) -> Result<(), WavesFault> {
+        let held = &mut self.held;
+        match read {
+            LogLine::Remark => Ok(()),
+            LogLine::Log { port, time, said } => {
+                let scope = scope_of(&self.options, *port);
+                let Some(port) = self.ports.get_mut(usize::from(*port)) else {
+                    return Ok(());
+                };
+                if port.hear_log(held, &scope, *time, said)? {
+                    self.fallen = self.fallen.saturating_add(1);
+                }
+                Ok(())
+            }
+            LogLine::Trace {
+                port,
+                is_frame,
+                first,
+                second,
+            } => {
+                let scope = scope_of(&self.options, *port);
+                match self.ports.get_mut(usize::from(*port)) {
+                    Some(port) => port.hear_trace(held, &scope, text, *is_frame, first, second),
+                    None => Ok(()),
+                }
+            }
+        }
+    }
+
+    /// Ends what still stands at each port.
+    pub(crate) fn finish(&mut self) -> Result<(), AllocError> {
+        let held = &mut self.held;
+        let mut number = 0u8;
+        for port in self.ports.iter_mut() {
+            port.finish(held, &scope_of(&self.options, number))?;
+            number = number.saturating_add(1);
+        }
+        Ok(())
+    }
+
+    /// Gives the ports of which lines told, each with how many lanes it has.
+    pub(crate) fn declared(&self) -> [Option<u16>; PORTS] {
+        let mut declared = [None; PORTS];
+        let mut number = 0usize;
+        for port in self.ports.as_slice() {
+            if let Some(lanes) = declared.get_mut(number) {
+                *lanes = port.declared();
+            }
+            number = number.saturating_add(1);
+        }
+        declared
+    }
+
+    /// Tells whether more changes are held back than may be.
+    pub(crate) fn is_full(&self) -> bool {
+        self.held.is_full()
+    }
+
+    /// Takes the change that is due first, if there is one.
+    pub(crate) fn take_first(&mut self) -> Option<Due> {
+        self.held.take_first()
+    }
+}

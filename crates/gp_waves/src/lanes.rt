@@ -1,0 +1,230 @@
+//! The units of a port, a lane each.
+
+use gp_dump::{UnitChange, UnitState};
+use gp_ploam::Serial;
+use gp_watch::PortWatch;
+use std::alloc::{AllocError, Global};
+use std::collections::BTreeMap;
+
+/// How many lanes a port has at most: more than there are ONU-IDs, so that some unit holds none where all are taken.
+pub(crate) const MOST_LANES: u16 = 256;
+
+/// What is known of a unit.
+#[derive(Clone, Copy, PartialEq, Eq)]
+pub(crate) struct Unit {
+    pub(crate) state: UnitState,
+    /// The ONU-ID that it holds.
+    pub(crate) onu: Option<u8>,
+    /// Its equalization delay in bit times.
+    pub(crate) delay: Option<u32>,
+}
+
+/// The lane of a unit.
+#[derive(Clone, Copy)]
+struct Lane {
+    serial: Serial,
+    /// What was told of it last.
+    unit: Option<Unit>,
+    /// How many changes of lanes there were by its last one.
+    age: u64,
+}
+
+/// What changes of a lane, at most: one for each of its variables.
+#[derive(Clone, Copy)]
+pub(crate) struct LaneChanges {
+    pub(crate) lane: u16,
+    pub(crate) serial: Option<UnitChange>,
+    pub(crate) state: Option<UnitChange>,
+    pub(crate) onu: Option<UnitChange>,
+    pub(crate) delay: Option<UnitChange>,
+}
+
+/// The lanes of a port, in the order in which they were first taken.
+#[derive(Drop)]
+pub(crate) struct Lanes {
+    lanes: Vec<Lane>,
+    /// Where the lane of each serial number is among them.
+    places: BTreeMap<Serial, u16>,
+    /// How many changes of lanes there were.
+    age: u64,
+}
+
+impl Unit {
+    /// Gives what is known of a unit that holds an ONU-ID.
+    fn held(watch: &PortWatch, serial: &Serial) -> Option<Unit> {
+        let onu = watch.onu_of(serial)?;
+        let delay = watch.delay(onu);
+        let state = if delay.is_some() {
+            UnitState::Operating
+        } else {
+            UnitState::Ranging
+        };
+        Some(Unit {
+            state,
+            onu: Some(onu),
+            delay,
+        })
+    }
+
+    /// Gives that of one that does this, and holds no ONU-ID.
+    fn without_onu(state: UnitState) -> Unit {
+        Unit {
+            state,
+            onu: None,
+            delay: None,
+        }
+    }
+
+    /// Gives that of a unit that asks.
+    fn asking(watch: &PortWatch, serial: &Serial) -> Unit {
+        Unit::held(watch, serial).unwrap_or(Unit::without_onu(UnitState::Asking))
+    }
+
+    /// Gives that of a unit that a message touched: one that asks goes on asking, unless it is disabled.
+    fn touched(self, watch: &PortWatch, serial: &Serial) -> Unit {
+        match Unit::held(watch, serial) {
+            Some(unit) => unit,
+            None if self.state == UnitState::Asking && !watch.is_disabled(serial) => self,
+            None => Unit::without_onu(UnitState::Removed),
+        }
+    }
+}
+
+impl Lane {
+    /// Gives which of its variables change where this is known of its unit.
+    fn changes(&self, lane: u16, unit: Unit) -> LaneChanges {
+        let old = self.unit;
+        let is_new = old.is_none();
+        let state = old.map(|old| old.state) != Some(unit.state);
+        let onu = old.map(|old| old.onu) != Some(unit.onu);
+        let delay = old.map(|old| old.delay) != Some(unit.delay);
+        LaneChanges {
+            lane,
+            serial: is_new.then_some(UnitChange::Serial(self.serial)),
+            state: state.then_some(UnitChange::State(unit.state)),
+            onu: onu.then_some(UnitChange::Onu(unit.onu)),
+            delay: delay.then_some(UnitChange::Delay(unit.delay)),
+        }
+    }
+
+    /// Tells whether its unit holds no ONU-ID.
+    fn is_free(&self) -> bool {
+        match self.unit {
+            Some(unit) => unit.onu.is_none(),
+            None => true,
+        }
+    }
+}
+
+impl Lanes {
+    /// No lane is taken.
+    pub(crate) fn begin(alloc: Global) -> Lanes {
+        Lanes {
+            lanes: Vec::new(alloc),
+            places: BTreeMap::new(alloc),
+            age: 0,
+        }
+    }
+
+    /// How many lanes were taken.
+    pub(crate) fn count(&self) -> u16 {
+        u16::try_from(self.lanes.len()).unwrap_or(MOST_LANES)
+    }
+
+    /// Gives the lane of a unit, if it has one.
+    pub(crate) fn place_of(&self, serial: &Serial) -> Option<u16> {
+        self.places.get(serial).copied()
+    }
+
+    /// Gives the lane that changed longest ago of those whose unit holds no ONU-ID.
+    fn oldest_free(&self) -> Option<u16> {
+        let mut oldest: Option<(u64, u16)> = None;
+        let mut place = 0u16;
+        for lane in self.lanes.as_slice() {
+            let is_older = match oldest {
+                Some((age, _)) => lane.age < age,
+                None => true,
+            };
+            if is_older && lane.is_free() {
+                oldest = Some((lane.age, place));
+            }
+            place = place.saturating_add(1);
+        }
+        let (_, place) = oldest?;
+        Some(place)
+    }
+
+    /// Takes a lane that there was not for a unit.
+    fn add(&mut self, lane: Lane) -> Result<u16, AllocError> {
+        let place = self.count();
+        self.lanes.push(lane)?;
+        self.places.insert(lane.serial, place)?;
+        Ok(place)
+    }
+
+    /// Takes a lane for a unit from one that holds no ONU-ID. None where each does.
+    fn replace(&mut self, lane: Lane) -> Result<Option<u16>, AllocError> {
+        let Some(place) = self.oldest_free() else {
+            return Ok(None);
+        };
+        let Some(old) = self.lanes.get_mut(usize::from(place)) else {
+            return Ok(None);
+        };
+        let before = old.serial;
+        *old = lane;
+        self.places.remove(&before);
+        self.places.insert(lane.serial, place)?;
+        Ok(Some(place))
+    }
+
+    /// Gives the lane of a unit, and takes one for it where it has none. None where each lane is of a unit that holds
+    /// an ONU-ID.
+    pub(crate) fn take(&mut self, serial: Serial) -> Result<Option<u16>, AllocError> {
+        if let Some(place) = self.place_of(&serial) {
+            return Ok(Some(place));
+        }
+        let lane = Lane {
+            serial,
+            unit: None,
+            age: self.age,
+        };
+        if self.count() < MOST_LANES {
+            return Ok(Some(self.add(lane)?));
+        }
+        self.replace(lane)
+    }
+
+    /// Notes what is known of the unit of a lane, and gives what changes.
+    fn note(&mut self, place: u16, unit: Unit) -> Option<LaneChanges> {
+        self.age = self.age.saturating_add(1);
+        let lane = self.lanes.get_mut(usize::from(place))?;
+        let changes = lane.changes(place, unit);
+        lane.unit = Some(unit);
+        lane.age = self.age;
+        Some(changes)
+    }
+
+    /// Notes that the unit of a lane asks.
+    pub(crate) fn ask(&mut self, watch: &PortWatch, place: u16) -> Option<LaneChanges> {
+        let serial = self.lanes.get(usize::from(place))?.serial;
+        self.note(place, Unit::asking(watch, &serial))
+    }
+
+    /// Notes that a message touched the unit of a lane.
+    pub(crate) fn touch(&mut self, watch: &PortWatch, place: u16) -> Option<LaneChanges> {
+        let lane = *self.lanes.get(usize::from(place))?;
+        let before = lane.unit.unwrap_or(Unit::without_onu(UnitState::Removed));
+        self.note(place, before.touched(watch, &lane.serial))
+    }
+
+    /// Gives all that is known of the unit of a lane.
+    pub(crate) fn all_of(&self, place: u16) -> Option<LaneChanges> {
+        let lane = self.lanes.get(usize::from(place))?;
+        let unit = lane.unit?;
+        let anew = Lane {
+            unit: None,
+            ..*lane
+        };
+        Some(anew.changes(place, unit))
+    }
+}

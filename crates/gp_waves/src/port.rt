@@ -1,0 +1,393 @@
+//! What is kept of one port, and which changes something that is heard there makes.
+
+use crate::alarm::alarm_in;
+use crate::fault::WavesFault;
+use crate::held::Held;
+use crate::lanes::{LaneChanges, Lanes};
+use crate::options::Frames;
+use crate::pulses::{Pulse, Pulses};
+use crate::touched::{Touched, units_touched};
+use gp_dump::{PortChange, UnitChange, WindowKind};
+use gp_finding::heard_in;
+use gp_log::{FRAME_NANOSECONDS, Said};
+use gp_ploam::{Mask, Serial};
+use gp_ranging::Grant;
+use gp_watch::{Heard, PortWatch};
+use std::alloc::{AllocError, Global};
+
+/// How many pulses may end before a line: each of them once.
+const MOST_ENDS: usize = 5;
+
+/// Which port is heard, which of its frames are dumped, and how its codes are read.
+#[derive(Clone, Copy)]
+pub(crate) struct Scope {
+    pub(crate) port: u8,
+    pub(crate) frames: Frames,
+    pub(crate) mask: Mask,
+}
+
+/// What is kept of one port.
+#[derive(Drop)]
+pub(crate) struct Port {
+    watch: PortWatch,
+    lanes: Lanes,
+    pulses: Pulses,
+    /// Its time in nanoseconds.
+    time: u64,
+    /// The level of its frames.
+    level: bool,
+    /// Whether a line told of it.
+    is_heard: bool,
+    /// Whether what is known of its units is dumped.
+    are_shown: bool,
+    /// Whom the window asks that was opened last, unless it asks all.
+    asked: Option<u8>,
+}
+
+/// Gives what a grant asks for, and whom.
+fn kind_of(grant: Grant) -> (WindowKind, Option<u8>) {
+    match grant {
+        Grant::Search => (WindowKind::Search, None),
+        Grant::Range(onu) => (WindowKind::Range, Some(onu)),
+        Grant::Poll(onu) => (WindowKind::Poll, Some(onu)),
+    }
+}
+
+impl Scope {
+    /// Tells a change of a variable of the port, if its frame is dumped.
+    fn tell(&self, held: &mut Held, time: u64, what: PortChange) -> Result<(), AllocError> {
+        if self.frames.hold(time) {
+            held.keep_port(self.port, time, what)
+        } else {
+            Ok(())
+        }
+    }
+
+    /// Tells a change of a variable of a lane, if there is one.
+    fn tell_if(
+        &self,
+        held: &mut Held,
+        time: u64,
+        lane: u16,
+        what: Option<UnitChange>,
+    ) -> Result<(), AllocError> {
+        match what {
+            Some(what) if self.frames.hold(time) => held.keep_unit(self.port, time, lane, what),
+            _ => Ok(()),
+        }
+    }
+
+    /// Tells what changes of a lane.
+    fn tell_lane(
+        &self,
+        held: &mut Held,
+        time: u64,
+        changes: Option<LaneChanges>,
+    ) -> Result<(), AllocError> {
+        let Some(changes) = changes else {
+            return Ok(());
+        };
+        self.tell_if(held, time, changes.lane, changes.serial)?;
+        self.tell_if(held, time, changes.lane, changes.state)?;
+        self.tell_if(held, time, changes.lane, changes.onu)?;
+        self.tell_if(held, time, changes.lane, changes.delay)
+    }
+
+    /// Tells that a pulse ends.
+    fn tell_end(&self, held: &mut Held, time: u64, pulse: Pulse) -> Result<(), AllocError> {
+        match pulse {
+            Pulse::Sent => self.tell(held, time, PortChange::Sent(None)),
+            Pulse::Grant => {
+                self.tell(held, time, PortChange::Grant(None))?;
+                self.tell(held, time, PortChange::Asked(None))
+            }
+            Pulse::Window => self.tell(held, time, PortChange::Window(None)),
+            Pulse::Burst => {
+                self.tell(held, time, PortChange::Burst(None))?;
+                self.tell(held, time, PortChange::Delay(None))
+            }
+            Pulse::Alarm => self.tell(held, time, PortChange::Alarm(None)),
+        }
+    }
+}
+
+impl Port {
+    /// Nothing was heard. Where the first frame is dumped, nothing of its units was left out before.
+    pub(crate) fn begin(alloc: Global, midway: bool, frames: Frames) -> Result<Port, AllocError> {
+        Ok(Port {
+            watch: PortWatch::begin(alloc, midway)?,
+            lanes: Lanes::begin(alloc),
+            pulses: Pulses::none(),
+            time: 0,
+            level: false,
+            is_heard: false,
+            are_shown: frames.have_begun(0),
+            asked: None,
+        })
+    }
+
+    /// How many lanes it has, if a line told of it.
+    pub(crate) fn declared(&self) -> Option<u16> {
+        if self.is_heard {
+            Some(self.lanes.count())
+        } else {
+            None
+        }
+    }
+
+    /// Tells what is known of its units where the frames begin that are dumped, if they do by now.
+    fn show_lanes(&mut self, held: &mut Held, scope: &Scope) -> Result<(), AllocError> {
+        if self.are_shown || !scope.frames.have_begun(self.time) {
+            return Ok(());
+        }
+        self.are_shown = true;
+        let begin = scope.frames.begin();
+        for place in 0..self.lanes.count() {
+            scope.tell_lane(held, begin, self.lanes.all_of(place))?;
+        }
+        Ok(())
+    }
+
+    /// Ends the pulses that end before this time.
+    fn end_pulses(&mut self, held: &mut Held, scope: &Scope, time: u64) -> Result<(), AllocError> {
+        for _ in 0..MOST_ENDS {
+            let Some((pulse, end)) = self.pulses.take_past(time) else {
+                return Ok(());
+            };
+            scope.tell_end(held, end, pulse)?;
+        }
+        Ok(())
+    }
+
+    /// Comes to the time of a line that tells of it.
+    fn advance(&mut self, held: &mut Held, scope: &Scope) -> Result<(), AllocError> {
+        self.is_heard = true;
+        self.show_lanes(held, scope)?;
+        self.end_pulses(held, scope, self.time)
+    }
+
+    /// Tells a code that is sent.
+    fn tell_sent(
+        &mut self,
+        held: &mut Held,
+        scope: &Scope,
+        code: &[u8; 13],
+    ) -> Result<(), AllocError> {
+        self.pulses.begin(Pulse::Sent, self.time);
+        scope.tell(held, self.time, PortChange::Sent(Some(*code)))
+    }
+
+    /// Tells a burst.
+    fn tell_burst(
+        &mut self,
+        held: &mut Held,
+        scope: &Scope,
+        code: &[u8; 13],
+        delay: Option<u32>,
+    ) -> Result<(), AllocError> {
+        self.pulses.begin(Pulse::Burst, self.time);
+        scope.tell(held, self.time, PortChange::Burst(Some(*code)))?;
+        scope.tell(held, self.time, PortChange::Delay(delay))
+    }
+
+    /// Tells a grant, and the window that opens.
+    fn tell_grant(
+        &mut self,
+        held: &mut Held,
+        scope: &Scope,
+        grant: Grant,
+    ) -> Result<(), AllocError> {
+        let (kind, asked) = kind_of(grant);
+        self.asked = asked;
+        self.pulses.begin(Pulse::Grant, self.time);
+        self.pulses.begin(Pulse::Window, self.time);
+        scope.tell(held, self.time, PortChange::Grant(Some(kind)))?;
+        scope.tell(held, self.time, PortChange::Asked(asked))?;
+        scope.tell(held, self.time, PortChange::Window(Some(kind)))
+    }
+
+    /// Tells what is said.
+    fn tell_said(&mut self, held: &mut Held, scope: &Scope, said: &Said) -> Result<(), AllocError> {
+        match said {
+            Said::Down(code) => self.tell_sent(held, scope, code),
+            Said::Up { code, delay } => self.tell_burst(held, scope, code, *delay),
+            Said::Grant(grant) => self.tell_grant(held, scope, *grant),
+        }
+    }
+
+    /// Has the window that asks one unit end with the frame in which its answer is heard.
+    fn close_window(&mut self, heard: &Heard) {
+        let Some(asked) = self.asked else {
+            return;
+        };
+        if let Heard::Up {
+            message: Some(message),
+            ..
+        } = heard
+        {
+            if message.octet1() == asked {
+                self.pulses.shorten_window(self.time);
+            }
+        }
+    }
+
+    /// Tells what a unit does that asks.
+    fn tell_asking(
+        &mut self,
+        held: &mut Held,
+        scope: &Scope,
+        serial: Serial,
+    ) -> Result<(), WavesFault> {
+        let Some(place) = self.lanes.take(serial)? else {
+            return Err(WavesFault::Full);
+        };
+        let changes = self.lanes.ask(&self.watch, place);
+        scope.tell_lane(held, self.time, changes)?;
+        Ok(())
+    }
+
+    /// Gives the lane of a unit that a message touched. One that holds an ONU-ID takes one where it has none.
+    fn place_touched(&mut self, serial: Serial) -> Result<Option<u16>, WavesFault> {
+        if self.watch.onu_of(&serial).is_none() {
+            return Ok(self.lanes.place_of(&serial));
+        }
+        match self.lanes.take(serial)? {
+            Some(place) => Ok(Some(place)),
+            None => Err(WavesFault::Full),
+        }
+    }
+
+    /// Tells what a unit does behind a message that touched it.
+    fn tell_one(
+        &mut self,
+        held: &mut Held,
+        scope: &Scope,
+        serial: Serial,
+    ) -> Result<(), WavesFault> {
+        if let Some(place) = self.place_touched(serial)? {
+            let changes = self.lanes.touch(&self.watch, place);
+            scope.tell_lane(held, self.time, changes)?;
+        }
+        Ok(())
+    }
+
+    /// Tells what all units do behind a message that touched all.
+    fn tell_all(&mut self, held: &mut Held, scope: &Scope) -> Result<(), WavesFault> {
+        for place in 0..self.lanes.count() {
+            let changes = self.lanes.touch(&self.watch, place);
+            scope.tell_lane(held, self.time, changes)?;
+        }
+        Ok(())
+    }
+
+    /// Tells what the units do that a message touched.
+    fn tell_touched(
+        &mut self,
+        held: &mut Held,
+        scope: &Scope,
+        touched: Touched,
+    ) -> Result<(), WavesFault> {
+        match touched {
+            Touched::Nobody => Ok(()),
+            Touched::Asks(serial) => self.tell_asking(held, scope, serial),
+            Touched::One(serial) => self.tell_one(held, scope, serial),
+            Touched::Two(before, serial) => {
+                self.tell_one(held, scope, before)?;
+                self.tell_one(held, scope, serial)
+            }
+            Touched::All => self.tell_all(held, scope),
+        }
+    }
+
+    /// Hears what is said by what is known before it, and tells it.
+    fn hear(&mut self, held: &mut Held, scope: &Scope, said: &Said) -> Result<(), WavesFault> {
+        let heard = heard_in(scope.mask, said);
+        self.tell_said(held, scope, said)?;
+        self.close_window(&heard);
+        let touched = units_touched(&self.watch, &heard);
+        self.watch.hear(&heard)?;
+        self.tell_touched(held, scope, touched)
+    }
+
+    /// Hears what is said, if something is.
+    fn hear_maybe(
+        &mut self,
+        held: &mut Held,
+        scope: &Scope,
+        said: &Option<Said>,
+    ) -> Result<(), WavesFault> {
+        match said {
+            Some(said) => self.hear(held, scope, said),
+            None => Ok(()),
+        }
+    }
+
+    /// Hears a line of a log, and tells whether its time is before that of the port: then nothing of it is heard.
+    /// Behind the last frame that is dumped only time is counted.
+    pub(crate) fn hear_log(
+        &mut self,
+        held: &mut Held,
+        scope: &Scope,
+        time: u64,
+        said: &Said,
+    ) -> Result<bool, WavesFault> {
+        if time < self.time {
+            self.is_heard = true;
+            return Ok(true);
+        }
+        self.time = time;
+        self.advance(held, scope)?;
+        if !scope.frames.are_past(self.time) {
+            self.hear(held, scope, said)?;
+        }
+        Ok(false)
+    }
+
+    /// Tells that a frame begins, and its alarm, if its line tells one.
+    fn tell_frame(
+        &mut self,
+        held: &mut Held,
+        scope: &Scope,
+        text: &[u8],
+    ) -> Result<(), AllocError> {
+        self.level = !self.level;
+        scope.tell(held, self.time, PortChange::Frame(self.level))?;
+        match alarm_in(text) {
+            Some(kind) => {
+                self.pulses.begin(Pulse::Alarm, self.time);
+                scope.tell(held, self.time, PortChange::Alarm(Some(kind)))
+            }
+            None => Ok(()),
+        }
+    }
+
+    /// Hears a line of a trace: what it says, one behind the other. Behind the last frame that is dumped only frames
+    /// are counted.
+    pub(crate) fn hear_trace(
+        &mut self,
+        held: &mut Held,
+        scope: &Scope,
+        text: &[u8],
+        is_frame: bool,
+        first: &Option<Said>,
+        second: &Option<Said>,
+    ) -> Result<(), WavesFault> {
+        if is_frame {
+            self.time = self.time.saturating_add(FRAME_NANOSECONDS);
+        }
+        self.advance(held, scope)?;
+        if scope.frames.are_past(self.time) {
+            return Ok(());
+        }
+        if is_frame {
+            self.tell_frame(held, scope, text)?;
+        }
+        self.hear_maybe(held, scope, first)?;
+        self.hear_maybe(held, scope, second)
+    }
+
+    /// Ends what still stands, each at its time.
+    pub(crate) fn finish(&mut self, held: &mut Held, scope: &Scope) -> Result<(), AllocError> {
+        self.end_pulses(held, scope, u64::MAX)
+    }
+}

@@ -1,0 +1,50 @@
+//! A dumper serves lines.
+use crate::dumper::Dumper;
+use gp_explain::NoLine;
+use gp_flow::{LineFault, LineWork};
+use gp_log::read_line;
+use gp_stream::Sink;
+use std::io::Write;
+
+impl LineWork for Dumper {
+    ghost use Rattle.gp_waves.specs.Dumping.{Dumping, has_ended};
+
+    ghost speech = { Dumping };
+
+    ghost over = { has_ended };
+
+    fn is_over(&self) -> bool {
+        self.ended.is_some()
+    }
+
+    fn line<W: Write>(&mut self, text: &[u8], sink: &mut Sink<W>) -> Result<(), LineFault> {
+        if self.ended.is_some() {
+            return Ok(());
+        }
+        if self.lines == u64::MAX {
+            return Err(LineFault::Full);
+        }
+        let Ok(read) = read_line(text) else {
+            self.lines += 1;
+            self.ended = Some(NoLine::NotALine);
+            return Ok(());
+        };
+        self.waves.hear(text, &read)?;
+        self.writing.spill(&mut self.buffer, &mut self.waves)?;
+        sink.put(self.buffer.as_slice())?;
+        self.lines += 1;
+        Ok(())
+    }
+
+    fn long_line<W: Write>(&mut self, _sink: &mut Sink<W>) -> Result<(), LineFault> {
+        if self.ended.is_some() {
+            return Ok(());
+        }
+        if self.lines == u64::MAX {
+            return Err(LineFault::Full);
+        }
+        self.lines += 1;
+        self.ended = Some(NoLine::TooLong);
+        Ok(())
+    }
+}

@@ -1,0 +1,68 @@
+//! Dumps of texts.
+use gp_explain::ExplainFault;
+use gp_ploam::Mask;
+use gp_stream::{Sink, Source};
+use gp_waves::{Frames, WavesOptions, WavesSum, dump_waves};
+use std::alloc::Global;
+use std::io::{Read, Write};
+
+/// All frames.
+pub(crate) const ALL: Frames = Frames {
+    from: 0,
+    to: u64::MAX,
+};
+
+/// The options of a dump of these frames.
+pub(crate) fn options(frames: Frames) -> WavesOptions {
+    WavesOptions {
+        frames,
+        mask: Mask::Plain,
+        midway: false,
+    }
+}
+
+/// A dump, and how it ended.
+#[derive(Drop)]
+pub(crate) struct DumpText {
+    pub(crate) outcome: Result<WavesSum, ExplainFault>,
+    pub(crate) octets: Vec<u8>,
+}
+
+impl DumpText {
+    /// Its text.
+    pub(crate) fn text(&self) -> &str {
+        str::from_utf8(self.octets.as_slice()).unwrap_or("")
+    }
+}
+
+/// Gives the dump of what is read.
+pub(crate) fn dumped_from<R: Read + Drop>(
+    alloc: Global,
+    reader: R,
+    frames: Frames,
+) -> Result<DumpText, ExplainFault> {
+    let mut source = Source::endless(reader);
+    let mut sink = Sink::new(alloc, Vec::new(alloc))?;
+    let outcome = dump_waves(alloc, &options(frames), &mut source, &mut sink);
+    Ok(DumpText {
+        outcome,
+        octets: sink.into_inner(),
+    })
+}
+
+/// Gives the dump of a text.
+pub(crate) fn dumped(alloc: Global, text: &str, frames: Frames) -> Result<DumpText, ExplainFault> {
+    dumped_from(alloc, text.as_bytes(), frames)
+}
+
+/// Tells how dumping a text to a writer ends, and gives the writer back.
+pub(crate) fn dumped_to<W: Write + Drop>(
+    alloc: Global,
+    text: &str,
+    writer: W,
+) -> Result<(Result<WavesSum, ExplainFault>, W), ExplainFault> {
+    let mut source = Source::endless(text.as_bytes());
+    let mut sink = Sink::new(alloc, writer)?;
+    let outcome = dump_waves(alloc, &options(ALL), &mut source, &mut sink);
+    Ok((outcome, sink.into_inner()))
+}
