@@ -85,13 +85,13 @@ none_of why (Some text) raw is fails =
 -- ---- a dump
 
 dump_as : (begun : Bool) (a b : DumpState) (text : List ℕ) → begun ≡ true → GrowsAs false begun a text b → IsDump text
-dump_as true a b text yes p = (b.ports, b.last, record { behind = p.0; head = p.1; continues = p.2 })
-dump_as false a b text yes p = absurd (never yes)
+dump_as true a b text begun p = (b.ports, b.last, record { behind = p.0; head = p.1; continues = p.2 })
+dump_as false a b text begun p = absurd (never begun)
 
 -- what was written from the beginning on
 whole_dump : (old new : Written) (text : List ℕ) → old.begun ≡ false → new.begun ≡ true → Grows old text new → IsDump text
-whole_dump old new text no yes p =
-    dump_as new.begun old.dump new.dump text yes (subst (λ (t : Bool). GrowsAs t new.begun old.dump text new.dump) no p)
+whole_dump old new text shut begun p =
+    dump_as new.begun old.dump new.dump text begun (subst (λ (t : Bool). GrowsAs t new.begun old.dump text new.dump) shut p)
 
 -- a dump of nothing
 empty_dump : IsDump (head_text [])
@@ -105,8 +105,8 @@ some_dump_as false a b text p = (head_text [], subst (λ (l : List ℕ). IsDump 
 
 -- it is the beginning of one
 some_dump : (old new : Written) (text : List ℕ) → old.begun ≡ false → Grows old text new → (rest : List ℕ) × IsDump (text ++ rest)
-some_dump old new text no p =
-    some_dump_as new.begun old.dump new.dump text (subst (λ (t : Bool). GrowsAs t new.begun old.dump text new.dump) no p)
+some_dump old new text shut p =
+    some_dump_as new.begun old.dump new.dump text (subst (λ (t : Bool). GrowsAs t new.begun old.dump text new.dump) shut p)
 
 -- what is known where it begins
 pub record IsOpened (state : WavesState) : Type 0 where
@@ -311,6 +311,18 @@ module _ {R W : Type 0} (from to : SourceState R) (before mid after : SinkState 
       subst (λ (f : ExplainFault). DumpsWaves from to before after (Err f)) (sym told)
       (unwritten old state last e.bytes e.said fault o (course_grows state.ended old.written state.written _ e.said 0 state.lines c) e.read e.written e.kept w)
 
+  pub unread_at : (fault : LinesFault) (old state last : WavesState) → fault ≡ faults.Read → IsOpened old
+      → Serves Dumping has_ended longest_line from to old state before mid (Err fault) → WritesRest state last mid after (Ok (tt {0}))
+      → IsUnfinished from to before after
+  unread_at fault old state last is o s w =
+      unread old state last o (subst (λ (f : LinesFault). Serves Dumping has_ended longest_line from to old state before mid (Err f)) is s) w
+
+  pub unwritten_at : (read : LinesFault) (old state last : WavesState) (fault : ExplainFault) (answer : Result WavesSum ExplainFault) → read ≡ faults.Read → IsOpened old
+      → Serves Dumping has_ended longest_line from to old state before mid (Err read) → WritesRest state last mid after (Err fault)
+      → IsErrAnd answer (λ told. told ≡ fault) → DumpsWaves from to before after answer
+  unwritten_at read old state last fault answer is o s w told =
+      unread_unwritten old state last fault answer o (subst (λ (f : LinesFault). Serves Dumping has_ended longest_line from to old state before mid (Err f)) is s) w told
+
 module _ {R W : Type 0} (from to : SourceState R) (before after : SinkState W) where
   -- a prefix of what was gathered and of what was said
   prefix_begun : (old state : WavesState) (bytes said : List ℕ) → IsOpened old → Grows old.written said state.written → Consumes from.remaining to.remaining bytes
@@ -326,7 +338,7 @@ module _ {R W : Type 0} (from to : SourceState R) (before after : SinkState W) w
         written = take g.count all;
         unwritten = drop g.count all ++ some.0;
         all = sym (append_assoc (take g.count all) (drop g.count all) some.0) ∙ ap (λ (l : List ℕ). l ++ some.0) (take-append-drop g.count all)
-        ∙ append_assoc before.gathered said some.0;
+            ∙ append_assoc before.gathered said some.0;
         appended = g.written;
       }
 
@@ -350,6 +362,11 @@ module _ {R W : Type 0} (from to : SourceState R) (before after : SinkState W) w
       let whole = all_of_some Says old e.begun e.said e.spoken in
       let c = started old whole.0 e.begun e.said o whole.1 in
       inl (leaves_begun fault old whole.0 e.bytes e.said o (course_grows whole.0.ended old.written whole.0.written e.begun e.said 0 whole.0.lines c) e.read e.written)
+
+  pub line_fault_at : (told : LinesFault) (fault : LineFault) (old state : WavesState) → told ≡ faults.Line fault → IsOpened old
+      → Serves Dumping has_ended longest_line from to old state before after (Err told) → DumpsWaves from to before after (Err (Lines (faults.Line fault)))
+  line_fault_at told fault old state is o s =
+      line_fault fault old state o (subst (λ (f : LinesFault). Serves Dumping has_ended longest_line from to old state before after (Err f)) is s)
 
 -- nothing was read, for want of memory
 pub unbegun : {R W : Type 0} (from : SourceState R) (before : SinkState W) (answer : Result WavesSum ExplainFault)

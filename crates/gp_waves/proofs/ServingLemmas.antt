@@ -3,7 +3,7 @@ use Rattle.std.proofs.Common.{◌≡◌, ◌⊎◌, ℕ, List, [], Option, None,
 use Rattle.gp_flow.specs.declared.fault.LineFault.{LineFault}
 use Rattle.gp_flow.specs.declared.fault.LineFault.TheVariants.{Write, OutOfMemory, Full}
 use Rattle.gp_flow.specs.Lines.{Answers}
-use Rattle.gp_flow.proofs.AnswerLemmas.{no_memory, no_room, put_stopped, silent_answers}
+use Rattle.gp_flow.proofs.AnswerLemmas.{no_memory, no_room, put_answers, put_stopped, silent_answers}
 use Rattle.gp_stream.specs.declared.sink.WriteStopped.{WriteStopped}
 use Rattle.gp_stream.specs.Sink.{SinkState, Puts}
 use Rattle.gp_explain.specs.declared.fault.NoLine.{NoLine}
@@ -58,3 +58,10 @@ read_as text read line is reads = (line, subst (λ (r : Result LogLine LogFault)
 -- or not
 pub unread_as : (text : List ℕ) (read : Result LogLine LogFault) (fault : LogFault) → read ≡ Err fault → Reads text read → IsUnread text
 unread_as text read fault is reads = (fault, subst (λ (r : Result LogLine LogFault). Reads text r) is reads)
+
+-- a line that is read, with what is said to it
+pub written_line : {W T : Type 0} (old new : WavesState) (text said : List ℕ) (written : Written) (before after : SinkState W) (x : T)
+    → old.ended ≡ None → IsRead text → Grows old.written said written → new ≡ counted written old → Puts {T = T} before after said (Ok x)
+    → Answers {T = Unit {0}} Dumping (Some text) old new before after (Ok tt)
+written_line old new text said written before after x none reads grows same puts =
+    put_answers Dumping (Some text) old new before after said x (tt {0}) (read_line_says old new text said written none reads grows same) puts

@@ -1,5 +1,5 @@
 -- What is written, piece by piece.
-use Rattle.std.proofs.Common.{◌≡◌, ℕ, Bool, true, false, List, [], ◌++◌, Option, None, Some, refl, sym, ap, subst, ◌∙◌, append_assoc, append-nil}
+use Rattle.std.proofs.Common.{OnOk, Result, Ok, Err, ◌≡◌, ℕ, Bool, true, false, List, [], ◌++◌, Option, None, Some, refl, sym, ap, subst, ◌∙◌, append_assoc, append-nil}
 use Rattle.gp_dump.specs.declared.change.Change.{Change}
 use Rattle.gp_dump.specs.Dump.{Continues, DumpState, is_declared, time_behind, time_text}
 use Rattle.gp_dump.specs.Head.{head_text}
@@ -54,17 +54,17 @@ grown_all a b out next none p = subst (λ (l : List ℕ). Grows a l b) (sym (p.1
 
 opened_as : (x y : Bool) (a b : DumpState) (ports : List (Option ℕ)) → x ≡ false → y ≡ true → b.ports ≡ ports → b.last ≡ None
     → GrowsAs x y a (head_text ports) b
-opened_as x y a b ports no yes same none =
+opened_as x y a b ports shut begun same none =
     let last : Continues b.ports None [] b.last = subst (λ (l : Option ℕ). Continues b.ports None [] l) (sym none) (continues_none b.ports None) in
     let is : head_text ports ≡ head_text b.ports ++ [] = ap head_text (sym same) ∙ sym (append-nil (head_text b.ports)) in
     let there : GrowsAs false true a (head_text ports) b = ([], is, last) in
-    subst (λ (t : Bool). GrowsAs x t a (head_text ports) b) (sym yes) (subst (λ (t : Bool). GrowsAs t true a (head_text ports) b) (sym no) there)
+    subst (λ (t : Bool). GrowsAs x t a (head_text ports) b) (sym begun) (subst (λ (t : Bool). GrowsAs t true a (head_text ports) b) (sym shut) there)
 
 -- the declarations
 pub opened : (old new : Written) (ports : List (Option ℕ)) (out next : List ℕ) → old.begun ≡ false → new.begun ≡ true → new.dump.ports ≡ ports
     → new.dump.last ≡ None → next ≡ out ++ head_text ports → Grown old out new next
-opened old new ports out next no yes same none is =
-    (head_text ports, is, opened_as old.begun new.begun old.dump new.dump ports no yes same none)
+opened old new ports out next shut begun same none is =
+    (head_text ports, is, opened_as old.begun new.begun old.dump new.dump ports shut begun same none)
 
 put_as : (x y : Bool) (a b : DumpState) (time : ℕ) (change : Change) → x ≡ true → y ≡ true → is_declared a.ports change ≡ true
     → b ≡ record a { last = Some (time_behind a.last time) } → GrowsAs x y a (time_text a.last time ++ change_text change) b
@@ -81,3 +81,35 @@ pub put_grown : (old new : Written) (time : ℕ) (change : Change) (out next : L
     → next ≡ out ++ (time_text old.dump.last time ++ change_text change) → Grown old out new next
 put_grown old new time change out next one other declared is text =
     (time_text old.dump.last time ++ change_text change, text, put_as old.begun new.begun old.dump new.dump time change one other declared is)
+
+-- the same, where the state was seen before
+pub put_viewed : (old mid : Written) (dump : DumpState) (time : ℕ) (change : Change) (out next : List ℕ) (answer : Bool) → old.begun ≡ true → mid ≡ old
+    → answer ≡ true → answer ≡ is_declared mid.dump.ports change
+    → (answer ≡ true → dump ≡ record mid.dump { last = Some (time_behind mid.dump.last time) })
+    → (answer ≡ true → next ≡ out ++ (time_text mid.dump.last time ++ change_text change))
+    → Grown old out (record { begun = mid.begun; dump = dump }) next
+put_viewed old mid dump time change out next answer begun same put declared last text =
+    let still : mid.begun ≡ true = ap (λ (w : Written). w.begun) same ∙ begun in
+    let there : Grown mid out (record { begun = mid.begun; dump = dump }) next =
+    put_grown mid (record { begun = mid.begun; dump = dump }) time change out next still still (sym declared ∙ put) (last put) (text put) in
+    subst (λ (w : Written). Grown w out (record { begun = mid.begun; dump = dump }) next) same there
+
+-- declarations and changes in an empty buffer
+pub spilled : {T E : Type 0} (r : Result T E) (a b c : Written) (first second third : List ℕ) → first ≡ [] → Grown a first b second
+    → OnOk r (Grown b second c third) → OnOk r (Grows a third c)
+spilled (Ok x) a b c first second third none p q = grown_all a c first third none (grown_more a b c first second third p q)
+spilled (Err e) a b c first second third none p q = tt
+
+-- nothing in an empty buffer
+pub nothing_spilled : (a b : Written) (out : List ℕ) → b ≡ a → out ≡ [] → Grows a out b
+nothing_spilled a b out same none =
+    subst (λ (l : List ℕ). Grows a l b) (sym none) (subst (λ (w : Written). Grows a [] w) (sym same) (grows_none a))
+
+-- the same in a new buffer
+pub rested : (a b c : Written) (first second third : List ℕ) → first ≡ [] → Grown a first b second → Grown b second c third → Grows a third c
+rested a b c first second third none p q = grown_all a c first third none (grown_more a b c first second third p q)
+
+-- the same, where the state and the text were seen before
+pub grows_as : (old seen new : Written) (said text : List ℕ) → Grows seen text new → seen ≡ old → said ≡ text → Grows old said new
+grows_as old seen new said text p same is =
+    subst (λ (l : List ℕ). Grows old l new) (sym is) (subst (λ (w : Written). Grows w text new) same p)

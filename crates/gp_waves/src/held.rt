@@ -52,6 +52,17 @@ impl HeldChange {
     }
 }
 
+/// Gives the change that is due first, the first of several: one of another port, or that of this port.
+fn earlier(first: Option<(u64, u8)>, time: Option<u64>, port: u8) -> Option<(u64, u8)> {
+    let Some(time) = time else {
+        return first;
+    };
+    match first {
+        Some((before, other)) if before <= time => Some((before, other)),
+        _ => Some((time, port)),
+    }
+}
+
 impl Held {
     /// None is held back.
     pub(crate) fn begin(alloc: Global) -> Result<Held, AllocError> {
@@ -111,11 +122,7 @@ impl Held {
     fn first_port(&self) -> Option<u8> {
         let mut first: Option<(u64, u8)> = None;
         for port in 0..PORTS as u8 {
-            first = match (first, self.first_of(port)) {
-                (Some(before), Some(time)) if before.0 <= time => Some(before),
-                (_, Some(time)) => Some((time, port)),
-                (before, None) => before,
-            };
+            first = earlier(first, self.first_of(port), port);
         }
         let (_, port) = first?;
         Some(port)

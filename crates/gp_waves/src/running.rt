@@ -46,7 +46,7 @@ pub fn dump_waves<R: Read, W: Write>(
             write_rest(alloc, &mut dumper, sink)?;
             Err(ExplainFault::Lines(LinesFault::Read))
         }
-        Err(fault) => Err(ExplainFault::Lines(fault)),
+        Err(LinesFault::Line(fault)) => Err(ExplainFault::Lines(LinesFault::Line(fault))),
     }
 }
 

@@ -76,11 +76,10 @@ impl Writing {
         ensures begun { OnOk result (self.new.begun ≡ true) }
     {
         self.count_late(due.time);
-        if self.dump.put(out, due.time, &due.change)? {
-            Ok(())
-        } else {
-            Err(WavesFault::Full)
+        if !self.dump.put(out, due.time, &due.change)? {
+            return Err(WavesFault::Full);
         }
+        Ok(())
     }
 
     /// Writes the changes that are due first, until no more are held back than may be.
@@ -122,11 +121,11 @@ impl Writing {
         ensures { OnOk result (Grows self.old out.new.items self.new) }
     {
         out.clear();
-        if waves.is_full() {
-            self.open(out, ALL_PORTS)?;
-            self.drain(out, waves)?;
+        if !waves.is_full() {
+            return Ok(());
         }
-        Ok(())
+        self.open(out, ALL_PORTS)?;
+        self.drain(out, waves)
     }
 
     /// Gives all that is still to be written: where nothing was written before, what is declared are the ports of which

@@ -1,7 +1,28 @@
 use Rattle.std.proofs.Common.{rules}
-use Rattle.gp_waves.proofs.ServingLemmas.{read_as, refused_line, stopped_line, undumped_line, unread_as}
+use Rattle.gp_waves.proofs.ServingLemmas.{read_as, refused_line, stopped_line, undumped_line, unread_as, written_line}
+use Rattle.gp_waves.proofs.WritingLemmas.{grows_as}
 use Rattle.gp_waves.proofs.serving.DumperLineWork.line.Goals as goal
 
 pub returns-in_default : goal.returns-in_default
 returns-in_default g c =
     refused_line _ _ c.args.text.now _ (search rules) (unread_as c.args.text.now c.read_line.result c.in_default.field-0 c.in_default.is c.read_line.ensures) (search rules)
+
+pub returns-in_err-hear : goal.returns-in_err-hear
+returns-in_err-hear g c = undumped_line _ c.args.self.now _ _ c.in_err-hear.field-0 _ (search rules)
+
+pub returns-in_err-spill : goal.returns-in_err-spill
+returns-in_err-spill g c = undumped_line _ c.args.self.now _ _ c.in_err-spill.field-0 _ (search rules)
+
+pub returns-in_err-put : goal.returns-in_err-put
+returns-in_err-put g c =
+    stopped_line {T = Unit {0}} c.args.self.now _ c.args.text.now c.as_slice.result.now c.spill.new.self _ _ _ _ (search rules)
+    (read_as c.args.text.now c.read_line.result c.in-Ok.read c.in-Ok.is c.read_line.ensures)
+    (grows_as c.args.self.now.written c.self.inside.writing c.spill.new.self c.as_slice.result.now c.spill.new.out.items c.in_ok-spill.ensures (search rules) (search rules))
+    (search rules) (search rules)
+
+pub returns : goal.returns
+returns g c =
+    written_line {T = Unit {0}} c.args.self.now _ c.args.text.now c.as_slice.result.now c.spill.new.self _ _ _ (search rules)
+    (read_as c.args.text.now c.read_line.result c.in-Ok.read c.in-Ok.is c.read_line.ensures)
+    (grows_as c.args.self.now.written c.self.inside.writing c.spill.new.self c.as_slice.result.now c.spill.new.out.items c.in_ok-spill.ensures (search rules) (search rules))
+    (search rules) (search rules)
