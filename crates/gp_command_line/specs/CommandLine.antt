@@ -8,6 +8,7 @@
 -- `oltctl audit [JUDGED] [--side terminal|units] [--only RULES].. [--without RULES].. [--words] [--units]
 -- [--format text|json] [--progress] [LOG]`
 -- `oltctl picture [--from FRAME] [--to FRAME] [JUDGED] [LOG]`
+-- `oltctl waves [--from FRAME] [--to FRAME] [--midway] [--mask MASK] [LOG]`
 -- `oltctl explain [--mask MASK] [FORM] [--log] [TRACE]`
 -- `oltctl decode [--up] [--both] [--names] [--mask MASK] [HEX..]`
 -- `oltctl encode [--up] [--mask MASK] [WORDS..]`
@@ -233,6 +234,14 @@ picture_judged masks = with_rule (with_rule picture_delays (flag_rule (codes "mi
 abbrev pub picture_command : MaskNames → App
 picture_command masks = with_rule (picture_judged masks) log_rule
 
+-- `waves` with the frames that are dumped
+abbrev pub waves_frames : App
+waves_frames = with_rule (with_rule (new_app (codes "waves")) (number_rule (codes "from"))) (number_rule (codes "to"))
+
+abbrev pub waves_command : MaskNames → App
+waves_command masks =
+    with_rule (with_rule (with_rule waves_frames (flag_rule (codes "midway"))) (mask_rule masks)) log_rule
+
 -- the names of the formats, of the masks and of the sides of each command about scripts, lines, traces and logs that
 -- takes them
 pub record LogNames : Type 0 where
@@ -257,6 +266,7 @@ pub record AreLogNames (names : LogNames) : Type 0 where
 pub record AllNames : Type 0 where
   pub logs : LogNames
   pub picture : MaskNames
+  pub waves : MaskNames
   pub explain_format : FormatNames
   pub explain : MaskNames
   pub decode : MaskNames
@@ -265,6 +275,7 @@ pub record AllNames : Type 0 where
 pub record AreAllNames (names : AllNames) : Type 0 where
   pub logs : AreLogNames names.logs
   pub picture : AreMasks names.picture
+  pub waves : AreMasks names.waves
   pub explain_format : AreFormats names.explain_format
   pub explain : AreMasks names.explain
   pub decode : AreMasks names.decode
@@ -298,16 +309,17 @@ log_commands names =
     with_subcommand (trace_commands names.replay names.drive names.check names.verify)
     (audit_command names.audit names.audit_side names.audit_format).top
 
--- the same with the command that draws
-abbrev pub drawn_commands : LogNames → MaskNames → App
-drawn_commands logs picture = with_subcommand (log_commands logs) (picture_command picture).top
+-- the same with the commands that draw
+abbrev pub drawn_commands : LogNames → MaskNames → MaskNames → App
+drawn_commands logs picture waves =
+    with_subcommand (with_subcommand (log_commands logs) (picture_command picture).top) (waves_command waves).top
 
 -- the whole program
 abbrev pub oltctl_command : AllNames → App
 oltctl_command names =
     with_subcommand
     (with_subcommand
-    (with_subcommand (drawn_commands names.logs names.picture)
+    (with_subcommand (drawn_commands names.logs names.picture names.waves)
     (explain_command names.explain names.explain_format).top)
     (decode_command names.decode).top) (encode_command names.encode).top
 

@@ -11,8 +11,9 @@ use Rattle.gp_decode.specs.LineText.{direction_of}
 use Rattle.gp_command_line.specs.CommandLine.{code_named, file_named, form_named, is_json, mask_named, words_named}
 use Rattle.gp_command_line.specs.declared.request.Audit.{Audit as WantedAudit}
 use Rattle.gp_command_line.specs.declared.request.Request.{Request}
-use Rattle.gp_command_line.specs.declared.request.Request.TheVariants.{Replay, Drive, Storm, Check, Verify, Audit, Picture, Decode, DecodeLines, Encode, EncodeLines, Explain}
+use Rattle.gp_command_line.specs.declared.request.Request.TheVariants.{Replay, Drive, Storm, Check, Verify, Audit, Picture, Waves, Decode, DecodeLines, Encode, EncodeLines, Explain}
 use Rattle.gp_command_line.specs.declared.request.Drawing.{Drawing}
+use Rattle.gp_command_line.specs.declared.request.Dumping.{Dumping}
 use Rattle.gp_command_line.specs.declared.request.Explanation.{Explanation}
 use Rattle.gp_command_line.specs.declared.request.Play.{Play}
 use Rattle.gp_command_line.specs.declared.request.Told.{Told}
@@ -142,6 +143,18 @@ abbrev pub AsksToPicture : List Row → Request → Type 0
 AsksToPicture rows (Picture wanted) = AsksForPicture rows wanted
 AsksToPicture rows _ = ⊥
 
+-- the rows of `waves` ask to dump LOG, or standard input where it is left out, by these options as they are given
+pub record AsksForWaves (rows : List Row) (wanted : Dumping) : Type 0 where
+  pub log : name_in wanted.log ≡ file_named (first_of (codes "log") rows)
+  pub from : IsNumber rows (codes "from") wanted.from
+  pub to : IsNumber rows (codes "to") wanted.to
+  pub mask : wanted.mask ≡ mask_named (first_of (codes "mask") rows)
+  pub midway : IsFlag rows (codes "midway") wanted.midway
+
+abbrev pub AsksToDump : List Row → Request → Type 0
+AsksToDump rows (Waves wanted) = AsksForWaves rows wanted
+AsksToDump rows _ = ⊥
+
 -- whose messages codes are: where each may be of either, it says so itself
 abbrev pub direction_asked : Bool → Bool → Direction
 direction_asked upstream both = if both then Each else direction_of upstream
@@ -201,6 +214,7 @@ Asks (Some (name, rows)) (Storm file play) = (name ≡ codes "storm") × AsksToS
 Asks (Some (name, rows)) (Verify wanted) = (name ≡ codes "verify") × AsksToVerify rows (Verify wanted)
 Asks (Some (name, rows)) (Audit wanted) = (name ≡ codes "audit") × AsksToAudit rows (Audit wanted)
 Asks (Some (name, rows)) (Picture wanted) = (name ≡ codes "picture") × AsksToPicture rows (Picture wanted)
+Asks (Some (name, rows)) (Waves wanted) = (name ≡ codes "waves") × AsksToDump rows (Waves wanted)
 Asks (Some (name, rows)) (Decode code upstream mask names) =
     (name ≡ codes "decode") × AsksToDecode rows (Decode code upstream mask names)
 Asks (Some (name, rows)) (DecodeLines many direction mask names) =
@@ -216,7 +230,7 @@ abbrev pub AsksNothing : Option (Text × List Row) → Type 0
 AsksNothing None = Unit {0}
 AsksNothing (Some (name, rows)) =
     (name ≢ codes "replay") × (name ≢ codes "storm") × (name ≢ codes "decode") × (name ≢ codes "encode")
-    × (name ≢ codes "explain") × (name ≢ codes "audit") × (name ≢ codes "picture")
+    × (name ≢ codes "explain") × (name ≢ codes "audit") × (name ≢ codes "picture") × (name ≢ codes "waves")
     × (name ≡ codes "check" → all_of (codes "files") rows ≡ None)
     × (name ≡ codes "drive" → first_of (codes "script") rows ≡ None)
     × (name ≡ codes "verify" → first_of (codes "script") rows ≡ None)

@@ -2,12 +2,12 @@
 ghost use Rattle.std.specs.Prelude.{◌≡◌, ◌≢◌, IfErr, IfOk, codes, false, map};
 ghost use Rattle.clap.specs.Words.{app_of, kind_of, rule_of};
 ghost use Rattle.clap.specs.declared.builder.command.Command.TheViews.{out-Command as fields_of};
-ghost use Rattle.gp_command_line.specs.CommandLine.{AllNames, AreAllNames, AreFormats, AreLogNames, AreMasks, AreSides, FormatNames, IsFaultOf, IsParseOf, LogNames, MaskNames, SideNames, check_command, code_rule, files_rule, flag_rule, format_rule, audit_delays as spec_audit_delays, audit_form as spec_audit_form, audit_judged as spec_audit_judged, audit_rules as spec_audit_rules, audit_side as spec_audit_side, audit_told as spec_audit_told, explain_form as spec_explain_form, check_flags as spec_check_flags, decode_flags as spec_decode_flags, replay_flags as spec_replay_flags, verify_flags as spec_verify_flags, verify_form as spec_verify_form, with_form as spec_form, with_words as spec_words, audit_command, decode_command, drawn_commands, drive_command, number_rule, picture_command, picture_delays as spec_picture_delays, picture_frames as spec_picture_frames, picture_judged as spec_picture_judged, encode_command, explain_command, file_rule, line_commands, log_commands, log_rule, mask_rule, oltctl_command, quiet_rule, repeated_rule, replay_command, script_commands, script_rule, side_rule, storm_command, trace_commands, trace_rule, up_rule, verify_command, words_rule};
+ghost use Rattle.gp_command_line.specs.CommandLine.{AllNames, AreAllNames, AreFormats, AreLogNames, AreMasks, AreSides, FormatNames, IsFaultOf, IsParseOf, LogNames, MaskNames, SideNames, check_command, code_rule, files_rule, flag_rule, format_rule, audit_delays as spec_audit_delays, audit_form as spec_audit_form, audit_judged as spec_audit_judged, audit_rules as spec_audit_rules, audit_side as spec_audit_side, audit_told as spec_audit_told, explain_form as spec_explain_form, check_flags as spec_check_flags, decode_flags as spec_decode_flags, replay_flags as spec_replay_flags, verify_flags as spec_verify_flags, verify_form as spec_verify_form, with_form as spec_form, with_words as spec_words, audit_command, decode_command, drawn_commands, drive_command, number_rule, picture_command, picture_delays as spec_picture_delays, picture_frames as spec_picture_frames, picture_judged as spec_picture_judged, waves_frames as spec_waves_frames, waves_command, encode_command, explain_command, file_rule, line_commands, log_commands, log_rule, mask_rule, oltctl_command, quiet_rule, repeated_rule, replay_command, script_commands, script_rule, side_rule, storm_command, trace_commands, trace_rule, up_rule, verify_command, words_rule};
 ghost use Rattle.std.specs.String.{string_bytes};
 
 use crate::help::{
     ABOUT_HELP, AUDIT_HELP, CHECK_HELP, DECODE_HELP, DRIVE_HELP, ENCODE_HELP, EXPLAIN_HELP,
-    PICTURE_HELP, REPLAY_HELP, STORM_HELP, VERIFY_HELP,
+    PICTURE_HELP, REPLAY_HELP, STORM_HELP, VERIFY_HELP, WAVES_HELP,
 };
 use clap::error::ErrorKind;
 use clap::{Arg, ArgAction, ArgMatches, Command, Error, value_parser};
@@ -498,6 +498,42 @@ fn picture<'a>(alloc: Global) -> Result<Command<'a>, AllocError>
     picture_judged(alloc)?.arg(log(alloc))
 }
 
+/// Begins `waves`: which frames are dumped.
+fn waves_frames<'a>(alloc: Global) -> Result<Command<'a>, AllocError>
+    ensures app { IfOk result (λ c. app_of c ≡ spec_waves_frames) }
+    ensures local { IfOk result (λ c. (fields_of c).has_globals ≡ false) }
+{
+    let from = number(
+        alloc,
+        "from",
+        "FRAME",
+        "The first frame that is dumped; 0 if left out",
+    );
+    let to = number(
+        alloc,
+        "to",
+        "FRAME",
+        "The last frame that is dumped; that of LOG if left out",
+    );
+    Command::new(alloc, "waves")
+        .about(
+            "Writes a log as a value change dump (VCD): what is heard of each port and each unit",
+        )
+        .after_help(WAVES_HELP)
+        .arg(from)?
+        .arg(to)
+}
+
+fn waves<'a>(alloc: Global) -> Result<Command<'a>, AllocError>
+    ensures app { IfOk result (λ c. (masks : MaskNames) × AreMasks masks × (app_of c ≡ waves_command masks)) }
+    ensures local { IfOk result (λ c. (fields_of c).has_globals ≡ false) }
+{
+    waves_frames(alloc)?
+        .arg(midway(alloc))?
+        .arg(mask(alloc))?
+        .arg(log(alloc))
+}
+
 fn up<'a>(alloc: Global) -> Arg<'a>
     ensures rule { rule_of result ≡ up_rule }
     ensures local { result.global ≡ false }
@@ -660,12 +696,14 @@ fn of_logs<'a>(alloc: Global) -> Result<Command<'a>, AllocError>
     of_traces(alloc)?.subcommand(audit(alloc)?)
 }
 
-/// Makes it with the command that draws, too.
+/// Makes it with the commands that draw, too.
 fn of_drawn<'a>(alloc: Global) -> Result<Command<'a>, AllocError>
-    ensures { IfOk result (λ c. (logs : LogNames) × (picture : MaskNames) × AreLogNames logs × AreMasks picture
-        × (app_of c ≡ drawn_commands logs picture)) }
+    ensures { IfOk result (λ c. (logs : LogNames) × (picture waves : MaskNames) × AreLogNames logs × AreMasks picture
+        × AreMasks waves × (app_of c ≡ drawn_commands logs picture waves)) }
 {
-    of_logs(alloc)?.subcommand(picture(alloc)?)
+    of_logs(alloc)?
+        .subcommand(picture(alloc)?)?
+        .subcommand(waves(alloc)?)
 }
 
 fn command<'a>(alloc: Global) -> Result<Command<'a>, AllocError>

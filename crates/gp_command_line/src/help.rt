@@ -188,6 +188,24 @@ Exit status:
   3  out of memory
   4  the output takes no more";
 
+/// What stands at the end of the help of `waves`.
+pub const WAVES_HELP: &str = "\
+LOG is what audit reads: a log of messages or a trace. A dump is for gtkwave, surfer or
+a simulator: for each port the code sent, the grant, the window, the burst and the alarm,
+for each unit its serial number, state, ONU-ID and delay. Times are in nanoseconds.
+
+Examples:
+  oltctl waves lab.log > lab.vcd
+  oltctl replay script.toml | oltctl waves > run.vcd
+  oltctl waves --from 8000 --to 16000 lab.log > second.vcd
+
+Exit status:
+  0  the dump was written
+  1  a line is neither one of a log nor of a trace, or LOG was not read
+  2  the command line is wrong
+  3  out of memory
+  4  the output takes no more";
+
 /// What stands at the end of the help of `decode`.
 pub const DECODE_HELP: &str = "\
 Examples:

@@ -2,7 +2,7 @@
 ghost use Rattle.std.specs.Prelude.{◌≡◌, ◌∷◌, [], true, IfSome, IfNone, Some, None, codes, option_map};
 ghost use Rattle.clap.specs.Words.{all_of, first_of, found_of, rows_of, subcommand_rows_of};
 ghost use Rattle.gp_command_line.specs.CommandLine.{code_alone, code_named, file_named, form_named, is_input, is_json, mask_named, words_named};
-ghost use Rattle.gp_command_line.specs.Requests.{Asks, AsksForForm, AsksForPlay, AsksForTrace, AsksNothing, AsksToAudit, AsksToCheck, AsksToDecode, AsksToDrive, AsksToEncode, AsksToExplain, AsksToPicture, AsksToReplay, AsksToStorm, AsksToVerify, IsNumber, direction_asked, name_in, purpose_of, texts};
+ghost use Rattle.gp_command_line.specs.Requests.{Asks, AsksForForm, AsksForPlay, AsksForTrace, AsksNothing, AsksToAudit, AsksToCheck, AsksToDecode, AsksToDrive, AsksToDump, AsksToEncode, AsksToExplain, AsksToPicture, AsksToReplay, AsksToStorm, AsksToVerify, IsNumber, direction_asked, name_in, purpose_of, texts};
 
 use clap::ArgMatches;
 use gp_check::{CheckManner, Purpose};
@@ -115,6 +115,21 @@ pub struct Drawing<'m, 'a> {
     pub midway: bool,
 }
 
+/// A dump that is wanted. Options are as they are given.
+#[derive(Clone, Copy)]
+pub struct Dumping<'a> {
+    /// Of the log of this file, or of standard input.
+    pub log: Option<&'a str>,
+    /// The first frame that is dumped.
+    pub from: Option<u64>,
+    /// The last one.
+    pub to: Option<u64>,
+    /// The mask of its codes.
+    pub mask: Mask,
+    /// The log begins in the middle.
+    pub midway: bool,
+}
+
 /// What the program is to do.
 #[derive(Clone, Copy)]
 pub enum Request<'m, 'a> {
@@ -146,6 +161,8 @@ pub enum Request<'m, 'a> {
     Audit(Audit<'m, 'a>),
     /// Draw a log as a picture.
     Picture(Drawing<'m, 'a>),
+    /// Write a log as a value change dump.
+    Waves(Dumping<'a>),
     /// Say which message this code is, in hexadecimal digits: one of a unit where `upstream`, else one of the
     /// line terminal; with names of the standard where `names`.
     Decode {
@@ -190,6 +207,7 @@ pub fn request_of<'m, 'a>(matches: &'m ArgMatches<'a>) -> Option<Request<'m, 'a>
         ("verify", found) => verify_of(found),
         ("audit", found) => Some(audit_of(found)),
         ("picture", found) => Some(picture_of(found)),
+        ("waves", found) => Some(waves_of(found)),
         ("decode", found) => Some(decode_of(found)),
         ("encode", found) => Some(encode_of(found)),
         ("explain", found) => Some(explain_of(found)),
@@ -367,6 +385,19 @@ fn picture_of<'m, 'a>(found: &'m ArgMatches<'a>) -> Request<'m, 'a>
         mask: mask_of(found.get_str("mask")),
         teqd: found.get_strs("teqd"),
         drift: number_at(found, "drift"),
+        midway: found.get_flag("midway"),
+    })
+}
+
+#[tactic(auto, using(crate::proofs::Rows::value_by_rows, crate::proofs::Rows::flag_by_rows))]
+fn waves_of<'m, 'a>(found: &'m ArgMatches<'a>) -> Request<'m, 'a>
+    ensures { AsksToDump (rows_of (found_of found.now)) result }
+{
+    Request::Waves(Dumping {
+        log: file_of(found.get_str("log")),
+        from: number_at(found, "from"),
+        to: number_at(found, "to"),
+        mask: mask_of(found.get_str("mask")),
         midway: found.get_flag("midway"),
     })
 }

@@ -1,5 +1,5 @@
--- What an audit and a picture judge by, as they are asked for, and the first option that can't be read (this profile's
--- own rule).
+-- What an audit and a picture judge by, and what of a log is shown, as is asked for, and the first option that can't be
+-- read (this profile's own rule).
 use Rattle.std.specs.Prelude.{◌≡◌, ◌<◌, ◌≤◌, ◌==◌, ℕ, ⊥, Bool, true, false, Option, None, Some, Result, Ok, Err, List, min, option_map, codes, if◌then◌else◌}
 use Rattle.std.specs.Borrow.{Bor}
 use Rattle.std.specs.Str.{bytes_eq}
@@ -13,8 +13,9 @@ use Rattle.gp_audit.specs.declared.options.AuditForm.TheVariants as told
 use Rattle.gp_audit.specs.declared.options.AuditOptions.{AuditOptions}
 use Rattle.gp_command_line.specs.declared.request.Audit.{Audit}
 use Rattle.gp_command_line.specs.declared.request.Drawing.{Drawing}
-use Rattle.gp_picture.specs.declared.options.Frames.{Frames}
+use Rattle.gp_command_line.specs.declared.request.Dumping.{Dumping}
 use Rattle.gp_picture.specs.declared.options.PictureOptions.{PictureOptions}
+use Rattle.gp_waves.specs.declared.options.WavesOptions.{WavesOptions}
 use Rattle.gp_options.specs.declared.bad_option.BadOption.{BadOption}
 use Rattle.gp_options.specs.declared.bad_option.BadOption.TheVariants as bad
 
@@ -68,12 +69,10 @@ abbrev pub last_frame : Option ℕ → ℕ
 last_frame None = 18446744073709551615
 last_frame (Some frame) = frame
 
-abbrev pub frames_of : Option ℕ → Option ℕ → Frames
-frames_of from to = record { from = first_frame from; to = last_frame to }
-
 -- a picture shows what it is asked to, and is judged so: all that is asked for can be read
 pub record DrawsAs (wanted : Drawing) (options : PictureOptions) : Type 0 where
-  pub frames : options.frames ≡ frames_of wanted.from wanted.to
+  pub from : options.frames.from ≡ first_frame wanted.from
+  pub to : options.frames.to ≡ last_frame wanted.to
   pub ordered : options.frames.from ≤ options.frames.to
   pub mask : options.mask ≡ wanted.mask
   pub teqd : equalized_delays (given wanted.teqd) ≡ Ok options.teqd
@@ -86,4 +85,19 @@ IsBadPicture wanted (bad.Rule name) = ⊥
 IsBadPicture wanted (bad.Delay text) =
     (first_frame wanted.from ≤ last_frame wanted.to) × (equalized_delays (given wanted.teqd) ≡ Err text.now)
 IsBadPicture wanted (bad.Frames from to) =
+    (from ≡ first_frame wanted.from) × (to ≡ last_frame wanted.to) × (to < from)
+
+-- a dump has what it is asked for: the frames don't end before they begin
+pub record DumpsAs (wanted : Dumping) (options : WavesOptions) : Type 0 where
+  pub from : options.frames.from ≡ first_frame wanted.from
+  pub to : options.frames.to ≡ last_frame wanted.to
+  pub ordered : options.frames.from ≤ options.frames.to
+  pub mask : options.mask ≡ wanted.mask
+  pub midway : options.midway ≡ wanted.midway
+
+-- these are frames that do
+abbrev pub IsBadWaves : Dumping → BadOption → Type 0
+IsBadWaves wanted (bad.Rule name) = ⊥
+IsBadWaves wanted (bad.Delay text) = ⊥
+IsBadWaves wanted (bad.Frames from to) =
     (from ≡ first_frame wanted.from) × (to ≡ last_frame wanted.to) × (to < from)

@@ -1,8 +1,8 @@
-//! What both an audit and a picture judge by.
-ghost use Rattle.std.specs.Prelude.{◌≡◌, Ok, Err, MatchResult};
+//! What an audit, a picture and a dump have of their options in common.
+ghost use Rattle.std.specs.Prelude.{◌≡◌, ◌≤◌, ◌<◌, Ok, Err, MatchResult};
 ghost use Rattle.gp_audit.specs.Delays.{equalized_delays as spec_delays};
 ghost use Rattle.gp_audit.specs.Texts.{given};
-ghost use Rattle.gp_options.specs.Options.{drift_of};
+ghost use Rattle.gp_options.specs.Options.{drift_of, first_frame, last_frame};
 ghost use Rattle.gp_options.specs.declared.bad_option.BadOption.TheVariants as bad;
 
 use crate::bad_option::BadOption;
@@ -34,4 +34,22 @@ pub(crate) fn drift_of(drift: Option<u64>) -> u32
         Some(drift) => drift.min(u64::from(u32::MAX)) as u32,
         None => DRIFT,
     }
+}
+
+/// Gives the first and the last frame of a log that are looked at, all where neither is given, unless they end before
+/// they begin.
+pub(crate) fn frames_of<'t>(from: Option<u64>, to: Option<u64>) -> Result<(u64, u64), BadOption<'t>>
+    ensures { MatchResult result
+        (λ frames. (frames.0 ≡ first_frame from) × (frames.1 ≡ last_frame to) × (frames.0 ≤ frames.1))
+        (λ fault. (fault ≡ bad.Frames (first_frame from) (last_frame to)) × (last_frame to < first_frame from)) }
+{
+    let first = from.unwrap_or(0);
+    let last = to.unwrap_or(u64::MAX);
+    if first > last {
+        return Err(BadOption::Frames {
+            from: first,
+            to: last,
+        });
+    }
+    Ok((first, last))
 }

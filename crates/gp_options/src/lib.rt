@@ -1,10 +1,10 @@
-//! What a log is judged by, as the command line of `oltctl` asks for it.
+//! What a log is judged by, and what of it is shown, as the command line of `oltctl` asks for it.
 //!
-//! Promise: an audit's and a picture's options are read whole, or the first that can't be is given back, and in one way
-//! only (`audit_options`, `picture_options`).
+//! Promise: the options of an audit, a picture and a dump are read whole, or the first that can't be is given back, and
+//! in one way only (`audit_options`, `picture_options`, `waves_options`).
 //!
-//! - `audit.rt`: of an audit. `picture.rt`: of a picture.
-//! - `judged.rt`: what both are judged by. `bad_option.rt`: an option that can't be read, in words.
+//! - `audit.rt`: of an audit. `picture.rt`: of a picture. `waves.rt`: of a dump.
+//! - `judged.rt`: what these have in common. `bad_option.rt`: an option that can't be read, in words.
 //!
 //! Where to make which change: what is asked for stands in `gp_command_line`, how names of rules and delays are read in
 //! `gp_audit`, and what becomes of them in `specs/Options.antt`.
@@ -14,7 +14,9 @@ mod audit;
 mod bad_option;
 mod judged;
 mod picture;
+mod waves;
 
 pub use audit::audit_options;
 pub use bad_option::BadOption;
 pub use picture::picture_options;
+pub use waves::waves_options;

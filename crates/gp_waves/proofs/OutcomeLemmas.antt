@@ -317,10 +317,10 @@ module _ {R W : Type 0} (from to : SourceState R) (before mid after : SinkState 
   unread_at fault old state last is o s w =
       unread old state last o (subst (λ (f : LinesFault). Serves Dumping has_ended longest_line from to old state before mid (Err f)) is s) w
 
-  pub unwritten_at : (read : LinesFault) (old state last : WavesState) (fault : ExplainFault) (answer : Result WavesSum ExplainFault) → read ≡ faults.Read → IsOpened old
-      → Serves Dumping has_ended longest_line from to old state before mid (Err read) → WritesRest state last mid after (Err fault)
+  pub unwritten_at : (served : LinesFault) (old state last : WavesState) (fault : ExplainFault) (answer : Result WavesSum ExplainFault) → served ≡ faults.Read → IsOpened old
+      → Serves Dumping has_ended longest_line from to old state before mid (Err served) → WritesRest state last mid after (Err fault)
       → IsErrAnd answer (λ told. told ≡ fault) → DumpsWaves from to before after answer
-  unwritten_at read old state last fault answer is o s w told =
+  unwritten_at served old state last fault answer is o s w told =
       unread_unwritten old state last fault answer o (subst (λ (f : LinesFault). Serves Dumping has_ended longest_line from to old state before mid (Err f)) is s) w told
 
 module _ {R W : Type 0} (from to : SourceState R) (before after : SinkState W) where

@@ -61,7 +61,7 @@ unread_as text read fault is reads = (fault, subst (λ (r : Result LogLine LogFa
 
 -- a line that is read, with what is said to it
 pub written_line : {W T : Type 0} (old new : WavesState) (text said : List ℕ) (written : Written) (before after : SinkState W) (x : T)
-    → old.ended ≡ None → IsRead text → Grows old.written said written → new ≡ counted written old → Puts {T = T} before after said (Ok x)
+    → old.ended ≡ None → IsRead text → Grows old.written said written → new ≡ counted written old → Puts {T = T} {E = WriteStopped} before after said (Ok x)
     → Answers {T = Unit {0}} Dumping (Some text) old new before after (Ok tt)
 written_line old new text said written before after x none reads grows same puts =
     put_answers Dumping (Some text) old new before after said x (tt {0}) (read_line_says old new text said written none reads grows same) puts

@@ -15,6 +15,7 @@ use Rattle.gp_encode.specs.declared.encoder.WordsFaultAt.{WordsFaultAt}
 use Rattle.gp_explain.specs.declared.fault.ExplainFault.{ExplainFault}
 use Rattle.gp_flow.specs.declared.fault.LinesFault.{LinesFault}
 use Rattle.gp_replay.specs.declared.fault.RunFault.{RunFault}
+use Rattle.gp_waves.specs.declared.running.WavesSum.{WavesSum}
 use Rattle.gp_replay.specs.declared.fault.RunFault.TheVariants as run
 use Rattle.gp_report.specs.declared.status.TheConstants.{BAD_ARGUMENTS, BAD_INPUT, NOT_A_RUN, NOT_WRITTEN, OUT_OF_MEMORY, SUCCESS}
 use Rattle.gp_report.specs.Report.{arguments_line, code_status, memory_line, run_status, verify_status}
@@ -30,13 +31,15 @@ use Rattle.gp_command_line.specs.CommandLine.{IsFaultOf, IsParseOf}
 use Rattle.gp_command_line.specs.Requests.{Asks, AsksNothing}
 use Rattle.gp_audit.specs.declared.options.AuditOptions.{AuditOptions}
 use Rattle.gp_picture.specs.declared.options.PictureOptions.{PictureOptions}
-use Rattle.gp_options.specs.Options.{AuditsAs, DrawsAs, IsBadAudit, IsBadPicture}
+use Rattle.gp_waves.specs.declared.options.WavesOptions.{WavesOptions}
+use Rattle.gp_options.specs.Options.{AuditsAs, DrawsAs, DumpsAs, IsBadAudit, IsBadPicture, IsBadWaves}
 use Rattle.gp_options.specs.declared.bad_option.BadOption.{BadOption}
 use Rattle.gp_command_line.specs.declared.request.Audit.{Audit as WantedAudit}
 use Rattle.gp_command_line.specs.declared.request.Drawing.{Drawing}
+use Rattle.gp_command_line.specs.declared.request.Dumping.{Dumping}
 use Rattle.oltctl.specs.declared.auditing.Audited.{Audited}
 use Rattle.gp_command_line.specs.declared.request.Request.{Request}
-use Rattle.gp_command_line.specs.declared.request.Request.TheVariants.{Replay, Drive, Storm, Check, Verify, Audit, Picture, Decode, DecodeLines, Encode, EncodeLines, Explain}
+use Rattle.gp_command_line.specs.declared.request.Request.TheVariants.{Replay, Drive, Storm, Check, Verify, Audit, Picture, Waves, Decode, DecodeLines, Encode, EncodeLines, Explain}
 
 -- no status is greater
 abbrev pub greatest_status : ℕ
@@ -172,6 +175,18 @@ IsPictured wanted status =
     ⊎ ((options : PictureOptions) × DrawsAs wanted options
     × (outcome : Result ℕ ExplainFault) × (status ≡ told_status outcome))
 
+-- the status after a log was dumped, likewise
+abbrev pub waves_status : Result WavesSum ExplainFault → ℕ
+waves_status (Ok sum) = SUCCESS
+waves_status (Err fault) = explain_status fault
+
+-- the status after a log was to be dumped: an option can't be; or it is dumped as is asked for, likewise
+abbrev pub IsDumped : Dumping → ℕ → Type 0
+IsDumped wanted status =
+    ((bad : BadOption) × IsBadWaves wanted bad × (status ≡ BAD_ARGUMENTS))
+    ⊎ ((options : WavesOptions) × DumpsAs wanted options
+    × (outcome : Result WavesSum ExplainFault) × (status ≡ waves_status outcome))
+
 -- the status after files were checked, by whether all are scripts
 abbrev pub check_status : Result Bool ScriptCheckFault → ℕ
 check_status (Ok true) = SUCCESS
@@ -192,6 +207,7 @@ IsServed (Storm file play) status = IsStormed status
 IsServed (Verify wanted) status = IsVerified wanted.at_least status
 IsServed (Audit wanted) status = IsAudited wanted status
 IsServed (Picture wanted) status = IsPictured wanted status
+IsServed (Waves wanted) status = IsDumped wanted status
 IsServed (Decode code upstream mask names) status = IsDecoded code.now upstream mask names status
 IsServed (DecodeLines many direction mask names) status = AreDecoded status
 IsServed (EncodeLines upstream mask) status = AreEncoded status

@@ -1,7 +1,7 @@
 //! `oltctl`: plays a script and writes its trace, answers lines that ask for something, runs its events at once by
 //! threads and writes the totals, tells whether a trace is one of a correct line terminal, names each rule that a message
-//! of a log breaks, draws a log as a picture, writes a trace again with its codes in words or as a log, says in words
-//! which message a code is, and gives the code of a message in words.
+//! of a log breaks, draws a log as a picture or as waves, writes a trace again with its codes in words or as a log, says in
+//! words which message a code is, and gives the code of a message in words.
 //!
 //! Promise: what the words of a command line ask for is done, and each ending has its status (`main`). How they are read
 //! is `gp_command_line`'s.
@@ -31,6 +31,7 @@ mod reporting;
 mod telling;
 mod ticking;
 mod verifying;
+mod waving;
 
 use auditing::audit;
 use checking::check_files;
@@ -67,6 +68,7 @@ use std::thread::Threads;
 use telling::{drive_told, is_plain, play_so};
 use ticking::with_ticks;
 use verifying::verify;
+use waving::waves;
 
 /// Tells whether the trace alone is wanted of a replay, as it is.
 fn is_usual(play: Play) -> bool {
@@ -581,6 +583,7 @@ fn serve<R: AllocGlobal + Files + Print + Eprint + Input + Clock + Threads + Wai
         Request::Verify(wanted) => verify(rt, wanted),
         Request::Audit(wanted) => audit(rt, &wanted),
         Request::Picture(wanted) => picture(rt, &wanted),
+        Request::Waves(wanted) => waves(rt, &wanted),
         Request::Decode {
             code,
             upstream,

@@ -12,19 +12,21 @@ returns c =
     let names : AllNames = record {
       logs = drawn.0;
       picture = drawn.1;
+      waves = drawn.2;
       explain_format = explain.1;
       explain = explain.0;
       decode = decode.0;
       encode = encode.0;
     } in
     let are : AreAllNames names = record {
-      logs = drawn.2;
-      picture = drawn.3;
+      logs = drawn.3;
+      picture = drawn.4;
+      waves = drawn.5;
       explain_format = explain.3;
       explain = explain.2;
       decode = decode.1;
       encode = encode.1;
     } in
-    let first = added _ _ _ _ _ c.in_ok-subcommand.ensures c.in_ok-explain.ensures.local drawn.4 explain.4 in
+    let first = added _ _ _ _ _ c.in_ok-subcommand.ensures c.in_ok-explain.ensures.local drawn.6 explain.4 in
     let second = added _ _ _ _ _ c.in_ok-subcommand-2.ensures c.in_ok-decode.ensures.local first decode.2 in
     named c.subcommand-3.result names _ _ _ _ are c.subcommand-3.ensures c.in_ok-encode.ensures.local second encode.2 refl

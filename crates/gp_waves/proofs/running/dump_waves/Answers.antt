@@ -5,7 +5,7 @@ use Rattle.gp_waves.proofs.running.dump_waves.Goals as goal
 pub returns-in_err-write_rest-in-Ok : goal.returns-in_err-write_rest-in-Ok
 returns-in_err-write_rest-in-Ok g c =
     let o : IsOpened c.in_ok-dumper.dumper = record { lines = c.in_ok-dumper.ensures.lines; ended = c.in_ok-dumper.ensures.ended; begun = c.in_ok-dumper.ensures.written } in
-    unwritten_as _ _ _ _ _ c.in-Ok.field-0 c.in_ok-dumper.dumper c.run_lines.new.work c.write_rest.new.dumper c.in_err-write_rest-in-Ok.field-0 _ o c.in-Ok.ensures.ok
+    unwritten_as _ _ _ _ _ c.in-Ok.field-0 c.in_ok-dumper.dumper c.run_lines.new.work c.write_rest.new.dumper c.in_err-write_rest-in-Ok.field-0.0 _ o c.in-Ok.ensures.ok
     c.in_err-write_rest-in-Ok.ensures (search rules)
 
 pub returns-in-Ok : goal.returns-in-Ok
@@ -16,7 +16,7 @@ returns-in-Ok g c =
 pub returns-in_err-write_rest-in-Err-Read : goal.returns-in_err-write_rest-in-Err-Read
 returns-in_err-write_rest-in-Err-Read g c =
     let o : IsOpened c.in_ok-dumper.dumper = record { lines = c.in_ok-dumper.ensures.lines; ended = c.in_ok-dumper.ensures.ended; begun = c.in_ok-dumper.ensures.written } in
-    unwritten_at _ _ _ _ _ c.in-Err-Read.field-0 c.in_ok-dumper.dumper c.run_lines.new.work c.write_rest-in-Err-Read.new.dumper c.in_err-write_rest-in-Err-Read.field-0 _
+    unwritten_at _ _ _ _ _ c.in-Err-Read.field-0 c.in_ok-dumper.dumper c.run_lines.new.work c.write_rest-in-Err-Read.new.dumper c.in_err-write_rest-in-Err-Read.field-0.0 _
     c.in-Err-Read.field-0-is o c.in-Err-Read.ensures c.in_err-write_rest-in-Err-Read.ensures (search rules)
 
 pub returns-in-Err-Read : goal.returns-in-Err-Read

@@ -1,0 +1,110 @@
+//! A log that is written as a value change dump.
+ghost use Rattle.std.specs.Prelude.{◌≡◌};
+ghost use Rattle.oltctl.specs.Statuses.{IsDumped, waves_status};
+
+use crate::observed::{Observed, Seen};
+use crate::reporting::{refuse_option, report, report_at};
+use gp_command_line::Dumping;
+use gp_explain::{ExplainFault, NoLine};
+use gp_flow::LinesFault;
+use gp_options::waves_options;
+use gp_report::{BAD_INPUT, SUCCESS, explain_report};
+use gp_stream::{Sink, Source};
+use gp_waves::{WavesOptions, WavesSum, dump_waves};
+use std::io;
+use std::io::Read;
+use std::rt::Files;
+
+/// Dumps the log that a reader gives, to standard output.
+fn dump_from<R: AllocGlobal + Print, T: Read + Drop>(
+    rt: &R,
+    log: T,
+    options: &WavesOptions,
+) -> Result<WavesSum, ExplainFault> {
+    let mut source = Source::endless(log);
+    let mut sink = Sink::new(rt.alloc(), io::writer(rt))?;
+    dump_waves(rt.alloc(), options, &mut source, &mut sink)
+}
+
+/// Does so of the log of a file, or of standard input.
+fn dump_file<R: AllocGlobal + Files + Print + Input>(
+    rt: &R,
+    log: Option<&str>,
+    options: &WavesOptions,
+    seen: &mut Seen<'_>,
+) -> Result<WavesSum, ExplainFault> {
+    match log {
+        None => dump_from(rt, Observed::new(rt.reader(), seen), options),
+        Some(path) => match std::fs::open(rt, path) {
+            Ok(log) => dump_from(rt, Observed::new(log, seen), options),
+            Err(error) => {
+                seen.failed(&error);
+                Err(ExplainFault::Lines(LinesFault::Read))
+            }
+        },
+    }
+}
+
+/// Says which lines were not heard, and how many changes stand at a later time than theirs, if any do.
+fn tell_sum<R: Eprint>(rt: &R, sum: &WavesSum) {
+    let WavesSum { fallen, late, .. } = *sum;
+    if fallen > 0 {
+        let _ = eprintln!(rt; "oltctl: lines whose time falls, not heard: {fallen}");
+    }
+    if late > 0 {
+        let _ = eprintln!(rt;
+            "oltctl: changes of ports that are far behind, at a later time than theirs: {late}"
+        );
+    }
+}
+
+/// Says how dumping a log ended, with the number of the line that is none, and answers the exit status.
+fn end_waves<R: AllocGlobal + Eprint>(
+    rt: &R,
+    outcome: &Result<WavesSum, ExplainFault>,
+    seen: &Seen<'_>,
+) -> u8
+    ensures { result ≡ waves_status outcome.now }
+{
+    match outcome {
+        Ok(sum) => {
+            tell_sum(rt, sum);
+            SUCCESS
+        }
+        Err(fault) => match fault {
+            ExplainFault::Refused {
+                line,
+                why: NoLine::NotALine,
+            } => {
+                report_at(
+                    rt,
+                    ("oltctl: no line of a log or a trace", BAD_INPUT),
+                    *line,
+                )
+            }
+            ExplainFault::Refused {
+                line,
+                why: NoLine::TooLong,
+            } => { report_at(rt, explain_report(fault), *line) }
+            ExplainFault::Lines(LinesFault::Read) => seen.tell_unread(rt),
+            ExplainFault::Lines(_) => report(rt, explain_report(fault)),
+        },
+    }
+}
+
+/// Dumps a log, says how that ended, and answers the exit status.
+pub(crate) fn waves<R: AllocGlobal + Files + Print + Eprint + Input>(
+    rt: &R,
+    wanted: &Dumping<'_>,
+) -> u8
+    ensures { IsDumped wanted.now result }
+{
+    match waves_options(wanted) {
+        Err(option) => refuse_option(rt, option),
+        Ok(options) => {
+            let mut seen = Seen::new(wanted.log);
+            let outcome = dump_file(rt, wanted.log, &options, &mut seen);
+            end_waves(rt, &outcome, &seen)
+        }
+    }
+}
