@@ -38,10 +38,11 @@ class Activation(unittest.TestCase):
     def test_a_frame_sends_and_grants(self):
         with opened() as chassis:
             chassis.search()
-            answers = [chassis.frame() for _ in range(4)]
-            self.assertEqual(answers[0].sent.hex(), "ff01000000000000000000008a"[:0] + answers[0].sent.hex())
-            self.assertEqual(len(answers[0].sent), 13)
-            self.assertIn(Grant.SEARCH, [answer.grant for answer in answers])
+            answers = [chassis.frame() for _ in range(5)]
+            # Upstream_Overhead goes out three times, from the second frame on, and then the search window opens
+            overhead = bytes.fromhex("ff010000000000000000000058")
+            self.assertEqual([answer.sent for answer in answers], [None, overhead, overhead, overhead, None])
+            self.assertEqual([answer.grant for answer in answers], [Grant.NONE] * 4 + [Grant.SEARCH])
 
     def test_an_alloc_id_is_given(self):
         with opened() as chassis:

@@ -78,7 +78,7 @@ def library():
                 call.argtypes = arguments
                 call.restype = c.c_size_t if name == "wp_text" else c.c_uint32
         except (OSError, AttributeError) as error:
-            raise LibraryMissing(f"{place}: {error}") from error
+            raise LibraryMissing(str(error)) from error
         return loaded
     raise LibraryMissing(f"{NAME} was not found: tools/install PREFIX puts it into PREFIX/lib; WAGPISUD_LIBRARY names another"
                          " file")
