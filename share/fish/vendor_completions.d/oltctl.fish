@@ -54,6 +54,13 @@ complete -c oltctl -n '__fish_seen_subcommand_from picture' -l drift -r -d 'How 
 complete -c oltctl -n '__fish_seen_subcommand_from picture' -l midway -d 'The log begins in the middle; units count once they are heard to be assigned'
 complete -c oltctl -n '__fish_seen_subcommand_from picture' -l mask -x -a '0 85 0x55' -d 'What the check octet is XORed with [default: 0]'
 complete -c oltctl -n '__fish_seen_subcommand_from picture' -s h -l help -d 'Print help'
+complete -c oltctl -n __fish_use_subcommand -a waves -d ''
+complete -c oltctl -n '__fish_seen_subcommand_from waves' -f
+complete -c oltctl -n '__fish_seen_subcommand_from waves' -l from -r -d 'The first frame that is dumped; 0 if left out'
+complete -c oltctl -n '__fish_seen_subcommand_from waves' -l to -r -d 'The last frame that is dumped; that of LOG if left out'
+complete -c oltctl -n '__fish_seen_subcommand_from waves' -l midway -d 'The log begins in the middle; units count once they are heard to be assigned'
+complete -c oltctl -n '__fish_seen_subcommand_from waves' -l mask -x -a '0 85 0x55' -d 'What the check octet is XORed with [default: 0]'
+complete -c oltctl -n '__fish_seen_subcommand_from waves' -s h -l help -d 'Print help'
 complete -c oltctl -n __fish_use_subcommand -a explain -d 'Writes a trace again with its codes in words, line by line as it comes'
 complete -c oltctl -n '__fish_seen_subcommand_from explain' -l mask -x -a '0 85 0x55' -d 'What the check octet is XORed with [default: 0]'
 complete -c oltctl -n '__fish_seen_subcommand_from explain' -l time -d 'Puts its port\'s time before each line, in frames and milliseconds'
