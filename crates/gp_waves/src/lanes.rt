@@ -80,11 +80,11 @@ impl Unit {
         Unit::held(watch, serial).unwrap_or(Unit::without_onu(UnitState::Asking))
     }
 
-    /// Gives that of a unit that a message touched: one that asks goes on asking, unless it is disabled.
-    fn touched(self, watch: &PortWatch, serial: &Serial) -> Unit {
+    /// Gives that of a unit that a message touched: one that asks goes on asking, unless the message disables it.
+    fn touched(self, watch: &PortWatch, serial: &Serial, disables: bool) -> Unit {
         match Unit::held(watch, serial) {
             Some(unit) => unit,
-            None if self.state == UnitState::Asking && !watch.is_disabled(serial) => self,
+            None if self.state == UnitState::Asking && !disables => self,
             None => Unit::without_onu(UnitState::Removed),
         }
     }
@@ -210,11 +210,16 @@ impl Lanes {
         self.note(place, Unit::asking(watch, &serial))
     }
 
-    /// Notes that a message touched the unit of a lane.
-    pub(crate) fn touch(&mut self, watch: &PortWatch, place: u16) -> Option<LaneChanges> {
+    /// Notes that a message touched the unit of a lane, or disables it.
+    pub(crate) fn touch(
+        &mut self,
+        watch: &PortWatch,
+        place: u16,
+        disables: bool,
+    ) -> Option<LaneChanges> {
         let lane = *self.lanes.get(usize::from(place))?;
         let before = lane.unit.unwrap_or(Unit::without_onu(UnitState::Removed));
-        self.note(place, before.touched(watch, &lane.serial))
+        self.note(place, before.touched(watch, &lane.serial, disables))
     }
 
     /// Gives all that is known of the unit of a lane.

@@ -257,15 +257,16 @@ impl Port {
         }
     }
 
-    /// Tells what a unit does behind a message that touched it.
+    /// Tells what a unit does behind a message that touched it, or disables it.
     fn tell_one(
         &mut self,
         held: &mut Held,
         scope: &Scope,
         serial: Serial,
+        disables: bool,
     ) -> Result<(), WavesFault> {
         if let Some(place) = self.place_touched(serial)? {
-            let changes = self.lanes.touch(&self.watch, place);
+            let changes = self.lanes.touch(&self.watch, place, disables);
             scope.tell_lane(held, self.time, changes)?;
         }
         Ok(())
@@ -274,7 +275,7 @@ impl Port {
     /// Tells what all units do behind a message that touched all.
     fn tell_all(&mut self, held: &mut Held, scope: &Scope) -> Result<(), WavesFault> {
         for place in 0..self.lanes.count() {
-            let changes = self.lanes.touch(&self.watch, place);
+            let changes = self.lanes.touch(&self.watch, place, false);
             scope.tell_lane(held, self.time, changes)?;
         }
         Ok(())
@@ -290,10 +291,11 @@ impl Port {
         match touched {
             Touched::Nobody => Ok(()),
             Touched::Asks(serial) => self.tell_asking(held, scope, serial),
-            Touched::One(serial) => self.tell_one(held, scope, serial),
+            Touched::One(serial) => self.tell_one(held, scope, serial, false),
+            Touched::Disabled(serial) => self.tell_one(held, scope, serial, true),
             Touched::Two(before, serial) => {
-                self.tell_one(held, scope, before)?;
-                self.tell_one(held, scope, serial)
+                self.tell_one(held, scope, before, false)?;
+                self.tell_one(held, scope, serial, false)
             }
             Touched::All => self.tell_all(held, scope),
         }

@@ -12,6 +12,8 @@ pub(crate) enum Touched {
     Asks(Serial),
     /// One.
     One(Serial),
+    /// One that is disabled.
+    Disabled(Serial),
     /// One that gets an ONU-ID, and the one that holds it.
     Two(Serial, Serial),
     /// All.
@@ -39,7 +41,7 @@ fn touched_down(watch: &PortWatch, message: &Down) -> Touched {
         Down::RangingTime { onu, .. } | Down::Deactivate { onu } | Down::Popup { onu } => {
             holder(watch, *onu)
         }
-        Down::DisableSerial { serial } => Touched::One(*serial),
+        Down::DisableSerial { serial } => Touched::Disabled(*serial),
         _ => Touched::Nobody,
     }
 }

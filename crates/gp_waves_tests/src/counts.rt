@@ -212,3 +212,42 @@ fn codes_and_times(rt: HostRuntime) -> Result<(), ExplainFault> {
     }
     Ok(())
 }
+
+/// A unit that is disabled asks all the same, and asks on where a message to all comes; where it is disabled again, it
+/// is removed.
+const DISABLED: &'static str = "\
+1 down ff06ff41424344000000010055\n\
+2 down ff06ff41424344000000010055\n\
+3 down ff06ff41424344000000010055\n\
+4 up ff01414243440000000100002c 9000\n\
+5 down ff0c00000000000000000000c3\n\
+6 down ff0c00000000000000000000c3\n\
+7 down ff0c00000000000000000000c3\n\
+8 down ff06ff41424344000000010055\n\
+";
+
+#[test]
+fn a_unit_that_is_disabled(rt: HostRuntime) -> Result<(), ExplainFault> {
+    let dump = dumped(rt.alloc(), DISABLED, ALL)?;
+    assert!(rt; dump.text().contains("#500000\nb1111"));
+    assert!(rt;
+        dump.text()
+            .contains("b00000001 at0\nbz ao0\nbz ae0\nbz as\n#625000\n")
+    );
+    match parse(rt.alloc(), dump.text())? {
+        Some(parsed) => {
+            assert_eq!(rt; parsed.count("unit", "state", Wanted::Each), 2);
+            let last = parsed
+                .settings
+                .as_slice()
+                .iter()
+                .rev()
+                .find(|setting| { setting.variable.name == "state" });
+            assert!(rt;
+                last.is_some_and(|setting| setting.time == 1_000_000 && setting.value == "00000000")
+            );
+        }
+        None => assert!(rt; false),
+    }
+    Ok(())
+}
