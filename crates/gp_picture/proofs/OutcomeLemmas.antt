@@ -233,7 +233,7 @@ module _ {R W : Type 0} (from to : SourceState R) (before after : SinkState W) w
       → DrawsTrace from to before after (Err (Lines fault))
   unread faults.Read new s =
       let e = s.read refl in
-      (begun_all e.bytes e.said (silent_some e.begun opened e.said e.spoken) e.read e.written, s.failed refl)
+      (begun_all e.bytes e.said (silent (map (handed longest_line) (ended_lines e.bytes)) opened new e.said e.spoken) e.read e.written, s.failed refl)
   unread (faults.Line fault) new s =
       let e = s.fault fault refl in
       inl (begun_by fault e.bytes e.said (silent_some e.begun opened e.said e.spoken) e.read e.written)
