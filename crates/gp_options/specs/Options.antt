@@ -1,6 +1,6 @@
 -- What an audit and a picture judge by, and what of a log is shown, as is asked for, and the first option that can't be
 -- read (this profile's own rule).
-use Rattle.std.specs.Prelude.{◌≡◌, ◌<◌, ◌≤◌, ◌==◌, ℕ, ⊥, Bool, true, false, Option, None, Some, Result, Ok, Err, List, min, option_map, codes, if◌then◌else◌}
+use Rattle.std.specs.Prelude.{◌≡◌, ◌<◌, ◌≤◌, ℕ, Bool, true, false, Option, None, Some, Ok, Err, min, option_map, codes}
 use Rattle.std.specs.Borrow.{Bor}
 use Rattle.std.specs.Str.{bytes_eq}
 use Rattle.gp_observer.specs.declared.rule.Rule.{Rule}
