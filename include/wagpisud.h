@@ -14,8 +14,8 @@
  * thirteen octets, any number in a struct. Every function but wp_text returns a wp_status. Where that is not WP_DONE
  * the chassis is as it was, and nothing was written to what the caller passed.
  *
- * A shared library, for Python's ctypes and others that load one, is made of the two (KIT is the folder of `rt doc`'s
- * page):
+ * A shared library, for Python's ctypes and others that load one, is made of the two by `tools/install PREFIX`, as
+ * libwagpisud.so.1. By hand (KIT is the folder of `rt doc`'s page):
  *
  *     cc -shared -o libwagpisud.so -Wl,--whole-archive crates/gp_c/out/libgp_c.a \
  *         -Wl,--no-whole-archive KIT/c/liblibc_c.a */

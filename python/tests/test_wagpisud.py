@@ -1,4 +1,5 @@
 """Tests of the module: python3 -m unittest discover python/tests, with PYTHONPATH=python and WAGPISUD_LIBRARY."""
+import pickle
 import threading
 import unittest
 
@@ -82,7 +83,8 @@ class Refusals(unittest.TestCase):
                     call()
                 self.assertEqual(caught.exception.status, status)
                 self.assertIsInstance(caught.exception, wagpisud.Fault)
-                self.assertTrue(str(caught.exception))
+                self.assertRegex(str(caught.exception), r"\A[ -~]+\Z")
+                self.assertEqual(str(pickle.loads(pickle.dumps(caught.exception))), str(caught.exception))
             chassis.cut()
             self.assertEqual(chassis.frame().number, 1)
             self.assertEqual((chassis.counts().first_kept, chassis.counts().entries), (1, 2))
@@ -117,7 +119,17 @@ class Refusals(unittest.TestCase):
                 chassis.burst(0, ASKS[:12])
             with self.assertRaises(ValueError):
                 chassis.command(10)
+            for event in (wagpisud.Event(EventKind.COMMAND), wagpisud.Event(EventKind.BURST, at=5),
+                          wagpisud.Event(EventKind.BURST, at=-1, octets=ASKS), wagpisud.Event(256),
+                          wagpisud.Event(EventKind.COMMAND, command=259),
+                          wagpisud.Event(EventKind.COMMAND, command=Command.DEALLOC, serial=SERIAL, alloc=65_836)):
+                with self.assertRaises(ValueError):
+                    chassis.apply(event)
+            with self.assertRaises(ValueError):
+                chassis.burst(5, [256] * 13)
             self.assertEqual(chassis.counts().entries, 0)
+        with self.assertRaises(ValueError):
+            opened(overhead=[300] * 10)
 
     def test_another_thread_is_refused(self):
         with opened() as chassis:
@@ -178,7 +190,9 @@ class Serials(unittest.TestCase):
         self.assertEqual(wagpisud.serial_octets("4142434400000001"), b"ABCD\0\0\0\1")
         self.assertEqual(wagpisud.serial_text(b"ABCD\0\0\0\1"), SERIAL)
         self.assertEqual(wagpisud.serial_text(bytes(range(8))), "0001020304050607")
-        for wrong in ("ABCD0000000", "ABCD0000000G", b"ABCD"):
+        self.assertEqual(wagpisud.serial_text(b"AB12\0\0\0\1"), "AB1200000001")
+        self.assertEqual(wagpisud.serial_octets("AB1200000001"), b"AB12\0\0\0\1")
+        for wrong in ("ABCD0000000", "ABCD0000000G", "ab-d00000001", "    00000001", b"ABCD"):
             with self.assertRaises(ValueError):
                 wagpisud.serial_octets(wrong)
 

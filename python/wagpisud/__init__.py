@@ -2,17 +2,19 @@
 
     import wagpisud
 
-    with wagpisud.Chassis([wagpisud.Port(admit=["ABCD00000001"])], licences=1) as chassis:
+    with wagpisud.Chassis([wagpisud.Port(admit=["ABCD00000001"], cycles=1)], licences=1) as chassis:
         chassis.search()
-        answer = chassis.frame()            # each 125 microseconds; answer.sent goes out to the units
-        answer = chassis.burst(100_000, bytes.fromhex("ff01414243440000000100002c"))
+        for _ in range(5):
+            answer = chassis.frame()        # each 125 microseconds; answer.sent goes out to the units
+        answer = chassis.burst(100_000, bytes.fromhex("ff01414243440000000100002c"))  # Reply.FOUND
 
 Frames last 125 microseconds, delays are in bit times of 1.24416 Gbit/s upstream, serial numbers are texts as
 "ABCD00000001" or eight octets. What a call refuses is a `Fault`; that a port refuses a burst or a command is no fault but
 an answer, whose `reply` is `Reply.REFUSED`. A chassis is used on the thread that opened it.
 
-The shared library libwagpisud.so.1 is looked for where WAGPISUD_LIBRARY names it, then in the lib folders above this
-file (where `tools/install PREFIX` puts it), then where the system looks."""
+The shared library is the one that WAGPISUD_LIBRARY names, and no other; where that isn't set, a libwagpisud.so.1 in a
+folder above this file (`tools/install PREFIX` puts it into PREFIX/lib), and else where the system looks. It is loaded by
+the first call: LibraryMissing where it isn't found."""
 from wagpisud._chassis import Chassis, Port
 from wagpisud._faults import (ChassisClosed, EntryGone, Fault, JournalFull, LimitFault, LineFault, NoMemory, NoPort, NoUnit,
                               Status)

@@ -6,7 +6,8 @@ import threading
 from wagpisud._faults import must
 from wagpisud._library import (AnswerNumbers, CountNumbers, EventNumbers, Handle, PortSettings, SerialOctets, Settings,
                                UnitNumbers, library)
-from wagpisud._values import (Command, Counts, Entry, answer_of, event_numbers, event_of, octets_of, serial_struct, unit_of)
+from wagpisud._values import (Command, Counts, Entry, answer_of, event_numbers, event_of, fits, octets_of, serial_struct,
+                              unit_of)
 
 _NO_SERIAL = bytes(8)
 _LONGEST_LINE = 256
@@ -26,35 +27,31 @@ class Port:
     overhead: bytes = bytes(10)  # the octets of Upstream_Overhead, which are passed on unread
 
 
-def _fits(name, number, octets):
-    if not 0 <= number < 1 << 8 * octets:
-        raise ValueError(f"{name} is {number}, and not between 0 and {(1 << 8 * octets) - 1}")
-    return number
-
-
 def _port_settings(port):
     if len(port.overhead) != 10:
         raise ValueError(f"overhead has 10 octets, and not {len(port.overhead)}")
-    return PortSettings(teqd=_fits("teqd", port.teqd, 4), search_period=_fits("search_period", port.search_period, 4),
-                        admitted=len(port.admit), alloc_last=_fits("alloc_last", port.alloc_last, 2),
-                        quarantine=_fits("quarantine", port.quarantine, 2), is_masked=bool(port.is_masked),
-                        max_units=_fits("max_units", port.max_units, 1), cycles=_fits("cycles", port.cycles, 1),
-                        overhead=(c.c_uint8 * 10)(*port.overhead))
+    return PortSettings(teqd=fits("teqd", port.teqd, 4), search_period=fits("search_period", port.search_period, 4),
+                        admitted=len(port.admit), alloc_last=fits("alloc_last", port.alloc_last, 2),
+                        quarantine=fits("quarantine", port.quarantine, 2), is_masked=bool(port.is_masked),
+                        max_units=fits("max_units", port.max_units, 1), cycles=fits("cycles", port.cycles, 1),
+                        overhead=(c.c_uint8 * 10)(*bytes(port.overhead)))
 
 
 class Chassis:
     """A chassis of 1 to 16 ports. It is closed by `close`, or at the end of its `with`.
 
-    Each call raises RuntimeError on another thread than the one that opened it, ChassisClosed behind `close`, and NoPort
-    where the port isn't there; what else it may raise is said there. Nothing is changed by a call that raises."""
+    Each call raises RuntimeError on another thread than the one that opened it, ValueError where a number doesn't fit its
+    type in wagpisud.h, ChassisClosed behind `close`, and NoPort where the chassis has no such port; what else it may raise is
+    said there. Nothing is changed by a call that raises."""
 
     def __init__(self, ports, licences, journal_limit=4096):
         """Opens it, each port without units. `licences`, at most 4064, are the active units that it may have on all ports
-        together; `journal_limit`, 1 to 1,000,000, the entries that each port's journal keeps. LimitFault where a number is
-        outside its range or a serial number is admitted twice, ValueError where it isn't one."""
+        together; `journal_limit`, 1 to 1,000,000, the entries that each port's journal keeps. ValueError where a text is no
+        serial number or a number doesn't fit; LimitFault, which is a ValueError too, where a number is outside its range or a
+        serial number is admitted twice. NoMemory."""
         ports = list(ports)
         serials = [serial_struct(serial) for port in ports for serial in port.admit]
-        settings = Settings(_fits("licences", licences, 4), _fits("journal_limit", journal_limit, 4))
+        settings = Settings(fits("licences", licences, 4), fits("journal_limit", journal_limit, 4))
         self._library = library()
         self._handle = Handle()
         self._thread = threading.get_ident()
@@ -80,31 +77,32 @@ class Chassis:
 
     def frame(self, port=0):
         """A downstream frame of 125 microseconds begins. JournalFull, NoMemory."""
-        return self._answer("wp_frame", _fits("port", port, 1))
+        return self._answer("wp_frame", fits("port", port, 1))
 
     def burst(self, at, octets, port=0):
         """Thirteen octets arrive from a unit, `at` bit times after their grant: the whole measured round-trip delay, without
-        the unit's equalization delay. JournalFull, NoMemory; ValueError where they aren't thirteen."""
-        return self._answer("wp_burst", _fits("port", port, 1), _fits("at", at, 4), octets_of(octets))
+        the unit's equalization delay. JournalFull, NoMemory; ValueError where they aren't thirteen, or `at` doesn't fit."""
+        return self._answer("wp_burst", fits("port", port, 1), fits("at", at, 4), octets_of(octets))
 
     def command(self, command, serial=_NO_SERIAL, alloc=0, port=0):
         """The operator asks for something. SEARCH, ENABLE_ALL and POPUP_ALL look at no serial number, and DEALLOC alone at
-        an Alloc-ID. JournalFull, NoMemory; ValueError where the serial number isn't one."""
-        return self._answer("wp_command", _fits("port", port, 1), Command(command), serial_struct(serial),
-                            _fits("alloc", alloc, 2))
+        an Alloc-ID. JournalFull, NoMemory; ValueError where the serial number or the kind isn't one."""
+        return self._answer("wp_command", fits("port", port, 1), Command(command), serial_struct(serial),
+                            fits("alloc", alloc, 2))
 
     def search(self, port=0):
         """A search for units that have no ONU-ID."""
         return self.command(Command.SEARCH, port=port)
 
     def apply(self, event, port=0):
-        """What an `Event` tells happens: that of `entry`, or of `read_turn`. JournalFull, NoMemory."""
-        return self._answer("wp_apply", _fits("port", port, 1), event_numbers(event))
+        """What an `Event` tells happens: that of `entry`, or of `read_turn`. JournalFull, NoMemory; ValueError where it is no
+        event."""
+        return self._answer("wp_apply", fits("port", port, 1), event_numbers(event))
 
     def show(self, serial, port=0):
         """What the port knows of the active unit with this serial number. No entry is made. NoUnit."""
         numbers = UnitNumbers()
-        self._call("wp_show", _fits("port", port, 1), serial_struct(serial), c.byref(numbers))
+        self._call("wp_show", fits("port", port, 1), serial_struct(serial), c.byref(numbers))
         return unit_of(numbers)
 
     @property
@@ -117,25 +115,25 @@ class Chassis:
     def counts(self, port=0):
         """What is counted of a port."""
         numbers = CountNumbers()
-        self._call("wp_count", _fits("port", port, 1), c.byref(numbers))
+        self._call("wp_count", fits("port", port, 1), c.byref(numbers))
         return Counts(numbers.entries, numbers.first_kept, numbers.units, numbers.owed)
 
     def entry(self, number, port=0):
         """The entry that the port's journal keeps under this number. EntryGone."""
         event, answer = EventNumbers(), AnswerNumbers()
-        self._call("wp_entry", _fits("port", port, 1), _fits("number", number, 8), c.byref(event), c.byref(answer))
+        self._call("wp_entry", fits("port", port, 1), fits("number", number, 8), c.byref(event), c.byref(answer))
         return Entry(event_of(event), answer_of(answer))
 
     def line(self, number, port=0):
         """The same as a line of the trace, without its line feed: what `oltctl replay` writes and `oltctl verify` reads.
         EntryGone."""
         octets, length = c.create_string_buffer(_LONGEST_LINE), c.c_size_t()
-        self._call("wp_line", _fits("port", port, 1), _fits("number", number, 8), octets, len(octets), c.byref(length))
+        self._call("wp_line", fits("port", port, 1), fits("number", number, 8), octets, len(octets), c.byref(length))
         return octets.raw[:length.value].decode("ascii").rstrip("\n")
 
     def cut(self, port=0):
         """Lets go the entries that the port's journal keeps, so that it has room again. NoMemory."""
-        self._call("wp_cut", _fits("port", port, 1))
+        self._call("wp_cut", fits("port", port, 1))
 
     def close(self):
         """Gives all memory back."""

@@ -32,8 +32,11 @@ class Fault(Exception):
     """A call was refused, and changed nothing. `status` says why, and the text says it in words."""
 
     def __init__(self, status, about=""):
-        self.status = Status(status)
+        self.status, self._about = Status(status), about
         super().__init__(f"{_text(status)}{about}")
+
+    def __reduce__(self):
+        return type(self), (self.status, self._about)
 
 
 class ChassisClosed(Fault):
@@ -88,7 +91,8 @@ _KINDS = {
 
 def _text(status):
     words = c.create_string_buffer(64)
-    return words.raw[:library().wp_text(status, words, len(words))].decode("ascii")
+    length = library().wp_text(status, words, len(words))
+    return words.raw[:length].decode("ascii")
 
 
 def must(status, about=""):

@@ -92,27 +92,36 @@ class EventKind(enum.IntEnum):
     COMMAND = 2
 
 
-_SERIAL = re.compile(r"[\x20-\x7e]{4}[0-9A-Fa-f]{8}|[0-9A-Fa-f]{16}", re.ASCII)
+_SERIAL = re.compile(r"[A-Z0-9]{4}[0-9A-Fa-f]{8}|[0-9A-Fa-f]{16}", re.ASCII)
+_VENDOR = b"ABCDEFGHIJKLMNOPQRSTUVWXYZ0123456789"
+
+
+def fits(name, number, octets):
+    """The number, if so many octets hold it. ValueError where they don't."""
+    if not 0 <= number < 1 << 8 * octets:
+        raise ValueError(f"{name} is {number}, and not between 0 and {(1 << 8 * octets) - 1}")
+    return number
 
 
 def serial_octets(serial):
     """The eight octets of a serial number: of "ABCD00000001", of sixteen hexadecimal digits, or of eight octets.
-    ValueError for anything else."""
+    ValueError for any other text or number of octets."""
     if isinstance(serial, (bytes, bytearray)):
         if len(serial) != 8:
             raise ValueError(f"a serial number has 8 octets, and not {len(serial)}")
         return bytes(serial)
     if not _SERIAL.fullmatch(serial):
-        raise ValueError(f"{serial!r} is no serial number: four letters and eight hexadecimal digits, or sixteen digits")
+        raise ValueError(f"{serial!r} is no serial number: four of A to Z or 0 to 9 and eight hexadecimal digits, or sixteen"
+                         " hexadecimal digits")
     return bytes.fromhex(serial) if len(serial) == 16 else serial[:4].encode("ascii") + bytes.fromhex(serial[4:])
 
 
 def serial_text(octets):
-    """A serial number as traces write it: four capital letters and eight digits where its vendor is letters, else
+    """A serial number as traces write it: its vendor and eight digits where the vendor is four of A to Z or 0 to 9, else
     sixteen digits."""
     octets = bytes(octets)
     vendor, number = octets[:4], octets[4:]
-    if all(0x41 <= octet <= 0x5a for octet in vendor):
+    if all(octet in _VENDOR for octet in vendor):
         return vendor.decode("ascii") + number.hex().upper()
     return octets.hex().upper()
 
@@ -215,11 +224,17 @@ def octets_of(octets):
     """Thirteen octets as ctypes has them. ValueError where they are more or fewer."""
     if len(octets) != 13:
         raise ValueError(f"a burst has 13 octets, and not {len(octets)}")
-    return (c.c_uint8 * 13)(*octets)
+    return (c.c_uint8 * 13)(*bytes(octets))
 
 
 def event_numbers(event):
-    numbers = EventNumbers(at=event.at, alloc=event.alloc, kind=event.kind, command=event.command or 0)
+    kind = EventKind(event.kind)
+    if kind is EventKind.BURST and event.octets is None:
+        raise ValueError("a burst has 13 octets, and not none")
+    if kind is EventKind.COMMAND and event.command is None:
+        raise ValueError("an event of a command has a command")
+    numbers = EventNumbers(at=fits("at", event.at, 4), alloc=fits("alloc", event.alloc, 2), kind=kind,
+                           command=0 if event.command is None else Command(event.command))
     if event.octets is not None:
         numbers.octets = octets_of(event.octets)
     if event.serial is not None:

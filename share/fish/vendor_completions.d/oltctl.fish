@@ -32,7 +32,6 @@ complete -c oltctl -n '__fish_seen_subcommand_from verify' -l words -d 'Tells bo
 complete -c oltctl -n '__fish_seen_subcommand_from verify' -l format -x -a 'text json' -d 'How what was found is told; json: one object in all [default: text]'
 complete -c oltctl -n '__fish_seen_subcommand_from verify' -s h -l help -d 'Print help'
 complete -c oltctl -n __fish_use_subcommand -a audit -d 'Names each rule that a message of a log breaks, whoever logged it'
-complete -c oltctl -n '__fish_seen_subcommand_from audit' -f
 complete -c oltctl -n '__fish_seen_subcommand_from audit' -l teqd -r -d 'The equalized delay in bit times, 311040 if left out; PORT=T is that of a port'
 complete -c oltctl -n '__fish_seen_subcommand_from audit' -l drift -r -d 'How far a unit\'s delay may be from that of its ranging, in bit times; 8 if left out'
 complete -c oltctl -n '__fish_seen_subcommand_from audit' -l midway -d 'The log begins in the middle; units count once they are heard to be assigned'
@@ -45,8 +44,7 @@ complete -c oltctl -n '__fish_seen_subcommand_from audit' -l units -d 'Tells at 
 complete -c oltctl -n '__fish_seen_subcommand_from audit' -l format -x -a 'text json' -d 'How findings are told; json: one object a line [default: text]'
 complete -c oltctl -n '__fish_seen_subcommand_from audit' -l progress -d 'Tells once a second, on standard error, how far it is'
 complete -c oltctl -n '__fish_seen_subcommand_from audit' -s h -l help -d 'Print help'
-complete -c oltctl -n __fish_use_subcommand -a picture -d ''
-complete -c oltctl -n '__fish_seen_subcommand_from picture' -f
+complete -c oltctl -n __fish_use_subcommand -a picture -d 'Draws a log as a picture (SVG): a chart a port, a lane a unit'
 complete -c oltctl -n '__fish_seen_subcommand_from picture' -l from -r -d 'The first frame that is drawn; that of LOG if left out'
 complete -c oltctl -n '__fish_seen_subcommand_from picture' -l to -r -d 'The last frame that is drawn; that of LOG if left out'
 complete -c oltctl -n '__fish_seen_subcommand_from picture' -l teqd -r -d 'The equalized delay in bit times, 311040 if left out; PORT=T is that of a port'
@@ -54,8 +52,7 @@ complete -c oltctl -n '__fish_seen_subcommand_from picture' -l drift -r -d 'How 
 complete -c oltctl -n '__fish_seen_subcommand_from picture' -l midway -d 'The log begins in the middle; units count once they are heard to be assigned'
 complete -c oltctl -n '__fish_seen_subcommand_from picture' -l mask -x -a '0 85 0x55' -d 'What the check octet is XORed with [default: 0]'
 complete -c oltctl -n '__fish_seen_subcommand_from picture' -s h -l help -d 'Print help'
-complete -c oltctl -n __fish_use_subcommand -a waves -d ''
-complete -c oltctl -n '__fish_seen_subcommand_from waves' -f
+complete -c oltctl -n __fish_use_subcommand -a waves -d 'Writes a log as a value change dump (VCD): what is heard of each port and each unit'
 complete -c oltctl -n '__fish_seen_subcommand_from waves' -l from -r -d 'The first frame that is dumped; 0 if left out'
 complete -c oltctl -n '__fish_seen_subcommand_from waves' -l to -r -d 'The last frame that is dumped; that of LOG if left out'
 complete -c oltctl -n '__fish_seen_subcommand_from waves' -l midway -d 'The log begins in the middle; units count once they are heard to be assigned'
