@@ -1,0 +1,106 @@
+//! A script is judged by what stands beside it.
+use crate::outcome::{Failure, Outcome};
+use gp_check::{Purpose, placed_line};
+use gp_compare::{CompareFault, Compared, Difference, compare_play, compare_text};
+use gp_folder::Part;
+use gp_script::{Script, ScriptError, read_script};
+use gp_stream::Source;
+use std::alloc::{AllocError, Global};
+use std::io::Read;
+
+/// What a script is judged by.
+#[derive(Drop)]
+pub enum Expected<R: Read> {
+    /// Nothing: it can't pass.
+    Nothing,
+    /// The trace that it has to write.
+    Trace(Source<R>),
+    /// What is told of it, since it is wrong.
+    Faults(Source<R>),
+}
+
+/// What became of a script where something was not compared to its end.
+fn outcome_of_fault(alloc: Global, part: Part, fault: CompareFault) -> Result<Outcome, AllocError> {
+    match fault {
+        CompareFault::Read => {
+            let cause = String::from_str(alloc, "can't be read")?;
+            Ok(Outcome::Failed(Failure::Unread { part, cause }))
+        }
+        CompareFault::Write => Ok(Outcome::Failed(Failure::Stopped)),
+        CompareFault::OutOfMemory => Ok(Outcome::Failed(Failure::OutOfMemory)),
+    }
+}
+
+/// Plays a script beside the trace that it has to write.
+fn judge_play<R: Read + Drop>(
+    alloc: Global,
+    script: Script,
+    trace: Source<R>,
+) -> Result<Outcome, AllocError> {
+    match compare_play(alloc, script, trace) {
+        Ok(Compared::Same { lines }) => Ok(Outcome::Passed { lines }),
+        Ok(Compared::Differs(difference)) => {
+            Ok(Outcome::Failed(Failure::OtherTrace(difference)))
+        }
+        Err(fault) => outcome_of_fault(alloc, Part::Trace, fault),
+    }
+}
+
+/// What became of a script that is right.
+fn judge_script<R: Read + Drop>(
+    alloc: Global,
+    script: Script,
+    expected: Expected<R>,
+) -> Result<Outcome, AllocError> {
+    match expected {
+        Expected::Trace(trace) => judge_play(alloc, script, trace),
+        Expected::Faults(_) => Ok(Outcome::Failed(Failure::Right)),
+        Expected::Nothing => Ok(Outcome::Failed(Failure::NothingBeside)),
+    }
+}
+
+/// Compares what is told of a script that is wrong with what has to be told.
+fn judge_told<R: Read + Drop>(
+    alloc: Global,
+    told: &str,
+    faults: Source<R>,
+) -> Result<Outcome, AllocError> {
+    let line = format!(in alloc; "{told}\n")?;
+    match compare_text(alloc, line.as_bytes(), faults) {
+        Ok(None) => Ok(Outcome::Refused),
+        Ok(Some(difference)) => Ok(Outcome::Failed(Failure::OtherFault(difference))),
+        Err(fault) => outcome_of_fault(alloc, Part::Faults, fault),
+    }
+}
+
+/// What became of a script that is wrong, of which this is told.
+fn judge_wrong<R: Read + Drop>(
+    alloc: Global,
+    told: String,
+    expected: Expected<R>,
+) -> Result<Outcome, AllocError> {
+    match expected {
+        Expected::Trace(_) | Expected::Nothing => Ok(Outcome::Failed(Failure::Wrong { told })),
+        Expected::Faults(faults) => judge_told(alloc, told.as_str(), faults),
+    }
+}
+
+/// Judges a script by its octets, and by what is expected of it. It passes where its trace is as expected to the last
+/// octet, or where it is wrong, and what is told of that, as `oltctl check` tells it behind the file's name, is what is
+/// expected, with a line feed behind it.
+///
+/// Fails where memory for what is told was refused.
+pub fn judge<R: Read + Drop>(
+    alloc: Global,
+    octets: &[u8],
+    expected: Expected<R>,
+) -> Result<Outcome, AllocError> {
+    match read_script(alloc, octets) {
+        Ok(script) => judge_script(alloc, script, expected),
+        Err(ScriptError::OutOfMemory) => Err(AllocError),
+        Err(ScriptError::Fault(_)) => match placed_line(alloc, Purpose::Replay, octets)? {
+            Some(told) => judge_wrong(alloc, told, expected),
+            None => Ok(Outcome::Failed(Failure::Stopped)),
+        },
+    }
+}

@@ -1,0 +1,105 @@
+//! What became of a file, as a JSON object.
+use crate::outcome::{Failure, Outcome};
+use crate::verdict::{Verdict, path_of};
+use crate::words::{is_no_line, why};
+use gp_compare::{Difference, ShownLine};
+use gp_json::{push_quoted, quoted_text};
+use itoa::Buffer;
+use std::alloc::{AllocError, Global};
+use std::str;
+
+/// The fields of an object.
+#[derive(Drop)]
+struct Fields {
+    alloc: Global,
+    octets: Vec<u8>,
+}
+
+impl Fields {
+    /// Appends what is JSON as it stands.
+    fn plain(&mut self, text: &str) -> Result<(), AllocError> {
+        self.octets.extend_from_slice(text.as_bytes())
+    }
+
+    /// Appends a number.
+    fn number(&mut self, number: u64) -> Result<(), AllocError> {
+        let mut digits = Buffer::new();
+        self.octets
+            .extend_from_slice(digits.format(number).as_bytes())
+    }
+
+    /// Appends a text; where it is none in UTF-8, each octet of it that is no printable ASCII by its number.
+    fn text(&mut self, octets: &[u8]) -> Result<(), AllocError> {
+        match str::from_utf8(octets) {
+            Ok(text) => {
+                let quoted = quoted_text(self.alloc, text)?;
+                self.octets.extend_from_slice(quoted.as_slice())
+            }
+            Err(_) => push_quoted(&mut self.octets, octets),
+        }
+    }
+
+    /// Appends a line that is shown; null, where there is no such line.
+    fn shown(&mut self, line: &ShownLine) -> Result<(), AllocError> {
+        if is_no_line(line) {
+            return self.plain("null");
+        }
+        push_quoted(&mut self.octets, line.octets.as_slice())
+    }
+
+    /// Appends where two texts differ, and the line on both sides.
+    fn difference(&mut self, difference: &Difference) -> Result<(), AllocError> {
+        self.plain(",\"line\":")?;
+        self.number(difference.line)?;
+        self.plain(",\"octet\":")?;
+        self.number(difference.octet)?;
+        self.plain(",\"expected\":")?;
+        self.shown(&difference.expected)?;
+        self.plain(",\"got\":")?;
+        self.shown(&difference.got)
+    }
+
+    /// Appends why something did not pass.
+    fn failure(&mut self, failure: &Failure) -> Result<(), AllocError> {
+        let why = why(self.alloc, failure)?;
+        self.plain(",\"ok\":false,\"outcome\":\"failed\",\"why\":")?;
+        self.text(why.as_slice())?;
+        match failure {
+            Failure::OtherTrace(difference) | Failure::OtherFault(difference) => {
+                self.difference(difference)
+            }
+            _ => Ok(()),
+        }
+    }
+
+    /// Appends what became of a file.
+    fn outcome(&mut self, outcome: &Outcome) -> Result<(), AllocError> {
+        match outcome {
+            Outcome::Passed { lines } => {
+                self.plain(",\"ok\":true,\"outcome\":\"passed\",\"lines\":")?;
+                self.number(*lines)
+            }
+            Outcome::Refused => self.plain(",\"ok\":true,\"outcome\":\"refused\""),
+            Outcome::Written => self.plain(",\"ok\":true,\"outcome\":\"written\""),
+            Outcome::Failed(failure) => self.failure(failure),
+        }
+    }
+}
+
+/// Gives what became of a file as a JSON object, with a line feed behind it. Fails where memory was refused.
+///
+/// Its fields are `file`, `ok` and `outcome`, which is `passed`, `refused`, `written` or `failed`; of one that passed
+/// `lines`; of one that failed `why`, and where a line differs `line`, `octet`, `expected` and `got`, where null stands
+/// for the end.
+pub fn verdict_object(alloc: Global, verdict: &Verdict) -> Result<Vec<u8>, AllocError> {
+    let path = path_of(alloc, verdict.folder.as_str(), verdict.file.as_str())?;
+    let mut fields = Fields {
+        alloc,
+        octets: Vec::new(alloc),
+    };
+    fields.plain("{\"file\":")?;
+    fields.text(path.as_bytes())?;
+    fields.outcome(&verdict.outcome)?;
+    fields.plain("}\n")?;
+    Ok(fields.octets)
+}
