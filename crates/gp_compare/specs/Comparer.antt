@@ -1,17 +1,15 @@
 -- A writer that compares, and what it knows (this profile's own rule).
-use Rattle.std.specs.Prelude.{◌≡◌, ℕ, List, [], ◌++◌, Option, None, Some}
-use Rattle.std.specs.Io.KnownBytes.{Consumes}
-use Rattle.gp_stream.specs.Source.{SourceState, ReadsWhole}
+use Rattle.std.specs.Prelude.{◌≡◌, ℕ, ◌<◌, ◌≤◌, Bool, true, false, List, [], ◌++◌, length, take, Option, None, Some}
+use Rattle.std.specs.Io.KnownBytes.{Consumes, IsAtEnd}
 use Rattle.gp_compare.specs.declared.difference.Difference.{Difference}
 use Rattle.gp_compare.specs.declared.fault.CompareFault.{CompareFault}
 use Rattle.gp_compare.specs.Ahead.{AheadState}
 use Rattle.gp_compare.specs.Difference.{Differs}
 use Rattle.gp_compare.specs.Place.{PlaceState, behind, front}
+use Rattle.gp_compare.specs.Shown.{show, shown_view}
 
 -- a writer that compares
-pub record ComparerState (R : Type 0) : Type 0 where
-  -- what is expected, before anything was read of it
-  pub expected : SourceState R
+pub record ComparerState : Type 0 where
   -- all octets that it took
   pub taken : List ℕ
   -- where they are not as expected, if they aren't
@@ -19,26 +17,49 @@ pub record ComparerState (R : Type 0) : Type 0 where
   -- why nothing is known of what it takes, if so
   pub fault : Option CompareFault
 
--- what was taken is all that is expected, to the last octet, and no read failed
-pub record IsAll {R : Type 0} (expected : SourceState R) (taken : List ℕ) : Type 0 where
-  pub after : SourceState R
-  pub read : ReadsWhole expected after taken
+-- what was taken is all that is expected, to the last octet; where that is known, it is that
+pub record IsAll (expected : Option (List ℕ)) (taken : List ℕ) : Type 0 where
+  -- what is left of what is expected
+  pub after : Option (List ℕ)
+  pub read : Consumes expected after taken
+  pub end : IsAtEnd after
 
 -- how a text compares: it is all that is expected, or it differs
-abbrev pub ComparesAs : {R : Type 0} → SourceState R → List ℕ → Option Difference → Type 0
+abbrev pub ComparesAs : Option (List ℕ) → List ℕ → Option Difference → Type 0
 ComparesAs expected taken None = IsAll expected taken
 ComparesAs expected taken (Some difference) = Differs expected taken difference
 
+-- so many of the octets were taken, or none
+abbrev pub TakesCount : ComparerState → ComparerState → List ℕ → Option ℕ → Type 0
+TakesCount old new octets None = new.taken ≡ old.taken
+TakesCount old new octets (Some count) = (count ≤ length octets) × (new.taken ≡ old.taken ++ take count octets)
+
 -- ---- what stands inside
 
+-- octets come behind a difference, and are shown as far as the line is
+pub record ShowsBehind (old new : Difference) (octets : List ℕ) : Type 0 where
+  pub line : new.line ≡ old.line
+  pub octet : new.octet ≡ old.octet
+  pub expected : new.expected ≡ old.expected
+  pub got : shown_view new.got ≡ show (shown_view old.got) octets
+
+abbrev pub TakesBehind : Difference → Difference → List ℕ → Bool → Type 0
+TakesBehind old new octets true = ShowsBehind old new octets
+TakesBehind old new octets false = new ≡ old
+
 -- what was taken is as expected so far, and the rest of that is read ahead
-pub record IsSame {R : Type 0} (expected : SourceState R) (taken : List ℕ) (ahead : AheadState R) (place : PlaceState)
-    : Type 0 where
-  pub read : Consumes expected.remaining ahead.source.remaining (taken ++ ahead.rest)
+pub record IsSame {R : Type 0} (expected : Option (List ℕ)) (taken : List ℕ) (ahead : AheadState R)
+    (place : PlaceState) : Type 0 where
+  pub read : Consumes expected ahead.source.remaining (taken ++ ahead.rest)
   pub place : place ≡ behind front taken
 
-abbrev pub Knows : {R : Type 0} → Option CompareFault → Option Difference → SourceState R → List ℕ → AheadState R
+-- what was taken differs from what is expected in an octet that was taken
+pub record DiffersWithin (expected : Option (List ℕ)) (taken : List ℕ) (difference : Difference) : Type 0 where
+  pub differs : Differs expected taken difference
+  pub some : 0 < length differs.right
+
+abbrev pub Knows : {R : Type 0} → Option CompareFault → Option Difference → Option (List ℕ) → List ℕ → AheadState R
     → PlaceState → Type 0
 Knows (Some fault) difference expected taken ahead place = Unit {0}
 Knows None None expected taken ahead place = IsSame expected taken ahead place
-Knows None (Some difference) expected taken ahead place = Differs expected taken difference
+Knows None (Some difference) expected taken ahead place = DiffersWithin expected taken difference

@@ -1,7 +1,6 @@
 -- Where two texts differ the first time (this profile's own rule).
-use Rattle.std.specs.Prelude.{◌≡◌, ◌≢◌, ℕ, List, [], ◌∷◌, ◌++◌}
+use Rattle.std.specs.Prelude.{◌≡◌, ◌≢◌, ℕ, List, [], ◌∷◌, ◌++◌, Option}
 use Rattle.std.specs.Io.KnownBytes.{Consumes, IsAtEnd}
-use Rattle.gp_stream.specs.Source.{SourceState}
 use Rattle.gp_compare.specs.declared.difference.Difference.{Difference}
 use Rattle.gp_compare.specs.declared.shown.LineEnd.TheVariants as ends
 use Rattle.gp_compare.specs.Place.{PlaceState, behind, front, line_at, octet_at}
@@ -22,17 +21,18 @@ pub record ShowsBoth (place : PlaceState) (left right : List ℕ) (difference : 
   pub got : shown_view difference.got ≡ show (shown_at place) right
 
 -- what came is at first as expected, and then isn't
-pub record Differs {R : Type 0} (expected : SourceState R) (came : List ℕ) (difference : Difference) : Type 0 where
+pub record Differs (expected : Option (List ℕ)) (came : List ℕ) (difference : Difference) : Type 0 where
   -- what is the same
   pub common : List ℕ
   -- what is expected behind that, as far as it was read, and what came
   pub left : List ℕ
   pub right : List ℕ
-  pub after : SourceState R
-  pub read : Consumes expected.remaining after.remaining (common ++ left)
+  -- what is left of what is expected
+  pub after : Option (List ℕ)
+  pub read : Consumes expected after (common ++ left)
   pub got : came ≡ common ++ right
   pub other : HeadsDiffer left right
   pub shows : ShowsBoth (behind front common) left right difference
-  -- where nothing more is expected, or no more of the line is shown, the source is at its end
-  pub ended : left ≡ [] → IsAtEnd after.remaining
-  pub whole : difference.expected.end ≡ ends.Text → IsAtEnd after.remaining
+  -- where nothing more is expected, or the line that is shown has no end, nothing is left of it
+  pub ended : left ≡ [] → IsAtEnd after
+  pub whole : difference.expected.end ≡ ends.Text → IsAtEnd after

@@ -5,3 +5,4 @@ pub mod Place
 pub mod Playing
 pub mod Reading
 pub mod Shown
+pub mod Texts

@@ -8,7 +8,7 @@ pub record PlaceState : Type 0 where
   -- how many octets of the open line were passed
   pub octets : ℕ
   -- the first of them
-  pub open : List ℕ
+  pub shown : List ℕ
 
 -- how many octets of a line are shown at most
 abbrev pub max_shown : ℕ
@@ -20,18 +20,18 @@ counted n = min n (2 ^ 64 - 1)
 
 -- the front of a text
 abbrev pub front : PlaceState
-front = record { feeds = 0; octets = 0; open = [] }
+front = record { feeds = 0; octets = 0; shown = [] }
 
 -- behind a line feed
 abbrev pub behind_feed : PlaceState → PlaceState
-behind_feed place = record { feeds = counted (place.feeds + 1); octets = 0; open = [] }
+behind_feed place = record { feeds = counted (place.feeds + 1); octets = 0; shown = [] }
 
 -- behind octets of the open line
 abbrev pub behind_open : PlaceState → List ℕ → PlaceState
 behind_open place part = record {
   feeds = place.feeds;
   octets = counted (place.octets + length part);
-  open = take max_shown (place.open ++ part);
+  shown = take max_shown (place.shown ++ part);
 }
 
 -- behind an octet

@@ -20,19 +20,24 @@ show_octet octets octet =
     else if nat_lt (length octets) max_shown then record { octets = octets ++ octet ∷ []; end = ends.Text }
     else record { octets = octets; end = ends.More }
 
--- an octet comes
+-- an octet comes; behind a line that has ended, or of which no more is shown, it changes nothing
+abbrev pub show_by : LineEnd → List ℕ → ℕ → Shown
+show_by ends.Text octets octet = show_octet octets octet
+show_by ends.Feed octets octet = record { octets = octets; end = ends.Feed }
+show_by ends.More octets octet = record { octets = octets; end = ends.More }
+
 abbrev pub show_next : Shown → ℕ → Shown
-show_next (record { octets = octets; end = ends.Text }) octet = show_octet octets octet
-show_next shown octet = shown
+show_next shown octet = show_by shown.end shown.octets octet
 
 -- octets come, one after another
 abbrev pub show : Shown → List ℕ → Shown
 show shown [] = shown
 show shown (octet ∷ octets) = show (show_next shown octet) octets
 
--- the open line of a place, of which more was passed than is shown, or not
+-- what stands behind what is shown of a line of which so many octets were passed
+abbrev pub end_behind : ℕ → LineEnd
+end_behind octets = if nat_lt max_shown octets then ends.More else ends.Text
+
+-- the open line of a place
 abbrev pub shown_at : PlaceState → Shown
-shown_at place = record {
-  octets = place.open;
-  end = if nat_lt max_shown place.octets then ends.More else ends.Text;
-}
+shown_at place = record { octets = place.shown; end = end_behind place.octets }

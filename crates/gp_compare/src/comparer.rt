@@ -1,43 +1,65 @@
 //! The writer that compares.
+ghost use Rattle.std.specs.Prelude.{◌≡◌, ◌<◌, [], IfOk, None, Some, length};
+ghost use Rattle.gp_compare.specs.Comparer.{ComparesAs, TakesBehind, TakesCount};
+ghost use Rattle.gp_compare.specs.Difference.{Differs};
+ghost use Rattle.gp_compare.specs.Place.{behind, front};
+
 use crate::ahead::Ahead;
-use crate::difference::{Difference, difference_at};
+use crate::difference::Difference;
+use crate::expects::Expects;
 use crate::fault::CompareFault;
 use crate::place::Place;
+use crate::step::{Step, make_end, make_step};
 use crate::taken::Taken;
 use gp_stream::Source;
 use std::alloc::{AllocError, Global};
 use std::io;
 use std::io::{ErrorKind, Read, Write};
+use std::marker::{Model, PhantomData};
 
 /// A writer that reads what is expected beside what it takes. Behind the first octet that differs it takes no more than
-/// the rest of that line, as far as it is shown, and then every write fails.
+/// the rest of that line, as far as it is shown, and then every write fails. Once a read fails or memory is refused, every
+/// write fails too. Contracts see what it took, and where that differs; what is
+/// expected is `E`'s.
 #[derive(Drop)]
-pub struct Comparer<R: Read> {
+pub struct Comparer<E: Expects, R: Read> {
     alloc: Global,
     ahead: Ahead<R>,
     place: Place,
     difference: Option<Difference>,
     fault: Option<CompareFault>,
     taken: Taken,
+    of: PhantomData<E>,
 }
 
-/// Counts the octets at the front of two texts that are the same.
-fn common(one: &[u8], other: &[u8]) -> usize {
-    let count = one.len().min(other.len());
-    if one[..count] == other[..count] {
-        return count;
+impl<E: Expects, R: Read> Model for Comparer<E, R> {
+    ghost use Rattle.gp_compare.specs.Comparer.{ComparerState, Knows};
+
+    ghost Value = { ComparerState };
+
+    ghost view = { λ s. record { taken = s.taken.octets; difference = s.difference; fault = s.fault } };
+
+    ghost invariant = { λ s. Knows s.fault s.difference E.expected s.taken.octets s.ahead s.place };
+}
+
+/// Takes in what comes behind a difference, and tells whether it does: not where no more of the line is shown.
+fn take_behind(difference: &mut Difference, octets: &[u8]) -> Result<bool, AllocError>
+    ensures { IfOk result (TakesBehind difference.old difference.new octets.now) }
+{
+    if difference.got.is_whole() {
+        return Ok(false);
     }
-    one.iter()
-        .zip(other.iter())
-        .position(|(a, b)| a != b)
-        .unwrap_or(count)
+    difference.got.take(octets)?;
+    Ok(true)
 }
 
-impl<R: Read> Comparer<R> {
+impl<E: Expects, R: Read> Comparer<E, R> {
     /// Makes a comparer that took nothing. Takes memory for a block of what is expected.
     pub fn new(alloc: Global, expected: Source<R>) -> Result<Self, AllocError>
     where
         R: Drop,
+        requires { expected.remaining ≡ E.expected }
+        ensures { IfOk result (λ comparer. comparer ≡ record { taken = []; difference = None; fault = None }) }
     {
         let ahead = Ahead::new(alloc, expected)?;
         Ok(Comparer {
@@ -47,81 +69,104 @@ impl<R: Read> Comparer<R> {
             difference: None,
             fault: None,
             taken: Taken::new(),
+            of: PhantomData,
         })
     }
 
-    /// Takes octets that come behind the first that differs, and tells whether it does.
-    fn take_other(&mut self, bytes: &[u8]) -> bool {
+    /// How many lines were taken that are as expected, with their line feeds; of use only where all is.
+    pub fn lines(&self) -> u64
+        ensures { self.now.difference ≡ None → self.now.fault ≡ None → result ≡ (behind front self.now.taken).feeds }
+    {
+        self.place.lines()
+    }
+
+    /// Takes octets where all are as expected so far, and gives how many; None where that is not known any more.
+    fn take_more(&mut self, octets: &[u8]) -> Option<usize>
+        requires running { (self.old.fault ≡ None) × (self.old.difference ≡ None) }
+        requires some { 0 < length octets.now }
+        ensures { TakesCount self.old self.new octets.now result }
+    {
+        match make_step(self.alloc, &mut self.ahead, &mut self.place, octets) {
+            Ok(Step::Same(count)) => {
+                self.taken.note(&octets[..count]);
+                Some(count)
+            }
+            Ok(Step::Other(difference)) => {
+                self.difference = Some(difference);
+                self.taken.note(octets);
+                Some(octets.len())
+            }
+            Err(fault) => {
+                self.fault = Some(fault);
+                None
+            }
+        }
+    }
+
+    /// Takes octets that come behind a difference, and gives how many; None where it takes no more.
+    fn take_rest(&mut self, octets: &[u8]) -> Option<usize>
+        requires { self.old.fault ≡ None }
+        ensures { TakesCount self.old self.new octets.now result }
+    {
         let Some(difference) = &mut self.difference else {
-            return false;
+            return None;
         };
-        if difference.got.is_whole() {
-            return false;
-        }
-        match difference.got.take(bytes) {
-            Ok(()) => {
-                self.taken.note(bytes);
-                true
+        match take_behind(difference, octets) {
+            Ok(true) => {
+                self.taken.note(octets);
+                Some(octets.len())
             }
-            Err(_) => {
+            Ok(false) => None,
+            Err(AllocError) => {
                 self.fault = Some(CompareFault::OutOfMemory);
-                false
+                None
             }
         }
     }
 
-    /// Takes the octets at the front that are as expected, and gives their number.
-    fn take_same(&mut self, bytes: &[u8]) -> Result<usize, CompareFault> {
-        self.ahead.fill()?;
-        let count = common(bytes, self.ahead.rest());
-        self.place.pass(&bytes[..count])?;
-        self.ahead.pass(count);
-        self.taken.note(&bytes[..count]);
-        Ok(count)
-    }
-
-    /// Takes octets, and gives how many: those that are as expected, or all where the first of them isn't.
-    fn step(&mut self, bytes: &[u8]) -> Result<usize, CompareFault> {
-        let count = self.take_same(bytes)?;
-        if count > 0 {
-            return Ok(count);
+    /// Takes octets, and gives how many; None where it takes no more.
+    pub(crate) fn accept(&mut self, octets: &[u8]) -> Option<usize>
+        requires { 0 < length octets.now }
+        ensures { TakesCount self.old self.new octets.now result }
+    {
+        if self.fault.is_some() {
+            return None;
         }
-        let difference = difference_at(self.alloc, &self.place, &mut self.ahead)?;
-        self.difference = Some(difference);
-        Ok(0)
-    }
-
-    /// Reads on at the end of the text: what is expected has to end there too.
-    fn read_end(&mut self) -> Result<(), CompareFault> {
-        self.ahead.fill()?;
-        if self.ahead.rest().is_empty() {
-            return Ok(());
+        if self.difference.is_some() {
+            return self.take_rest(octets);
         }
-        let difference = difference_at(self.alloc, &self.place, &mut self.ahead)?;
-        self.difference = Some(difference);
-        Ok(())
+        self.take_more(octets)
     }
 
-    /// Ends the text, and tells where it is the first time not as expected, if it isn't. Fails where it was not compared
-    /// to its end.
-    pub fn end(mut self) -> Result<Option<Difference>, CompareFault>
+    /// Ends the text, and tells where it is the first time not as expected, if it isn't: if it is, all that is expected was
+    /// read. Fails where it was not compared to its end.
+    pub fn end(self) -> Result<Option<Difference>, CompareFault>
     where
         R: Drop,
+        ensures { IfOk result (ComparesAs E.expected self.taken) }
     {
-        if let Some(fault) = self.fault {
+        let Comparer {
+            alloc,
+            mut ahead,
+            place,
+            difference,
+            fault,
+            ..
+        } = self;
+        if let Some(fault) = fault {
             return Err(fault);
         }
-        if self.difference.is_none() {
-            self.read_end()?;
+        match difference {
+            None => make_end(alloc, &mut ahead, &place),
+            Some(difference) => Ok(Some(difference)),
         }
-        let Comparer { difference, .. } = self;
-        Ok(difference)
     }
 
     /// Tells of a text that was not handed in to its end where it is not as expected. Fails where that is not known.
     pub fn stop(self) -> Result<Difference, CompareFault>
     where
         R: Drop,
+        ensures { IfOk result (Differs E.expected self.taken) }
     {
         let Comparer {
             difference,
@@ -133,36 +178,21 @@ impl<R: Read> Comparer<R> {
         }
         difference.ok_or(CompareFault::Write)
     }
-
-    /// How many lines were passed that are as expected.
-    pub fn lines(&self) -> u64 {
-        self.place.lines()
-    }
 }
 
-impl<R: Read> Write for Comparer<R> {
+impl<E: Expects, R: Read> Write for Comparer<E, R> {
     ghost use Rattle.std.specs.Prelude.{Some};
 
-    ghost contents = { λ s. Some s.taken.octets };
+    ghost contents = { λ s. Some s.taken };
 
-    fn write(&mut self, bytes: &[u8]) -> io::Result<usize> {
-        if bytes.is_empty() {
+    fn write(&mut self, octets: &[u8]) -> io::Result<usize> {
+        if octets.is_empty() {
             return Ok(0);
         }
-        if self.fault.is_some() {
-            return Err(io::Error::from(ErrorKind::Other));
+        match self.accept(octets) {
+            Some(count) => Ok(count),
+            None => Err(io::Error::from(ErrorKind::Other)),
         }
-        if self.difference.is_none() {
-            match self.step(bytes) {
-                Ok(0) => {}
-                Ok(count) => return Ok(count),
-                Err(fault) => self.fault = Some(fault),
-            }
-        }
-        if self.take_other(bytes) {
-            return Ok(bytes.len());
-        }
-        Err(io::Error::from(ErrorKind::Other))
     }
 
     fn flush(&mut self) -> io::Result<()> {

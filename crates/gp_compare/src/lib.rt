@@ -7,9 +7,10 @@
 //! - `playing.rt`: `compare_play`, which plays a script beside the trace that it has to write.
 //! - `texts.rt`: `compare_text`, the same of a text that is at hand.
 //! - `comparer.rt`: `Comparer`, the writer that reads what is expected beside what it takes.
+//! - `step.rt`: how much of what comes is as expected, or the first octet that isn't.
 //! - `ahead.rt`: `Ahead`, a source of which a block is read ahead. `place.rt`: how far two texts are the same, by line
 //!   and octet. `shown.rt`: what is shown of a line. `difference.rt`: the first octet that differs.
-//! - `taken.rt`: the octets that a writer took, in contracts alone. `fault.rt`: why nothing was compared to its end.
+//! - `taken.rt`: the octets that a writer took, and `expects.rt`: what it is to take, both in contracts alone. `fault.rt`: why nothing was compared to its end.
 //!
 //! Where to make which change: how much of a line is shown is a number in `shown.rt` and in `specs/Shown.antt`; what a
 //! difference is stands in `specs/Difference.antt`, what is told of a play in `specs/Playing.antt`.
@@ -18,22 +19,22 @@
 mod ahead;
 mod comparer;
 mod difference;
+mod expects;
 mod fault;
 mod place;
 mod playing;
 mod shown;
+mod step;
 mod taken;
 mod texts;
 
 pub use ahead::Ahead;
 pub use comparer::Comparer;
 pub use difference::Difference;
+pub use expects::Expects;
 pub use fault::CompareFault;
 pub use place::Place;
 pub use playing::{Compared, compare_play};
 pub use shown::{LineEnd, MAX_SHOWN, ShownLine};
 pub use taken::Taken;
 pub use texts::compare_text;
-
-#[cfg(test)]
-mod tests;

@@ -1,5 +1,8 @@
 //! What is shown of a line.
-use memchr::memchr;
+ghost use Rattle.std.specs.Prelude.{◌≡◌, ◌≢◌, ◌≤◌, ◌↔◌, IfOk, IsTrue, OnOk, if◌then◌else◌, length};
+ghost use Rattle.gp_compare.specs.Place.{max_shown};
+ghost use Rattle.gp_compare.specs.Shown.{show, show_next, shown_view};
+
 use std::alloc::{AllocError, Global};
 
 /// How many octets of a line are shown at most.
@@ -29,43 +32,43 @@ pub struct ShownLine {
 }
 
 impl ShownLine {
-    /// Begins with a line of which these octets came, at most [`MAX_SHOWN`], and where `is_cut` more of them.
-    pub fn of(alloc: Global, octets: &[u8], is_cut: bool) -> Result<ShownLine, AllocError> {
-        let octets = Vec::from_slice(alloc, octets)?;
-        let end = if is_cut { LineEnd::More } else { LineEnd::Text };
-        Ok(ShownLine { octets, end })
-    }
-
     /// Tells whether what comes behind changes nothing of it.
-    pub fn is_whole(&self) -> bool {
-        self.end != LineEnd::Text
+    pub fn is_whole(&self) -> bool
+        ensures { IsTrue result ↔ (self.now.end ≢ LineEnd.Text) }
+    {
+        match self.end {
+            LineEnd::Text => false,
+            LineEnd::Feed | LineEnd::More => true,
+        }
     }
 
-    /// Takes in octets of the line, none of which is a line feed.
-    fn take_open(&mut self, part: &[u8]) -> Result<(), AllocError> {
-        let room = MAX_SHOWN - self.octets.len();
-        if part.len() > room {
-            self.octets.extend_from_slice(&part[..room])?;
+    /// Takes in what comes next of the text, an octet.
+    fn take_octet(&mut self, octet: u8) -> Result<(), AllocError>
+        ensures { OnOk result (shown_view self.new ≡ show_next (shown_view self.old) octet) }
+    {
+        match self.end {
+            LineEnd::Feed | LineEnd::More => return Ok(()),
+            LineEnd::Text => {}
+        }
+        if octet == LINE_FEED {
+            self.end = LineEnd::Feed;
+            return Ok(());
+        }
+        if self.octets.len() >= MAX_SHOWN {
             self.end = LineEnd::More;
             return Ok(());
         }
-        self.octets.extend_from_slice(part)
+        self.octets.push(octet)?;
+        Ok(())
     }
 
-    /// Takes in what comes next of the text.
-    pub fn take(&mut self, octets: &[u8]) -> Result<(), AllocError> {
-        if self.is_whole() {
-            return Ok(());
+    /// Takes in what comes next of the text. Where memory is refused, a part of it may be left out.
+    pub fn take(&mut self, octets: &[u8]) -> Result<(), AllocError>
+        ensures { OnOk result (shown_view self.new ≡ show (shown_view self.old) octets.now) }
+    {
+        'octets: for octet in octets {
+            self.take_octet(*octet)?;
         }
-        match memchr(LINE_FEED, octets) {
-            None => self.take_open(octets),
-            Some(at) => {
-                self.take_open(&octets[..at])?;
-                if self.end == LineEnd::Text {
-                    self.end = LineEnd::Feed;
-                }
-                Ok(())
-            }
-        }
+        Ok(())
     }
 }

@@ -1,33 +1,55 @@
 //! A text is compared with what is expected.
+ghost use Rattle.std.specs.Prelude.{◌≡◌, IfOk};
+ghost use Rattle.gp_compare.specs.Texts.{ComparesText, HandsIn};
+
 use crate::comparer::Comparer;
 use crate::difference::Difference;
+use crate::expects::Expects;
 use crate::fault::CompareFault;
 use gp_stream::Source;
 use std::alloc::Global;
-use std::io::{Read, Write};
+use std::io::Read;
+use std::marker::Brand;
 
 /// Hands a text in, and tells whether all of it was taken.
-fn hand_in<R: Read>(comparer: &mut Comparer<R>, text: &[u8]) -> bool {
+fn hand_in<E: Expects, R: Read>(comparer: &mut Comparer<E, R>, text: &[u8]) -> bool
+    ensures { HandsIn comparer.old.taken comparer.new.taken text.now result }
+{
     let mut at = 0;
     'writes: while at < text.len() {
-        match comparer.write(&text[at..]) {
-            Ok(count) if count > 0 => at += count,
+        match comparer.accept(&text[at..]) {
+            Some(count) if count > 0 => at += count,
             _ => return false,
         }
     }
     true
 }
 
-/// Compares a text with what a source gives, and tells where it is the first time not as expected, if it isn't.
-pub fn compare_text<R: Read + Drop>(
+/// Does what `compare_text` does, by an expectation that the caller picks.
+fn compare_by<E: Expects, R: Read + Drop>(
     alloc: Global,
     text: &[u8],
     expected: Source<R>,
-) -> Result<Option<Difference>, CompareFault> {
-    let mut comparer = Comparer::new(alloc, expected)?;
+) -> Result<Option<Difference>, CompareFault>
+    requires { expected.remaining ≡ E.expected }
+    ensures { IfOk result (ComparesText E.expected text.now) }
+{
+    let mut comparer = Comparer::<E, R>::new(alloc, expected)?;
     if hand_in(&mut comparer, text) {
         return comparer.end();
     }
     let difference = comparer.stop()?;
     Ok(Some(difference))
+}
+
+/// Compares a text with what a source gives, and tells where it is the first time not as expected, if it isn't: if it is,
+/// all that the source gives was read. Fails where that is not known.
+pub fn compare_text<R: Read + Drop>(
+    alloc: Global,
+    text: &[u8],
+    expected: Source<R>,
+) -> Result<Option<Difference>, CompareFault>
+    ensures { IfOk result (ComparesText expected.remaining text.now) }
+{
+    compare_by::<Brand, R>(alloc, text, expected)
 }

@@ -1,5 +1,6 @@
 -- How the name of a file says what it is (this profile's own rule).
-use Rattle.std.specs.Prelude.{◌≡◌, ℕ, ◌-◌, ◌+◌, nat_le, Bool, List, [], ◌++◌, Option, Some, None, codes, drop, length, take, if◌then◌else◌, ◌&&◌}
+use Rattle.std.specs.Prelude.{ℕ, ◌-◌, Bool, false, List, Option, None, Some, codes, drop, length, take, if◌then◌else◌}
+use Rattle.std.specs.Str.{bytes_eq}
 use Rattle.gp_folder.specs.declared.part.Part.{Part}
 use Rattle.gp_folder.specs.declared.part.Part.TheVariants as parts
 
@@ -9,6 +10,16 @@ ending parts.Script = codes ".toml"
 ending parts.Trace = codes ".trace"
 ending parts.Faults = codes ".faults"
 
--- the name of the file of this kind
-abbrev pub file_of : List ℕ → Part → List ℕ
-file_of name part = name ++ ending part
+-- a name without this at its end, where it ends so
+abbrev pub without : List ℕ → List ℕ → Option (List ℕ)
+without end file =
+    if bytes_eq (drop (length file - length end) file) end then Some (take (length file - length end) file) else None
+
+-- the name of a file of this kind without its ending; none where it is of another kind
+abbrev pub stem : Part → List ℕ → Option (List ℕ)
+stem part file = without (ending part) file
+
+-- it is this one
+abbrev pub is_named : List ℕ → Option (List ℕ) → Bool
+is_named name None = false
+is_named name (Some other) = bytes_eq other name

@@ -1,4 +1,9 @@
 //! A script is judged by what stands beside it.
+ghost use Rattle.std.specs.Prelude.{IfOk, string_bytes};
+ghost use Rattle.gp_script.specs.Playable.{IsPlayable};
+ghost use Rattle.gp_script.specs.View.{script_view};
+ghost use Rattle.gp_outcome.specs.Judging.{IsJudged, IsJudgedPlay, IsJudgedRight, IsJudgedTold, IsJudgedWrong, IsUncompared};
+
 use crate::outcome::{Failure, Outcome};
 use gp_check::{Purpose, placed_line};
 use gp_compare::{CompareFault, Compared, Difference, compare_play, compare_text};
@@ -20,7 +25,9 @@ pub enum Expected<R: Read> {
 }
 
 /// What became of a script where something was not compared to its end.
-fn outcome_of_fault(alloc: Global, part: Part, fault: CompareFault) -> Result<Outcome, AllocError> {
+fn outcome_of_fault(alloc: Global, part: Part, fault: CompareFault) -> Result<Outcome, AllocError>
+    ensures { IfOk result IsUncompared }
+{
     match fault {
         CompareFault::Read => {
             let cause = String::from_str(alloc, "can't be read")?;
@@ -36,7 +43,10 @@ fn judge_play<R: Read + Drop>(
     alloc: Global,
     script: Script,
     trace: Source<R>,
-) -> Result<Outcome, AllocError> {
+) -> Result<Outcome, AllocError>
+    requires { IsPlayable (script_view script) }
+    ensures { IfOk result (IsJudgedPlay (script_view script) trace.remaining) }
+{
     match compare_play(alloc, script, trace) {
         Ok(Compared::Same { lines }) => Ok(Outcome::Passed { lines }),
         Ok(Compared::Differs(difference)) => {
@@ -51,7 +61,10 @@ fn judge_script<R: Read + Drop>(
     alloc: Global,
     script: Script,
     expected: Expected<R>,
-) -> Result<Outcome, AllocError> {
+) -> Result<Outcome, AllocError>
+    requires { IsPlayable (script_view script) }
+    ensures { IfOk result (IsJudgedRight (script_view script) expected) }
+{
     match expected {
         Expected::Trace(trace) => judge_play(alloc, script, trace),
         Expected::Faults(_) => Ok(Outcome::Failed(Failure::Right)),
@@ -64,7 +77,9 @@ fn judge_told<R: Read + Drop>(
     alloc: Global,
     told: &str,
     faults: Source<R>,
-) -> Result<Outcome, AllocError> {
+) -> Result<Outcome, AllocError>
+    ensures { IfOk result (IsJudgedTold told.now faults.remaining) }
+{
     let line = format!(in alloc; "{told}\n")?;
     match compare_text(alloc, line.as_bytes(), faults) {
         Ok(None) => Ok(Outcome::Refused),
@@ -78,7 +93,9 @@ fn judge_wrong<R: Read + Drop>(
     alloc: Global,
     told: String,
     expected: Expected<R>,
-) -> Result<Outcome, AllocError> {
+) -> Result<Outcome, AllocError>
+    ensures { IfOk result (IsJudgedWrong (string_bytes told) expected) }
+{
     match expected {
         Expected::Trace(_) | Expected::Nothing => Ok(Outcome::Failed(Failure::Wrong { told })),
         Expected::Faults(faults) => judge_told(alloc, told.as_str(), faults),
@@ -94,7 +111,9 @@ pub fn judge<R: Read + Drop>(
     alloc: Global,
     octets: &[u8],
     expected: Expected<R>,
-) -> Result<Outcome, AllocError> {
+) -> Result<Outcome, AllocError>
+    ensures { IfOk result (IsJudged octets.now expected) }
+{
     match read_script(alloc, octets) {
         Ok(script) => judge_script(alloc, script, expected),
         Err(ScriptError::OutOfMemory) => Err(AllocError),

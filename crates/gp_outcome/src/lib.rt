@@ -30,6 +30,3 @@ pub use outcome::{Failure, Outcome};
 pub use tally::Tally;
 pub use verdict::{Verdict, path_of};
 pub use words::why;
-
-#[cfg(test)]
-mod tests;

@@ -1,4 +1,7 @@
 //! What became of a script.
+ghost use Rattle.std.specs.Prelude.{◌≡◌};
+ghost use Rattle.gp_outcome.specs.Tally as spec;
+
 use gp_compare::Difference;
 use gp_folder::Part;
 
@@ -48,7 +51,12 @@ pub enum Outcome {
 
 impl Outcome {
     /// Tells whether something is not as it has to be.
-    pub fn is_failed(&self) -> bool {
-        matches!(self, Outcome::Failed(_))
+    pub fn is_failed(&self) -> bool
+        ensures { result ≡ spec.is_failed self.now }
+    {
+        match self {
+            Outcome::Failed(_) => true,
+            Outcome::Passed { .. } | Outcome::Refused | Outcome::Written => false,
+        }
     }
 }

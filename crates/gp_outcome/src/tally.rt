@@ -1,4 +1,7 @@
 //! How many there were of each outcome.
+ghost use Rattle.std.specs.Prelude.{◌≡◌, IfOk, string_bytes};
+ghost use Rattle.gp_outcome.specs.Tally as spec;
+
 use crate::outcome::Outcome;
 use std::alloc::{AllocError, Global};
 
@@ -15,7 +18,9 @@ pub struct Tally {
 
 impl Tally {
     /// Nothing was counted.
-    pub fn new() -> Tally {
+    pub fn new() -> Tally
+        ensures { result ≡ spec.nothing }
+    {
         Tally {
             passed: 0,
             written: 0,
@@ -23,8 +28,10 @@ impl Tally {
         }
     }
 
-    /// Counts one more.
-    pub fn count(&mut self, outcome: &Outcome) {
+    /// Counts one more; no more are counted than 64 bits hold.
+    pub fn count(&mut self, outcome: &Outcome)
+        ensures { self.new ≡ spec.counted self.old outcome.now }
+    {
         match outcome {
             Outcome::Passed { .. } | Outcome::Refused => {
                 self.passed = self.passed.saturating_add(1);
@@ -35,7 +42,9 @@ impl Tally {
     }
 
     /// Gives the sum as a line, its line feed with it. Fails where memory was refused.
-    pub fn line(&self, alloc: Global) -> Result<String, AllocError> {
+    pub fn line(&self, alloc: Global) -> Result<String, AllocError>
+        ensures { IfOk result (λ line. string_bytes line ≡ spec.line_of self.now) }
+    {
         let passed = self.passed;
         let written = self.written;
         let failed = self.failed;
@@ -47,7 +56,9 @@ impl Tally {
     }
 
     /// Gives the sum as a JSON object, with a line feed behind it. Fails where memory was refused.
-    pub fn object(&self, alloc: Global) -> Result<String, AllocError> {
+    pub fn object(&self, alloc: Global) -> Result<String, AllocError>
+        ensures { IfOk result (λ object. string_bytes object ≡ spec.object_of self.now) }
+    {
         let passed = self.passed;
         let written = self.written;
         let failed = self.failed;

@@ -1,0 +1,100 @@
+-- What a comparer knows when more comes.
+use Rattle.std.proofs.Common.{◌≡◌, ◌<◌, ℕ, List, [], ◌∷◌, ◌++◌, Option, None, Some, refl, sym, ap, subst, ◌∙◌, take, length, arith, append_assoc, append-nil}
+use Rattle.std.specs.Io.KnownBytes.{Consumes, IsAtEnd}
+use Rattle.std.proofs.KnownBytes.{Consumes-nil, Consumes-trans}
+use Rattle.gp_compare.specs.declared.difference.Difference.{Difference}
+use Rattle.gp_compare.specs.declared.shown.LineEnd.TheVariants.{Text}
+use Rattle.gp_compare.specs.Ahead.{AheadState}
+use Rattle.gp_compare.specs.Comparer.{DiffersWithin, IsAll, IsSame, ShowsBehind}
+use Rattle.gp_compare.specs.Difference.{Differs, HeadsDiffer, ShowsBoth}
+use Rattle.gp_compare.specs.Place.{PlaceState, behind, front}
+use Rattle.gp_compare.specs.Reading.{IsEnd, IsOther, TakesSame}
+use Rattle.gp_compare.specs.Shown.{show, shown_at, shown_view}
+use Rattle.gp_compare.proofs.PlaceLemmas.{behind_append}
+use Rattle.gp_compare.proofs.ShownLemmas.{show_append}
+
+pub same_none : {R : Type 0} (known : Option (List ℕ)) (a : AheadState R) (p : PlaceState) → a.source.remaining ≡ known → a.rest ≡ [] → p ≡ front → IsSame known [] a p
+same_none known a p source rest place = record {
+  read = subst (λ (x : Option (List ℕ)). Consumes x a.source.remaining ([] ++ a.rest)) source (subst (λ (l : List ℕ). Consumes a.source.remaining a.source.remaining l) (sym rest) (Consumes-nil a.source.remaining));
+  place = place;
+}
+
+-- more was read
+read_on : {R : Type 0} (known : Option (List ℕ)) (taken : List ℕ) (a b : AheadState R) (p : PlaceState) (read : List ℕ) → IsSame known taken a p
+    → Consumes a.source.remaining b.source.remaining read → Consumes known b.source.remaining (taken ++ (a.rest ++ read))
+read_on known taken a b p read h consumed =
+    subst (λ (l : List ℕ). Consumes known b.source.remaining l) (append_assoc taken a.rest read)
+    (Consumes-trans known a.source.remaining b.source.remaining (taken ++ a.rest) read h.read consumed)
+
+pub same_more : {R : Type 0} (known : Option (List ℕ)) (taken noted octets : List ℕ) (a b : AheadState R) (p q : PlaceState) (count : ℕ) → IsSame known taken a p
+    → TakesSame a b p q octets count → noted ≡ taken ++ take count octets → IsSame known noted b q
+same_more known taken noted octets a b p q count h more note =
+    let all : taken ++ (a.rest ++ more.read) ≡ noted ++ b.rest =
+    ap (λ l. taken ++ l) more.rest ∙ sym (append_assoc taken (take count octets) b.rest) ∙ ap (λ l. l ++ b.rest) (sym note) in
+    record {
+      read = subst (λ (l : List ℕ). Consumes known b.source.remaining l) all (read_on known taken a b p more.read h more.consumed);
+      place = more.place ∙ ap (λ (x : PlaceState). behind x (take count octets)) h.place ∙ sym (behind_append front taken (take count octets)) ∙ ap (behind front) (sym note);
+    }
+
+-- the first octet that differs was taken, or nothing comes any more
+pub differs_first : {R : Type 0} (known : Option (List ℕ)) (taken noted octets : List ℕ) (a b : AheadState R) (p : PlaceState) (d : Difference) → IsSame known taken a p
+    → IsOther p a b octets d → noted ≡ taken ++ octets → Differs known noted d
+differs_first known taken noted octets a b p d h other note = record {
+  common = taken;
+  left = a.rest ++ other.shows.read;
+  right = octets;
+  after = b.source.remaining;
+  read = read_on known taken a b p other.shows.read h other.shows.consumed;
+  got = note;
+  other = other.other;
+  shows = subst (λ (x : PlaceState). ShowsBoth x (a.rest ++ other.shows.read) octets d) h.place other.shows.shows;
+  ended = other.ended;
+  whole = other.shows.whole;
+}
+
+pub differs_within : {R : Type 0} (known : Option (List ℕ)) (taken noted octets : List ℕ) (a b : AheadState R) (p : PlaceState) (d : Difference) → IsSame known taken a p
+    → IsOther p a b octets d → noted ≡ taken ++ octets → 0 < length octets → DiffersWithin known noted d
+differs_within known taken noted octets a b p d h other note some = record { differs = differs_first known taken noted octets a b p d h other note; some = some }
+
+heads_right : (left right more : List ℕ) → HeadsDiffer left right → 0 < length right → HeadsDiffer left (right ++ more)
+heads_right left [] more h some = absurd (omega arith)
+heads_right [] (b ∷ right) more h some = tt
+heads_right (a ∷ left) (b ∷ right) more h some = h
+
+longer : (xs ys : List ℕ) → 0 < length xs → 0 < length (xs ++ ys)
+longer [] ys some = absurd (omega arith)
+longer (x ∷ xs) ys some = omega arith
+
+-- more comes behind it
+pub differs_more : (known : Option (List ℕ)) (taken noted octets : List ℕ) (d e : Difference) → DiffersWithin known taken d → ShowsBehind d e octets → noted ≡ taken ++ octets
+    → DiffersWithin known noted e
+differs_more known taken noted octets d e h more note =
+    let old = h.differs in
+    record {
+      differs = record {
+        common = old.common;
+        left = old.left;
+        right = old.right ++ octets;
+        after = old.after;
+        read = old.read;
+        got = note ∙ ap (λ l. l ++ octets) old.got ∙ append_assoc old.common old.right octets;
+        other = heads_right old.left old.right octets old.other h.some;
+        shows = record {
+          line = more.line ∙ old.shows.line;
+          octet = more.octet ∙ old.shows.octet;
+          expected = ap shown_view more.expected ∙ old.shows.expected;
+          got = more.got ∙ ap (λ s. show s octets) old.shows.got ∙ sym (show_append (shown_at (behind front old.common)) old.right octets);
+        };
+        ended = old.ended;
+        whole = λ text. old.whole (ap (λ x. x.end) (sym more.expected) ∙ text);
+      };
+      some = longer old.right octets h.some;
+    }
+
+-- nothing comes any more, and nothing more is expected
+pub all_taken : {R : Type 0} (known : Option (List ℕ)) (taken : List ℕ) (a b : AheadState R) (p : PlaceState) → IsSame known taken a p → IsEnd a b → IsAll known taken
+all_taken known taken a b p h end = record {
+  after = b.source.remaining;
+  read = subst (λ (l : List ℕ). Consumes known b.source.remaining l) (ap (λ l. taken ++ l) end.none ∙ append-nil taken) (read_on known taken a b p end.read h end.consumed);
+  end = end.over.end;
+}

@@ -1,0 +1,13 @@
+use Rattle.std.proofs.Common.{◌≡◌, ◌<◌, ◌≤◌, [], length, arith, rules, ap, sym, subst, ◌∙◌}
+use Rattle.gp_compare.specs.Ahead.{Fills}
+use Rattle.gp_compare.proofs.AheadLemmas.{fills_none, fills_read, range_none, range_some}
+use Rattle.gp_compare.proofs.ahead.Ahead.fill.Goals as goal
+
+pub returns-then-self-clause-fills : goal.returns-then-self-clause-fills
+returns-then-self-clause-fills g c =
+    let view = c.self.view_is in
+    let high : c.self.inside.until ≤ length c.self.inside.block.items = search rules in
+    fills_none _ _ (λ none. range_some _ _ _ c.if-self.true high (ap (λ a. a.rest) view ∙ none))
+
+pub returns-in-Ok-clause-fills : goal.returns-in-Ok-clause-fills
+returns-in-Ok-clause-fills g c = ?

@@ -1,0 +1,6 @@
+pub mod Judging
+pub mod Junit
+pub mod Line
+pub mod Object
+pub mod Tally
+pub mod Words
