@@ -1,6 +1,7 @@
 -- The command line (this profile's own rule): `oltctl replay [--explain] [--progress] [FORM] [FILE]`, `oltctl drive
 -- [--explain] [--done] [FORM] FILE`, `oltctl storm [--explain] [--progress] [FILE]`, `oltctl check [--storm] [-q]
--- [--format text|json] FILE..`, `oltctl verify [--explain] [--at-least N] [--progress] [--words] [--format text|json]
+-- [--format text|json] FILE..`, `oltctl test [--jobs N] [--bless] [--junit FILE] [-q] [--format text|json] FOLDER..`,
+-- `oltctl verify [--explain] [--at-least N] [--progress] [--words] [--format text|json]
 -- FILE [TRACE]`, `oltctl audit [--teqd T].. [--drift D] [--midway] [--mask MASK] [--side terminal|units] [--only RULES]..
 -- [--without RULES].. [--words] [--units] [--format text|json] [--progress] [LOG]`, `oltctl picture [--from FRAME] [--to
 -- FRAME] [--teqd T].. [--drift D] [--midway] [--mask MASK] [LOG]`, `oltctl explain [--mask MASK] [FORM] [--log] [TRACE]`, `oltctl decode [--up] [--both] [--names]
@@ -57,6 +58,10 @@ format_rule names =
 -- FILE, one at least
 abbrev pub files_rule : Rule
 files_rule = record (new_rule (codes "files")) { value_names = 1; required = true; action = Some Append }
+
+-- FOLDER, one at least
+abbrev pub folders_rule : Rule
+folders_rule = record (new_rule (codes "folders")) { value_names = 1; required = true; action = Some Append }
 
 -- FILE, which may be left out
 abbrev pub file_rule : Rule
@@ -235,12 +240,25 @@ picture_judged masks = with_rule (with_rule picture_delays (flag_rule (codes "mi
 abbrev pub picture_command : MaskNames → App
 picture_command masks = with_rule (picture_judged masks) log_rule
 
+-- `test` with how many are played at once, and whether traces are written
+abbrev pub test_jobs : App
+test_jobs = with_rule (with_rule (new_app (codes "test")) (number_rule (codes "jobs"))) (flag_rule (codes "bless"))
+
+-- the same with how it is told
+abbrev pub test_form : FormatNames → App
+test_form names =
+    with_rule (with_rule (with_rule test_jobs (valued_rule (codes "junit"))) quiet_rule) (format_rule names)
+
+abbrev pub test_command : FormatNames → App
+test_command names = with_rule (test_form names) folders_rule
+
 -- the names of the formats, of the masks and of the sides of each command about scripts, lines, traces and logs that
 -- takes them
 pub record LogNames : Type 0 where
   pub replay : FormatNames
   pub drive : FormatNames
   pub check : FormatNames
+  pub test : FormatNames
   pub verify : FormatNames
   pub audit : MaskNames
   pub audit_side : SideNames
@@ -250,6 +268,7 @@ pub record AreLogNames (names : LogNames) : Type 0 where
   pub replay : AreFormats names.replay
   pub drive : AreFormats names.drive
   pub check : AreFormats names.check
+  pub test : AreFormats names.test
   pub verify : AreFormats names.verify
   pub audit : AreMasks names.audit
   pub audit_side : AreSides names.audit_side
@@ -289,15 +308,16 @@ abbrev pub line_commands : FormatNames → FormatNames → App
 line_commands replay drive = with_subcommand (script_commands replay) (drive_command drive).top
 
 -- the program as far as it is about scripts, lines and traces
-abbrev pub trace_commands : FormatNames → FormatNames → FormatNames → FormatNames → App
-trace_commands replay drive check verify =
-    with_subcommand (with_subcommand (line_commands replay drive) (check_command check).top)
+abbrev pub trace_commands : FormatNames → FormatNames → FormatNames → FormatNames → FormatNames → App
+trace_commands replay drive check test verify =
+    with_subcommand
+    (with_subcommand (with_subcommand (line_commands replay drive) (check_command check).top) (test_command test).top)
     (verify_command verify).top
 
 -- the program as far as it is about scripts, lines, traces and logs
 abbrev pub log_commands : LogNames → App
 log_commands names =
-    with_subcommand (trace_commands names.replay names.drive names.check names.verify)
+    with_subcommand (trace_commands names.replay names.drive names.check names.test names.verify)
     (audit_command names.audit names.audit_side names.audit_format).top
 
 -- the same with the command that draws

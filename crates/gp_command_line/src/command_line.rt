@@ -2,12 +2,12 @@
 ghost use Rattle.std.specs.Prelude.{◌≡◌, ◌≢◌, IfErr, IfOk, codes, false, map};
 ghost use Rattle.clap.specs.Words.{app_of, kind_of, rule_of};
 ghost use Rattle.clap.specs.declared.builder.command.Command.TheViews.{out-Command as fields_of};
-ghost use Rattle.gp_command_line.specs.CommandLine.{AllNames, AreAllNames, AreFormats, AreLogNames, AreMasks, AreSides, FormatNames, IsFaultOf, IsParseOf, LogNames, MaskNames, SideNames, at_least_rule, check_command, code_rule, files_rule, flag_rule, format_rule, audit_delays as spec_audit_delays, audit_form as spec_audit_form, audit_judged as spec_audit_judged, audit_rules as spec_audit_rules, audit_side as spec_audit_side, audit_told as spec_audit_told, explain_form as spec_explain_form, check_flags as spec_check_flags, decode_flags as spec_decode_flags, replay_flags as spec_replay_flags, verify_flags as spec_verify_flags, verify_form as spec_verify_form, with_form as spec_form, with_words as spec_words, audit_command, decode_command, drawn_commands, drift_rule, drive_command, number_rule, picture_command, picture_delays as spec_picture_delays, picture_frames as spec_picture_frames, picture_judged as spec_picture_judged, encode_command, explain_command, file_rule, line_commands, log_commands, log_rule, mask_rule, oltctl_command, quiet_rule, repeated_rule, replay_command, script_commands, script_rule, side_rule, storm_command, trace_commands, trace_rule, up_rule, verify_command, words_rule};
+ghost use Rattle.gp_command_line.specs.CommandLine.{AllNames, AreAllNames, AreFormats, AreLogNames, AreMasks, AreSides, FormatNames, IsFaultOf, IsParseOf, LogNames, MaskNames, SideNames, at_least_rule, check_command, code_rule, files_rule, flag_rule, folders_rule, valued_rule, format_rule, audit_delays as spec_audit_delays, audit_form as spec_audit_form, audit_judged as spec_audit_judged, audit_rules as spec_audit_rules, audit_side as spec_audit_side, audit_told as spec_audit_told, explain_form as spec_explain_form, check_flags as spec_check_flags, decode_flags as spec_decode_flags, replay_flags as spec_replay_flags, verify_flags as spec_verify_flags, verify_form as spec_verify_form, with_form as spec_form, with_words as spec_words, audit_command, decode_command, drawn_commands, drift_rule, drive_command, number_rule, picture_command, picture_delays as spec_picture_delays, picture_frames as spec_picture_frames, picture_judged as spec_picture_judged, encode_command, explain_command, file_rule, line_commands, log_commands, log_rule, mask_rule, oltctl_command, quiet_rule, repeated_rule, replay_command, script_commands, script_rule, test_command, test_form as spec_test_form, test_jobs as spec_test_jobs, side_rule, storm_command, trace_commands, trace_rule, up_rule, verify_command, words_rule};
 ghost use Rattle.std.specs.String.{string_bytes};
 
 use crate::help::{
     ABOUT_HELP, AUDIT_HELP, CHECK_HELP, DECODE_HELP, DRIVE_HELP, ENCODE_HELP, EXPLAIN_HELP,
-    PICTURE_HELP, REPLAY_HELP, STORM_HELP, VERIFY_HELP,
+    PICTURE_HELP, REPLAY_HELP, STORM_HELP, TEST_HELP, VERIFY_HELP,
 };
 use clap::error::ErrorKind;
 use clap::{Arg, ArgAction, ArgMatches, Command, Error, value_parser};
@@ -178,6 +178,80 @@ fn check<'a>(alloc: Global) -> Result<Command<'a>, AllocError>
     check_flags(alloc)?
         .arg(format(alloc, "How each file is told of; json: one object a file"))?
         .arg(files(alloc))
+}
+
+fn folders<'a>(alloc: Global) -> Arg<'a>
+    ensures rule { rule_of result ≡ folders_rule }
+    ensures local { result.global ≡ false }
+{
+    Arg::new(alloc, "folders")
+        .value_name("FOLDER")
+        .required(true)
+        .action(ArgAction::Append)
+        .help("The folders; each NAME.toml in one is a script, NAME.trace what it has to write")
+}
+
+/// Makes an option with a value.
+fn valued<'a>(alloc: Global, name: &'a str, value: &'a str, help: &'a str) -> Arg<'a>
+    ensures rule { rule_of result ≡ valued_rule name.entry.now }
+    ensures local { result.global ≡ false }
+{
+    Arg::new(alloc, name)
+        .long(name)
+        .value_name(value)
+        .help(help)
+}
+
+fn only_failed<'a>(alloc: Global) -> Arg<'a>
+    ensures rule { rule_of result ≡ quiet_rule }
+    ensures local { result.global ≡ false }
+{
+    flag(alloc, "quiet", "Tells only what failed, and no sum").short('q')
+}
+
+/// Begins `test`: how many at once, and whether traces are written.
+fn test_jobs<'a>(alloc: Global) -> Result<Command<'a>, AllocError>
+    ensures app { IfOk result (λ c. app_of c ≡ spec_test_jobs) }
+    ensures local { IfOk result (λ c. (fields_of c).has_globals ≡ false) }
+{
+    let jobs = number(
+        alloc,
+        "jobs",
+        "N",
+        "How many are played at once; as many as there are processors if left out",
+    );
+    let bless = flag(
+        alloc,
+        "bless",
+        "Writes NAME.trace where neither it nor NAME.faults is there",
+    );
+    Command::new(alloc, "test")
+        .about("Plays the scripts of folders and compares each with the trace beside it")
+        .after_help(TEST_HELP)
+        .arg(jobs)?
+        .arg(bless)
+}
+
+/// Adds how it is told.
+fn test_form<'a>(alloc: Global) -> Result<Command<'a>, AllocError>
+    ensures app { IfOk result (λ c. (names : FormatNames) × AreFormats names × (app_of c ≡ spec_test_form names)) }
+    ensures local { IfOk result (λ c. (fields_of c).has_globals ≡ false) }
+{
+    let junit = valued(alloc, "junit", "FILE", "Writes JUnit's XML to a file too");
+    test_jobs(alloc)?
+        .arg(junit)?
+        .arg(only_failed(alloc))?
+        .arg(format(
+            alloc,
+            "How each script is told of; json: one object a script, and one for the sum",
+        ))
+}
+
+fn test<'a>(alloc: Global) -> Result<Command<'a>, AllocError>
+    ensures app { IfOk result (λ c. (names : FormatNames) × AreFormats names × (app_of c ≡ test_command names)) }
+    ensures local { IfOk result (λ c. (fields_of c).has_globals ≡ false) }
+{
+    test_form(alloc)?.arg(folders(alloc))
 }
 
 fn driven<'a>(alloc: Global) -> Arg<'a>
@@ -643,11 +717,13 @@ fn of_lines<'a>(alloc: Global) -> Result<Command<'a>, AllocError>
 
 /// Makes the program's command line as far as it is about scripts, lines and traces.
 fn of_traces<'a>(alloc: Global) -> Result<Command<'a>, AllocError>
-    ensures { IfOk result (λ c. (replay drive check verify : FormatNames) × AreFormats replay × AreFormats drive
-        × AreFormats check × AreFormats verify × (app_of c ≡ trace_commands replay drive check verify)) }
+    ensures { IfOk result (λ c. (replay drive check test verify : FormatNames) × AreFormats replay × AreFormats drive
+        × AreFormats check × AreFormats test × AreFormats verify
+        × (app_of c ≡ trace_commands replay drive check test verify)) }
 {
     of_lines(alloc)?
         .subcommand(check(alloc)?)?
+        .subcommand(test(alloc)?)?
         .subcommand(verify(alloc)?)
 }
 

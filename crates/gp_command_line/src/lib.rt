@@ -16,5 +16,5 @@ mod request;
 
 pub use command_line::{VERSION, parse};
 pub use request::{
-    Audit, Drawing, Explanation, Play, Request, StormPlay, Told, Verification, request_of,
+    Audit, Drawing, Explanation, Play, Request, StormPlay, Testing, Told, Verification, request_of,
 };

@@ -36,13 +36,13 @@ fills_none a x some = record {
 pub fills_read : {R T E F : Type 0} (a : AheadState R) (new : SourceState R) (buffer : List ℕ) (count : ℕ) (x : T) → a.rest ≡ [] → a.source.failed ≡ false
     → Reads {E = F} a.source new buffer (Ok count) → 0 < length buffer → Fills {T = T} {E = E} a (record { source = new; rest = slice_range buffer 0 count }) (Ok x)
 fills_read a new buffer count x none unfailed reads some =
-    let whole : slice_range buffer 0 count ≡ take count buffer = ap (λ (n : ℕ). take n buffer) (omega arith) in
+    let zero : count - 0 ≡ count = omega arith in
+    let whole : slice_range buffer 0 count ≡ take count buffer = ap (λ (n : ℕ). take n buffer) zero in
     record {
       octets = take count buffer;
       reads = record { consumed = reads.bytes.0; rest = whole ∙ sym (ap (λ l. l ++ take count buffer) none) };
       over = λ empty.
-          let zero : length (take count buffer) ≡ 0 = ap length (sym whole ∙ empty) in
-          let least : min count (length buffer) ≡ 0 = sym (length-take count buffer) ∙ zero in
+          let least : min count (length buffer) ≡ 0 = sym (length-take count buffer) ∙ ap length (sym whole ∙ empty) in
           let end : count ≡ 0 = omega arith in
           record { rest = empty; unfailed = reads.failed ∙ ap (λ b. b || false) unfailed; end = reads.bytes.1 end some };
     }

@@ -5,7 +5,8 @@ use Rattle.std.proofs.KnownBytes.{Consumes-nil, Consumes-trans}
 use Rattle.gp_compare.specs.declared.difference.Difference.{Difference}
 use Rattle.gp_compare.specs.declared.shown.LineEnd.TheVariants.{Text}
 use Rattle.gp_compare.specs.Ahead.{AheadState}
-use Rattle.gp_compare.specs.Comparer.{DiffersWithin, IsAll, IsSame, ShowsBehind}
+use Rattle.gp_compare.specs.declared.fault.CompareFault.{CompareFault}
+use Rattle.gp_compare.specs.Comparer.{DiffersWithin, IsAll, IsSame, Knows, ShowsBehind}
 use Rattle.gp_compare.specs.Difference.{Differs, HeadsDiffer, ShowsBoth}
 use Rattle.gp_compare.specs.Place.{PlaceState, behind, front}
 use Rattle.gp_compare.specs.Reading.{IsEnd, IsOther, TakesSame}
@@ -98,3 +99,17 @@ all_taken known taken a b p h end = record {
   read = subst (λ (l : List ℕ). Consumes known b.source.remaining l) (ap (λ l. taken ++ l) end.none ∙ append-nil taken) (read_on known taken a b p end.read h end.consumed);
   end = end.over.end;
 }
+
+-- ---- what is known, by what was found so far
+
+pub known_same : {R : Type 0} (fault : Option CompareFault) (difference : Option Difference) (known : Option (List ℕ)) (taken : List ℕ) (a : AheadState R) (p : PlaceState)
+    → fault ≡ None → difference ≡ None → Knows fault difference known taken a p → IsSame known taken a p
+known_same None None known taken a p none no h = h
+known_same None (Some d) known taken a p none no h = absurd (cc)
+known_same (Some fault) difference known taken a p none no h = absurd (cc)
+
+pub known_within : {R : Type 0} (fault : Option CompareFault) (difference : Option Difference) (d : Difference) (known : Option (List ℕ)) (taken : List ℕ) (a : AheadState R) (p : PlaceState)
+    → fault ≡ None → difference ≡ Some d → Knows fault difference known taken a p → DiffersWithin known taken d
+known_within None None d known taken a p none some h = absurd (cc)
+known_within None (Some e) d known taken a p none some h = subst (λ (x : Difference). DiffersWithin known taken x) (cc) h
+known_within (Some fault) difference d known taken a p none some h = absurd (cc)

@@ -1,5 +1,7 @@
 pub mod AheadLemmas
 pub mod ComparerLemmas
 pub mod PlaceLemmas
+pub mod PlayingLemmas
 pub mod ReadingLemmas
 pub mod ShownLemmas
+pub mod TextLemmas

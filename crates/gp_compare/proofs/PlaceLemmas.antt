@@ -68,10 +68,10 @@ behind_last p rest h none = behind_part rest p h (none_found rest none)
 -- as many octets are appended as there is room for
 pub shown_more : (s part : List ℕ) (count : ℕ) → length s ≤ max_shown → count ≡ min (length part) (max_shown - length s) → s ++ take count part ≡ take max_shown (s ++ part)
 shown_more s part count short least =
-    let room : ℕ = max_shown - length s in
-    let all : length s + room ≡ max_shown = omega arith in
-    let same : count ≡ min room (length part) = omega arith in
-    ap (λ l. s ++ l) (ap (λ (n : ℕ). take n part) same ∙ take_min room part) ∙ sym (take-append-add s part room) ∙ ap (λ (n : ℕ). take n (s ++ part)) all
+    let all : length s + (max_shown - length s) ≡ max_shown = omega arith in
+    let same : count ≡ min (max_shown - length s) (length part) = omega arith in
+    ap (λ (l : List ℕ). s ++ l) (ap (λ (n : ℕ). take n part) same ∙ take_min (max_shown - length s) part)
+    ∙ sym (take-append-add s part (max_shown - length s)) ∙ ap (λ (n : ℕ). take n (s ++ part)) all
 
 pub opened : (f o p : ℕ) (s t part : List ℕ) → p ≡ counted (o + length part) → t ≡ take max_shown (s ++ part)
     → ◌≡◌ {A = PlaceState} (record { feeds = f; octets = p; shown = t }) (behind_open (record { feeds = f; octets = o; shown = s }) part)

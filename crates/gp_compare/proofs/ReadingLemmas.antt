@@ -7,9 +7,10 @@ use Rattle.gp_compare.specs.declared.difference.Difference.{Difference}
 use Rattle.gp_compare.specs.declared.shown.LineEnd.TheVariants.{Text}
 use Rattle.gp_compare.specs.Ahead.{AheadState, IsOver, ReadsOn}
 use Rattle.gp_compare.specs.Difference.{HeadsDiffer, ShowsBoth}
-use Rattle.gp_compare.specs.Place.{PlaceState, behind}
+use Rattle.gp_compare.specs.declared.shown.ShownLine.{ShownLine}
+use Rattle.gp_compare.specs.Place.{PlaceState, behind, line_at, octet_at}
 use Rattle.gp_compare.specs.Reading.{IsCommon, IsOther, Showing, ShowsHere, ShowsRest, TakesSame}
-use Rattle.gp_compare.specs.Shown.{Shown, show}
+use Rattle.gp_compare.specs.Shown.{Shown, show, shown_at, shown_view}
 use Rattle.gp_compare.proofs.ShownLemmas.{show_append, show_whole}
 
 pub keeps_consumes : (a b : Option (List ℕ)) → Keeps a b → Consumes a b []
@@ -118,4 +119,23 @@ takes_same a b c p q octets count read reads over common place rest source = rec
       let all : c.rest ≡ b.rest = rest ∙ ap (λ n. drop n b.rest) none in
       let end : IsOver b = over (sym all ∙ empty) in
       record { rest = empty; unfailed = ap (λ x. x.failed) source ∙ end.unfailed; end = subst IsAtEnd (ap (λ x. x.remaining) (sym source)) end.end };
+}
+
+-- both lines are shown at a place
+pub shows_here : {R : Type 0} (a b : AheadState R) (p : PlaceState) (came : List ℕ) (e f g h : ShownLine) (line octet : ℕ) → shown_view e ≡ shown_at p → ShowsRest a b (shown_view e) (shown_view f)
+    → shown_view g ≡ shown_at p → shown_view h ≡ show (shown_view g) came → line ≡ line_at p → octet ≡ octet_at p
+    → ShowsHere p a b came (record { line = line; octet = octet; expected = f; got = h })
+shows_here a b p came e f g h line octet first rest second more at of = record {
+  shown = record {
+    read = rest.read;
+    consumed = rest.consumed;
+    shows = record {
+      line = at;
+      octet = of;
+      expected = rest.shows ∙ ap (λ (s : Shown). show s (a.rest ++ rest.read)) first;
+      got = more ∙ ap (λ (s : Shown). show s came) second;
+    };
+    whole = rest.whole;
+  };
+  kept = rest.kept;
 }

@@ -42,7 +42,7 @@ pub record PlaysOther (script : ScriptView) (expected : Option (List ℕ)) (diff
 abbrev pub ComparesPlayed : Option (List ℕ) → ComparerState → Result (Unit {0}) PlayFault → Compared → Type 0
 ComparesPlayed expected comparer played (compared.Same lines) =
     (played ≡ Ok (tt {0})) × IsAll expected comparer.taken
-    × (comparer.difference ≡ None → comparer.fault ≡ None → lines ≡ (behind front comparer.taken).feeds)
+    × (lines ≡ (behind front comparer.taken).feeds)
 ComparesPlayed expected comparer played (compared.Differs difference) = Differs expected comparer.taken difference
 
 -- how the trace of a play compares

@@ -143,7 +143,8 @@ impl<E: Expects, R: Read> Comparer<E, R> {
     pub fn end(self) -> Result<Option<Difference>, CompareFault>
     where
         R: Drop,
-        ensures { IfOk result (ComparesAs E.expected self.taken) }
+        ensures compares { IfOk result (ComparesAs E.expected self.taken) }
+        ensures same { IfOk result (λ end. end ≡ None → (self.difference ≡ None) × (self.fault ≡ None)) }
     {
         let Comparer {
             alloc,

@@ -107,6 +107,7 @@ fn judge_wrong<R: Read + Drop>(
 /// expected, with a line feed behind it.
 ///
 /// Fails where memory for what is told was refused.
+#[tactic(auto, using(crate::proofs::JudgingLemmas::right_judged, crate::proofs::JudgingLemmas::wrong_judged))]
 pub fn judge<R: Read + Drop>(
     alloc: Global,
     octets: &[u8],

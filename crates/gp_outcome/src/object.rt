@@ -36,6 +36,7 @@ impl Fields {
     }
 
     /// Appends a text; where it is none in UTF-8, each octet of it that is no printable ASCII by its number.
+    #[tactic(auto, using(crate::proofs::ObjectLemmas::text_utf8, crate::proofs::ObjectLemmas::text_other))]
     fn text(&mut self, octets: &[u8]) -> Result<(), AllocError>
         ensures { OnOk result (self.new.octets.items ≡ self.old.octets.items ++ spec.text_of octets.now) }
     {

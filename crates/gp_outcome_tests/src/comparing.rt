@@ -34,6 +34,7 @@ fn told(alloc: Global, difference: Option<Difference>) -> Result<String, AllocEr
 }
 
 /// What is expected, what comes, and what is told of the two.
+#[derive(Clone, Copy)]
 struct Case(&'static str, &'static str, &'static str);
 
 const CASES: [Case; 17] = [
@@ -59,7 +60,8 @@ const CASES: [Case; 17] = [
 #[test]
 fn the_first_line_that_differs_is_told(rt: HostRuntime) -> Result<(), Fail> {
     let alloc = rt.alloc();
-    for Case(expected, came, wanted) in CASES {
+    for case in &CASES {
+        let Case(expected, came, wanted) = *case;
         let difference = compare_text(alloc, came.as_bytes(), Source::new(expected.as_bytes()))?;
         assert_eq!(rt;
             told(alloc, difference)?.as_str(),

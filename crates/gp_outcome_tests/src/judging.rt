@@ -14,6 +14,7 @@ const TRACE: &str = "0 0 frame = ok\n0 1 frame = ok\n0 2 frame = ok\n";
 const NO_SCRIPT: &str = "licences = 1\n[[port]]\nadmit = []\n[[event]]\nport = 7\nframes = 3\n";
 
 /// A script, the trace or the faults that stand beside it, and what is told of it.
+#[derive(Clone, Copy)]
 struct Case {
     script: &'static str,
     trace: Option<&'static str>,
@@ -99,8 +100,8 @@ fn verdict_of(alloc: Global, file: &str, outcome: Outcome) -> Result<Verdict, Al
 #[test]
 fn what_fails_has_a_line(rt: HostRuntime) -> Result<(), Fail> {
     let alloc = rt.alloc();
-    for case in CASES {
-        let outcome = judge(alloc, case.script.as_bytes(), expected_of(&case))?;
+    for case in &CASES {
+        let outcome = judge(alloc, case.script.as_bytes(), expected_of(case))?;
         let is_failed = outcome.is_failed();
         let line = verdict_line(alloc, &verdict_of(alloc, "x.toml", outcome)?)?;
         assert_eq!(rt; is_failed, line.is_some());

@@ -12,20 +12,22 @@ returns c =
       replay = traces.0;
       drive = traces.1;
       check = traces.2;
-      verify = traces.3;
+      test = traces.3;
+      verify = traces.4;
       audit = audit.0;
       audit_side = audit.1;
       audit_format = audit.2;
     } in
     let are : AreLogNames names = record {
-      replay = traces.4;
-      drive = traces.5;
-      check = traces.6;
-      verify = traces.7;
+      replay = traces.5;
+      drive = traces.6;
+      check = traces.7;
+      test = traces.8;
+      verify = traces.9;
       audit = audit.3;
       audit_side = audit.4;
       audit_format = audit.5;
     } in
     last_added (λ new. (n : LogNames) × AreLogNames n × (app_of new ≡ log_commands n))
-    c.subcommand.result _ _ _ _ (log_commands names) c.subcommand.ensures c.in_ok-audit.ensures.local traces.8 audit.6 refl
+    c.subcommand.result _ _ _ _ (log_commands names) c.subcommand.ensures c.in_ok-audit.ensures.local traces.10 audit.6 refl
     (λ new same. (names, are, same))
