@@ -24,7 +24,7 @@ pub record PlaysAs (script : ScriptView) (expected : Option (List ℕ)) (lines :
   pub before : SinkState ComparerState
   pub after : SinkState ComparerState
   pub fresh : IsFresh before
-  pub plays : PlaysScript script before after (Ok {E = PlayFault} (tt {0}))
+  pub plays : PlaysScript script before after (Ok (tt {0}))
   pub all : IsAll expected after.writer.taken
   pub lines_are : lines ≡ (behind front after.writer.taken).feeds
 
