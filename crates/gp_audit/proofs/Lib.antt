@@ -1,4 +1,3 @@
-pub mod TextLemmas
 pub mod ReadLemmas
 pub mod BookLemmas
 pub mod FindingLemmas
@@ -7,3 +6,7 @@ pub mod AgainLemmas
 pub mod CountLemmas
 pub mod ServingLemmas
 pub mod OutcomeLemmas
+pub mod TextLemmas
+pub mod NameLemmas
+pub mod ChosenLemmas
+pub mod DelayLemmas

@@ -1,4 +1,8 @@
 pub mod RuleSet
+pub mod Texts
+pub mod Chosen
+pub mod Naming
+pub mod Delays
 pub mod Faults
 pub mod Port
 pub mod Notice

@@ -1,5 +1,5 @@
 -- Which rules are told (this profile's own rule).
-use Rattle.std.specs.Prelude.{ℕ, Bool, false, ◌&&◌, slice_index_or}
+use Rattle.std.specs.Prelude.{ℕ, Bool, false, ◌&&◌, replicate, slice_index_or, slice_set}
 use Rattle.gp_observer.specs.declared.rule.Rule.{Rule}
 use Rattle.gp_observer.specs.declared.rule.Rule.TheVariants as rule
 use Rattle.gp_observer.specs.Heard.{Heard, HeardDown, HeardUp, HeardGrant}
@@ -35,6 +35,14 @@ rule_place rule.Drift = 18
 -- the rule is in the set
 abbrev pub contains : RuleSet → Rule → Bool
 contains set rule = slice_index_or set.places (rule_place rule) false
+
+-- all rules, or none
+abbrev pub each_rule : Bool → RuleSet
+each_rule is_in = record { places = replicate rules is_in }
+
+-- the rule is put in, or taken out
+abbrev pub with_rule : Bool → RuleSet → Rule → RuleSet
+with_rule is_in set rule = record { places = slice_set set.places (rule_place rule) is_in }
 
 -- what is heard is of a side that is told
 abbrev pub is_side_told : Told → Heard → Bool

@@ -5,15 +5,17 @@
 //! `Auditor`).
 //!
 //! - `options.rt`: `AuditOptions`, what it judges by and tells; `rule_set.rt`: `RuleSet`, some of the rules.
+//! - `rule_names.rt`: `rules_told`, which rules are told, by lists of their names; `delays.rt`: `equalized_delays`, the
+//!   equalized delays of the ports.
 //! - `port.rt`: what is known of one port, and what is told of something that is heard there; `ports.rt`: the ports.
 //! - `book.rt`: what is said of the line at hand, and the counts. `again.rt`: a line told again, in words.
-//!   `text.rt`: the text of a line.
 //! - `auditor.rt`: `Auditor`, which is given lines one after another; `serving.rt`: as what serves lines.
 //!   `fault.rt`: why nothing is said of a line.
 //! - `running.rt`: `audit_log`, from the bytes of a log to its findings and the sum.
 //!
 //! Where to make which change: which rules there are stands in `gp_observer`, how they are told in `gp_finding`, how a
-//! line is read in `gp_log`. What is told of something heard stands in `specs/Hearing.antt`, which of it is told in
+//! line is read in `gp_log`. Which rules lists of names tell stands in `specs/Chosen.antt`, which delays texts give in
+//! `specs/Delays.antt`. What is told of something heard stands in `specs/Hearing.antt`, which of it is told in
 //! `specs/RuleSet.antt`, what is said to a line in `specs/Audit.antt`, how it is told again in `specs/Again.antt`,
 //! what is told at the end in `specs/Ending.antt`, and how it may end in `specs/Outcome.antt`. What is counted of units
 //! stands in `gp_census`.
@@ -22,16 +24,19 @@
 mod again;
 mod auditor;
 mod book;
+mod delays;
 mod fault;
 mod options;
 mod port;
 mod ports;
+mod rule_names;
 mod rule_set;
 mod running;
 mod serving;
-mod text;
 
 pub use auditor::Auditor;
+pub use delays::equalized_delays;
 pub use options::{AuditForm, AuditOptions, Told};
+pub use rule_names::rules_told;
 pub use rule_set::RuleSet;
 pub use running::audit_log;

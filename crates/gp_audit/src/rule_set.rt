@@ -1,7 +1,7 @@
 //! Some of the rules.
-ghost use Rattle.std.specs.Prelude.{◌≡◌, ◌<◌, true, false, slice_set};
+ghost use Rattle.std.specs.Prelude.{◌≡◌, ◌<◌, true, false};
 ghost use Rattle.gp_observer.specs.declared.rule.Rule.{Rule as AnyRule};
-ghost use Rattle.gp_audit.specs.RuleSet.{contains, rule_place};
+ghost use Rattle.gp_audit.specs.RuleSet.{contains, each_rule, rule_place, with_rule};
 
 use gp_observer::Rule;
 
@@ -26,7 +26,8 @@ fn rule_place(rule: Rule) -> usize
 impl RuleSet {
     /// All rules.
     pub fn all() -> RuleSet
-        ensures { (rule : AnyRule) → contains result rule ≡ true }
+        ensures whole { result ≡ each_rule true }
+        ensures each { (rule : AnyRule) → contains result rule ≡ true }
     {
         RuleSet {
             places: [true; RULES],
@@ -35,7 +36,8 @@ impl RuleSet {
 
     /// No rule.
     pub fn none() -> RuleSet
-        ensures { (rule : AnyRule) → contains result rule ≡ false }
+        ensures whole { result ≡ each_rule false }
+        ensures each { (rule : AnyRule) → contains result rule ≡ false }
     {
         RuleSet {
             places: [false; RULES],
@@ -51,14 +53,14 @@ impl RuleSet {
 
     /// Puts a rule in.
     pub fn insert(&mut self, rule: Rule)
-        ensures { self.new ≡ record { places = slice_set self.old.places (rule_place rule) true } }
+        ensures { self.new ≡ with_rule true self.old rule }
     {
         self.places[rule_place(rule)] = true;
     }
 
     /// Takes a rule out.
     pub fn remove(&mut self, rule: Rule)
-        ensures { self.new ≡ record { places = slice_set self.old.places (rule_place rule) false } }
+        ensures { self.new ≡ with_rule false self.old rule }
     {
         self.places[rule_place(rule)] = false;
     }

@@ -1,9 +1,8 @@
 //! An auditor serves lines.
 use crate::auditor::Auditor;
-use crate::text::text_of;
 use gp_finding::LineError;
 use gp_flow::{LineFault, LineWork};
-use gp_log::{LogFault, read_line};
+use gp_log::{LogFault, read_line, text_of};
 use gp_stream::Sink;
 use std::io::Write;
 

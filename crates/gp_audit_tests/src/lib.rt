@@ -4,6 +4,7 @@
 //! - `words.rt`: logs in words, and what an audit says of one.
 //! - `rules.rt`: each rule broken alone, and not broken by what is nearest to that.
 //! - `lines.rt`: lines that are none, long ones, times that fall, logs that come octet by octet.
+//! - `options.rt`: options as they are given.
 //! - `units.rt`: what is told of the units at the end.
 //! - `transcribe.rt`: traces that are written as logs.
 //! - `many.rt`: more serial numbers than are followed, more delays than are kept, many lines.
@@ -13,6 +14,8 @@
 mod lines;
 #[cfg(test)]
 mod many;
+#[cfg(test)]
+mod options;
 #[cfg(test)]
 mod rules;
 #[cfg(test)]

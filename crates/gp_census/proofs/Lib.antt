@@ -1,4 +1,4 @@
+pub mod Allocs
 pub mod Entries
-pub mod Held
 pub mod Losing
 pub mod PortLines

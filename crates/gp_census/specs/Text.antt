@@ -12,7 +12,8 @@ use Rattle.gp_census.specs.declared.telling.CensusForm.TheVariants.{Text, Json}
 use Rattle.gp_census.specs.declared.told.UnitState.{UnitState}
 use Rattle.gp_census.specs.declared.told.UnitState.TheVariants.{Disabled, Operating, Assigned, Asking, Gone}
 use Rattle.gp_census.specs.Census.{Census}
-use Rattle.gp_census.specs.Told.{onu_held, delay_with, allocs_with, state_of}
+use Rattle.gp_watch.specs.Changes.{onu_held}
+use Rattle.gp_census.specs.Told.{delay_with, allocs_with, state_of}
 
 -- ---- pieces
 

@@ -3,21 +3,12 @@ use Rattle.std.specs.Prelude.{ℕ, zero, suc, ◌==◌, Bool, true, false, if◌
 use Rattle.std.specs.FinMap.{get}
 use Rattle.std.specs.FinSet.{contains}
 use Rattle.gp_ploam.specs.declared.message.Serial.{Serial}
-use Rattle.gp_ploam.specs.OnuIds.{onu_ids}
-use Rattle.gp_observer.specs.Observer.{some_passes, is_of}
+use Rattle.gp_observer.specs.Observer.{some_passes}
 use Rattle.gp_observer.specs.Watch.{Watch}
+use Rattle.gp_watch.specs.Changes.{onu_held}
 use Rattle.gp_census.specs.declared.sighting.Sighting.{Sighting}
 use Rattle.gp_census.specs.declared.told.UnitState.{UnitState}
 use Rattle.gp_census.specs.declared.told.UnitState.TheVariants.{Disabled, Operating, Assigned, Asking, Gone}
-
--- the ONU-ID below this one that a serial number holds, if it holds one
-unfoldable pub onu_below : ℕ → Watch → Serial → Option ℕ
-onu_below zero watch serial = None
-onu_below (suc onu) watch serial = if is_of watch.seen serial onu then Some onu else onu_below onu watch serial
-
--- the ONU-ID that a serial number holds
-abbrev pub onu_held : Watch → Serial → Option ℕ
-onu_held watch serial = onu_below onu_ids watch serial
 
 -- the equalization delay that was told with an ONU-ID
 abbrev pub delay_with : Watch → Option ℕ → Option ℕ

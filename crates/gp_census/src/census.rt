@@ -31,21 +31,6 @@ impl Model for Census {
     ghost view = { λ c. record { units = c.units; port = c.port } };
 }
 
-/// Tells whether a copy of a message down is passed over, since copies of it may have been sent before it began in the
-/// middle.
-fn passes_over(watch: &PortWatch, message: &Down) -> bool
-    ensures { result ≡ passes_over watch.now message.now }
-{
-    watch.is_cut() && (watch.last() == Down::NoMessage || watch.last() == *message)
-}
-
-/// Tells whether a message down is told with this copy.
-fn tells(watch: &PortWatch, message: &Down) -> bool
-    ensures { result ≡ tells watch.now message.now }
-{
-    watch.to_come() == 0 || watch.last() != *message
-}
-
 impl PortCounts {
     /// Gives what is counted of the port after a code up.
     fn after_up(&self, message: &Option<Up>) -> PortCounts
@@ -115,7 +100,7 @@ impl Census {
         ensures same { OnErr result (self.new ≡ self.old) }
         ensures new { OnErr result (IsNewTo self.old.units (counted_by_message message.now)) }
     {
-        if !passes_over(watch, message) && tells(watch, message) {
+        if !watch.passes_over(message) && watch.tells(message) {
             self.note_message(watch, message, time)?;
         }
         Ok(())

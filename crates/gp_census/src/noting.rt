@@ -11,33 +11,6 @@ use gp_ploam::{BROADCAST_ONU, Down, LAST_ONU, ONU_IDS, Serial, Up};
 use gp_watch::PortWatch;
 use std::alloc::AllocError;
 
-/// Tells whether another unit than this one holds an ONU-ID.
-fn is_anothers(watch: &PortWatch, onu: u8, serial: &Serial) -> bool
-    ensures { result ≡ is_anothers watch.now onu serial.now }
-{
-    match watch.holder(onu) {
-        Some(holder) => *serial != holder,
-        None => false,
-    }
-}
-
-/// Tells whether a unit holds another ONU-ID than this one.
-fn holds_other(watch: &PortWatch, serial: &Serial, onu: u8) -> bool
-    ensures { result ≡ holds_one watch.now serial.now (λ other. not (other == onu)) }
-{
-    match watch.onu_of(serial) {
-        Some(other) => other != onu,
-        None => false,
-    }
-}
-
-/// Tells whether a unit holds an ONU-ID.
-fn holds_any(watch: &PortWatch, serial: &Serial) -> bool
-    ensures { result ≡ holds_one watch.now serial.now (λ _. true) }
-{
-    watch.onu_of(serial).is_some()
-}
-
 impl Units {
     /// Notes what happens to the unit that holds an ONU-ID, if one does.
     fn change_holder(&mut self, watch: &PortWatch, onu: u8, event: UnitEvent)
@@ -83,7 +56,7 @@ impl Units {
     fn lose_to(&mut self, watch: &PortWatch, onu: u8, serial: &Serial)
         ensures { self.new ≡ lost_to_another self.old watch.now onu serial.now }
     {
-        if is_anothers(watch, onu, serial) {
+        if watch.is_anothers(onu, serial) {
             self.change_holder(watch, onu, UnitEvent::Loses);
         }
     }
@@ -92,7 +65,7 @@ impl Units {
     fn lose_for(&mut self, watch: &PortWatch, onu: u8, serial: &Serial)
         ensures { self.new ≡ lost_for_another self.old watch.now onu serial.now }
     {
-        if holds_other(watch, serial, onu) {
+        if watch.holds_other(serial, onu) {
             self.change(serial, UnitEvent::IsRenumbered);
         }
     }
@@ -108,7 +81,7 @@ impl Units {
             }
             Down::Deactivate { onu } if *onu == BROADCAST_ONU => self.lose_all(watch),
             Down::Deactivate { onu } => self.change_holder(watch, *onu, UnitEvent::Loses),
-            Down::DisableSerial { serial } if holds_any(watch, serial) => {
+            Down::DisableSerial { serial } if watch.holds_any(serial) => {
                 self.change(serial, UnitEvent::Loses);
             }
             _ => {}

@@ -1,6 +1,7 @@
 //! What is told of a unit besides its counts.
 ghost use Rattle.std.specs.Prelude.{◌≡◌};
-ghost use Rattle.gp_census.specs.Told.{delay_with, onu_held, state_by, state_of};
+ghost use Rattle.gp_watch.specs.Changes.{onu_held};
+ghost use Rattle.gp_census.specs.Told.{delay_with, state_by, state_of};
 
 use crate::sighting::Sighting;
 use gp_ploam::Serial;
@@ -51,13 +52,6 @@ fn state_by(
     }
 }
 
-/// Gives the ONU-ID that a unit holds.
-fn onu_held(watch: &PortWatch, serial: &Serial) -> Option<u8>
-    ensures { result ≡ onu_held watch.now serial.now }
-{
-    watch.onu_of(serial)
-}
-
 /// Gives the equalization delay that was told with an ONU-ID, where there is one.
 fn delay_with(watch: &PortWatch, onu: Option<u8>) -> Option<u32>
     ensures { result ≡ delay_with watch.now onu }
@@ -75,7 +69,7 @@ impl UnitTold {
         ensures onu { result.onu ≡ onu_held watch.now serial.now }
         ensures delay { result.delay ≡ delay_with watch.now (onu_held watch.now serial.now) }
     {
-        let onu = onu_held(watch, serial);
+        let onu = watch.onu_of(serial);
         let delay = delay_with(watch, onu);
         let disabled = watch.is_disabled(serial);
         UnitTold {

@@ -3,7 +3,7 @@ use Rattle.std.specs.Prelude.{is_some}
 use Rattle.std.proofs.Common.{◌≡◌, ℕ, true, false, List, [], ◌∷◌, ◌++◌, Option, None, Some, Result, Ok, Err, IsErrAnd, inl, inr, length, take, map, refl, sym, ap, subst, ◌∙◌, append_assoc, arith}
 use Rattle.std.proofs.lemmas.List.{append-nil, take_all}
 use Rattle.std.specs.Io.KnownBytes.{Appends, Consumes}
-use Rattle.gp_flow.specs.declared.fault.LineFault.{LineFault}
+use Rattle.gp_flow.specs.declared.fault.LineFault.TheVariants.{OutOfMemory}
 use Rattle.gp_flow.specs.declared.lines.LinesEnd.{LinesEnd}
 use Rattle.gp_flow.specs.declared.lines.LinesEnd.TheVariants.{Whole, Open, Over}
 use Rattle.gp_flow.specs.declared.fault.LinesFault.{LinesFault}
@@ -214,8 +214,8 @@ module _ {R W : Type 0} (manner : Manner) (from to : SourceState R) (before afte
       (unread fault new (subst (λ (o : ExplainState). Serves Explaining has_ended longest_line from to o new before after (Err fault)) opened s))
 
 -- nothing was read, for want of memory
-pub unbegun : {R W : Type 0} (manner : Manner) (from : SourceState R) (before : SinkState W) (line : LineFault) (answer : Result ℕ ExplainFault)
-    → IsErrAnd answer (λ told. told ≡ Lines (faults.Line line)) → ExplainsTrace manner from from before before answer
-unbegun manner from before line (Ok lines) told = absurd told
-unbegun manner from before line (Err e) told =
-    subst (λ (x : ExplainFault). ExplainsTrace manner from from before before (Err x)) (sym told) (inr (refl, refl))
+pub unbegun : {R W : Type 0} (manner : Manner) (from : SourceState R) (before : SinkState W) (answer : Result ℕ ExplainFault)
+    → IsErrAnd answer (λ told. told ≡ Lines (faults.Line OutOfMemory)) → ExplainsTrace manner from from before before answer
+unbegun manner from before (Ok lines) told = absurd told
+unbegun manner from before (Err e) told =
+    subst (λ (x : ExplainFault). ExplainsTrace manner from from before before (Err x)) (sym told) (inr (refl, refl, refl))

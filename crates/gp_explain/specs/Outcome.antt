@@ -1,6 +1,7 @@
 -- How telling a trace may end (this profile's own rule).
 use Rattle.std.specs.Prelude.{◌≡◌, ◌<◌, ◌⊎◌, ℕ, ◌+◌, true, List, [], ◌∷◌, ◌++◌, length, Option, Some, None, Result, Ok, Err}
 use Rattle.std.specs.Io.KnownBytes.{Appends, Consumes}
+use Rattle.gp_flow.specs.declared.fault.LineFault.TheVariants.{OutOfMemory}
 use Rattle.gp_flow.specs.declared.fault.LinesFault.TheVariants as faults
 use Rattle.gp_flow.specs.Lines.{GetsPrefix, Leaves, lines_of}
 use Rattle.gp_stream.specs.Sink.{SinkState, KeepsNothing}
@@ -82,7 +83,8 @@ ExplainsTrace manner from to before after (Err (Refused line why)) = IsRefused m
 ExplainsTrace manner from to before after (Err (Lines faults.Read)) =
     IsBegun GetsPrefix manner from to before after × ((to.failed ≡ true) ⊎ (to.left ≡ 0))
 ExplainsTrace manner from to before after (Err (Lines (faults.Line fault))) =
-    IsBegun (Leaves fault) manner from to before after ⊎ ((to ≡ from) × (after ≡ before))
+    IsBegun (Leaves fault) manner from to before after
+    ⊎ ((fault ≡ OutOfMemory) × (to ≡ from) × (after ≡ before))
 
 -- what was found, by what ended it, and how many lines came
 abbrev pub finding : Option NoLine → ℕ → Result ℕ ExplainFault

@@ -20,7 +20,8 @@ use Rattle.gp_log.specs.declared.said.Said.{Said}
 use Rattle.gp_log.specs.declared.said.Said.TheVariants as said
 use Rattle.gp_finding.specs.declared.error.LineError.TheVariants as errors
 use Rattle.gp_finding.specs.declared.push.Place.{Place}
-use Rattle.gp_finding.specs.Why.{onu_held, why_of}
+use Rattle.gp_watch.specs.Changes.{onu_held}
+use Rattle.gp_finding.specs.Why.{why_of}
 use Rattle.gp_finding.specs.Text.{error_text, finding_text, sum_text}
 use Rattle.gp_finding.specs.Object.{error_object, finding_object, sum_object}
 

@@ -1,5 +1,4 @@
 pub mod Reading
-pub mod Holding
 pub mod Pieces
 pub mod Telling
 pub mod Cases

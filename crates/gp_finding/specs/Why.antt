@@ -1,5 +1,5 @@
 -- Why a rule is broken, by what is known before (this profile's own rule). What can't break a rule has no reason.
-use Rattle.std.specs.Prelude.{ℕ, zero, suc, ◌-◌, ◌==◌, nat_le, Bool, true, false, if◌then◌else◌, List, slice_index, Option, None, Some}
+use Rattle.std.specs.Prelude.{ℕ, ◌-◌, ◌==◌, nat_le, Bool, true, false, if◌then◌else◌, List, slice_index, Option, None, Some}
 use Rattle.std.specs.FinMap.{get}
 use Rattle.gp_ploam.specs.declared.check.Mask.{Mask}
 use Rattle.gp_ploam.specs.declared.message.Serial.{Serial}
@@ -7,17 +7,16 @@ use Rattle.gp_ploam.specs.declared.message.Down.{Down}
 use Rattle.gp_ploam.specs.declared.message.Down.TheVariants as down
 use Rattle.gp_ploam.specs.declared.message.Up.{Up}
 use Rattle.gp_ploam.specs.declared.message.Up.TheVariants as up
-use Rattle.gp_ploam.specs.OnuIds.{onu_ids}
 use Rattle.gp_ploam.specs.Up.{octet1_of}
 use Rattle.gp_ranging.specs.declared.grant.Grant.{Grant}
 use Rattle.gp_ranging.specs.declared.grant.Grant.TheVariants as grants
 use Rattle.gp_decode.specs.Lines.{other_mask, wanted_check}
 use Rattle.gp_observer.specs.declared.rule.Rule.{Rule}
 use Rattle.gp_observer.specs.declared.rule.Rule.TheVariants as rule
-use Rattle.gp_observer.specs.Observer.{is_of}
 use Rattle.gp_observer.specs.Watch.{Watch}
 use Rattle.gp_observer.specs.Rules.{Settings, unit_told}
 use Rattle.gp_observer.specs.Heard.{Heard, HeardDown, HeardUp, HeardGrant}
+use Rattle.gp_watch.specs.Changes.{onu_held}
 use Rattle.gp_log.specs.declared.said.Said.{Said}
 use Rattle.gp_log.specs.declared.said.Said.TheVariants as said
 use Rattle.gp_finding.specs.declared.why.Why.{Why}
@@ -35,19 +34,10 @@ abbrev pub owner_why : ℕ → Option ℕ → Why
 owner_why alloc None = why.Unowned alloc
 owner_why alloc (Some onu) = why.Owned alloc onu
 
--- the first of so many numbers, from this one on, that passes a test
-abbrev pub first_passing : ℕ → ℕ → (ℕ → Bool) → Option ℕ
-first_passing number zero test = None
-first_passing number (suc count) test =
-    if test number then Some number else first_passing (suc number) count test
-
--- the ONU-ID that a serial number holds, if it holds one
+-- which ONU-ID a serial number holds, if it holds one
 abbrev pub held_why : Option ℕ → Why
 held_why None = why.Nothing
 held_why (Some onu) = why.Holds onu
-
-unfoldable pub onu_held : Watch → Serial → Option ℕ
-onu_held watch serial = first_passing 0 onu_ids (is_of watch.seen serial)
 
 -- ---- a wrong check octet
 

@@ -1,4 +1,4 @@
-//! Why a line is not audited, and the sum of all lines.
+//! Why a line, or something on it, is not audited, and the sum of all lines.
 ghost use Rattle.std.specs.Prelude.{◌≡◌, ◌+◌, ◌<◌, ◌≤◌, ◌++◌, ℕ, List, length, OnErr, OnOk, vec_capacity, vec_len};
 ghost use Rattle.gp_finding.specs.Told.{told_error, told_sum};
 
@@ -8,14 +8,14 @@ use crate::text::{push_error_text, push_sum_text};
 use gp_log::LogFault;
 use std::alloc::AllocError;
 
-/// Why a line is not audited.
+/// Why a line, or something that is said on it, is not audited.
 #[derive(Clone, Copy, Debug, PartialEq, Eq)]
 pub enum LineError {
     /// It says nothing.
     Log(LogFault),
     /// Its time is before that of the line before, on the same port.
     Time,
-    /// It has a serial number more than can be followed.
+    /// A unit more than can be followed gave its serial number. Of the line that alone is passed over.
     Full,
 }
 
@@ -30,7 +30,7 @@ pub struct AuditSum {
     pub errors: u64,
 }
 
-/// Appends what is told of a line that is not audited, by its number, from 1.
+/// Appends what is told of a line by its number, from 1, where it is not audited, or something that is said on it.
 ///
 /// Out of memory only where there is no room for it. What the buffer held stands there then, and behind it maybe a
 /// first part of what is told. The room never gets less.

@@ -3,6 +3,7 @@ ghost use Rattle.std.specs.Prelude.{◌≡◌};
 ghost use Rattle.std.specs.FinMap as map;
 ghost use Rattle.gp_decode.specs.Lines as decode;
 ghost use Rattle.gp_observer.specs.Rules.{unit_if};
+ghost use Rattle.gp_watch.specs.Changes.{onu_held};
 ghost use Rattle.gp_watch.specs.Heard.{heard_of, settings_of};
 ghost use Rattle.gp_finding.specs.Why as spec;
 
@@ -81,7 +82,7 @@ fn owner_why(watch: &PortWatch, alloc: u16) -> Why
 
 /// Tells which ONU-ID a serial number holds, if it holds one.
 fn held_why(watch: &PortWatch, serial: &Serial) -> Why
-    ensures { result ≡ spec.held_why (spec.onu_held watch.now serial.now) }
+    ensures { result ≡ spec.held_why (onu_held watch.now serial.now) }
 {
     match watch.onu_of(serial) {
         Some(onu) => Why::Holds(onu),

@@ -38,7 +38,7 @@ pub use laws::{
     entry_can_be_written, lines_are_of_one_kind, log_lines_are_read, one_reading,
     traced_lines_are_told,
 };
-pub use line::{LogLine, read_line};
+pub use line::{LogLine, read_line, text_of};
 pub use push::{MAX_ENTRY, push_entry};
 pub use said::Said;
 pub use time::{FRAME_NANOSECONDS, LAST_FRAME};

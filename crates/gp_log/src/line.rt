@@ -51,6 +51,13 @@ fn without_return(line: &[u8]) -> &[u8]
     }
 }
 
+/// Gives the text of a line: neither a byte order mark in front nor a carriage return at its end is a part of it.
+pub fn text_of(line: &[u8]) -> &[u8]
+    ensures { result.now ≡ spec.text_of line.now }
+{
+    without_return(without_order_mark(line))
+}
+
 /// Tells whether a text is passed over.
 fn is_remark(text: &[u8]) -> bool
     ensures { result ≡ is_remark text.now }
@@ -96,5 +103,5 @@ pub fn read_line(line: &[u8]) -> Result<LogLine, LogFault>
     if line.len() > LONGEST_LINE {
         return Err(LogFault::Long);
     }
-    read_text(without_return(without_order_mark(line)))
+    read_text(text_of(line))
 }

@@ -1,6 +1,7 @@
 -- How writing a trace as a log may end (this profile's own rule).
 use Rattle.std.specs.Prelude.{◌≡◌, ◌<◌, ◌⊎◌, ℕ, ◌+◌, true, List, [], ◌∷◌, ◌++◌, length, Option, Some, None, Result, Ok, Err}
 use Rattle.std.specs.Io.KnownBytes.{Appends, Consumes}
+use Rattle.gp_flow.specs.declared.fault.LineFault.TheVariants.{OutOfMemory}
 use Rattle.gp_flow.specs.declared.fault.LinesFault.TheVariants as faults
 use Rattle.gp_flow.specs.Lines.{GetsPrefix, Leaves, lines_of}
 use Rattle.gp_stream.specs.Sink.{SinkState, KeepsNothing}
@@ -79,7 +80,8 @@ TranscribesTrace from to before after (Err (Refused line why)) = IsRefused from 
 TranscribesTrace from to before after (Err (Lines faults.Read)) =
     IsBegun GetsPrefix from to before after × ((to.failed ≡ true) ⊎ (to.left ≡ 0))
 TranscribesTrace from to before after (Err (Lines (faults.Line fault))) =
-    IsBegun (Leaves fault) from to before after ⊎ ((to ≡ from) × (after ≡ before))
+    IsBegun (Leaves fault) from to before after
+    ⊎ ((fault ≡ OutOfMemory) × (to ≡ from) × (after ≡ before))
 
 -- what was found, by what ended it, and how many lines came
 abbrev pub finding : Option NoLine → ℕ → Result ℕ ExplainFault

@@ -1,12 +1,13 @@
 -- Which ONU-ID a serial number holds, of all that there are.
 use Rattle.std.proofs.Common.{◌≡◌, ℕ, zero, suc, ◌+◌, ◌<◌, ◌≤◌, ◌==◌, ◌&&◌, ◌||◌, Bool, true, false, Option, None, Some, is_some, inl, inr, refl, sym, ap, ◌∙◌, arith, eq-eqb}
-use Rattle.std.proofs.lemmas.Bool.{cases_eq, ne_eqb}
+use Rattle.std.proofs.lemmas.Bool.{cases_Bool, cases_eq, ne_eqb}
+use Rattle.std.proofs.lemmas.Bool.Decides.{nat_tests}
 use Rattle.gp_ploam.specs.declared.message.Serial.{Serial}
 use Rattle.gp_machine.specs.State.{some_number}
 use Rattle.gp_observer.specs.Observer.{some_passes, is_of}
 use Rattle.gp_observer.specs.Watch.{Watch}
 use Rattle.gp_observer.specs.Rules.{holds_one}
-use Rattle.gp_watch.specs.Changes.{IsOnuOf}
+use Rattle.gp_watch.specs.Changes.{IsOnuOf, first_passing, onu_held}
 
 and_false : (b : Bool) → (b && false) ≡ false
 and_false true = refl
@@ -55,3 +56,26 @@ holds_one_is w s test (Some n) is = sym (number_at test (is_of w.seen s) n is.1 
 pub some_is : (o : Option ℕ) → is_some o ≡ some_passes (λ k. true) o
 some_is None = refl
 some_is (Some n) = refl
+
+-- one number alone passes
+first_is : (test : ℕ → Bool) (one number count : ℕ) → ((other : ℕ) → test other ≡ (other == one)) → number ≤ one → one < number + count
+    → first_passing number count test ≡ Some one
+first_is test one number zero same low high = absurd (omega arith)
+first_is test one number (suc count) same low high =
+    elim (cases_Bool (number == one)) [
+      | inl is ↦ let here : number ≡ one = grind (arith, nat_tests, is) in rw (same number ∙ is) (ap Some here)
+      | inr other ↦
+          let apart : suc number ≤ one = grind (arith, nat_tests, other) in
+          rw (same number ∙ other) (first_is test one (suc number) count same apart (omega arith))
+    ]
+
+-- none passes
+first_none : (test : ℕ → Bool) (number count : ℕ) → ((other : ℕ) → test other ≡ false) → first_passing number count test ≡ None
+first_none test number zero none = refl
+first_none test number (suc count) none = rw (none number) (first_none test (suc number) count none)
+
+-- it is the first of all numbers that are the serial number's
+pub held_is : (w : Watch) (s : Serial) (o : Option ℕ) → IsOnuOf w s o → o ≡ onu_held w s
+unfolding onu_held
+held_is w s None none = sym (first_none (is_of w.seen s) 0 254 none)
+held_is w s (Some n) is = sym (first_is (is_of w.seen s) n 0 254 is.1 (omega arith) (let low = is.0 in omega (arith, low)))

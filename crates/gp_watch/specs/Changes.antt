@@ -1,10 +1,10 @@
 -- What becomes of what an observer keeps (this profile's own rule).
-use Rattle.std.specs.Prelude.{◌≡◌, ◌≤◌, ◌==◌, ℕ, Bool, true, false, not, Option, None, Some}
+use Rattle.std.specs.Prelude.{◌≡◌, ◌≤◌, ◌==◌, ℕ, zero, suc, Bool, true, false, not, if◌then◌else◌, Option, None, Some}
 use Rattle.std.specs.FinMap.{insert, retain_keys}
 use Rattle.std.specs.FinSet as finset
 use Rattle.gp_ploam.specs.declared.message.Serial.{Serial}
 use Rattle.gp_ploam.specs.declared.message.Down.TheVariants.{AssignOnu}
-use Rattle.gp_ploam.specs.OnuIds.{last_onu}
+use Rattle.gp_ploam.specs.OnuIds.{last_onu, onu_ids}
 use Rattle.gp_observer.specs.Observer.{is_of, drops, units_without}
 use Rattle.gp_observer.specs.Watch.{Watch}
 
@@ -12,6 +12,16 @@ use Rattle.gp_observer.specs.Watch.{Watch}
 abbrev pub IsOnuOf : Watch → Serial → Option ℕ → Type 0
 IsOnuOf watch serial None = (onu : ℕ) → is_of watch.seen serial onu ≡ false
 IsOnuOf watch serial (Some onu) = (onu ≤ last_onu) × ((other : ℕ) → is_of watch.seen serial other ≡ (other == onu))
+
+-- the first of so many numbers, from this one on, that passes a test
+abbrev pub first_passing : ℕ → ℕ → (ℕ → Bool) → Option ℕ
+first_passing number zero test = None
+first_passing number (suc count) test =
+    if test number then Some number else first_passing (suc number) count test
+
+-- the ONU-ID that a serial number holds, if it holds one
+unfoldable pub onu_held : Watch → Serial → Option ℕ
+onu_held watch serial = first_passing 0 onu_ids (is_of watch.seen serial)
 
 -- the ONU-IDs that pass the test are given up, and what their units answered and were told is forgotten
 abbrev pub watch_without : Watch → (ℕ → Bool) → Watch

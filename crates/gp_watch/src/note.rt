@@ -133,14 +133,14 @@ impl PortWatch {
 
     /// Tells whether a copy of a message down is passed over: in the middle those of the first message are, since
     /// others may have been sent before them.
-    pub(crate) fn passes_over(&self, message: &Down) -> bool
+    pub fn passes_over(&self, message: &Down) -> bool
         ensures { result ≡ passes_over self.now message.now }
     {
         self.is_cut() && (self.last() == Down::NoMessage || self.last() == *message)
     }
 
     /// Tells whether a message down is told with this copy: it is the first one, or the first behind three others.
-    pub(crate) fn tells(&self, message: &Down) -> bool
+    pub fn tells(&self, message: &Down) -> bool
         ensures { result ≡ tells self.now message.now }
     {
         self.to_come() == 0 || self.last() != *message

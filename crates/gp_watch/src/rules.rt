@@ -80,14 +80,14 @@ impl PortWatch {
     }
 
     /// Tells whether another unit than this one holds an ONU-ID.
-    pub(crate) fn is_anothers(&self, onu: u8, serial: &Serial) -> bool
+    pub fn is_anothers(&self, onu: u8, serial: &Serial) -> bool
         ensures { result ≡ rules.is_anothers self.now onu serial.now }
     {
         self.holder(onu).is_some() && !self.is_of(serial, onu)
     }
 
     /// Tells whether a serial number holds another ONU-ID.
-    fn holds_other(&self, serial: &Serial, onu: u8) -> bool
+    pub fn holds_other(&self, serial: &Serial, onu: u8) -> bool
         ensures { result ≡ rules.holds_one self.now serial.now (λ other. not (other == onu)) }
     {
         match self.onu_of(serial) {
@@ -97,7 +97,7 @@ impl PortWatch {
     }
 
     /// Tells whether a serial number holds an ONU-ID.
-    pub(crate) fn holds_any(&self, serial: &Serial) -> bool
+    pub fn holds_any(&self, serial: &Serial) -> bool
         ensures { result ≡ rules.holds_one self.now serial.now (λ _. true) }
     {
         self.onu_of(serial).is_some()

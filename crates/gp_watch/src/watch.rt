@@ -10,7 +10,7 @@ ghost use Rattle.gp_observer.specs.Watch.{watch_begun, numbers_below, asks_left,
 ghost use Rattle.gp_observer.specs.Rules.{leaves_no_answer};
 ghost use Rattle.gp_watch.specs.Heard.{settings_of, FailsBy};
 ghost use Rattle.gp_watch.specs.Index.{released};
-ghost use Rattle.gp_watch.specs.Changes.{IsOnuOf, watch_without, watch_holding};
+ghost use Rattle.gp_watch.specs.Changes.{IsOnuOf, onu_held, watch_without, watch_holding};
 
 use crate::fault::WatchFault;
 use crate::heard::Settings;
@@ -109,7 +109,8 @@ impl PortWatch {
 
     /// Gives the ONU-ID that a serial number holds.
     pub fn onu_of(&self, serial: &Serial) -> Option<u8>
-        ensures { IsOnuOf self.now serial.now result }
+        ensures is { IsOnuOf self.now serial.now result }
+        ensures held { result ≡ onu_held self.now serial.now }
     {
         match self.index.get(serial) {
             Some(followed) => followed.onu,

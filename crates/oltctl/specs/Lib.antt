@@ -1,4 +1,3 @@
-pub mod CommandLine
+pub mod Joined
 pub mod Replays
-pub mod Requests
 pub mod Statuses

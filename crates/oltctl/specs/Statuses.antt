@@ -1,5 +1,5 @@
 -- The exit statuses of the program (this profile's own rule).
-use Rattle.std.specs.Prelude.{◌≡◌, ◌≢◌, ◌<◌, ◌≤◌, ◌==◌, if◌then◌else◌, ℕ, Bool, true, false, List, ◌⊎◌, Option, None, Some, Result, Ok, Err}
+use Rattle.std.specs.Prelude.{◌≡◌, ◌≢◌, ◌<◌, ◌≤◌, ◌==◌, not, if◌then◌else◌, ℕ, Bool, true, false, List, ◌⊎◌, Option, None, Some, Result, Ok, Err}
 use Rattle.std.specs.declared.io.ErrorKind.{ErrorKind as IoErrorKind}
 use Rattle.std.specs.declared.io.ErrorKind.TheVariants as io_error
 use Rattle.clap.specs.declared.error.kind.ErrorKind.{ErrorKind}
@@ -26,10 +26,11 @@ use Rattle.gp_verify.specs.declared.outcome.CheckFault.TheVariants as check
 use Rattle.gp_verify.specs.Ending.{wanted_lines}
 use Rattle.clap.specs.Words.{Text, subcommand_rows_of}
 use Rattle.clap.specs.declared.parser.matches.ArgMatches.{ArgMatches}
-use Rattle.oltctl.specs.CommandLine.{IsFaultOf, IsParseOf}
-use Rattle.oltctl.specs.Requests.{Asks, AsksNothing}
-use Rattle.oltctl.specs.declared.request.Request.{Request}
-use Rattle.oltctl.specs.declared.request.Request.TheVariants.{Replay, Drive, Storm, Check, Verify, Decode, DecodeLines, Encode, EncodeLines, Explain}
+use Rattle.gp_command_line.specs.CommandLine.{IsFaultOf, IsParseOf}
+use Rattle.gp_command_line.specs.Requests.{Asks, AsksNothing}
+use Rattle.oltctl.specs.declared.auditing.Audited.{Audited}
+use Rattle.gp_command_line.specs.declared.request.Request.{Request}
+use Rattle.gp_command_line.specs.declared.request.Request.TheVariants.{Replay, Drive, Storm, Check, Verify, Audit, Picture, Decode, DecodeLines, Encode, EncodeLines, Explain}
 
 -- no status is greater
 abbrev pub greatest_status : ℕ
@@ -105,6 +106,24 @@ IsVerifyStatus at_least (Err (check.Trace fault)) status = status ≡ verify_sta
 abbrev pub IsVerified : Option ℕ → ℕ → Type 0
 IsVerified at_least status = (outcome : Result ℕ CheckFault) × IsVerifyStatus at_least outcome status
 
+-- the status after a log was audited to its end: where a line was none, or nothing was heard, not all was looked at;
+-- else it tells whether a rule is broken
+abbrev pub audited_status : Audited → ℕ
+audited_status audited =
+    if not (audited.sum.errors == 0) then BAD_INPUT
+    else if audited.is_silent then BAD_INPUT
+    else if audited.sum.findings == 0 then SUCCESS
+    else NOT_A_RUN
+
+-- the status after an audit
+abbrev pub audit_status : Result Audited LinesFault → ℕ
+audit_status (Ok audited) = audited_status audited
+audit_status (Err fault) = input_status fault
+
+-- what a file or standard input holds no contract can tell, so it is that of some log; or an option is wrong
+abbrev pub IsAudited : ℕ → Type 0
+IsAudited status = (status ≡ BAD_ARGUMENTS) ⊎ ((outcome : Result Audited LinesFault) × (status ≡ audit_status outcome))
+
 -- the status after lines were decoded: that of the first fault, if one had a fault
 abbrev pub lines_status : Result (Option FaultAt) LinesFault → ℕ
 lines_status (Ok None) = SUCCESS
@@ -137,6 +156,10 @@ told_status (Err fault) = explain_status fault
 abbrev pub IsExplained : ℕ → Type 0
 IsExplained status = (outcome : Result ℕ ExplainFault) × (status ≡ told_status outcome)
 
+-- the status after a log was drawn, likewise; or an option is wrong
+abbrev pub IsPictured : ℕ → Type 0
+IsPictured status = (status ≡ BAD_ARGUMENTS) ⊎ ((outcome : Result ℕ ExplainFault) × (status ≡ told_status outcome))
+
 -- the status after files were checked, by whether all are scripts
 abbrev pub check_status : Result Bool ScriptCheckFault → ℕ
 check_status (Ok true) = SUCCESS
@@ -155,11 +178,13 @@ IsServed (Drive script told done) status = IsDriven status
 IsServed (Check files manner) status = IsChecked status
 IsServed (Storm file play) status = IsStormed status
 IsServed (Verify wanted) status = IsVerified wanted.at_least status
+IsServed (Audit wanted) status = IsAudited status
+IsServed (Picture wanted) status = IsPictured status
 IsServed (Decode code upstream mask names) status = IsDecoded code.now upstream mask names status
 IsServed (DecodeLines many direction mask names) status = AreDecoded status
 IsServed (EncodeLines upstream mask) status = AreEncoded status
 IsServed (Encode words upstream mask) status = IsEncoded status
-IsServed (Explain trace mask told) status = IsExplained status
+IsServed (Explain wanted) status = IsExplained status
 
 -- how a run over the words of a command line may end, with this status
 pub data IsRun (words : List Text) (status : ℕ) : Type 0 where

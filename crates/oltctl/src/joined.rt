@@ -1,7 +1,7 @@
 //! Words of the command line as one text.
 ghost use Rattle.std.specs.Prelude.{◌≡◌, ◌∷◌, ◌++◌, IfOk, OnOk, map};
 ghost use Rattle.std.specs.List.{flat_map, join_with_byte};
-ghost use Rattle.oltctl.specs.Requests.{line_of_code, on_a_line};
+ghost use Rattle.oltctl.specs.Joined.{line_of_code, on_a_line};
 
 use gp_decode::{is_remark, without_return};
 use std::alloc::{AllocError, Global};

@@ -1,8 +1,10 @@
 //! `oltctl`: plays a script and writes its trace, answers lines that ask for something, runs its events at once by
-//! threads and writes the totals, tells whether a trace is one of a correct line terminal, writes a trace again with its
-//! codes in words, says in words which message a code is, and gives the code of a message in words.
+//! threads and writes the totals, tells whether a trace is one of a correct line terminal, names each rule that a message
+//! of a log breaks, draws a log as a picture, writes a trace again with its codes in words or as a log, says in words
+//! which message a code is, and gives the code of a message in words.
 //!
-//! Promise: the words of a command line are read as `clap` defines, and each ending has its status (`parse`, `main`).
+//! Promise: what the words of a command line ask for is done, and each ending has its status (`main`). How they are read
+//! is `gp_command_line`'s.
 #![tactic(auto)]
 
 ghost use Rattle.std.specs.Prelude.{◌≡◌, ◌≢◌, ◌≤◌, ◌↔◌, ℕ, List, Ok, Err, OnOk, map};
@@ -14,45 +16,48 @@ ghost use Rattle.gp_decode.specs.Line.{HasLineFault, IsOfText, SaysIn};
 ghost use Rattle.gp_script.specs.declared.fault.ScriptFault.{ScriptFault};
 ghost use Rattle.gp_script.specs.Script.{ScriptView, script_of, storm_script_of};
 ghost use Rattle.oltctl.specs.Replays.{IsReadBy, IsTooLong};
-ghost use Rattle.oltctl.specs.Requests.{word_of};
-ghost use Rattle.oltctl.specs.Statuses.{AreDecoded, AreEncoded, IsArgumentsReport, IsDriven, IsEncoded, IsExplained, IsPlayed, IsRun, IsServed, IsStatusOf, IsStormed, check_status, drive_status, encoded_status, end_status, greatest_status, lines_status, told_status};
+ghost use Rattle.oltctl.specs.Joined.{word_of};
+ghost use Rattle.oltctl.specs.Statuses.{AreDecoded, AreEncoded, IsArgumentsReport, IsDecoded, IsDriven, IsEncoded, IsPlayed, IsRun, IsServed, IsStatusOf, IsStormed, check_status, drive_status, encoded_status, end_status, greatest_status, lines_status};
 
+mod audit_options;
+mod auditing;
 mod checking;
-mod command_line;
 mod descriptors;
-mod help;
+mod explaining;
 mod joined;
 mod observed;
+mod picturing;
 mod progress;
 mod reporting;
-mod request;
 mod telling;
 mod ticking;
 mod verifying;
 
+use auditing::audit;
 use checking::check_files;
 use clap::Error;
 use clap::error::ErrorKind;
 use descriptors::hold;
+use explaining::explain;
 use gp_check::{Purpose, ScriptCheckFault};
+use gp_command_line::{Play, Request, StormPlay, Told, parse, request_of};
 use gp_decode::{Direction, FaultAt, LineFault, decode_each_in, decode_line_in};
 use gp_drive::{DriveFault, DriveManner, Driven, run_drive_in};
 use gp_encode::{EncodeFault, WordsFaultAt, encode_line, encode_lines};
-use gp_explain::{ExplainFault, Telling, explain_trace};
 use gp_flow::LinesFault;
 use gp_ploam::Mask;
 use gp_replay::{PlayFault, RunFault, run_replay};
 use gp_report::{
-    BAD_ARGUMENTS, BAD_INPUT, SUCCESS, arguments_report, encode_report, explain_report,
-    input_report, line_report, memory_report, run_report, write_report,
+    BAD_ARGUMENTS, BAD_INPUT, SUCCESS, arguments_report, encode_report, input_report, line_report,
+    memory_report, run_report, write_report,
 };
 use gp_script::{ScriptError, read_script};
 use gp_storm::run_storm;
 use gp_stream::{Sink, Source, SourceFault, read_all};
 use joined::{joined, lines_of_codes};
 use observed::{Observed, Seen};
+use picturing::picture;
 use reporting::{report, report_at};
-use request::{Play, Request, StormPlay, Told, request_of};
 use std::alloc::Global;
 use std::io;
 use std::io::Read;
@@ -412,6 +417,22 @@ fn decode<R: AllocGlobal + Print>(
     decode_line_in(rt.alloc(), code, upstream, mask, names, &mut sink)
 }
 
+/// Does so, and answers the exit status.
+fn decode_alone<R: AllocGlobal + Print + Eprint>(
+    rt: &R,
+    code: &str,
+    upstream: bool,
+    mask: Mask,
+    names: bool,
+) -> u8
+    ensures { IsDecoded code.now upstream mask names result }
+{
+    match decode(rt, code, upstream, mask, names) {
+        Ok(()) => SUCCESS,
+        Err(fault) => report(rt, line_report(&fault)),
+    }
+}
+
 /// Says of each line that a reader gives which message's code it is, on standard output.
 fn decode_from<R: AllocGlobal + Print, S: Read + Drop>(
     rt: &R,
@@ -546,72 +567,6 @@ fn encode<R: AllocGlobal + Print + Eprint>(rt: &R, words: &[&str], upstream: boo
     }
 }
 
-/// Writes the trace that a reader gives again with its codes in words, to standard output.
-fn explain_from<R: AllocGlobal + Print, T: Read + Drop>(
-    rt: &R,
-    trace: T,
-    mask: Mask,
-    told: Told,
-) -> Result<u64, ExplainFault> {
-    let mut source = Source::endless(trace);
-    let mut sink = Sink::new(rt.alloc(), io::writer(rt))?;
-    let telling = Telling::new(rt.alloc(), mask, told.form, told.timed);
-    explain_trace(rt.alloc(), telling, &mut source, &mut sink)
-}
-
-/// Does so of the trace of a file, or of standard input.
-fn explain_file<R: AllocGlobal + Files + Print + Input>(
-    rt: &R,
-    trace: Option<&str>,
-    mask: Mask,
-    told: Told,
-    seen: &mut Seen<'_>,
-) -> Result<u64, ExplainFault> {
-    match trace {
-        None => explain_from(rt, Observed::new(rt.reader(), seen), mask, told),
-        Some(path) => match std::fs::open(rt, path) {
-            Ok(trace) => explain_from(rt, Observed::new(trace, seen), mask, told),
-            Err(error) => {
-                seen.failed(&error);
-                Err(ExplainFault::Lines(LinesFault::Read))
-            }
-        },
-    }
-}
-
-/// Says how telling a trace in words ended, with the number of the line that is none of a trace, and answers the exit
-/// status.
-fn end_explain<R: AllocGlobal + Eprint>(
-    rt: &R,
-    outcome: &Result<u64, ExplainFault>,
-    seen: &Seen<'_>,
-) -> u8
-    ensures { result ≡ told_status outcome.now }
-{
-    match outcome {
-        Ok(_) => SUCCESS,
-        Err(fault) => match fault {
-            ExplainFault::Refused { line, why: _ } => report_at(rt, explain_report(fault), *line),
-            ExplainFault::Lines(LinesFault::Read) => seen.tell_unread(rt),
-            ExplainFault::Lines(_) => report(rt, explain_report(fault)),
-        },
-    }
-}
-
-/// Writes a trace again with its codes in words, says how that ended, and answers the exit status.
-fn explain<R: AllocGlobal + Files + Print + Eprint + Input>(
-    rt: &R,
-    trace: Option<&str>,
-    mask: Mask,
-    told: Told,
-) -> u8
-    ensures { IsExplained result }
-{
-    let mut seen = Seen::new(trace);
-    let outcome = explain_file(rt, trace, mask, told, &mut seen);
-    end_explain(rt, &outcome, &seen)
-}
-
 /// Does what is asked for, and answers the exit status.
 fn serve<R: AllocGlobal + Files + Print + Eprint + Input + Clock + Threads + Wait + Sync>(
     rt: &R,
@@ -625,15 +580,14 @@ fn serve<R: AllocGlobal + Files + Print + Eprint + Input + Clock + Threads + Wai
         Request::Check { files, manner } => end_check(rt, &check_files(rt, files, manner)),
         Request::Storm { file, play } => storm(rt, file, play),
         Request::Verify(wanted) => verify(rt, wanted),
+        Request::Audit(wanted) => audit(rt, &wanted),
+        Request::Picture(wanted) => picture(rt, &wanted),
         Request::Decode {
             code,
             upstream,
             mask,
             names,
-        } => match decode(rt, code, upstream, mask, names) {
-            Ok(()) => SUCCESS,
-            Err(fault) => report(rt, line_report(&fault)),
-        },
+        } => decode_alone(rt, code, upstream, mask, names),
         Request::DecodeLines {
             codes,
             direction,
@@ -646,7 +600,7 @@ fn serve<R: AllocGlobal + Files + Print + Eprint + Input + Clock + Threads + Wai
             upstream,
             mask,
         } => encode(rt, words, upstream, mask),
-        Request::Explain { trace, mask, told } => explain(rt, trace, mask, told),
+        Request::Explain(wanted) => explain(rt, &wanted),
     }
 }
 
@@ -689,7 +643,7 @@ fn run_words<R: AllocGlobal + Files + Print + Eprint + Input + Clock + Threads +
     ensures ended { IsRun (map string_bytes words.now) result }
     ensures bound { result ≤ greatest_status }
 {
-    match command_line::parse(rt.alloc(), words) {
+    match parse(rt.alloc(), words) {
         Ok(matches) => match request_of(&matches) {
             Some(request) => serve(rt, request),
             None => BAD_ARGUMENTS,

@@ -4,7 +4,7 @@ ghost use Rattle.gp_script.specs.Playable.{IsPlayable};
 ghost use Rattle.gp_script.specs.View.{script_view};
 
 use crate::progress::Counted;
-use crate::request::{Play, Told};
+use gp_command_line::{Play, Told};
 use gp_drive::{DriveFault, DriveManner, Driven, drive_script};
 use gp_explain::{Form, Telling};
 use gp_flow::{LineFault, LinesFault};

@@ -8,7 +8,7 @@ ghost use Rattle.gp_verify.specs.Ending.{wanted_lines};
 use crate::observed::{Observed, Seen};
 use crate::progress::Counted;
 use crate::reporting::{report, report_at, report_count, tell_came};
-use crate::request::Verification;
+use gp_command_line::Verification;
 use gp_flow::LinesFault;
 use gp_replay::RunFault;
 use gp_report::{NOT_A_RUN, SUCCESS, few_lines_report, no_line_report, verify_report};

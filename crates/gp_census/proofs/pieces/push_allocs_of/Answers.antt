@@ -1,5 +1,5 @@
 use Rattle.std.proofs.Common.{rules}
-use Rattle.gp_census.proofs.Held.{written_none, written_more, written_same}
+use Rattle.gp_census.proofs.Allocs.{written_none, written_more, written_same}
 use Rattle.gp_census.proofs.pieces.push_allocs_of.Goals as goal
 use Rattle.gp_census.proofs.pieces.push_allocs_of.Goals.{then-belongs_to+in_ok-push_field, else-belongs_to}
 

@@ -1,4 +1,4 @@
-use Rattle.gp_census.proofs.Held.{Written}
+use Rattle.gp_census.proofs.Allocs.{Written}
 use Rattle.gp_census.proofs.pieces.push_allocs_of.Given as goal
 
 -- the Alloc-IDs so far are written

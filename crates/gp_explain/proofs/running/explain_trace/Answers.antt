@@ -2,7 +2,7 @@ use Rattle.gp_explain.proofs.OutcomeLemmas.{explained_as, unbegun, unread_as}
 use Rattle.gp_explain.proofs.running.explain_trace.Goals as goal
 
 pub returns-in_err-explainer : goal.returns-in_err-explainer
-returns-in_err-explainer g c = unbegun c.args.telling c.args.source.now c.args.sink.now _ _ c.from_residual.ensures.1
+returns-in_err-explainer g c = unbegun c.args.telling c.args.source.now c.args.sink.now _ c.from_residual.ensures.1
 
 pub returns-in_err-run_lines : goal.returns-in_err-run_lines
 returns-in_err-run_lines g c =

@@ -2,7 +2,7 @@ use Rattle.gp_transcribe.proofs.OutcomeLemmas.{transcribed_as, unbegun, unread_a
 use Rattle.gp_transcribe.proofs.running.transcribe_trace.Goals as goal
 
 pub returns-in_err-transcriber : goal.returns-in_err-transcriber
-returns-in_err-transcriber g c = unbegun c.args.source.now c.args.sink.now _ _ c.from_residual.ensures.1
+returns-in_err-transcriber g c = unbegun c.args.source.now c.args.sink.now _ c.from_residual.ensures.1
 
 pub returns-in_err-run_lines : goal.returns-in_err-run_lines
 returns-in_err-run_lines g c =

@@ -1,5 +1,5 @@
 use Rattle.std.proofs.Common.{◌≡◌, ◌++◌, map, take}
-use Rattle.oltctl.specs.Requests.{on_a_line}
+use Rattle.oltctl.specs.Joined.{on_a_line}
 use Rattle.oltctl.proofs.joined.push_on_a_line.Given as goal
 
 abbrev pub invariant-octets : goal.invariant-octets

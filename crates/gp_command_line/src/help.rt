@@ -1,0 +1,236 @@
+//! What stands at the end of the help of each command: examples, and its exit statuses.
+
+/// What stands at the end of the help of the program.
+pub const ABOUT_HELP: &str = "\
+Examples:
+  oltctl replay script.toml
+  oltctl COMMAND --help
+
+Exit status:
+  0  done, or help that was asked for
+  1  the input was not read, is too long, or is no script, code, turn or log
+  2  the command line is wrong
+  3  out of memory
+  4  the output takes no more
+  5  a storm's threads and journals do not agree
+  6  a port of a storm has more entries than its journal keeps
+  7  the trace is no run, or has too few lines; or a rule is broken";
+
+/// What stands at the end of the help of `replay`.
+pub const REPLAY_HELP: &str = "\
+Examples:
+  oltctl replay script.toml
+  oltctl replay --words --time script.toml
+  oltctl replay --explain --progress script.toml
+
+Exit status:
+  0  the whole trace was written
+  1  the script is wrong, too long, or was not read
+  2  the command line is wrong
+  3  out of memory
+  4  the output takes no more";
+
+/// What stands at the end of the help of `check`.
+pub const CHECK_HELP: &str = "\
+Examples:
+  oltctl check script.toml
+  oltctl check -q scripts/*.toml
+  oltctl check --storm script.toml
+  oltctl check --format json scripts/*.toml
+
+What is right is told on standard output, what is wrong on standard error; with
+--format json both on standard output, an object a file.
+
+Exit status:
+  0  all files are scripts
+  1  one is wrong, too long, or was not read: the line says where
+  2  the command line is wrong
+  3  out of memory
+  4  the output takes no more";
+
+/// What stands at the end of the help of `storm`.
+pub const STORM_HELP: &str = "\
+Examples:
+  oltctl storm script.toml
+  oltctl storm --explain - < script.toml
+
+Exit status:
+  0  the totals were written
+  1  the script is wrong, too long, has simulated units, or was not read
+  2  the command line is wrong
+  3  out of memory
+  4  the output takes no more
+  5  a thread was not started, or receipts and journals do not agree
+  6  a port has more entries than its journal keeps";
+
+/// What stands at the end of the help of `verify`.
+pub const VERIFY_HELP: &str = "\
+Examples:
+  oltctl verify script.toml my-own.trace
+  oltctl replay script.toml | oltctl verify --at-least 10 script.toml
+  oltctl verify --words script.toml my-own.trace
+  oltctl verify --format json script.toml my-own.trace
+
+With --words the line that can't be and the machine's own are told with their
+codes in words; with --format json standard output is one object, whose field
+run says whether the trace is a run.
+
+Exit status:
+  0  the trace is a run
+  1  the script is wrong, or the script or the trace was not read
+  2  the command line is wrong
+  3  out of memory
+  4  the output takes no more
+  7  the trace is no run: the first line that can't be is told; or it has
+     too few lines";
+
+/// What stands at the end of the help of `drive`.
+pub const DRIVE_HELP: &str = "\
+Lines, with one space between parts:
+  PORT frame [COUNT]  a frame, or so many, 1 to 1000000
+  PORT until GRANT    frames up to this grant: search, range ONU-ID, poll ONU-ID
+  .. within N         at most so many frames, 1 to 1000000
+  PORT burst D HEX    13 octets arrive, D bit times after their grant
+  PORT search         a search for new units
+  PORT COMMAND S      alloc, deactivate, disable, enable, popup or show
+  PORT dealloc S A    the further Alloc-ID A is taken back
+  PORT enable-all, PORT popup-all
+  PORT say serial S [onu N] [at D]  a unit's burst: its serial number
+  PORT say gasp onu N [at D]        a unit's burst: it is losing its power
+  PORT say none onu N [at D]        a unit's burst: it has nothing to say
+  PORT say ack onu N id K [at D]    a unit's burst: it has heard message K
+  unit I light        the light of a simulated unit comes; dark: it goes
+  unit I show         what a simulated unit is: its state, ONU-ID and delay
+  # ..                a remark; empty lines too are passed over
+S is a serial number, ABCD00000001; D a round-trip delay in bit times, 0 where it is
+left out; K the identifier of a message, 0 to 255, as 10 of Assign_Alloc-ID.
+
+A line that is no turn changes nothing and is answered by: error LINE KIND. KIND is
+word, number, range, serial, hex, space or long, or port or unit where it isn't there.
+Frames that end without their grant are answered behind them by: error LINE never
+A unit is shown by: unit I STATE [onu N] [eqd EQD] [dark]
+With --done the answer to each line, also to an empty one, ends with: done LINE
+
+Examples:
+  oltctl drive script.toml
+  printf '0 search\\n0 frame 4\\n' | oltctl drive script.toml
+
+Exit status:
+  0  no line was answered by an error
+  1  a line was answered by an error, or the script is wrong, or the input was not
+     read
+  2  the command line is wrong
+  3  out of memory
+  4  the output takes no more";
+
+/// What stands at the end of the help of `explain`.
+pub const EXPLAIN_HELP: &str = "\
+Examples:
+  oltctl explain trace.txt
+  oltctl replay script.toml | oltctl explain -
+  oltctl explain --log trace.txt | oltctl audit
+
+With --log each line of the trace that says something on the fibre is written as lines
+of a log: PORT TIME down CODE, PORT TIME up CODE DELAY, PORT TIME grant GRANT, TIME in
+frames.
+
+Exit status:
+  0  all lines were told
+  1  a line is none of a trace, or the trace was not read
+  2  the command line is wrong
+  3  out of memory
+  4  the output takes no more";
+
+/// What stands at the end of the help of `audit`.
+pub const AUDIT_HELP: &str = "\
+Lines of LOG, which may be mixed with those of a trace:
+  [PORT] TIME down CODE         a message of the line terminal
+  [PORT] TIME up CODE [DELAY]   one of a unit; DELAY in bit times, without the
+                                unit's equalization delay
+  [PORT] TIME grant search      a window; or: grant range N, grant poll N
+TIME is a number of frames, or has a unit: 12.125ms, us or s. Codes may have colons,
+hyphens, spaces and 0x, fields spaces, tabs, commas and semicolons between them.
+
+Rules of the terminal: garbled copies range barred unasked taken renumbered nobody
+unranged delay early shared not-held grant; of units: garbled disabled anew number
+acknowledge drift. RULES are some of these, with commas between.
+
+Examples:
+  oltctl audit lab.log
+  oltctl audit --words --units lab.log
+  oltctl audit --midway --without drift < capture.log
+  oltctl audit --teqd 1=250000 two-ports.trace
+  oltctl audit --side terminal --format json lab.log
+
+Exit status:
+  0  no rule that is told is broken
+  1  a line is answered by an error, nothing was heard, or the log was not read
+  2  the command line is wrong
+  3  out of memory
+  4  the output takes no more
+  7  a rule is broken";
+
+/// What stands at the end of the help of `picture`.
+pub const PICTURE_HELP: &str = "\
+LOG is what audit reads: a log of messages or a trace. A chart is drawn for each port,
+with a lane for each unit; findings are marked as audit tells them.
+
+Examples:
+  oltctl picture lab.log > lab.svg
+  oltctl replay script.toml | oltctl picture > run.svg
+  oltctl picture --from 8000 --to 16000 lab.log > second.svg
+
+Exit status:
+  0  the picture was written
+  1  a line is neither one of a log nor of a trace, or LOG was not read
+  2  the command line is wrong
+  3  out of memory
+  4  the output takes no more";
+
+/// What stands at the end of the help of `decode`.
+pub const DECODE_HELP: &str = "\
+Examples:
+  oltctl decode ff03004142434400000001001b
+  oltctl decode --up - < codes.txt
+  oltctl decode --up --names 000500010203040506070809e6
+  echo up ff01414243440000000100002c | oltctl decode --both
+  oltctl decode --both 'up ff01414243440000000100002c' 'down ff03004142434400000001001b'
+
+Without --up and --both codes are the line terminal's. Of a wrong check octet a line
+says which is right: echo HEX | oltctl decode.
+In lines, empty ones and those that begin with # are passed over, and 0x, colons,
+hyphens and spaces in a code. Other ID OCTET1 HEX is a message that has no name here:
+the number of its kind, its first octet, and the ten behind both. With --names the name
+that G.984.3 has for it stands in the place of Other ID, if it has one.
+
+Exit status, that of the first fault:
+  0  all codes were told
+  1  a code is wrong, or the input was not read
+  2  the command line is wrong
+  3  out of memory
+  4  the output takes no more";
+
+/// What stands at the end of the help of `encode`.
+pub const ENCODE_HELP: &str = "\
+Examples:
+  oltctl encode Assign_ONU-ID 0 ABCD00000001
+  oltctl encode --up --mask 85 Acknowledge 0 10
+  oltctl encode Other 9 255 00000000000000000000
+  oltctl decode < codes.txt | oltctl encode -
+
+Messages: Upstream_Overhead HEX, Assign_ONU-ID N SERIAL, Ranging_Time N EQD,
+Deactivate_ONU-ID N, Disable_Serial_Number SERIAL, Enable_Serial_Number SERIAL,
+Enable_All, Assign_Alloc-ID N ALLOC keep|back, POPUP N, No_message; with --up
+Serial_Number_ONU N SERIAL RANDOM FLAGS, Dying_Gasp N, No_message N, Acknowledge N ID.
+N is an ONU-ID, 0 to 255. Of an Acknowledge decode leaves out the copy of
+what is acknowledged, and here nine zeros stand in its place.
+Other ID OCTET1 HEX is a message that has no name here: ID is its identifier, octet 2 of
+the code, OCTET1 its octet 1, both 0 to 255, and HEX its octets 3 to 12, as 20 digits.
+Names that decode writes with --names are not read.
+
+Exit status:
+  0  all codes were written
+  1  words have no code, or the input was not read
+  2  the command line is wrong
+  3  out of memory
+  4  the output takes no more";

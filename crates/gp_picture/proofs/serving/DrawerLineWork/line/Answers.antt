@@ -1,0 +1,11 @@
+use Rattle.std.proofs.Common.{rules}
+use Rattle.gp_picture.proofs.ServingLemmas.{drawn_line, read_as, refused_line, unread_as}
+use Rattle.gp_picture.proofs.serving.DrawerLineWork.line.Goals as goal
+
+pub returns-in_default : goal.returns-in_default
+returns-in_default g c =
+    refused_line _ _ c.args.text.now _ (search rules) (unread_as c.args.text.now c.read_line.result c.in_default.field-0 c.in_default.is c.read_line.ensures) (search rules)
+
+pub returns : goal.returns
+returns g c =
+    drawn_line _ _ c.args.text.now _ (search rules) (read_as c.args.text.now c.read_line.result c.in-Ok.read c.in-Ok.is c.read_line.ensures) (search rules)

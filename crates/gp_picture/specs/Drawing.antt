@@ -1,0 +1,54 @@
+-- How far an input was read (this profile's own rule). What is drawn of a line is tested, and not said here.
+use Rattle.std.specs.Prelude.{◌≡◌, ℕ, ◌+◌, ◌⊎◌, Bool, List, [], Option, None, Some, is_some, Ok, Err}
+use Rattle.gp_flow.specs.Lines.{Speech, WholeLines}
+use Rattle.gp_explain.specs.declared.fault.NoLine.{NoLine}
+use Rattle.gp_explain.specs.declared.fault.NoLine.TheVariants.{NotALine, TooLong}
+use Rattle.gp_log.specs.declared.fault.LogFault.{LogFault}
+use Rattle.gp_log.specs.declared.line.LogLine.{LogLine}
+use Rattle.gp_log.specs.Line.{Reads}
+
+-- a line of a trace or a log, an empty one, or a remark
+abbrev pub IsRead : List ℕ → Type 0
+IsRead text = (line : LogLine) × Reads text (Ok line)
+
+-- any other line, and what is wrong with it
+abbrev pub IsUnread : List ℕ → Type 0
+IsUnread text = (fault : LogFault) × Reads text (Err fault)
+
+-- how many lines came, and why the last of them ended it, if it did
+pub record DrawState : Type 0 where
+  pub lines : ℕ
+  pub ended : Option NoLine
+
+-- before the first line
+abbrev pub opened : DrawState
+opened = record { lines = 0; ended = None }
+
+-- one line more came
+abbrev pub counted : DrawState → DrawState
+counted state = record state { lines = state.lines + 1 }
+
+-- one line more came, and ended it
+abbrev pub ended_by : NoLine → DrawState → DrawState
+ended_by why state = record state { lines = state.lines + 1; ended = Some why }
+
+-- a line that is read is counted; any other ends it
+abbrev pub DrawsText : DrawState → List ℕ → DrawState → Type 0
+DrawsText old text new = (IsRead text × (new ≡ counted old)) ⊎ (IsUnread text × (new ≡ ended_by NotALine old))
+
+-- by what ended it before: nothing is looked at any more; a line that is too long ends it
+abbrev pub DrawsFrom : Option NoLine → DrawState → Option (List ℕ) → DrawState → Type 0
+DrawsFrom (Some why) old line new = new ≡ old
+DrawsFrom None old None new = new ≡ ended_by TooLong old
+DrawsFrom None old (Some text) new = DrawsText old text new
+
+-- nothing is said to a line
+abbrev pub Draws : DrawState → Option (List ℕ) → List ℕ → DrawState → Type 0
+Draws old line said new = (said ≡ []) × DrawsFrom old.ended old line new
+
+abbrev pub Drawing : Speech DrawState
+Drawing = WholeLines Draws
+
+-- it has ended
+abbrev pub has_ended : DrawState → Bool
+has_ended state = is_some state.ended

@@ -1,0 +1,95 @@
+-- How drawing a trace or a log may end (this profile's own rule).
+use Rattle.std.specs.Prelude.{◌≡◌, ◌<◌, ◌⊎◌, ℕ, ◌+◌, true, List, ◌∷◌, ◌++◌, length, codes, Option, Some, None, Result, Ok, Err}
+use Rattle.std.specs.Io.KnownBytes.{Appends, Consumes}
+use Rattle.std.specs.List.{All}
+use Rattle.gp_flow.specs.declared.fault.LineFault.TheVariants.{OutOfMemory}
+use Rattle.gp_flow.specs.declared.fault.LinesFault.TheVariants as faults
+use Rattle.gp_flow.specs.Lines.{lines_of}
+use Rattle.gp_lines.specs.Turn.{longest_line}
+use Rattle.gp_stream.specs.declared.sink.WriteStopped.{WriteStopped}
+use Rattle.gp_stream.specs.Sink.{SinkState, KeepsNothing, WritesWhole}
+use Rattle.gp_stream.specs.Source.{SourceState, ReadsWhole}
+use Rattle.gp_explain.specs.declared.fault.ExplainFault.{ExplainFault}
+use Rattle.gp_explain.specs.declared.fault.ExplainFault.TheVariants.{Refused, Lines}
+use Rattle.gp_explain.specs.declared.fault.NoLine.{NoLine}
+use Rattle.gp_explain.specs.declared.fault.NoLine.TheVariants.{NotALine, TooLong}
+use Rattle.gp_picture.specs.Drawing.{DrawState, IsRead, IsUnread}
+
+-- a whole SVG document (W3C, Scalable Vector Graphics 1.1). What stands in it is tested, and not said here.
+abbrev pub IsSvg : List ℕ → Type 0
+IsSvg text = (inside : List ℕ) × (text ≡ codes "<svg " ++ inside ++ codes "</svg>\n")
+
+-- the whole input was read, each of its lines is read, and the writer got one picture
+pub record IsDrawn {R W : Type 0} (from to : SourceState R) (before after : SinkState W) (lines : ℕ) : Type 0 where
+  pub text : List ℕ
+  pub read : ReadsWhole from to text
+  pub all : All IsRead (lines_of text)
+  pub count : length (lines_of text) ≡ lines
+  -- the writer got all of it, and keeps nothing back
+  pub picture : List ℕ
+  pub svg : IsSvg picture
+  pub written : Appends before.held after.held (before.gathered ++ picture)
+  pub kept : KeepsNothing after
+
+-- why a text is no line of a trace or a log
+abbrev pub IsNone : NoLine → List ℕ → Type 0
+IsNone NotALine text = IsUnread text
+IsNone TooLong text = longest_line < length text
+
+-- the lines before this one are read, this one is not, and no picture is written
+pub record IsRefused {R W : Type 0} (from to : SourceState R) (before after : SinkState W) (line : ℕ) (why : NoLine)
+    : Type 0 where
+  -- what was read
+  pub bytes : List ℕ
+  pub came : Consumes from.remaining to.remaining bytes
+  -- its lines: those before, this one, and others
+  pub first : List (List ℕ)
+  pub text : List ℕ
+  pub others : List (List ℕ)
+  pub lines : lines_of bytes ≡ first ++ text ∷ others
+  pub all : All IsRead first
+  pub number : length first + 1 ≡ line
+  pub none : IsNone why text
+  pub written : Appends before.held after.held before.gathered
+  pub kept : KeepsNothing after
+
+-- of what was handed in before, and of a picture, the writer got a prefix, and nothing else
+pub record IsBegun {R W : Type 0} (from to : SourceState R) (before after : SinkState W) : Type 0 where
+  pub bytes : List ℕ
+  pub came : Consumes from.remaining to.remaining bytes
+  pub picture : List ℕ
+  pub written : List ℕ
+  pub unwritten : List ℕ
+  pub all : written ++ unwritten ≡ before.gathered ++ picture
+  pub appended : Appends before.held after.held written
+
+-- how it may end; a failed read, and the bound of reads, are told as such. Memory may run out before anything was read.
+abbrev pub DrawsTrace : {R W : Type 0} → SourceState R → SourceState R → SinkState W → SinkState W
+    → Result ℕ ExplainFault → Type 0
+DrawsTrace from to before after (Ok lines) = IsDrawn from to before after lines
+DrawsTrace from to before after (Err (Refused line why)) = IsRefused from to before after line why
+DrawsTrace from to before after (Err (Lines faults.Read)) =
+    IsBegun from to before after × ((to.failed ≡ true) ⊎ (to.left ≡ 0))
+DrawsTrace from to before after (Err (Lines (faults.Line fault))) =
+    IsBegun from to before after ⊎ ((fault ≡ OutOfMemory) × (to ≡ from) × (after ≡ before))
+
+-- how a picture is written, if it is
+abbrev pub WritesPicture : {W : Type 0} → SinkState W → SinkState W → Result (Unit {0}) ExplainFault → Type 0
+WritesPicture before after (Ok done) =
+    (picture : List ℕ) × IsSvg picture
+    × WritesWhole {T = Unit {0}} {E = WriteStopped} before after picture (Ok done)
+WritesPicture before after (Err (Refused line why)) = ⊥
+WritesPicture before after (Err (Lines faults.Read)) = ⊥
+WritesPicture before after (Err (Lines (faults.Line fault))) =
+    (after ≡ before)
+    ⊎ ((picture : List ℕ) × (stopped : WriteStopped) × WritesWhole {T = Unit {0}} before after picture (Err stopped))
+
+-- how it ends behind the last line
+abbrev pub EndsAs : {W : Type 0} → Option NoLine → DrawState → SinkState W → SinkState W → Result ℕ ExplainFault
+    → Type 0
+EndsAs (Some why) drawn before after answer = (answer ≡ Err (Refused drawn.lines why)) × (after ≡ before)
+EndsAs None drawn before after (Ok lines) = (lines ≡ drawn.lines) × WritesPicture before after (Ok (tt {0}))
+EndsAs None drawn before after (Err fault) = WritesPicture before after (Err fault)
+
+abbrev pub Ends : {W : Type 0} → DrawState → SinkState W → SinkState W → Result ℕ ExplainFault → Type 0
+Ends drawn before after answer = EndsAs drawn.ended drawn before after answer

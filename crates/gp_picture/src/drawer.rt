@@ -1,0 +1,53 @@
+//! The lines of a trace or a log, one after another.
+ghost use Rattle.std.specs.Prelude.{◌≡◌, IfOk};
+ghost use Rattle.gp_picture.specs.Drawing.{opened};
+
+use crate::options::PictureOptions;
+use crate::picture::Picture;
+use gp_explain::NoLine;
+use std::alloc::{AllocError, Global};
+use std::marker::Model;
+
+/// Is given the lines of a trace or a log, one after another. The first line that is none ends it. Contracts see how
+/// many lines came, and what ended it.
+#[derive(Drop)]
+pub struct Drawer {
+    pub(crate) picture: Picture,
+    pub(crate) lines: u64,
+    pub(crate) ended: Option<NoLine>,
+}
+
+impl Model for Drawer {
+    ghost use Rattle.gp_picture.specs.Drawing.{DrawState};
+
+    ghost Value = { DrawState };
+
+    ghost view = { λ s. record { lines = s.lines; ended = s.ended } };
+}
+
+impl Drawer {
+    /// Makes one to which no line came. Fails only where there is no memory.
+    pub fn begin(alloc: Global, options: &PictureOptions) -> Result<Drawer, AllocError>
+        ensures { IfOk result (λ drawer. drawer ≡ opened) }
+    {
+        Ok(Drawer {
+            picture: Picture::begin(alloc, options)?,
+            lines: 0,
+            ended: None,
+        })
+    }
+
+    /// Why it ended, if it did: the line that came last is none of a trace or a log.
+    pub fn ended(&self) -> Option<NoLine>
+        ensures { result ≡ self.now.ended }
+    {
+        self.ended
+    }
+
+    /// How many lines came, up to the one that ended it.
+    pub fn lines(&self) -> u64
+        ensures { result ≡ self.now.lines }
+    {
+        self.lines
+    }
+}

@@ -1,0 +1,63 @@
+//! A whole trace or log.
+ghost use Rattle.std.specs.Prelude.{◌≡◌, true};
+ghost use Rattle.gp_picture.specs.Outcome as spec;
+
+use crate::drawer::Drawer;
+use crate::options::PictureOptions;
+use crate::picture::Picture;
+use crate::whole::picture_text;
+use gp_explain::ExplainFault;
+use gp_flow::{LineFault, LinesFault, run_lines};
+use gp_stream::{Sink, Source};
+use std::alloc::Global;
+use std::io::{Read, Write};
+
+/// Reads a trace or a log to its end, writes its picture, and answers how many lines it has. Nothing is written before
+/// all of it was read. The first line that `gp_log::read_line` doesn't read ends it, and no picture is written then.
+///
+/// What memory it takes has a bound, whatever the length of the input: for at most 4,096 serial numbers a port, 1,024
+/// lanes, and about 3,000 marks and changes.
+pub fn draw_trace<R: Read, W: Write>(
+    alloc: Global,
+    options: &PictureOptions,
+    source: &mut Source<R>,
+    sink: &mut Sink<W>,
+) -> Result<u64, ExplainFault>
+    requires { sink.old.flushed ≡ true }
+    ensures { spec.DrawsTrace source.old source.new sink.old sink.new result }
+{
+    let mut drawer = Drawer::begin(alloc, options)?;
+    run_lines(alloc, source, sink, &mut drawer)?;
+    finish(alloc, &drawer, sink)
+}
+
+/// Writes the picture of all lines, unless one ended it.
+fn finish<W: Write>(alloc: Global, drawer: &Drawer, sink: &mut Sink<W>) -> Result<u64, ExplainFault>
+    ensures { spec.Ends drawer.now sink.old sink.new result }
+{
+    match drawer.ended {
+        Some(why) => Err(ExplainFault::Refused {
+            line: drawer.lines,
+            why,
+        }),
+        None => {
+            write_picture(alloc, &drawer.picture, sink)?;
+            Ok(drawer.lines)
+        }
+    }
+}
+
+/// Writes a picture as SVG.
+fn write_picture<W: Write>(
+    alloc: Global,
+    picture: &Picture,
+    sink: &mut Sink<W>,
+) -> Result<(), ExplainFault>
+    ensures { spec.WritesPicture sink.old sink.new result }
+{
+    let text = picture_text(alloc, picture)?;
+    match sink.write_whole(text.as_bytes()) {
+        Ok(()) => Ok(()),
+        Err(_) => Err(ExplainFault::Lines(LinesFault::Line(LineFault::Write))),
+    }
+}

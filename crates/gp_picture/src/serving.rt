@@ -1,0 +1,50 @@
+//! A drawer serves lines.
+use crate::drawer::Drawer;
+use crate::moment::LineText;
+use gp_explain::NoLine;
+use gp_flow::{LineFault, LineWork};
+use gp_log::read_line;
+use gp_stream::Sink;
+use std::io::Write;
+
+impl LineWork for Drawer {
+    ghost use Rattle.gp_picture.specs.Drawing.{Drawing, has_ended};
+
+    ghost speech = { Drawing };
+
+    ghost over = { has_ended };
+
+    fn is_over(&self) -> bool {
+        self.ended.is_some()
+    }
+
+    fn line<W: Write>(&mut self, text: &[u8], _sink: &mut Sink<W>) -> Result<(), LineFault> {
+        if self.ended.is_some() {
+            return Ok(());
+        }
+        if self.lines == u64::MAX {
+            return Err(LineFault::Full);
+        }
+        let Ok(read) = read_line(text) else {
+            self.lines += 1;
+            self.ended = Some(NoLine::NotALine);
+            return Ok(());
+        };
+        let number = self.lines + 1;
+        self.picture.line(&LineText { number, text }, &read)?;
+        self.lines = number;
+        Ok(())
+    }
+
+    fn long_line<W: Write>(&mut self, _sink: &mut Sink<W>) -> Result<(), LineFault> {
+        if self.ended.is_some() {
+            return Ok(());
+        }
+        if self.lines == u64::MAX {
+            return Err(LineFault::Full);
+        }
+        self.lines += 1;
+        self.ended = Some(NoLine::TooLong);
+        Ok(())
+    }
+}

@@ -1,0 +1,140 @@
+//! Which rules the messages of a log break.
+ghost use Rattle.std.specs.Prelude.{◌≡◌};
+ghost use Rattle.oltctl.specs.Statuses.{IsAudited, audit_status, audited_status};
+
+use crate::audit_options::{BadOption, options_of};
+use crate::observed::{Observed, Seen};
+use crate::progress::Counted;
+use crate::reporting::report;
+use gp_audit::{AuditOptions, Auditor, audit_log};
+use gp_command_line::Audit;
+use gp_finding::AuditSum;
+use gp_flow::LinesFault;
+use gp_report::{BAD_ARGUMENTS, BAD_INPUT, NOT_A_RUN, SUCCESS, input_report};
+use gp_stream::{Sink, Source};
+use std::io;
+use std::io::Read;
+use std::rt::{Clock, Files};
+
+/// The rules, as they are named.
+const RULE_NAMES: &str =
+    "the rules are garbled, copies, range, barred, unasked, taken, renumbered, nobody, unranged, \
+delay, early, shared, not-held, grant, disabled, anew, number, acknowledge, drift";
+
+/// A log that was audited to its end.
+#[derive(Clone, Copy)]
+pub(crate) struct Audited {
+    /// How many lines, findings and errors there were.
+    sum: AuditSum,
+    /// Neither a message nor a grant was heard.
+    is_silent: bool,
+}
+
+/// Audits the log that a reader gives. What is found goes to standard output.
+fn audit_from<R: AllocGlobal + Print, T: Read + Drop>(
+    rt: &R,
+    options: &AuditOptions,
+    log: T,
+) -> Result<Audited, LinesFault> {
+    let mut source = Source::endless(log);
+    let mut sink = Sink::new(rt.alloc(), io::writer(rt))?;
+    let mut auditor = Auditor::begin(rt.alloc(), options)?;
+    let sum = audit_log(rt.alloc(), &mut source, &mut sink, &mut auditor)?;
+    let is_silent = auditor.is_silent();
+    Ok(Audited { sum, is_silent })
+}
+
+/// Audits the log of a file, or of standard input.
+fn audit_file<R: AllocGlobal + Files + Print + Eprint + Input + Clock>(
+    rt: &R,
+    options: &AuditOptions,
+    wanted: &Audit<'_, '_>,
+    seen: &mut Seen<'_>,
+) -> Result<Audited, LinesFault> {
+    match wanted.log {
+        None => {
+            let log = Observed::new(rt.reader(), seen);
+            let log = Counted::new(rt, log, wanted.progress, None);
+            audit_from(rt, options, log)
+        }
+        Some(path) => match std::fs::open(rt, path) {
+            Ok(log) => {
+                let log = Observed::new(log, seen);
+                let log = Counted::new(rt, log, wanted.progress, None);
+                audit_from(rt, options, log)
+            }
+            Err(error) => {
+                seen.failed(&error);
+                Err(LinesFault::Read)
+            }
+        },
+    }
+}
+
+/// Says that a log had lines that were none, or nothing that was heard, and answers the exit status.
+fn end_audited<R: Eprint>(rt: &R, audited: &Audited) -> u8
+    ensures { result ≡ audited_status audited.now }
+{
+    if audited.sum.errors != 0 {
+        let errors = audited.sum.errors;
+        let _ = eprintln!(rt; "oltctl: lines answered by an error: {errors}");
+        return BAD_INPUT;
+    }
+    if audited.is_silent {
+        return report(rt, ("oltctl: nothing was heard", BAD_INPUT));
+    }
+    if audited.sum.findings == 0 {
+        SUCCESS
+    } else {
+        NOT_A_RUN
+    }
+}
+
+/// Says how an audit ended, and answers the exit status.
+fn end_audit<R: AllocGlobal + Eprint>(
+    rt: &R,
+    outcome: &Result<Audited, LinesFault>,
+    seen: &Seen<'_>,
+) -> u8
+    ensures { result ≡ audit_status outcome.now }
+{
+    match outcome {
+        Ok(audited) => end_audited(rt, audited),
+        Err(LinesFault::Read) => seen.tell_unread(rt),
+        Err(fault) => report(rt, input_report(fault)),
+    }
+}
+
+/// Says which option can't be read, and answers the exit status.
+pub(crate) fn refuse_option<R: Eprint>(rt: &R, option: BadOption<'_>) -> u8
+    ensures { result ≡ BAD_ARGUMENTS }
+{
+    let _ = match option {
+        BadOption::Rule(name) => eprintln!(rt;
+            "oltctl: no rule is called \"{name}\"; {RULE_NAMES}"
+        ),
+        BadOption::Delay(text) => {
+            eprintln!(rt;
+                "oltctl: --teqd {text} is no delay; it is T or PORT=T, T below 2^32 bit times, PORT 0 to 15"
+            )
+        }
+    };
+    BAD_ARGUMENTS
+}
+
+/// Audits a log, says how that ended, and answers the exit status.
+pub(crate) fn audit<R: AllocGlobal + Files + Print + Eprint + Input + Clock>(
+    rt: &R,
+    wanted: &Audit<'_, '_>,
+) -> u8
+    ensures { IsAudited result }
+{
+    match options_of(wanted) {
+        Err(option) => refuse_option(rt, option),
+        Ok(options) => {
+            let mut seen = Seen::new(wanted.log);
+            let outcome = audit_file(rt, &options, wanted, &mut seen);
+            end_audit(rt, &outcome, &seen)
+        }
+    }
+}

@@ -1,0 +1,122 @@
+//! A log that is drawn as a picture.
+ghost use Rattle.std.specs.Prelude.{◌≡◌};
+ghost use Rattle.oltctl.specs.Statuses.{IsPictured, told_status};
+
+use crate::audit_options::{delays_of, drift_of};
+use crate::auditing::refuse_option;
+use crate::observed::{Observed, Seen};
+use crate::reporting::{report, report_at};
+use gp_command_line::Drawing;
+use gp_explain::{ExplainFault, NoLine};
+use gp_flow::LinesFault;
+use gp_picture::{Frames, PictureOptions, draw_trace};
+use gp_report::{BAD_ARGUMENTS, BAD_INPUT, SUCCESS, explain_report};
+use gp_stream::{Sink, Source};
+use std::io;
+use std::io::Read;
+use std::rt::Files;
+
+/// Draws the log that a reader gives, to standard output.
+fn draw_from<R: AllocGlobal + Print, T: Read + Drop>(
+    rt: &R,
+    log: T,
+    options: &PictureOptions,
+) -> Result<u64, ExplainFault> {
+    let mut source = Source::endless(log);
+    let mut sink = Sink::new(rt.alloc(), io::writer(rt))?;
+    draw_trace(rt.alloc(), options, &mut source, &mut sink)
+}
+
+/// Does so of the log of a file, or of standard input.
+fn draw_file<R: AllocGlobal + Files + Print + Input>(
+    rt: &R,
+    log: Option<&str>,
+    options: &PictureOptions,
+    seen: &mut Seen<'_>,
+) -> Result<u64, ExplainFault> {
+    match log {
+        None => draw_from(rt, Observed::new(rt.reader(), seen), options),
+        Some(path) => match std::fs::open(rt, path) {
+            Ok(log) => draw_from(rt, Observed::new(log, seen), options),
+            Err(error) => {
+                seen.failed(&error);
+                Err(ExplainFault::Lines(LinesFault::Read))
+            }
+        },
+    }
+}
+
+/// Says how drawing a log ended, with the number of the line that is none, and answers the exit status.
+fn end_picture<R: AllocGlobal + Eprint>(
+    rt: &R,
+    outcome: &Result<u64, ExplainFault>,
+    seen: &Seen<'_>,
+) -> u8
+    ensures { result ≡ told_status outcome.now }
+{
+    match outcome {
+        Ok(_) => SUCCESS,
+        Err(fault) => match fault {
+            ExplainFault::Refused {
+                line,
+                why: NoLine::NotALine,
+            } => {
+                report_at(
+                    rt,
+                    ("oltctl: no line of a log or a trace", BAD_INPUT),
+                    *line,
+                )
+            }
+            ExplainFault::Refused {
+                line,
+                why: NoLine::TooLong,
+            } => { report_at(rt, explain_report(fault), *line) }
+            ExplainFault::Lines(LinesFault::Read) => seen.tell_unread(rt),
+            ExplainFault::Lines(_) => report(rt, explain_report(fault)),
+        },
+    }
+}
+
+/// Gives which frames of a log are drawn: all where neither end is given.
+fn frames_of(from: Option<u64>, to: Option<u64>) -> Frames {
+    Frames {
+        from: from.unwrap_or(0),
+        to: to.unwrap_or(u64::MAX),
+    }
+}
+
+/// Says that the frames that are wanted end before they begin, and answers the exit status.
+fn refuse_frames<R: Eprint>(rt: &R, frames: Frames) -> u8
+    ensures { result ≡ BAD_ARGUMENTS }
+{
+    let Frames { from, to } = frames;
+    let _ = eprintln!(rt; "oltctl: --from {from} is behind --to {to}");
+    BAD_ARGUMENTS
+}
+
+/// Draws a log, says how that ended, and answers the exit status.
+pub(crate) fn picture<R: AllocGlobal + Files + Print + Eprint + Input>(
+    rt: &R,
+    wanted: &Drawing<'_, '_>,
+) -> u8
+    ensures { IsPictured result }
+{
+    let frames = frames_of(wanted.from, wanted.to);
+    if frames.from > frames.to {
+        return refuse_frames(rt, frames);
+    }
+    let teqd = match delays_of(wanted.teqd) {
+        Ok(teqd) => teqd,
+        Err(option) => return refuse_option(rt, option),
+    };
+    let options = PictureOptions {
+        frames,
+        mask: wanted.mask,
+        teqd,
+        drift: drift_of(wanted.drift),
+        midway: wanted.midway,
+    };
+    let mut seen = Seen::new(wanted.log);
+    let outcome = draw_file(rt, wanted.log, &options, &mut seen);
+    end_picture(rt, &outcome, &seen)
+}
