@@ -7,3 +7,4 @@ pub mod Trace
 pub mod Line
 pub mod Text
 pub mod Told
+pub mod Usual

@@ -5,6 +5,7 @@ ghost use Rattle.gp_log.specs.Code as spec;
 
 use crate::fault::LogFault;
 use crate::fields::{is_parted, trimmed};
+use crate::leading::leading_code;
 
 /// Gives the value of a hexadecimal digit, in either case.
 fn digit_value(digit: u8) -> Option<u8>
@@ -69,12 +70,24 @@ fn code_at(text: &[u8]) -> Option<([u8; 13], &[u8])>
     Some((octets, rest))
 }
 
+/// Reads the code that a text begins with, as it may be spelled.
+fn any_code(text: &[u8]) -> Option<([u8; 13], &[u8])>
+    ensures { MatchOption result (spec.code_at text.now ≡ None)
+        (λ read. spec.code_at text.now ≡ Some (read.0, read.1.now)) }
+{
+    match leading_code(text) {
+        Some(read) => Some(read),
+        None => code_at(text),
+    }
+}
+
 /// Reads the code that is next in a text, and gives what stands behind it.
+#[inline(always)]
 pub(crate) fn next_code(text: &[u8]) -> Result<([u8; 13], &[u8]), LogFault>
     ensures { MatchResult result (λ read. spec.next_code text.now ≡ Ok (read.0, read.1.now))
         (λ fault. spec.next_code text.now ≡ Err fault) }
 {
-    let Some(read) = code_at(trimmed(text)) else {
+    let Some(read) = any_code(trimmed(text)) else {
         return Err(LogFault::Code);
     };
     if is_parted(read.1) {

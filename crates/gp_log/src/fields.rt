@@ -1,15 +1,18 @@
 //! The fields of a line.
-ghost use Rattle.std.specs.Prelude.{◌≡◌, ◌≤◌, ℕ, Bool, IfOk, IfSome, length, position};
+ghost use Rattle.std.specs.Prelude.{◌≡◌, ◌≤◌, ℕ, Bool, true, false, Ok, Err, IfOk, IfSome, MatchOption, MatchResult, length, position};
+ghost use Rattle.std.specs.List.{list_all};
+ghost use Rattle.gp_log.specs.declared.fault.LogFault.TheVariants as faults;
 ghost use Rattle.std.specs.Str.{bytes_eq};
 ghost use Rattle.gp_log.specs.Fields as spec;
 
 use crate::fault::LogFault;
+use crate::leading::leading_number;
 
 /// Tells whether an octet parts fields.
-fn is_separator(octet: u8) -> bool
+pub(crate) fn is_separator(octet: u8) -> bool
     ensures { result ≡ spec.is_separator octet }
 {
-    octet == b' ' || octet == b'\t' || octet == b',' || octet == b';'
+    matches!(octet, b' ' | b'\t' | b',' | b';')
 }
 
 /// Tells whether an octet is one of a field.
@@ -94,4 +97,40 @@ pub(crate) fn number_in(fault: LogFault, greatest: u64, text: &[u8]) -> Result<u
     ensures within { IfOk result (λ number. number ≤ greatest) }
 {
     gp_lines::number_in(0, greatest, text).map_err(|_| fault)
+}
+
+/// Reads the number that is next in a text, from 0 to the greatest, and gives what stands behind it.
+#[inline(always)]
+pub(crate) fn next_number(greatest: u64, text: &[u8]) -> Result<(u64, &[u8]), LogFault>
+    ensures value { MatchResult result
+        (λ read. (spec.number_in faults.Number greatest (spec.next text.now).0 ≡ Ok read.0)
+        × ((spec.next text.now).1 ≡ read.1.now))
+        (λ fault. spec.number_in faults.Number greatest (spec.next text.now).0 ≡ Err fault) }
+    ensures within { IfOk result (λ read. read.0 ≤ greatest) }
+{
+    match leading_number(trimmed(text)) {
+        Some((number, rest)) if number <= greatest && is_parted(rest) => Ok((number, rest)),
+        _ => {
+            let (digits, rest) = next(text);
+            let number = number_in(LogFault::Number, greatest, digits)?;
+            Ok((number, rest))
+        }
+    }
+}
+
+/// Tells whether no field stands in a text.
+pub(crate) fn is_over(text: &[u8]) -> bool
+    ensures { result ≡ spec.is_nothing (spec.next text.now).0 }
+{
+    trimmed(text).is_empty()
+}
+
+/// Gives what stands behind this word, if it is the next field of a text.
+pub(crate) fn behind_word<'a>(text: &'a [u8], word: &[u8]) -> Option<&'a [u8]>
+    requires { list_all spec.is_of_field word.now ≡ true }
+    ensures { MatchOption result (bytes_eq (spec.next text.now).0 word.now ≡ false)
+        (λ rest. spec.next text.now ≡ (word.now, rest.now)) }
+{
+    let rest = trimmed(text).strip_prefix(word)?;
+    if is_parted(rest) { Some(rest) } else { None }
 }

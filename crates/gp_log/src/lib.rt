@@ -25,12 +25,14 @@ mod entry;
 mod fault;
 mod fields;
 mod laws;
+mod leading;
 mod line;
 mod push;
 mod said;
 mod says;
 mod time;
 mod traced;
+mod usual;
 mod word;
 
 pub use fault::LogFault;

@@ -3,11 +3,13 @@ ghost use Rattle.std.specs.Prelude.{◌≡◌};
 ghost use Rattle.gp_lines.specs.Turn.{is_remark, without_return};
 ghost use Rattle.gp_log.specs.Line.{Reads, ReadsText};
 ghost use Rattle.gp_log.specs.Line as spec;
+ghost use Rattle.gp_log.specs.Usual.{ReadsTold, written};
 
 use crate::entry::entry_in;
 use crate::fault::LogFault;
 use crate::said::Said;
-use crate::traced::trace_line;
+use crate::traced::event_line;
+use crate::usual::read_usual;
 use gp_lines::{LONGEST_LINE, split_line};
 
 /// What a line says.
@@ -65,17 +67,26 @@ fn is_remark(text: &[u8]) -> bool
     matches!(text, [] | [b'#', ..])
 }
 
+/// Reads any line that is no remark, by its parts.
+#[inline(never)]
+pub(crate) fn any_line(text: &[u8], line: &mut LogLine) -> Result<(), LogFault>
+    ensures { ReadsTold text.now (written result line.new) }
+{
+    match split_line(text) {
+        Some(traced) => event_line(traced.port, traced.event, traced.answer, line),
+        None => entry_in(text, line),
+    }
+}
+
 /// Reads the text of a line.
-fn read_text(text: &[u8]) -> Result<LogLine, LogFault>
-    ensures { ReadsText text.now result }
+fn read_text(text: &[u8], line: &mut LogLine) -> Result<(), LogFault>
+    ensures { ReadsText text.now (written result line.new) }
 {
     if is_remark(text) {
-        return Ok(LogLine::Remark);
+        *line = LogLine::Remark;
+        return Ok(());
     }
-    match split_line(text) {
-        Some(line) => trace_line(&line),
-        None => entry_in(text),
-    }
+    read_usual(text, line)
 }
 
 /// Reads a line, which comes without its line feed.
@@ -103,5 +114,9 @@ pub fn read_line(line: &[u8]) -> Result<LogLine, LogFault>
     if line.len() > LONGEST_LINE {
         return Err(LogFault::Long);
     }
-    read_text(text_of(line))
+    let mut read = LogLine::Remark;
+    match read_text(text_of(line), &mut read) {
+        Ok(()) => Ok(read),
+        Err(fault) => Err(fault),
+    }
 }

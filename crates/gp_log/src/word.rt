@@ -2,8 +2,6 @@
 ghost use Rattle.std.specs.Prelude.{◌≡◌};
 ghost use Rattle.gp_log.specs.Says as spec;
 
-use crate::fields::is_word;
-
 /// What a line of a log is of.
 #[derive(Clone, Copy)]
 pub(crate) enum Kind {
@@ -21,14 +19,11 @@ impl Kind {
     pub(crate) fn from_word(word: &[u8]) -> Option<Kind>
         ensures { result ≡ spec.kind_of word.now }
     {
-        if is_word(word, "down") {
-            Some(Kind::Down)
-        } else if is_word(word, "up") {
-            Some(Kind::Up)
-        } else if is_word(word, "grant") {
-            Some(Kind::Grant)
-        } else {
-            None
+        match word {
+            b"down" => Some(Kind::Down),
+            b"up" => Some(Kind::Up),
+            b"grant" => Some(Kind::Grant),
+            _ => None,
         }
     }
 }
