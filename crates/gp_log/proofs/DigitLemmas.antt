@@ -32,13 +32,13 @@ from_end : (rest : List ℕ) → is_parted rest ≡ true → «from» is_separat
 from_end [] h = refl
 from_end (octet ∷ rest) h = rw h refl
 
-before_field : (word rest : List ℕ) → AreOfField word → is_parted rest ≡ true → before is_separator (word ++ rest) ≡ word
+pub before_field : (word rest : List ℕ) → AreOfField word → is_parted rest ≡ true → before is_separator (word ++ rest) ≡ word
 before_field [] rest all h = before_end rest h
 before_field (octet ∷ word) rest all h =
     rw (All-head (λ (o : ℕ). is_separator o ≡ false) octet word all)
     (ap (λ (t : List ℕ). octet ∷ t) (before_field word rest (All-tail (λ (o : ℕ). is_separator o ≡ false) octet word all) h))
 
-from_field : (word rest : List ℕ) → AreOfField word → is_parted rest ≡ true → «from» is_separator (word ++ rest) ≡ rest
+pub from_field : (word rest : List ℕ) → AreOfField word → is_parted rest ≡ true → «from» is_separator (word ++ rest) ≡ rest
 from_field [] rest all h = from_end rest h
 from_field (octet ∷ word) rest all h =
     rw (All-head (λ (o : ℕ). is_separator o ≡ false) octet word all)
@@ -104,7 +104,7 @@ digit_is_of_field octet value h = grind (arith, nat_tests, h)
 digit_is_no_mark : (octet value : ℕ) → hex_digit_value octet ≡ Some value → is_mark octet ≡ false
 digit_is_no_mark octet value h = grind (arith, nat_tests, h)
 
-no_prefix : (octet other value : ℕ) (text : List ℕ) → hex_digit_value other ≡ Some value → without_prefix (octet ∷ other ∷ text) ≡ octet ∷ other ∷ text
+pub no_prefix : (octet other value : ℕ) (text : List ℕ) → hex_digit_value other ≡ Some value → without_prefix (octet ∷ other ∷ text) ≡ octet ∷ other ∷ text
 no_prefix octet other value text h = grind (arith, nat_tests, h)
 
 -- the digits of an octet
@@ -120,7 +120,7 @@ high_told octet small = IsDigits-lower_digits (octet / 16) (omega (arith, small)
 pub low_told : (octet : ℕ) → hex_digit_value (low_digit octet) ≡ Some (octet % 16)
 low_told octet = IsDigits-lower_digits (octet % 16) (omega arith)
 
-digits_read : (high low first second : ℕ) (text : List ℕ) → hex_digit_value high ≡ Some first → hex_digit_value low ≡ Some second
+pub digits_read : (high low first second : ℕ) (text : List ℕ) → hex_digit_value high ≡ Some first → hex_digit_value low ≡ Some second
     → octet_at (high ∷ low ∷ text) ≡ Some (first * 16 + second, text)
 unfolding octet_at
 digits_read high low first second text one other = rw (one, other) refl
@@ -131,7 +131,7 @@ octet_read octet text small =
     digits_read (high_digit octet) (low_digit octet) (octet / 16) (octet % 16) text (high_told octet small) (low_told octet)
     ∙ ap (λ (n : ℕ). Some (n, text)) value
 
-unmarked : (octet value : ℕ) (text : List ℕ) → hex_digit_value octet ≡ Some value → without_mark (octet ∷ text) ≡ octet ∷ text
+pub unmarked : (octet value : ℕ) (text : List ℕ) → hex_digit_value octet ≡ Some value → without_mark (octet ∷ text) ≡ octet ∷ text
 unmarked octet value text h = rw (digit_is_no_mark octet value h) refl
 
 abbrev pub AreSmall : List ℕ → Type 0

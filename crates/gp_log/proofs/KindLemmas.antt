@@ -15,7 +15,7 @@ use Rattle.gp_machine.specs.declared.event.Event.TheVariants as events
 use Rattle.gp_lines.specs.Parts.{parts_of}
 use Rattle.gp_lines.specs.Spelling.{SpellsUnit, SpellsCommand, SpellsParts}
 use Rattle.gp_log.specs.declared.fault.LogFault.TheVariants as fault
-use Rattle.gp_log.specs.Fields.{next, is_separator, is_of_field, is_parted}
+use Rattle.gp_log.specs.Fields.{Field, next, is_separator, is_of_field, is_parted}
 use Rattle.gp_log.specs.Says.{kind_of}
 use Rattle.gp_log.specs.Log.{first_entry, third_entry, entry_in}
 use Rattle.gp_log.specs.Line.{IsTraceLine}
@@ -116,9 +116,20 @@ fields_refused digits numeral word rest first second is parted =
 regrouped : (digits numeral word rest behind : List ℕ) → fields digits numeral word rest ++ behind ≡ fields digits numeral word (rest ++ behind)
 regrouped digits numeral word rest behind = simp append_assoc
 
--- it has none of the words of a log where they should stand
-pub trace_refused : (text : List ℕ) → IsTraceLine text → entry_in text ≡ Err fault.Word
-trace_refused text t =
+-- a line of a trace is two numbers, and the word of an event
+record IsCut (text : List ℕ) : Type 0 where
+  digits : List ℕ
+  numeral : List ℕ
+  word : List ℕ
+  rest : List ℕ
+  first : IsNumeral 10 digits
+  second : IsNumeral 10 numeral
+  other : IsOther word
+  parted : is_parted rest ≡ true
+  apart : text ≡ fields digits numeral word rest
+
+trace_cut : (text : List ℕ) → IsTraceLine text → IsCut text
+trace_cut text t =
     let split = t.4 in
     let told = split.told in
     let begins = event_begins told.2 t.2 told.8 in
@@ -128,5 +139,42 @@ trace_refused text t =
     let apart : text ≡ fields told.0 told.1 begins.0 (behind_first begins.1 ++ behind) =
     split.apart ∙ append_assoc split.head (codes " = ") t.3 ∙ ap (λ (h : List ℕ). h ++ behind) head
     ∙ regrouped told.0 told.1 begins.0 (behind_first begins.1) behind in
-    ap entry_in apart
-    ∙ fields_refused told.0 told.1 begins.0 (behind_first begins.1 ++ behind) told.4.0 told.6.0 begins.3 (parted_behind begins.1 (61 ∷ 32 ∷ t.3))
+    record {
+      digits = told.0;
+      numeral = told.1;
+      word = begins.0;
+      rest = behind_first begins.1 ++ behind;
+      first = told.4.0;
+      second = told.6.0;
+      other = begins.3;
+      parted = parted_behind begins.1 (61 ∷ 32 ∷ t.3);
+      apart = apart;
+    }
+
+-- it has none of the words of a log where they should stand
+pub trace_refused : (text : List ℕ) → IsTraceLine text → entry_in text ≡ Err fault.Word
+trace_refused text t =
+    let c = trace_cut text t in
+    ap entry_in c.apart ∙ fields_refused c.digits c.numeral c.word c.rest c.first c.second c.other c.parted
+
+second_field : (digits numeral word rest : List ℕ) → IsNumeral 10 digits → IsNumeral 10 numeral
+    → next (next (fields digits numeral word rest)).1 ≡ (numeral, 32 ∷ (word ++ rest))
+second_field digits numeral word rest first second =
+    ap (λ (f : Field). next f.1) (numeral_next digits (32 ∷ (numeral ++ (32 ∷ (word ++ rest)))) first refl)
+    ∙ next_behind (numeral ++ (32 ∷ (word ++ rest))) ∙ numeral_next numeral (32 ∷ (word ++ rest)) second refl
+
+-- the second field is none of these words
+pub trace_second : (text : List ℕ) → IsTraceLine text → kind_of (next (next text).1).0 ≡ None
+trace_second text t =
+    let c = trace_cut text t in
+    ap (λ (x : List ℕ). kind_of (next (next x).1).0) c.apart
+    ∙ ap (λ (f : Field). kind_of f.0) (second_field c.digits c.numeral c.word c.rest c.first c.second)
+    ∙ numeral_no_kind c.numeral c.second
+
+-- the third one isn't either
+pub trace_third : (text : List ℕ) → IsTraceLine text → kind_of (next (next (next text).1).1).0 ≡ None
+trace_third text t =
+    let c = trace_cut text t in
+    ap (λ (x : List ℕ). kind_of (next (next (next x).1).1).0) c.apart
+    ∙ ap (λ (f : Field). kind_of (next f.1).0) (second_field c.digits c.numeral c.word c.rest c.first c.second)
+    ∙ ap (λ (f : Field). kind_of f.0) (c.other.cut c.rest c.parted) ∙ c.other.other

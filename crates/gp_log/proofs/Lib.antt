@@ -8,3 +8,6 @@ pub mod WholeLemmas
 pub mod FrameLemmas
 pub mod TraceLemmas
 pub mod KindLemmas
+pub mod NextLemmas
+pub mod PlainLemmas
+pub mod UsualLemmas

@@ -131,6 +131,8 @@ pub(crate) fn behind_word<'a>(text: &'a [u8], word: &[u8]) -> Option<&'a [u8]>
     ensures { MatchOption result (bytes_eq (spec.next text.now).0 word.now ≡ false)
         (λ rest. spec.next text.now ≡ (word.now, rest.now)) }
 {
-    let rest = trimmed(text).strip_prefix(word)?;
+    let Some(rest) = trimmed(text).strip_prefix(word) else {
+        return None;
+    };
     if is_parted(rest) { Some(rest) } else { None }
 }
