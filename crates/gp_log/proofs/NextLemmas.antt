@@ -1,5 +1,5 @@
 -- What is next in a text: a field, a word, a number.
-use Rattle.std.proofs.Common.{◌≡◌, ℕ, suc, ◌+◌, ◌==◌, ◌≤◌, true, false, List, [], ◌∷◌, ◌++◌, length, Ok, refl, sym, ap, ◌∙◌, ◌⊎◌, inl, inr, arith, length-append}
+use Rattle.std.proofs.Common.{◌≡◌, ℕ, suc, ◌==◌, ◌≤◌, true, false, List, [], ◌∷◌, ◌++◌, length, Ok, refl, sym, ap, ◌∙◌, ◌⊎◌, inl, inr, arith, length-append}
 use Rattle.std.proofs.lemmas.Bool.{cases_Bool, false≢true}
 use Rattle.std.proofs.lemmas.Bool.Decides.{nat_tests}
 use Rattle.std.proofs.lemmas.List.Elements.{All-head, All-tail, All-weaker}
@@ -124,6 +124,6 @@ pub number_taken : (text rest : List ℕ) (number greatest : ℕ) → NumberBegi
 number_taken text rest number greatest n parted most =
     let field = number_field text rest number n parted in (
       ap (λ (f : Field). number_in fault.Number greatest f.0) field
-      ∙ ap (number_or fault.Number) (number_back 0 greatest n.digits number n.spelled (omega arith) most),
+          ∙ ap (number_or fault.Number) (number_back 0 greatest n.digits number n.spelled (omega arith) most),
       ap (λ (f : Field). f.1) field,
     )

@@ -1,11 +1,10 @@
 -- A code of 26 digits with nothing between them.
-use Rattle.std.proofs.Common.{◌≡◌, ℕ, suc, ◌+◌, ◌*◌, List, [], ◌∷◌, ◌++◌, length, Option, None, Some, Result, Ok, Err, refl, sym, ap, subst, ◌∙◌, ◌⊎◌, inl, inr, arith, append_assoc}
+use Rattle.std.proofs.Common.{◌≡◌, ℕ, ◌+◌, ◌*◌, List, [], ◌∷◌, ◌++◌, length, Option, None, Some, Ok, refl, sym, ap, subst, ◌∙◌, ◌⊎◌, inl, inr, arith, append_assoc}
 use Rattle.std.proofs.lemmas.List.{append-nil}
 use Rattle.hex.specs.Hex.{decode_pairs, decode_sized, hex_digit_value, pair_value}
-use Rattle.hex.specs.declared.error.FromHexError.{FromHexError}
 use Rattle.hex.proofs.HexLemmas.{decode_pairs-ok, decode_sized-ok}
 use Rattle.gp_lines.proofs.ReadLemmas.{either, ok_same}
-use Rattle.gp_log.specs.Code.{octet_at, octets_at, without_mark, without_prefix, code_at}
+use Rattle.gp_log.specs.Code.{octet_at, octets_at, code_at}
 use Rattle.gp_log.proofs.DigitLemmas.{no_prefix, digits_read, unmarked}
 
 some_or_none : (o : Option ℕ) → ((x : ℕ) × (o ≡ Some x)) ⊎ (o ≡ None)
@@ -28,12 +27,12 @@ pair_back high low i byte h =
           elim (some_or_none (hex_digit_value low)) [
             | inr none ↦ absurd (cc (rw (first.1, none) at h))
             | inl second ↦ record {
-                first = first.0;
-                second = second.0;
-                one = first.1;
-                other = second.1;
-                value = ok_same (first.0 * 16 + second.0) byte (rw (first.1, second.1) at h);
-              }
+              first = first.0;
+              second = second.0;
+              one = first.1;
+              other = second.1;
+              value = ok_same (first.0 * 16 + second.0) byte (rw (first.1, second.1) at h);
+            }
           ]
     ]
 
@@ -54,12 +53,12 @@ pairs_begun i high low digits octets h =
           elim (either (decode_pairs (i + 2) digits)) [
             | inr wrong ↦ absurd (cc (rw (byte.1, wrong.1) at h))
             | inl bytes ↦ record {
-                byte = byte.0;
-                bytes = bytes.0;
-                pair = byte.1;
-                others = bytes.1;
-                whole = ok_same (byte.0 ∷ bytes.0) octets (rw (byte.1, bytes.1) at h);
-              }
+              byte = byte.0;
+              bytes = bytes.0;
+              pair = byte.1;
+              others = bytes.1;
+              whole = ok_same (byte.0 ∷ bytes.0) octets (rw (byte.1, bytes.1) at h);
+            }
           ]
     ]
 

@@ -1,5 +1,5 @@
 -- Lines in their usual forms are read as any line is.
-use Rattle.std.proofs.Common.{◌≡◌, ℕ, ◌+◌, ◌-◌, ◌*◌, ◌<◌, ◌≤◌, ◌^◌, Bool, true, false, List, [], ◌∷◌, ◌++◌, length, take, drop, slice_index, Option, None, Some, Result, Ok, Err, codes, refl, sym, ap, subst, ◌∙◌, inl, inr, arith, append_assoc, ltb}
+use Rattle.std.proofs.Common.{◌≡◌, ℕ, ◌-◌, ◌*◌, ◌<◌, ◌≤◌, ◌^◌, Bool, true, false, List, [], ◌∷◌, ◌++◌, length, take, drop, slice_index, Option, None, Some, Result, Ok, Err, codes, refl, sym, ap, subst, ◌∙◌, inl, inr, arith, append_assoc, ltb}
 use Rattle.std.proofs.lemmas.Bool.{cases_Bool, false≢true, ltb-false}
 use Rattle.std.proofs.lemmas.List.{take_rest}
 use Rattle.std.proofs.lemmas.List.Elements.{All-tail, All-head, All-append, All-cons}
@@ -13,20 +13,19 @@ use Rattle.gp_machine.specs.declared.event.Event.TheVariants.{Frame}
 use Rattle.gp_lines.specs.Leading.{NumberLeads}
 use Rattle.gp_lines.specs.Spelling.{SpellsNumber, SpellsEvent}
 use Rattle.gp_lines.specs.Turn.{is_remark}
-use Rattle.gp_lines.specs.Trace.{SplitsLine, AreHalves, is_equals}
+use Rattle.gp_lines.specs.Trace.{is_equals}
 use Rattle.gp_lines.proofs.LeadingLemmas.{frame_leads, line_cut}
 use Rattle.gp_lines.proofs.ReadLemmas.{number_back}
 use Rattle.gp_lines.proofs.SplitLemmas.{numeral_plain}
-use Rattle.gp_lines.proofs.TextLemmas.{IsPlain}
 use Rattle.gp_log.specs.declared.fault.LogFault.{LogFault}
 use Rattle.gp_log.specs.declared.fault.LogFault.TheVariants as fault
 use Rattle.gp_log.specs.declared.line.LogLine.{LogLine}
 use Rattle.gp_log.specs.declared.line.LogLine.TheVariants as line
 use Rattle.gp_log.specs.declared.word.Kind.{Kind}
-use Rattle.gp_log.specs.Fields.{Field, trimmed, next, is_separator, is_parted, number_or, number_in}
+use Rattle.gp_log.specs.Fields.{Field, trimmed, next, is_separator, number_or, number_in}
 use Rattle.gp_log.specs.Time.{frame_time}
 use Rattle.gp_log.specs.Says.{kind_of, said_of, word_grant, next_grant}
-use Rattle.gp_log.specs.Log.{entry_of, ported_entry, first_entry, second_entry, third_entry, entry_in}
+use Rattle.gp_log.specs.Log.{entry_of, ported_entry, first_entry, entry_in}
 use Rattle.gp_log.specs.Trace.{next_sent, next_granted, frame_said, frame_line, trace_line}
 use Rattle.gp_log.specs.Line.{IsTraceLine, ReadsText}
 use Rattle.gp_log.specs.Usual.{said_entry, ReadsEntry, ReadsTold, NumberBegins, Begins, KindLeads, TraceLeads, AreTold, Fronts}
@@ -107,10 +106,10 @@ third_logged text middle rest port frames parting next_parting b m near kind beh
     ap first_entry first ∙ rw (second, numeral_no_kind m.begun.digits m.begun.spelled.0) (rw (third, k.named) refl) in (
       λ t. some_none kind (kind_of (next (next (next text).1).1).0) named (trace_third text t),
       sym (
-        read
-        ∙ ported_told b.begun.digits m.begun.digits behind port frames kind (digits_are text (parting ∷ middle) port b.begun) near
-        (digits_are middle (next_parting ∷ rest) frames m.begun) short
-      ),
+          read
+          ∙ ported_told b.begun.digits m.begun.digits behind port frames kind (digits_are text (parting ∷ middle) port b.begun) near
+          (digits_are middle (next_parting ∷ rest) frames m.begun) short
+          ),
     )
 
 spaced : (text rest : List ℕ) (number parting : ℕ) → NumberBegins text number (parting ∷ rest) → parting ≡ 32 → NumberLeads text number rest

@@ -1,8 +1,8 @@
-use Rattle.std.proofs.Common.{◌<◌, ◌^◌, ◌++◌, List, ℕ, ap, ◌∙◌, arith, codes, refl, sym, subst}
+use Rattle.std.proofs.Common.{◌<◌, ◌^◌, ◌++◌, ap, arith, codes, refl, subst}
 use Rattle.std.proofs.lemmas.Bool.Decides.{Decides-eqb}
 use Rattle.std.proofs.lemmas.Slice.Eq.{strip_prefix_is}
 use Rattle.gp_machine.specs.declared.event.Event.TheVariants.{Burst}
-use Rattle.gp_lines.specs.Leading.{EventLeads, NumberLeads}
+use Rattle.gp_lines.specs.Leading.{EventLeads}
 use Rattle.gp_lines.specs.Reading.{octets_or_fault}
 use Rattle.gp_lines.proofs.LeadingLemmas.{joined, burst_leads}
 use Rattle.gp_log.proofs.UsualLemmas.{behind_space}
