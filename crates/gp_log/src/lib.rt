@@ -4,7 +4,7 @@
 //! and what `gp_trace` writes, is read back (`read_line`, `push_entry`, the laws).
 //!
 //! - `line.rt`: `read_line`, and `LogLine`, what a line says. `said.rt`: `Said`, what was said on the fibre.
-//! - `usual.rt`: a line in its usual form, read from the left in one pass: its first two fields and the word behind them
+//! - `usual.rt`: a line in its usual form, read from the left in one pass: its first fields and the word behind them
 //!   tell which kind of line it is. `leading.rt`: what a text begins with.
 //! - `entry.rt`: any other line of a log, by its fields; `word.rt`: the word that tells what it is of; `says.rt`: what
 //!   stands behind that. `traced.rt`: what a line of a trace says.
@@ -18,8 +18,8 @@
 //! Where to make which change: which line is of which kind stands in `specs/Line.antt`, the order of a line's fields in
 //! `specs/Log.antt`, what stands behind its word in `specs/Says.antt`, what a trace says in `specs/Trace.antt`. What
 //! parts fields stands in `specs/Fields.antt`, how a code may be written in `specs/Code.antt`, and a time in
-//! `specs/Time.antt`. How usual forms are read stands in `specs/Usual.antt`. The text that is written stands in `specs/Text.antt`; `specs/Told.antt` says what an entry of the
-//! machine says.
+//! `specs/Time.antt`. How usual forms are read stands in `specs/Usual.antt`. The text that is written stands in
+//! `specs/Text.antt`; `specs/Told.antt` says what an entry of the machine says.
 #![tactic(auto)]
 
 mod code;
