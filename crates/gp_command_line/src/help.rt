@@ -183,7 +183,7 @@ Examples:
 
 Exit status:
   0  the picture was written
-  1  a line is neither one of a log nor of a trace, or LOG was not read
+  1  a line is neither one of a log nor of a trace, nothing was heard, or LOG was not read
   2  the command line is wrong
   3  out of memory
   4  the output takes no more";
@@ -201,7 +201,7 @@ Examples:
 
 Exit status:
   0  the dump was written
-  1  a line is neither one of a log nor of a trace, or LOG was not read
+  1  a line is neither one of a log nor of a trace, nothing was heard, or LOG was not read
   2  the command line is wrong
   3  out of memory
   4  the output takes no more";

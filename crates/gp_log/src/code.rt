@@ -71,6 +71,7 @@ fn code_at(text: &[u8]) -> Option<([u8; 13], &[u8])>
 }
 
 /// Reads the code that a text begins with, as it may be spelled.
+#[inline(always)]
 fn any_code(text: &[u8]) -> Option<([u8; 13], &[u8])>
     ensures { MatchOption result (spec.code_at text.now ≡ None)
         (λ read. spec.code_at text.now ≡ Some (read.0, read.1.now)) }

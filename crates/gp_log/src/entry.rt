@@ -13,6 +13,7 @@ use crate::word::Kind;
 use gp_lines::LAST_PORT;
 
 /// Reads what stands behind a word.
+#[inline(always)]
 pub(crate) fn said_line(
     port: u8,
     time: u64,

@@ -33,6 +33,15 @@ pub enum LogLine {
     },
 }
 
+impl LogLine {
+    /// Tells whether it says nothing: the line is empty, or a remark.
+    pub fn says_nothing(&self) -> bool
+        ensures { result ≡ spec.says_nothing self.now }
+    {
+        matches!(self, LogLine::Remark)
+    }
+}
+
 /// Gives a text without a byte order mark in front.
 fn without_order_mark(line: &[u8]) -> &[u8]
     ensures { result.now ≡ spec.without_order_mark line.now }

@@ -56,6 +56,7 @@ pub(crate) fn up_line(port: u8, time: u64, text: &[u8], line: &mut LogLine) -> R
 }
 
 /// Reads the ONU-ID that is next in a text, and gives what stands behind it.
+#[inline(always)]
 #[tactic(auto, unfolding(crate::specs::Says::next_onu))]
 fn next_onu(text: &[u8]) -> Result<(u8, &[u8]), LogFault>
     ensures { MatchResult result (λ read. spec.next_onu text.now ≡ Ok (read.0, read.1.now))
@@ -85,6 +86,7 @@ fn next_poll(text: &[u8]) -> Result<(Grant, &[u8]), LogFault>
 }
 
 /// Reads the grant that is next in a text, and gives what stands behind it.
+#[inline(always)]
 #[tactic(auto, unfolding(crate::specs::Says::word_grant))]
 pub(crate) fn next_grant(text: &[u8]) -> Result<(Grant, &[u8]), LogFault>
     ensures { MatchResult result (λ read. spec.next_grant text.now ≡ Ok (read.0, read.1.now))

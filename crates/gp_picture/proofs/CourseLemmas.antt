@@ -1,10 +1,13 @@
 -- Where the lines of an input lead.
-use Rattle.std.proofs.Common.{◌≡◌, ℕ, ◌+◌, List, [], ◌∷◌, ◌++◌, Option, None, Some, length, map, refl, sym, ap, subst, ◌∙◌, arith, inl, inr}
+use Rattle.std.proofs.Common.{◌≡◌, ℕ, ◌+◌, ◌||◌, not, Bool, false, List, [], ◌∷◌, ◌++◌, Option, None, Some, length, map, Ok, refl, sym, ap, subst, ◌∙◌, arith, inl, inr}
+use Rattle.std.proofs.Math.Bool.{or_assoc, or-false}
 use Rattle.std.proofs.lemmas.List.Elements.{All-cons, All-nil}
 use Rattle.std.specs.List.{All}
 use Rattle.gp_flow.specs.Lines.{DoesAll}
 use Rattle.gp_explain.specs.declared.fault.NoLine.{NoLine}
 use Rattle.gp_explain.specs.declared.fault.NoLine.TheVariants.{NotALine, TooLong}
+use Rattle.gp_log.specs.Line.{AreRead, Reads, says_nothing}
+use Rattle.gp_log.specs.declared.line.LogLine.{LogLine}
 use Rattle.gp_picture.specs.Drawing.{DrawState, Drawing, DrawsFrom, DrawsText, IsRead, IsUnread, ended_by}
 
 -- lines that are handed on whole
@@ -12,12 +15,14 @@ abbrev pub wholes : List (List ℕ) → List (Option (List ℕ))
 wholes texts = map (λ (text : List ℕ). let line : Option (List ℕ) = Some text in line) texts
 
 -- all of them are read
-pub record Runs (all : List (Option (List ℕ))) (said : List ℕ) (from to : ℕ) : Type 0 where
+pub record Runs (all : List (Option (List ℕ))) (said : List ℕ) (from to : DrawState) : Type 0 where
   pub texts : List (List ℕ)
+  pub told : Bool
   pub all_is : all ≡ wholes texts
-  pub read : All IsRead texts
+  pub read : AreRead texts told
   pub silent : said ≡ []
-  pub lines : to ≡ from + length texts
+  pub lines : to.lines ≡ from.lines + length texts
+  pub heard : to.heard ≡ (from.heard || told)
 
 -- why a line ends it
 abbrev pub Fails : NoLine → Option (List ℕ) → Type 0
@@ -25,17 +30,17 @@ Fails why None = why ≡ TooLong
 Fails why (Some text) = (why ≡ NotALine) × IsUnread text
 
 -- one of them ends it
-pub record Halts (why : NoLine) (all : List (Option (List ℕ))) (said : List ℕ) (from to : ℕ) : Type 0 where
+pub record Halts (why : NoLine) (all : List (Option (List ℕ))) (said : List ℕ) (from to : DrawState) : Type 0 where
   pub before : List (List ℕ)
   pub line : Option (List ℕ)
   pub rest : List (Option (List ℕ))
   pub all_is : all ≡ wholes before ++ line ∷ rest
   pub read : All IsRead before
   pub silent : said ≡ []
-  pub lines : to ≡ from + (length before + 1)
+  pub lines : to.lines ≡ from.lines + (length before + 1)
   pub fails : Fails why line
 
-abbrev pub Course : Option NoLine → List (Option (List ℕ)) → List ℕ → ℕ → ℕ → Type 0
+abbrev pub Course : Option NoLine → List (Option (List ℕ)) → List ℕ → DrawState → DrawState → Type 0
 Course None all said from to = Runs all said from to
 Course (Some why) all said from to = Halts why all said from to
 
@@ -54,34 +59,37 @@ stuck (line ∷ ls) state new said why is h =
 
 halted : (line : Option (List ℕ)) (ls : List (Option (List ℕ))) (state next new : DrawState) (said first rest : List ℕ) (why : NoLine)
     → first ≡ [] → next ≡ ended_by why state → Fails why line → said ≡ first ++ rest → DoesAll Drawing next ls rest new
-    → Course new.ended (line ∷ ls) said state.lines new.lines
+    → Course new.ended (line ∷ ls) said state new
 halted line ls state next new said first rest why nothing is fails parts h =
     let ended : next.ended ≡ Some why = ap (λ (s : DrawState). s.ended) is in
     let end = stuck ls next new rest why ended h in
     let silent : said ≡ [] = both_silent said first rest parts nothing end.0 in
     let many : new.lines ≡ state.lines + 1 = ap (λ (s : DrawState). s.lines) end.1 ∙ ap (λ (s : DrawState). s.lines) is in
-    let there : Course (Some why) (line ∷ ls) said state.lines new.lines =
+    let there : Course (Some why) (line ∷ ls) said state new =
     record { before = []; line = line; rest = ls; all_is = refl; read = All-nil IsRead; silent = silent; lines = many; fails = fails } in
-    subst (λ (e : Option NoLine). Course e (line ∷ ls) said state.lines new.lines) (sym (ap (λ (s : DrawState). s.ended) end.1 ∙ ended)) there
+    subst (λ (e : Option NoLine). Course e (line ∷ ls) said state new) (sym (ap (λ (s : DrawState). s.ended) end.1 ∙ ended)) there
 
 -- one line more at the head
-onto : (ended : Option NoLine) (text : List ℕ) (ls : List (Option (List ℕ))) (said first rest : List ℕ) (from to : ℕ)
-    → IsRead text → first ≡ [] → said ≡ first ++ rest → Course ended ls rest (from + 1) to → Course ended (Some text ∷ ls) said from to
-onto None text ls said first rest from to reads nothing parts c = record {
+onto : (ended : Option NoLine) (text : List ℕ) (ls : List (Option (List ℕ))) (said first rest : List ℕ) (from next to : DrawState) (line : LogLine)
+    → Reads text (Ok line) → next.lines ≡ from.lines + 1 → next.heard ≡ (from.heard || not (says_nothing line)) → first ≡ [] → said ≡ first ++ rest
+    → Course ended ls rest next to → Course ended (Some text ∷ ls) said from to
+onto None text ls said first rest from next to line reads one heard nothing parts c = record {
   texts = text ∷ c.texts;
+  told = not (says_nothing line) || c.told;
   all_is = ap (λ (l : List (Option (List ℕ))). Some text ∷ l) c.all_is;
-  read = All-cons IsRead text c.texts reads c.read;
+  read = (line, c.told, reads, c.read, refl);
   silent = both_silent said first rest parts nothing c.silent;
-  lines = let many = c.lines in omega (arith, many);
+  lines = let many = c.lines in omega (arith, many, one);
+  heard = c.heard ∙ ap (λ (b : Bool). b || c.told) heard ∙ or_assoc from.heard (not (says_nothing line)) c.told;
 }
-onto (Some why) text ls said first rest from to reads nothing parts c = record {
+onto (Some why) text ls said first rest from next to line reads one heard nothing parts c = record {
   before = text ∷ c.before;
   line = c.line;
   rest = c.rest;
   all_is = ap (λ (l : List (Option (List ℕ))). Some text ∷ l) c.all_is;
-  read = All-cons IsRead text c.before reads c.read;
+  read = All-cons IsRead text c.before (line, reads) c.read;
   silent = both_silent said first rest parts nothing c.silent;
-  lines = let many = c.lines in omega (arith, many);
+  lines = let many = c.lines in omega (arith, many, one);
   fails = c.fails;
 }
 
@@ -90,22 +98,21 @@ none_done n = omega arith
 
 text_course : (text : List ℕ) (ls : List (Option (List ℕ))) (old next new : DrawState) (said first rest : List ℕ) → old.ended ≡ None → first ≡ []
     → DrawsText old text next → said ≡ first ++ rest → DoesAll Drawing next ls rest new
-    → (next.ended ≡ None → Course new.ended ls rest next.lines new.lines) → Course new.ended (Some text ∷ ls) said old.lines new.lines
+    → (next.ended ≡ None → Course new.ended ls rest next new) → Course new.ended (Some text ∷ ls) said old new
 text_course text ls old next new said first rest none nothing (inl drawn) parts h more =
-    let is = drawn.1 in
-    let before : Course new.ended ls rest next.lines new.lines = more (ap (λ (s : DrawState). s.ended) is ∙ none) in
-    let there : Course new.ended ls rest (old.lines + 1) new.lines =
-    subst (λ (s : DrawState). Course new.ended ls rest s.lines new.lines) is before in
-    onto new.ended text ls said first rest old.lines new.lines drawn.0 nothing parts there
+    let is = drawn.2 in
+    let before : Course new.ended ls rest next new = more (ap (λ (s : DrawState). s.ended) is ∙ none) in
+    onto new.ended text ls said first rest old next new drawn.0 drawn.1 (ap (λ (s : DrawState). s.lines) is) (ap (λ (s : DrawState). s.heard) is) nothing parts before
 text_course text ls old next new said first rest none nothing (inr unread) parts h more =
     halted (Some text) ls old next new said first rest NotALine nothing unread.1 (refl, unread.0) parts h
 
 pub course : (ls : List (Option (List ℕ))) (old new : DrawState) (said : List ℕ) → old.ended ≡ None → DoesAll Drawing old ls said new
-    → Course new.ended ls said old.lines new.lines
+    → Course new.ended ls said old new
 course [] old new said none h =
-    let there : Course None [] said old.lines old.lines = record { texts = []; all_is = refl; read = All-nil IsRead; silent = h.0; lines = none_done old.lines } in
-    let here : Course old.ended [] said old.lines old.lines = subst (λ (e : Option NoLine). Course e [] said old.lines old.lines) (sym none) there in
-    subst (λ (s : DrawState). Course s.ended [] said old.lines s.lines) (sym h.1) here
+    let there : Course None [] said old old =
+    record { texts = []; told = false; all_is = refl; read = refl; silent = h.0; lines = none_done old.lines; heard = sym (or-false old.heard) } in
+    let here : Course old.ended [] said old old = subst (λ (e : Option NoLine). Course e [] said old old) (sym none) there in
+    subst (λ (s : DrawState). Course s.ended [] said old s) (sym h.1) here
 course (None ∷ ls) old new said none h =
     let long : DrawsFrom None old None h.2 = subst (λ (e : Option NoLine). DrawsFrom e old None h.2) none h.3.1 in
     halted None ls old h.2 new said h.0 h.1 TooLong h.3.0 long refl h.5 h.4

@@ -1,6 +1,6 @@
 -- How drawing an input ends.
 use Rattle.std.specs.Prelude.{is_some}
-use Rattle.std.proofs.Common.{◌≡◌, ◌⊎◌, inl, inr, ℕ, true, false, List, [], ◌∷◌, ◌++◌, Option, None, Some, Result, Ok, Err, IsErrAnd, length, take, drop, map, refl, sym, ap, subst, ◌∙◌, append_assoc, arith}
+use Rattle.std.proofs.Common.{◌≡◌, ◌⊎◌, inl, inr, ℕ, Bool, true, false, List, [], ◌∷◌, ◌++◌, Option, None, Some, Result, Ok, Err, IsErrAnd, length, take, drop, map, refl, sym, ap, subst, ◌∙◌, append_assoc, arith}
 use Rattle.std.proofs.lemmas.List.{append-nil, take-append-drop}
 use Rattle.std.proofs.KnownBytes.{Appends-trans}
 use Rattle.std.specs.List.{All}
@@ -14,12 +14,14 @@ use Rattle.gp_flow.specs.declared.fault.LinesFault.TheVariants as faults
 use Rattle.gp_flow.specs.Lines.{DoesAll, DoesSome, GetsAll, GetsPrefix, Leaves, Serves, ServesTo, ended_lines, handed, lines_of}
 use Rattle.gp_flow.proofs.LineLemmas.{ended_first, handed_none, handed_whole}
 use Rattle.gp_lines.specs.Turn.{longest_line}
+use Rattle.gp_log.specs.Line.{AreRead}
 use Rattle.gp_stream.specs.Sink.{SinkState, KeepsNothing}
 use Rattle.gp_stream.specs.Source.{SourceState, ReadsWhole}
 use Rattle.gp_stream.proofs.SinkLemmas.{takes_whole}
 use Rattle.gp_explain.specs.declared.fault.ExplainFault.{ExplainFault}
 use Rattle.gp_explain.specs.declared.fault.ExplainFault.TheVariants.{Refused, Lines}
 use Rattle.gp_explain.specs.declared.fault.NoLine.{NoLine}
+use Rattle.gp_picture.specs.declared.running.PictureSum.{PictureSum}
 use Rattle.gp_picture.specs.Drawing.{DrawState, Drawing, IsRead, IsUnread, has_ended, opened}
 use Rattle.gp_picture.specs.Outcome.{DrawsTrace, EndsAs, Ends, IsBegun, IsNone, IsRefused, WritesPicture}
 use Rattle.gp_picture.proofs.CourseLemmas.{Course, Fails, Halts, Runs, course, wholes}
@@ -83,7 +85,7 @@ silent_some [] old said h = h
 silent_some (line ∷ ls) old said (inl h) = h.5 ∙ ap (λ (l : List ℕ). l ++ h.1) h.3.0 ∙ silent_some ls h.2 h.1 h.4
 silent_some (line ∷ ls) old said (inr h) = absurd h.2
 
-started : (new : DrawState) (ls : List (Option (List ℕ))) (said : List ℕ) → DoesAll Drawing opened ls said new → Course new.ended ls said 0 new.lines
+started : (new : DrawState) (ls : List (Option (List ℕ))) (said : List ℕ) → DoesAll Drawing opened ls said new → Course new.ended ls said opened new
 started new ls said h = course ls opened new said refl h
 
 -- ---- behind the last line
@@ -93,8 +95,8 @@ module _ {R W : Type 0} (from to : SourceState R) (before mid after : SinkState 
   only_gathered : (said : List ℕ) → said ≡ [] → Appends before.held mid.held (before.gathered ++ said) → Appends before.held mid.held before.gathered
   only_gathered said none h = subst (λ (l : List ℕ). Appends before.held mid.held l) (ap (λ (l : List ℕ). before.gathered ++ l) none ∙ append-nil before.gathered) h
 
-  refused : (why : NoLine) (new : DrawState) (bytes : List ℕ) (ls others : List (List ℕ)) (said : List ℕ) (answer : Result ℕ ExplainFault)
-      → Consumes from.remaining to.remaining bytes → lines_of bytes ≡ ls ++ others → Halts why (map (handed longest_line) ls) said 0 new.lines
+  refused : (why : NoLine) (new : DrawState) (bytes : List ℕ) (ls others : List (List ℕ)) (said : List ℕ) (answer : Result PictureSum ExplainFault)
+      → Consumes from.remaining to.remaining bytes → lines_of bytes ≡ ls ++ others → Halts why (map (handed longest_line) ls) said opened new
       → Appends before.held mid.held (before.gathered ++ said) → KeepsNothing mid → (answer ≡ Err (Refused new.lines why)) × (after ≡ mid)
       → DrawsTrace from to before after answer
   refused why new bytes ls others said answer came is halts written kept ends =
@@ -114,25 +116,26 @@ module _ {R W : Type 0} (from to : SourceState R) (before mid after : SinkState 
         kept = kept;
       } in
       let here : IsRefused from to before after new.lines why = subst (λ (s : SinkState W). IsRefused from to before s new.lines why) (sym ends.1) there in
-      subst (λ (a : Result ℕ ExplainFault). DrawsTrace from to before after a) (sym ends.0) here
+      subst (λ (a : Result PictureSum ExplainFault). DrawsTrace from to before after a) (sym ends.0) here
 
-  whole : (new : DrawState) (text said : List ℕ) (answer : Result ℕ ExplainFault) → ReadsWhole from to text
-      → Runs (map (handed longest_line) (lines_of text)) said 0 new.lines → Appends before.held mid.held (before.gathered ++ said) → KeepsNothing mid
+  whole : (new : DrawState) (text said : List ℕ) (answer : Result PictureSum ExplainFault) → ReadsWhole from to text
+      → Runs (map (handed longest_line) (lines_of text)) said opened new → Appends before.held mid.held (before.gathered ++ said) → KeepsNothing mid
       → EndsAs None new mid after answer → DrawsTrace from to before after answer
-  whole new text said (Ok lines) read runs written kept ends =
+  whole new text said (Ok sum) read runs written kept ends =
       let first = only_gathered said runs.silent written in
       let same : lines_of text ≡ runs.texts = handed_all longest_line (lines_of text) runs.texts runs.all_is in
       let many = runs.lines in
       let told = ends.0 in
       let long : length (lines_of text) ≡ length runs.texts = ap length same in
-      let w = ends.1.2 in record {
+      let heard : sum.heard ≡ runs.told = ends.1 ∙ runs.heard in
+      let w = ends.2.2 in record {
         text = text;
         read = read;
-        all = subst (All IsRead) (sym same) runs.read;
+        all = subst (λ (b : Bool). AreRead (lines_of text) b) (sym heard) (subst (λ (ls : List (List ℕ)). AreRead ls runs.told) (sym same) runs.read);
         count = omega (arith, many, told, long);
-        picture = ends.1.0;
-        svg = ends.1.1;
-        written = Appends-trans before.held mid.held after.held before.gathered ends.1.0 first (takes_whole mid after ends.1.0 w.gives.ok kept.0 w.empty);
+        picture = ends.2.0;
+        svg = ends.2.1;
+        written = Appends-trans before.held mid.held after.held before.gathered ends.2.0 first (takes_whole mid after ends.2.0 w.gives.ok kept.0 w.empty);
         kept = (w.empty, w.gives.flushed kept.1);
       }
   whole new text said (Err (Refused line why)) read runs written kept ends = absurd ends
@@ -164,22 +167,22 @@ module _ {R W : Type 0} (from to : SourceState R) (before mid after : SinkState 
         appended = Appends-trans before.held mid.held after.held before.gathered p.written first p.appended;
       })
 
-  ended_whole : (ended : Option NoLine) (new : DrawState) (text said : List ℕ) (answer : Result ℕ ExplainFault) → ReadsWhole from to text
-      → Course ended (map (handed longest_line) (lines_of text)) said 0 new.lines → Appends before.held mid.held (before.gathered ++ said) → KeepsNothing mid
+  ended_whole : (ended : Option NoLine) (new : DrawState) (text said : List ℕ) (answer : Result PictureSum ExplainFault) → ReadsWhole from to text
+      → Course ended (map (handed longest_line) (lines_of text)) said opened new → Appends before.held mid.held (before.gathered ++ said) → KeepsNothing mid
       → EndsAs ended new mid after answer → DrawsTrace from to before after answer
   ended_whole None new text said answer read c written kept ends = whole new text said answer read c written kept ends
   ended_whole (Some why) new text said answer read c written kept ends =
       refused why new text (lines_of text) [] said answer read.consumed (sym (append-nil (lines_of text))) c written kept ends
 
-  ended_over : (ended : Option NoLine) (new : DrawState) (bytes said : List ℕ) (answer : Result ℕ ExplainFault) → is_some ended ≡ true
-      → Consumes from.remaining to.remaining bytes → Course ended (map (handed longest_line) (ended_lines bytes)) said 0 new.lines
+  ended_over : (ended : Option NoLine) (new : DrawState) (bytes said : List ℕ) (answer : Result PictureSum ExplainFault) → is_some ended ≡ true
+      → Consumes from.remaining to.remaining bytes → Course ended (map (handed longest_line) (ended_lines bytes)) said opened new
       → Appends before.held mid.held (before.gathered ++ said) → KeepsNothing mid → EndsAs ended new mid after answer → DrawsTrace from to before after answer
   ended_over None new bytes said answer some came c written kept ends = absurd (never some)
   ended_over (Some why) new bytes said answer some came c written kept ends =
       let e = ended_first bytes [] in
       refused why new bytes (ended_lines bytes) e.0 said answer came (ap lines_of (sym (append-nil bytes)) ∙ e.1) c written kept ends
 
-  drawn : (end : LinesEnd) (new : DrawState) (answer : Result ℕ ExplainFault) → ServesTo Drawing has_ended longest_line end from to opened new before mid → Ends new mid after answer
+  drawn : (end : LinesEnd) (new : DrawState) (answer : Result PictureSum ExplainFault) → ServesTo Drawing has_ended longest_line end from to opened new before mid → Ends new mid after answer
       → DrawsTrace from to before after answer
   drawn Whole new answer s ends =
       ended_whole new.ended new s.bytes s.said answer s.read (started new (map (handed longest_line) (lines_of s.bytes)) s.said s.spoken) s.written s.kept ends
@@ -188,7 +191,7 @@ module _ {R W : Type 0} (from to : SourceState R) (before mid after : SinkState 
   drawn Over new answer s ends =
       ended_over new.ended new s.0.bytes s.0.said answer s.1 s.0.read (started new (map (handed longest_line) (ended_lines s.0.bytes)) s.0.said s.0.spoken) s.0.written s.0.kept ends
 
-  pub drawn_as : (end : LinesEnd) (old new : DrawState) (answer : Result ℕ ExplainFault) → old ≡ opened
+  pub drawn_as : (end : LinesEnd) (old new : DrawState) (answer : Result PictureSum ExplainFault) → old ≡ opened
       → ServesTo Drawing has_ended longest_line end from to old new before mid → Ends new mid after answer → DrawsTrace from to before after answer
   drawn_as end old new answer opens s ends = drawn end new answer (subst (λ (o : DrawState). ServesTo Drawing has_ended longest_line end from to o new before mid) opens s) ends
 
@@ -238,7 +241,7 @@ module _ {R W : Type 0} (from to : SourceState R) (before after : SinkState W) w
       let e = s.fault fault refl in
       inl (begun_by fault e.bytes e.said (silent_some e.begun opened e.said e.spoken) e.read e.written)
 
-  pub unread_as : (fault : LinesFault) (old new : DrawState) (answer : Result ℕ ExplainFault) → old ≡ opened
+  pub unread_as : (fault : LinesFault) (old new : DrawState) (answer : Result PictureSum ExplainFault) → old ≡ opened
       → IsErrAnd answer (λ told. told ≡ Lines fault) → Serves Drawing has_ended longest_line from to old new before after (Err fault) → DrawsTrace from to before after answer
   unread_as fault old new (Ok lines) opens told s = absurd told
   unread_as fault old new (Err e) opens told s =
@@ -246,14 +249,14 @@ module _ {R W : Type 0} (from to : SourceState R) (before after : SinkState W) w
       (unread fault new (subst (λ (o : DrawState). Serves Drawing has_ended longest_line from to o new before after (Err fault)) opens s))
 
 -- nothing was read, for want of memory
-pub unbegun : {R W : Type 0} (from : SourceState R) (before : SinkState W) (answer : Result ℕ ExplainFault)
+pub unbegun : {R W : Type 0} (from : SourceState R) (before : SinkState W) (answer : Result PictureSum ExplainFault)
     → IsErrAnd answer (λ told. told ≡ Lines (faults.Line OutOfMemory)) → DrawsTrace from from before before answer
 unbegun from before (Ok lines) told = absurd told
 unbegun from before (Err e) told =
     subst (λ (x : ExplainFault). DrawsTrace from from before before (Err x)) (sym told) (inr (refl, refl, refl))
 
 -- behind the last line the picture was written
-pub ends_whole : {W : Type 0} (drawn : DrawState) (lines : ℕ) (before after : SinkState W) → drawn.ended ≡ None → lines ≡ drawn.lines
-    → WritesPicture before after (Ok (tt {0})) → Ends drawn before after (Ok lines)
-ends_whole drawn lines before after none many written =
-    subst (λ (e : Option NoLine). EndsAs e drawn before after (Ok lines)) (sym none) (many, written)
+pub ends_whole : {W : Type 0} (drawn : DrawState) (sum : PictureSum) (before after : SinkState W) → drawn.ended ≡ None → sum.lines ≡ drawn.lines
+    → sum.heard ≡ drawn.heard → WritesPicture before after (Ok (tt {0})) → Ends drawn before after (Ok sum)
+ends_whole drawn sum before after none many heard written =
+    subst (λ (e : Option NoLine). EndsAs e drawn before after (Ok sum)) (sym none) (many, heard, written)

@@ -8,7 +8,7 @@ use Rattle.gp_explain.specs.declared.fault.NoLine.TheVariants.{NotALine}
 use Rattle.gp_log.specs.declared.fault.LogFault.{LogFault}
 use Rattle.gp_log.specs.declared.line.LogLine.{LogLine}
 use Rattle.gp_log.specs.Line.{Reads}
-use Rattle.gp_picture.specs.Drawing.{DrawState, Drawing, DrawsFrom, IsRead, IsUnread, counted, ended_by}
+use Rattle.gp_picture.specs.Drawing.{DrawState, Drawing, DrawsFrom, IsUnread, counted, ended_by}
 
 -- a line that is none ends it
 pub refused_line : {W : Type 0} (old new : DrawState) (text : List ℕ) (before : SinkState W) → old.ended ≡ None → IsUnread text → new ≡ ended_by NotALine old
@@ -18,15 +18,15 @@ refused_line old new text before none unread same =
     (refl, subst (λ (e : Option NoLine). DrawsFrom e old (Some text) new) (sym none) (inr (unread, same)))
 
 -- a line that is read is drawn
-pub drawn_line : {W : Type 0} (old new : DrawState) (text : List ℕ) (before : SinkState W) → old.ended ≡ None → IsRead text → new ≡ counted old
-    → Answers {T = Unit {0}} Drawing (Some text) old new before before (Ok tt)
-drawn_line old new text before none reads same =
+pub drawn_line : {W : Type 0} (old new : DrawState) (text : List ℕ) (line : LogLine) (before : SinkState W) → old.ended ≡ None → Reads text (Ok line)
+    → new ≡ counted line old → Answers {T = Unit {0}} Drawing (Some text) old new before before (Ok tt)
+drawn_line old new text line before none reads same =
     silent_answers Drawing (Some text) old new before (tt {0})
-    (refl, subst (λ (e : Option NoLine). DrawsFrom e old (Some text) new) (sym none) (inl (reads, same)))
+    (refl, subst (λ (e : Option NoLine). DrawsFrom e old (Some text) new) (sym none) (inl (line, reads, same)))
 
 -- by the result of reading it, a line is read
-pub read_as : (text : List ℕ) (read : Result LogLine LogFault) (line : LogLine) → read ≡ Ok line → Reads text read → IsRead text
-read_as text read line is reads = (line, subst (λ (r : Result LogLine LogFault). Reads text r) is reads)
+pub read_as : (text : List ℕ) (read : Result LogLine LogFault) (line : LogLine) → read ≡ Ok line → Reads text read → Reads text (Ok line)
+read_as text read line is reads = subst (λ (r : Result LogLine LogFault). Reads text r) is reads
 
 -- or not
 pub unread_as : (text : List ℕ) (read : Result LogLine LogFault) (fault : LogFault) → read ≡ Err fault → Reads text read → IsUnread text

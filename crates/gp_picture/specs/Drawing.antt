@@ -1,11 +1,11 @@
 -- How far an input was read (this profile's own rule). What is drawn of a line is tested, and not said here.
-use Rattle.std.specs.Prelude.{◌≡◌, ℕ, ◌+◌, ◌⊎◌, Bool, List, [], Option, None, Some, is_some, Ok, Err}
+use Rattle.std.specs.Prelude.{◌≡◌, ℕ, ◌+◌, ◌⊎◌, ◌||◌, not, Bool, false, List, [], Option, None, Some, is_some, Ok, Err}
 use Rattle.gp_flow.specs.Lines.{Speech, WholeLines}
 use Rattle.gp_explain.specs.declared.fault.NoLine.{NoLine}
 use Rattle.gp_explain.specs.declared.fault.NoLine.TheVariants.{NotALine, TooLong}
 use Rattle.gp_log.specs.declared.fault.LogFault.{LogFault}
 use Rattle.gp_log.specs.declared.line.LogLine.{LogLine}
-use Rattle.gp_log.specs.Line.{Reads}
+use Rattle.gp_log.specs.Line.{Reads, says_nothing}
 
 -- a line of a trace or a log, an empty one, or a remark
 abbrev pub IsRead : List ℕ → Type 0
@@ -15,18 +15,19 @@ IsRead text = (line : LogLine) × Reads text (Ok line)
 abbrev pub IsUnread : List ℕ → Type 0
 IsUnread text = (fault : LogFault) × Reads text (Err fault)
 
--- how many lines came, and why the last of them ended it, if it did
+-- how many lines came, whether one of them says anything, and why the last of them ended it, if it did
 pub record DrawState : Type 0 where
   pub lines : ℕ
+  pub heard : Bool
   pub ended : Option NoLine
 
 -- before the first line
 abbrev pub opened : DrawState
-opened = record { lines = 0; ended = None }
+opened = record { lines = 0; heard = false; ended = None }
 
--- one line more came
-abbrev pub counted : DrawState → DrawState
-counted state = record state { lines = state.lines + 1 }
+-- one line more came, which says this
+abbrev pub counted : LogLine → DrawState → DrawState
+counted line state = record state { lines = state.lines + 1; heard = state.heard || not (says_nothing line) }
 
 -- one line more came, and ended it
 abbrev pub ended_by : NoLine → DrawState → DrawState
@@ -34,7 +35,9 @@ ended_by why state = record state { lines = state.lines + 1; ended = Some why }
 
 -- a line that is read is counted; any other ends it
 abbrev pub DrawsText : DrawState → List ℕ → DrawState → Type 0
-DrawsText old text new = (IsRead text × (new ≡ counted old)) ⊎ (IsUnread text × (new ≡ ended_by NotALine old))
+DrawsText old text new =
+    ((line : LogLine) × Reads text (Ok line) × (new ≡ counted line old))
+    ⊎ (IsUnread text × (new ≡ ended_by NotALine old))
 
 -- by what ended it before: nothing is looked at any more; a line that is too long ends it
 abbrev pub DrawsFrom : Option NoLine → DrawState → Option (List ℕ) → DrawState → Type 0

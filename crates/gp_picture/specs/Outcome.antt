@@ -6,6 +6,7 @@ use Rattle.gp_flow.specs.declared.fault.LineFault.TheVariants.{OutOfMemory}
 use Rattle.gp_flow.specs.declared.fault.LinesFault.TheVariants as faults
 use Rattle.gp_flow.specs.Lines.{lines_of}
 use Rattle.gp_lines.specs.Turn.{longest_line}
+use Rattle.gp_log.specs.Line.{AreRead}
 use Rattle.gp_stream.specs.declared.sink.WriteStopped.{WriteStopped}
 use Rattle.gp_stream.specs.Sink.{SinkState, KeepsNothing, WritesWhole}
 use Rattle.gp_stream.specs.Source.{SourceState, ReadsWhole}
@@ -13,6 +14,7 @@ use Rattle.gp_explain.specs.declared.fault.ExplainFault.{ExplainFault}
 use Rattle.gp_explain.specs.declared.fault.ExplainFault.TheVariants.{Refused, Lines}
 use Rattle.gp_explain.specs.declared.fault.NoLine.{NoLine}
 use Rattle.gp_explain.specs.declared.fault.NoLine.TheVariants.{NotALine, TooLong}
+use Rattle.gp_picture.specs.declared.running.PictureSum.{PictureSum}
 use Rattle.gp_picture.specs.Drawing.{DrawState, IsRead, IsUnread}
 
 -- a whole SVG document (W3C, Scalable Vector Graphics 1.1). What stands in it is tested, and not said here.
@@ -20,11 +22,12 @@ abbrev pub IsSvg : List ℕ → Type 0
 IsSvg text = (inside : List ℕ) × (text ≡ codes "<svg " ++ inside ++ codes "</svg>\n")
 
 -- the whole input was read, each of its lines is read, and the writer got one picture
-pub record IsDrawn {R W : Type 0} (from to : SourceState R) (before after : SinkState W) (lines : ℕ) : Type 0 where
+pub record IsDrawn {R W : Type 0} (from to : SourceState R) (before after : SinkState W) (sum : PictureSum)
+    : Type 0 where
   pub text : List ℕ
   pub read : ReadsWhole from to text
-  pub all : All IsRead (lines_of text)
-  pub count : length (lines_of text) ≡ lines
+  pub all : AreRead (lines_of text) sum.heard
+  pub count : length (lines_of text) ≡ sum.lines
   -- the writer got all of it, and keeps nothing back
   pub picture : List ℕ
   pub svg : IsSvg picture
@@ -66,8 +69,8 @@ pub record IsBegun {R W : Type 0} (from to : SourceState R) (before after : Sink
 
 -- how it may end; a failed read, and the bound of reads, are told as such. Memory may run out before anything was read.
 abbrev pub DrawsTrace : {R W : Type 0} → SourceState R → SourceState R → SinkState W → SinkState W
-    → Result ℕ ExplainFault → Type 0
-DrawsTrace from to before after (Ok lines) = IsDrawn from to before after lines
+    → Result PictureSum ExplainFault → Type 0
+DrawsTrace from to before after (Ok sum) = IsDrawn from to before after sum
 DrawsTrace from to before after (Err (Refused line why)) = IsRefused from to before after line why
 DrawsTrace from to before after (Err (Lines faults.Read)) =
     IsBegun from to before after × ((to.failed ≡ true) ⊎ (to.left ≡ 0))
@@ -87,11 +90,12 @@ WritesPicture before after (Err (Lines (faults.Line fault))) =
     × (stopped : WriteStopped) × WritesWhole {T = Unit {0}} before after picture (Err stopped))
 
 -- how it ends behind the last line
-abbrev pub EndsAs : {W : Type 0} → Option NoLine → DrawState → SinkState W → SinkState W → Result ℕ ExplainFault
-    → Type 0
+abbrev pub EndsAs : {W : Type 0} → Option NoLine → DrawState → SinkState W → SinkState W
+    → Result PictureSum ExplainFault → Type 0
 EndsAs (Some why) drawn before after answer = (answer ≡ Err (Refused drawn.lines why)) × (after ≡ before)
-EndsAs None drawn before after (Ok lines) = (lines ≡ drawn.lines) × WritesPicture before after (Ok (tt {0}))
+EndsAs None drawn before after (Ok sum) =
+    (sum.lines ≡ drawn.lines) × (sum.heard ≡ drawn.heard) × WritesPicture before after (Ok (tt {0}))
 EndsAs None drawn before after (Err fault) = WritesPicture before after (Err fault)
 
-abbrev pub Ends : {W : Type 0} → DrawState → SinkState W → SinkState W → Result ℕ ExplainFault → Type 0
+abbrev pub Ends : {W : Type 0} → DrawState → SinkState W → SinkState W → Result PictureSum ExplainFault → Type 0
 Ends drawn before after answer = EndsAs drawn.ended drawn before after answer

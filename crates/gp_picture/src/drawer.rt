@@ -9,11 +9,12 @@ use std::alloc::{AllocError, Global};
 use std::marker::Model;
 
 /// Is given the lines of a trace or a log, one after another. The first line that is none ends it. Contracts see how
-/// many lines came, and what ended it.
+/// many lines came, whether one of them says anything, and what ended it.
 #[derive(Drop)]
 pub(crate) struct Drawer {
     pub(crate) picture: Picture,
     pub(crate) lines: u64,
+    pub(crate) heard: bool,
     pub(crate) ended: Option<NoLine>,
 }
 
@@ -22,7 +23,7 @@ impl Model for Drawer {
 
     ghost Value = { DrawState };
 
-    ghost view = { λ s. record { lines = s.lines; ended = s.ended } };
+    ghost view = { λ s. record { lines = s.lines; heard = s.heard; ended = s.ended } };
 }
 
 impl Drawer {
@@ -33,6 +34,7 @@ impl Drawer {
         Ok(Drawer {
             picture: Picture::begin(alloc, options)?,
             lines: 0,
+            heard: false,
             ended: None,
         })
     }

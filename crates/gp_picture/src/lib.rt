@@ -44,4 +44,4 @@ mod whole;
 mod windows;
 
 pub use options::{Frames, PORTS, PictureOptions};
-pub use running::draw_trace;
+pub use running::{PictureSum, draw_trace};

@@ -12,8 +12,17 @@ use gp_stream::{Sink, Source};
 use std::alloc::Global;
 use std::io::{Read, Write};
 
-/// Reads a trace or a log to its end, writes its picture, and answers how many lines it has. Nothing is written before
-/// all of it was read. The first line that `gp_log::read_line` doesn't read ends it, and no picture is written then.
+/// What was drawn.
+#[derive(Clone, Copy, Debug, PartialEq, Eq)]
+pub struct PictureSum {
+    /// How many lines came.
+    pub lines: u64,
+    /// Whether one of them says anything: not all are empty or remarks.
+    pub heard: bool,
+}
+
+/// Reads a trace or a log to its end, writes its picture, and answers what was drawn. Nothing is written before all of
+/// it was read. The first line that `gp_log::read_line` doesn't read ends it, and no picture is written then.
 ///
 /// What memory it takes has a bound, whatever the length of the input: for at most 4,096 serial numbers a port, 1,024
 /// lanes, and about 3,000 marks and changes.
@@ -22,7 +31,7 @@ pub fn draw_trace<R: Read, W: Write>(
     options: &PictureOptions,
     source: &mut Source<R>,
     sink: &mut Sink<W>,
-) -> Result<u64, ExplainFault>
+) -> Result<PictureSum, ExplainFault>
     requires { sink.old.flushed ≡ true }
     ensures { spec.DrawsTrace source.old source.new sink.old sink.new result }
 {
@@ -32,7 +41,11 @@ pub fn draw_trace<R: Read, W: Write>(
 }
 
 /// Writes the picture of all lines, unless one ended it.
-fn finish<W: Write>(alloc: Global, drawer: &Drawer, sink: &mut Sink<W>) -> Result<u64, ExplainFault>
+fn finish<W: Write>(
+    alloc: Global,
+    drawer: &Drawer,
+    sink: &mut Sink<W>,
+) -> Result<PictureSum, ExplainFault>
     ensures { spec.Ends drawer.now sink.old sink.new result }
 {
     match drawer.ended {
@@ -42,7 +55,10 @@ fn finish<W: Write>(alloc: Global, drawer: &Drawer, sink: &mut Sink<W>) -> Resul
         }),
         None => {
             write_picture(alloc, &drawer.picture, sink)?;
-            Ok(drawer.lines)
+            Ok(PictureSum {
+                lines: drawer.lines,
+                heard: drawer.heard,
+            })
         }
     }
 }

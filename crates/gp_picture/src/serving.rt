@@ -33,6 +33,7 @@ impl LineWork for Drawer {
         let number = self.lines + 1;
         self.picture.line(&LineText { number, text }, &read)?;
         self.lines = number;
+        self.heard = self.heard || !read.says_nothing();
         Ok(())
     }
 

@@ -1,6 +1,6 @@
 -- How dumping an input ends.
 use Rattle.std.specs.Prelude.{is_some}
-use Rattle.std.proofs.Common.{◌≡◌, ◌⊎◌, inl, inr, ℕ, Bool, true, false, List, [], ◌∷◌, ◌++◌, Option, None, Some, Result, Ok, Err, IsErrAnd, length, take, drop, map, refl, sym, ap, subst, ◌∙◌, append_assoc, append-nil, arith}
+use Rattle.std.proofs.Common.{◌≡◌, ◌⊎◌, ◌||◌, inl, inr, ℕ, Bool, true, false, List, [], ◌∷◌, ◌++◌, Option, None, Some, Result, Ok, Err, IsErrAnd, length, take, drop, map, refl, sym, ap, subst, ◌∙◌, append_assoc, append-nil, arith}
 use Rattle.std.proofs.lemmas.List.{take-append-drop}
 use Rattle.std.proofs.KnownBytes.{Appends-trans}
 use Rattle.std.specs.List.{All}
@@ -15,6 +15,7 @@ use Rattle.gp_flow.specs.Lines.{DoesAll, GetsAll, GetsPrefix, Leaves, Serves, Se
 use Rattle.gp_flow.proofs.AnswerLemmas.{all_of_some}
 use Rattle.gp_flow.proofs.LineLemmas.{ended_first, handed_none, handed_whole}
 use Rattle.gp_lines.specs.Turn.{longest_line}
+use Rattle.gp_log.specs.Line.{AreRead}
 use Rattle.gp_stream.specs.declared.sink.WriteStopped.{WriteStopped}
 use Rattle.gp_stream.specs.Sink.{SinkState, KeepsNothing, WritesWhole}
 use Rattle.gp_stream.specs.Source.{SourceState, ReadsWhole}
@@ -111,17 +112,18 @@ some_dump old new text shut p =
 -- what is known where it begins
 pub record IsOpened (state : WavesState) : Type 0 where
   pub lines : state.lines ≡ 0
+  pub heard : state.heard ≡ false
   pub ended : state.ended ≡ None
   pub begun : state.written.begun ≡ false
 
 started : (old new : WavesState) (ls : List (Option (List ℕ))) (said : List ℕ) → IsOpened old → DoesAll Dumping old ls said new
-    → Course new.ended old.written ls said new.written 0 new.lines
-started old new ls said o h =
-    subst (λ (n : ℕ). Course new.ended old.written ls said new.written n new.lines) o.lines (course ls old new said o.ended h)
+    → Course new.ended ls said old new
+started old new ls said o h = course ls old new said o.ended h
 
-course_grows : (ended : Option NoLine) (a b : Written) (ls : List (Option (List ℕ))) (said : List ℕ) (from to : ℕ) → Course ended a ls said b from to → Grows a said b
-course_grows None a b ls said from to c = c.grown
-course_grows (Some why) a b ls said from to c = c.grown
+course_grows : (ended : Option NoLine) (ls : List (Option (List ℕ))) (said : List ℕ) (from to : WavesState) → Course ended ls said from to
+    → Grows from.written said to.written
+course_grows None ls said from to c = c.grown
+course_grows (Some why) ls said from to c = c.grown
 
 -- ---- behind the last line
 
@@ -187,9 +189,9 @@ module _ {R W : Type 0} (from to : SourceState R) (before mid after : SinkState 
       inl (begun_rest old state last bytes said text stopped o grown rest came written kept w)
 
   refused : (why : NoLine) (old state : WavesState) (bytes : List ℕ) (ls others : List (List ℕ)) (said : List ℕ) → Consumes from.remaining to.remaining bytes
-      → lines_of bytes ≡ ls ++ others → Halts why old.written (map (handed longest_line) ls) said state.written 0 state.lines → GetsDump before after
+      → lines_of bytes ≡ ls ++ others → old.lines ≡ 0 → Halts why (map (handed longest_line) ls) said old state → GetsDump before after
       → IsRefused from to before after state.lines why
-  refused why old state bytes ls others said came is halts gets =
+  refused why old state bytes ls others said came is zero halts gets =
       let p = parted longest_line ls halts.before halts.line halts.rest halts.all_is in
       let many = halts.lines in
       record {
@@ -200,70 +202,72 @@ module _ {R W : Type 0} (from to : SourceState R) (before mid after : SinkState 
         others = p.others ++ others;
         lines = is ∙ ap (λ (l : List (List ℕ)). l ++ others) p.parts ∙ append_assoc halts.before (p.raw ∷ p.others) others;
         all = halts.read;
-        number = omega (arith, many);
+        number = omega (arith, many, zero);
         none = none_of why halts.line p.raw p.is halts.fails;
         dumped = gets;
       }
 
   -- what was found where an input was read to its end
-  found_whole : (ended : Option NoLine) (old state : WavesState) (text said : List ℕ) (answer : Result WavesSum ExplainFault) → ReadsWhole from to text
-      → Course ended old.written (map (handed longest_line) (lines_of text)) said state.written 0 state.lines → GetsDump before after
+  found_whole : (ended : Option NoLine) (old state : WavesState) (text said : List ℕ) (answer : Result WavesSum ExplainFault) → IsOpened old → ReadsWhole from to text
+      → Course ended (map (handed longest_line) (lines_of text)) said old state → GetsDump before after
       → IsFoundBy ended state answer → DumpsWaves from to before after answer
-  found_whole None old state text said (Ok sum) read c gets found =
+  found_whole None old state text said (Ok sum) o read c gets found =
       let same : lines_of text ≡ c.texts = handed_all longest_line (lines_of text) c.texts c.all_is in
       let many = c.lines in
-      let told = found in
+      let zero = o.lines in
+      let told = found.0 in
+      let heard : sum.heard ≡ c.told = found.1 ∙ c.heard ∙ ap (λ (t : Bool). t || c.told) o.heard in
       let long : length (lines_of text) ≡ length c.texts = ap length same in
       record {
         text = text;
         read = read;
-        all = subst (All IsRead) (sym same) c.read;
-        count = omega (arith, many, told, long);
+        all = subst (λ (t : Bool). AreRead (lines_of text) t) (sym heard) (subst (λ (ls : List (List ℕ)). AreRead ls c.told) (sym same) c.read);
+        count = omega (arith, many, told, long, zero);
         dumped = gets;
       }
-  found_whole None old state text said (Err fault) read c gets found = absurd found
-  found_whole (Some why) old state text said answer read c gets found =
+  found_whole None old state text said (Err fault) o read c gets found = absurd found
+  found_whole (Some why) old state text said answer o read c gets found =
       subst (λ (a : Result WavesSum ExplainFault). DumpsWaves from to before after a) (sym found)
-      (refused why old state text (lines_of text) [] said read.consumed (sym (append-nil (lines_of text))) c gets)
+      (refused why old state text (lines_of text) [] said read.consumed (sym (append-nil (lines_of text))) o.lines c gets)
 
   -- or until a line ended it
-  found_over : (ended : Option NoLine) (old state : WavesState) (bytes said : List ℕ) (answer : Result WavesSum ExplainFault) → is_some ended ≡ true
-      → Consumes from.remaining to.remaining bytes → Course ended old.written (map (handed longest_line) (ended_lines bytes)) said state.written 0 state.lines
+  found_over : (ended : Option NoLine) (old state : WavesState) (bytes said : List ℕ) (answer : Result WavesSum ExplainFault) → is_some ended ≡ true → IsOpened old
+      → Consumes from.remaining to.remaining bytes → Course ended (map (handed longest_line) (ended_lines bytes)) said old state
       → GetsDump before after → IsFoundBy ended state answer → DumpsWaves from to before after answer
-  found_over None old state bytes said answer some came c gets found = absurd (never some)
-  found_over (Some why) old state bytes said answer some came c gets found =
+  found_over None old state bytes said answer some o came c gets found = absurd (never some)
+  found_over (Some why) old state bytes said answer some o came c gets found =
       let e = ended_first bytes [] in
       subst (λ (a : Result WavesSum ExplainFault). DumpsWaves from to before after a) (sym found)
-      (refused why old state bytes (ended_lines bytes) e.0 said came (ap lines_of (sym (append-nil bytes)) ∙ e.1) c gets)
+      (refused why old state bytes (ended_lines bytes) e.0 said came (ap lines_of (sym (append-nil bytes)) ∙ e.1) o.lines c gets)
 
   -- what was found is found of the state before the rest was written, too
   found_before : (ended same : Option NoLine) (state last : WavesState) (answer : Result WavesSum ExplainFault) → ended ≡ same → last.lines ≡ state.lines
-      → IsFoundBy ended last answer → IsFoundBy same state answer
-  found_before ended (Some why) state last answer is many found =
+      → last.heard ≡ state.heard → IsFoundBy ended last answer → IsFoundBy same state answer
+  found_before ended (Some why) state last answer is many heard found =
       subst (λ (n : ℕ). answer ≡ Err (Refused n why)) many (subst (λ (e : Option NoLine). IsFoundBy e last answer) is found)
-  found_before ended None state last (Ok sum) is many found =
+  found_before ended None state last (Ok sum) is many heard found =
       let there : IsFoundBy None last (Ok sum) = subst (λ (e : Option NoLine). IsFoundBy e last (Ok sum)) is found in
-      there ∙ many
-  found_before ended None state last (Err fault) is many found = subst (λ (e : Option NoLine). IsFoundBy e last (Err fault)) is found
+      (there.0 ∙ many, there.1 ∙ heard)
+  found_before ended None state last (Err fault) is many heard found = subst (λ (e : Option NoLine). IsFoundBy e last (Err fault)) is found
 
   pub dumped_as : (end : LinesEnd) (old state last : WavesState) (answer : Result WavesSum ExplainFault) → IsOpened old
       → ServesTo Dumping has_ended longest_line end from to old state before mid → WritesRest state last mid after (Ok (tt {0})) → IsFound last answer
       → DumpsWaves from to before after answer
   dumped_as Whole old state last answer o s w found =
       let c = started old state (map (handed longest_line) (lines_of s.bytes)) s.said o s.spoken in
-      let grown = course_grows state.ended old.written state.written _ s.said 0 state.lines c in
-      found_whole state.ended old state s.bytes s.said answer s.read c (dumped old state last s.said w.0 o grown w.1 s.written s.kept w.2)
-      (found_before last.ended state.ended state last answer w.1.ended w.1.lines found)
+      let grown = course_grows state.ended _ s.said old state c in
+      found_whole state.ended old state s.bytes s.said answer o s.read c (dumped old state last s.said w.0 o grown w.1 s.written s.kept w.2)
+      (found_before last.ended state.ended state last answer w.1.ended w.1.lines w.1.heard found)
   dumped_as Open old state last answer o s w found =
       let c = started old state (map (handed longest_line) (lines_of s.bytes)) s.said o s.spoken in
-      let grown = course_grows state.ended old.written state.written _ s.said 0 state.lines c in
-      found_whole state.ended old state s.bytes s.said answer s.read c (dumped old state last s.said w.0 o grown w.1 s.written s.kept w.2)
-      (found_before last.ended state.ended state last answer w.1.ended w.1.lines found)
+      let grown = course_grows state.ended _ s.said old state c in
+      found_whole state.ended old state s.bytes s.said answer o s.read c (dumped old state last s.said w.0 o grown w.1 s.written s.kept w.2)
+      (found_before last.ended state.ended state last answer w.1.ended w.1.lines w.1.heard found)
   dumped_as Over old state last answer o s w found =
       let c = started old state (map (handed longest_line) (ended_lines s.0.bytes)) s.0.said o s.0.spoken in
-      let grown = course_grows state.ended old.written state.written _ s.0.said 0 state.lines c in
-      found_over state.ended old state s.0.bytes s.0.said answer s.1 s.0.read c (dumped old state last s.0.said w.0 o grown w.1 s.0.written s.0.kept w.2)
-      (found_before last.ended state.ended state last answer w.1.ended w.1.lines found)
+      let grown = course_grows state.ended _ s.0.said old state c in
+      found_over state.ended old state s.0.bytes s.0.said answer s.1 o s.0.read c (dumped old state last s.0.said w.0 o grown w.1 s.0.written s.0.kept w.2)
+      (found_before last.ended state.ended state last answer w.1.ended w.1.lines w.1.heard found)
 
   -- the rest could not be written where the input was read
   unwritten_to : (end : LinesEnd) (old state last : WavesState) (fault : ExplainFault) → IsOpened old
@@ -271,13 +275,13 @@ module _ {R W : Type 0} (from to : SourceState R) (before mid after : SinkState 
       → DumpsWaves from to before after (Err fault)
   unwritten_to Whole old state last fault o s w =
       let c = started old state (map (handed longest_line) (lines_of s.bytes)) s.said o s.spoken in
-      unwritten old state last s.bytes s.said fault o (course_grows state.ended old.written state.written _ s.said 0 state.lines c) s.read.consumed s.written s.kept w
+      unwritten old state last s.bytes s.said fault o (course_grows state.ended _ s.said old state c) s.read.consumed s.written s.kept w
   unwritten_to Open old state last fault o s w =
       let c = started old state (map (handed longest_line) (lines_of s.bytes)) s.said o s.spoken in
-      unwritten old state last s.bytes s.said fault o (course_grows state.ended old.written state.written _ s.said 0 state.lines c) s.read.consumed s.written s.kept w
+      unwritten old state last s.bytes s.said fault o (course_grows state.ended _ s.said old state c) s.read.consumed s.written s.kept w
   unwritten_to Over old state last fault o s w =
       let c = started old state (map (handed longest_line) (ended_lines s.0.bytes)) s.0.said o s.0.spoken in
-      unwritten old state last s.0.bytes s.0.said fault o (course_grows state.ended old.written state.written _ s.0.said 0 state.lines c) s.0.read s.0.written s.0.kept w
+      unwritten old state last s.0.bytes s.0.said fault o (course_grows state.ended _ s.0.said old state c) s.0.read s.0.written s.0.kept w
 
   pub unwritten_as : (end : LinesEnd) (old state last : WavesState) (fault : ExplainFault) (answer : Result WavesSum ExplainFault) → IsOpened old
       → ServesTo Dumping has_ended longest_line end from to old state before mid → WritesRest state last mid after (Err fault)
@@ -293,7 +297,7 @@ module _ {R W : Type 0} (from to : SourceState R) (before mid after : SinkState 
   unread old state last o s w =
       let e = s.read refl in
       let c = started old state (map (handed longest_line) (ended_lines e.bytes)) e.said o e.spoken in
-      let grown = course_grows state.ended old.written state.written _ e.said 0 state.lines c in
+      let grown = course_grows state.ended _ e.said old state c in
       record {
         bytes = e.bytes;
         came = e.read;
@@ -309,7 +313,7 @@ module _ {R W : Type 0} (from to : SourceState R) (before mid after : SinkState 
       let e = s.read refl in
       let c = started old state (map (handed longest_line) (ended_lines e.bytes)) e.said o e.spoken in
       subst (λ (f : ExplainFault). DumpsWaves from to before after (Err f)) (sym told)
-      (unwritten old state last e.bytes e.said fault o (course_grows state.ended old.written state.written _ e.said 0 state.lines c) e.read e.written e.kept w)
+      (unwritten old state last e.bytes e.said fault o (course_grows state.ended _ e.said old state c) e.read e.written e.kept w)
 
   pub unread_at : (fault : LinesFault) (old state last : WavesState) → fault ≡ faults.Read → IsOpened old
       → Serves Dumping has_ended longest_line from to old state before mid (Err fault) → WritesRest state last mid after (Ok (tt {0}))
@@ -361,7 +365,7 @@ module _ {R W : Type 0} (from to : SourceState R) (before after : SinkState W) w
       let e = s.fault fault refl in
       let whole = all_of_some Says old e.begun e.said e.spoken in
       let c = started old whole.0 e.begun e.said o whole.1 in
-      inl (leaves_begun fault old whole.0 e.bytes e.said o (course_grows whole.0.ended old.written whole.0.written e.begun e.said 0 whole.0.lines c) e.read e.written)
+      inl (leaves_begun fault old whole.0 e.bytes e.said o (course_grows whole.0.ended e.begun e.said old whole.0 c) e.read e.written)
 
   pub line_fault_at : (told : LinesFault) (fault : LineFault) (old state : WavesState) → told ≡ faults.Line fault → IsOpened old
       → Serves Dumping has_ended longest_line from to old state before after (Err told) → DumpsWaves from to before after (Err (Lines (faults.Line fault)))

@@ -15,7 +15,7 @@ use Rattle.gp_waves.specs.declared.fault.WavesFault.{WavesFault}
 use Rattle.gp_waves.specs.declared.fault.WavesFault.TheVariants as waves
 use Rattle.gp_waves.specs.Faults.{undumped}
 use Rattle.gp_waves.specs.Writing.{Grows, Written}
-use Rattle.gp_waves.specs.Dumping.{Dumping, IsRead, IsUnread, Says, SaysFrom, WavesState, counted, ended_by}
+use Rattle.gp_waves.specs.Dumping.{Dumping, IsUnread, Says, SaysFrom, WavesState, counted, ended_by}
 
 -- a line that is none ends it
 pub refused_line : {W : Type 0} (old new : WavesState) (text : List ℕ) (before : SinkState W) → old.ended ≡ None → IsUnread text
@@ -25,12 +25,12 @@ refused_line old new text before none unread same =
     (subst (λ (e : Option NoLine). SaysFrom e old (Some text) [] new) (sym none) (inr (unread, refl, same)))
 
 -- what is said to a line that is read
-pub read_line_says : (old new : WavesState) (text said : List ℕ) (written : Written) → old.ended ≡ None → IsRead text → Grows old.written said written
-    → new ≡ counted written old → Says old (Some text) said new
-read_line_says old new text said written none reads grows same =
+pub read_line_says : (old new : WavesState) (text said : List ℕ) (line : LogLine) (written : Written) → old.ended ≡ None → Reads text (Ok line)
+    → Grows old.written said written → new ≡ counted line written old → Says old (Some text) said new
+read_line_says old new text said line written none reads grows same =
     let there : Grows old.written said new.written = subst (λ (s : WavesState). Grows old.written said s.written) (sym same) grows in
-    let is : new ≡ counted new.written old = same ∙ ap (λ (s : WavesState). counted s.written old) (sym same) in
-    subst (λ (e : Option NoLine). SaysFrom e old (Some text) said new) (sym none) (inl (reads, there, is))
+    let is : new ≡ counted line new.written old = same ∙ ap (λ (s : WavesState). counted line s.written old) (sym same) in
+    subst (λ (e : Option NoLine). SaysFrom e old (Some text) said new) (sym none) (inl (line, reads, there, is))
 
 -- a line that can't be dumped
 pub undumped_line : {W : Type 0} (line : Option (List ℕ)) (old new : WavesState) (before : SinkState W) (fault : WavesFault) (r : Result (Unit {0}) LineFault)
@@ -42,26 +42,26 @@ undumped_line line old new before waves.Full (Err f) told =
     subst (λ (e : LineFault). Answers {T = Unit {0}} Dumping line old new before before (Err e)) (sym told) (no_room Dumping line old new before)
 
 -- a line with which the writer stopped
-pub stopped_line : {W T : Type 0} (old new : WavesState) (text said : List ℕ) (written : Written) (before after : SinkState W) (e : WriteStopped) (r : Result (Unit {0}) LineFault)
-    → old.ended ≡ None → IsRead text → Grows old.written said written → Puts {T = T} before after said (Err e) → IsErrAnd r (λ f. f ≡ Write)
-    → Answers Dumping (Some text) old new before after r
-stopped_line old new text said written before after e (Ok x) none reads grows puts told = absurd told
-stopped_line old new text said written before after e (Err f) none reads grows puts told =
-    let next : WavesState = counted written old in
+pub stopped_line : {W T : Type 0} (old new : WavesState) (text said : List ℕ) (line : LogLine) (written : Written) (before after : SinkState W) (e : WriteStopped)
+    (r : Result (Unit {0}) LineFault) → old.ended ≡ None → Reads text (Ok line) → Grows old.written said written → Puts {T = T} before after said (Err e)
+    → IsErrAnd r (λ f. f ≡ Write) → Answers Dumping (Some text) old new before after r
+stopped_line old new text said line written before after e (Ok x) none reads grows puts told = absurd told
+stopped_line old new text said line written before after e (Err f) none reads grows puts told =
+    let next : WavesState = counted line written old in
     subst (λ (fault : LineFault). Answers {T = Unit {0}} Dumping (Some text) old new before after (Err fault)) (sym told)
-    (put_stopped Dumping (Some text) old new next before after said e (read_line_says old next text said written none reads grows refl) puts)
+    (put_stopped Dumping (Some text) old new next before after said e (read_line_says old next text said line written none reads grows refl) puts)
 
 -- by the result of reading it, a line is read
-pub read_as : (text : List ℕ) (read : Result LogLine LogFault) (line : LogLine) → read ≡ Ok line → Reads text read → IsRead text
-read_as text read line is reads = (line, subst (λ (r : Result LogLine LogFault). Reads text r) is reads)
+pub read_as : (text : List ℕ) (read : Result LogLine LogFault) (line : LogLine) → read ≡ Ok line → Reads text read → Reads text (Ok line)
+read_as text read line is reads = subst (λ (r : Result LogLine LogFault). Reads text r) is reads
 
 -- or not
 pub unread_as : (text : List ℕ) (read : Result LogLine LogFault) (fault : LogFault) → read ≡ Err fault → Reads text read → IsUnread text
 unread_as text read fault is reads = (fault, subst (λ (r : Result LogLine LogFault). Reads text r) is reads)
 
 -- a line that is read, with what is said to it
-pub written_line : {W T : Type 0} (old new : WavesState) (text said : List ℕ) (written : Written) (before after : SinkState W) (x : T)
-    → old.ended ≡ None → IsRead text → Grows old.written said written → new ≡ counted written old → Puts {T = T} {E = WriteStopped} before after said (Ok x)
-    → Answers {T = Unit {0}} Dumping (Some text) old new before after (Ok tt)
-written_line old new text said written before after x none reads grows same puts =
-    put_answers Dumping (Some text) old new before after said x (tt {0}) (read_line_says old new text said written none reads grows same) puts
+pub written_line : {W T : Type 0} (old new : WavesState) (text said : List ℕ) (line : LogLine) (written : Written) (before after : SinkState W) (x : T)
+    → old.ended ≡ None → Reads text (Ok line) → Grows old.written said written → new ≡ counted line written old
+    → Puts {T = T} {E = WriteStopped} before after said (Ok x) → Answers {T = Unit {0}} Dumping (Some text) old new before after (Ok tt)
+written_line old new text said line written before after x none reads grows same puts =
+    put_answers Dumping (Some text) old new before after said x (tt {0}) (read_line_says old new text said line written none reads grows same) puts

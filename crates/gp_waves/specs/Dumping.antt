@@ -1,11 +1,11 @@
 -- How far an input was read, and what was written meanwhile (this profile's own rule).
-use Rattle.std.specs.Prelude.{◌≡◌, ℕ, ◌+◌, ◌⊎◌, Bool, List, [], Option, None, Some, is_some, Ok, Err}
+use Rattle.std.specs.Prelude.{◌≡◌, ℕ, ◌+◌, ◌⊎◌, ◌||◌, not, Bool, List, [], Option, None, Some, is_some, Ok, Err}
 use Rattle.gp_flow.specs.Lines.{Speech, WholeLines}
 use Rattle.gp_explain.specs.declared.fault.NoLine.{NoLine}
 use Rattle.gp_explain.specs.declared.fault.NoLine.TheVariants.{NotALine, TooLong}
 use Rattle.gp_log.specs.declared.fault.LogFault.{LogFault}
 use Rattle.gp_log.specs.declared.line.LogLine.{LogLine}
-use Rattle.gp_log.specs.Line.{Reads}
+use Rattle.gp_log.specs.Line.{Reads, says_nothing}
 use Rattle.gp_waves.specs.Writing.{Grows, Written}
 
 -- a line of a trace or a log, an empty one, or a remark
@@ -16,15 +16,18 @@ IsRead text = (line : LogLine) × Reads text (Ok line)
 abbrev pub IsUnread : List ℕ → Type 0
 IsUnread text = (fault : LogFault) × Reads text (Err fault)
 
--- how many lines came, why the last of them ended it, if it did, and what is written
+-- how many lines came, whether one of them says anything, why the last of them ended it, if it did, and what is written
 pub record WavesState : Type 0 where
   pub lines : ℕ
+  pub heard : Bool
   pub ended : Option NoLine
   pub written : Written
 
--- one line more came, and this is written by now
-abbrev pub counted : Written → WavesState → WavesState
-counted written state = record state { lines = state.lines + 1; written = written }
+-- one line more came, which says this, and this is written by now
+abbrev pub counted : LogLine → Written → WavesState → WavesState
+counted line written state =
+    record state
+    { lines = state.lines + 1; heard = state.heard || not (says_nothing line); written = written }
 
 -- one line more came, and ended it
 abbrev pub ended_by : NoLine → WavesState → WavesState
@@ -33,7 +36,8 @@ ended_by why state = record state { lines = state.lines + 1; ended = Some why }
 -- with a line that is read more of the dump may be written; any other ends it
 abbrev pub SaysToText : WavesState → List ℕ → List ℕ → WavesState → Type 0
 SaysToText old text said new =
-    (IsRead text × Grows old.written said new.written × (new ≡ counted new.written old))
+    ((line : LogLine) × Reads text (Ok line) × Grows old.written said new.written
+    × (new ≡ counted line new.written old))
     ⊎ (IsUnread text × (said ≡ []) × (new ≡ ended_by NotALine old))
 
 -- by what ended it before: nothing is looked at any more; a line that is too long ends it

@@ -6,6 +6,7 @@ use Rattle.gp_flow.specs.declared.fault.LineFault.TheVariants.{OutOfMemory}
 use Rattle.gp_flow.specs.declared.fault.LinesFault.TheVariants as faults
 use Rattle.gp_flow.specs.Lines.{lines_of}
 use Rattle.gp_lines.specs.Turn.{longest_line}
+use Rattle.gp_log.specs.Line.{AreRead}
 use Rattle.gp_stream.specs.declared.sink.WriteStopped.{WriteStopped}
 use Rattle.gp_stream.specs.Sink.{SinkState, KeepsNothing, WritesWhole}
 use Rattle.gp_stream.specs.Source.{SourceState, ReadsWhole}
@@ -30,11 +31,12 @@ pub record GetsDump {W : Type 0} (before after : SinkState W) : Type 0 where
   pub kept : KeepsNothing after
 
 -- the whole input was read, each of its lines is read, and the writer got one dump
-pub record IsDumped {R W : Type 0} (from to : SourceState R) (before after : SinkState W) (lines : ℕ) : Type 0 where
+pub record IsDumped {R W : Type 0} (from to : SourceState R) (before after : SinkState W) (sum : WavesSum)
+    : Type 0 where
   pub text : List ℕ
   pub read : ReadsWhole from to text
-  pub all : All IsRead (lines_of text)
-  pub count : length (lines_of text) ≡ lines
+  pub all : AreRead (lines_of text) sum.heard
+  pub count : length (lines_of text) ≡ sum.lines
   pub dumped : GetsDump before after
 
 -- why a text is no line of a trace or a log
@@ -79,7 +81,7 @@ pub record IsBegun {R W : Type 0} (from to : SourceState R) (before after : Sink
 -- how it may end; a failed read, and the bound of reads, are told as such. Memory may run out before anything was read.
 abbrev pub DumpsWaves : {R W : Type 0} → SourceState R → SourceState R → SinkState W → SinkState W
     → Result WavesSum ExplainFault → Type 0
-DumpsWaves from to before after (Ok sum) = IsDumped from to before after sum.lines
+DumpsWaves from to before after (Ok sum) = IsDumped from to before after sum
 DumpsWaves from to before after (Err (Refused line why)) = IsRefused from to before after line why
 DumpsWaves from to before after (Err (Lines faults.Read)) = IsUnfinished from to before after
 DumpsWaves from to before after (Err (Lines (faults.Line fault))) =
@@ -90,6 +92,7 @@ pub record IsRest (old new : WavesState) (text : List ℕ) : Type 0 where
   pub grown : Grows old.written text new.written
   pub begun : new.written.begun ≡ true
   pub lines : new.lines ≡ old.lines
+  pub heard : new.heard ≡ old.heard
   pub ended : new.ended ≡ old.ended
 
 -- how the rest is written, if it is
@@ -107,7 +110,7 @@ WritesRest old new before after (Err (Lines (faults.Line fault))) =
 -- what was found, by what ended it
 abbrev pub IsFoundBy : Option NoLine → WavesState → Result WavesSum ExplainFault → Type 0
 IsFoundBy (Some why) state answer = answer ≡ Err (Refused state.lines why)
-IsFoundBy None state (Ok sum) = sum.lines ≡ state.lines
+IsFoundBy None state (Ok sum) = (sum.lines ≡ state.lines) × (sum.heard ≡ state.heard)
 IsFoundBy None state (Err fault) = ⊥
 
 abbrev pub IsFound : WavesState → Result WavesSum ExplainFault → Type 0

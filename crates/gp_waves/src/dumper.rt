@@ -9,13 +9,14 @@ use std::alloc::{AllocError, Global};
 use std::marker::Model;
 
 /// Is given the lines of a trace or a log, one after another. The first line that is none ends it. Contracts see how
-/// many lines came, what ended it, and what is written of the dump.
+/// many lines came, whether one of them says anything, what ended it, and what is written of the dump.
 #[derive(Drop)]
 pub struct Dumper {
     pub(crate) waves: Waves,
     pub(crate) writing: Writing,
     pub(crate) buffer: Vec<u8>,
     pub(crate) lines: u64,
+    pub(crate) heard: bool,
     pub(crate) ended: Option<NoLine>,
 }
 
@@ -24,13 +25,14 @@ impl Model for Dumper {
 
     ghost Value = { WavesState };
 
-    ghost view = { λ s. record { lines = s.lines; ended = s.ended; written = s.writing } };
+    ghost view = { λ s. record { lines = s.lines; heard = s.heard; ended = s.ended; written = s.writing } };
 }
 
 impl Dumper {
     /// Makes one to which no line came. Fails only where there is no memory.
     pub fn begin(alloc: Global, options: &WavesOptions) -> Result<Dumper, AllocError>
         ensures lines { IfOk result (λ dumper. dumper.lines ≡ 0) }
+        ensures heard { IfOk result (λ dumper. dumper.heard ≡ false) }
         ensures ended { IfOk result (λ dumper. dumper.ended ≡ None) }
         ensures written { IfOk result (λ dumper. dumper.written.begun ≡ false) }
     {
@@ -39,6 +41,7 @@ impl Dumper {
             writing: Writing::new(),
             buffer: Vec::new(alloc),
             lines: 0,
+            heard: false,
             ended: None,
         })
     }

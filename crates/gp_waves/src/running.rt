@@ -15,6 +15,8 @@ use std::io::{Read, Write};
 pub struct WavesSum {
     /// How many lines came.
     pub lines: u64,
+    /// Whether one of them says anything: not all are empty or remarks.
+    pub heard: bool,
     /// How many lines of a log were not heard, since their time is before that of their port.
     pub fallen: u64,
     /// How many changes stand at a later time than theirs, since their port was too far behind the others.
@@ -81,6 +83,7 @@ fn finding(dumper: &Dumper) -> Result<WavesSum, ExplainFault>
         }),
         None => Ok(WavesSum {
             lines: dumper.lines,
+            heard: dumper.heard,
             fallen: dumper.waves.fallen,
             late: dumper.writing.late,
         }),

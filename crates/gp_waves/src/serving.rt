@@ -33,6 +33,7 @@ impl LineWork for Dumper {
         self.writing.spill(&mut self.buffer, &mut self.waves)?;
         sink.put(self.buffer.as_slice())?;
         self.lines += 1;
+        self.heard = self.heard || !read.says_nothing();
         Ok(())
     }
 

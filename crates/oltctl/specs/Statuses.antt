@@ -15,6 +15,7 @@ use Rattle.gp_encode.specs.declared.encoder.WordsFaultAt.{WordsFaultAt}
 use Rattle.gp_explain.specs.declared.fault.ExplainFault.{ExplainFault}
 use Rattle.gp_flow.specs.declared.fault.LinesFault.{LinesFault}
 use Rattle.gp_replay.specs.declared.fault.RunFault.{RunFault}
+use Rattle.gp_picture.specs.declared.running.PictureSum.{PictureSum}
 use Rattle.gp_waves.specs.declared.running.WavesSum.{WavesSum}
 use Rattle.gp_replay.specs.declared.fault.RunFault.TheVariants as run
 use Rattle.gp_report.specs.declared.status.TheConstants.{BAD_ARGUMENTS, BAD_INPUT, NOT_A_RUN, NOT_WRITTEN, OUT_OF_MEMORY, SUCCESS}
@@ -168,16 +169,25 @@ told_status (Err fault) = explain_status fault
 abbrev pub IsExplained : ℕ → Type 0
 IsExplained status = (outcome : Result ℕ ExplainFault) × (status ≡ told_status outcome)
 
+-- the status after a log was drawn or dumped, by whether one of its lines says anything
+abbrev pub heard_status : Bool → ℕ
+heard_status heard = if heard then SUCCESS else BAD_INPUT
+
+-- the status after a log was drawn
+abbrev pub drawn_status : Result PictureSum ExplainFault → ℕ
+drawn_status (Ok sum) = heard_status sum.heard
+drawn_status (Err fault) = explain_status fault
+
 -- the status after a log was to be drawn: an option can't be read; or it is drawn as is asked for, likewise
 abbrev pub IsPictured : Drawing → ℕ → Type 0
 IsPictured wanted status =
     ((bad : BadOption) × IsBadPicture wanted bad × (status ≡ BAD_ARGUMENTS))
     ⊎ ((options : PictureOptions) × DrawsAs wanted options
-    × (outcome : Result ℕ ExplainFault) × (status ≡ told_status outcome))
+    × (outcome : Result PictureSum ExplainFault) × (status ≡ drawn_status outcome))
 
 -- the status after a log was dumped, likewise
 abbrev pub waves_status : Result WavesSum ExplainFault → ℕ
-waves_status (Ok sum) = SUCCESS
+waves_status (Ok sum) = heard_status sum.heard
 waves_status (Err fault) = explain_status fault
 
 -- the status after a log was to be dumped: an option can't be; or it is dumped as is asked for, likewise

@@ -1,15 +1,15 @@
 //! A log that is drawn as a picture.
 ghost use Rattle.std.specs.Prelude.{◌≡◌};
-ghost use Rattle.oltctl.specs.Statuses.{IsPictured, told_status};
+ghost use Rattle.oltctl.specs.Statuses.{IsPictured, drawn_status};
 
 use crate::observed::{Observed, Seen};
-use crate::reporting::{refuse_option, report, report_at};
+use crate::reporting::{heard_status, refuse_option, report, report_at};
 use gp_command_line::Drawing;
 use gp_explain::{ExplainFault, NoLine};
 use gp_flow::LinesFault;
 use gp_options::picture_options;
-use gp_picture::{PictureOptions, draw_trace};
-use gp_report::{BAD_INPUT, SUCCESS, explain_report};
+use gp_picture::{PictureOptions, PictureSum, draw_trace};
+use gp_report::{BAD_INPUT, explain_report};
 use gp_stream::{Sink, Source};
 use std::io;
 use std::io::Read;
@@ -20,7 +20,7 @@ fn draw_from<R: AllocGlobal + Print, T: Read + Drop>(
     rt: &R,
     log: T,
     options: &PictureOptions,
-) -> Result<u64, ExplainFault> {
+) -> Result<PictureSum, ExplainFault> {
     let mut source = Source::endless(log);
     let mut sink = Sink::new(rt.alloc(), io::writer(rt))?;
     draw_trace(rt.alloc(), options, &mut source, &mut sink)
@@ -32,7 +32,7 @@ fn draw_file<R: AllocGlobal + Files + Print + Input>(
     log: Option<&str>,
     options: &PictureOptions,
     seen: &mut Seen<'_>,
-) -> Result<u64, ExplainFault> {
+) -> Result<PictureSum, ExplainFault> {
     match log {
         None => draw_from(rt, Observed::new(rt.reader(), seen), options),
         Some(path) => match std::fs::open(rt, path) {
@@ -48,13 +48,13 @@ fn draw_file<R: AllocGlobal + Files + Print + Input>(
 /// Says how drawing a log ended, with the number of the line that is none, and answers the exit status.
 fn end_picture<R: AllocGlobal + Eprint>(
     rt: &R,
-    outcome: &Result<u64, ExplainFault>,
+    outcome: &Result<PictureSum, ExplainFault>,
     seen: &Seen<'_>,
 ) -> u8
-    ensures { result ≡ told_status outcome.now }
+    ensures { result ≡ drawn_status outcome.now }
 {
     match outcome {
-        Ok(_) => SUCCESS,
+        Ok(sum) => heard_status(rt, sum.heard),
         Err(fault) => match fault {
             ExplainFault::Refused {
                 line,

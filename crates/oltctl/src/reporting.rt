@@ -1,9 +1,10 @@
 //! What is said on standard error, and the exit status that goes with it.
 ghost use Rattle.std.specs.Prelude.{◌≡◌};
+ghost use Rattle.oltctl.specs.Statuses.{heard_status as spec_heard_status};
 
 use gp_check::{Purpose, placed_line};
 use gp_options::BadOption;
-use gp_report::BAD_ARGUMENTS;
+use gp_report::{BAD_ARGUMENTS, BAD_INPUT, SUCCESS};
 use std::alloc::{AllocError, Global};
 use std::io;
 use std::io::ErrorKind;
@@ -34,6 +35,18 @@ pub(crate) fn report_count<R: Eprint>(rt: &R, told: (&'static str, u8), count: u
     let (line, status) = told;
     let _ = eprintln!(rt; "{line}, {count}");
     status
+}
+
+/// Answers the exit status after a log that was read to its end, and says on standard error where no line of it says
+/// anything.
+pub(crate) fn heard_status<R: Eprint>(rt: &R, heard: bool) -> u8
+    ensures { result ≡ spec_heard_status heard.entry }
+{
+    if heard {
+        SUCCESS
+    } else {
+        report(rt, ("oltctl: nothing was heard", BAD_INPUT))
+    }
 }
 
 /// Says on standard error which option can't be read, and answers the exit status.

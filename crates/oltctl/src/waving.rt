@@ -3,12 +3,12 @@ ghost use Rattle.std.specs.Prelude.{◌≡◌};
 ghost use Rattle.oltctl.specs.Statuses.{IsDumped, waves_status};
 
 use crate::observed::{Observed, Seen};
-use crate::reporting::{refuse_option, report, report_at};
+use crate::reporting::{heard_status, refuse_option, report, report_at};
 use gp_command_line::Dumping;
 use gp_explain::{ExplainFault, NoLine};
 use gp_flow::LinesFault;
 use gp_options::waves_options;
-use gp_report::{BAD_INPUT, SUCCESS, explain_report};
+use gp_report::{BAD_INPUT, explain_report};
 use gp_stream::{Sink, Source};
 use gp_waves::{WavesOptions, WavesSum, dump_waves};
 use std::io;
@@ -69,7 +69,7 @@ fn end_waves<R: AllocGlobal + Eprint>(
     match outcome {
         Ok(sum) => {
             tell_sum(rt, sum);
-            SUCCESS
+            heard_status(rt, sum.heard)
         }
         Err(fault) => match fault {
             ExplainFault::Refused {

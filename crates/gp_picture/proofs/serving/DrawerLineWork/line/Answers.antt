@@ -8,4 +8,4 @@ returns-in_default g c =
 
 pub returns : goal.returns
 returns g c =
-    drawn_line _ _ c.args.text.now _ (search rules) (read_as c.args.text.now c.read_line.result c.in-Ok.read c.in-Ok.is c.read_line.ensures) (search rules)
+    drawn_line _ _ c.args.text.now c.in-Ok.read _ (search rules) (read_as c.args.text.now c.read_line.result c.in-Ok.read c.in-Ok.is c.read_line.ensures) (search rules)

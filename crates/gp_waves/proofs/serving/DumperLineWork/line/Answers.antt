@@ -15,14 +15,14 @@ returns-in_err-spill g c = undumped_line _ c.args.self.now _ _ c.in_err-spill.fi
 
 pub returns-in_err-put : goal.returns-in_err-put
 returns-in_err-put g c =
-    stopped_line {T = Unit {0}} c.args.self.now _ c.args.text.now c.as_slice.result.now c.spill.new.self _ _ _ _ (search rules)
+    stopped_line {T = Unit {0}} c.args.self.now _ c.args.text.now c.as_slice.result.now c.in-Ok.read c.spill.new.self _ _ _ _ (search rules)
     (read_as c.args.text.now c.read_line.result c.in-Ok.read c.in-Ok.is c.read_line.ensures)
     (grows_as c.args.self.now.written c.self.inside.writing c.spill.new.self c.as_slice.result.now c.spill.new.out.items c.in_ok-spill.ensures (search rules) (search rules))
     (search rules) (search rules)
 
 pub returns : goal.returns
 returns g c =
-    written_line {T = Unit {0}} c.args.self.now _ c.args.text.now c.as_slice.result.now c.spill.new.self _ _ _ (search rules)
+    written_line {T = Unit {0}} c.args.self.now _ c.args.text.now c.as_slice.result.now c.in-Ok.read c.spill.new.self _ _ _ (search rules)
     (read_as c.args.text.now c.read_line.result c.in-Ok.read c.in-Ok.is c.read_line.ensures)
     (grows_as c.args.self.now.written c.self.inside.writing c.spill.new.self c.as_slice.result.now c.spill.new.out.items c.in_ok-spill.ensures (search rules) (search rules))
     (search rules) (search rules)
