@@ -73,13 +73,9 @@ abbrev pub opened_in : Bool → Direction → Mask → DecodeState
 opened_in names direction mask =
     record { direction = direction; mask = mask; names = names; lines = 0; first = None }
 
--- the same without
-abbrev pub opened_lines : Direction → Mask → DecodeState
-opened_lines direction mask = opened_in false direction mask
-
--- the same where all codes are of one direction
+-- the same without, where all codes are of one direction
 abbrev pub opened_decode : Bool → Mask → DecodeState
-opened_decode upstream mask = opened_lines (direction_of upstream) mask
+opened_decode upstream mask = opened_in false (direction_of upstream) mask
 
 -- the first of two, if there is one
 abbrev pub first_of : Option FaultAt → FaultAt → FaultAt
@@ -153,13 +149,8 @@ pub record DecodesIn {R W : Type 0} (names : Bool) (direction : Direction) (mask
   pub served : Serves Decoding never 4096 from to (opened_in names direction mask) new before after end
   pub told : IsAnswer end new answer
 
--- the same without
-abbrev pub DecodesEach : {R W : Type 0} → Direction → Mask → SourceState R → SourceState R → SinkState W → SinkState W
-    → Result (Option FaultAt) LinesFault → Type 0
-DecodesEach direction mask from to before after answer = DecodesIn false direction mask from to before after answer
-
--- the same where all codes are of one direction
+-- the same without, where all codes are of one direction
 abbrev pub DecodesLines : {R W : Type 0} → Bool → Mask → SourceState R → SourceState R → SinkState W → SinkState W
     → Result (Option FaultAt) LinesFault → Type 0
 DecodesLines upstream mask from to before after answer =
-    DecodesEach (direction_of upstream) mask from to before after answer
+    DecodesIn false (direction_of upstream) mask from to before after answer

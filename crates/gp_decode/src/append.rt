@@ -261,7 +261,7 @@ pub fn push_words_of(
 /// told as `Other` then too.
 ///
 /// What of memory and of a wrong check octet is the same.
-pub fn push_words_in(
+pub(crate) fn push_words_in(
     out: &mut Vec<u8>,
     code: &[u8; 13],
     upstream: bool,

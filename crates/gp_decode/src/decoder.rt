@@ -1,6 +1,6 @@
 //! Codes, one on each line.
 ghost use Rattle.std.specs.Prelude.{◌≡◌, ◌+◌, ◌<◌, ◌^◌};
-ghost use Rattle.gp_decode.specs.Lines.{after, opened_decode, opened_in, opened_lines};
+ghost use Rattle.gp_decode.specs.Lines.{after, opened_decode, opened_in};
 
 use super::answer::Answer;
 use super::direction::Direction;
@@ -54,19 +54,12 @@ impl Decoder {
     pub fn new(alloc: Global, upstream: bool, mask: Mask) -> Decoder
         ensures { result ≡ opened_decode upstream mask }
     {
-        Decoder::directed(alloc, Direction::of(upstream), mask)
-    }
-
-    /// Makes one to which no line came.
-    pub fn directed(alloc: Global, direction: Direction, mask: Mask) -> Decoder
-        ensures { result ≡ opened_lines direction mask }
-    {
-        Decoder::naming(alloc, direction, mask, false)
+        Decoder::naming(alloc, Direction::of(upstream), mask, false)
     }
 
     /// Makes one to which no line came, and which tells messages that this profile has no row for by the names that the
     /// standard has for them, where `names`.
-    pub fn naming(alloc: Global, direction: Direction, mask: Mask, names: bool) -> Decoder
+    pub(crate) fn naming(alloc: Global, direction: Direction, mask: Mask, names: bool) -> Decoder
         ensures { result ≡ opened_in names direction mask }
     {
         Decoder {

@@ -1,6 +1,6 @@
 //! All lines of an input.
 ghost use Rattle.std.specs.Prelude.{◌≡◌, true};
-ghost use Rattle.gp_decode.specs.Lines.{DecodesEach, DecodesIn, DecodesLines};
+ghost use Rattle.gp_decode.specs.Lines.{DecodesIn, DecodesLines};
 
 use super::decoder::{Decoder, FaultAt};
 use super::direction::Direction;
@@ -26,26 +26,12 @@ pub fn decode_lines<R: Read, W: Write>(
     requires { sink.old.flushed ≡ true }
     ensures { DecodesLines upstream mask source.old source.new sink.old sink.new result }
 {
-    decode_each(alloc, source, sink, Direction::of(upstream), mask)
+    decode_each_in(alloc, source, sink, Direction::of(upstream), mask, false)
 }
 
 /// Does so in a direction that each line may say itself, by `up` or `down` and a space before the code. A line that has
-/// to and doesn't is answered by `error LINE direction`.
-pub fn decode_each<R: Read, W: Write>(
-    alloc: Global,
-    source: &mut Source<R>,
-    sink: &mut Sink<W>,
-    direction: Direction,
-    mask: Mask,
-) -> Result<Option<FaultAt>, LinesFault>
-    requires { sink.old.flushed ≡ true }
-    ensures { DecodesEach direction mask source.old source.new sink.old sink.new result }
-{
-    decode_each_in(alloc, source, sink, direction, mask, false)
-}
-
-/// Does so, and where `names` with the names that G.984.3 has for messages that this profile has no row for, in the
-/// place of `Other` and the identifier.
+/// to and doesn't is answered by `error LINE direction`. Where `names`, messages that this profile has no row for are
+/// told by the names that G.984.3 has for them, in the place of `Other` and the identifier.
 pub fn decode_each_in<R: Read, W: Write>(
     alloc: Global,
     source: &mut Source<R>,

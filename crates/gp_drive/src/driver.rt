@@ -67,7 +67,12 @@ impl<P: EventPlayer> Driver<P> {
     }
 
     /// The same, in this manner.
-    pub fn new_in(manner: DriveManner, player: P, mask: Mask, buffer: LineBuffer) -> Driver<P>
+    pub(crate) fn new_in(
+        manner: DriveManner,
+        player: P,
+        mask: Mask,
+        buffer: LineBuffer,
+    ) -> Driver<P>
         requires { HasRoomFor P.playing most_turns player }
         ensures { result ≡ begun_in manner player mask }
     {

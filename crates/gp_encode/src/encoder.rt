@@ -25,7 +25,7 @@ pub struct WordsFaultAt {
 /// Says to each line the code of the message in it, or its fault, and passes over remarks. Contracts see the direction
 /// and the mask of the codes, how many lines came, and the first that had a fault.
 #[derive(Drop)]
-pub struct Encoder {
+pub(crate) struct Encoder {
     upstream: bool,
     mask: Mask,
     lines: u64,
@@ -43,7 +43,7 @@ impl Model for Encoder {
 
 impl Encoder {
     /// Makes one to which no line came.
-    pub fn new(alloc: Global, upstream: bool, mask: Mask) -> Encoder
+    pub(crate) fn new(alloc: Global, upstream: bool, mask: Mask) -> Encoder
         ensures { result ≡ opened_encode upstream mask }
     {
         Encoder {
@@ -56,7 +56,7 @@ impl Encoder {
     }
 
     /// The first line that had a fault, if one had.
-    pub fn first_fault(&self) -> Option<WordsFaultAt>
+    pub(crate) fn first_fault(&self) -> Option<WordsFaultAt>
         ensures { result ≡ self.now.first }
     {
         self.first

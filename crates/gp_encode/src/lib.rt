@@ -27,7 +27,7 @@ mod line;
 mod lines;
 mod up;
 
-pub use encoder::{Encoder, WordsFaultAt};
+pub use encoder::WordsFaultAt;
 pub use encoding::encode_words;
 pub use fault::{EncodeFault, WordsFault};
 pub use laws::{words_are_read, words_come_back};

@@ -1,7 +1,7 @@
 //! Codes that are decoded, one and line by line: what is written, faults, memory that runs out, writers that end.
 use gp_decode::{
-    Direction, FaultAt, LineFault, decode_each, decode_each_in, decode_line, decode_line_in,
-    decode_lines, other_name, push_words_in, push_words_of, words_of,
+    Direction, FaultAt, LineFault, decode_each_in, decode_line, decode_line_in, decode_lines,
+    other_name, push_words_of, words_of,
 };
 use gp_ploam::Mask;
 use gp_stream::{Sink, Source};
@@ -262,7 +262,7 @@ fn says(
 ) -> Result<bool, AllocError> {
     let mut source = Source::endless(input.as_bytes());
     let mut sink = Sink::new(alloc, Vec::new(alloc))?;
-    let outcome = decode_each(alloc, &mut source, &mut sink, direction, mask);
+    let outcome = decode_each_in(alloc, &mut source, &mut sink, direction, mask, false);
     let written = sink.into_inner();
     let first = wanted.1.map(|(line, fault)| FaultAt { line, fault });
     Ok(outcome == Ok(first) && written.as_slice() == wanted.0.as_bytes())
@@ -563,11 +563,6 @@ fn names_of_the_standard(rt: HostRuntime) -> Result<(), AllocError> {
             );
             assert_eq!(rt; first, Ok(None), "{text}");
             assert!(rt; sink.into_inner().as_slice() == wanted.as_bytes(), "{text}");
-            let mut out = Vec::from_slice(rt.alloc(), FRONT.as_bytes())?;
-            let octets = octets_of(text);
-            let outcome = push_words_in(&mut out, &octets, upstream, Mask::Plain, names);
-            assert_eq!(rt; outcome, Ok(()), "{text}");
-            assert!(rt; holds(&out, wanted), "{text}");
         }
     }
     Ok(())

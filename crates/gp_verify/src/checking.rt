@@ -72,7 +72,7 @@ pub fn verify_script<R: Read, T: Read, W: Write>(
 
 /// The same, where the line that can't be is told in this form: as it is, with the codes of both lines in words, or as
 /// a JSON object.
-pub fn verify_script_in<R: Read, T: Read, W: Write>(
+fn verify_script_in<R: Read, T: Read, W: Write>(
     alloc: Global,
     form: Form,
     script: &mut Source<R>,

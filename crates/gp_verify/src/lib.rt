@@ -35,8 +35,8 @@ mod typed;
 mod verdict;
 mod verifier;
 
-pub use checking::{verify_script, verify_script_in, verify_told};
-pub use ending::{tell_end, wanted_lines};
+pub use checking::{verify_script, verify_told};
+pub use ending::wanted_lines;
 pub use fault::LineRefusal;
 pub use laws::traces_are_lines;
 pub use outcome::{CheckFault, VerifyFault};

@@ -8,7 +8,7 @@ ghost use Rattle.gp_verify.specs.declared.verdict.Verdict.{Verdict as AnyVerdict
 ghost use Rattle.gp_verify.specs.declared.verdict.Verdict.TheVariants.{NoPort, TooLong};
 ghost use Rattle.gp_verify.specs.Ports.{IsOrderlyPort};
 ghost use Rattle.gp_verify.specs.Report.{Explains, Reports, TellsBoth, TellsFor, TellsLine, left_behind, why_no_port};
-ghost use Rattle.gp_verify.specs.Verdicts.{Judges, ending, most_lines, opened_in, opened_verify};
+ghost use Rattle.gp_verify.specs.Verdicts.{Judges, ending, most_lines, opened_verify};
 
 use super::fault::LineRefusal;
 use super::judging::judge_line;
@@ -88,27 +88,10 @@ impl<L: Ledger> Verifier<L> {
         requires within { IsWithin config.now }
         ensures { IfOk result (λ verifier. verifier ≡ opened_verify mask config.now.ports.items config.now.licences) }
     {
-        Verifier::begin_in(alloc, Form::Plain, blank, config, mask)
-    }
-
-    /// The same, where the line that can't be is to be told in this form.
-    pub fn begin_in(
-        alloc: Global,
-        form: Form,
-        blank: Blank,
-        config: &ChassisConfig,
-        mask: Mask,
-    ) -> Result<Verifier<L>, AllocError>
-        requires name { blank.name ≡ L.name }
-        requires parts { (blank.parts ≡ L.parts) × (L.parts ≡ MAX_LICENCES) }
-        requires within { IsWithin config.now }
-        ensures { IfOk result
-            (λ verifier. verifier ≡ opened_in form mask config.now.ports.items config.now.licences) }
-    {
         configs_are_typed(config.ports.as_slice());
         let buffer = LineBuffer::new(alloc)?;
         let player = Player::begin(alloc, blank, config)?;
-        Ok(Verifier::on(alloc, form, player, buffer, mask))
+        Ok(Verifier::on(alloc, Form::Plain, player, buffer, mask))
     }
 
     /// Makes one on ports that were opened, before the first line.

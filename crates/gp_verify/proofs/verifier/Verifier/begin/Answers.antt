@@ -1,6 +1,6 @@
 use Rattle.gp_verify.proofs.JudgingLemmas.{opened_holds}
 use Rattle.gp_verify.proofs.PortLemmas.{opened_ports}
-use Rattle.gp_verify.proofs.verifier.Verifier.begin_in.Goals as goal
+use Rattle.gp_verify.proofs.verifier.Verifier.begin.Goals as goal
 
 pub on-requires-clause-few : goal.on-requires-clause-few
 on-requires-clause-few g c =
