@@ -1,8 +1,8 @@
 //! The chassis for C, C++, Go and Python: a static library with the header `include/wagpisud.h`.
 //!
 //! Promise: each call is one call of `gp_chassis::ChassisCore`, or a refusal that changes nothing; what is written for
-//! the caller are the numbers of what that call gave (`wp_frame`, `wp_burst`, `wp_command`, ..). A handle that is closed
-//! answers so. `docs/PROOFS.md` says what the caller must uphold.
+//! the caller are the numbers of what that call gave (`wp_frame`, `wp_burst`, `wp_command`, ..). A handle that is
+//! closed answers so. `docs/PROOFS.md` says what the caller must uphold.
 //!
 //! - `exports.rt`: the functions that C calls. `calls.rt`: what each asks of its handle.
 //! - `settings.rt`, `event.rt`, `command.rt`, `answer.rt`, `row.rt`, `counts.rt`, `turn.rt`, `fault.rt`: what crosses,
