@@ -1,3 +1,4 @@
+//! Whether two entries are equal, part by part; each comparison holds exactly where both are.
 ghost use Rattle.std.specs.Prelude.{◌≡◌, ◌↔◌, IsTrue};
 
 use gp_alarms::Alarm;

@@ -1,3 +1,5 @@
+//! Why a chassis is not closed or cut.
+
 use thiserror::Error;
 
 /// Why a chassis is not closed or cut.

@@ -1,3 +1,5 @@
+//! One pass over each worker's receipts: each names an entry, has a number above the last one of its port, and makes
+//! the entry's mark, which no other has made. In the end each mark is made.
 ghost use Rattle.std.specs.Prelude.{◌≡◌, ◌<◌, ◌≤◌, ◌^◌, ◌↔◌, ℕ, All, IsTrue, Some, length, map, slice_index, false};
 ghost use Rattle.gp_accounts.specs.Accounted.{Accounted, IsNamed, Rises};
 ghost use Rattle.gp_accounts.specs.Places.{AreStarts, GrowBy, IsNamedAgain, entry_count};

@@ -1,3 +1,5 @@
+//! Where the mark of each entry stands, those of a port behind those of the port before it, and which one a receipt
+//! names.
 ghost use Rattle.std.specs.Prelude.{◌≡◌, ◌<◌, ◌^◌, ◌↔◌, IfSome, IsTrue, MatchOption, Some, map};
 ghost use Rattle.gp_journal.specs.Kept.{entry_in};
 ghost use Rattle.gp_accounts.specs.Accounted.{IsNamed};

@@ -1,3 +1,4 @@
+//! Whether receipts and journals tell of the same steps. The memory for that is taken before anything is compared.
 ghost use Rattle.std.specs.Prelude.{◌≡◌, OnOk, map};
 ghost use Rattle.gp_accounts.specs.Accounted.{Accounted};
 

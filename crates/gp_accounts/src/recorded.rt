@@ -1,3 +1,4 @@
+//! What keeps numbered entries of one port, in order, as a trait: a journal is such.
 ghost use Rattle.std.specs.Prelude.{◌≡◌};
 ghost use Rattle.gp_journal.specs.Kept.{History, history_of};
 

@@ -1,3 +1,4 @@
+//! What one worker was told, in order, as a trait: a list of receipts is such.
 ghost use Rattle.std.specs.Prelude.{◌≡◌, List};
 ghost use Rattle.gp_machine.specs.declared.entry.Receipt.{Receipt as ReceiptOf};
 

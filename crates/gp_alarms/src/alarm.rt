@@ -1,3 +1,4 @@
+//! The alarms that a port raises, and their printed names (G.984.3, clause 11).
 ghost use Rattle.std.specs.Prelude.{◌≡◌, ◌≤◌, length};
 ghost use Rattle.gp_alarms.specs.Alarm.{alarm_name};
 

@@ -1,3 +1,5 @@
+//! What is counted of a unit's poll windows, and at which counts they give LOS, LOAM or LOA. The limits stand here, the
+//! rule in `specs/Poll.antt`.
 ghost use Rattle.std.specs.Prelude.{◌≡◌, IfNone};
 ghost use Rattle.gp_alarms.specs.Poll.{IsBelowEachLimit, alarm_of, counts_after};
 

@@ -1,4 +1,4 @@
-//! A line told again, in words.
+//! A line told again with its codes in words, and with what would be right of a wrong check octet.
 ghost use Rattle.std.specs.Prelude.{◌≡◌, ◌++◌, ℕ, List, [], IfOk, OnOk, codes};
 ghost use Rattle.gp_audit.specs.Again.{TellsAgain, TellsCode, TellsRead, TellsSaid, wanted_note};
 ghost use Rattle.gp_audit.specs.Places.{IsTraced};

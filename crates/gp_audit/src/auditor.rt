@@ -1,4 +1,5 @@
-//! The lines of a log, one after another.
+//! `Auditor`, which is given the lines of a log one after another, and tells of each what it breaks and at the end what
+//! was counted.
 ghost use Rattle.std.specs.Prelude.{◌≡◌, IfOk};
 ghost use Rattle.gp_audit.specs.Audit.{audit_begun, is_silent};
 ghost use Rattle.gp_audit.specs.Outcome.{TellsEnd};

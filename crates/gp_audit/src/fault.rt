@@ -1,4 +1,4 @@
-//! Why nothing is said of a line.
+//! Why nothing is said of a line: there is no memory, or a count can't go on.
 ghost use Rattle.std.specs.Prelude.{◌≡◌};
 ghost use Rattle.gp_audit.specs.Faults.{of_watch, unanswered};
 

@@ -1,4 +1,4 @@
-//! What is known of the ports.
+//! What is known of each of sixteen ports, and a line heard on its own.
 ghost use Rattle.std.specs.Prelude.{◌≡◌, ◌<◌, ◌++◌, IfOk, OnOk, replicate, length, slice_set};
 ghost use Rattle.gp_audit.specs.Book.{Tells};
 ghost use Rattle.gp_audit.specs.Audit.{most_ports};

@@ -1,4 +1,4 @@
-//! Some of the rules.
+//! Some of the rules, as a set: which findings are told.
 ghost use Rattle.std.specs.Prelude.{◌≡◌, ◌<◌, true, false};
 ghost use Rattle.gp_observer.specs.declared.rule.Rule.{Rule as AnyRule};
 ghost use Rattle.gp_audit.specs.RuleSet.{contains, each_rule, rule_place, with_rule};

@@ -1,4 +1,4 @@
-//! A whole log.
+//! From the bytes of a log to what is told of it: each line's findings are out before more is waited for.
 ghost use Rattle.std.specs.Prelude.{◌≡◌, true};
 ghost use Rattle.gp_audit.specs.Outcome.{AuditsLog};
 

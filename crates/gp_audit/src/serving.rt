@@ -1,4 +1,4 @@
-//! An auditor serves lines.
+//! An auditor serves lines, and is never over: a line that is none is told as an error.
 use crate::auditor::Auditor;
 use gp_finding::LineError;
 use gp_flow::{LineFault, LineWork};

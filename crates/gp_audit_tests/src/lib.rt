@@ -3,11 +3,12 @@
 //!
 //! - `words.rt`: logs in words, and what an audit says of one.
 //! - `rules.rt`: each rule broken alone, and not broken by what is nearest to that.
-//! - `lines.rt`: lines that are none, long ones, times that fall, logs that come octet by octet.
+//! - `lines.rt`: lines that are none, times that fall, logs that come octet by octet, reads that fail.
 //! - `options.rt`: options as they are given.
 //! - `units.rt`: what is told of the units at the end.
 //! - `transcribe.rt`: traces that are written as logs.
-//! - `many.rt`: more serial numbers than are followed, more delays than are kept, many lines.
+//! - `many.rt`: more serial numbers than are followed, more delays than are kept, a line that is too long, what is told
+//!   alone.
 #![tactic(auto)]
 
 #[cfg(test)]

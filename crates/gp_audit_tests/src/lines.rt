@@ -1,4 +1,4 @@
-//! Lines that are none, long ones, times that fall, ports, forms, and logs that come octet by octet.
+//! Lines that are none, times that fall, ports, forms, logs that come octet by octet, reads that fail, no line at all.
 use crate::words::{audited, plain_options};
 use gp_audit::{AuditForm, Auditor, audit_log};
 use gp_finding::AuditSum;

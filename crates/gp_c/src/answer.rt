@@ -1,4 +1,5 @@
-//! What an event gave, as numbers.
+//! What an event gave, as plain numbers: the reply, what was sent and granted, the alarm. A number that the reply has
+//! no use for is 0.
 ghost use Rattle.std.specs.Prelude.{◌≡◌};
 ghost use Rattle.std.specs.Option.{ForSome};
 ghost use Rattle.gp_ploam.specs.Down.{IsProperDown};

@@ -1,4 +1,4 @@
-//! What is counted of a port.
+//! What is counted of a port, as plain numbers: entries, units, owed copies.
 ghost use Rattle.std.specs.Prelude.{◌≡◌};
 ghost use Rattle.gp_c.specs.Counts as spec;
 

@@ -1,4 +1,4 @@
-//! Events by their numbers.
+//! Events as plain numbers, both ways: what C asks for, and what an entry tells.
 ghost use Rattle.std.specs.Prelude.{◌≡◌};
 ghost use Rattle.gp_c.specs.Events as spec;
 

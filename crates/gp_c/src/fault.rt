@@ -1,4 +1,4 @@
-//! Why a call is refused.
+//! Why a call is refused, by the number that C is told. The chassis is then as it was, and nothing is written.
 ghost use Rattle.std.specs.Prelude.{◌≡◌};
 ghost use Rattle.gp_c.specs.Faults.{fault_number, status_text};
 

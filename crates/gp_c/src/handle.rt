@@ -1,4 +1,5 @@
-//! What C holds.
+//! What C holds: sixteen octets, open or closed. Whatever is asked of an open one is asked of the chassis behind it; a
+//! closed one answers so.
 ghost use Rattle.std.specs.Prelude.{◌≡◌, ℕ, Option, Some, None};
 ghost use Rattle.std.specs.contracts.impls.GlobalAllocator.TheImpl.{ghosts as global};
 ghost use Rattle.std.specs.Coded.{coded_option};

@@ -1,4 +1,5 @@
-//! An entry that a port's journal keeps.
+//! An entry that a port's journal keeps, with the mask by which its messages become codes: told by numbers, as an event
+//! and as an answer.
 ghost use Rattle.std.specs.Prelude.{◌≡◌};
 ghost use Rattle.std.specs.Option.{ForSome};
 ghost use Rattle.gp_ploam.specs.Down.{IsProperDown};

@@ -1,17 +1,14 @@
 //! The chassis for C, C++, Go and Python: a static library with the header `include/wagpisud.h`.
 //!
-//! Promise: each call serves what it is asked, or is refused and changes nothing; C is told the numbers of what it
-//! gave (`wp_frame`, `wp_burst`, `wp_command`, ..).
+//! Promise: each call is one call of `gp_chassis::ChassisCore`, or a refusal that changes nothing; what is written for
+//! the caller are the numbers of what that call gave (`wp_frame`, `wp_burst`, `wp_command`, ..). A handle that is
+//! closed answers so. `docs/PROOFS.md` says what the caller must uphold.
 //!
 //! - `exports.rt`: the functions that C calls. `calls.rt`: what each asks of its handle.
 //! - `settings.rt`, `event.rt`, `command.rt`, `answer.rt`, `row.rt`, `counts.rt`, `turn.rt`, `fault.rt`: what crosses,
 //!   as plain numbers. `kept.rt`: an entry that a journal keeps.
 //! - `handle.rt`: `Handle`, what C holds. `slot.rt`: the same at a ledger. `loose.rt`: a box as its pointer.
 //! - `engine.rt`: what stands behind a handle. `op.rt`: what is asked of it, and what it answers.
-//!
-//! Promise: each call is one call of `gp_chassis::ChassisCore`, or a refusal that changes nothing; what is written for
-//! the caller are the numbers of what that call gave. A handle that is closed answers so. `docs/PROOFS.md` says what
-//! the caller must uphold.
 //!
 //! Where to make which change: another call is a variant of `Op` and of `Out`, an arm of `serve_slot`, a line of
 //! `Serves` in `specs/Serves.antt`, and an export; no proof of `handle.rt`, `slot.rt` or `loose.rt` changes. Another

@@ -1,4 +1,4 @@
-//! What a port knows of a unit, as numbers.
+//! What a port knows of a unit, as plain numbers; a place without an Alloc-ID is all zeros.
 ghost use Rattle.std.specs.Prelude.{◌≡◌};
 ghost use Rattle.gp_c.specs.Rows as spec;
 

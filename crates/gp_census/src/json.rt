@@ -1,4 +1,4 @@
-//! The lines as JSON.
+//! A port and a unit as JSON, an object on a line of its own: what is counted, and what is known.
 ghost use Rattle.std.specs.Prelude.{◌≡◌, ◌++◌, OnOk};
 ghost use Rattle.gp_census.specs.Text as spec;
 

@@ -1,4 +1,4 @@
-//! What a message changes of the units.
+//! What a message changes of the counts of units: who is told something, who loses an ONU-ID, and who is heard.
 ghost use Rattle.std.specs.Prelude.{◌≡◌, ◌==◌, not, true, false, if◌then◌else◌, OnOk, OnErr, None, Some};
 ghost use Rattle.gp_ploam.specs.OnuIds.{onu_ids, broadcast_onu};
 ghost use Rattle.gp_observer.specs.Rules.{holds_one, is_anothers};

@@ -1,4 +1,5 @@
-//! Names, numbers, times and lists.
+//! The pieces that both forms are made of: names of states, numbers behind their names, times, and the Alloc-IDs of a
+//! unit.
 ghost use Rattle.std.specs.Prelude.{◌≡◌, ◌<◌, ◌++◌, ◌==◌, if◌then◌else◌, OnOk, decimal};
 ghost use Rattle.std.specs.FinMap as map;
 ghost use Rattle.gp_observer.specs.Observer.{some_passes};

@@ -1,4 +1,5 @@
-//! The lines of a port and of its units.
+//! `push_census`: a line of a port, and one of each unit in the order of their serial numbers. Where memory is refused,
+//! nothing is appended.
 ghost use Rattle.std.specs.Prelude.{◌≡◌, ◌++◌, OnOk, OnErr};
 ghost use Rattle.std.specs.List.{flat_map};
 ghost use Rattle.std.specs.FinMap as map;

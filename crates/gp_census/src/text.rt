@@ -1,4 +1,4 @@
-//! The lines as text.
+//! A port and a unit as a line of text: what is counted, and what is known.
 ghost use Rattle.std.specs.Prelude.{◌≡◌, ◌++◌, OnOk};
 ghost use Rattle.gp_census.specs.Text as spec;
 

@@ -1,3 +1,5 @@
+//! `ChassisCore`, the chassis on one thread: its ports, the book of licences and the hands of its actors. What actors
+//! do is a move of `specs/World.antt`; a call that is refused changes nothing.
 ghost use Rattle.std.specs.Prelude.{ℕ, ◌≡◌, ◌+◌, ◌<◌, ◌≤◌, ◌↔◌, length, map, slice_get, slice_index, slice_set, None, Some, Err, IfOk, IfErr, OnOk, OnErr, MatchOption, sum_by, All};
 ghost use Rattle.std.specs.Option.{ForSome};
 ghost use Rattle.gp_ploam.specs.Down.{IsProperDown};

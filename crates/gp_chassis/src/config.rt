@@ -1,3 +1,5 @@
+//! What a chassis is opened with, and whether it is within its limits: up to sixteen ports, with no serial number
+//! admitted twice.
 ghost use Rattle.std.specs.Prelude.{◌≡◌, ◌↔◌, IsTrue};
 ghost use Rattle.gp_chassis.specs.Limits.{IsWithin};
 

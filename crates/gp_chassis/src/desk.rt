@@ -1,3 +1,4 @@
+//! A port with its journal: the entries that are kept always tell how the port came to stand where it stands.
 ghost use Rattle.std.specs.Prelude.{◌≡◌, ◌≤◌, ◌↔◌, length, None, Some, IfOk, IfErr, OnErr, MatchOption, IsErrOf, IsTrue};
 ghost use Rattle.gp_machine.specs.State.{rows_of};
 ghost use Rattle.gp_machine.specs.Run.{entry_outcome};

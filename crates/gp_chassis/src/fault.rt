@@ -1,3 +1,5 @@
+//! Why an event is not served, or a call of a chassis on one thread is refused.
+
 use thiserror::Error;
 
 /// Why a desk serves no event. The first that applies is told: `NoPort`, `JournalFull`, `OutOfMemory`. Nothing changes.

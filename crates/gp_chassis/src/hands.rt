@@ -1,4 +1,4 @@
-//! What is in the hands of the actors.
+//! What is in the hands of the actors, and how hands and desks end: each licence goes back to the book.
 ghost use Rattle.std.specs.Prelude.{ℕ, ◌≡◌, ◌+◌, ◌<◌, length, replicate, sum_by, slice_index, slice_set, IfOk};
 ghost use Rattle.gp_machine.specs.State.{rows_of};
 ghost use Rattle.gp_chassis.specs.Desk.{DeskState};

@@ -9,7 +9,8 @@
 //!   port's lock.
 //! - `config.rt`: `ChassisConfig` and its limits; `admitted_once.rt`, private, whether a serial number is admitted
 //!   twice.
-//! - `hands.rt`, private: what is in the hands of the actors. `fault.rt`: why a call is refused.
+//! - `hands.rt`, private: what is in the hands of the actors, and how hands and desks end. `fault.rt`: why a call is
+//!   refused.
 //! - `world.rt`: the laws of every run, whoever moves and in whatever order.
 //!
 //! `specs/World.antt` is what actors do, without journals; `specs/Desk.antt` what a desk is and what serving and

@@ -1,3 +1,5 @@
+//! What holds of a chassis after any moves, whoever makes them and in whatever order: laws, as functions that do
+//! nothing.
 ghost use Rattle.gp_chassis.specs.World.{BalanceLasts, SoundnessLasts, PortsReplay, EveryRunHolds};
 
 /// States that after any moves each licence is free, in an actor's hands, or with an active unit.

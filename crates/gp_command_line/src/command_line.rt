@@ -1,4 +1,4 @@
-//! The command line.
+//! `parse`: the commands of `oltctl`, and the options of each, as `clap` reads them.
 ghost use Rattle.std.specs.Prelude.{◌≡◌, ◌≢◌, IfErr, IfOk, codes, false, map};
 ghost use Rattle.clap.specs.Words.{app_of, kind_of, rule_of};
 ghost use Rattle.clap.specs.declared.builder.command.Command.TheViews.{out-Command as fields_of};

@@ -1,4 +1,4 @@
-//! What a command line asks for.
+//! `request_of`: what a command line that was read asks for, each option by its name.
 ghost use Rattle.std.specs.Prelude.{◌≡◌, ◌∷◌, [], true, IfSome, IfNone, Some, None, codes, option_map};
 ghost use Rattle.clap.specs.Words.{all_of, first_of, found_of, rows_of, subcommand_rows_of};
 ghost use Rattle.gp_command_line.specs.CommandLine.{code_alone, code_named, file_named, form_named, is_input, is_json, mask_named, words_named};

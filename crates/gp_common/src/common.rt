@@ -1,3 +1,5 @@
+//! The common states of a port: what it does for all units together (G.984.3, clause 10).
+
 /// The common state of a port: what it does for all units together.
 #[derive(Clone, Copy, Debug, PartialEq, Eq)]
 pub enum Common {

@@ -1,3 +1,5 @@
+//! What a port does in a frame in which no window is open and nothing is owed (this profile's own rule): the decision
+//! table as code.
 ghost use Rattle.std.specs.Prelude.{◌≡◌};
 ghost use Rattle.gp_common.specs.Decision.{decision_of, measurement_of, standby_decision_of};
 

@@ -1,3 +1,5 @@
+//! Laws of the decision table, as functions that do nothing: each decision has its reason, and an acquisition opens all
+//! its search windows.
 ghost use Rattle.gp_common.specs.Laws.{EachDecisionHasItsReason, OpensEachSearchWindow};
 
 /// States that each decision has its reason: it polls only the unit whose turn it is, and only in Standby with

@@ -1,4 +1,5 @@
-//! What is said to a line.
+//! What is said to a line of many: the line of its message, or `error` with its number and its fault, and with what
+//! would be right of a wrong check octet.
 ghost use Rattle.std.specs.Prelude.{◌≡◌, ◌∷◌, ◌++◌, ℕ, [], List, IfOk, OnOk, Ok, codes};
 ghost use Rattle.hex.specs.Hex.{decode_of, encode_lower};
 ghost use Rattle.gp_decode.specs.LineText.{code_digits};

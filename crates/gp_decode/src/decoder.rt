@@ -1,4 +1,5 @@
-//! Codes, one on each line.
+//! `Decoder`, what serves the lines: it says to each its message or its fault, and remembers the first line that had
+//! one.
 ghost use Rattle.std.specs.Prelude.{◌≡◌, ◌+◌, ◌<◌, ◌^◌};
 ghost use Rattle.gp_decode.specs.Lines.{after, opened_decode, opened_in};
 

@@ -1,4 +1,4 @@
-//! Laws of what a line says.
+//! Laws of decoding: a code in digits alone is read as it stands, and no message with a row has another name.
 ghost use Rattle.std.specs.Prelude.{◌≡◌, ℕ, List, None, true, false, slice_index};
 ghost use Rattle.std.specs.List.{list_all};
 ghost use Rattle.hex.specs.Hex.{is_hex_digit};

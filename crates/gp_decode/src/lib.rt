@@ -13,12 +13,12 @@
 //! - `names.rt`: `other_name`, the names of messages without a row.
 //! - `code.rt`: the thirteen octets of a text of hexadecimal digits, which `gp_code` reads, or its first fault.
 //! - `laws.rt`: a code in digits alone is read as it is; no row has another name.
-//! - `fault.rt`: what may be wrong with a text, and the line and the exit status of a program that meets it.
+//! - `fault.rt`: what may be wrong with a text, or with saying its message.
 //!
 //! Where to make which change: the words for a message stand in `append.rt` and `specs/Message.antt`;
 //! what is wrong with a text, and in which order, in `code.rt` and `specs/Line.antt`; what is passed over in a line of
 //! many in `text.rt` and `specs/LineText.antt`; what is said to it in `answer.rt` and `specs/Lines.antt`; a line on
-//! standard error or an exit status in `fault.rt` and `specs/Faults.antt`.
+//! standard error or an exit status in `gp_report`.
 #![tactic(auto)]
 
 mod answer;

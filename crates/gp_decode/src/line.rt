@@ -1,4 +1,5 @@
-//! The line of a code.
+//! `decode_line`: from the hexadecimal digits of one code to the line of its message. Nothing is written but the whole
+//! line.
 ghost use Rattle.std.specs.Prelude.{◌≡◌, ◌≢◌, ◌↔◌, ℕ, List, [], OnOk, OnErr, IfOk, IfErr, IsErr, Err, true, false};
 ghost use Rattle.gp_stream.specs.Sink.{Takes, TakesPrefix};
 ghost use Rattle.gp_decode.specs.declared.fault.LineFault.{LineFault as AnyFault};

@@ -1,4 +1,5 @@
-//! All lines of an input.
+//! `decode_lines` and `decode_each`: each line of an input is answered as it comes, by its message or by its fault.
+//! Memory is flat.
 ghost use Rattle.std.specs.Prelude.{◌≡◌, true};
 ghost use Rattle.gp_decode.specs.Lines.{DecodesIn, DecodesLines};
 

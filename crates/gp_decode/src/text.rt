@@ -1,4 +1,4 @@
-//! What a line of an input says.
+//! What a line of an input has of a code: whose it is, and its digits, without what may stand between them.
 ghost use Rattle.std.specs.Prelude.{◌≡◌, ◌++◌, MatchOption, OnOk, Some, None, position};
 ghost use Rattle.std.specs.Option.{option_copied};
 ghost use Rattle.gp_decode.specs.LineText as spec;

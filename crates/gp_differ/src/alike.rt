@@ -1,4 +1,5 @@
-//! Lines that look alike.
+//! `difference_of`, and lines that look alike: they differ in blanks at most, and then it is told which blank, and
+//! where.
 ghost use Rattle.std.specs.Prelude.{◌≡◌, ◌+◌, ◌≤◌, ◌++◌, IfOk, OnOk, length, slice_get};
 ghost use Rattle.std.specs.List.{flat_map};
 ghost use Rattle.gp_differ.specs.Alike as spec;

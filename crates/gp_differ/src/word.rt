@@ -1,4 +1,4 @@
-//! A text that is cut at a word.
+//! A text cut at the first place of a word.
 ghost use Rattle.std.specs.Prelude.{◌≡◌, List, ℕ};
 ghost use Rattle.std.specs.Option.{option_copied};
 ghost use Rattle.gp_decode.specs.LineText.{behind};

@@ -1,4 +1,4 @@
-//! How a drive ended.
+//! How many lines a drive answered, and how many of them by an error.
 
 /// How many lines a drive answered.
 #[derive(Clone, Copy, Debug, PartialEq, Eq)]

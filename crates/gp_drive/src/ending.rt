@@ -1,4 +1,4 @@
-//! What ends the answer to a line.
+//! What ends the answer to a line: an error where there is one, and, if that is told, that the line is done.
 ghost use Rattle.std.specs.Prelude.{◌≡◌, ◌++◌, codes, decimal};
 ghost use Rattle.gp_replay.specs.Writing.{HandsIn};
 ghost use Rattle.gp_drive.specs.Drive.{done_if, done_line, ending, error_if, error_line, errors_of, fault_word};

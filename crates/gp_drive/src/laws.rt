@@ -1,4 +1,4 @@
-//! What every drive comes to.
+//! The law that what a whole drive writes is a run of each port, over the script's events and those that lines ask for.
 ghost use Rattle.gp_drive.specs.Runs.{ChassisDrivesRun, FibreDrivesRun};
 
 use gp_replay::each_port_runs;

@@ -1,4 +1,4 @@
-//! In what manner lines are answered.
+//! In what manner lines are answered: as they are, or with a line behind each answer that ends it.
 
 /// In what manner lines are answered.
 #[derive(Clone, Copy, Debug, PartialEq, Eq)]

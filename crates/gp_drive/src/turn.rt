@@ -1,4 +1,4 @@
-//! Plays what a line asks for.
+//! Plays what a line asks for, and writes its lines; or tells what it asks for that is not there.
 ghost use Rattle.std.specs.Prelude.{◌≡◌, ◌<◌, OnOk, None};
 ghost use Rattle.gp_replay.specs.Playing.{HasRoomFor, Keeps};
 ghost use Rattle.gp_replay.specs.Writing.{PlaysOn};

@@ -1,4 +1,4 @@
-//! The value that a variable gets.
+//! What may change: the variables of a port and of a unit's lane, each with the value that it gets.
 
 use gp_alarms::AlarmKind;
 use gp_ploam::Serial;

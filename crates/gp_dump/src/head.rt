@@ -1,4 +1,5 @@
-//! The declarations.
+//! The declarations of a dump: what times are counted in, what numbers stand for, and the variables of each port and of
+//! each of its lanes.
 ghost use Rattle.std.specs.Prelude.{◌≡◌, ◌<◌, ◌++◌, OnOk, Some, length};
 ghost use Rattle.gp_dump.specs.Head as spec;
 ghost use Rattle.gp_dump.specs.Text.{port_id, unit_id};

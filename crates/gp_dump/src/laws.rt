@@ -1,4 +1,4 @@
-//! Parts of dumps, one behind the other.
+//! The law that a change that is put goes on with a dump, and so do parts of dumps one behind the other.
 ghost use Rattle.std.specs.Prelude.{◌≡◌, ◌++◌, ℕ, List, Option, Some, true};
 ghost use Rattle.gp_dump.specs.declared.change.Change.{Change as AnyChange};
 ghost use Rattle.gp_dump.specs.Dump.{Continues, is_declared, time_behind, time_text};

@@ -1,4 +1,5 @@
-//! The numbers that stand for words.
+//! The numbers that stand for what a window asks for, for alarms, and for what a unit does; the declarations say which
+//! is which.
 ghost use Rattle.std.specs.Prelude.{◌≡◌};
 ghost use Rattle.gp_dump.specs.Text as spec;
 

@@ -1,4 +1,4 @@
-//! Identifiers and values.
+//! The pieces that lines are made of: identifiers of variables, and values, as levels or as binary digits.
 ghost use Rattle.std.specs.Prelude.{◌≡◌, ◌<◌, ◌++◌, OnOk, decimal};
 ghost use Rattle.std.specs.List.{flat_map};
 ghost use Rattle.gp_dump.specs.Text as spec;

@@ -1,4 +1,5 @@
-//! The line of a change.
+//! The line of a change: the value of a variable, and its identifier; and the line of a time, which stands there only
+//! where it is behind the last one.
 ghost use Rattle.std.specs.Prelude.{◌≡◌, ◌<◌, ◌++◌, OnOk, codes, decimal};
 ghost use Rattle.gp_dump.specs.Dump as dump;
 ghost use Rattle.gp_dump.specs.Text as spec;

@@ -1,4 +1,4 @@
-//! What is said to a line of words.
+//! What is said to a line of words: the line of its code, or `error` with its number and its fault.
 ghost use Rattle.std.specs.Prelude.{◌≡◌, ◌++◌, IfOk, OnOk, codes};
 ghost use Rattle.hex.specs.Hex.{encode_lower};
 ghost use Rattle.gp_encode.specs.Lines.{SaysToText, error_line, fault_name, part_name};

@@ -1,4 +1,4 @@
-//! Messages in words, one on each line.
+//! `Encoder`, what serves the lines: it says to each its code or its fault, and remembers the first line that had one.
 ghost use Rattle.std.specs.Prelude.{◌≡◌, ◌+◌, ◌<◌, ◌^◌};
 ghost use Rattle.gp_encode.specs.Lines.{after, opened_encode};
 

@@ -1,4 +1,4 @@
-//! The code of a message in words.
+//! `encode_words`: from the words of a message to its thirteen octets, or to their first fault.
 ghost use Rattle.gp_encode.specs.Encoding.{Encodes, EncodesDown, EncodesUp};
 
 use crate::down::down_in;

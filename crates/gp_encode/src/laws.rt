@@ -1,4 +1,5 @@
-//! Laws of what words say.
+//! Laws of encoding: the words that `gp_decode` has for a proper message say that message, and have a code of which it
+//! says these words.
 ghost use Rattle.std.specs.Prelude.{◌≡◌, Ok, true, false};
 ghost use Rattle.gp_ploam.specs.declared.check.Mask.{Mask as AnyMask};
 ghost use Rattle.gp_ploam.specs.declared.message.Down.{Down as AnyDown};

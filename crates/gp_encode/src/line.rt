@@ -1,4 +1,5 @@
-//! The line of a message in words.
+//! `encode_line`: the code of one message in words, as a line of hexadecimal digits. Nothing is written where the words
+//! have a fault.
 ghost use Rattle.std.specs.Prelude.{◌≡◌, ◌++◌, ℕ, List, OnOk, Ok, Err, codes, true, false};
 ghost use Rattle.hex.specs.Hex.{encode_lower};
 ghost use Rattle.gp_stream.specs.Sink.{Takes};

@@ -1,4 +1,5 @@
-//! All lines of an input.
+//! `encode_lines`: each line of an input is answered as it comes, by the code of its words or by their fault. Memory is
+//! flat.
 ghost use Rattle.std.specs.Prelude.{◌≡◌, true};
 ghost use Rattle.gp_encode.specs.Lines.{EncodesLines};
 

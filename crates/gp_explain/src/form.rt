@@ -1,4 +1,4 @@
-//! What lines are told as.
+//! In what form lines are told: as they are, in words, or as JSON.
 
 /// What lines are told as.
 #[derive(Clone, Copy, Debug, PartialEq, Eq)]

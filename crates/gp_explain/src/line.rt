@@ -1,4 +1,4 @@
-//! One line in words.
+//! One line of a trace in words: each code is told between brackets, and all else stays as it is.
 ghost use Rattle.std.specs.Prelude.{◌≡◌, ◌≤◌, ◌++◌, ℕ, List, IfOk, OnOk, codes, length};
 ghost use Rattle.gp_explain.specs.Words.{TellsCode, TellsLine, TellsOctets, TellsPart};
 ghost use Rattle.gp_explain.specs.Runs.{RunsOn, front};

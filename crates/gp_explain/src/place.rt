@@ -1,4 +1,5 @@
-//! Where in a line codes stand.
+//! What stands at each part of a line of a trace, by the part before it: a code, the delay of a burst, or anything
+//! else.
 ghost use Rattle.std.specs.Prelude.{◌≡◌};
 ghost use Rattle.gp_explain.specs.Runs.{is_code};
 ghost use Rattle.gp_explain.specs.Words as spec;

@@ -1,4 +1,5 @@
-//! A whole trace.
+//! From the bytes of a trace to its lines as they are told; the first line that is none of a trace ends it. Memory is
+//! flat.
 ghost use Rattle.std.specs.Prelude.{◌≡◌, true};
 ghost use Rattle.gp_explain.specs.Outcome.{ExplainsTrace, finding};
 

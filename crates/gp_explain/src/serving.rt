@@ -1,4 +1,4 @@
-//! An explainer serves lines.
+//! An explainer serves lines, and is over behind the first that is none of a trace.
 use crate::explainer::Explainer;
 use crate::fault::NoLine;
 use gp_flow::{LineFault, LineWork};

@@ -1,4 +1,4 @@
-//! A port's time.
+//! A port's time before a line: the frames that it has had, in milliseconds.
 ghost use Rattle.std.specs.Prelude.{◌≡◌, ◌++◌, ◌<◌, OnOk};
 ghost use Rattle.gp_explain.specs.Telling as spec;
 

@@ -1,3 +1,4 @@
+//! Which grants ask a simulated unit, by its state alone: by this the index of `asked_units.rt` keeps it.
 ghost use Rattle.std.specs.Prelude.{◌≡◌, None};
 ghost use Rattle.gp_onu.specs.Stage.{onu_id_of};
 ghost use Rattle.gp_fibre.specs.AskedUnits.{asked_by_of};

@@ -1,3 +1,5 @@
+//! The index of the units that a grant asks, as sets of their places: a grant finds them without going through all
+//! units.
 ghost use Rattle.std.specs.Prelude.{◌≡◌, ◌<◌, ◌≤◌, ◌==◌, ℕ, IfOk, if◌then◌else◌};
 ghost use Rattle.gp_ranging.specs.declared.grant.Grant.{Grant};
 ghost use Rattle.gp_numbers.specs.Least.{IsLeastFrom};

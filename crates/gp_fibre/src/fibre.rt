@@ -1,3 +1,5 @@
+//! The port, the book of its licences, the units, and what was sent: the parts that steps and frames of a run are made
+//! of. Once room is made for what may be sent, none of them fails.
 ghost use Rattle.std.specs.Prelude.{◌≡◌, ◌+◌, ◌<◌, ◌≤◌, ◌++◌, [], IfSome, OnOk, length};
 ghost use Rattle.std.specs.Option.{ForSome, option_to_list};
 ghost use Rattle.gp_ploam.specs.Down.{IsProperDown};

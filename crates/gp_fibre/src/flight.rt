@@ -1,3 +1,4 @@
+//! A burst in flight in a run: its number, and the frame in which it arrives.
 ghost use Rattle.std.specs.Prelude.{◌≡◌};
 ghost use Rattle.gp_fibre.specs.Schedule.{is_due};
 

@@ -1,3 +1,5 @@
+//! The bursts in flight in a run. A flag for each of five frames tells whether one may come in it, so that a frame in
+//! which none comes looks at none.
 ghost use Rattle.std.specs.Prelude.{◌≡◌, ◌+◌, ◌%◌, ◌<◌, ◌≤◌, ◌^◌, ◌++◌, ◌∷◌, [], All, false, OnOk, length};
 ghost use Rattle.gp_fibre.specs.Flights.{AreInReach, AreNear, frames_in_reach};
 ghost use Rattle.gp_fibre.specs.Forgetting.{first_to_come};

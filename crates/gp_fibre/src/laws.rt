@@ -1,3 +1,5 @@
+//! What holds of every run of a fibre, as contracts of functions that do nothing: runs in parts, licences, what each
+//! unit was sent, and what forgetting leaves as it is.
 ghost use Rattle.gp_fibre.specs.Forgetting.{ForgettingChangesNoFrames, ForgettingChangesNoSteps};
 ghost use Rattle.gp_fibre.specs.Laws.{AssignedStayOrAreTold, FramesAreRuns, FramesRunInParts, KeepsLicences, OneHasIt, PortRuns, RunsInParts, UnitsAreTold, UnitsHaveOrLose};
 

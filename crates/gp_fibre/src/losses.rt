@@ -1,4 +1,4 @@
-//! What a run loses.
+//! What a run loses, as it is looked up: copies and bursts, made of a loss plan.
 ghost use Rattle.std.specs.Prelude.{◌≡◌, IfOk};
 
 use super::loss_plan::LossPlan;

@@ -1,4 +1,4 @@
-//! Numbers that are lost, put in order.
+//! Numbers that are lost, as a list that was given: looked up there, and in order once that saves time.
 ghost use Rattle.std.specs.Prelude.{◌≡◌, ◌==◌, ◌<◌, ◌≤◌, ℕ, IsTrue, length, slice_index};
 ghost use Rattle.std.specs.List.{position};
 ghost use Rattle.std.specs.List.Sorted.{IsNonDecreasing};

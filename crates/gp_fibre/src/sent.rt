@@ -1,3 +1,5 @@
+//! What was sent of one kind (copies, grants or bursts) and is not forgotten, by its number. Numbers go on and are
+//! never given anew.
 ghost use Rattle.std.specs.Prelude.{◌≡◌, ◌+◌, ◌-◌, ◌<◌, ◌≤◌, ◌++◌, [], OnOk, drop, length, min, vec_capacity, vec_len};
 ghost use Rattle.std.specs.Option.{option_to_list};
 ghost use Rattle.gp_fibre.specs.Sent.{left_at};

@@ -1,3 +1,5 @@
+//! A burst that a simulated unit answered with: its octets, and its whole round-trip delay.
+
 /// A burst that a unit answered with.
 #[derive(Clone, Copy, Debug, PartialEq, Eq)]
 pub struct SentBurst {

@@ -1,3 +1,5 @@
+//! A simulated unit as it was when it was last brought up to date, and the frame that ends its state: all frames before
+//! that are made up for at once.
 ghost use Rattle.std.specs.Prelude.{◌≡◌, ◌+◌, ◌-◌, ◌<◌, ◌≤◌, None};
 ghost use Rattle.std.specs.Option.{ForSome, IfSome, IsSome};
 ghost use Rattle.gp_onu.specs.Frames.{frames_left, unit_after_frames};

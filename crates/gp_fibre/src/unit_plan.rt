@@ -1,3 +1,5 @@
+//! What a world begins with of a simulated unit: its serial number and its delays.
+
 use gp_ploam::Serial;
 
 /// A unit that a world begins with.

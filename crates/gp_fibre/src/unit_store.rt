@@ -1,3 +1,5 @@
+//! The simulated units by their places. Contracts see each as it is after all frames; each is brought up to date only
+//! before something else happens to it, or in the frame that ends its state.
 ghost use Rattle.std.specs.Prelude.{◌≡◌, ◌+◌, ◌-◌, ◌<◌, ◌≤◌, ◌==◌, ℕ, All, IfOk, None, Some, if◌then◌else◌, length, map, false};
 ghost use Rattle.std.specs.Option.{ForSome, IfSome, IsSome, option_map};
 ghost use Rattle.gp_ploam.specs.Down.{IsProperDown, code_of_down};

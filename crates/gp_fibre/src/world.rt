@@ -1,3 +1,5 @@
+//! `World`, a fibre as others use it: single steps, runs of frames, forgetting, and its end with all licences. Memory
+//! for a step or a frame is taken first, so that after a fault none of it has happened.
 ghost use Rattle.std.specs.Prelude.{◌≡◌, ◌+◌, ◌<◌, ◌≤◌, ◌↔◌, ◌⊎◌, Some, None, All, false, IfErr, IfOk, IsErrOf, OnErr, OnOk, length, vec_capacity};
 ghost use Rattle.std.specs.List.{list_all};
 ghost use Rattle.std.specs.Option.{ForSome};

@@ -1,3 +1,5 @@
+//! What may happen on a fibre in one step: what was sent may reach whom it may at any time, any number of times.
+
 use gp_machine::Command;
 
 /// What may happen on a fibre. Copies, grants and bursts are numbered from 0 in the order in which they were sent,

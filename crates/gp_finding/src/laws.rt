@@ -1,4 +1,4 @@
-//! Laws of the definitions.
+//! Laws of the names of rules: each is read back as its rule, and no two are the same.
 ghost use Rattle.std.specs.Prelude.{◌≡◌};
 ghost use Rattle.gp_finding.specs.Laws.{NamesAreApart, NamesAreReadBack};
 ghost use Rattle.gp_finding.specs.Names.{rules};

@@ -1,3 +1,4 @@
+//! Why a line was not answered, and why not all lines of an input were.
 ghost use Rattle.std.specs.Prelude.{◌≡◌};
 ghost use Rattle.gp_flow.specs.declared.fault.LineFault.TheVariants.{Write, OutOfMemory};
 ghost use Rattle.gp_flow.specs.declared.fault.LinesFault.TheVariants.{Line};

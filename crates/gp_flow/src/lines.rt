@@ -1,3 +1,4 @@
+//! Serves the lines of an input, in whatever pieces it comes: before more is read, all answers are written and flushed.
 ghost use Rattle.std.specs.Prelude.{◌≡◌, ◌<◌, true};
 ghost use Rattle.gp_stream.specs.Sink.{KeepsNothing};
 ghost use Rattle.gp_stream.specs.Source.{Reads};

@@ -1,3 +1,5 @@
+//! The line of which no line feed came yet. It keeps no more octets than one above its limit, so that memory stays
+//! flat.
 ghost use Rattle.std.specs.Prelude.{◌≡◌, ◌<◌, ◌≤◌, ◌+◌, ◌↔◌, [], ◌∷◌, ◌++◌, true, IfOk, IsTrue, OnOk, length};
 ghost use Rattle.gp_flow.specs.Lines.{AnswersAll, handed};
 ghost use Rattle.gp_stream.specs.Sink.{KeepsNothing};

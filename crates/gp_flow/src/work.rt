@@ -1,3 +1,5 @@
+//! What is done with lines, as a trait: each line is answered into a sink, and whether more are wanted is told.
+
 use crate::fault::LineFault;
 use gp_stream::Sink;
 use std::io::Write;

@@ -1,3 +1,4 @@
+//! Entries in order as plain data, made of a `Vec` and giving it back without taking memory.
 ghost use Rattle.std.specs.Prelude.{◌≡◌, length};
 
 use gp_machine::Entry;

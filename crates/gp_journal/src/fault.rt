@@ -1,3 +1,4 @@
+//! Why a call of a journal fails: there is no memory.
 ghost use Rattle.std.specs.Prelude.{◌≡◌};
 ghost use Rattle.gp_journal.specs.declared.fault.JournalFault.TheVariants.{OutOfMemory};
 

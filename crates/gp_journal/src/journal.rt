@@ -1,3 +1,5 @@
+//! `Journal`, the entries of a port since it was last cut, with numbers that count from the port's opening, and the
+//! state before them. Room is made before a step, so that recording one takes no memory.
 ghost use Rattle.std.specs.Prelude.{◌≡◌, ◌+◌, ◌<◌, ◌^◌, ◌++◌, ◌∷◌, [], None, Some, length, vec_len, vec_capacity, OnOk, OnErr, MatchOption};
 ghost use Rattle.gp_journal.specs.Kept.{entry_in, history_of};
 ghost use Rattle.gp_journal.specs.Recording.{Records};

@@ -1,3 +1,4 @@
+//! What is cut from a journal, with the states before and behind it: pieces that follow one another are one run.
 ghost use Rattle.std.specs.Prelude.{◌≡◌, ◌↔◌, length, IsTrue};
 ghost use Rattle.gp_journal.specs.Kept.{entry_in};
 ghost use Rattle.gp_journal.specs.Piece.{Joins, history_of_piece, PiecesAreOneRun};

@@ -1,3 +1,4 @@
+//! Whether a journal tells how a port came to stand where it stands: each of its entries is followed from its base on.
 ghost use Rattle.std.specs.Prelude.{◌≡◌, ◌↔◌, false, true, IfOk, IfSome, IfNone, IsTrue};
 ghost use Rattle.gp_machine.specs.Config.{is_within_limits};
 ghost use Rattle.gp_machine.specs.State.{PortState};

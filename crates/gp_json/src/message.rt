@@ -1,4 +1,4 @@
-//! A message as an object.
+//! A message as an object: its name, and each of its fields by its own name.
 ghost use Rattle.std.specs.Prelude.{◌≡◌, ◌++◌, OnOk, codes, decimal};
 ghost use Rattle.gp_decode.specs.Names as standard;
 ghost use Rattle.gp_json.specs.Message as spec;

@@ -1,4 +1,4 @@
-//! A line as a JSON object.
+//! `write_object`: a line of a trace as an object of its parts; any other line as one field.
 ghost use Rattle.std.specs.Prelude.{◌≡◌, ◌++◌, ℕ, List, OnOk, IfOk, MatchBool, [], codes};
 ghost use Rattle.gp_lines.specs.Parts.{parts_of};
 ghost use Rattle.gp_json.specs.Fields.{TellsParts};

@@ -1,3 +1,5 @@
+//! Laws of refusals: of the causes the first that holds refuses, and nothing else does; when a unit that asks for an
+//! ONU-ID gets one.
 ghost use Rattle.gp_laws.specs.Causes.{HasFirstCauseOrNone, RefusesForFirstCause, RefusesForNoOtherReason, RefusesForWantOfOnuId, RefusesForWantOfLicence, FindsWhoAsks};
 
 use gp_machine::one_outcome;

@@ -7,15 +7,15 @@
 //! Promise: what holds of every run: numbers, licences, copies, alarms, quarantine (`every_state_is_sound` and the
 //! other laws).
 //!
-//! - `steps`: the choice that a port has, and that it has an answer to each event.
-//! - `causes`: why a step refuses.
-//! - `runs`: the parts of a run, and what stays the same along it.
-//! - `numbers`: who holds which ONU-ID and Alloc-ID.
-//! - `messages`: what is sent along a run, and what is still owed.
-//! - `removals`: with which messages a unit loses its ONU-ID.
-//! - `alarms`: which alarms come with the removal of their unit.
-//! - `quarantine`: for how long an ONU-ID rests that was freed.
-//! - `polls`: what is counted of poll windows, and after which of them LOS, LOAM and LOA are raised.
+//! - `steps.rt`: the choice that a port has, and that it has an answer to each event.
+//! - `causes.rt`: why a step refuses.
+//! - `runs.rt`: the parts of a run, and what stays the same along it.
+//! - `numbers.rt`: who holds which ONU-ID and Alloc-ID.
+//! - `messages.rt`: what is sent along a run, and what is still owed.
+//! - `removals.rt`: with which messages a unit loses its ONU-ID.
+//! - `alarms.rt`: which alarms come with the removal of their unit.
+//! - `quarantine.rt`: for how long an ONU-ID rests that was freed.
+//! - `polls.rt`: what is counted of poll windows, and after which of them LOS, LOAM and LOA are raised.
 //!
 //! The statements stand in `specs/`, in the file of the same name. A changed table line of `gp_machine` is met
 //! in `proofs/Orderly.antt` (bursts and commands), `OrderlyFrames.antt` (frames) and `Wants.antt` (refusals),

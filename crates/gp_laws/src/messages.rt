@@ -1,3 +1,4 @@
+//! Laws of messages: what the steps of a run owe is sent in order, each message three times, and each has a code.
 ghost use Rattle.gp_laws.specs.Messages.{EveryRunHasOwedMessages, SendsEachThreeTimes, SendsWhatWasOwedFirst, SendsFirstOwed, SendsAllOwed, SendsOnlyProperMessages};
 
 /// States that the copies sent along a run, and after them those still owed, are the messages that its

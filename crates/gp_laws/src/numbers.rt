@@ -1,3 +1,4 @@
+//! Laws of numbers: no two active units share an ONU-ID or an Alloc-ID, and a disabled serial number holds none.
 ghost use Rattle.gp_laws.specs.Numbers.{NoSharedOnuId, NoSharedAllocId, DisabledHoldsNoOnuId, DisabledHoldsNoAllocId};
 
 /// States that no two active units hold one ONU-ID or one Alloc-ID, default ones included, in every state

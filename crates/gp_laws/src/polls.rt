@@ -1,3 +1,5 @@
+//! Laws of poll windows: what is counted of them along a run, and that LOS, LOAM and LOA are raised after those that
+//! the counts tell of, and after no others.
 ghost use Rattle.gp_laws.specs.Polls.{CountsDarkWindows, CountsGarbledWindows, CountsWaitedWindows, RaisesLosAfterFourDark, RaisesLoamAfterThreeGarbled, RaisesLoaAfterThreeWaited};
 
 /// States what is counted of a unit, in the words of a run: how its last poll windows ended.

@@ -1,3 +1,4 @@
+//! Laws of the quarantine: a freed ONU-ID is given to no unit before it is over, and is free again exactly then.
 ghost use Rattle.gp_laws.specs.Quarantine.{FreedOnuIdsRest, FreedOnuIdsAreFreeAgain};
 
 /// States that an ONU-ID that was freed is given to a new unit only after as many frames as the quarantine

@@ -1,3 +1,5 @@
+//! Laws of removals: a unit that was assigned an ONU-ID has it, or a message that takes it away was sent or is owed
+//! after that.
 ghost use Rattle.gp_laws.specs.Removals.{EachStepAdds, AssignedStayOrAreTold};
 
 /// States that a step puts all copies of the messages that it owes behind what is owed, tells units the

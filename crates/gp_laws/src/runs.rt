@@ -1,3 +1,5 @@
+//! Laws of whole runs: they may be cut and joined, keep soundness, licences and the configuration, and are determined
+//! by their entries, or by their replies.
 ghost use Rattle.gp_laws.specs.Runs.{RunsInParts, RunsEndAlike, RepliesTellRuns, EveryStateIsSound, KeepsConfiguration, RunsKeepLicences};
 
 use gp_machine::one_outcome;

@@ -1,3 +1,4 @@
+//! Laws of single steps: each event has one, and any free number may be handed out.
 ghost use Rattle.gp_laws.specs.Steps.{MayPickAnyFree, MayPickAnyFreeAlloc, EveryEventHasStep};
 
 /// States that an ONU-ID or an Alloc-ID that a step hands out was free, and that the step could have handed

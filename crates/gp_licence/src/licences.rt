@@ -1,4 +1,4 @@
-//! Licences in somebody's hands.
+//! Licences in somebody's hands: they are split and joined, and can't be lost or made up.
 ghost use Rattle.std.specs.Prelude.{◌≡◌, ℕ, ◌+◌, ◌<◌, ◌≤◌, IfSome, IfNone};
 ghost use Rattle.gp_licence.specs.Limits.{max_licences};
 

@@ -1,4 +1,4 @@
-//! Lines that ask for something.
+//! `parse_turn`: what a line asks for, or its first fault. Whether a port or a unit is there is not known here.
 ghost use Rattle.std.specs.Prelude.{◌≡◌, ◌↔◌, Ok, Err, IfSome, if◌then◌else◌};
 ghost use Rattle.gp_ploam.specs.declared.check.Mask.{Mask as AnyMask};
 ghost use Rattle.gp_lines.specs.declared.fault.LineFault.{LineFault as AnyFault};

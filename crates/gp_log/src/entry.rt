@@ -1,4 +1,5 @@
-//! A line of a log.
+//! A line of a log that is not in its usual form, read by its fields: the port where it stands there, the time, the
+//! word, and what stands behind that.
 ghost use Rattle.std.specs.Prelude.{◌≡◌};
 ghost use Rattle.gp_log.specs.Log as spec;
 ghost use Rattle.gp_log.specs.Says.{said_of};

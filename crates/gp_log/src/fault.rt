@@ -1,4 +1,4 @@
-//! What is wrong with a line.
+//! What is wrong with a line, of which the first fault is told.
 
 use thiserror::Error;
 

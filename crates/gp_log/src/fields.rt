@@ -1,4 +1,4 @@
-//! The fields of a line.
+//! The fields of a line, with spaces, tabs, commas or semicolons between, and numbers in them.
 ghost use Rattle.std.specs.Prelude.{◌≡◌, ◌≤◌, ℕ, Bool, true, false, Ok, Err, IfOk, IfSome, MatchOption, MatchResult, length, position};
 ghost use Rattle.std.specs.List.{list_all};
 ghost use Rattle.gp_log.specs.declared.fault.LogFault.TheVariants as faults;

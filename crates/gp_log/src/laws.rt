@@ -1,4 +1,5 @@
-//! Laws of what is read.
+//! Laws of reading: a line is read in one way, as a line of a log or of a trace and never both, and what is written
+//! here and by `gp_trace` is read back.
 ghost use Rattle.std.specs.Prelude.{ℕ, ◌≡◌, ◌*◌, ◌<◌, ◌≤◌, ◌^◌, ◌++◌, All, List, Result, Ok, Err, codes};
 ghost use Rattle.gp_ploam.specs.declared.check.Mask.{Mask as AnyMask};
 ghost use Rattle.gp_machine.specs.declared.entry.Receipt.{Receipt as AnyReceipt};

@@ -1,4 +1,5 @@
-//! A line, of a log or of a trace.
+//! `read_line`, and what a line says: nothing, an entry of a log, or what a line of a trace tells. In its usual form it
+//! is read in one pass, and else by its parts.
 ghost use Rattle.std.specs.Prelude.{◌≡◌};
 ghost use Rattle.gp_lines.specs.Turn.{is_remark, without_return};
 ghost use Rattle.gp_log.specs.Line.{Reads, ReadsText};

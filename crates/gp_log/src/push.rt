@@ -1,4 +1,5 @@
-//! Lines of a log, written.
+//! Lines of a log as they are written: `push_entry`, which takes memory for the longest line before it writes any of
+//! it.
 ghost use Rattle.std.specs.Prelude.{◌≡◌, ◌+◌, ◌<◌, ◌≤◌, ◌++◌, OnErr, OnOk, codes, decimal, length, vec_capacity, vec_len};
 ghost use Rattle.hex.specs.Hex.{encode_lower};
 ghost use Rattle.gp_log.specs.Text as spec;

@@ -1,4 +1,4 @@
-//! What was said on the fibre.
+//! What was said on the fibre: a code down or up, as it came, or a grant.
 
 use gp_ranging::Grant;
 

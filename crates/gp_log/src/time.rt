@@ -1,4 +1,4 @@
-//! A time in a line, in nanoseconds.
+//! A time in a line, in frames or with a unit, read as whole nanoseconds: nothing is rounded.
 ghost use Rattle.std.specs.Prelude.{◌≡◌, ◌≤◌, ◌^◌, ◌+◌, ◌*◌, ◌<◌, Err, if◌then◌else◌, length, take, drop, position};
 ghost use Rattle.std.specs.List.{list_all};
 ghost use Rattle.std.specs.Option.{SomeIff};

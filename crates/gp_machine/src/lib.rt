@@ -1,9 +1,15 @@
 //! The activation machine of one port after G.984.3, clause 10: its plain types in `src/`, its states, steps
-//! and runs in `specs/`, and those laws of single steps that the code of a port needs (`one_step`), of `==` (`config`,
-//! `equal_replies`) and of the limits (`config`). The other laws, and those of whole runs, stand in `gp_laws`.
+//! and runs in `specs/`, and those laws that the code of a port needs. The other laws, and those of whole runs, stand
+//! in `gp_laws`.
 //!
 //! Promise: a step keeps soundness and licences; given the reply all else is determined (`sound_step`,
 //! `one_outcome`).
+//!
+//! - `event.rt`: what happens at a port. `answer.rt`: what it gives for that, with its reply (`reply.rt`), of which one
+//!   kind is a refusal (`refusal.rt`). `entry.rt`: what is kept of a step.
+//! - `config.rt`, `admitted.rt`: what a port is configured with, and whether it is within the limits; laws of the
+//!   limits, and of `==` of configurations.
+//! - `one_step.rt`: laws of single steps. `equal_replies.rt`: that of `==` of rows and replies.
 //!
 //! Where to make which change, in `specs/`:
 //! - limits of a configuration, of how many ports there may be and of what their journals keep: `Config`; a refusal's
@@ -13,6 +19,7 @@
 //! - the tables: `Frame`, with `Closes` for the end of a window; `Burst`, with `SearchWindow`, `RangeWindow` and
 //!   `PollWindow`; `Commands`.
 //! - a step, a run, and the messages that they owe: `Step`, `Run`, `Messages`.
+//! - the laws here: `OneStep`, and `Comparing` and `ComparingAnswers` of `==`.
 #![tactic(auto)]
 
 mod admitted;

@@ -1,3 +1,5 @@
+//! Laws of single steps that the code of a port rests on: what is determined, soundness, licences, the order of copies,
+//! free numbers, refusals. Those of runs stand in `gp_laws`.
 ghost use Rattle.gp_machine.specs.OneStep.{RefusalsChangeNothing, FindsUnitWith, TellsFreeOnu, TellsFreeAlloc, HearsOneThing, IsDetermined, KeepsLicences, KeepsSound, SendsInOrder};
 
 use gp_ploam::up_read_once;

@@ -1,3 +1,5 @@
+//! Laws of a simulated unit, as functions that do nothing: a code heard twice is as one heard once, and a unit has only
+//! what it heard.
 ghost use Rattle.std.specs.Prelude.{◌≡◌, ℕ, List};
 ghost use Rattle.gp_ploam.specs.declared.message.Down.{Down};
 ghost use Rattle.gp_onu.specs.Table.{Hears, UnitState, unit_after};

@@ -1,3 +1,4 @@
+//! How many simulated units there may be, and how late each may answer; the law that contracts have the same numbers.
 ghost use Rattle.std.specs.Prelude.{◌≡◌};
 ghost use Rattle.gp_onu.specs.Limits.{frame_bit_times, max_delay, max_random_delay, max_simulated_units};
 

@@ -1,4 +1,4 @@
-//! What a unit is, as it is shown.
+//! What a simulated unit is, as it is shown: its state, its ONU-ID and delay, and whether light reaches it.
 use super::state::State;
 
 /// What a unit is.

@@ -1,3 +1,5 @@
+//! A simulated unit: what it does at light, frames, codes and grants, and what it answers, by the unit table
+//! (`specs/Table.antt`). All else changes nothing.
 ghost use Rattle.std.specs.Prelude.{◌≡◌, ◌≤◌, ◌<◌, ℕ, Bool, false, List, IfNone, IfSome, IsTrue, take};
 ghost use Rattle.std.specs.Option.{ForSome, option_map};
 ghost use Rattle.gp_ploam.specs.declared.message.Down.{Down};

@@ -1,4 +1,4 @@
-//! What an audit judges by and tells.
+//! What an audit judges by and tells, by the options of the command line: names of rules first, then delays.
 ghost use Rattle.std.specs.Prelude.{◌≡◌, MatchResult, codes};
 ghost use Rattle.gp_options.specs.Options.{AuditsAs, IsBadAudit, form_of, tells_side};
 

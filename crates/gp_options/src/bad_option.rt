@@ -1,4 +1,4 @@
-//! An option that can't be read.
+//! The first option that can't be read, with what stands there, and its text.
 
 use thiserror::Error;
 

@@ -1,4 +1,4 @@
-//! What a picture shows and judges by.
+//! What a picture shows and judges by, by the options of the command line: frames first, then delays.
 ghost use Rattle.std.specs.Prelude.{◌≡◌, MatchResult};
 ghost use Rattle.gp_options.specs.Options.{DrawsAs, IsBadPicture};
 

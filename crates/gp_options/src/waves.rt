@@ -1,4 +1,4 @@
-//! What of a log is dumped.
+//! Which frames of a log are dumped, and how codes are read, by the options of the command line.
 ghost use Rattle.std.specs.Prelude.{◌≡◌, MatchResult};
 ghost use Rattle.gp_options.specs.Options.{DumpsAs, IsBadWaves};
 

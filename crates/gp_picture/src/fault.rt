@@ -1,4 +1,4 @@
-//! Why a line can't be drawn.
+//! Why a line can't be drawn: there is no memory, or a count can't go on.
 ghost use Rattle.std.specs.Prelude.{◌≡◌};
 ghost use Rattle.gp_picture.specs.Faults.{of_watch, undrawn};
 

@@ -1,4 +1,5 @@
-//! A unit's lane.
+//! A unit's lane in the picture: a span for what it does, up to its next change. Changes at one place are drawn as the
+//! last of them.
 
 use crate::lane::{Change, Lane};
 use crate::scale::Scale;

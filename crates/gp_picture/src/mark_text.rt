@@ -1,4 +1,4 @@
-//! A row of marks.
+//! A row of marks in the picture: marks that would touch are drawn as one, which says how many it stands for.
 
 use crate::mark::{Mark, MarkKind};
 use crate::scale::Scale;

@@ -1,4 +1,4 @@
-//! All that is drawn.
+//! All that is drawn, kept until the input has ended: where it is more than there is room for, columns become wider.
 
 use crate::fault::PictureFault;
 use crate::moment::LineText;

@@ -1,4 +1,5 @@
-//! A port.
+//! A port in the picture: the numbers of frames, the rows of its marks, and the lanes of its units, one below the
+//! other.
 
 use crate::lane_text::push_lane;
 use crate::mark_text::{RowStyle, push_mark_row};

@@ -1,4 +1,5 @@
-//! A whole trace or log.
+//! From the bytes of a trace or a log to its picture: nothing is written before all of it was read, and none where a
+//! line can't be.
 ghost use Rattle.std.specs.Prelude.{◌≡◌, true};
 ghost use Rattle.gp_picture.specs.Outcome as spec;
 

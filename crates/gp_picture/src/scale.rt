@@ -1,4 +1,4 @@
-//! Where a frame stands.
+//! Where a frame stands in the picture, in units from the left.
 ghost use Rattle.std.specs.Prelude.{◌≤◌};
 
 use crate::picture::Picture;

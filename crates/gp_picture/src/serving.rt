@@ -1,4 +1,4 @@
-//! A drawer serves lines.
+//! A drawer serves lines: it says nothing to them, and is over behind the first that is none of a trace or a log.
 use crate::drawer::Drawer;
 use crate::moment::LineText;
 use gp_explain::NoLine;

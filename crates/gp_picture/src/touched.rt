@@ -1,4 +1,4 @@
-//! Which units a message touches.
+//! Which units a message touches, by what is known before it: those whose lanes are looked at again.
 
 use crate::state::Cause;
 use gp_ploam::{BROADCAST_ONU, Down, Serial, Up};

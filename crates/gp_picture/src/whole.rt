@@ -1,4 +1,4 @@
-//! The whole picture as SVG.
+//! The whole picture as SVG: how everything looks, the legend, and the ports of which a line tells.
 ghost use Rattle.std.specs.Prelude.{IfOk};
 ghost use Rattle.std.specs.String.{string_bytes};
 ghost use Rattle.gp_picture.specs.Outcome.{IsSvg};

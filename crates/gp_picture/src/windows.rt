@@ -1,4 +1,4 @@
-//! The windows of a port that are open.
+//! The windows of a port that wait for an answer: each closes with one, or after its three frames without.
 
 use crate::moment::Moment;
 use gp_ploam::{BROADCAST_ONU, Up};

@@ -1,3 +1,5 @@
+//! The parts of codes that several messages share: octets 3 to 12 behind the identifier, and a serial number from octet
+//! 4 on.
 ghost use Rattle.std.specs.Prelude.{◌≡◌, ◌∷◌, ◌++◌, [], drop, length, map, take};
 ghost use Rattle.gp_ploam.specs.OnuIds.{broadcast_onu};
 ghost use Rattle.gp_ploam.specs.Row.{written};

@@ -1,3 +1,5 @@
+//! The codes of the units' messages, written and read by their rows (G.984.3, clause 9). A proper message is read back
+//! as it was; a code is read as one message at most.
 ghost use Rattle.std.specs.Prelude.{◌≡◌, ◌≢◌, ◌↔◌, ◌≤◌, ◌+◌, ◌*◌, ◌/◌, ◌%◌, ℕ, List, [], ◌∷◌, ◌++◌, IfNone, IfOk, IfSome, IsErrOf, IsTrue, drop, length, take};
 ghost use Rattle.gp_ploam.specs.declared.message.Up.{Up};
 ghost use Rattle.gp_ploam.specs.Mask.{mask_value};

@@ -1,3 +1,5 @@
+//! The further Alloc-IDs of a port: each is free, leased or settled. A lease is no `Drop`: it goes back to the pool, or
+//! is settled there.
 ghost use Rattle.std.specs.Prelude.{◌≡◌, ℕ, ◌+◌, ◌-◌, ◌≤◌, ◌↔◌, IsTrue, IsNone, IfNone, IfSome};
 ghost use Rattle.gp_pools.specs.Allocs.{AreLeased, AreSettled, numbers_of};
 ghost use Rattle.gp_pools.specs.Limits.{first_alloc_id, last_alloc_id};

@@ -1,3 +1,4 @@
+//! The leases of one unit's further Alloc-IDs, as one value that is no `Drop`.
 ghost use Rattle.std.specs.Prelude.{◌≡◌, ℕ, ◌<◌, ◌≤◌, Bool, true, false, IsSome, None};
 ghost use Rattle.std.specs.FinMap as map;
 ghost use Rattle.gp_pools.specs.Slots.{max_allocs};

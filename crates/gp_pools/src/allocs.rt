@@ -1,3 +1,4 @@
+//! The further Alloc-IDs of one unit, at most eight, each held or leaving: plain data, seen as a finite map.
 ghost use Rattle.std.specs.Prelude.{◌≡◌, ◌<◌, ◌≤◌, IfOk, IfErr, None};
 ghost use Rattle.std.specs.FinMap as map;
 ghost use Rattle.gp_pools.specs.Allocs.{IsGapFor, IsPlaceOf, IsRising};

@@ -1,3 +1,4 @@
+//! The quarantine of freed ONU-IDs, all for the same number of frames. A frame in which none leaves looks at none.
 ghost use Rattle.std.specs.Prelude.{◌≡◌, ◌≢◌, ℕ, ◌<◌, ◌≤◌, IsTrue, is_some, slice_index};
 ghost use Rattle.std.specs.FinMap as map;
 ghost use Rattle.std.specs.FinSet as set;

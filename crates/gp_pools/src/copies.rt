@@ -1,3 +1,4 @@
+//! Second pools with the same numbers out and cooling, for an image of a port. The leases stay those of the first.
 ghost use Rattle.std.specs.Prelude.{◌≡◌};
 ghost use Rattle.std.specs.FinMap as map;
 

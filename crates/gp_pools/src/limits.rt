@@ -1,3 +1,4 @@
+//! The law that the constants are the numbers that contracts have for them.
 ghost use Rattle.std.specs.Prelude.{◌≡◌};
 ghost use Rattle.gp_pools.specs.Limits.{first_alloc_id, last_alloc_id, max_quarantine};
 ghost use Rattle.gp_pools.specs.Slots.{max_allocs};

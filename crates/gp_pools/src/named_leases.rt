@@ -1,3 +1,4 @@
+//! Leases of a number that the caller names, and which number would be leased next.
 ghost use Rattle.std.specs.Prelude.{◌≡◌, ℕ, ◌↔◌, IsTrue, IfNone, IfSome};
 ghost use Rattle.gp_pools.specs.Onu.{IsFreeOnu, NoneIsFree, onus_with_lease};
 ghost use Rattle.gp_pools.specs.Pool.{HasRoom, IsFree, IsLeased, pool_with_lease};

@@ -1,3 +1,5 @@
+//! Which numbers of a range are out, leased or settled, as two sets of bits, and the least that is free. The pools of
+//! ONU-IDs and of Alloc-IDs stand on it.
 ghost use Rattle.std.specs.Prelude.{◌≡◌, ℕ, ◌+◌, ◌-◌, ◌*◌, ◌^◌, ◌<◌, ◌≤◌, ◌↔◌, IsTrue, IsNone, IfNone, IfSome, EachIndex, false};
 ghost use Rattle.std.specs.FinSet as set;
 ghost use Rattle.gp_pools.specs.Pool.{IsFree, IsLeased, IsSettled, IsSound, HasRoom, count_out, fresh_pool, pool_with_all_leased_again, pool_with_all_settled, pool_with_lease, pool_with_lease_again, pool_with_settled, pool_without_all, pool_without_lease};

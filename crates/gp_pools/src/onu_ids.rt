@@ -1,3 +1,5 @@
+//! The ONU-IDs of a port: each is free, leased, settled or in quarantine. A lease is no `Drop`: it goes back to the
+//! pool, where its number begins to cool, or is settled there.
 ghost use Rattle.std.specs.Prelude.{◌≡◌, ℕ, ◌≤◌, ◌↔◌, IsTrue, IsNone, IfNone, IfSome, is_some};
 ghost use Rattle.std.specs.FinMap as map;
 ghost use Rattle.gp_ploam.specs.OnuIds.{last_onu, onu_ids};

@@ -1,3 +1,4 @@
+//! A place for one further Alloc-ID, in four octets: rows, answers and entries of journals have eight each.
 ghost use Rattle.std.specs.Prelude.{◌≡◌, None, Some};
 
 use std::marker::Model;

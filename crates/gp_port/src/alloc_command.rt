@@ -1,3 +1,5 @@
+//! The commands alloc and dealloc: an operating unit is given a further Alloc-ID, or told to give one back. It has one
+//! such change to acknowledge at a time.
 ghost use Rattle.std.specs.Prelude.{◌≡◌, ◌≤◌, None};
 ghost use Rattle.gp_pools.specs.Limits.{last_alloc_id};
 ghost use Rattle.gp_machine.specs.declared.event.Command.TheVariants as command;

@@ -1,3 +1,5 @@
+//! What a frame and a burst give: an `Answer` without the room for a whole row, small enough to be handed up. It is
+//! written to an `Answer` once, at the end.
 ghost use Rattle.std.specs.Prelude.{◌≡◌, None, Some};
 ghost use Rattle.gp_port.specs.Answers.{answer_to_burst, answer_to_frame};
 

@@ -1,3 +1,5 @@
+//! A burst: it is read under the port's mask, refused as Stray or Garbled, or handed to the table of the open window;
+//! in a ranging or poll window octet 1 has to be the ONU-ID that is asked.
 ghost use Rattle.std.specs.Prelude.{◌≡◌, ◌+◌, ◌<◌, ◌≤◌, ◌^◌, None, Some, length};
 ghost use Rattle.gp_ploam.specs.OnuIds.{onu_ids};
 ghost use Rattle.gp_volley.specs.Copies.{copies_each, max_copies};

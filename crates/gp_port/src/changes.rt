@@ -1,3 +1,5 @@
+//! What a step changes of the window, the owed messages and the common state: a method for each, which changes that as
+//! `gp_machine` defines it, and nothing else.
 ghost use Rattle.std.specs.Prelude.{◌≡◌, ℕ, ◌+◌, ◌<◌, ◌≤◌, IfSome, None, Some, length};
 ghost use Rattle.std.specs.FinMap as map;
 ghost use Rattle.gp_ploam.specs.declared.message.Serial.{Serial};

@@ -1,3 +1,5 @@
+//! The commands of the operator: which method carries out each, and those that stand here, search, enable all, popup
+//! all and show.
 ghost use Rattle.std.specs.Prelude.{◌≡◌, ◌<◌, ◌≤◌, ◌^◌, None};
 ghost use Rattle.gp_ploam.specs.OnuIds.{onu_ids};
 ghost use Rattle.gp_pools.specs.Limits.{last_alloc_id};

@@ -1,3 +1,5 @@
+//! Whether two ports know the same, or give the same answer, part by part: each comparison holds exactly where both are
+//! equal. Windows become images here, and windows again.
 ghost use Rattle.std.specs.Prelude.{◌≡◌, ℕ, ◌↔◌, IsTrue, length};
 ghost use Rattle.std.specs.FinMap as map;
 ghost use Rattle.std.specs.FinSet as set;

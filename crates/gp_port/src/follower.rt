@@ -1,3 +1,5 @@
+//! `PortFollower`, a port without licences that follows a history: it tells of each entry whether there is such a step,
+//! and makes it.
 ghost use Rattle.std.specs.Prelude.{◌≡◌, IfOk, IsErrOf, IsTrue, false, ◌↔◌};
 ghost use Rattle.gp_machine.specs.Config.{is_within_limits};
 ghost use Rattle.gp_machine.specs.State.{opening_of, PortState};

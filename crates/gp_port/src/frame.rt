@@ -1,3 +1,5 @@
+//! A frame: cooling, timer and the copy that is sent, then a frame off the open window, or the decision where no window
+//! is open and nothing was owed. The tables are `Frame` and `Closes` of `gp_machine`.
 ghost use Rattle.std.specs.Prelude.{◌≡◌, ℕ, ◌+◌, ◌-◌, ◌<◌, ◌≤◌, ◌^◌, None, Some, length, map};
 ghost use Rattle.gp_volley.specs.Copies.{copies_each, first_of, max_copies};
 ghost use Rattle.gp_machine.specs.Config.{max_search_period};

@@ -1,3 +1,5 @@
+//! `PortImage`, all that a port knows as plain data: how it is made, what it tells, when a port or another image stands
+//! at the same, and the machine made of it again.
 ghost use Rattle.std.specs.Prelude.{◌≡◌, ◌≢◌, IfNone, IfOk, IfSome, IsTrue, MatchOption, None, Some, slice_get, ◌↔◌, true};
 ghost use Rattle.std.specs.FinMap as map;
 ghost use Rattle.std.specs.FinSet as set;

@@ -1,3 +1,5 @@
+//! Octets of any length as the event of a burst: thirteen of them, or the fault `Length`. The check octet is left to
+//! the port.
 ghost use Rattle.std.specs.Prelude.{◌≡◌, ◌≢◌, ◌↔◌, IfOk, IsErrOf, length};
 ghost use Rattle.gp_machine.specs.declared.event.Event.TheVariants as event;
 

@@ -1,3 +1,5 @@
+//! Why a port is not opened: a number of its configuration is outside its range, a serial number stands there twice, or
+//! there is no memory.
 ghost use Rattle.std.specs.Prelude.{◌≡◌};
 ghost use Rattle.gp_port.specs.declared.open.OpenFault.TheVariants.{OutOfMemory};
 

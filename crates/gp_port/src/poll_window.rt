@@ -1,3 +1,5 @@
+//! A message of the operating unit that is asked: an Acknowledge, a Dying_Gasp or any other, each of which closes the
+//! window. The table is `PollWindow` of `gp_machine`.
 ghost use Rattle.std.specs.Prelude.{◌≡◌, ◌+◌, ◌<◌, ◌≤◌, ◌^◌, None, Some, false, length};
 ghost use Rattle.gp_volley.specs.Copies.{copies_each, max_copies};
 ghost use Rattle.gp_alarms.specs.declared.poll.Outcome.TheVariants as poll;

@@ -1,3 +1,5 @@
+//! `PortCore`, a port as others use it: each step is one of the machine, keeps it sound, and leaves a licence with each
+//! active unit, so that none is made or lost.
 ghost use Rattle.std.specs.Prelude.{◌≡◌, ◌+◌, ◌≤◌, ◌++◌, List, false, true, length, IfOk, IsErrOf, IsTrue, ◌↔◌};
 ghost use Rattle.std.specs.FinMap as map;
 ghost use Rattle.std.specs.FinSet as set;

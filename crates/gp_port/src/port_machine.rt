@@ -1,3 +1,5 @@
+//! The machine of a port without its licences: `PortMachine`, one step of it by the kind of event, and what the tables
+//! ask of it. Contracts see its `PortState`; no step takes memory.
 ghost use Rattle.std.specs.Prelude.{◌≡◌, ℕ, ◌+◌, ◌<◌, ◌≤◌, ◌^◌, IfOk, IfSome, None, Some, is_some, length, true, false, IsErrOf, ◌↔◌};
 ghost use Rattle.std.specs.FinMap as map;
 ghost use Rattle.std.specs.FinSet as set;

@@ -1,3 +1,5 @@
+//! A message of the ranging unit that is asked: its serial number gives its equalization delay, if it is near enough,
+//! and then it operates. The table is `RangeWindow` of `gp_machine`.
 ghost use Rattle.std.specs.Prelude.{◌≡◌, None};
 ghost use Rattle.gp_machine.specs.State.{HasRow};
 ghost use Rattle.gp_machine.specs.Sound.{IsSound};

@@ -1,3 +1,5 @@
+//! A message in a search window: a new unit takes a free ONU-ID and a licence, a ranging one begins anew, an operating
+//! one is removed. The table is `SearchWindow` of `gp_machine`. How any burst is refused stands here too.
 ghost use Rattle.std.specs.Prelude.{◌≡◌, ◌<◌, ◌≤◌, ◌^◌, None, true};
 ghost use Rattle.std.specs.FinMap as map;
 ghost use Rattle.std.specs.FinSet as set;

@@ -1,3 +1,5 @@
+//! What a step changes of the units: their rows and numbers, the disabled serial numbers, the quarantine. A method for
+//! each, which changes that as `gp_machine` defines it, by a call of `gp_table`.
 ghost use Rattle.std.specs.Prelude.{◌≡◌, ◌<◌, ◌≤◌, None, Some, true, false};
 ghost use Rattle.std.specs.FinMap as map;
 ghost use Rattle.std.specs.FinSet as set;

@@ -1,3 +1,5 @@
+//! The commands deactivate, disable, enable and popup: each owes its message to the unit, or is refused and changes
+//! nothing.
 ghost use Rattle.std.specs.Prelude.{◌≡◌, ◌<◌, ◌^◌, None};
 ghost use Rattle.std.specs.FinMap as map;
 ghost use Rattle.gp_machine.specs.declared.event.Command.TheVariants as command;

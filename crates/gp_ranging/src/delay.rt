@@ -1,3 +1,5 @@
+//! The equalization delay: what makes a unit's round trip up to the one that all units have, if it is near enough for
+//! that (G.984.3, clause 10).
 ghost use Rattle.std.specs.Prelude.{◌≡◌};
 ghost use Rattle.gp_ranging.specs.Delay.{equalization_delay};
 

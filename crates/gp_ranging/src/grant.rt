@@ -1,3 +1,5 @@
+//! Who is asked to answer in a window: units without an ONU-ID, a ranging unit, or an operating one.
+
 /// Who is asked to answer in a window.
 #[derive(Clone, Copy, Debug, PartialEq, Eq)]
 pub enum Grant {

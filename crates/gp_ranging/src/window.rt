@@ -1,3 +1,5 @@
+//! A window: the frames in which answers to a grant may arrive, three at most. It is no `Drop`: it ends with its last
+//! frame, or is closed.
 ghost use Rattle.std.specs.Prelude.{◌≡◌, ◌≤◌, MatchOption};
 ghost use Rattle.gp_ranging.specs.Window.{fresh_window, marked_window, window_after_frame, window_frames};
 

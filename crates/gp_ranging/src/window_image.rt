@@ -1,3 +1,4 @@
+//! Where a window stands, as plain data, as an image of a port keeps it, and the window opened of it again.
 ghost use Rattle.std.specs.Prelude.{◌≡◌, ◌≤◌, IsTrue, ◌↔◌};
 ghost use Rattle.gp_ranging.specs.Window.{window_frames};
 

@@ -1,4 +1,4 @@
-//! Where a line of the trace is built.
+//! The memory in which a line of the trace is built: room for the longest, taken once.
 ghost use Rattle.std.specs.Prelude.{◌≡◌, [], IfOk};
 ghost use Rattle.std.specs.Option.{ForSome};
 ghost use Rattle.gp_ploam.specs.Down.{IsProperDown};

@@ -1,4 +1,4 @@
-//! The end of a play.
+//! The end of a play: what was handed in goes out, also where memory was refused in its midst.
 ghost use Rattle.gp_replay.specs.Writing.{EndsPlay};
 
 use super::fault::PlayFault;

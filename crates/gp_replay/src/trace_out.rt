@@ -1,4 +1,5 @@
-//! Where the lines of a trace go.
+//! Where the lines of a trace go: a sink that is lent, and the buffer in which each is built, so that a line takes no
+//! memory.
 ghost use Rattle.std.specs.Prelude.{◌≡◌};
 ghost use Rattle.std.specs.Option.{ForSome};
 ghost use Rattle.gp_ploam.specs.Down.{IsProperDown};

@@ -1,4 +1,5 @@
-//! One event of one port.
+//! One event of one port, the port by its place in the script: what an event of a script is played as, once or more
+//! often.
 use gp_machine::Event;
 
 /// One event of one port, named by its place in the script.

@@ -1,4 +1,4 @@
-//! Events that are commands of the operator.
+//! Event tables with `command`: what the operator asks, by its word and the keys that this needs.
 ghost use Rattle.std.specs.Prelude.{◌≡◌, IfOk};
 ghost use Rattle.toml.specs.View.{table_view};
 ghost use Rattle.gp_script.specs.Fault.{Sees};

@@ -1,4 +1,4 @@
-//! The faults that a script may have, by number and name.
+//! The kinds of mistakes that a script may have, each with its number and name; and why a script was not read.
 ghost use Rattle.std.specs.Prelude.{◌≡◌};
 ghost use Rattle.gp_script.specs.declared.fault.ScriptError.TheVariants.{OutOfMemory, Fault};
 

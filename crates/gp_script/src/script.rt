@@ -1,4 +1,4 @@
-//! What a script says, once it was read.
+//! What a script says, once it was read: plain data, each number in its range.
 use gp_machine::{Command, PortConfig};
 use gp_ploam::{Mask, Serial};
 

@@ -1,4 +1,4 @@
-//! Serial numbers read from text.
+//! `parse_serial`: the serial number that a text spells, or its first fault.
 ghost use Rattle.std.specs.Prelude.{◌≡◌, ℕ, ◌↔◌, List, ◌++◌, length, Ok, Err};
 ghost use Rattle.std.specs.List.{list_all};
 ghost use Rattle.gp_ploam.specs.declared.message.Serial.{Serial as AnySerial};

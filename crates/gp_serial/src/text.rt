@@ -1,4 +1,5 @@
-//! Serial numbers as text.
+//! Serial numbers as text, with the vendor code where it can stand for itself, and else in digits; what is written is
+//! read back.
 ghost use Rattle.std.specs.Prelude.{◌≡◌, ◌+◌, ◌*◌, ◌<◌, ◌≤◌, ◌++◌, true, length, vec_len, vec_capacity, OnOk, OnErr, IfOk, IfErr, Some, Ok};
 ghost use Rattle.std.specs.List.{list_all};
 ghost use Rattle.std.specs.Str.{IsAscii};

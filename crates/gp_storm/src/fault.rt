@@ -1,4 +1,4 @@
-//! Why a storm has no totals.
+//! Why a storm has no totals: of several threads' faults one is told, the operator's first.
 ghost use Rattle.std.specs.Prelude.{◌≡◌};
 ghost use Rattle.gp_storm.specs.Faults.{storm_fault_of};
 

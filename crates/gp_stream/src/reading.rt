@@ -1,3 +1,4 @@
+//! Reads a source to its end, within the bounds of reads and of bytes, or tells why not.
 ghost use Rattle.std.specs.Prelude.{◌≡◌};
 ghost use Rattle.gp_stream.specs.Source.{ReadsAll};
 ghost use Rattle.gp_stream.specs.declared.reading.SourceFault.TheVariants.{OutOfMemory};

@@ -1,3 +1,5 @@
+//! A writer that gathers bytes and hands them on in large pieces, each flushed; once a write or a flush failed nothing
+//! more is written.
 ghost use Rattle.std.specs.Prelude.{◌≡◌, ◌+◌, ◌<◌, ◌≤◌, ◌||◌, [], IfOk, OnOk, OnErr, IsOk, IsErr, IsTrue, ℕ, false, true, length, take, is_err};
 ghost use Rattle.std.specs.Io.KnownBytes.{Appends};
 ghost use Rattle.gp_stream.specs.Watched.{inner_of, is_flushed, is_stopped};

@@ -1,3 +1,4 @@
+//! A reader that counts its reads down and remembers whether one failed: so it tells whether one more may be made.
 ghost use Rattle.std.specs.Prelude.{◌≡◌, ◌<◌, ◌↔◌, IsTrue, false};
 ghost use Rattle.gp_stream.specs.Source.{Reads, max_reads};
 

@@ -1,3 +1,5 @@
+//! A writer that remembers whether a write or a flush failed, and whether it was flushed since the last write. Nothing
+//! outside this file sets that.
 ghost use Rattle.std.specs.Prelude.{◌≡◌, ◌≢◌, ◌||◌, [], false, true, is_err, is_ok};
 ghost use Rattle.std.specs.Io.KnownBytes.{Keeps, WriteAppends};
 ghost use Rattle.std.specs.Io.{WritesAtMost};

@@ -1,3 +1,5 @@
+//! The units with the pools of their numbers, as a port sees them: a finite map of rows. Here alone a unit's number is
+//! taken or freed, so that those of the units are out in the pools, and no others.
 ghost use Rattle.std.specs.Prelude.{◌≡◌, ℕ, ◌-◌, ◌<◌, ◌≤◌, Bool, IfNone, IfOk, IfSome, IsSome, IsTrue, None, Some, false, get_or, map as list_map, true};
 ghost use Rattle.std.specs.Option.{ForSome};
 ghost use Rattle.std.specs.FinMap as map;

@@ -1,3 +1,5 @@
+//! The admitted serial numbers in their order, each with the key of its unit's record and whether it is disabled. One
+//! search finds all that a burst asks of a serial number.
 ghost use Rattle.std.specs.Prelude.{◌≡◌, ◌^◌, ◌<◌, IfOk, IfErr, None, Some, false, length, map as list_map, true};
 ghost use Rattle.std.specs.FinMap as map;
 ghost use Rattle.gp_ploam.specs.Serials.{serial_cmp};

@@ -1,3 +1,5 @@
+//! The records of the units in a slab, found by serial number or by ONU-ID, and the sets of the ONU-IDs that range and
+//! that operate, which tell whose turn it is. It knows no pools.
 ghost use Rattle.std.specs.Prelude.{◌≡◌, ℕ, ◌<◌, ◌≤◌, ◌≢◌, IfOk, IfSome, IfNone, IsSome, IsTrue, None, Some, if◌then◌else◌, false, ◌+◌};
 ghost use Rattle.std.specs.Option.{option_map};
 ghost use Rattle.std.specs.FinMap as map;

@@ -1,4 +1,4 @@
-//! What a teller began with.
+//! What a teller began with, which stands in contracts alone: the writer below, and what the first line is told by.
 use std::marker::Brand;
 
 /// What a teller began with: what the writer below it held, and what the first line is told by. It stands in contracts

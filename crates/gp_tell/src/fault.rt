@@ -1,4 +1,4 @@
-//! Why a teller tells no more.
+//! Why a teller tells no more: a write below failed, or there is no memory.
 ghost use Rattle.std.specs.Prelude.{◌≡◌};
 ghost use Rattle.gp_tell.specs.declared.fault.TellFault.TheVariants.{Write};
 

@@ -1,4 +1,5 @@
-//! A writer that tells.
+//! `Teller`, a writer that tells each line of a trace at its line feed to the writer below. After a fault every call
+//! fails.
 ghost use Rattle.std.specs.Prelude.{◌≡◌, [], None, IfOk, false, true};
 ghost use Rattle.gp_stream.specs.declared.sink.TheConstants.{GATHERED_BYTES};
 ghost use Rattle.gp_tell.specs.Teller.{Finishes};

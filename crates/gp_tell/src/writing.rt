@@ -1,4 +1,5 @@
-//! A teller takes octets.
+//! How a teller takes octets, in whatever pieces they come: a whole line is told where it stands, a part of one is
+//! kept, and one that is too long is passed on.
 ghost use Rattle.std.specs.Prelude.{◌≡◌, ◌∷◌, ◌++◌, [], Err, IfOk, MatchBool, None, OnErr, OnOk, false, vec_capacity};
 ghost use Rattle.std.specs.List.{All};
 ghost use Rattle.gp_lines.specs.Trace.{is_feed};

@@ -1,3 +1,5 @@
+//! The timers, by their names: the one that is due first is told, of those due in one frame the least name. After
+//! `begin` no call takes memory.
 ghost use Rattle.std.specs.Prelude.{◌≡◌, ◌<◌, ◌↔◌, IfOk, IfSome, IfNone, IsNone, is_some};
 ghost use Rattle.std.specs.FinMap as map;
 ghost use Rattle.gp_timers.specs.Timers.{IsFirstDue, NoneIsDue};

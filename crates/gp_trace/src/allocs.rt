@@ -1,3 +1,4 @@
+//! The further Alloc-IDs of a unit as text, with a mark before those that it is giving back.
 ghost use Rattle.std.specs.Prelude.{◌+◌, ◌≤◌, ◌++◌, length, [], if◌then◌else◌, codes};
 ghost use Rattle.gp_pools.specs.Slots.{filled};
 ghost use Rattle.gp_trace.specs.Writes.{Writes};

@@ -1,3 +1,5 @@
+//! What a port gave for an event, as text: the reply, then the message sent, the grant and the alarm, where there are
+//! such.
 ghost use Rattle.std.specs.Prelude.{◌+◌, ◌≤◌, length};
 ghost use Rattle.std.specs.Option.{ForSome};
 ghost use Rattle.gp_ploam.specs.Down.{IsProperDown};

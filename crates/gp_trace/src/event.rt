@@ -1,3 +1,4 @@
+//! What happened at the port, as text: a frame, a burst, or a command.
 ghost use Rattle.std.specs.Prelude.{◌+◌, ◌≤◌, length};
 ghost use Rattle.gp_machine.specs.declared.event.Command.TheVariants.{Dealloc};
 ghost use Rattle.gp_trace.specs.Writes.{Writes};

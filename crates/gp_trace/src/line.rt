@@ -1,3 +1,5 @@
+//! The line of an entry, written from its end on, so that no piece of it is moved; it takes no more than `MAX_LINE`
+//! bytes.
 ghost use Rattle.std.specs.Prelude.{◌≡◌, ◌+◌, ◌<◌, ◌≤◌, ◌++◌, OnOk, OnErr, drop, length, vec_len, vec_capacity};
 ghost use Rattle.std.specs.Option.{ForSome};
 ghost use Rattle.gp_ploam.specs.Down.{IsProperDown};

@@ -1,3 +1,5 @@
+//! The pieces of a line: texts, decimal numbers, codes and serial numbers. Each is written so that it ends where it is
+//! to, and tells where it begins.
 ghost use Rattle.std.specs.Prelude.{◌+◌, ◌≤◌, length, decimal};
 ghost use Rattle.gp_trace.specs.Writes.{Writes};
 ghost use Rattle.gp_trace.specs.Reply.{numbered};

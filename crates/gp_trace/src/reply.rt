@@ -1,3 +1,4 @@
+//! A reply as text, by the words of `specs/Reply.antt`.
 ghost use Rattle.std.specs.Prelude.{◌+◌, ◌≤◌, length};
 ghost use Rattle.gp_machine.specs.declared.reply.Reply.TheVariants.{Ranged};
 ghost use Rattle.gp_trace.specs.Writes.{Writes};

@@ -1,4 +1,4 @@
-//! The frames that a port has had.
+//! The frames that a port has had, by which a log tells its time: no more than 64 bits hold in nanoseconds.
 ghost use Rattle.std.specs.Prelude.{◌*◌, ◌<◌, ◌^◌};
 ghost use Rattle.std.specs.Option.{SomeIff};
 ghost use Rattle.gp_log.specs.Time.{frame_time};

@@ -1,4 +1,4 @@
-//! One line of a trace.
+//! One line of a trace, written as lines of a log: what it says, at its port's time, which goes on with a frame.
 ghost use Rattle.std.specs.Prelude.{◌≡◌, ◌⊎◌, IfErr, IfOk, true, false};
 ghost use Rattle.gp_flow.specs.declared.fault.LineFault.TheVariants.{OutOfMemory, Full};
 ghost use Rattle.gp_transcribe.specs.Entries.{IsTraceRead, Transcribes};

@@ -1,4 +1,4 @@
-//! What a line of a trace is in a log.
+//! What a line of a trace says, as lines of a log: one for what was said first, and one for what was said behind it.
 ghost use Rattle.std.specs.Prelude.{◌≡◌, ◌≤◌, ◌<◌, ◌*◌, ◌^◌, ◌++◌, OnOk};
 ghost use Rattle.gp_lines.specs.Spelling.{last_port};
 ghost use Rattle.gp_log.specs.Time.{frame_time};

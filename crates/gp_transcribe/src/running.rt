@@ -1,4 +1,4 @@
-//! A whole trace.
+//! From the bytes of a trace to its log; the first line that is none of a trace ends it. Memory is flat.
 ghost use Rattle.std.specs.Prelude.{◌≡◌, true};
 ghost use Rattle.gp_transcribe.specs.Outcome.{TranscribesTrace, finding};
 

@@ -1,4 +1,4 @@
-//! A transcriber serves lines.
+//! A transcriber serves lines, and is over behind the first that is none of a trace.
 use crate::line::transcribe_line;
 use crate::transcriber::Transcriber;
 use gp_explain::NoLine;

@@ -1,4 +1,5 @@
-//! A line of a trace, read.
+//! A line of a trace as `gp_log` reads it: its port, whether it is a frame's, and what was said; none for any other
+//! line.
 ghost use Rattle.std.specs.Prelude.{◌≡◌, ◌≤◌, IfNone, IfSome, Ok};
 ghost use Rattle.gp_lines.specs.Spelling.{last_port};
 ghost use Rattle.gp_log.specs.declared.line.LogLine.TheVariants as lines;

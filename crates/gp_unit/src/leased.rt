@@ -1,3 +1,4 @@
+//! A record with the leases of its numbers: what each typed unit is inside. It is no `Drop`, so that no lease is lost.
 ghost use Rattle.std.specs.Prelude.{◌≡◌, ◌<◌, ◌≤◌, None};
 ghost use Rattle.std.specs.Option.{ForSome};
 ghost use Rattle.gp_pools.specs.Allocs.{AreLeased, AreSettled, numbers_of};

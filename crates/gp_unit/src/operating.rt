@@ -1,3 +1,4 @@
+//! `Operating`, a typed unit that has its equalization delay: what may happen to such a unit, and to no other.
 ghost use Rattle.std.specs.Prelude.{◌≡◌, ◌<◌, ◌≤◌, IsSome, IsTrue, MatchOption, None};
 ghost use Rattle.std.specs.Option.{ForSome};
 ghost use Rattle.std.specs.FinMap as map;

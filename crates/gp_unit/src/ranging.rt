@@ -1,3 +1,5 @@
+//! `Ranging`, a typed unit whose delay is still to be measured: it operates once it is, and after two ranging windows
+//! without a result it is no more.
 ghost use Rattle.std.specs.Prelude.{◌≡◌, ◌-◌, ◌<◌, ◌≤◌, ◌||◌, MatchOption, MatchResult};
 ghost use Rattle.gp_pools.specs.Allocs.{AreLeased, AreSettled, numbers_of};
 ghost use Rattle.gp_pools.specs.Onu.{onus_with_settled};

@@ -1,3 +1,5 @@
+//! What a port keeps of a unit between calls, and the typed unit that is made of it by leasing its numbers again:
+//! `wake`, the inverse of `settle`.
 ghost use Rattle.std.specs.Prelude.{◌≡◌, ◌≤◌, if◌then◌else◌};
 ghost use Rattle.gp_pools.specs.Allocs.{AreLeased, AreSettled, numbers_of};
 ghost use Rattle.gp_pools.specs.Onu.{onus_with_lease_again};

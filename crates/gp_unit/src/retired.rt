@@ -1,3 +1,5 @@
+//! What is left of a unit that is no more, or begins anew: the numbers that it has to give up. A freed ONU-ID begins to
+//! cool.
 ghost use Rattle.std.specs.Prelude.{◌≡◌};
 ghost use Rattle.std.specs.Option.{ForSome};
 ghost use Rattle.gp_pools.specs.Allocs.{AreLeased, numbers_of};

@@ -1,3 +1,5 @@
+//! The row of a unit, plain data, and its changes, a method each, which are the functions of `specs/Rows.antt`. No
+//! lease is moved here: that is for the typed units.
 ghost use Rattle.std.specs.Prelude.{◌≡◌, ◌<◌, IfNone, IsTrue};
 ghost use Rattle.std.specs.FinMap as map;
 ghost use Rattle.gp_alarms.specs.Poll.{IsBelowEachLimit};

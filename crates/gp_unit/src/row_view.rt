@@ -1,3 +1,4 @@
+//! A row as a port shows it: plain data, with the Alloc-IDs in rising order.
 ghost use Rattle.std.specs.Prelude.{◌≡◌};
 ghost use Rattle.gp_unit.specs.Records.{view_of};
 

@@ -1,4 +1,4 @@
-//! Why a line was not judged.
+//! Why a line was not judged: there is no memory, or there were more lines than can be counted.
 ghost use Rattle.std.specs.Prelude.{◌≡◌};
 ghost use Rattle.gp_flow.specs.declared.fault.LineFault.TheVariants as lines;
 ghost use Rattle.gp_verify.specs.declared.fault.LineRefusal.TheVariants.{OutOfMemory, Full};

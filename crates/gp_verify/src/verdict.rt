@@ -1,4 +1,4 @@
-//! What is said of a line.
+//! What is said of a line: that it is the line of a turn that may be taken, or in which way it can't be.
 
 /// What is said of a line.
 #[derive(Clone, Copy, Debug, PartialEq, Eq)]

@@ -11,8 +11,8 @@
 //!   volley's state. `specs/Queue.antt`: what the queue keeps; only of its first message may a copy have been sent.
 //! - `proofs/Copies.antt`: lemmas on copies in a row.
 //!
-//! Contracts see a queue as the list of its copies. Neither type has `Drop`: what is owed is sent, or closed.
-//! Another number of copies or messages is a change of the constants and of `specs/Copies.antt`.
+//! Contracts see a queue as the list of its copies. Neither it nor a volley has `Drop`: what is owed is sent, or
+//! closed. Another number of copies or messages is a change of the constants and of `specs/Copies.antt`.
 #![tactic(auto)]
 
 mod owed_image;

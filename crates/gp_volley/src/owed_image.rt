@@ -1,3 +1,5 @@
+//! The owed copies as plain data, as an image of a port keeps them, and the queue made of them again; whether queues
+//! and images are of the same copies.
 ghost use Rattle.std.specs.Prelude.{◌≡◌, ◌≤◌, ◌↔◌, IfOk, IsTrue, length, slice_get};
 ghost use Rattle.gp_volley.specs.Copies.{max_copies};
 ghost use Rattle.gp_volley.specs.Images.{volley_in};

@@ -1,3 +1,5 @@
+//! The queue of the messages that a port owes: their copies are sent in the order in which the messages were owed. It
+//! has room for 64, taken when it is made.
 ghost use Rattle.std.specs.Prelude.{◌≡◌, ◌+◌, ◌≤◌, ◌↔◌, [], ◌++◌, drop, length, slice_get, Contains, IfOk, IsTrue};
 ghost use Rattle.gp_volley.specs.Copies.{all_copies, copies_each, first_of, max_copies, max_copies_with_room, max_messages};
 

@@ -1,3 +1,5 @@
+//! One message with the copies of it that are still to be sent, of three in all (G.984.3, clause 9). It is no `Drop`:
+//! it ends with its last copy, or is closed.
 ghost use Rattle.std.specs.Prelude.{◌≡◌, ◌-◌, ◌≤◌};
 ghost use Rattle.gp_volley.specs.Copies.{copies_each};
 ghost use Rattle.gp_volley.specs.Volley.{volley_of, volley_after_copy};

@@ -1,4 +1,4 @@
-//! The delays of a unit's answers.
+//! The delays of one unit's answers, so many different ones as there is room for, and whether these are all.
 ghost use Rattle.std.specs.Prelude.{◌≡◌, ◌<◌, None, Some, is_none};
 ghost use Rattle.std.specs.FinSet as finset;
 ghost use Rattle.gp_observer.specs.Observer.{some_passes};

@@ -1,4 +1,4 @@
-//! What is known after a message.
+//! What is known after a message, a copy or a code: `hear`, which notes nothing where it fails.
 ghost use Rattle.std.specs.Prelude.{◌≡◌, ◌≤◌, ◌==◌, if◌then◌else◌, IsTrue, IfErr, OnOk, OnErr, None, Some, is_some};
 ghost use Rattle.std.specs.FinMap as map;
 ghost use Rattle.gp_ploam.specs.declared.message.Down.TheVariants.{AssignOnu, RangingTime, Deactivate, DisableSerial, EnableSerial, EnableAll, AssignAlloc, Popup};

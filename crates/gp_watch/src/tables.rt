@@ -1,4 +1,4 @@
-//! What an observer knows by number.
+//! What an observer knows by number: who holds each ONU-ID, its delay and its answers, and whose each Alloc-ID is.
 ghost use Rattle.std.specs.Prelude.{◌≡◌, ℕ, ◌<◌, ◌≤◌, ◌==◌, IfOk, None, is_none, length, slice_index_or};
 ghost use Rattle.std.specs.FinMap as map;
 ghost use Rattle.std.specs.FinSet as finset;

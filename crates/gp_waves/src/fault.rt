@@ -1,4 +1,4 @@
-//! Why a line can't be dumped.
+//! Why a line can't be dumped: there is no memory, a count can't go on, or a change has no variable.
 ghost use Rattle.std.specs.Prelude.{◌≡◌};
 ghost use Rattle.gp_waves.specs.Faults.{of_watch, undumped};
 

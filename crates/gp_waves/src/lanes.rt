@@ -1,4 +1,5 @@
-//! The units of a port, a lane each.
+//! The units of a port, a lane each. A unit that has none takes one that no unit ever had, or the one that changed
+//! longest ago of those whose unit holds no ONU-ID.
 
 use gp_dump::{UnitChange, UnitState};
 use gp_ploam::Serial;

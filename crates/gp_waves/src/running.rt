@@ -1,4 +1,4 @@
-//! A whole trace or log.
+//! From the bytes of a trace or a log to its value change dump, and what was dumped of it. Memory is flat.
 ghost use Rattle.std.specs.Prelude.{◌≡◌, true};
 ghost use Rattle.gp_waves.specs.Outcome as spec;
 

@@ -1,4 +1,5 @@
-//! A dumper serves lines.
+//! A dumper serves lines: it writes the changes that can't be held back any more, and is over behind the first line
+//! that is none.
 use crate::dumper::Dumper;
 use gp_explain::NoLine;
 use gp_flow::{LineFault, LineWork};

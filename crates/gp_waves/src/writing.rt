@@ -1,4 +1,5 @@
-//! What is written of a dump.
+//! What is written of a dump: the declarations once, then changes in the order of their times. One that comes too late
+//! stands at a later time than its own, and is counted.
 ghost use Rattle.std.specs.Prelude.{◌≡◌, IfOk, OnOk, false, true};
 ghost use Rattle.gp_waves.specs.Writing.{Grown, Grows};
 

@@ -1,3 +1,5 @@
+//! `Chassis`, which any number of threads share: a lock for each port and one for the licences, no two of them held at
+//! once. Each event is served under its port's lock.
 ghost use Rattle.std.specs.Prelude.{◌≡◌, ◌++◌, ◌∷◌, ◌<◌, ◌≤◌, ◌↔◌, [], Err, length, vec_len, IfOk, IfErr, OnErr, OnOk};
 ghost use Rattle.std.specs.Option.{ForSome};
 ghost use Rattle.gp_ploam.specs.Down.{IsProperDown};

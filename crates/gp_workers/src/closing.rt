@@ -1,3 +1,5 @@
+//! How a chassis is closed or cut: only where receipts and journals tell of the same steps, and configurations and
+//! licences are as they were; else all is handed back as it was.
 ghost use Rattle.std.specs.Prelude.{◌≡◌, ◌≤◌, [], length, map, All, Err, IfOk, IfErr, OnOk, vec_len, vec_capacity};
 ghost use Rattle.gp_journal.specs.Kept.{history_of};
 ghost use Rattle.gp_journal.specs.Piece.{history_of_piece};

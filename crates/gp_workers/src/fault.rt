@@ -1,3 +1,5 @@
+//! Why a chassis makes no worker: it has as many as it may.
+
 use thiserror::Error;
 
 /// Why no worker is made.

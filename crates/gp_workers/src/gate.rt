@@ -1,3 +1,5 @@
+//! By what tests look at a chassis while it runs; a program opens one with `NoGate`, which does nothing.
+
 use gp_port::PortCore;
 use std::sync::Wait;
 use std::sync::ledger::Ledger;

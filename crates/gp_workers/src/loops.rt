@@ -1,3 +1,4 @@
+//! What the threads of an operator and of a clock run: commands or frames, served in order up to the first fault.
 ghost use Rattle.std.specs.Prelude.{◌≡◌, length, IfOk, OnErr, OnOk};
 ghost use Rattle.gp_workers.specs.Asked.{Extends, ExtendsBy, frames_on, frames_of, commands_of};
 

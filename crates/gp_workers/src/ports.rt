@@ -1,3 +1,4 @@
+//! What the loops need of a chassis, as a trait: a port serves an event, and the worker keeps the receipt.
 ghost use Rattle.std.specs.Prelude.{◌≡◌, ◌++◌, ◌∷◌, [], IfOk, OnErr};
 
 use super::chassis::Chassis;

@@ -1,3 +1,5 @@
+//! What the reader of a port runs: the bursts of a ring, served in order up to its end. After a fault the rest is taken
+//! out unserved, so that whoever fills the ring is not kept waiting.
 ghost use Rattle.std.specs.Prelude.{◌≡◌, ◌+◌, ◌++◌, ◌∷◌, [], ℕ, List, length, IfOk, OnErr, OnOk};
 ghost use mathlib.Core.List.{IsPrefix};
 ghost use Rattle.rtrb.specs.Ring.{received, known_items};

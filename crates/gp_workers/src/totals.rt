@@ -1,3 +1,4 @@
+//! What the journals of a chassis add up to: events and alarms of each kind, and the active units.
 ghost use Rattle.std.specs.Prelude.{◌≡◌, ◌≤◌, ◌∷◌, [], length, map, sum_by, if◌then◌else◌};
 ghost use Rattle.gp_chassis.specs.Desk.{DeskState};
 ghost use Rattle.gp_machine.specs.Config.{max_journal_limit, max_ports};

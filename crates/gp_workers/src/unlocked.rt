@@ -1,3 +1,4 @@
+//! A desk out of its lock, while a chassis is closed or cut; all are taken out and put back in their order.
 ghost use Rattle.std.specs.Prelude.{◌≡◌, ◌≤◌, vec_len, vec_capacity};
 
 use gp_accounts::Recorded;

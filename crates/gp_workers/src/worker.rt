@@ -1,3 +1,5 @@
+//! `Worker`, one who has events served by a chassis, with the receipts of all that were. It is no `Drop`: it ends with
+//! its chassis, or hands its receipts out.
 ghost use Rattle.std.specs.Prelude.{◌≡◌, ◌<◌, ◌++◌, ◌∷◌, [], All, OnOk};
 
 use gp_accounts::Told;

@@ -1,3 +1,4 @@
+//! Measures frames of a port in a chassis, each recorded in the port's journal; cutting it is not in the time.
 ghost use Rattle.std.specs.Prelude.{◌≡◌};
 ghost use Rattle.gp_licence.specs.declared.ledger_parts.TheConstants.{MAX_LICENCES};
 

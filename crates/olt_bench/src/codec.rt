@@ -1,3 +1,5 @@
+//! Measures the codec: Ranging_Time encoded for many delays, and the answers of units checked and decoded.
+
 use super::measured::Measured;
 use super::units::{Unit, units_of};
 use gp_ploam::{Down, Mask, decode_up, encode_down};

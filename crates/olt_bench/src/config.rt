@@ -1,3 +1,5 @@
+//! What ports are opened with here: serial numbers and configurations; and what is told where one isn't opened.
+
 use gp_machine::{Admitted, PortConfig};
 use gp_ploam::{Mask, Serial};
 use gp_port::OpenFault;

@@ -1,3 +1,5 @@
+//! What one part of the measurement came to: how many calls, a sum over their answers, and how long they took.
+
 use gp_machine::{Answer, Reply};
 use gp_ranging::Grant;
 use std::io;

@@ -1,3 +1,5 @@
+//! Measures a port alone, without units and with 64 and 254: frames at rest, a whole search and ranging, polls that go
+//! unanswered, polls that are answered.
 ghost use Rattle.std.specs.Prelude.{◌≡◌};
 ghost use Rattle.gp_licence.specs.declared.ledger_parts.TheConstants.{MAX_LICENCES};
 

@@ -1,3 +1,4 @@
+//! Measures frames that one, two and four threads have served by one chassis, each by a port of its own.
 ghost use Rattle.std.specs.Prelude.{◌≡◌};
 ghost use Rattle.gp_licence.specs.declared.ledger_parts.TheConstants.{MAX_LICENCES};
 

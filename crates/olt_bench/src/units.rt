@@ -1,3 +1,5 @@
+//! The codes that units send here, encoded beforehand, so that it is not in the time.
+
 use super::config::serial_of;
 use gp_ploam::{BROADCAST_ONU, Mask, Serial, Up, encode_up};
 use std::alloc::{AllocError, Global};

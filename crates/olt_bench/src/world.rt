@@ -1,3 +1,4 @@
+//! Measures frames of a port with 64 simulated units, and of one with 1,024.
 ghost use Rattle.std.specs.Prelude.{◌≡◌};
 ghost use Rattle.gp_licence.specs.declared.ledger_parts.TheConstants.{MAX_LICENCES};
 

@@ -1,3 +1,6 @@
+//! Bursts of every identifier with every octet 1, in each window of a port, and codes with bits that are turned. What
+//! each has to be answered with follows from docs/MACHINE.md.
+
 use crate::port::{A, AttackedPort, B, FAR, Outcome, STRANGER, code_of};
 use crate::tally::Tally;
 use gp_alarms::AlarmKind;

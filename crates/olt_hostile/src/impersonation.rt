@@ -1,3 +1,5 @@
+//! Plays the stories of `stories.rt`, each on a port of its own, and compares each answer and how the port stands.
+
 use crate::port::{AttackedPort, FAR, code_of};
 use crate::stories::{Line, STORIES, Said, Story};
 use crate::tally::Tally;

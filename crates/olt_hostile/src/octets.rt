@@ -1,3 +1,5 @@
+//! Octets of each length, given to the decoders, to a port's burst and, as digits, to what tells a code in words.
+
 use crate::tally::Tally;
 use gp_decode::{LineFault, decode_line};
 use gp_machine::Event;

@@ -1,3 +1,4 @@
+//! The port that is attacked, its units, and how it stands behind each event: rows, owed copies, free licences.
 ghost use Rattle.std.specs.Prelude.{◌≡◌};
 ghost use Rattle.gp_licence.specs.declared.ledger_parts.TheConstants.{MAX_LICENCES};
 

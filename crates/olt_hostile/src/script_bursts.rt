@@ -1,3 +1,5 @@
+//! The bursts of `bursts.rt` once more, through scripts and their traces: how many lines have which end.
+
 use crate::port::code_of;
 use crate::tally::Tally;
 use gp_ploam::Mask;

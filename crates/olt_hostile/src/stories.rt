@@ -1,3 +1,6 @@
+//! The stories: what units that speak for others say, line by line, and what the port has to answer (docs/MACHINE.md).
+//! A new one is a row of the table here.
+
 use crate::port::{A, B, C, STRANGER};
 use gp_alarms::AlarmKind;
 use gp_machine::{Command, Refusal, Reply};

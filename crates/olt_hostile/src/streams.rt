@@ -1,3 +1,6 @@
+//! Readers and writers that fail at each place in turn: nothing is read after a failed read, and what was written is
+//! the beginning of what should have been.
+
 use crate::tally::Tally;
 use gp_decode::{LineFault, decode_line};
 use gp_ploam::Mask;

@@ -1,3 +1,5 @@
+//! How many cases of a table came out as they should, and which was the first that did not.
+
 use std::io;
 
 /// How many cases of a table came out as they should, of how many, and which was the first that did not.

@@ -1,3 +1,6 @@
+//! What a test bench sends on its ports, line by line: searches, polls with their answers, Alloc-IDs, a rogue's floods,
+//! units that are ranged anew.
+
 use crate::choices::Choices;
 use crate::codes::{acknowledged, garbled, nothing, searched, serial_number};
 use crate::serials::{add_list, serial_of, text_of};

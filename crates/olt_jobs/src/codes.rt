@@ -1,3 +1,5 @@
+//! The codes that the units of a job send, and one that is garbled.
+
 use gp_ploam::{ASSIGN_ALLOC_ID, BROADCAST_ONU, Mask, Serial, Up, encode_up};
 
 /// Makes the code by which a unit says its serial number, with its ONU-ID or, where it has none, with 255.

@@ -1,3 +1,6 @@
+//! A digest of all that a job gives, by which two runs are compared. It costs little, since it is in the time that is
+//! measured.
+
 use std::alloc::Global;
 use std::io;
 use std::io::Write;

@@ -1,3 +1,5 @@
+//! The job `drive`: the lines of `bench.rt` are answered, some read one by one, some by a port with simulated units.
+
 use crate::bench::{opening, turns_of};
 use crate::choices::Choices;
 use crate::digest::Digest;

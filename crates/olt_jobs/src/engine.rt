@@ -1,3 +1,5 @@
+//! The job `engine`: sixteen ports in a program of its own, whose units answer each grant, and whose journals are cut
+//! where they are full.
 ghost use Rattle.std.specs.Prelude.{◌≡◌};
 ghost use Rattle.std.specs.Option.{ForSome};
 ghost use Rattle.gp_ploam.specs.Down.{IsProperDown};

@@ -9,8 +9,8 @@
 //! - `traces.rt`: traces that are recorded, and then verified (`verify`), or told in words and as JSON (`tell`).
 //! - `bench.rt`: what a test bench sends on its ports; `driving.rt`: those lines, answered.
 //! - `scripts.rt`: folders of scripts, each checked and played.
-//! - `engine.rt`: sixteen ports in a program of its own, whose units answer each grant; `windows.rt`: what a search
-//!   window hears.
+//! - `engine.rt`: sixteen ports in a program of its own, whose units answer each grant; `windows.rt`: the units of a
+//!   port, and what a rogue sends.
 //! - `choices.rt`: numbers that the seed decides. `serials.rt`, `codes.rt`: the units' serial numbers and bursts.
 //! - `digest.rt`: a writer that keeps a digest. `fault.rt`: why a job stopped early.
 #![tactic(auto)]

@@ -1,3 +1,5 @@
+//! The job `scripts`: scripts of many sizes, some with a fault, each checked and played.
+
 use crate::choices::Choices;
 use crate::digest::Digest;
 use crate::fault::JobFault;

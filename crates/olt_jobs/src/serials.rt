@@ -1,3 +1,5 @@
+//! The units' serial numbers, by what the seed decides, the port and the place; and as scripts spell them.
+
 use gp_ploam::Serial;
 use std::alloc::{AllocError, Global};
 

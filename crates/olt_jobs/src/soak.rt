@@ -1,3 +1,6 @@
+//! The job `soak`: scripts with simulated units whose light comes and goes, and with losses, played to their traces.
+//! Other jobs use these scripts too.
+
 use crate::choices::Choices;
 use crate::digest::Digest;
 use crate::fault::JobFault;

@@ -1,3 +1,6 @@
+//! The jobs `verify` and `tell`: traces are recorded, and verified, some of them with one wrong octet; or told in words
+//! and as JSON.
+
 use crate::choices::Choices;
 use crate::digest::Digest;
 use crate::fault::JobFault;

@@ -1,3 +1,6 @@
+//! The units of a port as a program that drives them knows them: what they answer in each window, and what a rogue
+//! sends in a search window.
+
 use crate::choices::Choices;
 use crate::codes::{garbled, nothing, searched, serial_number};
 use crate::serials::serial_of;

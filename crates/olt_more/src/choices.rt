@@ -1,4 +1,4 @@
-//! Numbers that the seed decides.
+//! Numbers that the seed decides: a job with the same seed makes the same inputs on every run.
 ghost use Rattle.std.specs.Prelude.{◌<◌, ◌≤◌};
 
 /// Numbers that a seed decides, by the generator SplitMix64 (Steele, Lea and Flood).

@@ -1,4 +1,4 @@
-//! The units' bursts.
+//! The codes that the units of a job send, under either mask, and one that is garbled.
 use gp_ploam::{ASSIGN_ALLOC_ID, BROADCAST_ONU, Mask, Serial, Up, encode_up};
 
 /// Makes the code by which a unit says its serial number, with its ONU-ID or, where it has none, with 255.

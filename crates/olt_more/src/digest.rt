@@ -1,4 +1,5 @@
-//! A writer that keeps a digest.
+//! A digest of all that a job writes and answers, by which two runs are compared. It costs little, since it is in the
+//! time that is measured.
 use std::alloc::Global;
 use std::io;
 use std::io::Write;

@@ -1,4 +1,4 @@
-//! Why a job stopped early.
+//! Why a job stopped early: out of memory, or a call ended otherwise than its input means it to.
 use std::alloc::AllocError;
 use std::io;
 use thiserror::Error;

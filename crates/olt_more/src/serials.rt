@@ -1,4 +1,4 @@
-//! The units' serial numbers.
+//! The units' serial numbers, by what the seed decides, the port and the place; and as scripts spell them.
 use gp_ploam::Serial;
 use std::alloc::{AllocError, Global};
 

@@ -1,4 +1,5 @@
-//! What goes on at ports, whoever serves it.
+//! What goes on at ports, whoever serves it: searches with a rogue's floods, answers to each grant, and an operator's
+//! commands.
 use crate::choices::Choices;
 use crate::fault::JobFault;
 use crate::serials::serial_of;

@@ -1,4 +1,4 @@
-//! Which rules the messages of a log break.
+//! The command `audit`: which rules the messages of a log break, told on standard output.
 ghost use Rattle.std.specs.Prelude.{◌≡◌};
 ghost use Rattle.oltctl.specs.Statuses.{IsAudited, audit_status, audited_status};
 

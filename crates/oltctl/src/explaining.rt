@@ -1,4 +1,4 @@
-//! A trace that is written again: with its codes in words, as JSON, or as a log.
+//! The command `explain`: a trace is written again, with its codes in words, as JSON, or as a log.
 ghost use Rattle.std.specs.Prelude.{◌≡◌};
 ghost use Rattle.oltctl.specs.Statuses.{IsExplained, told_status};
 

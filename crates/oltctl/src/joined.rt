@@ -1,4 +1,4 @@
-//! Words of the command line as one text.
+//! Words of the command line as one text: as codes on lines of their own, and as one line of words.
 ghost use Rattle.std.specs.Prelude.{◌≡◌, ◌∷◌, ◌++◌, IfOk, OnOk, map};
 ghost use Rattle.std.specs.List.{flat_map, join_with_byte};
 ghost use Rattle.oltctl.specs.Joined.{line_of_code, on_a_line};

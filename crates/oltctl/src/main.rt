@@ -5,6 +5,13 @@
 //!
 //! Promise: what the words of a command line ask for is done, and each ending has its status (`main`). How they are read
 //! is `gp_command_line`'s.
+//!
+//! - `verifying.rt`, `auditing.rt`, `picturing.rt`, `waving.rt`, `explaining.rt`, `checking.rt`: one command each, from
+//!   its inputs to how it ended. The others stand here; `telling.rt` has what is told while it is played or driven.
+//! - `observed.rt`: an input, and what is remembered of it. `joined.rt`: words as one text, as they are decoded or
+//!   encoded. `descriptors.rt`: what is held where a standard stream is closed.
+//! - `reporting.rt`: what goes to standard error, with the exit status. `progress.rt`: lines that went by, told once a
+//!   second; `ticking.rt`: seconds that went by, where no lines are counted.
 #![tactic(auto)]
 
 ghost use Rattle.std.specs.Prelude.{◌≡◌, ◌≢◌, ◌≤◌, ◌↔◌, ℕ, List, Ok, Err, OnOk, map};

@@ -1,4 +1,4 @@
-//! A log that is drawn as a picture.
+//! The command `picture`: a log or a trace is drawn, to standard output.
 ghost use Rattle.std.specs.Prelude.{◌≡◌};
 ghost use Rattle.oltctl.specs.Statuses.{IsPictured, drawn_status};
 

@@ -1,4 +1,4 @@
-//! Traces that are told otherwise than they are.
+//! Traces as they are wanted while a script is played or driven: as they are, in words, or as JSON.
 ghost use Rattle.std.specs.Prelude.{◌≡◌, ◌↔◌, IfOk, IsTrue, false};
 ghost use Rattle.gp_script.specs.Playable.{IsPlayable};
 ghost use Rattle.gp_script.specs.View.{script_view};

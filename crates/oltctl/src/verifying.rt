@@ -1,4 +1,4 @@
-//! Whether a trace is one that a correct line terminal could have written.
+//! The command `verify`: whether a trace is one that a correct line terminal could have written.
 ghost use Rattle.std.specs.Prelude.{◌≡◌};
 ghost use Rattle.gp_report.specs.Report.{verify_status};
 ghost use Rattle.oltctl.specs.Replays.{IsCheckedBy};

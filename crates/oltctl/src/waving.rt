@@ -1,4 +1,4 @@
-//! A log that is written as a value change dump.
+//! The command `waves`: a log or a trace is written as a value change dump, to standard output.
 ghost use Rattle.std.specs.Prelude.{◌≡◌};
 ghost use Rattle.oltctl.specs.Statuses.{IsDumped, waves_status};
 
