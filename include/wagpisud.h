@@ -29,6 +29,12 @@
 extern "C" {
 #endif
 
+/* The version of the library, as `oltctl --version` has it: CHANGELOG.md says what came with which. */
+#define WP_VERSION "1.1.0"
+#define WP_VERSION_MAJOR 1
+#define WP_VERSION_MINOR 1
+#define WP_VERSION_PATCH 0
+
 /* What a call answers. */
 enum wp_status {
     WP_DONE = 0,
