@@ -1,4 +1,4 @@
-/* Times calls of the C library: the best of many short runs of each, in nanoseconds. docs/SPEED.md says how to build it. */
+/* Times calls of the C library: the best of many short runs of each, in nanoseconds. docs/PERF.md says how to build it. */
 #include "wagpisud.h"
 #include <stdio.h>
 #include <time.h>

@@ -23,7 +23,7 @@ static FORMATS: [&str; 2] = ["text", "json"];
 static SIDES: [&str; 2] = ["terminal", "units"];
 
 /// The version of the program, and of all crates of this repository.
-pub const VERSION: &str = "1.0.0";
+pub const VERSION: &str = "1.1.0";
 
 fn file<'a>(alloc: Global) -> Arg<'a>
     ensures rule { rule_of result ≡ file_rule }

@@ -12,7 +12,7 @@
 //! - `port.rt`: the port that is attacked. `tally.rt`: how many cases came out right.
 //!
 //! A new case is a line of its table. What a burst or a command has to be answered with is said in docs/MACHINE.md,
-//! which fault a script has in docs/FORMATS.md.
+//! which fault a script has in docs/SCRIPTS.md.
 //!
 //! With the checks of `rt try` it takes some minutes: `rt try --seconds 600`.
 #![tactic(auto)]
