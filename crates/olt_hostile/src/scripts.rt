@@ -1,5 +1,5 @@
 //! Tables of bytes and texts that are no script, or one with a fault or two, and the fault that is told of each
-//! (docs/FORMATS.md).
+//! (docs/SCRIPTS.md).
 
 use crate::tally::Tally;
 use gp_script::{ScriptError, ScriptFault, read_script};
