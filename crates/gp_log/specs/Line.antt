@@ -1,5 +1,5 @@
 -- What a line says: one of a log, or one of a trace (this profile's own rule). It comes without its line feed.
-use Rattle.std.specs.Prelude.{◌≡◌, ℕ, ◌<◌, ◌≤◌, ◌==◌, ◌&&◌, ◌||◌, not, Bool, true, false, List, [], ◌∷◌, length, ◌⊎◌, Result, Ok, Err, if◌then◌else◌}
+use Rattle.std.specs.Prelude.{◌≡◌, ℕ, ◌<◌, ◌≤◌, ◌==◌, ◌&&◌, Bool, true, false, List, [], ◌∷◌, length, ◌⊎◌, Result, Ok, Err, if◌then◌else◌}
 use Rattle.gp_machine.specs.declared.event.Event.{Event}
 use Rattle.gp_lines.specs.Trace.{SplitsLine}
 use Rattle.gp_lines.specs.Turn.{longest_line, is_remark, without_return}
@@ -54,10 +54,3 @@ abbrev pub says_nothing : LogLine → Bool
 says_nothing line.Remark = true
 says_nothing (line.Log port time said) = false
 says_nothing (line.Trace port is_frame first second) = false
-
--- each of these lines is read, and whether one of them says anything
-pub AreRead : List (List ℕ) → Bool → Type 0
-AreRead [] heard = heard ≡ false
-AreRead (text ∷ texts) heard =
-    (said : LogLine) × (rest : Bool) × Reads text (Ok said) × AreRead texts rest
-    × (heard ≡ (not (says_nothing said) || rest))

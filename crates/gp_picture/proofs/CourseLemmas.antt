@@ -6,9 +6,9 @@ use Rattle.std.specs.List.{All}
 use Rattle.gp_flow.specs.Lines.{DoesAll}
 use Rattle.gp_explain.specs.declared.fault.NoLine.{NoLine}
 use Rattle.gp_explain.specs.declared.fault.NoLine.TheVariants.{NotALine, TooLong}
-use Rattle.gp_log.specs.Line.{AreRead, Reads, says_nothing}
+use Rattle.gp_log.specs.Line.{Reads, says_nothing}
 use Rattle.gp_log.specs.declared.line.LogLine.{LogLine}
-use Rattle.gp_picture.specs.Drawing.{DrawState, Drawing, DrawsFrom, DrawsText, IsRead, IsUnread, ended_by}
+use Rattle.gp_picture.specs.Drawing.{AreRead, DrawState, Drawing, DrawsFrom, DrawsText, IsRead, IsUnread, ended_by}
 
 -- lines that are handed on whole
 abbrev pub wholes : List (List ℕ) → List (Option (List ℕ))

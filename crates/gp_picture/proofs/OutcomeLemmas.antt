@@ -14,7 +14,6 @@ use Rattle.gp_flow.specs.declared.fault.LinesFault.TheVariants as faults
 use Rattle.gp_flow.specs.Lines.{DoesAll, DoesSome, GetsAll, GetsPrefix, Leaves, Serves, ServesTo, ended_lines, handed, lines_of}
 use Rattle.gp_flow.proofs.LineLemmas.{ended_first, handed_none, handed_whole}
 use Rattle.gp_lines.specs.Turn.{longest_line}
-use Rattle.gp_log.specs.Line.{AreRead}
 use Rattle.gp_stream.specs.Sink.{SinkState, KeepsNothing}
 use Rattle.gp_stream.specs.Source.{SourceState, ReadsWhole}
 use Rattle.gp_stream.proofs.SinkLemmas.{takes_whole}
@@ -22,7 +21,7 @@ use Rattle.gp_explain.specs.declared.fault.ExplainFault.{ExplainFault}
 use Rattle.gp_explain.specs.declared.fault.ExplainFault.TheVariants.{Refused, Lines}
 use Rattle.gp_explain.specs.declared.fault.NoLine.{NoLine}
 use Rattle.gp_picture.specs.declared.running.PictureSum.{PictureSum}
-use Rattle.gp_picture.specs.Drawing.{DrawState, Drawing, IsRead, IsUnread, has_ended, opened}
+use Rattle.gp_picture.specs.Drawing.{AreRead, DrawState, Drawing, IsRead, IsUnread, has_ended, opened}
 use Rattle.gp_picture.specs.Outcome.{DrawsTrace, EndsAs, Ends, IsBegun, IsNone, IsRefused, WritesPicture}
 use Rattle.gp_picture.proofs.CourseLemmas.{Course, Fails, Halts, Runs, course, wholes}
 

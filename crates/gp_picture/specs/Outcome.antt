@@ -6,7 +6,6 @@ use Rattle.gp_flow.specs.declared.fault.LineFault.TheVariants.{OutOfMemory}
 use Rattle.gp_flow.specs.declared.fault.LinesFault.TheVariants as faults
 use Rattle.gp_flow.specs.Lines.{lines_of}
 use Rattle.gp_lines.specs.Turn.{longest_line}
-use Rattle.gp_log.specs.Line.{AreRead}
 use Rattle.gp_stream.specs.declared.sink.WriteStopped.{WriteStopped}
 use Rattle.gp_stream.specs.Sink.{SinkState, KeepsNothing, WritesWhole}
 use Rattle.gp_stream.specs.Source.{SourceState, ReadsWhole}
@@ -15,7 +14,7 @@ use Rattle.gp_explain.specs.declared.fault.ExplainFault.TheVariants.{Refused, Li
 use Rattle.gp_explain.specs.declared.fault.NoLine.{NoLine}
 use Rattle.gp_explain.specs.declared.fault.NoLine.TheVariants.{NotALine, TooLong}
 use Rattle.gp_picture.specs.declared.running.PictureSum.{PictureSum}
-use Rattle.gp_picture.specs.Drawing.{DrawState, IsRead, IsUnread}
+use Rattle.gp_picture.specs.Drawing.{AreRead, DrawState, IsRead, IsUnread}
 
 -- a whole SVG document (W3C, Scalable Vector Graphics 1.1). What stands in it is tested, and not said here.
 abbrev pub IsSvg : List ℕ → Type 0

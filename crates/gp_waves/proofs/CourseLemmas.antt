@@ -6,10 +6,10 @@ use Rattle.std.specs.List.{All}
 use Rattle.gp_flow.specs.Lines.{DoesAll}
 use Rattle.gp_explain.specs.declared.fault.NoLine.{NoLine}
 use Rattle.gp_explain.specs.declared.fault.NoLine.TheVariants.{NotALine, TooLong}
-use Rattle.gp_log.specs.Line.{AreRead, Reads, says_nothing}
+use Rattle.gp_log.specs.Line.{Reads, says_nothing}
 use Rattle.gp_log.specs.declared.line.LogLine.{LogLine}
 use Rattle.gp_waves.specs.Writing.{Grows, Written}
-use Rattle.gp_waves.specs.Dumping.{Dumping, IsRead, IsUnread, SaysFrom, SaysToText, WavesState, ended_by}
+use Rattle.gp_waves.specs.Dumping.{AreRead, Dumping, IsRead, IsUnread, SaysFrom, SaysToText, WavesState, ended_by}
 use Rattle.gp_waves.proofs.WritingLemmas.{grows_more, grows_none}
 
 -- lines that are handed on whole

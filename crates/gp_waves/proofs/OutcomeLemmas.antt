@@ -15,7 +15,6 @@ use Rattle.gp_flow.specs.Lines.{DoesAll, GetsAll, GetsPrefix, Leaves, Serves, Se
 use Rattle.gp_flow.proofs.AnswerLemmas.{all_of_some}
 use Rattle.gp_flow.proofs.LineLemmas.{ended_first, handed_none, handed_whole}
 use Rattle.gp_lines.specs.Turn.{longest_line}
-use Rattle.gp_log.specs.Line.{AreRead}
 use Rattle.gp_stream.specs.declared.sink.WriteStopped.{WriteStopped}
 use Rattle.gp_stream.specs.Sink.{SinkState, KeepsNothing, WritesWhole}
 use Rattle.gp_stream.specs.Source.{SourceState, ReadsWhole}
@@ -28,7 +27,7 @@ use Rattle.gp_dump.specs.Dump.{Continues, DumpState, IsDumpTo}
 use Rattle.gp_dump.specs.Head.{head_text}
 use Rattle.gp_dump.proofs.PartLemmas.{continues_none}
 use Rattle.gp_waves.specs.declared.running.WavesSum.{WavesSum}
-use Rattle.gp_waves.specs.Dumping.{Dumping, IsRead, IsUnread, Says, WavesState, has_ended}
+use Rattle.gp_waves.specs.Dumping.{AreRead, Dumping, IsRead, IsUnread, Says, WavesState, has_ended}
 use Rattle.gp_waves.specs.Writing.{Grows, GrowsAs, Written}
 use Rattle.gp_waves.specs.Outcome.{DumpsWaves, GetsDump, IsBegun, IsDump, IsFound, IsFoundBy, IsNone, IsRefused, IsRest, IsUnfinished, WritesRest}
 use Rattle.gp_waves.proofs.CourseLemmas.{Course, Fails, Halts, Runs, course, wholes}

@@ -1,5 +1,5 @@
 -- How far an input was read, and what was written meanwhile (this profile's own rule).
-use Rattle.std.specs.Prelude.{◌≡◌, ℕ, ◌+◌, ◌⊎◌, ◌||◌, not, Bool, List, [], Option, None, Some, is_some, Ok, Err}
+use Rattle.std.specs.Prelude.{◌≡◌, ℕ, ◌+◌, ◌⊎◌, ◌||◌, not, Bool, List, [], Option, None, Some, is_some, Ok, Err, ◌∷◌, false}
 use Rattle.gp_flow.specs.Lines.{Speech, WholeLines}
 use Rattle.gp_explain.specs.declared.fault.NoLine.{NoLine}
 use Rattle.gp_explain.specs.declared.fault.NoLine.TheVariants.{NotALine, TooLong}
@@ -11,6 +11,13 @@ use Rattle.gp_waves.specs.Writing.{Grows, Written}
 -- a line of a trace or a log, an empty one, or a remark
 abbrev pub IsRead : List ℕ → Type 0
 IsRead text = (line : LogLine) × Reads text (Ok line)
+
+-- each of these lines is read, and whether one of them says anything
+abbrev pub AreRead : List (List ℕ) → Bool → Type 0
+AreRead [] heard = heard ≡ false
+AreRead (text ∷ texts) heard =
+    (said : LogLine) × (rest : Bool) × Reads text (Ok said) × AreRead texts rest
+    × (heard ≡ (not (says_nothing said) || rest))
 
 -- any other line, and what is wrong with it
 abbrev pub IsUnread : List ℕ → Type 0

@@ -6,7 +6,6 @@ use Rattle.gp_flow.specs.declared.fault.LineFault.TheVariants.{OutOfMemory}
 use Rattle.gp_flow.specs.declared.fault.LinesFault.TheVariants as faults
 use Rattle.gp_flow.specs.Lines.{lines_of}
 use Rattle.gp_lines.specs.Turn.{longest_line}
-use Rattle.gp_log.specs.Line.{AreRead}
 use Rattle.gp_stream.specs.declared.sink.WriteStopped.{WriteStopped}
 use Rattle.gp_stream.specs.Sink.{SinkState, KeepsNothing, WritesWhole}
 use Rattle.gp_stream.specs.Source.{SourceState, ReadsWhole}
@@ -16,7 +15,7 @@ use Rattle.gp_explain.specs.declared.fault.NoLine.{NoLine}
 use Rattle.gp_explain.specs.declared.fault.NoLine.TheVariants.{NotALine, TooLong}
 use Rattle.gp_dump.specs.Dump.{IsDumpTo}
 use Rattle.gp_waves.specs.declared.running.WavesSum.{WavesSum}
-use Rattle.gp_waves.specs.Dumping.{IsRead, IsUnread, WavesState}
+use Rattle.gp_waves.specs.Dumping.{AreRead, IsRead, IsUnread, WavesState}
 use Rattle.gp_waves.specs.Writing.{Grows}
 
 -- a whole dump, of some ports and up to some time
