@@ -1,0 +1,3 @@
+pub mod JudgingLemmas
+pub mod ObjectLemmas
+pub mod PlayingLemmas
