@@ -24,11 +24,14 @@ mod checking;
 mod descriptors;
 mod explaining;
 mod joined;
+mod judging;
 mod observed;
 mod picturing;
 mod progress;
 mod reporting;
+mod scripts;
 mod telling;
+mod testing;
 mod ticking;
 mod verifying;
 mod waving;
@@ -66,6 +69,7 @@ use std::rt::{Clock, Env, Files};
 use std::sync::Wait;
 use std::thread::Threads;
 use telling::{drive_told, is_plain, play_so};
+use testing::test;
 use ticking::with_ticks;
 use verifying::verify;
 use waving::waves;
@@ -569,16 +573,16 @@ fn encode<R: AllocGlobal + Print + Eprint>(rt: &R, words: &[&str], upstream: boo
 }
 
 /// Does what is asked for, and answers the exit status.
-fn serve<R: AllocGlobal + Files + Print + Eprint + Input + Clock + Threads + Wait + Sync>(
-    rt: &R,
-    request: Request<'_, '_>,
-) -> u8
+fn serve<
+    R: AllocGlobal + Files + Print + Eprint + Input + Clock + Threads + Wait + Sync + Clone + Drop,
+>(rt: &R, request: Request<'_, '_>) -> u8
     ensures { IsServed request.entry result }
 {
     match request {
         Request::Replay { file, play } => replay(rt, file, play),
         Request::Drive { script, told, done } => drive(rt, script, told, done),
         Request::Check { files, manner } => end_check(rt, &check_files(rt, files, manner)),
+        Request::Test(wanted) => test(rt, &wanted),
         Request::Storm { file, play } => storm(rt, file, play),
         Request::Verify(wanted) => verify(rt, wanted),
         Request::Audit(wanted) => audit(rt, &wanted),
@@ -638,10 +642,9 @@ fn words_report(error: &io::Error) -> (&'static str, u8)
 }
 
 /// Does what the words of a command line ask for, and answers the exit status. The first word is the program's name.
-fn run_words<R: AllocGlobal + Files + Print + Eprint + Input + Clock + Threads + Wait + Sync>(
-    rt: &R,
-    words: &[String],
-) -> u8
+fn run_words<
+    R: AllocGlobal + Files + Print + Eprint + Input + Clock + Threads + Wait + Sync + Clone + Drop,
+>(rt: &R, words: &[String]) -> u8
     ensures ended { IsRun (map string_bytes words.now) result }
     ensures bound { result ≤ greatest_status }
 {
@@ -655,9 +658,20 @@ fn run_words<R: AllocGlobal + Files + Print + Eprint + Input + Clock + Threads +
 }
 
 /// Runs the command line, and answers the exit status.
-fn run<R: AllocGlobal + Env + Files + Print + Eprint + Input + Clock + Threads + Wait + Sync>(
-    rt: &R,
-) -> u8
+fn run<
+    R: AllocGlobal
+        + Env
+        + Files
+        + Print
+        + Eprint
+        + Input
+        + Clock
+        + Threads
+        + Wait
+        + Sync
+        + Clone
+        + Drop,
+>(rt: &R) -> u8
     ensures { result ≤ greatest_status }
 {
     let input = hold(rt);
