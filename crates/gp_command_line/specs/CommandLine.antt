@@ -4,6 +4,7 @@
 -- `oltctl storm [--explain] [--progress] [FILE]`
 -- `oltctl drive [--explain] [--done] [FORM] FILE`
 -- `oltctl check [--storm] [-q] [--format text|json] FILE..`
+-- `oltctl test [--bless] [--jobs N] [--junit FILE] [--format text|json] [-q] FOLDER..`
 -- `oltctl verify [--explain] [--at-least N] [--progress] [--words] [--format text|json] FILE [TRACE]`
 -- `oltctl audit [JUDGED] [--side terminal|units] [--only RULES].. [--without RULES].. [--words] [--units]
 -- [--format text|json] [--progress] [LOG]`
@@ -16,9 +17,12 @@ use Rattle.std.specs.Prelude.{◌≡◌, List, [], ◌∷◌, Option, None, Some
 use Rattle.std.specs.Borrow.{Bor}
 use Rattle.std.specs.Str.{bytes_eq}
 use Rattle.clap.specs.Simple.{on_top}
-use Rattle.clap.specs.Words.{App, IsAmong, Rule, Text, fault_of, new_app, new_rule, with_rule, with_subcommand, subcommand_of, subcommand_rows_of}
+use Rattle.clap.specs.Words.{App, IsAmong, Rule, Text, app_of, fault_of, new_app, new_rule, rule_of, with_rule, with_subcommand, subcommand_of, subcommand_rows_of}
 use Rattle.clap.specs.declared.builder.action.ArgAction.TheVariants.{Append, SetTrue}
-use Rattle.clap.specs.declared.builder.value_parser.ValueParser.TheVariants.{Names, Unsigned}
+use Rattle.clap.specs.declared.builder.arg.Arg.{Arg}
+use Rattle.clap.specs.declared.builder.command.Command.{Command}
+use Rattle.clap.specs.declared.builder.command.Command.TheViews.{out-Command as fields_of}
+use Rattle.clap.specs.declared.builder.value_parser.ValueParser.TheVariants.{Names as OneOf, Unsigned}
 use Rattle.clap.specs.declared.error.kind.ErrorKind.{ErrorKind}
 use Rattle.clap.specs.declared.parser.matches.ArgMatches.{ArgMatches}
 use Rattle.gp_ploam.specs.declared.check.Mask.{Mask}
@@ -26,315 +30,204 @@ use Rattle.gp_ploam.specs.declared.check.Mask.TheVariants as masks
 use Rattle.gp_explain.specs.declared.form.Form.{Form}
 use Rattle.gp_explain.specs.declared.form.Form.TheVariants.{Plain, Words, Json}
 
--- the names of the masks that a code may be read with, as clap holds them
-abbrev pub MaskNames : Type 0
-MaskNames = Bor (List (Bor Text))
+-- names that a value has to be among, as clap holds them
+abbrev pub Names : Type 0
+Names = Bor (List (Bor Text))
 
--- they are these: 85 may be written as the octet that it is
-abbrev pub AreMasks : MaskNames → Type 0
-AreMasks names = map (λ name. name.now) names.now ≡ codes "0" ∷ codes "85" ∷ codes "0x55" ∷ []
+-- those of the values of `--format`, of `--mask` and of `--side`
+pub record Choices : Type 0 where
+  pub formats : Names
+  pub masks : Names
+  pub sides : Names
 
--- the names of the formats in which a trace may be written, as clap holds them
-abbrev pub FormatNames : Type 0
-FormatNames = Bor (List (Bor Text))
-
--- they are these two
-abbrev pub AreFormats : FormatNames → Type 0
-AreFormats names = map (λ name. name.now) names.now ≡ codes "text" ∷ codes "json" ∷ []
-
--- the names of the sides whose findings an audit may tell alone, as clap holds them
-abbrev pub SideNames : Type 0
-SideNames = Bor (List (Bor Text))
-
--- they are these two
-abbrev pub AreSides : SideNames → Type 0
-AreSides names = map (λ name. name.now) names.now ≡ codes "terminal" ∷ codes "units" ∷ []
+-- they are these: the mask 85 may be written as the octet that it is
+pub record AreChoices (choices : Choices) : Type 0 where
+  pub formats : map (λ name. name.now) choices.formats.now ≡ codes "text" ∷ codes "json" ∷ []
+  pub masks : map (λ name. name.now) choices.masks.now ≡ codes "0" ∷ codes "85" ∷ codes "0x55" ∷ []
+  pub sides : map (λ name. name.now) choices.sides.now ≡ codes "terminal" ∷ codes "units" ∷ []
 
 -- a flag of this name
-abbrev pub flag_rule : Text → Rule
+unfoldable pub flag_rule : Text → Rule
 flag_rule name = record (new_rule name) { long = Some name; action = Some SetTrue }
 
--- `--format`, text where it is left out
-abbrev pub format_rule : FormatNames → Rule
-format_rule names =
-    record (new_rule (codes "format"))
-    { long = Some (codes "format"); value_names = 1; parser = Some (Names names); defaults = codes "text" ∷ [] }
-
--- FILE, one at least
-abbrev pub files_rule : Rule
-files_rule = record (new_rule (codes "files")) { value_names = 1; required = true; action = Some Append }
-
--- FILE, which may be left out
-abbrev pub file_rule : Rule
-file_rule = record (new_rule (codes "file")) { value_names = 1 }
-
--- `--up`
-abbrev pub up_rule : Rule
-up_rule = flag_rule (codes "up")
-
--- `--mask`, 0 where it is left out
-abbrev pub mask_rule : MaskNames → Rule
-mask_rule names =
-    record (new_rule (codes "mask"))
-    { long = Some (codes "mask"); value_names = 1; parser = Some (Names names); defaults = codes "0" ∷ [] }
-
--- HEX, as often as there are codes
-abbrev pub code_rule : Rule
-code_rule = record (new_rule (codes "code")) { value_names = 1; action = Some Append }
-
--- WORDS, as many as there are
-abbrev pub words_rule : Rule
-words_rule = record (new_rule (codes "words")) { value_names = 1; action = Some Append }
-
--- the script of a drive or of a verification, which is required
-abbrev pub script_rule : Rule
-script_rule = record (new_rule (codes "script")) { value_names = 1; required = true }
-
--- TRACE, which may be left out
-abbrev pub trace_rule : Rule
-trace_rule = record (new_rule (codes "trace")) { value_names = 1 }
-
--- a command with `--time` and `--format`
-abbrev pub with_form : App → FormatNames → App
-with_form app names = with_rule (with_rule app (flag_rule (codes "time"))) (format_rule names)
-
--- a command with `--words` too
-abbrev pub with_words : App → FormatNames → App
-with_words app names = with_form (with_rule app (flag_rule (codes "words"))) names
-
--- `replay` up to the form of its trace
-abbrev pub replay_flags : App
-replay_flags = with_rule (with_rule (new_app (codes "replay")) (flag_rule (codes "explain"))) (flag_rule (codes "progress"))
-
-abbrev pub replay_command : FormatNames → App
-replay_command names = with_rule (with_words replay_flags names) file_rule
-
--- `drive` up to the form of its trace
-abbrev pub drive_flags : App
-drive_flags = with_rule (with_rule (new_app (codes "drive")) (flag_rule (codes "explain"))) (flag_rule (codes "done"))
-
-abbrev pub drive_command : FormatNames → App
-drive_command names = with_rule (with_words drive_flags names) script_rule
-
--- `--quiet`, or `-q`
-abbrev pub quiet_rule : Rule
-quiet_rule = record (flag_rule (codes "quiet")) { short = Some 113 }
-
--- `check` up to the form of its lines
-abbrev pub check_flags : App
-check_flags = with_rule (with_rule (new_app (codes "check")) (flag_rule (codes "storm"))) quiet_rule
-
-abbrev pub check_command : FormatNames → App
-check_command names = with_rule (with_rule check_flags (format_rule names)) files_rule
-
-abbrev pub storm_command : App
-storm_command =
-    with_rule
-    (with_rule (with_rule (new_app (codes "storm")) (flag_rule (codes "explain"))) (flag_rule (codes "progress"))) file_rule
-
 -- an option with a value, of this name
-abbrev pub valued_rule : Text → Rule
+unfoldable pub valued_rule : Text → Rule
 valued_rule name = record (new_rule name) { long = Some name; value_names = 1 }
 
 -- the same, whose value is a number that has no least
-abbrev pub number_rule : Text → Rule
+unfoldable pub number_rule : Text → Rule
 number_rule name = record (valued_rule name) { parser = Some (Unsigned 0 18446744073709551615) }
 
--- `verify` up to the form of what it says
-abbrev pub verify_flags : App
-verify_flags =
-    with_rule
-    (with_rule (with_rule (new_app (codes "verify")) (flag_rule (codes "explain"))) (number_rule (codes "at-least")))
-    (flag_rule (codes "progress"))
-
--- the same with the form of what it says
-abbrev pub verify_form : FormatNames → App
-verify_form names = with_rule (with_rule verify_flags (flag_rule (codes "words"))) (format_rule names)
-
-abbrev pub verify_command : FormatNames → App
-verify_command names = with_rule (with_rule (verify_form names) script_rule) trace_rule
-
--- an option with a value that may be given more than once, of this name
-abbrev pub repeated_rule : Text → Rule
+-- the same, which may be given more than once
+unfoldable pub repeated_rule : Text → Rule
 repeated_rule name = record (valued_rule name) { action = Some Append }
 
--- `--side`, one of these
-abbrev pub side_rule : SideNames → Rule
-side_rule names = record (valued_rule (codes "side")) { parser = Some (Names names) }
+-- the same, whose value is one of these names
+unfoldable pub choice_rule : Text → Names → Rule
+choice_rule name names = record (valued_rule name) { parser = Some (OneOf names) }
 
--- LOG, which may be left out
-abbrev pub log_rule : Rule
-log_rule = record (new_rule (codes "log")) { value_names = 1 }
+-- a value that stands alone and may be left out
+unfoldable pub positional_rule : Text → Rule
+positional_rule name = record (new_rule name) { value_names = 1 }
 
--- `audit` with what delays are judged by
-abbrev pub audit_delays : App
-audit_delays =
-    with_rule (with_rule (new_app (codes "audit")) (repeated_rule (codes "teqd"))) (number_rule (codes "drift"))
+-- one that is required
+unfoldable pub required_rule : Text → Rule
+required_rule name = record (positional_rule name) { required = true }
 
--- the same with all that messages are judged by
-abbrev pub audit_judged : MaskNames → App
-audit_judged masks = with_rule (with_rule audit_delays (flag_rule (codes "midway"))) (mask_rule masks)
+-- as many as there are
+unfoldable pub several_rule : Text → Rule
+several_rule name = record (positional_rule name) { action = Some Append }
 
--- the same with the side whose findings are told
-abbrev pub audit_side : MaskNames → SideNames → App
-audit_side masks sides = with_rule (audit_judged masks) (side_rule sides)
+-- `--format`, text where it is left out
+unfoldable pub format_rule : Names → Rule
+format_rule formats = record (choice_rule (codes "format") formats) { defaults = codes "text" ∷ [] }
 
--- the same with the rules that are told
-abbrev pub audit_rules : MaskNames → SideNames → App
-audit_rules masks sides =
-    with_rule (with_rule (audit_side masks sides) (repeated_rule (codes "only"))) (repeated_rule (codes "without"))
+-- `--mask`, 0 where it is left out
+unfoldable pub mask_rule : Names → Rule
+mask_rule masks = record (choice_rule (codes "mask") masks) { defaults = codes "0" ∷ [] }
 
--- the same with what is told besides
-abbrev pub audit_told : MaskNames → SideNames → App
-audit_told masks sides =
-    with_rule (with_rule (audit_rules masks sides) (flag_rule (codes "words"))) (flag_rule (codes "units"))
+-- `--quiet`, or `-q`
+unfoldable pub quiet_rule : Rule
+quiet_rule = record (flag_rule (codes "quiet")) { short = Some 113 }
 
--- the same with how it is told
-abbrev pub audit_form : MaskNames → SideNames → FormatNames → App
-audit_form masks sides formats = with_rule (audit_told masks sides) (format_rule formats)
+-- FILE, one at least
+unfoldable pub files_rule : Rule
+files_rule = record (several_rule (codes "files")) { required = true }
 
-abbrev pub audit_command : MaskNames → SideNames → FormatNames → App
-audit_command masks sides formats =
-    with_rule (with_rule (audit_form masks sides formats) (flag_rule (codes "progress"))) log_rule
+-- FOLDER, one at least
+unfoldable pub folders_rule : Rule
+folders_rule = record (several_rule (codes "folders")) { required = true }
 
--- `decode` up to its mask
-abbrev pub decode_flags : App
-decode_flags =
-    with_rule (with_rule (with_rule (new_app (codes "decode")) up_rule) (flag_rule (codes "both")))
-    (flag_rule (codes "names"))
+-- a command with these arguments too
+abbrev pub with_rules : App → List Rule → App
+with_rules app [] = app
+with_rules app (rule ∷ rules) = with_rules (with_rule app rule) rules
 
-abbrev pub decode_command : MaskNames → App
-decode_command names = with_rule (with_rule decode_flags (mask_rule names)) code_rule
+-- a command of this name, with these arguments
+unfoldable pub command : Text → List Rule → App
+command name rules = with_rules (new_app name) rules
 
-abbrev pub encode_command : MaskNames → App
-encode_command names =
-    with_rule (with_rule (with_rule (new_app (codes "encode")) up_rule) (mask_rule names)) words_rule
+abbrev pub replay_rules : Names → List Rule
+replay_rules formats =
+    flag_rule (codes "explain") ∷ flag_rule (codes "progress") ∷ flag_rule (codes "words") ∷ flag_rule (codes "time")
+    ∷ format_rule formats ∷ positional_rule (codes "file") ∷ []
 
--- `explain` with how it is told
-abbrev pub explain_form : MaskNames → FormatNames → App
-explain_form masks formats = with_form (with_rule (new_app (codes "explain")) (mask_rule masks)) formats
+abbrev pub storm_rules : List Rule
+storm_rules = flag_rule (codes "explain") ∷ flag_rule (codes "progress") ∷ positional_rule (codes "file") ∷ []
 
-abbrev pub explain_command : MaskNames → FormatNames → App
-explain_command masks formats =
-    with_rule (with_rule (explain_form masks formats) (flag_rule (codes "log"))) trace_rule
+abbrev pub drive_rules : Names → List Rule
+drive_rules formats =
+    flag_rule (codes "explain") ∷ flag_rule (codes "done") ∷ flag_rule (codes "words") ∷ flag_rule (codes "time")
+    ∷ format_rule formats ∷ required_rule (codes "script") ∷ []
 
--- `picture` with the frames that are drawn
-abbrev pub picture_frames : App
-picture_frames =
-    with_rule (with_rule (new_app (codes "picture")) (number_rule (codes "from"))) (number_rule (codes "to"))
+abbrev pub check_rules : Names → List Rule
+check_rules formats = flag_rule (codes "storm") ∷ quiet_rule ∷ format_rule formats ∷ files_rule ∷ []
 
--- the same with what delays are judged by
-abbrev pub picture_delays : App
-picture_delays = with_rule (with_rule picture_frames (repeated_rule (codes "teqd"))) (number_rule (codes "drift"))
+abbrev pub test_rules : Names → List Rule
+test_rules formats =
+    number_rule (codes "jobs") ∷ flag_rule (codes "bless") ∷ valued_rule (codes "junit") ∷ quiet_rule
+    ∷ format_rule formats ∷ folders_rule ∷ []
 
--- the same with all that messages are judged by
-abbrev pub picture_judged : MaskNames → App
-picture_judged masks = with_rule (with_rule picture_delays (flag_rule (codes "midway"))) (mask_rule masks)
+abbrev pub verify_rules : Names → List Rule
+verify_rules formats =
+    flag_rule (codes "explain") ∷ number_rule (codes "at-least") ∷ flag_rule (codes "progress")
+    ∷ flag_rule (codes "words") ∷ format_rule formats ∷ required_rule (codes "script")
+    ∷ positional_rule (codes "trace") ∷ []
 
-abbrev pub picture_command : MaskNames → App
-picture_command masks = with_rule (picture_judged masks) log_rule
+abbrev pub audit_rules : Choices → List Rule
+audit_rules choices =
+    repeated_rule (codes "teqd") ∷ number_rule (codes "drift") ∷ flag_rule (codes "midway") ∷ mask_rule choices.masks
+    ∷ choice_rule (codes "side") choices.sides ∷ repeated_rule (codes "only") ∷ repeated_rule (codes "without")
+    ∷ flag_rule (codes "words") ∷ flag_rule (codes "units") ∷ format_rule choices.formats
+    ∷ flag_rule (codes "progress") ∷ positional_rule (codes "log") ∷ []
 
--- `waves` with the frames that are dumped
-abbrev pub waves_frames : App
-waves_frames = with_rule (with_rule (new_app (codes "waves")) (number_rule (codes "from"))) (number_rule (codes "to"))
+abbrev pub picture_rules : Names → List Rule
+picture_rules masks =
+    number_rule (codes "from") ∷ number_rule (codes "to") ∷ repeated_rule (codes "teqd") ∷ number_rule (codes "drift")
+    ∷ flag_rule (codes "midway") ∷ mask_rule masks ∷ positional_rule (codes "log") ∷ []
 
-abbrev pub waves_command : MaskNames → App
-waves_command masks =
-    with_rule (with_rule (with_rule waves_frames (flag_rule (codes "midway"))) (mask_rule masks)) log_rule
+abbrev pub waves_rules : Names → List Rule
+waves_rules masks =
+    number_rule (codes "from") ∷ number_rule (codes "to") ∷ flag_rule (codes "midway") ∷ mask_rule masks
+    ∷ positional_rule (codes "log") ∷ []
 
--- the names of the formats, of the masks and of the sides of each command about scripts, lines, traces and logs that
--- takes them
-pub record LogNames : Type 0 where
-  pub replay : FormatNames
-  pub drive : FormatNames
-  pub check : FormatNames
-  pub verify : FormatNames
-  pub audit : MaskNames
-  pub audit_side : SideNames
-  pub audit_format : FormatNames
+abbrev pub explain_rules : Names → Names → List Rule
+explain_rules masks formats =
+    mask_rule masks ∷ flag_rule (codes "time") ∷ format_rule formats ∷ flag_rule (codes "log")
+    ∷ positional_rule (codes "trace") ∷ []
 
-pub record AreLogNames (names : LogNames) : Type 0 where
-  pub replay : AreFormats names.replay
-  pub drive : AreFormats names.drive
-  pub check : AreFormats names.check
-  pub verify : AreFormats names.verify
-  pub audit : AreMasks names.audit
-  pub audit_side : AreSides names.audit_side
-  pub audit_format : AreFormats names.audit_format
+abbrev pub decode_rules : Names → List Rule
+decode_rules masks =
+    flag_rule (codes "up") ∷ flag_rule (codes "both") ∷ flag_rule (codes "names") ∷ mask_rule masks
+    ∷ several_rule (codes "code") ∷ []
 
--- the same of each command
-pub record AllNames : Type 0 where
-  pub logs : LogNames
-  pub picture : MaskNames
-  pub waves : MaskNames
-  pub explain_format : FormatNames
-  pub explain : MaskNames
-  pub decode : MaskNames
-  pub encode : MaskNames
+abbrev pub encode_rules : Names → List Rule
+encode_rules masks = flag_rule (codes "up") ∷ mask_rule masks ∷ several_rule (codes "words") ∷ []
 
-pub record AreAllNames (names : AllNames) : Type 0 where
-  pub logs : AreLogNames names.logs
-  pub picture : AreMasks names.picture
-  pub waves : AreMasks names.waves
-  pub explain_format : AreFormats names.explain_format
-  pub explain : AreMasks names.explain
-  pub decode : AreMasks names.decode
-  pub encode : AreMasks names.encode
-
--- the program as far as it is about scripts: one of its commands has to be named, or `--version`; with no words at all
--- the help is shown
-abbrev pub script_commands : FormatNames → App
-script_commands names =
-    with_subcommand
-    (with_subcommand (on_top (λ s. record s {
+-- the program with no command yet: one of its commands has to be named, or `--version`; with no words at all the help
+-- is shown
+unfoldable pub oltctl : App
+oltctl =
+    on_top (λ s. record s {
       has_version = true;
       subcommand_required = true;
       arg_required_else_help = true;
     })
-    (new_app (codes "oltctl"))) (replay_command names).top) storm_command.top
+    (new_app (codes "oltctl"))
 
--- the program as far as it is about scripts and lines that ask for something
-abbrev pub line_commands : FormatNames → FormatNames → App
-line_commands replay drive = with_subcommand (script_commands replay) (drive_command drive).top
+-- a program with these commands too
+abbrev pub with_commands : App → List App → App
+with_commands app [] = app
+with_commands app (next ∷ others) = with_commands (with_subcommand app next.top) others
 
--- the program as far as it is about scripts, lines and traces
-abbrev pub trace_commands : FormatNames → FormatNames → FormatNames → FormatNames → App
-trace_commands replay drive check verify =
-    with_subcommand (with_subcommand (line_commands replay drive) (check_command check).top)
-    (verify_command verify).top
+-- the commands about scripts
+abbrev pub script_commands : Names → List App
+script_commands formats =
+    command (codes "replay") (replay_rules formats) ∷ command (codes "storm") storm_rules
+    ∷ command (codes "drive") (drive_rules formats) ∷ command (codes "check") (check_rules formats)
+    ∷ command (codes "test") (test_rules formats) ∷ []
 
--- the program as far as it is about scripts, lines, traces and logs
-abbrev pub log_commands : LogNames → App
-log_commands names =
-    with_subcommand (trace_commands names.replay names.drive names.check names.verify)
-    (audit_command names.audit names.audit_side names.audit_format).top
+-- those about traces and logs
+abbrev pub log_commands : Choices → List App
+log_commands choices =
+    command (codes "verify") (verify_rules choices.formats) ∷ command (codes "audit") (audit_rules choices)
+    ∷ command (codes "picture") (picture_rules choices.masks) ∷ command (codes "waves") (waves_rules choices.masks)
+    ∷ []
 
--- the same with the commands that draw
-abbrev pub drawn_commands : LogNames → MaskNames → MaskNames → App
-drawn_commands logs picture waves =
-    with_subcommand (with_subcommand (log_commands logs) (picture_command picture).top) (waves_command waves).top
+-- those that say codes in words
+abbrev pub word_commands : Names → Names → List App
+word_commands masks formats =
+    command (codes "explain") (explain_rules masks formats) ∷ command (codes "decode") (decode_rules masks)
+    ∷ command (codes "encode") (encode_rules masks) ∷ []
 
 -- the whole program
-abbrev pub oltctl_command : AllNames → App
-oltctl_command names =
-    with_subcommand
-    (with_subcommand
-    (with_subcommand (drawn_commands names.logs names.picture names.waves)
-    (explain_command names.explain names.explain_format).top)
-    (decode_command names.decode).top) (encode_command names.encode).top
+unfoldable pub oltctl_command : Choices → App
+oltctl_command choices =
+    with_commands (with_commands (with_commands oltctl (script_commands choices.formats)) (log_commands choices))
+    (word_commands choices.masks choices.formats)
+
+-- an argument of this rule, which subcommands don't have too
+pub record HasRule (rule : Rule) (arg : Arg) : Type 0 where
+  pub is : rule_of arg ≡ rule
+  pub local : arg.global ≡ false
+
+-- a command that reads words like this, without an argument that subcommands have too
+pub record ReadsAs (app : App) (made : Command) : Type 0 where
+  pub is : app_of made ≡ app
+  pub local : (fields_of made).has_globals ≡ false
 
 -- the words have no fault, and what was parsed is the subcommand that they name, with the values that they give it
 pub record IsParseOf (words : List Text) (m : ArgMatches) : Type 0 where
-  pub names : AllNames
-  pub are : AreAllNames names
-  pub faultless : fault_of (oltctl_command names) words ≡ []
-  pub found : subcommand_rows_of m ≡ subcommand_of (oltctl_command names) words
+  pub choices : Choices
+  pub are : AreChoices choices
+  pub faultless : fault_of (oltctl_command choices) words ≡ []
+  pub found : subcommand_rows_of m ≡ subcommand_of (oltctl_command choices) words
 
 -- this is what is wrong with the words, or that help was asked for
 pub record IsFaultOf (words : List Text) (kind : ErrorKind) : Type 0 where
-  pub names : AllNames
-  pub are : AreAllNames names
-  pub among : IsAmong kind (fault_of (oltctl_command names) words)
+  pub choices : Choices
+  pub are : AreChoices choices
+  pub among : IsAmong kind (fault_of (oltctl_command choices) words)
 
 -- the mask that a name stands for: 85, which is 0x55, is the other mask, and everything else the plain one, as where
 -- there is none
