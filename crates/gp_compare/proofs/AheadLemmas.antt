@@ -48,8 +48,9 @@ fills_read a new buffer count x none unfailed reads some =
     }
 
 -- the same of what is seen of it
-pub fills_seen : {R T E F : Type 0} (a b : AheadState R) (new : SourceState R) (buffer : List ℕ) (count : ℕ) (x : T) → b ≡ a → b.rest ≡ [] → b.source.failed ≡ false
-    → Reads {E = F} b.source new buffer (Ok count) → 0 < length buffer → Fills {T = T} {E = E} a (record { source = new; rest = slice_range buffer 0 count }) (Ok x)
-fills_seen {R = R} {T = T} {E = E} a b new buffer count x same none unfailed reads some =
-    subst (λ (s : AheadState R). Fills {T = T} {E = E} s (record { source = new; rest = slice_range buffer 0 count }) (Ok x)) same
-    (fills_read b new buffer count x none unfailed reads some)
+pub fills_seen : {R T E F : Type 0} (a b : AheadState R) (new : SourceState R) (block buffer : List ℕ) (count : ℕ) (x : T) → block ≡ buffer → b ≡ a → b.rest ≡ [] → b.source.failed ≡ false
+    → Reads {E = F} b.source new buffer (Ok count) → 0 < length buffer → Fills {T = T} {E = E} a (record { source = new; rest = slice_range block 0 count }) (Ok x)
+fills_seen {R = R} {T = T} {E = E} a b new block buffer count x is same none unfailed reads some =
+    subst (λ (l : List ℕ). Fills {T = T} {E = E} a (record { source = new; rest = slice_range l 0 count }) (Ok x)) (sym is)
+    (subst (λ (s : AheadState R). Fills {T = T} {E = E} s (record { source = new; rest = slice_range buffer 0 count }) (Ok x)) same
+    (fills_read b new buffer count x none unfailed reads some))

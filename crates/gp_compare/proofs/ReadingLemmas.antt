@@ -1,5 +1,5 @@
 -- What is expected, read on.
-use Rattle.std.proofs.Common.{◌≡◌, ◌≢◌, ◌≤◌, ◌<◌, ◌⊎◌, ℕ, ◌+◌, ◌-◌, List, [], ◌∷◌, ◌++◌, Option, None, Some, refl, sym, ap, subst, ◌∙◌, take, drop, length, arith, append_assoc, append-nil, inl, inr, slice_index}
+use Rattle.std.proofs.Common.{◌≡◌, ◌≢◌, ◌≤◌, ◌<◌, ◌⊎◌, ℕ, ◌+◌, ◌-◌, List, [], ◌∷◌, ◌++◌, Option, None, Some, refl, sym, ap, subst, ◌∙◌, take, drop, length, length-drop, arith, append_assoc, append-nil, inl, inr, slice_index}
 use Rattle.std.proofs.lemmas.List.{take-append-drop}
 use Rattle.std.specs.Io.KnownBytes.{Consumes, IsAtEnd, Keeps}
 use Rattle.std.proofs.KnownBytes.{Consumes-nil, Consumes-trans}
@@ -46,6 +46,17 @@ showing_more a b c d s t u h some shows same none octets reads over =
       over = over;
       kept = λ empty. absurd (some (ap (λ x. x.rest) (h.kept empty).1 ∙ empty));
     }
+
+-- all of the rest was passed
+none_left : (xs : List ℕ) → length xs ≡ 0 → xs ≡ []
+none_left [] e = refl
+none_left (x ∷ xs) e = absurd (omega arith)
+
+pub passed_all : (xs ys zs : List ℕ) → zs ≡ drop (length ys) xs → ys ≡ xs → zs ≡ []
+passed_all xs ys zs e same =
+    let long : length zs ≡ length xs - length ys = ap length e ∙ length-drop (length ys) xs in
+    let both : length ys ≡ length xs = ap length same in
+    none_left zs (omega arith)
 
 -- all of it was shown, or the line is whole
 pub showing_ends : {R : Type 0} (a b : AheadState R) (s t : Shown) → Showing a b s t → (t.end ≢ Text) ⊎ (b.rest ≡ []) → ShowsRest a b s t

@@ -12,4 +12,4 @@ returns-then-self-clause-fills g c =
 pub returns-in-Ok-clause-fills : goal.returns-in-Ok-clause-fills
 returns-in-Ok-clause-fills g c =
     let unfailed : c.self.inside.source.failed ≡ false = search rules in
-    fills_seen _ _ _ _ _ _ c.self.view_is (range_none _ _ _ c.if-self.false) unfailed c.in-Ok.ensures (search rules)
+    fills_seen _ _ _ _ _ _ _ (search rules) c.self.view_is (range_none _ _ _ c.if-self.false) unfailed c.in-Ok.ensures (search rules)

@@ -6,7 +6,7 @@ use Rattle.gp_compare.proofs.place.Place.pass.Goals as goal
 
 pub overflow_add-rest : goal.overflow_add-rest
 overflow_add-rest c =
-    let low : c.in-Some.at < length c.lines.rest.now = c.in-Some.ensures.0 in
+    let low : c.in-Some.at < length c.lines.rest.now = c.in-Some.ensures.0.high in
     let within : length c.lines.rest.now ≤ length c.args.octets.now = c.lines.invariant.within in
     search rules
 
