@@ -40,7 +40,7 @@ pub(crate) fn report_count<R: Eprint>(rt: &R, told: (&'static str, u8), count: u
 /// Answers the exit status after a log that was read to its end, and says on standard error where no line of it says
 /// anything.
 pub(crate) fn heard_status<R: Eprint>(rt: &R, heard: bool) -> u8
-    ensures { result ≡ spec_heard_status heard.entry }
+    ensures { result ≡ spec_heard_status heard }
 {
     if heard {
         SUCCESS
