@@ -1,5 +1,5 @@
 -- The fault that is told of one code is the one that the code has.
-use Rattle.std.proofs.Common.{◌≡◌, ℕ, ◌++◌, Bool, true, false, List, None, Some, Option, Ok, codes, refl, sym, ap, subst}
+use Rattle.std.proofs.Common.{◌≡◌, ℕ, ◌++◌, Bool, true, false, List, None, Some, Option, Ok, codes, refl, ap, subst}
 use Rattle.std.specs.Prelude.{◌↔◌}
 use Rattle.hex.specs.Hex.{decode_of}
 use Rattle.gp_ploam.specs.declared.check.Mask.{Mask}

@@ -1,5 +1,5 @@
 -- Lines of codes that are answered by objects.
-use Rattle.std.proofs.Common.{◌≡◌, ℕ, ◌+◌, Bool, true, false, List, None, Some, Option, Result, Ok, Err, IsErrAnd, inr, refl, sym, subst}
+use Rattle.std.proofs.Common.{◌≡◌, ℕ, ◌+◌, Bool, false, List, None, Some, Option, Result, Ok, Err, IsErrAnd, inr, refl, sym, subst}
 use Rattle.gp_flow.specs.declared.fault.LineFault.{LineFault as Unanswered}
 use Rattle.gp_flow.specs.declared.fault.LineFault.TheVariants.{Write}
 use Rattle.gp_flow.specs.Lines.{Answers}
