@@ -5,8 +5,8 @@
 //!
 //! - `entry.rt`: `entry_is_told`. `held.rt`: what the types of an entry hold, by which its parts are told.
 //!
-//! Where to make which change: a new word of `gp_trace` needs its place in `specs/Slots.antt` of `gp_json`, and the law's
-//! case in `proofs/EventLemmas.antt` or `proofs/AnswerLemmas.antt`.
+//! Where to make which change: a new word of `gp_trace` needs its place among the slots of `gp_json`, and its case in the
+//! proof, in `proofs/EventLemmas.antt` or `proofs/AnswerLemmas.antt`.
 #![tactic(auto)]
 
 mod entry;
