@@ -1,7 +1,7 @@
 -- The command line (this profile's own rule), where FORM is `[--words] [--time] [--format text|json]`, of `explain` without
 -- `--words`, MASK is `0`, `85` or `0x55`, and JUDGED `[--teqd T].. [--drift D] [--midway] [--mask MASK]`:
 -- `oltctl replay [--explain] [--progress] [FORM] [FILE]`
--- `oltctl storm [--explain] [--progress] [FILE]`
+-- `oltctl storm [--explain] [--progress] [--format text|json] [FILE]`
 -- `oltctl drive [--explain] [--done] [FORM] FILE`
 -- `oltctl check [--storm] [-q] [--format text|json] FILE..`
 -- `oltctl verify [--explain] [--at-least N] [--progress] [--words] [--format text|json] FILE [TRACE]`
@@ -10,8 +10,8 @@
 -- `oltctl picture [--from FRAME] [--to FRAME] [JUDGED] [LOG]`
 -- `oltctl waves [--from FRAME] [--to FRAME] [--midway] [--mask MASK] [LOG]`
 -- `oltctl explain [--mask MASK] [FORM] [--log] [TRACE]`
--- `oltctl decode [--up] [--both] [--names] [--mask MASK] [HEX..]`
--- `oltctl encode [--up] [--mask MASK] [WORDS..]`
+-- `oltctl decode [--up] [--both] [--names] [--mask MASK] [--format text|json] [HEX..]`
+-- `oltctl encode [--up] [--mask MASK] [--format text|json] [WORDS..]`
 use Rattle.std.specs.Prelude.{◌≡◌, List, [], ◌∷◌, Option, None, Some, map, Bool, true, false, codes, if◌then◌else◌, ◌||◌}
 use Rattle.std.specs.Borrow.{Bor}
 use Rattle.std.specs.Str.{bytes_eq}
@@ -107,8 +107,10 @@ replay_rules formats =
     flag_rule (codes "explain") ∷ flag_rule (codes "progress") ∷ flag_rule (codes "words") ∷ flag_rule (codes "time")
     ∷ format_rule formats ∷ positional_rule (codes "file") ∷ []
 
-abbrev pub storm_rules : List Rule
-storm_rules = flag_rule (codes "explain") ∷ flag_rule (codes "progress") ∷ positional_rule (codes "file") ∷ []
+abbrev pub storm_rules : Names → List Rule
+storm_rules formats =
+    flag_rule (codes "explain") ∷ flag_rule (codes "progress") ∷ format_rule formats ∷ positional_rule (codes "file")
+    ∷ []
 
 abbrev pub drive_rules : Names → List Rule
 drive_rules formats =
@@ -146,13 +148,14 @@ explain_rules masks formats =
     mask_rule masks ∷ flag_rule (codes "time") ∷ format_rule formats ∷ flag_rule (codes "log")
     ∷ positional_rule (codes "trace") ∷ []
 
-abbrev pub decode_rules : Names → List Rule
-decode_rules masks =
+abbrev pub decode_rules : Names → Names → List Rule
+decode_rules masks formats =
     flag_rule (codes "up") ∷ flag_rule (codes "both") ∷ flag_rule (codes "names") ∷ mask_rule masks
-    ∷ several_rule (codes "code") ∷ []
+    ∷ format_rule formats ∷ several_rule (codes "code") ∷ []
 
-abbrev pub encode_rules : Names → List Rule
-encode_rules masks = flag_rule (codes "up") ∷ mask_rule masks ∷ several_rule (codes "words") ∷ []
+abbrev pub encode_rules : Names → Names → List Rule
+encode_rules masks formats =
+    flag_rule (codes "up") ∷ mask_rule masks ∷ format_rule formats ∷ several_rule (codes "words") ∷ []
 
 -- the program with no command yet: one of its commands has to be named, or `--version`; with no words at all the help
 -- is shown
@@ -173,7 +176,7 @@ with_commands app (next ∷ others) = with_commands (with_subcommand app next.to
 -- the commands about scripts
 abbrev pub script_commands : Names → List App
 script_commands formats =
-    command (codes "replay") (replay_rules formats) ∷ command (codes "storm") storm_rules
+    command (codes "replay") (replay_rules formats) ∷ command (codes "storm") (storm_rules formats)
     ∷ command (codes "drive") (drive_rules formats) ∷ command (codes "check") (check_rules formats) ∷ []
 
 -- those about traces and logs
@@ -186,8 +189,8 @@ log_commands choices =
 -- those that say codes in words
 abbrev pub word_commands : Names → Names → List App
 word_commands masks formats =
-    command (codes "explain") (explain_rules masks formats) ∷ command (codes "decode") (decode_rules masks)
-    ∷ command (codes "encode") (encode_rules masks) ∷ []
+    command (codes "explain") (explain_rules masks formats) ∷ command (codes "decode") (decode_rules masks formats)
+    ∷ command (codes "encode") (encode_rules masks formats) ∷ []
 
 -- the whole program
 unfoldable pub oltctl_command : Choices → App

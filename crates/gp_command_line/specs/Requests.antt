@@ -88,11 +88,12 @@ AsksToCheck rows (Check files manner) =
     × IsFlag rows (codes "quiet") manner.quiet × (manner.json ≡ is_json (first_of (codes "format") rows))
 AsksToCheck rows _ = ⊥
 
--- the rows of `storm` ask for the storm of FILE, or of standard input where it is left out
+-- the rows of `storm` ask for the storm of FILE, or of standard input where it is left out, and for its totals as lines
+-- or as JSON
 abbrev pub AsksToStorm : List Row → Request → Type 0
 AsksToStorm rows (Storm file play) =
     (name_in file ≡ file_named (first_of (codes "file") rows)) × IsFlag rows (codes "explain") play.explain
-    × IsFlag rows (codes "progress") play.progress
+    × IsFlag rows (codes "progress") play.progress × (play.json ≡ is_json (first_of (codes "format") rows))
 AsksToStorm rows _ = ⊥
 
 -- the rows of `verify` ask to verify TRACE, or standard input where it is left out, against the script of FILE, and to
@@ -170,26 +171,27 @@ pub record AsksForDirection (rows : List Row) (direction : Direction) : Type 0 w
 
 -- the rows of `decode` ask for the words of one HEX, or of each of several or of standard input, as upstream messages
 -- with `--up`, under the mask of `--mask`; with `--both` each says itself whose message it is, and with `--names` names of
--- the standard are told too
+-- the standard are told too; by lines or as JSON
 abbrev pub AsksToDecode : List Row → Request → Type 0
-AsksToDecode rows (Decode code upstream mask names) =
+AsksToDecode rows (Decode code upstream mask names json) =
     (all_of (codes "code") rows ≡ Some (code.now ∷ [])) × IsFlag rows (codes "up") upstream
     × IsFlag rows (codes "both") false × (mask ≡ mask_named (first_of (codes "mask") rows))
-    × IsFlag rows (codes "names") names
-AsksToDecode rows (DecodeLines many direction mask names) =
+    × IsFlag rows (codes "names") names × (json ≡ is_json (first_of (codes "format") rows))
+AsksToDecode rows (DecodeLines many direction mask names json) =
     (option_map texts many ≡ all_of (codes "code") rows) × AsksForDirection rows direction
     × (mask ≡ mask_named (first_of (codes "mask") rows)) × IsFlag rows (codes "names") names
+    × (json ≡ is_json (first_of (codes "format") rows))
 AsksToDecode rows _ = ⊥
 
 -- the rows of `encode` ask for the code of WORDS, or where there are none or `-` alone of those of each line of standard
--- input, of upstream messages with `--up`, under the mask of `--mask`
+-- input, of upstream messages with `--up`, under the mask of `--mask`; as a line or as JSON
 abbrev pub AsksToEncode : List Row → Request → Type 0
-AsksToEncode rows (Encode words upstream mask) =
+AsksToEncode rows (Encode words upstream mask json) =
     (words_named (all_of (codes "words") rows) ≡ Some (texts words)) × IsFlag rows (codes "up") upstream
-    × (mask ≡ mask_named (first_of (codes "mask") rows))
-AsksToEncode rows (EncodeLines upstream mask) =
+    × (mask ≡ mask_named (first_of (codes "mask") rows)) × (json ≡ is_json (first_of (codes "format") rows))
+AsksToEncode rows (EncodeLines upstream mask json) =
     (words_named (all_of (codes "words") rows) ≡ None) × IsFlag rows (codes "up") upstream
-    × (mask ≡ mask_named (first_of (codes "mask") rows))
+    × (mask ≡ mask_named (first_of (codes "mask") rows)) × (json ≡ is_json (first_of (codes "format") rows))
 AsksToEncode rows _ = ⊥
 
 -- the rows of `explain` ask for TRACE in words, or for standard input where it is left out, under the mask of `--mask`;
@@ -215,14 +217,14 @@ Asks (Some (name, rows)) (Verify wanted) = (name ≡ codes "verify") × AsksToVe
 Asks (Some (name, rows)) (Audit wanted) = (name ≡ codes "audit") × AsksToAudit rows (Audit wanted)
 Asks (Some (name, rows)) (Picture wanted) = (name ≡ codes "picture") × AsksToPicture rows (Picture wanted)
 Asks (Some (name, rows)) (Waves wanted) = (name ≡ codes "waves") × AsksToDump rows (Waves wanted)
-Asks (Some (name, rows)) (Decode code upstream mask names) =
-    (name ≡ codes "decode") × AsksToDecode rows (Decode code upstream mask names)
-Asks (Some (name, rows)) (DecodeLines many direction mask names) =
-    (name ≡ codes "decode") × AsksToDecode rows (DecodeLines many direction mask names)
-Asks (Some (name, rows)) (EncodeLines upstream mask) =
-    (name ≡ codes "encode") × AsksToEncode rows (EncodeLines upstream mask)
-Asks (Some (name, rows)) (Encode words upstream mask) =
-    (name ≡ codes "encode") × AsksToEncode rows (Encode words upstream mask)
+Asks (Some (name, rows)) (Decode code upstream mask names json) =
+    (name ≡ codes "decode") × AsksToDecode rows (Decode code upstream mask names json)
+Asks (Some (name, rows)) (DecodeLines many direction mask names json) =
+    (name ≡ codes "decode") × AsksToDecode rows (DecodeLines many direction mask names json)
+Asks (Some (name, rows)) (EncodeLines upstream mask json) =
+    (name ≡ codes "encode") × AsksToEncode rows (EncodeLines upstream mask json)
+Asks (Some (name, rows)) (Encode words upstream mask json) =
+    (name ≡ codes "encode") × AsksToEncode rows (Encode words upstream mask json)
 Asks (Some (name, rows)) (Explain wanted) = (name ≡ codes "explain") × AsksToExplain rows (Explain wanted)
 
 -- it asks for nothing that is known: there is none, or another one, or one that has no script or no words

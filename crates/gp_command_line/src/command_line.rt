@@ -46,10 +46,15 @@ fn replay<'a>(alloc: Global, formats: &'a [&'a str]) -> Result<Command<'a>, Allo
         .args(args)
 }
 
-fn storm<'a>(alloc: Global) -> Result<Command<'a>, AllocError>
-    ensures { IfOk result (ReadsAs (spec_command (codes "storm") storm_rules)) }
+fn storm<'a>(alloc: Global, formats: &'a [&'a str]) -> Result<Command<'a>, AllocError>
+    ensures { IfOk result (ReadsAs (spec_command (codes "storm") (storm_rules formats.entry))) }
 {
-    let args = vec![in alloc; explained(alloc), progress(alloc), file(alloc)]?;
+    let format = format(
+        alloc,
+        formats,
+        "How the totals are told; json: one object in all",
+    );
+    let args = vec![in alloc; explained(alloc), progress(alloc), format, file(alloc)]?;
     Command::new(alloc, "storm")
         .about(
             "Runs a script's bursts, frames and commands at once, by threads, and writes the totals",
@@ -272,8 +277,12 @@ fn explain<'a>(
         .args(args)
 }
 
-fn decode<'a>(alloc: Global, masks: &'a [&'a str]) -> Result<Command<'a>, AllocError>
-    ensures { IfOk result (ReadsAs (spec_command (codes "decode") (decode_rules masks.entry))) }
+fn decode<'a>(
+    alloc: Global,
+    masks: &'a [&'a str],
+    formats: &'a [&'a str],
+) -> Result<Command<'a>, AllocError>
+    ensures { IfOk result (ReadsAs (spec_command (codes "decode") (decode_rules masks.entry formats.entry))) }
 {
     let both = flag(
         alloc,
@@ -285,29 +294,43 @@ fn decode<'a>(alloc: Global, masks: &'a [&'a str]) -> Result<Command<'a>, AllocE
         "names",
         "Names of the standard in the place of Other and its number",
     );
+    let format = format(
+        alloc,
+        formats,
+        "How each message is told; json: one object a line",
+    );
     let code = several(
         alloc,
         "code",
         "HEX",
         "Codes of thirteen octets, as 26 hexadecimal digits each; one a line from standard input if left out, or for -",
     );
-    let args = vec![in alloc; up(alloc), both, names, mask(alloc, masks), code]?;
+    let args = vec![in alloc; up(alloc), both, names, mask(alloc, masks), format, code]?;
     Command::new(alloc, "decode")
         .about("Says in words which messages codes are")
         .after_help(DECODE_HELP)
         .args(args)
 }
 
-fn encode<'a>(alloc: Global, masks: &'a [&'a str]) -> Result<Command<'a>, AllocError>
-    ensures { IfOk result (ReadsAs (spec_command (codes "encode") (encode_rules masks.entry))) }
+fn encode<'a>(
+    alloc: Global,
+    masks: &'a [&'a str],
+    formats: &'a [&'a str],
+) -> Result<Command<'a>, AllocError>
+    ensures { IfOk result (ReadsAs (spec_command (codes "encode") (encode_rules masks.entry formats.entry))) }
 {
+    let format = format(
+        alloc,
+        formats,
+        "How each code is told; json: one object a line",
+    );
     let words = several(
         alloc,
         "words",
         "WORDS",
         "The words that decode writes for a message: its name and its fields; those of one a line from standard input if left out, or for -",
     );
-    let args = vec![in alloc; up(alloc), mask(alloc, masks), words]?;
+    let args = vec![in alloc; up(alloc), mask(alloc, masks), format, words]?;
     Command::new(alloc, "encode")
         .about("Gives the codes of messages that are said in words")
         .after_help(ENCODE_HELP)
@@ -337,7 +360,7 @@ fn with_scripts<'a>(
 {
     program
         .subcommand(replay(alloc, formats)?)?
-        .subcommand(storm(alloc)?)?
+        .subcommand(storm(alloc, formats)?)?
         .subcommand(drive(alloc, formats)?)?
         .subcommand(check(alloc, formats)?)
 }
@@ -376,8 +399,8 @@ fn with_words<'a>(
 {
     program
         .subcommand(explain(alloc, masks, formats)?)?
-        .subcommand(decode(alloc, masks)?)?
-        .subcommand(encode(alloc, masks)?)
+        .subcommand(decode(alloc, masks, formats)?)?
+        .subcommand(encode(alloc, masks, formats)?)
 }
 
 /// Makes the program's command line.

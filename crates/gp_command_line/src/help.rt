@@ -54,6 +54,7 @@ pub const STORM_HELP: &str = "\
 Examples:
   oltctl storm script.toml
   oltctl storm --explain - < script.toml
+  oltctl storm --format json script.toml
 
 Exit status:
   0  the totals were written
@@ -214,13 +215,15 @@ Examples:
   oltctl decode --up --names 000500010203040506070809e6
   echo up ff01414243440000000100002c | oltctl decode --both
   oltctl decode --both 'up ff01414243440000000100002c' 'down ff03004142434400000001001b'
+  oltctl decode --format json - < codes.txt
 
 Without --up and --both codes are the line terminal's. Of a wrong check octet a line
 says which is right: echo HEX | oltctl decode.
 In lines, empty ones and those that begin with # are passed over, and 0x, colons,
 hyphens and spaces in a code. Other ID OCTET1 HEX is a message that has no name here:
 the number of its kind, its first octet, and the ten behind both. With --names the name
-that G.984.3 has for it stands in the place of Other ID, if it has one.
+that G.984.3 has for it stands in the place of Other ID, if it has one; with --format json
+it always does.
 
 Exit status, that of the first fault:
   0  all codes were told
@@ -236,6 +239,7 @@ Examples:
   oltctl encode --up --mask 85 Acknowledge 0 10
   oltctl encode Other 9 255 00000000000000000000
   oltctl decode < codes.txt | oltctl encode -
+  oltctl encode --format json - < words.txt
 
 Messages: Upstream_Overhead HEX, Assign_ONU-ID N SERIAL, Ranging_Time N EQD,
 Deactivate_ONU-ID N, Disable_Serial_Number SERIAL, Enable_Serial_Number SERIAL,

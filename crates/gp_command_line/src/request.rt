@@ -37,6 +37,8 @@ pub struct StormPlay {
     pub explain: bool,
     /// Once a second, for how long it has been going on.
     pub progress: bool,
+    /// Its totals are told by an object.
+    pub json: bool,
 }
 
 /// A verification that is wanted.
@@ -164,12 +166,13 @@ pub enum Request<'m, 'a> {
     /// Write a log as a value change dump.
     Waves(Dumping<'a>),
     /// Say which message this code is, in hexadecimal digits: one of a unit where `upstream`, else one of the
-    /// line terminal; with names of the standard where `names`.
+    /// line terminal; with names of the standard where `names`; by an object where `json`.
     Decode {
         code: &'a str,
         upstream: bool,
         mask: Mask,
         names: bool,
+        json: bool,
     },
     /// Say so of each of these codes, or, where there are none or `-` alone, of each line of standard input.
     DecodeLines {
@@ -177,17 +180,20 @@ pub enum Request<'m, 'a> {
         direction: Direction,
         mask: Mask,
         names: bool,
+        json: bool,
     },
-    /// Give the code of the message that the words of each line of standard input say.
+    /// Give the code of the message that the words of each line of standard input say; by objects where `json`.
     EncodeLines {
         upstream: bool,
         mask: Mask,
+        json: bool,
     },
-    /// Give the code of the message that these words say.
+    /// Give the code of the message that these words say; by an object where `json`.
     Encode {
         words: &'m [&'a str],
         upstream: bool,
         mask: Mask,
+        json: bool,
     },
     /// Write a trace again.
     Explain(Explanation<'a>),
@@ -328,6 +334,7 @@ fn storm_of<'m, 'a>(found: &'m ArgMatches<'a>) -> Request<'m, 'a>
         play: StormPlay {
             explain: found.get_flag("explain"),
             progress: found.get_flag("progress"),
+            json: is_json(found.get_str("format")),
         },
     }
 }
@@ -430,18 +437,21 @@ fn decode_of<'m, 'a>(found: &'m ArgMatches<'a>) -> Request<'m, 'a>
     let both = found.get_flag("both");
     let names = found.get_flag("names");
     let mask = mask_of(found.get_str("mask"));
+    let json = is_json(found.get_str("format"));
     match code_named(codes) {
         Some(code) if !both => Request::Decode {
             code,
             upstream,
             mask,
             names,
+            json,
         },
         _ => Request::DecodeLines {
             codes,
             direction: direction_of(upstream, both),
             mask,
             names,
+            json,
         },
     }
 }
@@ -486,11 +496,13 @@ fn encode_of<'m, 'a>(found: &'m ArgMatches<'a>) -> Request<'m, 'a>
         None => Request::EncodeLines {
             upstream: found.get_flag("up"),
             mask: mask_of(found.get_str("mask")),
+            json: is_json(found.get_str("format")),
         },
         Some(words) => Request::Encode {
             words,
             upstream: found.get_flag("up"),
             mask: mask_of(found.get_str("mask")),
+            json: is_json(found.get_str("format")),
         },
     }
 }

@@ -10,7 +10,8 @@ use Rattle.gp_script.specs.Script.{ScriptView}
 use Rattle.gp_workers.specs.declared.totals.Totals.{Totals}
 use Rattle.gp_workers.specs.Closing.{Ending}
 use Rattle.gp_storm.specs.Plan.{commands_asked, frames_asked}
-use Rattle.gp_storm.specs.Totals.{IsTotalsOf, entries_in, totals_text}
+use Rattle.gp_storm.specs.declared.form.TotalsForm.{TotalsForm}
+use Rattle.gp_storm.specs.Totals.{AreTotalsIn, entries_in, totals_in}
 use Rattle.gp_workers.specs.Totals.{frame_event, burst_event, command_event, is_frame, is_burst, is_command}
 
 of_one_kind : (event : Event) → cond (frame_event event) 1 0 + cond (burst_event event) 1 0 + cond (command_event event) 1 0 ≡ 1
@@ -37,15 +38,15 @@ entries_of_ports (port ∷ ports) =
     omega (arith, frames, bursts, commands, all, entries_of_port port, entries_of_ports ports)
 
 -- the text with the sum of the counts is the one with the number of entries
-pub totals_told : (script : ScriptView) (journals : List Kept) (totals : Totals) (licences : ℕ) (text : List ℕ) → Ending script.ports journals totals → licences ≡ script.licences
-    → totals.frames ≡ frames_asked script → totals.commands ≡ commands_asked script → text ≡ totals_text totals (totals.frames + totals.bursts + totals.commands) licences → IsTotalsOf script text
-totals_told script journals totals licences text ending all frames commands says = record {
+pub totals_told : (form : TotalsForm) (script : ScriptView) (journals : List Kept) (totals : Totals) (licences : ℕ) (text : List ℕ) → Ending script.ports journals totals → licences ≡ script.licences
+    → totals.frames ≡ frames_asked script → totals.commands ≡ commands_asked script → text ≡ totals_in form totals (totals.frames + totals.bursts + totals.commands) licences → AreTotalsIn form script text
+totals_told form script journals totals licences text ending all frames commands says = record {
   journals = journals;
   totals = totals;
   ending = ending;
   frames = frames;
   commands = commands;
-  says = says ∙ ap (λ (n : ℕ). totals_text totals n licences) counted ∙ ap (λ (n : ℕ). totals_text totals (entries_in journals) n) all;
+  says = says ∙ ap (λ (n : ℕ). totals_in form totals n licences) counted ∙ ap (λ (n : ℕ). totals_in form totals (entries_in journals) n) all;
 }
   where
     counted : totals.frames + totals.bursts + totals.commands ≡ entries_in journals

@@ -1,5 +1,5 @@
 -- The exit statuses of the program (this profile's own rule).
-use Rattle.std.specs.Prelude.{◌≡◌, ◌≢◌, ◌<◌, ◌≤◌, ◌==◌, not, if◌then◌else◌, ℕ, Bool, true, false, List, ◌⊎◌, Option, None, Some, Result, Ok, Err}
+use Rattle.std.specs.Prelude.{◌≡◌, ◌≢◌, ◌<◌, ◌≤◌, ◌==◌, ◌↔◌, not, if◌then◌else◌, ℕ, Bool, true, false, List, ◌⊎◌, Option, None, Some, Result, Ok, Err, IfOk}
 use Rattle.std.specs.declared.io.ErrorKind.{ErrorKind as IoErrorKind}
 use Rattle.std.specs.declared.io.ErrorKind.TheVariants as io_error
 use Rattle.clap.specs.declared.error.kind.ErrorKind.{ErrorKind}
@@ -13,7 +13,9 @@ use Rattle.gp_drive.specs.declared.fault.DriveFault.{DriveFault}
 use Rattle.gp_drive.specs.declared.fault.DriveFault.TheVariants as drives
 use Rattle.gp_encode.specs.declared.encoder.WordsFaultAt.{WordsFaultAt}
 use Rattle.gp_explain.specs.declared.fault.ExplainFault.{ExplainFault}
+use Rattle.gp_flow.specs.declared.fault.LineFault.{LineFault as Unanswered}
 use Rattle.gp_flow.specs.declared.fault.LinesFault.{LinesFault}
+use Rattle.gp_flow.specs.declared.fault.LinesFault.TheVariants.{Line}
 use Rattle.gp_replay.specs.declared.fault.RunFault.{RunFault}
 use Rattle.gp_picture.specs.declared.running.PictureSum.{PictureSum}
 use Rattle.gp_waves.specs.declared.running.WavesSum.{WavesSum}
@@ -100,6 +102,19 @@ pub record IsDecoded (code : List ℕ) (upstream : Bool) (mask : Mask) (names : 
   -- memory aside, a code that has a fault has its status
   pub faulty : status ≢ OUT_OF_MEMORY → (fault : LineFault) → IsOfText fault → HasLineFault mask code fault
       → status ≡ code_status fault
+
+-- the status after a code was to be said by an object
+abbrev pub shown_status : Result (Option LineFault) Unanswered → ℕ
+shown_status (Ok None) = SUCCESS
+shown_status (Ok (Some fault)) = code_status fault
+shown_status (Err fault) = input_status (Line fault)
+
+-- that of an outcome that tells the fault which the code has, unless memory was refused or the output took no more
+pub record IsShown (code : List ℕ) (mask : Mask) (status : ℕ) : Type 0 where
+  pub outcome : Result (Option LineFault) Unanswered
+  pub is : status ≡ shown_status outcome
+  pub fault : IfOk outcome (λ told. (fault : LineFault) → IsOfText fault
+      → (told ≡ Some fault) ↔ HasLineFault mask code fault)
 
 -- the status of a run of so many lines: of one that has too few it is that of no run
 abbrev pub IsRunStatus : ℕ → ℕ → ℕ → Type 0
@@ -218,10 +233,11 @@ IsServed (Verify wanted) status = IsVerified wanted.at_least status
 IsServed (Audit wanted) status = IsAudited wanted status
 IsServed (Picture wanted) status = IsPictured wanted status
 IsServed (Waves wanted) status = IsDumped wanted status
-IsServed (Decode code upstream mask names) status = IsDecoded code.now upstream mask names status
-IsServed (DecodeLines many direction mask names) status = AreDecoded status
-IsServed (EncodeLines upstream mask) status = AreEncoded status
-IsServed (Encode words upstream mask) status = IsEncoded status
+IsServed (Decode code upstream mask names true) status = IsShown code.now mask status
+IsServed (Decode code upstream mask names false) status = IsDecoded code.now upstream mask names status
+IsServed (DecodeLines many direction mask names json) status = AreDecoded status
+IsServed (EncodeLines upstream mask json) status = AreEncoded status
+IsServed (Encode words upstream mask json) status = IsEncoded status
 IsServed (Explain wanted) status = IsExplained status
 
 -- how a run over the words of a command line may end, with this status

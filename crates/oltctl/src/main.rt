@@ -8,6 +8,7 @@
 //!
 //! - `verifying.rt`, `auditing.rt`, `picturing.rt`, `waving.rt`, `explaining.rt`, `checking.rt`: one command each, from
 //!   its inputs to how it ended. The others stand here; `telling.rt` has what is told while it is played or driven.
+//! - `objects.rt`: one code, or the words of one message, as an object.
 //! - `observed.rt`: an input, and what is remembered of it. `joined.rt`: words as one text, as they are decoded or
 //!   encoded. `descriptors.rt`: what is held where a standard stream is closed.
 //! - `reporting.rt`: what goes to standard error, with the exit status. `progress.rt`: lines that went by, told once a
@@ -31,6 +32,7 @@ mod checking;
 mod descriptors;
 mod explaining;
 mod joined;
+mod objects;
 mod observed;
 mod picturing;
 mod progress;
@@ -47,6 +49,7 @@ use clap::error::ErrorKind;
 use descriptors::hold;
 use explaining::explain;
 use gp_check::{Purpose, ScriptCheckFault};
+use gp_code_objects::{decode_objects, encode_objects};
 use gp_command_line::{Play, Request, StormPlay, Told, parse, request_of};
 use gp_decode::{Direction, FaultAt, LineFault, decode_each_in, decode_line_in};
 use gp_drive::{DriveFault, DriveManner, Driven, run_drive_in};
@@ -59,9 +62,10 @@ use gp_report::{
     memory_report, run_report, write_report,
 };
 use gp_script::{ScriptError, read_script};
-use gp_storm::run_storm;
+use gp_storm::{TotalsForm, run_storm_in};
 use gp_stream::{Sink, Source, SourceFault, read_all};
 use joined::{joined, lines_of_codes};
+use objects::{decode_shown, encode_shown};
 use observed::{Observed, Seen};
 use picturing::picture;
 use reporting::{report, report_at};
@@ -319,10 +323,20 @@ fn end_check<R: Eprint>(rt: &R, outcome: &Result<bool, ScriptCheckFault>) -> u8
     }
 }
 
-/// Runs the storm of the script that a reader gives, and writes its totals to standard output.
+/// Gives the form of the totals of a storm: an object where `json`, else lines.
+fn totals_form(json: bool) -> TotalsForm {
+    if json {
+        TotalsForm::Object
+    } else {
+        TotalsForm::Lines
+    }
+}
+
+/// Runs the storm of the script that a reader gives, and writes its totals in this form to standard output.
 fn storm_from<R: AllocGlobal + Print + Threads + Wait + Sync, S: Read + Drop>(
     rt: &R,
     reader: S,
+    form: TotalsForm,
 ) -> Result<(), RunFault>
     ensures ok { OnOk result
         ((script : ScriptView) × IsReadBy storm_script_of reader (S.remaining reader) (Ok script)) }
@@ -332,19 +346,20 @@ fn storm_from<R: AllocGlobal + Print + Threads + Wait + Sync, S: Read + Drop>(
 {
     let mut source = Source::new(reader);
     let mut sink = Sink::new(rt.alloc(), io::writer(rt))?;
-    run_storm(rt, rt.alloc(), &mut source, &mut sink)
+    run_storm_in(rt, rt.alloc(), form, &mut source, &mut sink)
 }
 
 /// Runs the storm of a file's script, or of standard input's.
 fn storm_file<R: AllocGlobal + Files + Print + Input + Threads + Wait + Sync>(
     rt: &R,
     file: Option<&str>,
+    form: TotalsForm,
     seen: &mut Seen<'_>,
 ) -> Result<(), RunFault> {
     match file {
-        None => storm_from(rt, Observed::new(rt.reader(), seen)),
+        None => storm_from(rt, Observed::new(rt.reader(), seen), form),
         Some(path) => match std::fs::open(rt, path) {
-            Ok(file) => storm_from(rt, Observed::new(file, seen)),
+            Ok(file) => storm_from(rt, Observed::new(file, seen), form),
             Err(error) => {
                 seen.failed(&error);
                 Err(RunFault::Read)
@@ -357,13 +372,14 @@ fn storm_file<R: AllocGlobal + Files + Print + Input + Threads + Wait + Sync>(
 fn storm_so<R: AllocGlobal + Files + Print + Eprint + Input + Clock + Threads + Wait + Sync>(
     rt: &R,
     file: Option<&str>,
-    progress: bool,
+    play: StormPlay,
     seen: &mut Seen<'_>,
 ) -> Result<(), RunFault> {
-    if progress {
-        with_ticks(rt, || storm_file(rt, file, seen))
+    let form = totals_form(play.json);
+    if play.progress {
+        with_ticks(rt, || storm_file(rt, file, form, seen))
     } else {
-        storm_file(rt, file, seen)
+        storm_file(rt, file, form, seen)
     }
 }
 
@@ -391,7 +407,7 @@ fn storm<R: AllocGlobal + Files + Print + Eprint + Input + Clock + Threads + Wai
     } else {
         Seen::new(file)
     };
-    let outcome = storm_so(rt, file, play.progress, &mut seen);
+    let outcome = storm_so(rt, file, play, &mut seen);
     let status = end_run(rt, &outcome);
     if play.explain {
         explain_storm(rt, &outcome, &seen);
@@ -441,17 +457,31 @@ fn decode_alone<R: AllocGlobal + Print + Eprint>(
     }
 }
 
+/// How codes of lines are told.
+#[derive(Clone, Copy)]
+struct CodesTold {
+    mask: Mask,
+    /// With names of the standard.
+    names: bool,
+    /// By objects, which have these names in any case.
+    json: bool,
+}
+
 /// Says of each line that a reader gives which message's code it is, on standard output.
 fn decode_from<R: AllocGlobal + Print, S: Read + Drop>(
     rt: &R,
     reader: S,
     direction: Direction,
-    mask: Mask,
-    names: bool,
+    told: CodesTold,
 ) -> Result<Option<FaultAt>, LinesFault> {
+    let CodesTold { mask, names, json } = told;
     let mut source = Source::endless(reader);
     let mut sink = Sink::new(rt.alloc(), io::writer(rt))?;
-    decode_each_in(rt.alloc(), &mut source, &mut sink, direction, mask, names)
+    if json {
+        decode_objects(rt.alloc(), &mut source, &mut sink, direction, mask)
+    } else {
+        decode_each_in(rt.alloc(), &mut source, &mut sink, direction, mask, names)
+    }
 }
 
 /// Gives the word before a code that says whose it is; none where it says that itself.
@@ -471,17 +501,14 @@ fn decode_all<R: AllocGlobal + Print + Input>(
     rt: &R,
     codes: Option<&[&str]>,
     direction: Direction,
-    mask: Mask,
-    names: bool,
+    told: CodesTold,
     seen: &mut Seen<'_>,
 ) -> Result<Option<FaultAt>, LinesFault> {
     match codes {
-        None | Some(["-"]) => {
-            decode_from(rt, Observed::new(rt.reader(), seen), direction, mask, names)
-        }
+        None | Some(["-"]) => decode_from(rt, Observed::new(rt.reader(), seen), direction, told),
         Some(codes) => {
             let text = lines_of_codes(rt.alloc(), word_of(direction), codes)?;
-            decode_from(rt, text.as_slice(), Direction::Each, mask, names)
+            decode_from(rt, text.as_slice(), Direction::Each, told)
         }
     }
 }
@@ -507,13 +534,12 @@ fn decode_lines_of<R: AllocGlobal + Print + Eprint + Input>(
     rt: &R,
     codes: Option<&[&str]>,
     direction: Direction,
-    mask: Mask,
-    names: bool,
+    told: CodesTold,
 ) -> u8
     ensures { AreDecoded result }
 {
     let mut seen = Seen::new(None);
-    let outcome = decode_all(rt, codes, direction, mask, names, &mut seen);
+    let outcome = decode_all(rt, codes, direction, told, &mut seen);
     end_lines(rt, &outcome, &seen)
 }
 
@@ -522,11 +548,16 @@ fn encode_input<R: AllocGlobal + Print + Input>(
     rt: &R,
     upstream: bool,
     mask: Mask,
+    json: bool,
     seen: &mut Seen<'_>,
 ) -> Result<Option<WordsFaultAt>, LinesFault> {
     let mut source = Source::endless(Observed::new(rt.reader(), seen));
     let mut sink = Sink::new(rt.alloc(), io::writer(rt))?;
-    encode_lines(rt.alloc(), &mut source, &mut sink, upstream, mask)
+    if json {
+        encode_objects(rt.alloc(), &mut source, &mut sink, upstream, mask)
+    } else {
+        encode_lines(rt.alloc(), &mut source, &mut sink, upstream, mask)
+    }
 }
 
 /// Says which line of words had the first fault, or why not all were answered, and answers the exit status.
@@ -550,21 +581,31 @@ fn encode_lines_of<R: AllocGlobal + Print + Eprint + Input>(
     rt: &R,
     upstream: bool,
     mask: Mask,
+    json: bool,
 ) -> u8
     ensures { AreEncoded result }
 {
     let mut seen = Seen::new(None);
-    let outcome = encode_input(rt, upstream, mask, &mut seen);
+    let outcome = encode_input(rt, upstream, mask, json, &mut seen);
     end_words(rt, &outcome, &seen)
 }
 
 /// Gives the code of words, on standard output, and answers the exit status.
-fn encode<R: AllocGlobal + Print + Eprint>(rt: &R, words: &[&str], upstream: bool, mask: Mask) -> u8
+fn encode<R: AllocGlobal + Print + Eprint>(
+    rt: &R,
+    words: &[&str],
+    upstream: bool,
+    mask: Mask,
+    json: bool,
+) -> u8
     ensures { IsEncoded result }
 {
     let Ok(text) = joined(rt.alloc(), words, b' ') else {
         return report(rt, memory_report());
     };
+    if json {
+        return encode_shown(rt, text.as_slice(), upstream, mask);
+    }
     let Ok(mut sink) = Sink::new(rt.alloc(), io::writer(rt)) else {
         return report(rt, memory_report());
     };
@@ -595,20 +636,34 @@ fn serve<R: AllocGlobal + Files + Print + Eprint + Input + Clock + Threads + Wai
             code,
             upstream,
             mask,
+            json: true,
+            ..
+        } => decode_shown(rt, code, upstream, mask),
+        Request::Decode {
+            code,
+            upstream,
+            mask,
             names,
+            json: false,
         } => decode_alone(rt, code, upstream, mask, names),
         Request::DecodeLines {
             codes,
             direction,
             mask,
             names,
-        } => decode_lines_of(rt, codes, direction, mask, names),
-        Request::EncodeLines { upstream, mask } => encode_lines_of(rt, upstream, mask),
+            json,
+        } => decode_lines_of(rt, codes, direction, CodesTold { mask, names, json }),
+        Request::EncodeLines {
+            upstream,
+            mask,
+            json,
+        } => encode_lines_of(rt, upstream, mask, json),
         Request::Encode {
             words,
             upstream,
             mask,
-        } => encode(rt, words, upstream, mask),
+            json,
+        } => encode(rt, words, upstream, mask, json),
         Request::Explain(wanted) => explain(rt, &wanted),
     }
 }

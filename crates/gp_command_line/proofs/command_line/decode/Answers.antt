@@ -8,6 +8,6 @@ pub returns : goal.returns
 unfolding command
 returns c =
     let start : ReadsAs (new_app (codes "decode")) c.after_help.result = record { is = search rules; local = search rules } in
-    let same : c.in_ok-args.args.items ≡ c.up.result ∷ c.flag-both.result ∷ c.flag-names.result ∷ c.mask.result ∷ c.several-code.result ∷ [] = search rules in
-    ruled_by c.args-2.result (decode_rules c.args.masks) _ _ _ _ start same
-    (c.up.ensures, (search rules, (search rules, (c.mask.ensures, (search rules, tt))))) c.args-2.ensures
+    let same : c.in_ok-args.args.items ≡ c.up.result ∷ c.flag-both.result ∷ c.flag-names.result ∷ c.mask.result ∷ c.format-format.result ∷ c.several-code.result ∷ [] = search rules in
+    ruled_by c.args-2.result (decode_rules c.args.masks c.args.formats) _ _ _ _ start same
+    (c.up.ensures, (search rules, (search rules, (c.mask.ensures, (c.format-format.ensures, (search rules, tt)))))) c.args-2.ensures

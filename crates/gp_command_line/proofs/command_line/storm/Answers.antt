@@ -8,6 +8,6 @@ pub returns : goal.returns
 unfolding command
 returns c =
     let start : ReadsAs (new_app (codes "storm")) c.after_help.result = record { is = search rules; local = search rules } in
-    let same : c.in_ok-args.args.items ≡ c.explained.result ∷ c.progress.result ∷ c.file.result ∷ [] = search rules in
-    ruled_by c.args-2.result (storm_rules) _ _ _ _ start same
-    (c.explained.ensures, (c.progress.ensures, (c.file.ensures, tt))) c.args-2.ensures
+    let same : c.in_ok-args.args.items ≡ c.explained.result ∷ c.progress.result ∷ c.format-format.result ∷ c.file.result ∷ [] = search rules in
+    ruled_by c.args-2.result (storm_rules c.args.formats) _ _ _ _ start same
+    (c.explained.ensures, (c.progress.ensures, (c.format-format.ensures, (c.file.ensures, tt)))) c.args-2.ensures

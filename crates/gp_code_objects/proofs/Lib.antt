@@ -1,0 +1,3 @@
+pub mod DecodedLemmas
+pub mod EncodedLemmas
+pub mod AloneLemmas

@@ -1,0 +1,7 @@
+use Rattle.std.proofs.Common.{rules}
+use Rattle.gp_code_objects.proofs.DecodedLemmas.{stopped_long_line}
+use Rattle.gp_code_objects.proofs.decoder.ObjectDecoderLineWork.long_line.Goals as goal
+
+pub returns-in_err-put : goal.returns-in_err-put
+returns-in_err-put g c =
+    stopped_long_line {T = Unit {0}} c.args.self.now _ c.as_slice.result.now _ _ _ _ (search rules) (search rules) (search rules)

@@ -1,0 +1,64 @@
+//! The totals of a storm as an object.
+use crate::fields::{Plain, are_lines};
+use gp_replay::RunFault;
+use gp_storm::{TotalsForm, run_storm_in};
+use gp_stream::{Sink, Source};
+use std::alloc::{AllocError, Global};
+use std::sync::Wait;
+use std::thread::Threads;
+
+/// A port that has its frames, bursts and commands beside another's.
+const TWO_PORTS: &str = r#"
+licences = 3
+port = [{}, {admit = ["ABCD00000001"]}]
+event = [
+    {port = 0, command = "search"},
+    {port = 1, frames = 300},
+    {port = 0, at = 0, say = "none", onu = 0},
+    {port = 1, command = "search"},
+    {port = 0, frames = 40},
+    {port = 1, at = 7, say = "serial", serial = "ABCD00000001"},
+    {port = 0, at = 0, say = "none", onu = 1},
+    {port = 1, frames = 2},
+]
+"#;
+
+/// How a storm ends, and what it writes in this form.
+fn storm_of<R: Threads + Wait + Sync>(
+    rt: &R,
+    alloc: Global,
+    form: TotalsForm,
+    script: &str,
+) -> Result<(Result<(), RunFault>, Vec<u8>), AllocError> {
+    let mut source = Source::new(script.as_bytes());
+    let mut sink = Sink::new(alloc, Vec::new(alloc))?;
+    let outcome = run_storm_in(rt, alloc, form, &mut source, &mut sink);
+    Ok((outcome, sink.into_inner()))
+}
+
+#[test]
+fn totals(rt: HostRuntime) -> Result<(), AllocError> {
+    let fields: &'static [Plain] = &[
+        Plain::Number("frames", 342),
+        Plain::Number("bursts", 3),
+        Plain::Number("commands", 2),
+        Plain::Number("entries", 347),
+        Plain::Number("licences", 3),
+    ];
+    let (outcome, told) = storm_of(&rt, rt.alloc(), TotalsForm::Object, TWO_PORTS)?;
+    assert!(rt; outcome == Ok(()));
+    assert!(rt; are_lines(rt.alloc(), told.as_slice(), [fields].as_slice())?);
+    let (outcome, told) = storm_of(&rt, rt.alloc(), TotalsForm::Lines, TWO_PORTS)?;
+    assert!(rt; outcome == Ok(()));
+    let lines = b"frames 342\nbursts 3\ncommands 2\nentries 347\nlicences 3\n";
+    assert!(rt; told.as_slice() == lines.as_slice());
+    Ok(())
+}
+
+/// Of a script that is wrong there is no object.
+#[test]
+fn no_totals(rt: HostRuntime) -> Result<(), AllocError> {
+    let (outcome, told) = storm_of(&rt, rt.alloc(), TotalsForm::Object, "licences = 1")?;
+    assert!(rt; outcome.is_err() && told.is_empty());
+    Ok(())
+}

@@ -1,0 +1,189 @@
+//! A row for each grant and each alarm, and messages sent before them.
+ghost use Rattle.std.specs.Option.{ForSome};
+ghost use Rattle.gp_ploam.specs.Down.{IsProperDown};
+
+use super::{A, is_told};
+use crate::fields::{Field, Plain};
+use gp_alarms::{Alarm, AlarmKind};
+use gp_machine::{Answer, Event, Reply};
+use gp_ploam::Down;
+use gp_ranging::Grant;
+use std::alloc::AllocError;
+
+const FRAME: Field = Field::Plain(Plain::Text("event", "frame"));
+
+const OK: Field = Field::Plain(Plain::Text("reply", "ok"));
+
+/// A grant, the line of a frame that makes it, and the fields of that behind the first two.
+type GrantRow = (Grant, &'static str, &'static [Field]);
+
+const GRANTS: [GrantRow; 3] = [
+    (
+        Grant::Search,
+        "1 7 frame = ok grant search",
+        &[FRAME, OK, Field::Plain(Plain::Text("grant", "search"))],
+    ),
+    (
+        Grant::Range(0),
+        "1 7 frame = ok grant range 0",
+        &[
+            FRAME,
+            OK,
+            Field::Plain(Plain::Text("grant", "range")),
+            Field::Plain(Plain::Number("grant_onu", 0)),
+        ],
+    ),
+    (
+        Grant::Poll(253),
+        "1 7 frame = ok grant poll 253",
+        &[
+            FRAME,
+            OK,
+            Field::Plain(Plain::Text("grant", "poll")),
+            Field::Plain(Plain::Number("grant_onu", 253)),
+        ],
+    ),
+];
+
+#[test]
+fn grants(rt: HostRuntime) -> Result<(), AllocError> {
+    for (grant, text, fields) in GRANTS {
+        let answer = Answer {
+            grant: Some(grant),
+            ..Answer::from(Reply::Ticked)
+        };
+        let right = is_told(rt.alloc(), Event::Frame, answer, text, fields)?;
+        assert!(rt; right, "{text}");
+    }
+    Ok(())
+}
+
+/// A kind of alarm, and the line of a frame that gives it.
+type AlarmRow = (AlarmKind, &'static str, &'static [Field]);
+
+const SERIAL: Field = Field::Plain(Plain::Text("alarm_serial", "ABCD00000001"));
+
+const ALARMS: [AlarmRow; 6] = [
+    (
+        AlarmKind::Los,
+        "1 7 frame = ok alarm LOS ABCD00000001",
+        &[FRAME, OK, Field::Plain(Plain::Text("alarm", "LOS")), SERIAL],
+    ),
+    (
+        AlarmKind::Loam,
+        "1 7 frame = ok alarm LOAM ABCD00000001",
+        &[
+            FRAME,
+            OK,
+            Field::Plain(Plain::Text("alarm", "LOAM")),
+            SERIAL,
+        ],
+    ),
+    (
+        AlarmKind::Loa,
+        "1 7 frame = ok alarm LOA ABCD00000001",
+        &[FRAME, OK, Field::Plain(Plain::Text("alarm", "LOA")), SERIAL],
+    ),
+    (
+        AlarmKind::Suf,
+        "1 7 frame = ok alarm SUF ABCD00000001",
+        &[FRAME, OK, Field::Plain(Plain::Text("alarm", "SUF")), SERIAL],
+    ),
+    (
+        AlarmKind::Df,
+        "1 7 frame = ok alarm DF ABCD00000001",
+        &[FRAME, OK, Field::Plain(Plain::Text("alarm", "DF")), SERIAL],
+    ),
+    (
+        AlarmKind::Dg,
+        "1 7 frame = ok alarm DG ABCD00000001",
+        &[FRAME, OK, Field::Plain(Plain::Text("alarm", "DG")), SERIAL],
+    ),
+];
+
+#[test]
+fn alarms(rt: HostRuntime) -> Result<(), AllocError> {
+    for (kind, text, fields) in ALARMS {
+        let answer = Answer {
+            alarm: Some(Alarm { kind, serial: A }),
+            ..Answer::from(Reply::Ticked)
+        };
+        let right = is_told(rt.alloc(), Event::Frame, answer, text, fields)?;
+        assert!(rt; right, "{text}");
+    }
+    Ok(())
+}
+
+const SENT_CODE: Field = Field::Plain(Plain::Text("sent", "ff03004142434400000001001b"));
+
+const SENT_WORDS: Field = Field::Plain(Plain::Text("sent_message", "Assign_ONU-ID 0 ABCD00000001"));
+
+const SENT_FIELDS: Field = Field::Object(
+    "sent_fields",
+    &[
+        Plain::Text("name", "Assign_ONU-ID"),
+        Plain::Number("onu", 0),
+        Plain::Text("serial", "ABCD00000001"),
+    ],
+);
+
+static SENT: [Field; 5] = [FRAME, OK, SENT_CODE, SENT_WORDS, SENT_FIELDS];
+
+static SENT_WITH_ALARM: [Field; 7] = [
+    FRAME,
+    OK,
+    SENT_CODE,
+    SENT_WORDS,
+    SENT_FIELDS,
+    Field::Plain(Plain::Text("alarm", "SUF")),
+    SERIAL,
+];
+
+static ALL: [Field; 9] = [
+    FRAME,
+    OK,
+    SENT_CODE,
+    SENT_WORDS,
+    SENT_FIELDS,
+    Field::Plain(Plain::Text("grant", "range")),
+    Field::Plain(Plain::Number("grant_onu", 0)),
+    Field::Plain(Plain::Text("alarm", "LOAM")),
+    SERIAL,
+];
+
+/// Gives the answer of a frame in which this message was sent.
+fn sending(grant: Option<Grant>, alarm: Option<AlarmKind>) -> Answer
+    ensures { ForSome result.sent IsProperDown }
+{
+    Answer {
+        reply: Reply::Ticked,
+        sent: Some(Down::AssignOnu { onu: 0, serial: A }),
+        grant,
+        alarm: alarm.map(|kind| Alarm { kind, serial: A }),
+    }
+}
+
+/// A message sent, alone and before what may stand behind it.
+#[test]
+fn messages_sent(rt: HostRuntime) -> Result<(), AllocError> {
+    let code = "1 7 frame = ok sent ff03004142434400000001001b";
+    let alone = is_told(rt.alloc(), Event::Frame, sending(None, None), code, &SENT)?;
+    assert!(rt; alone);
+    let with_alarm = is_told(
+        rt.alloc(),
+        Event::Frame,
+        sending(None, Some(AlarmKind::Suf)),
+        "1 7 frame = ok sent ff03004142434400000001001b alarm SUF ABCD00000001",
+        &SENT_WITH_ALARM,
+    )?;
+    assert!(rt; with_alarm);
+    let all = is_told(
+        rt.alloc(),
+        Event::Frame,
+        sending(Some(Grant::Range(0)), Some(AlarmKind::Loam)),
+        "1 7 frame = ok sent ff03004142434400000001001b grant range 0 alarm LOAM ABCD00000001",
+        &ALL,
+    )?;
+    assert!(rt; all);
+    Ok(())
+}
