@@ -1,6 +1,6 @@
 -- What arguments make of a command, and commands of the program.
 use Rattle.std.proofs.Common.{◌≡◌, ◌≢◌, ◌∷◌, ◌||◌, true, List, [], Result, Ok, Err, IfOk, IfErr, ap, subst, ◌∙◌, inl, inr}
-use Rattle.clap.specs.Words.{AddsArg, AddsInTurn, AddsSubcommand, App, FailsBy, IsAmong, Rule, Text, app_of, fault_of, is_simple_and_free, kind_of, rule_of, shape_of, with_rule, with_subcommand}
+use Rattle.clap.specs.Words.{AddsArg, AddsInTurn, AddsSubcommand, App, FailsBy, IsAmong, Rule, Text, fault_of, is_simple_and_free, kind_of, rule_of, shape_of, with_rule, with_subcommand}
 use Rattle.clap.specs.declared.builder.arg.Arg.{Arg}
 use Rattle.clap.specs.declared.builder.command.Command.{Command}
 use Rattle.clap.specs.declared.builder.command.Command.TheViews.{out-Command as fields_of}

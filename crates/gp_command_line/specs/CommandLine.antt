@@ -4,6 +4,7 @@
 -- `oltctl storm [--explain] [--progress] [--format text|json] [FILE]`
 -- `oltctl drive [--explain] [--done] [FORM] FILE`
 -- `oltctl check [--storm] [-q] [--format text|json] FILE..`
+-- `oltctl test [--bless] [--jobs N] [--junit FILE] [--format text|json] [-q] FOLDER..`
 -- `oltctl verify [--explain] [--at-least N] [--progress] [--words] [--format text|json] FILE [TRACE]`
 -- `oltctl audit [JUDGED] [--side terminal|units] [--only RULES].. [--without RULES].. [--words] [--units]
 -- [--format text|json] [--progress] [LOG]`
@@ -93,6 +94,10 @@ quiet_rule = record (flag_rule (codes "quiet")) { short = Some 113 }
 unfoldable pub files_rule : Rule
 files_rule = record (several_rule (codes "files")) { required = true }
 
+-- FOLDER, one at least
+unfoldable pub folders_rule : Rule
+folders_rule = record (several_rule (codes "folders")) { required = true }
+
 -- a command with these arguments too
 abbrev pub with_rules : App → List Rule → App
 with_rules app [] = app
@@ -119,6 +124,11 @@ drive_rules formats =
 
 abbrev pub check_rules : Names → List Rule
 check_rules formats = flag_rule (codes "storm") ∷ quiet_rule ∷ format_rule formats ∷ files_rule ∷ []
+
+abbrev pub test_rules : Names → List Rule
+test_rules formats =
+    number_rule (codes "jobs") ∷ flag_rule (codes "bless") ∷ valued_rule (codes "junit") ∷ quiet_rule
+    ∷ format_rule formats ∷ folders_rule ∷ []
 
 abbrev pub verify_rules : Names → List Rule
 verify_rules formats =
@@ -177,7 +187,8 @@ with_commands app (next ∷ others) = with_commands (with_subcommand app next.to
 abbrev pub script_commands : Names → List App
 script_commands formats =
     command (codes "replay") (replay_rules formats) ∷ command (codes "storm") (storm_rules formats)
-    ∷ command (codes "drive") (drive_rules formats) ∷ command (codes "check") (check_rules formats) ∷ []
+    ∷ command (codes "drive") (drive_rules formats) ∷ command (codes "check") (check_rules formats)
+    ∷ command (codes "test") (test_rules formats) ∷ []
 
 -- those about traces and logs
 abbrev pub log_commands : Choices → List App

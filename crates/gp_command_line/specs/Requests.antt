@@ -1,5 +1,5 @@
 -- What a parsed command line asks for (this profile's own rule).
-use Rattle.std.specs.Prelude.{◌≡◌, ◌≢◌, if◌then◌else◌, ℕ, ok_or, List, [], ◌∷◌, ◌++◌, ◌==◌, Bool, true, false, Option, None, Some, map, option_map, codes}
+use Rattle.std.specs.Prelude.{◌≡◌, ◌≢◌, if◌then◌else◌, ℕ, ok_or, List, [], ◌∷◌, Bool, true, false, Option, None, Some, map, option_map, codes}
 use Rattle.std.specs.Borrow.{Bor}
 use Rattle.std.specs.Str.Parse.{ParsesUnsigned}
 use Rattle.clap.specs.Words.{Row, Text, all_of, first_of, one_of}
@@ -11,11 +11,12 @@ use Rattle.gp_decode.specs.LineText.{direction_of}
 use Rattle.gp_command_line.specs.CommandLine.{code_named, file_named, form_named, is_json, mask_named, words_named}
 use Rattle.gp_command_line.specs.declared.request.Audit.{Audit as WantedAudit}
 use Rattle.gp_command_line.specs.declared.request.Request.{Request}
-use Rattle.gp_command_line.specs.declared.request.Request.TheVariants.{Replay, Drive, Storm, Check, Verify, Audit, Picture, Waves, Decode, DecodeLines, Encode, EncodeLines, Explain}
+use Rattle.gp_command_line.specs.declared.request.Request.TheVariants.{Replay, Drive, Storm, Check, Test, Verify, Audit, Picture, Waves, Decode, DecodeLines, Encode, EncodeLines, Explain}
 use Rattle.gp_command_line.specs.declared.request.Drawing.{Drawing}
 use Rattle.gp_command_line.specs.declared.request.Dumping.{Dumping}
 use Rattle.gp_command_line.specs.declared.request.Explanation.{Explanation}
 use Rattle.gp_command_line.specs.declared.request.Play.{Play}
+use Rattle.gp_command_line.specs.declared.request.Testing.{Testing}
 use Rattle.gp_command_line.specs.declared.request.Told.{Told}
 use Rattle.gp_command_line.specs.declared.request.Verification.{Verification}
 
@@ -87,6 +88,19 @@ AsksToCheck rows (Check files manner) =
     (all_of (codes "files") rows ≡ Some (texts files)) × AsksForPurpose rows manner.purpose
     × IsFlag rows (codes "quiet") manner.quiet × (manner.json ≡ is_json (first_of (codes "format") rows))
 AsksToCheck rows _ = ⊥
+
+-- the rows of `test` ask to judge the scripts of each FOLDER, so many at once, and to tell of them by these options
+pub record AsksForTest (rows : List Row) (wanted : Testing) : Type 0 where
+  pub folders : all_of (codes "folders") rows ≡ Some (texts wanted.folders)
+  pub jobs : IsNumber rows (codes "jobs") wanted.jobs
+  pub bless : IsFlag rows (codes "bless") wanted.bless
+  pub junit : name_in wanted.junit ≡ first_of (codes "junit") rows
+  pub quiet : IsFlag rows (codes "quiet") wanted.quiet
+  pub json : wanted.json ≡ is_json (first_of (codes "format") rows)
+
+abbrev pub AsksToTest : List Row → Request → Type 0
+AsksToTest rows (Test wanted) = AsksForTest rows wanted
+AsksToTest rows _ = ⊥
 
 -- the rows of `storm` ask for the storm of FILE, or of standard input where it is left out, and for its totals as lines
 -- or as JSON
@@ -212,6 +226,7 @@ Asks None request = ⊥
 Asks (Some (name, rows)) (Replay file play) = (name ≡ codes "replay") × AsksToReplay rows (Replay file play)
 Asks (Some (name, rows)) (Drive script told done) = (name ≡ codes "drive") × AsksToDrive rows (Drive script told done)
 Asks (Some (name, rows)) (Check files manner) = (name ≡ codes "check") × AsksToCheck rows (Check files manner)
+Asks (Some (name, rows)) (Test wanted) = (name ≡ codes "test") × AsksToTest rows (Test wanted)
 Asks (Some (name, rows)) (Storm file play) = (name ≡ codes "storm") × AsksToStorm rows (Storm file play)
 Asks (Some (name, rows)) (Verify wanted) = (name ≡ codes "verify") × AsksToVerify rows (Verify wanted)
 Asks (Some (name, rows)) (Audit wanted) = (name ≡ codes "audit") × AsksToAudit rows (Audit wanted)
@@ -234,5 +249,6 @@ AsksNothing (Some (name, rows)) =
     (name ≢ codes "replay") × (name ≢ codes "storm") × (name ≢ codes "decode") × (name ≢ codes "encode")
     × (name ≢ codes "explain") × (name ≢ codes "audit") × (name ≢ codes "picture") × (name ≢ codes "waves")
     × (name ≡ codes "check" → all_of (codes "files") rows ≡ None)
+    × (name ≡ codes "test" → all_of (codes "folders") rows ≡ None)
     × (name ≡ codes "drive" → first_of (codes "script") rows ≡ None)
     × (name ≡ codes "verify" → first_of (codes "script") rows ≡ None)

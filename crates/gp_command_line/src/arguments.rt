@@ -1,6 +1,6 @@
 //! The arguments of the commands: how each is named, and its help.
 ghost use Rattle.std.specs.Prelude.{codes};
-ghost use Rattle.gp_command_line.specs.CommandLine.{HasRule, choice_rule, files_rule, flag_rule, format_rule, mask_rule, number_rule, positional_rule, quiet_rule, repeated_rule, required_rule, several_rule, valued_rule};
+ghost use Rattle.gp_command_line.specs.CommandLine.{HasRule, choice_rule, files_rule, flag_rule, folders_rule, format_rule, mask_rule, number_rule, positional_rule, quiet_rule, repeated_rule, required_rule, several_rule, valued_rule};
 
 use clap::{Arg, ArgAction, value_parser};
 use std::alloc::Global;
@@ -16,7 +16,7 @@ pub(crate) fn flag<'a>(alloc: Global, name: &'a str, help: &'a str) -> Arg<'a>
 }
 
 /// Makes an option with a value.
-fn valued<'a>(alloc: Global, name: &'a str, value: &'a str, help: &'a str) -> Arg<'a>
+pub(crate) fn valued<'a>(alloc: Global, name: &'a str, value: &'a str, help: &'a str) -> Arg<'a>
     ensures { HasRule (valued_rule name.entry.now) result }
 {
     Arg::new(alloc, name)
@@ -102,6 +102,24 @@ pub(crate) fn files<'a>(alloc: Global) -> Arg<'a>
     ensures { HasRule files_rule result }
 {
     several(alloc, "files", "FILE", "The scripts; - for standard input").required(true)
+}
+
+pub(crate) fn folders<'a>(alloc: Global) -> Arg<'a>
+    ensures { HasRule folders_rule result }
+{
+    several(
+        alloc,
+        "folders",
+        "FOLDER",
+        "The folders; each NAME.toml in one is a script, NAME.trace what it has to write",
+    )
+    .required(true)
+}
+
+pub(crate) fn only_failed<'a>(alloc: Global) -> Arg<'a>
+    ensures { HasRule quiet_rule result }
+{
+    flag(alloc, "quiet", "Tells only what failed, and no sum").short('q')
 }
 
 pub(crate) fn file<'a>(alloc: Global) -> Arg<'a>

@@ -1,17 +1,17 @@
 //! `parse`: the commands of `oltctl`, and the options of each, as `clap` reads them.
 ghost use Rattle.std.specs.Prelude.{◌≢◌, IfErr, IfOk, codes, map};
 ghost use Rattle.clap.specs.Words.{App, kind_of};
-ghost use Rattle.gp_command_line.specs.CommandLine.{IsFaultOf, IsParseOf, ReadsAs, audit_rules, check_rules, command as spec_command, decode_rules, drive_rules, encode_rules, explain_rules, log_commands, oltctl as spec_oltctl, oltctl_command, picture_rules, replay_rules, script_commands, storm_rules, verify_rules, waves_rules, with_commands, word_commands};
+ghost use Rattle.gp_command_line.specs.CommandLine.{IsFaultOf, IsParseOf, ReadsAs, audit_rules, check_rules, command as spec_command, decode_rules, drive_rules, encode_rules, explain_rules, log_commands, oltctl as spec_oltctl, oltctl_command, picture_rules, replay_rules, script_commands, storm_rules, test_rules, verify_rules, waves_rules, with_commands, word_commands};
 ghost use Rattle.std.specs.String.{string_bytes};
 
 use crate::arguments::{
-    at_least, drift, explained, explained_always, file, files, flag, form, format, in_words, log,
-    mask, midway, number, only, progress, quiet, required, several, side, teqd, timed, trace, up,
-    without,
+    at_least, drift, explained, explained_always, file, files, flag, folders, form, format,
+    in_words, log, mask, midway, number, only, only_failed, progress, quiet, required, several,
+    side, teqd, timed, trace, up, valued, without,
 };
 use crate::help::{
     ABOUT_HELP, AUDIT_HELP, CHECK_HELP, DECODE_HELP, DRIVE_HELP, ENCODE_HELP, EXPLAIN_HELP,
-    PICTURE_HELP, REPLAY_HELP, STORM_HELP, VERIFY_HELP, WAVES_HELP,
+    PICTURE_HELP, REPLAY_HELP, STORM_HELP, TEST_HELP, VERIFY_HELP, WAVES_HELP,
 };
 use clap::error::ErrorKind;
 use clap::{ArgMatches, Command, Error};
@@ -110,6 +110,40 @@ fn check<'a>(alloc: Global, formats: &'a [&'a str]) -> Result<Command<'a>, Alloc
     Command::new(alloc, "check")
         .about("Says of each file that it is a script, or where it is wrong")
         .after_help(CHECK_HELP)
+        .args(args)
+}
+
+fn test<'a>(alloc: Global, formats: &'a [&'a str]) -> Result<Command<'a>, AllocError>
+    ensures { IfOk result (ReadsAs (spec_command (codes "test") (test_rules formats.entry))) }
+{
+    let jobs = number(
+        alloc,
+        "jobs",
+        "N",
+        "How many are played at once; as many as there are processors if left out or 0",
+    );
+    let bless = flag(
+        alloc,
+        "bless",
+        "Writes NAME.trace where neither it nor NAME.faults is there",
+    );
+    let junit = valued(alloc, "junit", "FILE", "Writes JUnit's XML to a file too");
+    let format = format(
+        alloc,
+        formats,
+        "How each script is told of; json: one object a script, and one for the sum",
+    );
+    let args = vec![in alloc;
+        jobs,
+        bless,
+        junit,
+        only_failed(alloc),
+        format,
+        folders(alloc),
+    ]?;
+    Command::new(alloc, "test")
+        .about("Plays the scripts of folders and compares each with the trace beside it")
+        .after_help(TEST_HELP)
         .args(args)
 }
 
@@ -362,7 +396,8 @@ fn with_scripts<'a>(
         .subcommand(replay(alloc, formats)?)?
         .subcommand(storm(alloc, formats)?)?
         .subcommand(drive(alloc, formats)?)?
-        .subcommand(check(alloc, formats)?)
+        .subcommand(check(alloc, formats)?)?
+        .subcommand(test(alloc, formats)?)
 }
 
 /// Adds those about traces and logs.

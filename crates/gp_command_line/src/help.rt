@@ -15,7 +15,8 @@ Exit status:
   4  the output takes no more
   5  a storm's threads and journals do not agree
   6  a port of a storm has more entries than its journal keeps
-  7  a trace is no run, or has too few lines; or a log breaks a rule";
+  7  a trace is no run, or has too few lines; a log breaks a rule; or a script of a
+     folder failed";
 
 /// What stands at the end of the help of `replay`.
 pub const REPLAY_HELP: &str = "\
@@ -48,6 +49,29 @@ Exit status:
   2  the command line is wrong
   3  out of memory
   4  the output takes no more";
+
+/// What stands at the end of the help of `test`.
+pub const TEST_HELP: &str = "\
+Examples:
+  oltctl test scripts
+  oltctl test --bless scripts
+  oltctl test --jobs 4 --junit tests.xml scripts more-scripts
+
+Of each NAME.toml in a folder:
+  NAME.trace beside it    the script is played, and has to write this
+  NAME.faults beside it   the script is wrong: what check tells behind the file's
+                          name has to be this, and a line feed
+  neither                 it fails; with --bless its NAME.trace is written
+What fails has a line on standard output: where it differs the first time, what was
+expected there and what came. A folder without a script fails too, and so does a
+NAME.trace or NAME.faults without NAME.toml. Other files are passed over.
+
+Exit status:
+  0  all passed, or a trace was written
+  2  the command line is wrong
+  3  out of memory
+  4  the output, or JUnit's file, takes no more
+  7  one failed";
 
 /// What stands at the end of the help of `storm`.
 pub const STORM_HELP: &str = "\

@@ -2,7 +2,7 @@
 ghost use Rattle.std.specs.Prelude.{◌≡◌, ◌∷◌, [], true, IfSome, IfNone, Some, None, codes, option_map};
 ghost use Rattle.clap.specs.Words.{all_of, first_of, found_of, rows_of, subcommand_rows_of};
 ghost use Rattle.gp_command_line.specs.CommandLine.{code_alone, code_named, file_named, form_named, is_input, is_json, mask_named, words_named};
-ghost use Rattle.gp_command_line.specs.Requests.{Asks, AsksForForm, AsksForPlay, AsksForTrace, AsksNothing, AsksToAudit, AsksToCheck, AsksToDecode, AsksToDrive, AsksToDump, AsksToEncode, AsksToExplain, AsksToPicture, AsksToReplay, AsksToStorm, AsksToVerify, IsNumber, direction_asked, name_in, purpose_of, texts};
+ghost use Rattle.gp_command_line.specs.Requests.{Asks, AsksForForm, AsksForPlay, AsksForTrace, AsksNothing, AsksToAudit, AsksToCheck, AsksToDecode, AsksToDrive, AsksToDump, AsksToEncode, AsksToExplain, AsksToPicture, AsksToReplay, AsksToStorm, AsksToTest, AsksToVerify, IsNumber, direction_asked, name_in, purpose_of, texts};
 
 use clap::ArgMatches;
 use gp_check::{CheckManner, Purpose};
@@ -38,6 +38,23 @@ pub struct StormPlay {
     /// Once a second, for how long it has been going on.
     pub progress: bool,
     /// Its totals are told by an object.
+    pub json: bool,
+}
+
+/// A test of folders of scripts that is wanted.
+#[derive(Clone, Copy)]
+pub struct Testing<'m, 'a> {
+    /// The scripts of these folders are judged.
+    pub folders: &'m [&'a str],
+    /// So many at once; as many as there are processors where this is left out.
+    pub jobs: Option<u64>,
+    /// Traces that are not there are written.
+    pub bless: bool,
+    /// JUnit's XML is written to this file too.
+    pub junit: Option<&'a str>,
+    /// Only what failed is told.
+    pub quiet: bool,
+    /// What is told is told by objects.
     pub json: bool,
 }
 
@@ -152,6 +169,8 @@ pub enum Request<'m, 'a> {
         files: &'m [&'a str],
         manner: CheckManner,
     },
+    /// Play the scripts of folders, and compare each with what stands beside it.
+    Test(Testing<'m, 'a>),
     /// Run the storm of this file's script, or of standard input's.
     Storm {
         file: Option<&'a str>,
@@ -210,6 +229,7 @@ pub fn request_of<'m, 'a>(matches: &'m ArgMatches<'a>) -> Option<Request<'m, 'a>
         ("drive", found) => drive_of(found),
         ("storm", found) => Some(storm_of(found)),
         ("check", found) => check_of(found),
+        ("test", found) => test_of(found),
         ("verify", found) => verify_of(found),
         ("audit", found) => Some(audit_of(found)),
         ("picture", found) => Some(picture_of(found)),
@@ -311,6 +331,21 @@ fn check_of<'m, 'a>(found: &'m ArgMatches<'a>) -> Option<Request<'m, 'a>>
             json: is_json(found.get_str("format")),
         },
     })
+}
+
+#[tactic(auto, using(crate::proofs::Rows::value_by_rows, crate::proofs::Rows::values_by_rows, crate::proofs::Rows::flag_by_rows))]
+fn test_of<'m, 'a>(found: &'m ArgMatches<'a>) -> Option<Request<'m, 'a>>
+    ensures asks { IfSome result (AsksToTest (rows_of (found_of found.now))) }
+    ensures nothing { IfNone result (all_of (codes "folders") (rows_of (found_of found.now)) ≡ None) }
+{
+    Some(Request::Test(Testing {
+        folders: found.get_strs("folders")?,
+        jobs: number_at(found, "jobs"),
+        bless: found.get_flag("bless"),
+        junit: found.get_str("junit"),
+        quiet: found.get_flag("quiet"),
+        json: is_json(found.get_str("format")),
+    }))
 }
 
 #[tactic(auto, using(crate::proofs::Rows::value_by_rows, crate::proofs::Rows::flag_by_rows))]

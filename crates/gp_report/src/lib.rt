@@ -19,5 +19,5 @@ pub use report::{
 };
 pub use status::{
     BAD_ARGUMENTS, BAD_INPUT, DISAGREEMENT, JOURNAL_FULL, NOT_A_RUN, NOT_WRITTEN, OUT_OF_MEMORY,
-    SUCCESS,
+    SUCCESS, TEST_FAILED,
 };

@@ -23,3 +23,6 @@ pub const JOURNAL_FULL: u8 = 6;
 
 /// What was read as a trace is none of a run of the machine.
 pub const NOT_A_RUN: u8 = 7;
+
+/// A script of a folder is not as what stands beside it, or the folder has none.
+pub const TEST_FAILED: u8 = 7;

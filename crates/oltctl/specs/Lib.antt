@@ -1,3 +1,4 @@
 pub mod Joined
 pub mod Replays
 pub mod Statuses
+pub mod Tested

@@ -1,5 +1,6 @@
 -- The exit statuses of the program (this profile's own rule).
 use Rattle.std.specs.Prelude.{◌≡◌, ◌≢◌, ◌<◌, ◌≤◌, ◌==◌, ◌↔◌, not, if◌then◌else◌, ℕ, Bool, true, false, List, ◌⊎◌, Option, None, Some, Result, Ok, Err, IfOk}
+use Rattle.std.specs.List.{list_any}
 use Rattle.std.specs.declared.io.ErrorKind.{ErrorKind as IoErrorKind}
 use Rattle.std.specs.declared.io.ErrorKind.TheVariants as io_error
 use Rattle.clap.specs.declared.error.kind.ErrorKind.{ErrorKind}
@@ -20,7 +21,7 @@ use Rattle.gp_replay.specs.declared.fault.RunFault.{RunFault}
 use Rattle.gp_picture.specs.declared.running.PictureSum.{PictureSum}
 use Rattle.gp_waves.specs.declared.running.WavesSum.{WavesSum}
 use Rattle.gp_replay.specs.declared.fault.RunFault.TheVariants as run
-use Rattle.gp_report.specs.declared.status.TheConstants.{BAD_ARGUMENTS, BAD_INPUT, NOT_A_RUN, NOT_WRITTEN, OUT_OF_MEMORY, SUCCESS}
+use Rattle.gp_report.specs.declared.status.TheConstants.{BAD_ARGUMENTS, BAD_INPUT, NOT_A_RUN, NOT_WRITTEN, OUT_OF_MEMORY, SUCCESS, TEST_FAILED}
 use Rattle.gp_report.specs.Report.{arguments_line, code_status, memory_line, run_status, verify_status}
 use Rattle.gp_report.specs.Words.{explain_status, input_status}
 use Rattle.gp_check.specs.declared.fault.ScriptCheckFault.{ScriptCheckFault}
@@ -28,6 +29,8 @@ use Rattle.gp_check.specs.declared.fault.ScriptCheckFault.TheVariants as checks
 use Rattle.gp_verify.specs.declared.outcome.CheckFault.{CheckFault}
 use Rattle.gp_verify.specs.declared.outcome.CheckFault.TheVariants as check
 use Rattle.gp_verify.specs.Ending.{wanted_lines}
+use Rattle.gp_outcome.specs.Tally.{is_failed}
+use Rattle.gp_outcome.specs.declared.outcome.Outcome.{Outcome}
 use Rattle.clap.specs.Words.{Text, subcommand_rows_of}
 use Rattle.clap.specs.declared.parser.matches.ArgMatches.{ArgMatches}
 use Rattle.gp_command_line.specs.CommandLine.{IsFaultOf, IsParseOf}
@@ -42,7 +45,7 @@ use Rattle.gp_command_line.specs.declared.request.Drawing.{Drawing}
 use Rattle.gp_command_line.specs.declared.request.Dumping.{Dumping}
 use Rattle.oltctl.specs.declared.auditing.Audited.{Audited}
 use Rattle.gp_command_line.specs.declared.request.Request.{Request}
-use Rattle.gp_command_line.specs.declared.request.Request.TheVariants.{Replay, Drive, Storm, Check, Verify, Audit, Picture, Waves, Decode, DecodeLines, Encode, EncodeLines, Explain}
+use Rattle.gp_command_line.specs.declared.request.Request.TheVariants.{Replay, Drive, Storm, Check, Test, Verify, Audit, Picture, Waves, Decode, DecodeLines, Encode, EncodeLines, Explain}
 
 -- no status is greater
 abbrev pub greatest_status : ℕ
@@ -223,11 +226,25 @@ check_status (Err checks.Write) = NOT_WRITTEN
 abbrev pub IsChecked : ℕ → Type 0
 IsChecked status = (outcome : Result Bool ScriptCheckFault) × (status ≡ check_status outcome)
 
+-- the status after scripts were judged, where all was told: whether one failed
+abbrev pub tested_status : List Outcome → ℕ
+tested_status outcomes = if list_any is_failed outcomes then TEST_FAILED else SUCCESS
+
+-- or memory ran out, or the output or JUnit's file took no more
+abbrev pub IsToldTest : List Outcome → ℕ → Type 0
+IsToldTest outcomes status =
+    (status ≡ tested_status outcomes) ⊎ (status ≡ OUT_OF_MEMORY) ⊎ (status ≡ NOT_WRITTEN)
+
+-- what folders hold no contract can tell, so it is that of some scripts
+abbrev pub IsTested : ℕ → Type 0
+IsTested status = (outcomes : List Outcome) × IsToldTest outcomes status
+
 -- the status after what was asked for
 abbrev pub IsServed : Request → ℕ → Type 0
 IsServed (Replay file play) status = IsPlayed status
 IsServed (Drive script told done) status = IsDriven status
 IsServed (Check files manner) status = IsChecked status
+IsServed (Test wanted) status = IsTested status
 IsServed (Storm file play) status = IsStormed status
 IsServed (Verify wanted) status = IsVerified wanted.at_least status
 IsServed (Audit wanted) status = IsAudited wanted status

@@ -1,7 +1,8 @@
 //! `oltctl`: plays a script and writes its trace, answers lines that ask for something, runs its events at once by
-//! threads and writes the totals, tells whether a trace is one of a correct line terminal, names each rule that a message
-//! of a log breaks, draws a log as a picture or as waves, writes a trace again with its codes in words or as a log, says in
-//! words which message a code is, and gives the code of a message in words.
+//! threads and writes the totals, plays the scripts of folders and compares each with its trace, tells whether a trace is
+//! one of a correct line terminal, names each rule that a message of a log breaks, draws a log as a picture or as waves,
+//! writes a trace again with its codes in words or as a log, says in words which message a code is, and gives the code of
+//! a message in words.
 //!
 //! Promise: what the words of a command line ask for is done, and each ending has its status (`main`). How they are read
 //! is `gp_command_line`'s.
@@ -9,6 +10,8 @@
 //! - `verifying.rt`, `auditing.rt`, `picturing.rt`, `waving.rt`, `explaining.rt`, `checking.rt`: one command each, from
 //!   its inputs to how it ended. The others stand here; `telling.rt` has what is told while it is played or driven.
 //! - `objects.rt`: one code, or the words of one message, as an object.
+//! - `testing.rt`: scripts of folders, several at once, and what is told of them. `scripts.rt`: which files of a folder are
+//!   scripts, and what stands beside them; `judging.rt`: one of them, from its files to what became of it.
 //! - `observed.rt`: an input, and what is remembered of it. `joined.rt`: words as one text, as they are decoded or
 //!   encoded. `descriptors.rt`: what is held where a standard stream is closed.
 //! - `reporting.rt`: what goes to standard error, with the exit status. `progress.rt`: lines that went by, told once a
@@ -32,12 +35,15 @@ mod checking;
 mod descriptors;
 mod explaining;
 mod joined;
+mod judging;
 mod objects;
 mod observed;
 mod picturing;
 mod progress;
 mod reporting;
+mod scripts;
 mod telling;
+mod testing;
 mod ticking;
 mod verifying;
 mod waving;
@@ -77,6 +83,7 @@ use std::rt::{Clock, Env, Files};
 use std::sync::Wait;
 use std::thread::Threads;
 use telling::{drive_told, is_plain, play_so};
+use testing::test;
 use ticking::with_ticks;
 use verifying::verify;
 use waving::waves;
@@ -616,9 +623,10 @@ fn encode<R: AllocGlobal + Print + Eprint>(
     }
 }
 
-/// Does what is asked for, and answers the exit status.
+/// Does what is asked for, and answers the exit status. `host` is the same runtime, for threads that open files.
 fn serve<R: AllocGlobal + Files + Print + Eprint + Input + Clock + Threads + Wait + Sync>(
     rt: &R,
+    host: &HostRuntime,
     request: Request<'_, '_>,
 ) -> u8
     ensures { IsServed request.entry result }
@@ -627,6 +635,7 @@ fn serve<R: AllocGlobal + Files + Print + Eprint + Input + Clock + Threads + Wai
         Request::Replay { file, play } => replay(rt, file, play),
         Request::Drive { script, told, done } => drive(rt, script, told, done),
         Request::Check { files, manner } => end_check(rt, &check_files(rt, files, manner)),
+        Request::Test(wanted) => test(rt, host, &wanted),
         Request::Storm { file, play } => storm(rt, file, play),
         Request::Verify(wanted) => verify(rt, wanted),
         Request::Audit(wanted) => audit(rt, &wanted),
@@ -702,6 +711,7 @@ fn words_report(error: &io::Error) -> (&'static str, u8)
 /// Does what the words of a command line ask for, and answers the exit status. The first word is the program's name.
 fn run_words<R: AllocGlobal + Files + Print + Eprint + Input + Clock + Threads + Wait + Sync>(
     rt: &R,
+    host: &HostRuntime,
     words: &[String],
 ) -> u8
     ensures ended { IsRun (map string_bytes words.now) result }
@@ -709,7 +719,7 @@ fn run_words<R: AllocGlobal + Files + Print + Eprint + Input + Clock + Threads +
 {
     match parse(rt.alloc(), words) {
         Ok(matches) => match request_of(&matches) {
-            Some(request) => serve(rt, request),
+            Some(request) => serve(rt, host, request),
             None => BAD_ARGUMENTS,
         },
         Err(error) => refuse(rt, &error),
@@ -719,6 +729,7 @@ fn run_words<R: AllocGlobal + Files + Print + Eprint + Input + Clock + Threads +
 /// Runs the command line, and answers the exit status.
 fn run<R: AllocGlobal + Env + Files + Print + Eprint + Input + Clock + Threads + Wait + Sync>(
     rt: &R,
+    host: &HostRuntime,
 ) -> u8
     ensures { result ≤ greatest_status }
 {
@@ -726,7 +737,7 @@ fn run<R: AllocGlobal + Env + Files + Print + Eprint + Input + Clock + Threads +
     let output = hold(rt);
     let errors = hold(rt);
     let status = match arguments_of(rt) {
-        Ok(arguments) => run_words(rt, arguments.as_slice()),
+        Ok(arguments) => run_words(rt, host, arguments.as_slice()),
         Err(error) => report(rt, words_report(&error)),
     };
     drop(input);
@@ -736,5 +747,5 @@ fn run<R: AllocGlobal + Env + Files + Print + Eprint + Input + Clock + Threads +
 }
 
 fn main(rt: HostRuntime) -> ExitCode {
-    ExitCode::from(run(&rt))
+    ExitCode::from(run(&rt, &rt))
 }

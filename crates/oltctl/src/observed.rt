@@ -10,6 +10,14 @@ use std::alloc::Global;
 use std::io;
 use std::io::Read;
 
+/// Gives an error that says the same.
+pub(crate) fn same_error(error: &io::Error) -> io::Error {
+    match error.raw_os_error() {
+        Some(code) => io::Error::from_raw_os_error(code),
+        None => io::Error::from(error.kind()),
+    }
+}
+
 /// An input: a file, or standard input where it has no name.
 #[derive(Drop)]
 pub(crate) struct Seen<'a> {
@@ -39,10 +47,7 @@ impl<'a> Seen<'a> {
 
     /// Remembers why a read failed, or why the file was not opened.
     pub(crate) fn failed(&mut self, error: &io::Error) {
-        self.cause = Some(match error.raw_os_error() {
-            Some(code) => io::Error::from_raw_os_error(code),
-            None => io::Error::from(error.kind()),
-        });
+        self.cause = Some(same_error(error));
     }
 
     /// Why the last read that failed did, or why the file was not opened.

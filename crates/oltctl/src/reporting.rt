@@ -67,7 +67,7 @@ pub(crate) fn tell_came<R: Eprint>(rt: &R, lines: u64) {
 }
 
 /// Gives why something failed, without the number that the system has for it.
-fn cause_text(alloc: Global, error: &io::Error) -> Result<String, AllocError> {
+pub(crate) fn cause_text(alloc: Global, error: &io::Error) -> Result<String, AllocError> {
     let text = format!(in alloc; "{error}")?;
     match text.as_str().split_once(" (os error ") {
         Some((cause, _)) => String::from_str(alloc, cause),

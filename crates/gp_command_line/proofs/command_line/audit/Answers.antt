@@ -1,6 +1,6 @@
 use Rattle.std.proofs.Common.{◌≡◌, ◌∷◌, [], codes, rules, List}
 use Rattle.clap.specs.Words.{Rule, new_app}
-use Rattle.gp_command_line.specs.CommandLine.{ReadsAs, audit_rules, choice_rule, command, flag_rule, format_rule, mask_rule, number_rule, positional_rule, repeated_rule}
+use Rattle.gp_command_line.specs.CommandLine.{ReadsAs, choice_rule, command, flag_rule, format_rule, mask_rule, number_rule, positional_rule, repeated_rule}
 use Rattle.gp_command_line.proofs.Commands.{ruled_by, ruled_in}
 use Rattle.gp_command_line.proofs.command_line.audit.Goals as goal
 

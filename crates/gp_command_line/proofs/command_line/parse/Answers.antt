@@ -3,17 +3,17 @@ use Rattle.clap.proofs.OnLiterals.{clap_on_literals}
 use Rattle.clap.specs.Words.{App, FailsBy, HasMatchesOf, Text, fault_of, is_simple, is_simple_and_free, subcommand_of}
 use Rattle.clap.specs.declared.error.Error.{Error}
 use Rattle.clap.specs.declared.parser.matches.ArgMatches.{ArgMatches}
-use Rattle.gp_command_line.specs.CommandLine.{AreChoices, Choices, IsParseOf, choice_rule, command, files_rule, flag_rule, format_rule, mask_rule, number_rule, oltctl, oltctl_command, positional_rule, quiet_rule, repeated_rule, required_rule, several_rule, valued_rule}
+use Rattle.gp_command_line.specs.CommandLine.{AreChoices, Choices, IsParseOf, choice_rule, command, files_rule, flag_rule, folders_rule, format_rule, mask_rule, number_rule, oltctl, oltctl_command, positional_rule, quiet_rule, repeated_rule, required_rule, several_rule, valued_rule}
 use Rattle.gp_command_line.proofs.Commands.{failed_by}
 use Rattle.gp_command_line.proofs.command_line.parse.Goals as goal
 
 -- the command line uses no setting of clap's that its definition leaves out
 is_plain : (choices : Choices) → is_simple (oltctl_command choices) ≡ true
-unfolding clap_on_literals choice_rule command files_rule flag_rule format_rule mask_rule number_rule oltctl oltctl_command positional_rule quiet_rule repeated_rule required_rule several_rule valued_rule
+unfolding clap_on_literals choice_rule command files_rule flag_rule folders_rule format_rule mask_rule number_rule oltctl oltctl_command positional_rule quiet_rule repeated_rule required_rule several_rule valued_rule
 is_plain choices = refl
 
 is_plain_and_free : (choices : Choices) → is_simple_and_free (oltctl_command choices) ≡ true
-unfolding clap_on_literals choice_rule command files_rule flag_rule format_rule mask_rule number_rule oltctl oltctl_command positional_rule quiet_rule repeated_rule required_rule several_rule valued_rule
+unfolding clap_on_literals choice_rule command files_rule flag_rule folders_rule format_rule mask_rule number_rule oltctl oltctl_command positional_rule quiet_rule repeated_rule required_rule several_rule valued_rule
 is_plain_and_free choices = refl
 
 parsed_by : (choices : Choices) → AreChoices choices → (app : App) → app ≡ oltctl_command choices → (words : List Text) (r : Result ArgMatches Error)

@@ -1,0 +1,7 @@
+pub mod Ahead
+pub mod Comparer
+pub mod Difference
+pub mod Place
+pub mod Reading
+pub mod Shown
+pub mod Texts

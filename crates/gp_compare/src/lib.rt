@@ -1,0 +1,38 @@
+//! Compares what is written with what is expected, octet by octet, while it is written: neither is kept, however long
+//! they are. Of the first line that differs both sides are shown.
+//!
+//! Promise: two texts are told to be the same only where what was expected was read to its end and is what came, to the
+//! last octet; else the first octet that differs is told, with its line (`compare_text`, `Comparer`).
+//!
+//! - `comparer.rt`: `Comparer`, the writer that reads what is expected beside what it takes.
+//! - `texts.rt`: `compare_text`, which hands it a text that is at hand.
+//! - `step.rt`: how much of what comes is as expected, or the first octet that isn't.
+//! - `ahead.rt`: `Ahead`, a source of which a block is read ahead. `place.rt`: how far two texts are the same, by line
+//!   and octet. `shown.rt`: what is shown of a line. `difference.rt`: the first octet that differs.
+//! - `taken.rt`: the octets that a writer took, and `expects.rt`: what it is to take, both in contracts alone.
+//!   `fault.rt`: why nothing was compared to its end.
+//!
+//! Where to make which change: how much of a line is shown is a number in `shown.rt` and in `specs/Shown.antt`; what a
+//! difference is stands in `specs/Difference.antt`, what a writer knows in `specs/Comparer.antt`.
+#![tactic(auto)]
+
+mod ahead;
+mod comparer;
+mod difference;
+mod expects;
+mod fault;
+mod place;
+mod shown;
+mod step;
+mod taken;
+mod texts;
+
+pub use ahead::Ahead;
+pub use comparer::Comparer;
+pub use difference::Difference;
+pub use expects::Expects;
+pub use fault::CompareFault;
+pub use place::Place;
+pub use shown::{LineEnd, MAX_SHOWN, ShownLine};
+pub use taken::Taken;
+pub use texts::compare_text;

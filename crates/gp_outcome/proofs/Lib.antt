@@ -1,0 +1,4 @@
+pub mod JudgingLemmas
+pub mod ObjectLemmas
+pub mod PathLemmas
+pub mod PlayingLemmas
