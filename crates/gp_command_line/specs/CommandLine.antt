@@ -4,6 +4,7 @@
 -- `oltctl storm [--explain] [--progress] [FILE]`
 -- `oltctl drive [--explain] [--done] [FORM] FILE`
 -- `oltctl check [--storm] [-q] [--format text|json] FILE..`
+-- `oltctl generate [--seed N] [--ports P] [--units U] [--events E] [--mistakes K]`
 -- `oltctl verify [--explain] [--at-least N] [--progress] [--words] [--format text|json] FILE [TRACE]`
 -- `oltctl audit [JUDGED] [--side terminal|units] [--only RULES].. [--without RULES].. [--words] [--units]
 -- [--format text|json] [--progress] [LOG]`
@@ -118,6 +119,11 @@ drive_rules formats =
 abbrev pub check_rules : Names → List Rule
 check_rules formats = flag_rule (codes "storm") ∷ quiet_rule ∷ format_rule formats ∷ files_rule ∷ []
 
+abbrev pub generate_rules : List Rule
+generate_rules =
+    number_rule (codes "seed") ∷ number_rule (codes "ports") ∷ number_rule (codes "units") ∷ number_rule (codes "events")
+    ∷ number_rule (codes "mistakes") ∷ []
+
 abbrev pub verify_rules : Names → List Rule
 verify_rules formats =
     flag_rule (codes "explain") ∷ number_rule (codes "at-least") ∷ flag_rule (codes "progress")
@@ -174,7 +180,8 @@ with_commands app (next ∷ others) = with_commands (with_subcommand app next.to
 abbrev pub script_commands : Names → List App
 script_commands formats =
     command (codes "replay") (replay_rules formats) ∷ command (codes "storm") storm_rules
-    ∷ command (codes "drive") (drive_rules formats) ∷ command (codes "check") (check_rules formats) ∷ []
+    ∷ command (codes "drive") (drive_rules formats) ∷ command (codes "check") (check_rules formats)
+    ∷ command (codes "generate") generate_rules ∷ []
 
 -- those about traces and logs
 abbrev pub log_commands : Choices → List App

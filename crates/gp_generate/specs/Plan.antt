@@ -1,10 +1,23 @@
 -- Which scripts are generated (this profile's own rule).
-use Rattle.std.specs.Prelude.{ℕ, ◌≡◌, ◌+◌, ◌%◌, ◌≤◌, ◌<◌, ◌==◌, ◌&&◌, ◌||◌, if◌then◌else◌, Option, None, Some, nat_lt, min}
+use Rattle.std.specs.Prelude.{ℕ, ◌≡◌, ◌+◌, ◌%◌, ◌≤◌, ◌<◌, ◌==◌, ◌&&◌, ◌||◌, if◌then◌else◌, Option, None, Some, nat_lt, min, unwrap_or}
 use Rattle.gp_ploam.specs.declared.check.Mask.{Mask}
 use Rattle.gp_ploam.specs.declared.check.Mask.TheVariants as masks
+use Rattle.gp_generate.specs.declared.plan.Asked.{Asked}
 use Rattle.gp_generate.specs.declared.plan.Wish.{Wish}
 use Rattle.gp_generate.specs.declared.plan.PlanFault.{PlanFault}
 use Rattle.gp_generate.specs.declared.plan.PlanFault.TheVariants.{Ports, Units, UnitsBesidePorts, Events, Mistakes}
+
+-- what is asked for, with the defaults
+abbrev pub wish_of : Asked → Wish
+wish_of asked =
+    let units = unwrap_or asked.units 0 in
+    record {
+      seed = unwrap_or asked.seed 0;
+      ports = unwrap_or asked.ports (if units == 0 then 2 else 1);
+      units = units;
+      events = unwrap_or asked.events 200;
+      mistakes = unwrap_or asked.mistakes 0;
+    }
 
 -- there is such a script
 pub record IsPlan (wish : Wish) : Type 0 where

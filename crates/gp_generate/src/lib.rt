@@ -3,7 +3,7 @@
 //! Promise: what is written is the text that the definitions fix by what is asked for, whole or to where memory was
 //! refused or a write failed (`generate`, over a `Plan`).
 //!
-//! - `plan.rt`: `Wish`, what is asked for, and `Plan`, a script that there can be. `chance.rt`: what is drawn.
+//! - `plan.rt`: `Asked` and `Wish`, what is asked for; `Plan`, a script that there can be. `chance.rt`: what is drawn.
 //! - `step.rt`: the steps of a scene; `scene.rt`: the table of scenes, and what may be said and asked anywhere.
 //! - `cast.rt`: who is in a scene. `action.rt`: what may happen anywhere. `event.rt`: an event; `making.rt`: the event
 //!   that a step is; `course.rt`: scene after scene, an event at a time.
@@ -37,6 +37,6 @@ pub use course::Moment;
 pub use event::{Event, Said};
 pub use generating::{GenerateFault, generate};
 pub use mistake::{MISTAKES, Mistake};
-pub use plan::{MAX_EVENTS, MAX_MISTAKES, MAX_PORTS, MAX_UNITS, Plan, PlanFault, Wish};
+pub use plan::{Asked, MAX_EVENTS, MAX_MISTAKES, MAX_PORTS, MAX_UNITS, Plan, PlanFault, Wish};
 pub use scene::{ORDERS, SAYINGS, SCENES, Scene};
 pub use step::{Opening, Order, Step, Words};

@@ -7,13 +7,13 @@ use std::marker::Model;
 use thiserror::Error;
 
 /// How many ports a script has at most.
-pub const MAX_PORTS: u8 = 16;
+pub const MAX_PORTS: u64 = 16;
 /// How many simulated units.
-pub const MAX_UNITS: u16 = 1024;
+pub const MAX_UNITS: u64 = 1024;
 /// How many events.
-pub const MAX_EVENTS: u32 = 10_000;
+pub const MAX_EVENTS: u64 = 10_000;
 /// How many mistakes.
-pub const MAX_MISTAKES: u32 = 100;
+pub const MAX_MISTAKES: u64 = 100;
 
 /// How many units a port admits, where there are no simulated ones.
 const UNITS_OF_A_PORT: u16 = 3;
@@ -26,27 +26,59 @@ pub struct Wish {
     /// Where chance begins.
     pub seed: u64,
     /// How many ports, 1 to [`MAX_PORTS`]; 1 beside simulated units.
-    pub ports: u8,
+    pub ports: u64,
     /// How many simulated units, at most [`MAX_UNITS`].
-    pub units: u16,
+    pub units: u64,
     /// How many events, at most [`MAX_EVENTS`].
-    pub events: u32,
+    pub events: u64,
     /// How many mistakes, at most [`MAX_MISTAKES`], and no more than events.
-    pub mistakes: u32,
+    pub mistakes: u64,
+}
+
+/// What is asked for, where it is said; each has a default.
+#[derive(Clone, Copy, Debug, PartialEq, Eq)]
+pub struct Asked {
+    /// Where chance begins; at 0 where it is left out.
+    pub seed: Option<u64>,
+    /// How many ports; 2, or 1 beside units.
+    pub ports: Option<u64>,
+    /// How many simulated units; none.
+    pub units: Option<u64>,
+    /// How many events; 200.
+    pub events: Option<u64>,
+    /// How many mistakes; none.
+    pub mistakes: Option<u64>,
+}
+
+impl Asked {
+    /// Gives what is asked for, with the defaults.
+    pub fn wish(&self) -> Wish
+        ensures { result ≡ spec.wish_of self.now }
+    {
+        let units = self.units.unwrap_or(0);
+        let ports = self.ports.unwrap_or(if units == 0 { 2 } else { 1 });
+        Wish {
+            seed: self.seed.unwrap_or(0),
+            ports,
+            units,
+            events: self.events.unwrap_or(200),
+            mistakes: self.mistakes.unwrap_or(0),
+        }
+    }
 }
 
 /// Why there is no such script.
 #[derive(Clone, Copy, Debug, PartialEq, Eq, Error)]
 pub enum PlanFault {
-    #[error("a script has 1 to 16 ports")]
+    #[error("--ports: 1 to 16 are wanted")]
     Ports,
-    #[error("a script has at most 1024 units")]
+    #[error("--units: at most 1024 are wanted")]
     Units,
-    #[error("a script with units has one port")]
+    #[error("--units: one port is wanted beside units")]
     UnitsBesidePorts,
-    #[error("at most 10000 events are generated")]
+    #[error("--events: at most 10000 are wanted")]
     Events,
-    #[error("at most 100 mistakes are made, and no more than events")]
+    #[error("--mistakes: at most 100 are wanted, and no more than events")]
     Mistakes,
 }
 
@@ -112,7 +144,7 @@ impl Plan {
         ensures some { 1 ≤ result }
         ensures few { result ≤ 16 }
     {
-        self.wish.ports
+        self.wish.ports as u8
     }
 
     /// Gives how many simulated units there are.
@@ -120,7 +152,7 @@ impl Plan {
         ensures value { result ≡ self.now.units }
         ensures few { result ≤ 1024 }
     {
-        self.wish.units
+        self.wish.units as u16
     }
 
     /// Gives how many events there are.
@@ -128,7 +160,7 @@ impl Plan {
         ensures value { result ≡ self.now.events }
         ensures few { result ≤ 10000 }
     {
-        self.wish.events
+        self.wish.events as u32
     }
 
     /// Gives how many mistakes there are.
@@ -137,7 +169,7 @@ impl Plan {
         ensures few { result ≤ 100 }
         ensures within { result ≤ self.now.events }
     {
-        self.wish.mistakes
+        self.wish.mistakes as u32
     }
 
     /// Gives how many units bursts and commands are about: on a port three, or all that are simulated.
@@ -149,7 +181,7 @@ impl Plan {
         if self.wish.units == 0 {
             UNITS_OF_A_PORT
         } else {
-            self.wish.units
+            self.units()
         }
     }
 

@@ -1,13 +1,13 @@
-//! `oltctl`: plays a script and writes its trace, answers lines that ask for something, runs its events at once by
-//! threads and writes the totals, tells whether a trace is one of a correct line terminal, names each rule that a message
-//! of a log breaks, draws a log as a picture or as waves, writes a trace again with its codes in words or as a log, says in
-//! words which message a code is, and gives the code of a message in words.
+//! `oltctl`: plays a script and writes its trace, writes a script by chance, answers lines that ask for something, runs
+//! a script's events at once by threads and writes the totals, tells whether a trace is one of a correct line terminal,
+//! names each rule that a message of a log breaks, draws a log as a picture or as waves, writes a trace again with its
+//! codes in words or as a log, says in words which message a code is, and gives the code of a message in words.
 //!
 //! Promise: what the words of a command line ask for is done, and each ending has its status (`main`). How they are read
 //! is `gp_command_line`'s.
 //!
-//! - `verifying.rt`, `auditing.rt`, `picturing.rt`, `waving.rt`, `explaining.rt`, `checking.rt`: one command each, from
-//!   its inputs to how it ended. The others stand here; `telling.rt` has what is told while it is played or driven.
+//! - `verifying.rt`, `auditing.rt`, `picturing.rt`, `waving.rt`, `explaining.rt`, `checking.rt`, `generating.rt`: one
+//!   command each, from its inputs to how it ended. The others stand here; `telling.rt` has what is told while it is played or driven.
 //! - `observed.rt`: an input, and what is remembered of it. `joined.rt`: words as one text, as they are decoded or
 //!   encoded. `descriptors.rt`: what is held where a standard stream is closed.
 //! - `reporting.rt`: what goes to standard error, with the exit status. `progress.rt`: lines that went by, told once a
@@ -30,6 +30,7 @@ mod auditing;
 mod checking;
 mod descriptors;
 mod explaining;
+mod generating;
 mod joined;
 mod observed;
 mod picturing;
@@ -46,6 +47,7 @@ use clap::Error;
 use clap::error::ErrorKind;
 use descriptors::hold;
 use explaining::explain;
+use generating::generate;
 use gp_check::{Purpose, ScriptCheckFault};
 use gp_command_line::{Play, Request, StormPlay, Told, parse, request_of};
 use gp_decode::{Direction, FaultAt, LineFault, decode_each_in, decode_line_in};
@@ -587,6 +589,7 @@ fn serve<R: AllocGlobal + Files + Print + Eprint + Input + Clock + Threads + Wai
         Request::Drive { script, told, done } => drive(rt, script, told, done),
         Request::Check { files, manner } => end_check(rt, &check_files(rt, files, manner)),
         Request::Storm { file, play } => storm(rt, file, play),
+        Request::Generate(asked) => generate(rt, &asked),
         Request::Verify(wanted) => verify(rt, wanted),
         Request::Audit(wanted) => audit(rt, &wanted),
         Request::Picture(wanted) => picture(rt, &wanted),

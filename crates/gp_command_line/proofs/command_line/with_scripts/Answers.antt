@@ -6,4 +6,5 @@ returns c = λ app was.
     let replay = added _ _ _ _ _ c.in_ok-subcommand.ensures was c.in_ok-replay.ensures in
     let storm = added _ _ _ _ _ c.in_ok-subcommand-2.ensures replay c.in_ok-storm.ensures in
     let drive = added _ _ _ _ _ c.in_ok-subcommand-3.ensures storm c.in_ok-drive.ensures in
-    last_added c.subcommand-4.result _ _ _ _ c.subcommand-4.ensures drive c.in_ok-check.ensures
+    let check = added _ _ _ _ _ c.in_ok-subcommand-4.ensures drive c.in_ok-check.ensures in
+    last_added c.subcommand-5.result _ _ _ _ c.subcommand-5.ensures check c.in_ok-generate.ensures
