@@ -5,6 +5,7 @@
 -- `oltctl drive [--explain] [--done] [FORM] FILE`
 -- `oltctl check [--storm] [-q] [--format text|json] FILE..`
 -- `oltctl test [--bless] [--jobs N] [--junit FILE] [--format text|json] [-q] FOLDER..`
+-- `oltctl generate [--seed N] [--ports P] [--units U] [--events E] [--mistakes K]`
 -- `oltctl verify [--explain] [--at-least N] [--progress] [--words] [--format text|json] FILE [TRACE]`
 -- `oltctl audit [JUDGED] [--side terminal|units] [--only RULES].. [--without RULES].. [--words] [--units]
 -- [--format text|json] [--progress] [LOG]`
@@ -130,6 +131,11 @@ test_rules formats =
     number_rule (codes "jobs") ∷ flag_rule (codes "bless") ∷ valued_rule (codes "junit") ∷ quiet_rule
     ∷ format_rule formats ∷ folders_rule ∷ []
 
+abbrev pub generate_rules : List Rule
+generate_rules =
+    number_rule (codes "seed") ∷ number_rule (codes "ports") ∷ number_rule (codes "units") ∷ number_rule (codes "events")
+    ∷ number_rule (codes "mistakes") ∷ []
+
 abbrev pub verify_rules : Names → List Rule
 verify_rules formats =
     flag_rule (codes "explain") ∷ number_rule (codes "at-least") ∷ flag_rule (codes "progress")
@@ -188,7 +194,7 @@ abbrev pub script_commands : Names → List App
 script_commands formats =
     command (codes "replay") (replay_rules formats) ∷ command (codes "storm") (storm_rules formats)
     ∷ command (codes "drive") (drive_rules formats) ∷ command (codes "check") (check_rules formats)
-    ∷ command (codes "test") (test_rules formats) ∷ []
+    ∷ command (codes "test") (test_rules formats) ∷ command (codes "generate") generate_rules ∷ []
 
 -- those about traces and logs
 abbrev pub log_commands : Choices → List App

@@ -8,10 +8,11 @@ use Rattle.gp_check.specs.declared.checking.Purpose.TheVariants as purpose
 use Rattle.gp_decode.specs.declared.direction.Direction.{Direction}
 use Rattle.gp_decode.specs.declared.direction.Direction.TheVariants.{Each}
 use Rattle.gp_decode.specs.LineText.{direction_of}
+use Rattle.gp_generate.specs.declared.plan.Asked.{Asked}
 use Rattle.gp_command_line.specs.CommandLine.{code_named, file_named, form_named, is_json, mask_named, words_named}
 use Rattle.gp_command_line.specs.declared.request.Audit.{Audit as WantedAudit}
 use Rattle.gp_command_line.specs.declared.request.Request.{Request}
-use Rattle.gp_command_line.specs.declared.request.Request.TheVariants.{Replay, Drive, Storm, Check, Test, Verify, Audit, Picture, Waves, Decode, DecodeLines, Encode, EncodeLines, Explain}
+use Rattle.gp_command_line.specs.declared.request.Request.TheVariants.{Replay, Drive, Storm, Check, Generate, Test, Verify, Audit, Picture, Waves, Decode, DecodeLines, Encode, EncodeLines, Explain}
 use Rattle.gp_command_line.specs.declared.request.Drawing.{Drawing}
 use Rattle.gp_command_line.specs.declared.request.Dumping.{Dumping}
 use Rattle.gp_command_line.specs.declared.request.Explanation.{Explanation}
@@ -109,6 +110,18 @@ AsksToStorm rows (Storm file play) =
     (name_in file ≡ file_named (first_of (codes "file") rows)) × IsFlag rows (codes "explain") play.explain
     × IsFlag rows (codes "progress") play.progress × (play.json ≡ is_json (first_of (codes "format") rows))
 AsksToStorm rows _ = ⊥
+
+-- the rows of `generate` ask for a script by these options as they are given
+pub record AsksForScript (rows : List Row) (asked : Asked) : Type 0 where
+  pub seed : IsNumber rows (codes "seed") asked.seed
+  pub ports : IsNumber rows (codes "ports") asked.ports
+  pub units : IsNumber rows (codes "units") asked.units
+  pub events : IsNumber rows (codes "events") asked.events
+  pub mistakes : IsNumber rows (codes "mistakes") asked.mistakes
+
+abbrev pub AsksToGenerate : List Row → Request → Type 0
+AsksToGenerate rows (Generate asked) = AsksForScript rows asked
+AsksToGenerate rows _ = ⊥
 
 -- the rows of `verify` ask to verify TRACE, or standard input where it is left out, against the script of FILE, and to
 -- say what is found in this form
@@ -228,6 +241,7 @@ Asks (Some (name, rows)) (Drive script told done) = (name ≡ codes "drive") × 
 Asks (Some (name, rows)) (Check files manner) = (name ≡ codes "check") × AsksToCheck rows (Check files manner)
 Asks (Some (name, rows)) (Test wanted) = (name ≡ codes "test") × AsksToTest rows (Test wanted)
 Asks (Some (name, rows)) (Storm file play) = (name ≡ codes "storm") × AsksToStorm rows (Storm file play)
+Asks (Some (name, rows)) (Generate asked) = (name ≡ codes "generate") × AsksToGenerate rows (Generate asked)
 Asks (Some (name, rows)) (Verify wanted) = (name ≡ codes "verify") × AsksToVerify rows (Verify wanted)
 Asks (Some (name, rows)) (Audit wanted) = (name ≡ codes "audit") × AsksToAudit rows (Audit wanted)
 Asks (Some (name, rows)) (Picture wanted) = (name ≡ codes "picture") × AsksToPicture rows (Picture wanted)
@@ -248,6 +262,7 @@ AsksNothing None = Unit {0}
 AsksNothing (Some (name, rows)) =
     (name ≢ codes "replay") × (name ≢ codes "storm") × (name ≢ codes "decode") × (name ≢ codes "encode")
     × (name ≢ codes "explain") × (name ≢ codes "audit") × (name ≢ codes "picture") × (name ≢ codes "waves")
+    × (name ≢ codes "generate")
     × (name ≡ codes "check" → all_of (codes "files") rows ≡ None)
     × (name ≡ codes "test" → all_of (codes "folders") rows ≡ None)
     × (name ≡ codes "drive" → first_of (codes "script") rows ≡ None)

@@ -1,7 +1,7 @@
 //! `parse`: the commands of `oltctl`, and the options of each, as `clap` reads them.
 ghost use Rattle.std.specs.Prelude.{◌≢◌, IfErr, IfOk, codes, map};
 ghost use Rattle.clap.specs.Words.{App, kind_of};
-ghost use Rattle.gp_command_line.specs.CommandLine.{IsFaultOf, IsParseOf, ReadsAs, audit_rules, check_rules, command as spec_command, decode_rules, drive_rules, encode_rules, explain_rules, log_commands, oltctl as spec_oltctl, oltctl_command, picture_rules, replay_rules, script_commands, storm_rules, test_rules, verify_rules, waves_rules, with_commands, word_commands};
+ghost use Rattle.gp_command_line.specs.CommandLine.{IsFaultOf, IsParseOf, ReadsAs, audit_rules, check_rules, command as spec_command, decode_rules, drive_rules, encode_rules, explain_rules, generate_rules, log_commands, oltctl as spec_oltctl, oltctl_command, picture_rules, replay_rules, script_commands, storm_rules, test_rules, verify_rules, waves_rules, with_commands, word_commands};
 ghost use Rattle.std.specs.String.{string_bytes};
 
 use crate::arguments::{
@@ -11,7 +11,7 @@ use crate::arguments::{
 };
 use crate::help::{
     ABOUT_HELP, AUDIT_HELP, CHECK_HELP, DECODE_HELP, DRIVE_HELP, ENCODE_HELP, EXPLAIN_HELP,
-    PICTURE_HELP, REPLAY_HELP, STORM_HELP, TEST_HELP, VERIFY_HELP, WAVES_HELP,
+    GENERATE_HELP, PICTURE_HELP, REPLAY_HELP, STORM_HELP, TEST_HELP, VERIFY_HELP, WAVES_HELP,
 };
 use clap::error::ErrorKind;
 use clap::{ArgMatches, Command, Error};
@@ -144,6 +144,41 @@ fn test<'a>(alloc: Global, formats: &'a [&'a str]) -> Result<Command<'a>, AllocE
     Command::new(alloc, "test")
         .about("Plays the scripts of folders and compares each with the trace beside it")
         .after_help(TEST_HELP)
+        .args(args)
+}
+
+fn generate<'a>(alloc: Global) -> Result<Command<'a>, AllocError>
+    ensures { IfOk result (ReadsAs (spec_command (codes "generate") generate_rules)) }
+{
+    let seed = number(alloc, "seed", "N", "Where chance begins; 0 if left out");
+    let ports = number(
+        alloc,
+        "ports",
+        "P",
+        "How many ports, 1 to 16; 2 if left out, or 1 beside units",
+    );
+    let units = number(
+        alloc,
+        "units",
+        "U",
+        "How many simulated units, at most 1024, on one port; none if left out",
+    );
+    let events = number(
+        alloc,
+        "events",
+        "E",
+        "How many events, at most 10000; 200 if left out",
+    );
+    let mistakes = number(
+        alloc,
+        "mistakes",
+        "K",
+        "How many mistakes, at most 100 and no more than events; none if left out",
+    );
+    let args = vec![in alloc; seed, ports, units, events, mistakes]?;
+    Command::new(alloc, "generate")
+        .about("Writes a script by chance, the same for the same seed")
+        .after_help(GENERATE_HELP)
         .args(args)
 }
 
@@ -397,7 +432,8 @@ fn with_scripts<'a>(
         .subcommand(storm(alloc, formats)?)?
         .subcommand(drive(alloc, formats)?)?
         .subcommand(check(alloc, formats)?)?
-        .subcommand(test(alloc, formats)?)
+        .subcommand(test(alloc, formats)?)?
+        .subcommand(generate(alloc)?)
 }
 
 /// Adds those about traces and logs.

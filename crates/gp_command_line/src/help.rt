@@ -89,6 +89,25 @@ Exit status:
   5  a thread was not started, or receipts and journals do not agree
   6  a port has more entries than its journal keeps";
 
+/// What stands at the end of the help of `generate`.
+pub const GENERATE_HELP: &str = "\
+The script is fixed by the options, which its first line repeats. Without units
+it has scenes on each port: units that are found, ranged, polled, lost, disabled
+and wrong in each way. With units it is a world of one port, with losses and
+with light that comes and goes. A mistake is told by a comment before it.
+
+Examples:
+  oltctl generate --seed 7 > lab.toml
+  oltctl generate --seed 7 --units 8 --events 500 > world.toml
+  oltctl generate --seed 7 --mistakes 1 | oltctl check -
+  oltctl replay lab.toml | oltctl verify lab.toml
+
+Exit status:
+  0  the whole script was written
+  2  the command line is wrong
+  3  out of memory
+  4  the output takes no more";
+
 /// What stands at the end of the help of `verify`.
 pub const VERIFY_HELP: &str = "\
 Examples:

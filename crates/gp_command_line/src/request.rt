@@ -2,12 +2,13 @@
 ghost use Rattle.std.specs.Prelude.{◌≡◌, ◌∷◌, [], true, IfSome, IfNone, Some, None, codes, option_map};
 ghost use Rattle.clap.specs.Words.{all_of, first_of, found_of, rows_of, subcommand_rows_of};
 ghost use Rattle.gp_command_line.specs.CommandLine.{code_alone, code_named, file_named, form_named, is_input, is_json, mask_named, words_named};
-ghost use Rattle.gp_command_line.specs.Requests.{Asks, AsksForForm, AsksForPlay, AsksForTrace, AsksNothing, AsksToAudit, AsksToCheck, AsksToDecode, AsksToDrive, AsksToDump, AsksToEncode, AsksToExplain, AsksToPicture, AsksToReplay, AsksToStorm, AsksToTest, AsksToVerify, IsNumber, direction_asked, name_in, purpose_of, texts};
+ghost use Rattle.gp_command_line.specs.Requests.{Asks, AsksForForm, AsksForPlay, AsksForTrace, AsksNothing, AsksToAudit, AsksToCheck, AsksToDecode, AsksToDrive, AsksToDump, AsksToEncode, AsksToExplain, AsksToGenerate, AsksToPicture, AsksToReplay, AsksToStorm, AsksToTest, AsksToVerify, IsNumber, direction_asked, name_in, purpose_of, texts};
 
 use clap::ArgMatches;
 use gp_check::{CheckManner, Purpose};
 use gp_decode::Direction;
 use gp_explain::Form;
+use gp_generate::Asked;
 use gp_ploam::Mask;
 
 /// How the lines of a trace are written.
@@ -176,6 +177,8 @@ pub enum Request<'m, 'a> {
         file: Option<&'a str>,
         play: StormPlay,
     },
+    /// Write a script by chance.
+    Generate(Asked),
     /// Verify a trace against a script.
     Verify(Verification<'a>),
     /// Name each rule that a message of a log breaks.
@@ -230,6 +233,7 @@ pub fn request_of<'m, 'a>(matches: &'m ArgMatches<'a>) -> Option<Request<'m, 'a>
         ("storm", found) => Some(storm_of(found)),
         ("check", found) => check_of(found),
         ("test", found) => test_of(found),
+        ("generate", found) => Some(generate_of(found)),
         ("verify", found) => verify_of(found),
         ("audit", found) => Some(audit_of(found)),
         ("picture", found) => Some(picture_of(found)),
@@ -380,6 +384,18 @@ fn number_at(found: &ArgMatches<'_>, id: &str) -> Option<u64>
     ensures { IsNumber (rows_of (found_of found.now)) id.now result }
 {
     found.get_one::<u64>(id)
+}
+
+fn generate_of<'m, 'a>(found: &'m ArgMatches<'a>) -> Request<'m, 'a>
+    ensures { AsksToGenerate (rows_of (found_of found.now)) result }
+{
+    Request::Generate(Asked {
+        seed: number_at(found, "seed"),
+        ports: number_at(found, "ports"),
+        units: number_at(found, "units"),
+        events: number_at(found, "events"),
+        mistakes: number_at(found, "mistakes"),
+    })
 }
 
 #[tactic(auto, using(crate::proofs::Rows::value_by_rows, crate::proofs::Rows::flag_by_rows))]

@@ -26,6 +26,11 @@ use Rattle.gp_report.specs.Report.{arguments_line, code_status, memory_line, run
 use Rattle.gp_report.specs.Words.{explain_status, input_status}
 use Rattle.gp_check.specs.declared.fault.ScriptCheckFault.{ScriptCheckFault}
 use Rattle.gp_check.specs.declared.fault.ScriptCheckFault.TheVariants as checks
+use Rattle.gp_generate.specs.declared.generating.GenerateFault.{GenerateFault}
+use Rattle.gp_generate.specs.declared.generating.GenerateFault.TheVariants as generates
+use Rattle.gp_generate.specs.declared.plan.Asked.{Asked}
+use Rattle.gp_generate.specs.declared.plan.PlanFault.{PlanFault}
+use Rattle.gp_generate.specs.Plan.{fault_of, wish_of}
 use Rattle.gp_verify.specs.declared.outcome.CheckFault.{CheckFault}
 use Rattle.gp_verify.specs.declared.outcome.CheckFault.TheVariants as check
 use Rattle.gp_verify.specs.Ending.{wanted_lines}
@@ -45,7 +50,7 @@ use Rattle.gp_command_line.specs.declared.request.Drawing.{Drawing}
 use Rattle.gp_command_line.specs.declared.request.Dumping.{Dumping}
 use Rattle.oltctl.specs.declared.auditing.Audited.{Audited}
 use Rattle.gp_command_line.specs.declared.request.Request.{Request}
-use Rattle.gp_command_line.specs.declared.request.Request.TheVariants.{Replay, Drive, Storm, Check, Test, Verify, Audit, Picture, Waves, Decode, DecodeLines, Encode, EncodeLines, Explain}
+use Rattle.gp_command_line.specs.declared.request.Request.TheVariants.{Replay, Drive, Storm, Check, Generate, Test, Verify, Audit, Picture, Waves, Decode, DecodeLines, Encode, EncodeLines, Explain}
 
 -- no status is greater
 abbrev pub greatest_status : ℕ
@@ -239,6 +244,19 @@ IsToldTest outcomes status =
 abbrev pub IsTested : ℕ → Type 0
 IsTested status = (outcomes : List Outcome) × IsToldTest outcomes status
 
+-- the status after a script was generated
+abbrev pub generate_status : Result (Unit {0}) GenerateFault → ℕ
+generate_status (Ok done) = SUCCESS
+generate_status (Err generates.OutOfMemory) = OUT_OF_MEMORY
+generate_status (Err generates.Write) = NOT_WRITTEN
+
+-- there is no such script; or it is written, and what standard output takes no contract can tell
+abbrev pub IsGenerated : Asked → ℕ → Type 0
+IsGenerated asked status =
+    ((fault : PlanFault) × (fault_of (wish_of asked) ≡ Some fault) × (status ≡ BAD_ARGUMENTS))
+    ⊎ ((fault_of (wish_of asked) ≡ None)
+    × ((outcome : Result (Unit {0}) GenerateFault) × (status ≡ generate_status outcome)))
+
 -- the status after what was asked for
 abbrev pub IsServed : Request → ℕ → Type 0
 IsServed (Replay file play) status = IsPlayed status
@@ -246,6 +264,7 @@ IsServed (Drive script told done) status = IsDriven status
 IsServed (Check files manner) status = IsChecked status
 IsServed (Test wanted) status = IsTested status
 IsServed (Storm file play) status = IsStormed status
+IsServed (Generate asked) status = IsGenerated asked status
 IsServed (Verify wanted) status = IsVerified wanted.at_least status
 IsServed (Audit wanted) status = IsAudited wanted status
 IsServed (Picture wanted) status = IsPictured wanted status

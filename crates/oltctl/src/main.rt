@@ -1,14 +1,15 @@
-//! `oltctl`: plays a script and writes its trace, answers lines that ask for something, runs its events at once by
-//! threads and writes the totals, plays the scripts of folders and compares each with its trace, tells whether a trace is
-//! one of a correct line terminal, names each rule that a message of a log breaks, draws a log as a picture or as waves,
-//! writes a trace again with its codes in words or as a log, says in words which message a code is, and gives the code of
-//! a message in words.
+//! `oltctl`: plays a script and writes its trace, answers lines that ask for something, runs a script's events at once by
+//! threads and writes the totals, plays the scripts of folders and compares each with its trace, writes a script by
+//! chance, tells whether a trace is one of a correct line terminal, names each rule that a message of a log breaks, draws
+//! a log as a picture or as waves, writes a trace again with its codes in words or as a log, says in words which message a
+//! code is, and gives the code of a message in words.
 //!
 //! Promise: what the words of a command line ask for is done, and each ending has its status (`main`). How they are read
 //! is `gp_command_line`'s.
 //!
-//! - `verifying.rt`, `auditing.rt`, `picturing.rt`, `waving.rt`, `explaining.rt`, `checking.rt`: one command each, from
-//!   its inputs to how it ended. The others stand here; `telling.rt` has what is told while it is played or driven.
+//! - `verifying.rt`, `auditing.rt`, `picturing.rt`, `waving.rt`, `explaining.rt`, `checking.rt`, `generating.rt`: one
+//!   command each, from its inputs to how it ended. The others stand here; `telling.rt` has what is told while it is
+//!   played or driven.
 //! - `objects.rt`: one code, or the words of one message, as an object.
 //! - `testing.rt`: scripts of folders, several at once, and what is told of them. `scripts.rt`: which files of a folder are
 //!   scripts, and what stands beside them; `judging.rt`: one of them, from its files to what became of it.
@@ -34,6 +35,7 @@ mod auditing;
 mod checking;
 mod descriptors;
 mod explaining;
+mod generating;
 mod joined;
 mod judging;
 mod objects;
@@ -54,6 +56,7 @@ use clap::Error;
 use clap::error::ErrorKind;
 use descriptors::hold;
 use explaining::explain;
+use generating::generate;
 use gp_check::{Purpose, ScriptCheckFault};
 use gp_code_objects::{decode_objects, encode_objects};
 use gp_command_line::{Play, Request, StormPlay, Told, parse, request_of};
@@ -637,6 +640,7 @@ fn serve<R: AllocGlobal + Files + Print + Eprint + Input + Clock + Threads + Wai
         Request::Check { files, manner } => end_check(rt, &check_files(rt, files, manner)),
         Request::Test(wanted) => test(rt, host, &wanted),
         Request::Storm { file, play } => storm(rt, file, play),
+        Request::Generate(asked) => generate(rt, &asked),
         Request::Verify(wanted) => verify(rt, wanted),
         Request::Audit(wanted) => audit(rt, &wanted),
         Request::Picture(wanted) => picture(rt, &wanted),

@@ -7,4 +7,5 @@ returns c = λ app was.
     let storm = added _ _ _ _ _ c.in_ok-subcommand-2.ensures replay c.in_ok-storm.ensures in
     let drive = added _ _ _ _ _ c.in_ok-subcommand-3.ensures storm c.in_ok-drive.ensures in
     let check = added _ _ _ _ _ c.in_ok-subcommand-4.ensures drive c.in_ok-check.ensures in
-    last_added c.subcommand-5.result _ _ _ _ c.subcommand-5.ensures check c.in_ok-test.ensures
+    let test = added _ _ _ _ _ c.in_ok-subcommand-5.ensures check c.in_ok-test.ensures in
+    last_added c.subcommand-6.result _ _ _ _ c.subcommand-6.ensures test c.in_ok-generate.ensures

@@ -1,0 +1,3 @@
+pub mod GrowingLemmas
+pub mod ChanceLemmas
+pub mod ScriptLemmas

@@ -1,0 +1,12 @@
+pub mod Chance
+pub mod Scenes
+pub mod Plan
+pub mod Cast
+pub mod Actions
+pub mod Making
+pub mod Course
+pub mod Fields
+pub mod Events
+pub mod Mistakes
+pub mod Tables
+pub mod Script
