@@ -1,7 +1,6 @@
 //! `Counting`, a writer that passes on what it is handed, and counts the lines of it.
-ghost use Rattle.std.specs.Prelude.{◌≡◌, [], IfOk};
+ghost use Rattle.std.specs.Prelude.{◌≡◌, [], length};
 ghost use Rattle.std.specs.Io.KnownBytes.{Appends};
-ghost use Rattle.gp_tally.specs.Counter as counters;
 
 use crate::began::Began;
 use crate::counter::Counter;
@@ -19,6 +18,7 @@ pub struct Counting<B: Began, W: Write> {
 }
 
 impl<B: Began, W: Write> Model for Counting<B, W> {
+    ghost use Rattle.std.specs.Prelude.{◌≡◌, length};
     ghost use Rattle.std.specs.Io.KnownBytes.{Appends};
     ghost use Rattle.std.specs.Coded.{codes};
     ghost use Rattle.std.specs.FinMap as map;
@@ -34,13 +34,16 @@ impl<B: Began, W: Write> Model for Counting<B, W> {
 
     ghost view = { λ c. record { counter = c.counter; inner = c.inner } };
 
-    ghost invariant = { λ c. Appends B.held (W.contents c.inner) c.counter.taken };
+    ghost invariant = { λ c. Appends B.held (W.contents c.inner) c.counter.taken × (c.counter.mask ≡ B.mask)
+        × (length c.counter.ports ≡ B.ports) };
 }
 
 impl<B: Began, W: Write> Counting<B, W> {
     /// Counts by a counter that was handed nothing yet.
     pub fn new(counter: Counter, inner: W) -> Self
         requires nothing { counter.taken ≡ [] }
+        requires mask { counter.mask ≡ B.mask }
+        requires ports { length counter.ports ≡ B.ports }
         requires held { W.contents inner ≡ B.held }
         ensures { result ≡ record { counter = counter; inner = inner } }
     {
@@ -53,7 +56,9 @@ impl<B: Began, W: Write> Counting<B, W> {
 
     /// Gives the counter.
     pub fn counter(&self) -> &Counter
-        ensures { result.now ≡ self.now.counter }
+        ensures counter { result.now ≡ self.now.counter }
+        ensures mask { result.now.mask ≡ B.mask }
+        ensures ports { length result.now.ports ≡ B.ports }
     {
         &self.counter
     }
@@ -69,7 +74,11 @@ impl<B: Began, W: Write> Counting<B, W> {
     pub fn into_parts(self) -> (W, Counter)
         ensures { result ≡ (self.inner, self.counter) }
     {
-        let Counting { inner, counter, of: _ } = self;
+        let Counting {
+            inner,
+            counter,
+            of: _,
+        } = self;
         (inner, counter)
     }
 }

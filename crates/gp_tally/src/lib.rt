@@ -11,7 +11,7 @@
 //!   `Tallies`, several ports.
 //! - `counter.rt`: `Counter`, which counts the lines of a text that comes in any pieces. `counting.rt`: `Counting`, a
 //!   writer that passes on what it is handed and counts its lines. `taken.rt`: the octets that were handed in, which only
-//!   proofs see; `began.rt`: what the writer below held at first. `nowhere.rt`: `Nowhere`, a writer that keeps nothing.
+//!   proofs see; `began.rt`: what that writer began with. `nowhere.rt`: `Nowhere`, a writer that keeps nothing.
 //! - `laws.rt`: the lines that a trace has of entries are counted as the entries.
 //!
 //! Where to make which change: a new count is a field of `PortCounts` or `UnitCounts` and a line of `specs/Tally.antt`;
@@ -38,7 +38,6 @@ pub use began::Began;
 pub use counter::Counter;
 pub use counting::Counting;
 pub use counts::{ALARM_KINDS, PortCounts, REFUSAL_NUMBERS, UnitCounts, kind_place};
-
 pub use nowhere::Nowhere;
 pub use port_tally::PortTally;
 pub use taken::Taken;

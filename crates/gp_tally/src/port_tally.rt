@@ -91,7 +91,8 @@ impl PortTally {
         ensures units { self.new.units ≡ spec.unit_alarmed self.old.units alarm.now }
     {
         if let Some(alarm) = alarm {
-            self.units.change(&alarm.serial, UnitEvent::Raises(alarm.kind));
+            self.units
+                .change(&alarm.serial, UnitEvent::Raises(alarm.kind));
         }
     }
 
