@@ -21,7 +21,7 @@ use Rattle.gp_stream.proofs.SinkLemmas.{takes_more}
 use Rattle.gp_trace.specs.Text.{trace_text}
 use Rattle.gp_replay.specs.declared.fault.PlayFault.{PlayFault}
 use Rattle.gp_replay.specs.declared.fault.PlayFault.TheVariants as faults
-use Rattle.gp_replay.specs.Chassis.{PlayState, opening_play}
+use Rattle.gp_replay.specs.Chassis.{opening_play}
 use Rattle.gp_replay.specs.Laws.{EachPortRuns}
 use Rattle.gp_replay.specs.Play.{TakesAllTurns, all_turns}
 use Rattle.gp_replay.specs.Runs.{PortsRun}

@@ -1,6 +1,6 @@
 -- Lines that are counted one after another, while their text comes in pieces.
-use Rattle.std.proofs.Common.{◌≡◌, ℕ, ◌+◌, ◌<◌, ◌≤◌, ◌||◌, Bool, true, false, List, [], ◌∷◌, ◌++◌, Option, None, Some, Result, Ok, Err, OnOk, length, replicate, take, drop, refl, sym, ap, ◌∙◌, subst, inl, inr, append_assoc, arith}
-use Rattle.std.specs.Prelude.{OnErr, is_err, slice_get, slice_set}
+use Rattle.std.proofs.Common.{◌≡◌, ℕ, ◌||◌, Bool, true, false, List, [], ◌∷◌, ◌++◌, Option, None, Some, Result, Ok, Err, OnOk, length, replicate, refl, sym, ap, ◌∙◌, subst, inl, inr, append_assoc}
+use Rattle.std.specs.Prelude.{OnErr, is_err, slice_get}
 use Rattle.std.specs.List.{All, flat_map}
 use Rattle.std.specs.declared.alloc.AllocError.{AllocError}
 use Rattle.std.proofs.lemmas.List.{append-nil, length-replicate, length-set}
@@ -10,8 +10,8 @@ use Rattle.gp_ploam.specs.declared.check.Mask.{Mask}
 use Rattle.gp_lines.specs.Trace.{is_feed}
 use Rattle.gp_tally.specs.declared.told.Told.{Told}
 use Rattle.gp_tally.specs.Tally.{PortTally, no_tally, noted}
-use Rattle.gp_tally.specs.Ports.{CountsLine, CountsLines, told_at, told_with}
-use Rattle.gp_tally.specs.Text.{CountsText, HasLines, IsOneLine, fed}
+use Rattle.gp_tally.specs.Ports.{CountsLine, CountsLines, told_with}
+use Rattle.gp_tally.specs.Text.{CountsText, IsOneLine, fed}
 use Rattle.gp_tally.specs.Counter.{IsCounting}
 
 -- ---- one line

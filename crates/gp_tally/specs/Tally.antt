@@ -1,5 +1,5 @@
 -- What is counted of a port and of its units by what its lines tell (this profile's own rule).
-use Rattle.std.specs.Prelude.{◌≡◌, ℕ, ◌+◌, ◌-◌, ◌^◌, ◌==◌, ◌<◌, ltb, min, Bool, true, false, if◌then◌else◌, List, Option, None, Some, replicate, slice_get, slice_index, slice_set}
+use Rattle.std.specs.Prelude.{ℕ, ◌+◌, ◌-◌, ◌^◌, ◌==◌, ltb, min, Bool, true, false, if◌then◌else◌, List, Option, None, Some, replicate, slice_get, slice_index, slice_set}
 use Rattle.std.specs.FinMap.{FinMap, empty, get, insert, len}
 use Rattle.std.specs.Option.{unwrap_or}
 use Rattle.gp_alarms.specs.declared.alarm.Alarm.{Alarm}

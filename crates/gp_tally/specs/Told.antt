@@ -1,5 +1,5 @@
 -- What a line of a trace tells that is counted (this profile's own rule).
-use Rattle.std.specs.Prelude.{◌≡◌, ℕ, Bool, true, false, if◌then◌else◌, List, [], ◌∷◌, Option, None, Some, codes, drop, position}
+use Rattle.std.specs.Prelude.{◌≡◌, ℕ, Bool, false, if◌then◌else◌, List, [], ◌∷◌, Option, None, Some, codes, drop, position}
 use Rattle.std.specs.Char.{is_ascii_uppercase}
 use Rattle.std.specs.Result.{result_ok}
 use Rattle.std.specs.Str.{bytes_eq}
@@ -12,12 +12,8 @@ use Rattle.gp_alarms.specs.declared.alarm.AlarmKind.{AlarmKind}
 use Rattle.gp_alarms.specs.declared.alarm.AlarmKind.TheVariants.{Los, Loam, Loa, Suf, Df, Dg}
 use Rattle.gp_machine.specs.declared.event.Event.{Event}
 use Rattle.gp_machine.specs.declared.event.Event.TheVariants as events
-use Rattle.gp_machine.specs.declared.answer.Answer.{Answer}
-use Rattle.gp_machine.specs.declared.entry.Receipt.{Receipt}
 use Rattle.gp_machine.specs.declared.refusal.Refusal.{Refusal}
 use Rattle.gp_machine.specs.declared.refusal.Refusal.TheVariants.{Stray, Garbled, WrongWindow, NotAdmitted, NoId, NoLicence, Busy, NotActive, NotOperating, PendingAlloc, AllocFull, NotHeld, NoAlloc, AlreadySearching}
-use Rattle.gp_machine.specs.declared.reply.Reply.{Reply}
-use Rattle.gp_machine.specs.declared.reply.Reply.TheVariants.{Refused, Found, Ranged}
 use Rattle.gp_machine.specs.Step.{Hears}
 use Rattle.gp_lines.specs.Parts.{parts_of}
 use Rattle.gp_lines.specs.Picks.{first_number}
@@ -28,7 +24,7 @@ use Rattle.gp_tally.specs.declared.told.Happened.{Happened}
 use Rattle.gp_tally.specs.declared.told.Happened.TheVariants as happened
 use Rattle.gp_tally.specs.declared.told.Told.{Told}
 
--- ---- of an entry
+-- ---- of an event
 
 -- what happened, with the message that a burst is read as under the mask
 abbrev pub HappensAs : Mask → Event → Happened → Type 0
@@ -36,32 +32,6 @@ HappensAs mask events.Frame it = it ≡ happened.Frame
 HappensAs mask (events.Burst at octets) it =
     (heard : Option Up) × Hears (mask_value mask) octets heard × (it ≡ happened.Burst heard)
 HappensAs mask (events.Command command) it = it ≡ happened.Command
-
-abbrev pub refusal_of : Reply → Option Refusal
-refusal_of (Refused refusal) = Some refusal
-refusal_of _ = None
-
-abbrev pub found_by : Reply → Option ℕ
-found_by (Found onu) = Some onu
-found_by _ = None
-
-abbrev pub is_ranged : Reply → Bool
-is_ranged (Ranged onu eqd) = true
-is_ranged _ = false
-
--- why the port refused it, which ONU-ID a unit that was found got, whether one was ranged, and the alarm
-abbrev pub answered : Answer → Answered
-answered answer = record {
-  refused = refusal_of answer.reply;
-  found = found_by answer.reply;
-  ranged = is_ranged answer.reply;
-  alarm = answer.alarm;
-}
-
--- what an entry tells
-pub record TellsEntry (mask : Mask) (receipt : Receipt) (told : Told) : Type 0 where
-  pub happened : HappensAs mask receipt.entry.event told.happened
-  pub answered_is : told.answered ≡ answered receipt.entry.answer
 
 -- ---- of the text of an answer
 

@@ -1,7 +1,7 @@
 //! Counts of what the lines of a trace tell of each port and of its units, while the trace goes by.
 //!
-//! Promise: what is counted is exactly what `specs/Tally.antt` says of what each line tells, and the line of an entry
-//! tells exactly what the entry does (`Counting`, `Tallies::count_line`, `traced_lines_are_counted`).
+//! Promise: what is counted is exactly what `specs/Tally.antt` says of what each line tells, in whatever pieces the lines
+//! come, and what is handed on is what was handed in (`Tallies::count_line`, `Counter::ports`, `Counting::passed_on`).
 //!
 //! - `told.rt`: `Told`, what a line tells that is counted; `answered.rt`: what the text of an answer says; `alarm.rt`: the
 //!   alarm at its end; `reading.rt`: a line, read.
@@ -12,7 +12,6 @@
 //! - `counter.rt`: `Counter`, which counts the lines of a text that comes in any pieces. `counting.rt`: `Counting`, a
 //!   writer that passes on what it is handed and counts its lines. `taken.rt`: the octets that were handed in, which only
 //!   proofs see; `began.rt`: what that writer began with. `nowhere.rt`: `Nowhere`, a writer that keeps nothing.
-//! - `laws.rt`: the lines that a trace has of entries are counted as the entries.
 //!
 //! Where to make which change: a new count is a field of `PortCounts` or `UnitCounts` and a line of `specs/Tally.antt`;
 //! what a line tells stands in `specs/Told.antt`.
@@ -25,7 +24,6 @@ mod counter;
 mod counting;
 mod counts;
 mod hearing;
-mod laws;
 mod nowhere;
 mod port_tally;
 mod reading;

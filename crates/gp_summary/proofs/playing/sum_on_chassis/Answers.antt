@@ -1,4 +1,4 @@
-use Rattle.std.proofs.Common.{◌≡◌, ◌<◌, ◌≤◌, ◌*◌, ◌^◌, ◌∙◌, ℕ, List, IfOk, ap, arith, length, subst}
+use Rattle.std.proofs.Common.{◌<◌, ◌≤◌, ◌*◌, ◌^◌, ◌∙◌, ℕ, List, IfOk, ap, arith, length, subst}
 use Rattle.gp_script.specs.View.{script_view}
 use Rattle.gp_replay.specs.Chassis.{opening_play}
 use Rattle.gp_replay.specs.Play.{TakesAllTurns, TakesSomeTurns, all_turns}

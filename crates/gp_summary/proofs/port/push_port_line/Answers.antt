@@ -1,5 +1,4 @@
-use Rattle.std.proofs.Common.{◌≡◌, ◌++◌, ℕ, List, ap, ◌∙◌}
-use Rattle.gp_common.specs.declared.common.Common.{Common}
+use Rattle.std.proofs.Common.{◌≡◌, ◌++◌}
 use Rattle.gp_machine.specs.State.{rows_of}
 use Rattle.gp_summary.specs.Text.{counts_told, port_front}
 use Rattle.gp_summary.proofs.Joined.{join}

@@ -1,4 +1,4 @@
-use Rattle.std.proofs.Common.{◌++◌, ℕ, List, ap, ◌∙◌, refl, rules}
+use Rattle.std.proofs.Common.{◌++◌, ℕ, ap, ◌∙◌, rules}
 use Rattle.gp_machine.specs.State.{PortState}
 use Rattle.gp_summary.specs.Text.{licences_line, port_lines}
 use Rattle.gp_summary.proofs.PortLines.{one_port}

@@ -1,4 +1,4 @@
-use Rattle.std.proofs.Common.{◌≡◌, List, ℕ, [], ◌++◌, OnOk, ap, subst, sym, rules}
+use Rattle.std.proofs.Common.{◌≡◌, List, ℕ, [], ◌++◌, OnOk, subst, sym, rules}
 use Rattle.std.proofs.lemmas.List.{nil_from_length}
 use Rattle.gp_tally.specs.Ports.{CountsLine}
 use Rattle.gp_tally.proofs.counter.count_whole.Goals as goal
