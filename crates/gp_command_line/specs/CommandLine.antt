@@ -1,6 +1,6 @@
 -- The command line (this profile's own rule), where FORM is `[--words] [--time] [--format text|json]`, of `explain` without
 -- `--words`, MASK is `0`, `85` or `0x55`, and JUDGED `[--teqd T].. [--drift D] [--midway] [--mask MASK]`:
--- `oltctl replay [--explain] [--progress] [FORM] [FILE]`
+-- `oltctl replay [--explain] [--progress] [--units] [--summary] [FORM] [FILE]`
 -- `oltctl storm [--explain] [--progress] [--format text|json] [FILE]`
 -- `oltctl drive [--explain] [--done] [FORM] FILE`
 -- `oltctl check [--storm] [-q] [--format text|json] FILE..`
@@ -111,7 +111,7 @@ command name rules = with_rules (new_app name) rules
 abbrev pub replay_rules : Names → List Rule
 replay_rules formats =
     flag_rule (codes "explain") ∷ flag_rule (codes "progress") ∷ flag_rule (codes "words") ∷ flag_rule (codes "time")
-    ∷ format_rule formats ∷ positional_rule (codes "file") ∷ []
+    ∷ flag_rule (codes "units") ∷ flag_rule (codes "summary") ∷ format_rule formats ∷ positional_rule (codes "file") ∷ []
 
 abbrev pub storm_rules : Names → List Rule
 storm_rules formats =

@@ -58,6 +58,8 @@ pub record AsksForTrace (rows : List Row) (told : Told) : Type 0 where
 -- the rows of `replay` ask to play FILE, or standard input where it is left out
 pub record AsksForPlay (rows : List Row) (play : Play) : Type 0 where
   pub trace : AsksForTrace rows play.told
+  pub units : IsFlag rows (codes "units") play.units
+  pub summary : IsFlag rows (codes "summary") play.summary
   pub explain : IsFlag rows (codes "explain") play.explain
   pub progress : IsFlag rows (codes "progress") play.progress
 

@@ -192,6 +192,22 @@ pub(crate) fn in_words<'a>(alloc: Global) -> Arg<'a>
     flag(alloc, "words", "Writes codes in words, as explain does")
 }
 
+pub(crate) fn units_told<'a>(alloc: Global) -> Arg<'a>
+    ensures { HasRule (flag_rule (codes "units")) result }
+{
+    flag(
+        alloc,
+        "units",
+        "Tells at the end what became of each port and of each unit, in a line each",
+    )
+}
+
+pub(crate) fn summary<'a>(alloc: Global) -> Arg<'a>
+    ensures { HasRule (flag_rule (codes "summary")) result }
+{
+    flag(alloc, "summary", "Tells that alone, in place of the trace")
+}
+
 pub(crate) fn timed<'a>(alloc: Global) -> Arg<'a>
     ensures { HasRule (flag_rule (codes "time")) result }
 {

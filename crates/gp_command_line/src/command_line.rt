@@ -7,7 +7,7 @@ ghost use Rattle.std.specs.String.{string_bytes};
 use crate::arguments::{
     at_least, drift, explained, explained_always, file, files, flag, folders, form, format,
     in_words, log, mask, midway, number, only, only_failed, progress, quiet, required, several,
-    side, teqd, timed, trace, up, valued, without,
+    side, summary, teqd, timed, trace, units_told, up, valued, without,
 };
 use crate::help::{
     ABOUT_HELP, AUDIT_HELP, CHECK_HELP, DECODE_HELP, DRIVE_HELP, ENCODE_HELP, EXPLAIN_HELP,
@@ -37,6 +37,8 @@ fn replay<'a>(alloc: Global, formats: &'a [&'a str]) -> Result<Command<'a>, Allo
         progress(alloc),
         in_words(alloc),
         timed(alloc),
+        units_told(alloc),
+        summary(alloc),
         form(alloc, formats),
         file(alloc),
     ]?;

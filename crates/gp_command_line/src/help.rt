@@ -23,6 +23,8 @@ pub const REPLAY_HELP: &str = "\
 Examples:
   oltctl replay script.toml
   oltctl replay --words --time script.toml
+  oltctl replay --units script.toml
+  oltctl replay --summary --format json script.toml
   oltctl replay --explain --progress script.toml
 
 Exit status:

@@ -25,6 +25,10 @@ pub struct Told {
 pub struct Play {
     /// How its trace is written.
     pub told: Told,
+    /// At the end, what became of each unit is told behind the trace.
+    pub units: bool,
+    /// That alone is told, in place of the trace.
+    pub summary: bool,
     /// Of a script that is wrong, where.
     pub explain: bool,
     /// Once a second, how many lines were written.
@@ -289,6 +293,8 @@ fn play_in(found: &ArgMatches<'_>) -> Play
 {
     Play {
         told: told_in(found),
+        units: found.get_flag("units"),
+        summary: found.get_flag("summary"),
         explain: found.get_flag("explain"),
         progress: found.get_flag("progress"),
     }

@@ -100,6 +100,20 @@ impl<L: Ledger> Fibre<L> {
         }
     }
 
+    /// Gives the port.
+    pub fn core(&self) -> &PortCore<L>
+        ensures { result.now ≡ self.now.world.port }
+    {
+        &self.core
+    }
+
+    /// Tells how many licences are free.
+    pub fn free(&self) -> u32
+        ensures { result ≡ self.now.world.free }
+    {
+        self.book.free()
+    }
+
     /// Makes room for what so many events of the port may send and grant, and for so many bursts. It fails only where
     /// there is no memory.
     pub fn reserve(&mut self, events: usize, bursts: usize) -> Result<(), AllocError>

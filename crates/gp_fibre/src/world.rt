@@ -339,6 +339,20 @@ impl<L: Ledger> World<L> {
         self.fibre.forget(self.flights.first_to_come(next));
     }
 
+    /// Gives the port.
+    pub fn port(&self) -> &PortCore<L>
+        ensures { result.now ≡ self.now.fibre.port }
+    {
+        self.fibre.core()
+    }
+
+    /// Tells how many licences are free.
+    pub fn free(&self) -> u32
+        ensures { result ≡ self.now.fibre.free }
+    {
+        self.fibre.free()
+    }
+
     /// Tells how many simulated units there are.
     pub fn units(&self) -> usize
         ensures { result ≡ length self.now.fibre.units }

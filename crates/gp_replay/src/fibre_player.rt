@@ -14,6 +14,7 @@ use gp_fibre::{LossPlan, Losses};
 use gp_licence::MAX_LICENCES;
 use gp_machine::PortConfig;
 use gp_onu::UnitStatus;
+use gp_port::PortCore;
 use gp_ranging::Grant;
 use gp_script::{ScriptEvent, ScriptUnit};
 use std::alloc::{AllocError, Global};
@@ -69,6 +70,20 @@ impl<L: Ledger> FibrePlayer<L> {
         let player = WorldPlayer::begin(alloc, blank, config, licences, units)?;
         let losses = Losses::from(loss);
         Ok(FibrePlayer { player, losses })
+    }
+
+    /// Gives the port.
+    pub fn port(&self) -> &PortCore<L>
+        ensures { result.now ≡ self.now.play.world.fibre.port }
+    {
+        self.player.port()
+    }
+
+    /// Tells how many licences are free.
+    pub fn free(&self) -> u32
+        ensures { result ≡ self.now.play.world.fibre.free }
+    {
+        self.player.free()
     }
 
     /// Ends the fibre, and answers how many licences there are.

@@ -1,6 +1,6 @@
 //! The ports that a script without simulated units is played on.
-ghost use Rattle.std.specs.Prelude.{◌≡◌, ◌+◌, ◌<◌, ◌≤◌, [], ◌∷◌, All, IfOk, OnErr, length};
-ghost use Rattle.std.specs.Option.{ForSome};
+ghost use Rattle.std.specs.Prelude.{◌≡◌, ◌+◌, ◌<◌, ◌≤◌, [], ◌∷◌, All, IfOk, OnErr, length, slice_get};
+ghost use Rattle.std.specs.Option.{ForSome, option_copied};
 ghost use Rattle.gp_ploam.specs.Down.{IsProperDown};
 ghost use Rattle.gp_chassis.specs.Limits.{IsWithin};
 ghost use Rattle.gp_chassis.specs.World.{IsBalanced};
@@ -11,13 +11,14 @@ ghost use Rattle.gp_replay.specs.Play.{TakesTurns};
 ghost use Rattle.gp_replay.specs.Telling.{TellsTurn};
 
 use super::line_buffer::LineBuffer;
-use super::seat::{Seat, close_seats, open_seats, owed_at};
+use super::seat::{Seat, close_seats, core_at, open_seats, owed_at};
 use super::told::Told;
 use super::turn::Turn;
 use gp_chassis::ChassisConfig;
 use gp_licence::{LicenceBook, Licences, MAX_LICENCES};
 use gp_machine::{Entry, Event};
 use gp_ploam::Mask;
+use gp_port::PortCore;
 use std::alloc::{AllocError, Global};
 use std::marker::Model;
 use std::sync::ledger::{Blank, Ledger};
@@ -100,6 +101,20 @@ impl<L: Ledger> Player<L> {
         ensures { result ≡ length self.now.next }
     {
         self.seats.len()
+    }
+
+    /// Gives the port with this number, if there is one.
+    pub fn port(&self, port: u8) -> Option<&PortCore<L>>
+        ensures { option_copied result ≡ slice_get self.now.world.ports port }
+    {
+        core_at(self.seats.as_slice(), port)
+    }
+
+    /// Tells how many licences are free.
+    pub fn free(&self) -> u32
+        ensures { result ≡ self.now.world.free }
+    {
+        self.book.free()
     }
 
     /// Tells how many copies of messages a port still has to send, one with each frame; none where there is no such port.

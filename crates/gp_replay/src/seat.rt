@@ -1,5 +1,6 @@
 //! A port that a script is played on, with the number of its next entry: it takes events without a journal.
 ghost use Rattle.std.specs.Prelude.{◌≡◌, ◌+◌, ◌<◌, ◌^◌, IfOk, IsTrue, All, length, map, slice_get, sum_by};
+ghost use Rattle.std.specs.Option.{option_copied};
 ghost use Rattle.gp_machine.specs.Config.{is_within_limits};
 ghost use Rattle.gp_machine.specs.State.{rows_of};
 ghost use Rattle.gp_replay.specs.Chassis.{owed_of};
@@ -88,6 +89,16 @@ pub(super) fn owed_at<L: Ledger>(seats: &[Seat<L>], port: u8) -> usize
     match seats.get(usize::from(port)) {
         Some(seat) => seat.owed(),
         None => 0,
+    }
+}
+
+/// Gives the port with this number, if there is one.
+pub(super) fn core_at<L: Ledger>(seats: &[Seat<L>], port: u8) -> Option<&PortCore<L>>
+    ensures { option_copied result ≡ slice_get (map port_of seats.now) port }
+{
+    match seats.get(usize::from(port)) {
+        Some(seat) => Some(&seat.core),
+        None => None,
     }
 }
 

@@ -11,6 +11,7 @@ use gp_fibre::{Losses, UnitPlan, World, WorldFault, WorldStep};
 use gp_licence::MAX_LICENCES;
 use gp_machine::{Entry, PortConfig};
 use gp_onu::UnitStatus;
+use gp_port::PortCore;
 use gp_script::ScriptUnit;
 use std::alloc::{AllocError, Global};
 use std::marker::Model;
@@ -132,6 +133,20 @@ impl<L: Ledger> WorldPlayer<L> {
         let number = self.next;
         self.next += 1;
         number
+    }
+
+    /// Gives the port.
+    pub(crate) fn port(&self) -> &PortCore<L>
+        ensures { result.now ≡ self.now.world.fibre.port }
+    {
+        self.world.port()
+    }
+
+    /// Tells how many licences are free.
+    pub(crate) fn free(&self) -> u32
+        ensures { result ≡ self.now.world.fibre.free }
+    {
+        self.world.free()
     }
 
     /// How many simulated units there are.

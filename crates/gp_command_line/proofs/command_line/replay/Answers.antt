@@ -8,6 +8,6 @@ pub returns : goal.returns
 unfolding command
 returns c =
     let start : ReadsAs (new_app (codes "replay")) c.after_help.result = record { is = search rules; local = search rules } in
-    let same : c.in_ok-args.args.items ≡ c.explained.result ∷ c.progress.result ∷ c.in_words.result ∷ c.timed.result ∷ c.form.result ∷ c.file.result ∷ [] = search rules in
+    let same : c.in_ok-args.args.items ≡ c.explained.result ∷ c.progress.result ∷ c.in_words.result ∷ c.timed.result ∷ c.units_told.result ∷ c.summary.result ∷ c.form.result ∷ c.file.result ∷ [] = search rules in
     ruled_by c.args-2.result (replay_rules c.args.formats) _ _ _ _ start same
-    (c.explained.ensures, (c.progress.ensures, (c.in_words.ensures, (c.timed.ensures, (c.form.ensures, (c.file.ensures, tt)))))) c.args-2.ensures
+    (c.explained.ensures, (c.progress.ensures, (c.in_words.ensures, (c.timed.ensures, (c.units_told.ensures, (c.summary.ensures, (c.form.ensures, (c.file.ensures, tt)))))))) c.args-2.ensures

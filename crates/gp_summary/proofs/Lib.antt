@@ -1,0 +1,3 @@
+pub mod Joined
+pub mod PortLines
+pub mod Sums

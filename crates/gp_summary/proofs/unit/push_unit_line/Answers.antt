@@ -1,0 +1,21 @@
+use Rattle.std.proofs.Common.{◌++◌}
+use Rattle.std.specs.List.{flat_map}
+use Rattle.gp_summary.specs.Text.{alarm_told, all_kinds, end_told, unit_counted, unit_held, unit_name, unit_times}
+use Rattle.gp_summary.proofs.Joined.{join, more}
+use Rattle.gp_summary.proofs.unit.push_unit_line.Goals as goal
+
+pub returns : goal.returns
+returns c =
+    let old = c.args.out.now.items in
+    let form = c.args.form in
+    let name = unit_name form c.args.number c.args.serial.now c.args.standing.now.state in
+    let held = unit_held form c.args.standing.now in
+    let counted = unit_counted form c.args.unit.now c.args.standing.now.lost in
+    let alarms = flat_map (alarm_told form c.args.unit.now.alarms) all_kinds in
+    let times = unit_times form c.args.unit.now in
+    let m1 = c.push_name.new.out.items in
+    let m2 = c.push_held.new.out.items in
+    let m3 = c.push_counted.new.out.items in
+    let m4 = c.push_alarms.new.out.items in
+    let m5 = c.push_times.new.out.items in
+    join c.push_end.result old ((((name ++ held) ++ counted) ++ alarms) ++ times) m5 (end_told form) c.push_end.new.out.items (more old (((name ++ held) ++ counted) ++ alarms) m4 m5 times (more old ((name ++ held) ++ counted) m3 m4 alarms (more old (name ++ held) m2 m3 counted (more old name m1 m2 held c.in_ok-push_name.ensures c.in_ok-push_held.ensures) c.in_ok-push_counted.ensures) c.in_ok-push_alarms.ensures) c.in_ok-push_times.ensures) c.push_end.ensures

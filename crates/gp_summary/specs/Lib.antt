@@ -1,0 +1,3 @@
+pub mod Standing
+pub mod Text
+pub mod Summary

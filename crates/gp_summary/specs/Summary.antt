@@ -1,0 +1,77 @@
+-- What a summary tells of a play (this profile's own rule).
+use Rattle.std.specs.Prelude.{◌≡◌, ℕ, List, [], Some, Result, Ok, Err, IfOk, length}
+use Rattle.std.specs.declared.alloc.AllocError.{AllocError}
+use Rattle.std.specs.declared.alloc.Global.{Global}
+use Rattle.std.specs.declared.vec.Vec.{Vec}
+use Rattle.gp_ploam.specs.declared.check.Mask.{Mask}
+use Rattle.gp_machine.specs.declared.entry.Receipt.{Receipt}
+use Rattle.gp_machine.specs.State.{PortState}
+use Rattle.gp_stream.specs.Sink.{SinkState}
+use Rattle.gp_trace.specs.Text.{trace_text}
+use Rattle.gp_script.specs.declared.script.ScriptEvent.{ScriptEvent}
+use Rattle.gp_script.specs.Script.{ScriptView}
+use Rattle.gp_replay.specs.declared.fault.PlayFault.{PlayFault}
+use Rattle.gp_replay.specs.declared.fault.PlayFault.TheVariants as faults
+use Rattle.gp_replay.specs.Playing.{Playing, PlaysAll, PlaysSome}
+use Rattle.gp_replay.specs.Runs.{PortsRun}
+use Rattle.gp_replay.specs.ScriptPlay.{Plays, ByChassis, ByFibre, ends_of}
+use Rattle.gp_replay.specs.Writing.{EndsPlay, PlaysOn, PlaysScript}
+use Rattle.gp_tally.specs.Counting.{CountingState}
+use Rattle.gp_tally.specs.Tally.{PortTally}
+use Rattle.gp_tally.specs.Text.{AreTallies}
+use Rattle.gp_summary.specs.declared.form.SummaryForm.{SummaryForm}
+use Rattle.gp_summary.specs.Text.{Says}
+
+-- how many licences are free at the end of a play
+abbrev pub free_after : (script : ScriptView) (receipts : List Receipt) → Plays script receipts → ℕ
+free_after script receipts (ByChassis none play) = play.end.world.free
+free_after script receipts (ByFibre some play) = play.end.fibre.free
+
+-- the text tells what was counted of these octets, how these ports and their units stand, and the licences
+pub record SaysCounted (form : SummaryForm) (mask : Mask) (taken : List ℕ) (states : List PortState)
+    (count free licences : ℕ) (text : List ℕ) : Type 0 where
+  pub tallies : List PortTally
+  pub counted : AreTallies mask taken tallies
+  pub says : Says form states tallies count free licences text
+
+-- the script was played, and the text tells what was counted of all octets that the writer took, how each port and its
+-- units stand at the end, and the licences. What a sink says that its writer holds is what that writer took: so that is
+-- the whole trace
+pub record IsSummaryOf {W : Type 0} (form : SummaryForm) (script : ScriptView) (after : SinkState (CountingState W))
+    (text : List ℕ) : Type 0 where
+  pub receipts : List Receipt
+  pub plays : Plays script receipts
+  pub runs : PortsRun script.ports receipts (ends_of script receipts plays)
+  pub trace : after.held ≡ Some after.writer.counter.taken
+      → after.writer.counter.taken ≡ trace_text script.mask receipts
+  pub says : SaysCounted form script.mask after.writer.counter.taken (ends_of script receipts plays)
+      (length script.ports) (free_after script receipts plays) script.licences text
+
+-- events are played on a player, and what it has handed in of its lines is written out; where that ends early is told
+-- Inside: no public contract cites this.
+pub record PlaysToEnd {S W : Type 0} (playing : Playing S) (mask : Mask) (events : List ScriptEvent) (old new : S)
+    (before after : SinkState W) (answer : Result (Unit {0}) PlayFault) : Type 0 where
+  pub played : Result (Unit {0}) PlayFault
+  pub mid : SinkState W
+  pub plays : PlaysOn mask (PlaysAll playing events) (PlaysSome playing events) old new before mid played
+  pub ends : EndsPlay mid after played answer
+  pub memory : played ≡ Err faults.OutOfMemory → playing.refuses
+
+-- nothing was handed to the sink, nor to the writer below
+abbrev pub IsFresh : {W : Type 0} → SinkState W → Type 0
+IsFresh sink = (sink.held ≡ Some []) × (sink.gathered ≡ [])
+
+-- how a play ends whose trace went to a writer that counts: what a play promises of its trace, and its summary
+pub record IsSummed {W : Type 0} (form : SummaryForm) (script : ScriptView) (before after : SinkState (CountingState W))
+    (played : Result (Unit {0}) PlayFault) (summary : Result (Vec ℕ Global) AllocError) : Type 0 where
+  pub plays : PlaysScript script before after played
+  pub tells : played ≡ Ok tt → IfOk summary (λ text. IsSummaryOf form script after text.items)
+
+-- a play on a sink that was fresh, and the writer that is given back
+pub record PlaysSummed {W : Type 0} (form : SummaryForm) (script : ScriptView) (counting : CountingState W)
+    (played : Result (Unit {0}) PlayFault) (summary : Result (Vec ℕ Global) AllocError) : Type 0 where
+  pub before : SinkState (CountingState W)
+  pub after : SinkState (CountingState W)
+  pub fresh : IsFresh before
+  pub summed : IsSummed form script before after played summary
+  pub writer : counting ≡ after.writer
