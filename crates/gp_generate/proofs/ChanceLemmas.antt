@@ -1,5 +1,5 @@
 -- Draws one behind the other.
-use Rattle.std.proofs.Common.{◌≡◌, ℕ, ◌+◌, suc, refl, sym, ap, ◌∙◌, add-one}
+use Rattle.std.proofs.Common.{◌≡◌, ℕ, ◌+◌, sym, ap, ◌∙◌, add-one}
 use Rattle.rand_pcg.specs.Lcg.{Lcg}
 use Rattle.gp_generate.specs.declared.chance.Draw.{Draw}
 use Rattle.gp_generate.specs.declared.chance.Drawn.{Drawn}

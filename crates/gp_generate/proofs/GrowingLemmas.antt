@@ -1,5 +1,5 @@
 -- Texts that grow by a piece at a time, and how a sink takes them.
-use Rattle.std.proofs.Common.{◌≡◌, ℕ, zero, suc, ◌+◌, ◌-◌, ◌≤◌, List, [], ◌++◌, OnOk, OnErr, Result, Ok, Err, refl, sym, subst, ap, ◌∙◌, append_assoc, add-one, arith}
+use Rattle.std.proofs.Common.{◌≡◌, ℕ, zero, suc, ◌+◌, ◌-◌, ◌≤◌, List, [], ◌++◌, sym, subst, ap, ◌∙◌, append_assoc, add-one, arith}
 use Rattle.std.proofs.lemmas.List.{append-nil}
 use Rattle.gp_stream.specs.Sink.{SinkState, Takes, TakesPrefix}
 use Rattle.gp_stream.proofs.SinkLemmas.{takes_nothing, takes_prefix_of, takes_prefix_more, takes_more, takes_prefix_after}

@@ -1,8 +1,8 @@
 -- A script that is handed over part by part.
-use Rattle.std.proofs.Common.{◌≡◌, ℕ, ◌+◌, suc, List, [], ◌++◌, OnOk, OnErr, Result, Ok, Err, IsErrAnd, refl, sym, subst, ap, ◌∙◌, add-one}
+use Rattle.std.proofs.Common.{◌≡◌, ℕ, ◌+◌, suc, List, [], ◌++◌, Result, Ok, Err, IsErrAnd, refl, sym, subst, ap, ◌∙◌, add-one}
 use Rattle.std.proofs.lemmas.List.{append-nil}
 use Rattle.gp_stream.specs.Sink.{SinkState, Takes, TakesPrefix}
-use Rattle.gp_stream.proofs.SinkLemmas.{takes_prefix_more, takes_more, takes_prefix_after}
+use Rattle.gp_stream.proofs.SinkLemmas.{takes_more, takes_prefix_after}
 use Rattle.gp_generate.specs.declared.event.Event.{Event}
 use Rattle.gp_generate.specs.declared.mistake.Mistake.{Mistake}
 use Rattle.gp_generate.specs.declared.plan.Wish.{Wish}

@@ -1,5 +1,5 @@
 -- The scenes that a script is made of (this profile's own rule).
-use Rattle.std.specs.Prelude.{ℕ, ◌-◌, ◌/◌, ◌%◌, ◌==◌, ◌||◌, if◌then◌else◌, List, [], ◌∷◌, Option, None, Some, length, nat_le, nat_lt, slice_get}
+use Rattle.std.specs.Prelude.{ℕ, ◌-◌, ◌/◌, ◌%◌, ◌==◌, ◌||◌, if◌then◌else◌, List, [], ◌∷◌, Option, None, length, nat_le, nat_lt, slice_get}
 use Rattle.gp_generate.specs.declared.scene.Scene.{Scene}
 use Rattle.gp_generate.specs.declared.scene.Scene.TheVariants as scene
 use Rattle.gp_generate.specs.declared.step.Opening.{Opening}
@@ -55,7 +55,8 @@ turn_of scene.Answers = Say words.Nothing ∷ Frames 1 ∷ []
 turn_of scene.Unacknowledged = Ask orders.Alloc ∷ Say words.Nothing ∷ Frames 4 ∷ []
 turn_of scene.ManyAllocs = Ask orders.Alloc ∷ Frames 4 ∷ Say words.Ack ∷ Frames 1 ∷ []
 turn_of scene.GivenBack =
-    Ask orders.Alloc ∷ Frames 4 ∷ Say words.Ack ∷ Ask orders.Dealloc ∷ Ask orders.Show ∷ Frames 4 ∷ Say words.Ack ∷ Ask orders.Dealloc ∷ Frames 1 ∷ []
+    Ask orders.Alloc ∷ Frames 4 ∷ Say words.Ack ∷ Ask orders.Dealloc ∷ Ask orders.Show ∷ Frames 4 ∷ Say words.Ack
+    ∷ Ask orders.Dealloc ∷ Frames 1 ∷ []
 turn_of scene.Gasps = Say words.Gasp ∷ Frames 4 ∷ []
 turn_of scene.Popup = Ask orders.Popup ∷ Frames 4 ∷ Say words.Nothing ∷ Frames 1 ∷ []
 turn_of scene.PopupAll = Ask orders.PopupAll ∷ Frames 5 ∷ Say words.Own ∷ Frames 5 ∷ []

@@ -73,7 +73,7 @@ pub const MISTAKES: [Mistake; 20] = [
     Mistake::AdmittedTwice,
 ];
 
-/// Gives the mistake that comes at this place among those of a script: they come in turn, from one on that the seed tells.
+/// Gives the mistake that comes at this place among those of a script: they come in turn, from one that the seed tells.
 pub(crate) fn mistake_by(seed: u64, number: u32) -> Mistake
     ensures { result ≡ spec.mistake_by MISTAKES seed number }
 {

@@ -1,4 +1,4 @@
-use Rattle.std.proofs.Common.{◌≡◌, ℕ, List, Result, ap, refl, rules, subst, arith, ◌≤◌, suc}
+use Rattle.std.proofs.Common.{ℕ, rules, subst, arith}
 use Rattle.gp_stream.specs.Sink.{Takes, TakesPrefix}
 use Rattle.gp_stream.proofs.SinkLemmas.{takes_nothing}
 use Rattle.gp_generate.specs.declared.event.Event.{Event}

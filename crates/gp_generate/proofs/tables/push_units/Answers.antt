@@ -1,4 +1,4 @@
-use Rattle.std.proofs.Common.{◌≡◌, ℕ, List, ◌++◌, refl, rules, ap, ◌∙◌}
+use Rattle.std.proofs.Common.{◌≡◌, ℕ, ◌++◌, refl, rules, ap, ◌∙◌}
 use Rattle.gp_generate.specs.declared.chance.Draw.{Draw}
 use Rattle.gp_generate.specs.declared.chance.Drawn.TheVariants.{Units}
 use Rattle.gp_generate.specs.Chance.{drawn_for}
