@@ -1,6 +1,8 @@
 //! A script of a folder is read and judged by what stands beside it, or its trace is written.
+ghost use Rattle.std.specs.Prelude.{◌≡◌, IfOk, false};
 ghost use Rattle.gp_script.specs.Playable.{IsPlayable};
 ghost use Rattle.gp_script.specs.View.{script_view};
+ghost use Rattle.oltctl.specs.Tested.{PassesBy, is_passed};
 
 use crate::observed::{Observed, Seen, same_error};
 use crate::reporting::cause_text;
@@ -194,7 +196,9 @@ fn write_trace<R: AllocGlobal + Files>(
     rt: &R,
     octets: &[u8],
     path: &str,
-) -> Result<Outcome, AllocError> {
+) -> Result<Outcome, AllocError>
+    ensures { IfOk result (λ outcome. is_passed outcome ≡ false) }
+{
     let alloc = rt.alloc();
     let Ok(script) = read_script(alloc, octets) else {
         return Ok(Outcome::Failed(Failure::Stopped));
@@ -213,6 +217,22 @@ fn write_trace<R: AllocGlobal + Files>(
     }
 }
 
+/// Judges a script with nothing beside it, of which a trace may be written to this path.
+#[tactic(auto, using(crate::proofs::TestedLemmas::nothing_passes))]
+fn judge_alone<R: AllocGlobal + Files>(
+    rt: &R,
+    octets: &[u8],
+    path: &str,
+    bless: bool,
+) -> Result<Outcome, AllocError>
+    ensures { IfOk result (λ outcome. is_passed outcome ≡ false) }
+{
+    match judge::<&[u8]>(rt.alloc(), octets, Expected::Nothing)? {
+        Outcome::Failed(Failure::NothingBeside) if bless => write_trace(rt, octets, path),
+        outcome => Ok(outcome),
+    }
+}
+
 /// Judges a script by what stands beside it; where nothing does and that is wanted, its trace is written.
 fn judge_octets<R: AllocGlobal + Files>(
     rt: &R,
@@ -220,7 +240,9 @@ fn judge_octets<R: AllocGlobal + Files>(
     case: &Case,
     octets: &[u8],
     bless: bool,
-) -> Result<Outcome, AllocError> {
+) -> Result<Outcome, AllocError>
+    ensures { IfOk result (PassesBy case.now.beside) }
+{
     let alloc = rt.alloc();
     let trace = path_of_part(alloc, folder, case, Part::Trace)?;
     match case.beside {
@@ -230,12 +252,7 @@ fn judge_octets<R: AllocGlobal + Files>(
             judge_by(rt, octets, faults.as_str(), Part::Faults)
         }
         Beside::Both => Ok(Outcome::Failed(Failure::BothBeside)),
-        Beside::Nothing => match judge::<&[u8]>(alloc, octets, Expected::Nothing)? {
-            Outcome::Failed(Failure::NothingBeside) if bless => {
-                write_trace(rt, octets, trace.as_str())
-            }
-            outcome => Ok(outcome),
-        },
+        Beside::Nothing => judge_alone(rt, octets, trace.as_str(), bless),
     }
 }
 
@@ -245,7 +262,9 @@ fn judge_case<R: AllocGlobal + Files>(
     folder: &str,
     case: &Case,
     bless: bool,
-) -> Result<Outcome, AllocError> {
+) -> Result<Outcome, AllocError>
+    ensures { IfOk result (PassesBy case.now.beside) }
+{
     let path = path_of_part(rt.alloc(), folder, case, Part::Script)?;
     match read_octets(rt, path.as_str())? {
         Ok(octets) => judge_octets(rt, folder, case, octets.as_slice(), bless),
@@ -259,7 +278,9 @@ pub(crate) fn outcome_of<R: AllocGlobal + Files>(
     folder: &str,
     case: &Case,
     bless: bool,
-) -> Outcome {
+) -> Outcome
+    ensures { PassesBy case.now.beside result }
+{
     match judge_case(rt, folder, case, bless) {
         Ok(outcome) => outcome,
         Err(AllocError) => Outcome::Failed(Failure::OutOfMemory),
