@@ -1,5 +1,5 @@
--- What is said as an object to a line that should be the hexadecimal digits of a code (this profile's own rule). What is
--- passed over, what the digits are and what is wrong with them is as where words are said.
+-- What is said as an object to a line that should be the hexadecimal digits of a code (this profile's own rule). What
+-- is passed over, what the digits are and what is wrong with them is as where words are said.
 use Rattle.std.specs.Prelude.{◌≡◌, ◌⊎◌, ◌==◌, ℕ, ◌+◌, Bool, true, false, List, [], ◌∷◌, ◌++◌, Option, Some, None, Result, Ok, codes, length, slice_index, if◌then◌else◌}
 use Rattle.hex.specs.Hex.{decode_of, encode_lower}
 use Rattle.gp_flow.specs.declared.lines.LinesEnd.{LinesEnd}

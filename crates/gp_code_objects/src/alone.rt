@@ -17,11 +17,12 @@ use gp_stream::Sink;
 use std::alloc::Global;
 use std::io::Write;
 
-/// Writes the object of the message that a text of hexadecimal digits is the code of, downstream or upstream, or that of
-/// the text's first fault, which is answered; its `line` is 1. Digits may stand in either case, and nothing between them.
+/// Writes the object of the message that a text of hexadecimal digits is the code of, downstream or upstream, or that
+/// of the text's first fault, which is answered; its `line` is 1. Digits may stand in either case, and nothing between
+/// them.
 ///
-/// Nothing is written but the whole object, which goes out with all that the sink gathers. Where it is not, the fault is
-/// `OutOfMemory` or `Write`.
+/// Nothing is written but the whole object, which goes out with all that the sink gathers. Where it is not, the fault
+/// is `OutOfMemory` or `Write`.
 pub fn decode_object<W: Write>(
     alloc: Global,
     text: &str,
@@ -52,8 +53,8 @@ pub fn decode_object<W: Write>(
 /// Writes the object of the code of a message in words, downstream or upstream, or that of their first fault, which is
 /// answered; its `line` is 1.
 ///
-/// Nothing is written but the whole object, which goes out with all that the sink gathers. Where it is not, the fault is
-/// `OutOfMemory` or `Write`.
+/// Nothing is written but the whole object, which goes out with all that the sink gathers. Where it is not, the fault
+/// is `OutOfMemory` or `Write`.
 pub fn encode_object<W: Write>(
     alloc: Global,
     text: &[u8],

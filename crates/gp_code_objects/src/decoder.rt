@@ -1,5 +1,5 @@
-//! `decode_objects`: each line of an input is answered as it comes, by the object of its code or of its fault. Memory is
-//! flat.
+//! `decode_objects`: each line of an input is answered as it comes, by the object of its code or of its fault. Memory
+//! is flat.
 ghost use Rattle.std.specs.Prelude.{◌≡◌, ◌+◌, ◌<◌, ◌^◌, true};
 ghost use Rattle.gp_decode.specs.Lines.{after};
 ghost use Rattle.gp_code_objects.specs.Decoded.{DecodesToObjects, opened_objects};

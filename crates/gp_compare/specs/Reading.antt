@@ -68,7 +68,8 @@ pub record ShowsHere {R : Type 0} (place : PlaceState) (before after : AheadStat
   pub shown : ShowsDifference place before after came difference
   pub kept : before.rest ≡ [] → (shown.read ≡ []) × (after ≡ before)
 
--- the first octet that comes is not as expected there: what was read is the rest before and all that is expected behind it
+-- the first octet that comes is not as expected there: what was read is the rest before and all that is expected behind
+-- it
 pub record IsOther {R : Type 0} (place : PlaceState) (before after : AheadState R) (came : List ℕ)
     (difference : Difference) : Type 0 where
   pub shows : ShowsDifference place before after came difference

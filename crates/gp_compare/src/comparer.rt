@@ -17,8 +17,8 @@ use std::io::{ErrorKind, Read, Write};
 use std::marker::{Model, PhantomData};
 
 /// A writer that reads what is expected beside what it takes. Behind the first octet that differs it takes no more than
-/// the rest of that line, as far as it is shown, and then every write fails. Once a read fails or memory is refused, every
-/// write fails too. Contracts see what it took, and where that differs; what is expected is `E`'s.
+/// the rest of that line, as far as it is shown, and then every write fails. Once a read fails or memory is refused,
+/// every write fails too. Contracts see what it took, and where that differs; what is expected is `E`'s.
 #[derive(Drop)]
 pub struct Comparer<E: Expects, R: Read> {
     alloc: Global,
@@ -138,8 +138,8 @@ impl<E: Expects, R: Read> Comparer<E, R> {
         self.take_more(octets)
     }
 
-    /// Ends the text, and tells where it is the first time not as expected, if it isn't: if it is, all that is expected was
-    /// read. Fails where it was not compared to its end.
+    /// Ends the text, and tells where it is the first time not as expected, if it isn't: if it is, all that is expected
+    /// was read. Fails where it was not compared to its end.
     pub fn end(self) -> Result<Option<Difference>, CompareFault>
     where
         R: Drop,
@@ -163,8 +163,8 @@ impl<E: Expects, R: Read> Comparer<E, R> {
         }
     }
 
-    /// Tells of a text that was not handed in to its end where it is not as expected; None where all of it that was taken
-    /// is. Fails where that is not known.
+    /// Tells of a text that was not handed in to its end where it is not as expected; None where all of it that was
+    /// taken is. Fails where that is not known.
     pub fn stop(self) -> Result<Option<Difference>, CompareFault>
     where
         R: Drop,

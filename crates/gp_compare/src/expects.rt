@@ -1,8 +1,8 @@
 //! What a comparer is to be handed.
 use std::marker::Brand;
 
-/// What a comparer is to be handed, where that is known. It stands in contracts alone, and each call of a function over it
-/// picks it.
+/// What a comparer is to be handed, where that is known. It stands in contracts alone, and each call of a function over
+/// it picks it.
 pub trait Expects {
     ghost use Rattle.std.specs.Prelude.{ℕ, List, Option};
 

@@ -76,7 +76,8 @@ pub(crate) fn make_step<R: Read>(
     Ok(Step::Other(difference))
 }
 
-/// Tells what else is expected at the end of what comes, if anything is. Fails where a read fails, or memory is refused.
+/// Tells what else is expected at the end of what comes, if anything is. Fails where a read fails, or memory is
+/// refused.
 pub(crate) fn make_end<R: Read>(
     alloc: Global,
     ahead: &mut Ahead<R>,

@@ -45,8 +45,8 @@ fn compare_by<E: Expects, R: Read + Drop>(
     comparer.stop()
 }
 
-/// Compares a text with what a source gives, and tells where it is the first time not as expected, if it isn't: if it is,
-/// all that the source gives was read. Fails where that is not known.
+/// Compares a text with what a source gives, and tells where it is the first time not as expected, if it isn't: if it
+/// is, all that the source gives was read. Fails where that is not known.
 pub fn compare_text<R: Read + Drop>(
     alloc: Global,
     text: &[u8],

@@ -1,5 +1,5 @@
--- What is told as JSON of the line that a trace has of an entry (this profile's own rule): its fields, and never the line
--- as one text.
+-- What is told as JSON of the line that a trace has of an entry (this profile's own rule): its fields, and never the
+-- line as one text.
 use Rattle.std.specs.Prelude.{◌≡◌, ℕ, List, ◌++◌, Option, codes}
 use Rattle.gp_ploam.specs.declared.check.Mask.{Mask}
 use Rattle.gp_lines.specs.Parts.{parts_of}

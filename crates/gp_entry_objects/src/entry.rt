@@ -8,8 +8,8 @@ use crate::held::{event_holds, grant_holds, is_small, reply_holds, sent_holds};
 use gp_machine::Receipt;
 use gp_ploam::Mask;
 
-/// States that the line which a trace has of an entry, under the mask of its port's codes, has fields, under whatever mask
-/// its codes are told, and that each object that is told of the line has these fields: it is not told as one text.
+/// States that the line which a trace has of an entry, under the mask of its port's codes, has fields, under whatever
+/// mask its codes are told, and that each object that is told of the line has these fields: it is not told as one text.
 ///
 /// It looks at the entry, and changes nothing.
 pub fn entry_is_told(mask: Mask, told: Mask, receipt: &Receipt)

@@ -129,8 +129,8 @@ fn push_strays(
     Ok(())
 }
 
-/// Gives the traces and the lists of faults among the files of a folder beside which there is no script, in the order of
-/// their names there. Fails where memory was refused.
+/// Gives the traces and the lists of faults among the files of a folder beside which there is no script, in the order
+/// of their names there. Fails where memory was refused.
 pub fn strays_of(alloc: Global, files: &[String]) -> Result<Vec<Stray>, AllocError>
     ensures { IfOk result (λ strays. map spec.stray_view strays.items ≡ spec.strays_of files.now) }
 {

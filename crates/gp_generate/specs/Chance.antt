@@ -1,5 +1,5 @@
--- What is drawn by chance: the words of PCG32 (O'Neill, 2014), four for each table, from a stream for each kind of table
--- (this profile's own rule).
+-- What is drawn by chance: the words of PCG32 (O'Neill, 2014), four for each table, from a stream for each kind of
+-- table (this profile's own rule).
 use Rattle.std.specs.Prelude.{ℕ, zero, suc}
 use Rattle.rand_pcg.specs.Lcg.{Lcg, started, increment_of}
 use Rattle.rand_pcg.specs.Pcg.{multiplier_64, pcg32}

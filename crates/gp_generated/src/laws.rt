@@ -1,4 +1,5 @@
-//! The laws that each event of a generated script is within its ranges, and that such an event is read as what is meant.
+//! The laws that each event of a generated script is within its ranges, and that such an event is read as what is
+//! meant.
 ghost use Rattle.std.specs.Prelude.{◌≡◌, ℕ, Ok};
 ghost use Rattle.gp_ploam.specs.declared.check.Mask.{Mask as AnyMask};
 ghost use Rattle.gp_script.specs.Event.{event_of};

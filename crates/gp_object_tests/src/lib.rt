@@ -6,8 +6,8 @@
 //! - `decode.rt`, `encode.rt`: lines of codes and of words, and single ones, and the object of each; `decode/rows.rt`
 //!   has the messages, `decode/lines.rt` what is told of many lines.
 //! - `storm.rt`: the totals of a storm.
-//! - `trace.rt`: the line of an entry, and its object; `trace/events.rt` has a row for each event, `trace/replies.rt` for
-//!   each reply and refusal, `trace/rest.rt` for each message sent, grant and alarm.
+//! - `trace.rt`: the line of an entry, and its object; `trace/events.rt` has a row for each event, `trace/replies.rt`
+//!   for each reply and refusal, `trace/rest.rt` for each message sent, grant and alarm.
 #![tactic(auto)]
 
 #[cfg(test)]

@@ -28,8 +28,8 @@ IsJudgedPlay script trace (outcomes.Failed (failures.OtherTrace difference)) = P
 IsJudgedPlay script trace (outcomes.Failed failures.Stopped) = PlaysStopped script
 IsJudgedPlay script trace outcome = IsUnread parts.Trace outcome
 
--- what becomes of one that is wrong, of which this is told: it passes only where that, with a line feed behind it, is all
--- of what is expected, to the last octet
+-- what becomes of one that is wrong, of which this is told: it passes only where that, with a line feed behind it, is
+-- all of what is expected, to the last octet
 abbrev pub IsJudgedTold : List ℕ → Option (List ℕ) → Outcome → Type 0
 IsJudgedTold told faults outcomes.Refused = IsAll faults (told ++ 10 ∷ [])
 IsJudgedTold told faults (outcomes.Failed (failures.OtherFault difference)) =

@@ -11,8 +11,8 @@ use crate::words::why;
 use itoa::Buffer;
 use std::alloc::{AllocError, Global};
 
-/// What stands in an attribute for an octet that can't stand there as it is; None where it can. XML knows no other control
-/// character than these, not even by its number.
+/// What stands in an attribute for an octet that can't stand there as it is; None where it can. XML knows no other
+/// control character than these, not even by its number.
 fn escape_of(octet: u8) -> Option<&'static str>
     ensures { MatchOption result (spec.escaped octet ≡ octet ∷ []) (λ text. text.now ≡ spec.escaped octet) }
 {
@@ -156,8 +156,8 @@ fn push_suite_begin(out: &mut Vec<u8>, folder: &str, tally: &Tally) -> Result<()
     out.extend_from_slice(b">\n")
 }
 
-/// Appends the suite of a folder: a test case for each of its files. Where memory is refused, a part of it may have been
-/// appended.
+/// Appends the suite of a folder: a test case for each of its files. Where memory is refused, a part of it may have
+/// been appended.
 pub fn push_suite(
     alloc: Global,
     out: &mut Vec<u8>,

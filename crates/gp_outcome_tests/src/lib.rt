@@ -1,5 +1,5 @@
-//! The tests of `gp_folder`, `gp_compare` and `gp_outcome`: what they print, in texts that are written by hand, and sources
-//! that fail or give their octets in pieces. They stand here, since a crate with tests is proved twice.
+//! The tests of `gp_folder`, `gp_compare` and `gp_outcome`: what they print, in texts that are written by hand, and
+//! sources that fail or give their octets in pieces. They stand here, since a crate with tests is proved twice.
 //!
 //! - `folders.rt`: which files of a folder belong together.
 //! - `comparing.rt`: where two texts differ, and what is shown of that.

@@ -4,8 +4,8 @@
 //! `specs/Text.antt`, of what is counted of the trace and of the ports at the end (`play_summed`).
 //!
 //! - `form.rt`: `SummaryForm`, text or JSON. `pieces.rt`: numbers behind their names, and counts by a name each.
-//! - `standing.rt`: how a unit stands. `port.rt`, `unit.rt`: the line of a port and of a unit. `lines.rt`: a port with its
-//!   units, and the licences. `ports.rt`: the ports that a script was played on.
+//! - `standing.rt`: how a unit stands. `port.rt`, `unit.rt`: the line of a port and of a unit. `lines.rt`: a port with
+//!   its units, and the licences. `ports.rt`: the ports that a script was played on.
 //! - `playing.rt`: `play_summed`, a script that is played and summed.
 //!
 //! Where to make which change: what a line says stands in `specs/Text.antt`; what is counted, in `gp_tally`.

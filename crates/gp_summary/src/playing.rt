@@ -21,8 +21,8 @@ use std::io::Write;
 use std::marker::Brand;
 use std::sync::ledger::{Blank, Ledger};
 
-/// How a play ended: whether its trace was written, and its summary, which is an error where the play was not written to
-/// its end, or memory was refused.
+/// How a play ended: whether its trace was written, and its summary, which is an error where the play was not written
+/// to its end, or memory was refused.
 #[derive(Drop)]
 pub struct Ended {
     /// Whether the script was played and its trace written, or why not.
@@ -156,12 +156,12 @@ fn sum_on<B: Began, L: Ledger, W: Write + Drop>(
 }
 
 /// Plays a script and writes its trace as a replay does, to a writer that passes it on, and tells at the end what was
-/// counted of it, how each port and its units stand, and how many licences are free. Memory is flat in the length of the
-/// play.
+/// counted of it, how each port and its units stand, and how many licences are free. Memory is flat in the length of
+/// the play.
 ///
-/// Memory for the counts, for the sink and for the ports is taken first; while it is played only where a unit is found for
-/// the first time. Where that is refused, the trace is still written, and there is no summary. An error is answered where
-/// nothing was played and nothing written.
+/// Memory for the counts, for the sink and for the ports is taken first; while it is played only where a unit is found
+/// for the first time. Where that is refused, the trace is still written, and there is no summary. An error is answered
+/// where nothing was played and nothing written.
 pub fn play_summed<B: Began, W: Write + Drop>(
     alloc: Global,
     script: Script,

@@ -18,8 +18,8 @@ use std::marker::Model;
 /// The octet that ends a line.
 const LINE_FEED: u8 = b'\n';
 
-/// Counts the lines of a text that comes in any pieces. Contracts see what it was handed, the mask of its codes, what is
-/// counted, and whether memory was refused: from then on nothing more is counted.
+/// Counts the lines of a text that comes in any pieces. Contracts see what it was handed, the mask of its codes, what
+/// is counted, and whether memory was refused: from then on nothing more is counted.
 #[derive(Drop)]
 pub struct Counter {
     tallies: Tallies,
@@ -136,8 +136,8 @@ impl Counter {
         self.taken.note(b"\n");
     }
 
-    /// Takes octets behind those that it has, in any pieces, and counts each line at its line feed. Takes memory where a
-    /// unit is new, and where a line is open at the end of a piece that is longer than any of a trace.
+    /// Takes octets behind those that it has, in any pieces, and counts each line at its line feed. Takes memory where
+    /// a unit is new, and where a line is open at the end of a piece that is longer than any of a trace.
     pub fn take(&mut self, octets: &[u8])
         ensures taken { self.new.taken ≡ self.old.taken ++ octets.now }
         ensures mask { self.new.mask ≡ self.old.mask }

@@ -8,8 +8,8 @@ use std::io;
 use std::io::Write;
 use std::marker::{Model, PhantomData};
 
-/// A writer that passes on what it is handed to the writer below, and counts the lines of what that took. Where memory for
-/// the counts is refused, it goes on to write. Contracts see its counter and the writer below.
+/// A writer that passes on what it is handed to the writer below, and counts the lines of what that took. Where memory
+/// for the counts is refused, it goes on to write. Contracts see its counter and the writer below.
 #[derive(Drop)]
 pub struct Counting<B: Began, W: Write> {
     inner: W,

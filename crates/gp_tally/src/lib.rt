@@ -1,17 +1,18 @@
 //! Counts of what the lines of a trace tell of each port and of its units, while the trace goes by.
 //!
-//! Promise: what is counted is exactly what `specs/Tally.antt` says of what each line tells, in whatever pieces the lines
-//! come, and what is handed on is what was handed in (`Tallies::count_line`, `Counter::ports`, `Counting::passed_on`).
+//! Promise: what is counted is exactly what `specs/Tally.antt` says of what each line tells, in whatever pieces the
+//! lines come, and what is handed on is what was handed in (`Tallies::count_line`, `Counter::ports`,
+//! `Counting::passed_on`).
 //!
-//! - `told.rt`: `Told`, what a line tells that is counted; `answered.rt`: what the text of an answer says; `alarm.rt`: the
-//!   alarm at its end; `reading.rt`: a line, read.
-//! - `counts.rt`: `PortCounts` and `UnitCounts`, what is counted of a port and of a unit, and `UnitEvent`, what happens to
-//!   a unit. `units.rt`: the map from serial numbers to these counts.
-//! - `port_tally.rt`: `PortTally`, a port with its units; `hearing.rt`: what a burst changes of the units. `tallies.rt`:
-//!   `Tallies`, several ports.
+//! - `told.rt`: `Told`, what a line tells that is counted; `answered.rt`: what the text of an answer says; `alarm.rt`:
+//!   the alarm at its end; `reading.rt`: a line, read.
+//! - `counts.rt`: `PortCounts` and `UnitCounts`, what is counted of a port and of a unit, and `UnitEvent`, what happens
+//!   to a unit. `units.rt`: the map from serial numbers to these counts.
+//! - `port_tally.rt`: `PortTally`, a port with its units; `hearing.rt`: what a burst changes of the units.
+//!   `tallies.rt`: `Tallies`, several ports.
 //! - `counter.rt`: `Counter`, which counts the lines of a text that comes in any pieces. `counting.rt`: `Counting`, a
-//!   writer that passes on what it is handed and counts its lines. `taken.rt`: the octets that were handed in, which only
-//!   proofs see; `began.rt`: what that writer began with. `nowhere.rt`: `Nowhere`, a writer that keeps nothing.
+//!   writer that passes on what it is handed and counts its lines. `taken.rt`: the octets that were handed in, which
+//!   only proofs see; `began.rt`: what that writer began with. `nowhere.rt`: `Nowhere`, a writer that keeps nothing.
 //!
 //! Where to make which change: a new count is a field of `PortCounts` or `UnitCounts` and a line of `specs/Tally.antt`;
 //! what a line tells stands in `specs/Told.antt`.

@@ -63,8 +63,8 @@ impl Tallies {
         }
     }
 
-    /// Counts what a line of a trace tells, which stands without its line feed and whose codes are under this mask; of any
-    /// other line, nothing. Fails only where a unit is new, and there is no memory; nothing is counted then.
+    /// Counts what a line of a trace tells, which stands without its line feed and whose codes are under this mask; of
+    /// any other line, nothing. Fails only where a unit is new, and there is no memory; nothing is counted then.
     pub fn count_line(&mut self, mask: Mask, text: &[u8]) -> Result<(), AllocError>
         ensures ok { OnOk result (CountsLine mask text.now self.old self.new) }
         ensures same { OnErr result (self.new ≡ self.old) }
