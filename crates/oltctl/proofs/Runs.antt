@@ -8,7 +8,6 @@ use Rattle.gp_replay.specs.declared.fault.RunFault.{RunFault}
 use Rattle.gp_replay.specs.declared.fault.RunFault.TheVariants as runs
 use Rattle.gp_replay.specs.Outcome.{OfScript, ReadsBy, RunAnswer, RunEnds}
 use Rattle.gp_check.specs.declared.fault.ScriptCheckFault.{ScriptCheckFault}
-use Rattle.gp_check.specs.declared.found.Found.{Found}
 use Rattle.gp_check.specs.declared.found.Found.TheVariants as founds
 use Rattle.gp_check.specs.declared.telling.CheckManner.{CheckManner}
 use Rattle.gp_check.specs.declared.telling.Told.{Told}
