@@ -7,7 +7,8 @@
 //! is `gp_command_line`'s.
 //!
 //! - `verifying.rt`, `auditing.rt`, `picturing.rt`, `waving.rt`, `explaining.rt`, `checking.rt`: one command each, from
-//!   its inputs to how it ended. The others stand here; `telling.rt` has what is told while it is played or driven.
+//!   its inputs to how it ended. The others stand here; `telling.rt` has what is told while it is played or driven,
+//!   `summing.rt` what is told at its end.
 //! - `observed.rt`: an input, and what is remembered of it. `joined.rt`: words as one text, as they are decoded or
 //!   encoded. `descriptors.rt`: what is held where a standard stream is closed.
 //! - `reporting.rt`: what goes to standard error, with the exit status. `progress.rt`: lines that went by, told once a
@@ -35,6 +36,7 @@ mod observed;
 mod picturing;
 mod progress;
 mod reporting;
+mod summing;
 mod telling;
 mod ticking;
 mod verifying;
@@ -79,7 +81,7 @@ use waving::waves;
 
 /// Tells whether the trace alone is wanted of a replay, as it is.
 fn is_usual(play: Play) -> bool {
-    is_plain(play.told) && !play.explain && !play.progress
+    is_plain(play.told) && !play.units && !play.summary && !play.explain && !play.progress
 }
 
 /// Plays the script that a reader gives, to standard output.
