@@ -9,7 +9,7 @@
 //!
 //! - `verifying.rt`, `auditing.rt`, `picturing.rt`, `waving.rt`, `explaining.rt`, `checking.rt`, `generating.rt`: one
 //!   command each, from its inputs to how it ended. The others stand here; `telling.rt` has what is told while it is
-//!   played or driven.
+//!   played or driven, `summing.rt` what is told at its end.
 //! - `objects.rt`: one code, or the words of one message, as an object.
 //! - `testing.rt`: scripts of folders, several at once, and what is told of them. `scripts.rt`: which files of a folder are
 //!   scripts, and what stands beside them; `judging.rt`: one of them, from its files to what became of it.
@@ -44,6 +44,7 @@ mod picturing;
 mod progress;
 mod reporting;
 mod scripts;
+mod summing;
 mod telling;
 mod testing;
 mod ticking;
@@ -93,7 +94,7 @@ use waving::waves;
 
 /// Tells whether the trace alone is wanted of a replay, as it is.
 fn is_usual(play: Play) -> bool {
-    is_plain(play.told) && !play.explain && !play.progress
+    is_plain(play.told) && !play.units && !play.summary && !play.explain && !play.progress
 }
 
 /// Plays the script that a reader gives, to standard output.

@@ -4,6 +4,7 @@ ghost use Rattle.gp_script.specs.Playable.{IsPlayable};
 ghost use Rattle.gp_script.specs.View.{script_view};
 
 use crate::progress::Counted;
+use crate::summing::{play_for_summary, play_with_units};
 use gp_command_line::{Play, Told};
 use gp_drive::{DriveFault, DriveManner, Driven, drive_script};
 use gp_explain::{Form, Telling};
@@ -11,6 +12,7 @@ use gp_flow::{LineFault, LinesFault};
 use gp_replay::{PlayFault, play_script};
 use gp_script::{Script, ScriptEvent, read_script};
 use gp_stream::{Sink, Source, read_all};
+use gp_tally::Nowhere;
 use gp_tell::{Began, TellFault, Teller};
 use std::alloc::Global;
 use std::io;
@@ -46,18 +48,19 @@ fn expected_lines(script: &Script) -> Option<u64> {
     Some(lines)
 }
 
-/// Gives standard output, whose lines are counted and told once a second where that is wanted.
-fn output<'r, R: AllocGlobal + Print + Eprint + Clock>(
+/// Gives a writer, whose lines are counted and told once a second where that is wanted.
+fn counted<'r, R: Eprint + Clock, W: Write>(
     rt: &'r R,
     script: &Script,
     progress: bool,
-) -> Counted<'r, R, io::Printer<'r, R>> {
+    inner: W,
+) -> Counted<'r, R, W> {
     let expected = if progress {
         expected_lines(script)
     } else {
         None
     };
-    Counted::new(rt, io::writer(rt), progress, expected)
+    Counted::new(rt, inner, progress, expected)
 }
 
 /// How a play ended, where what was told of it may have had a fault.
@@ -106,7 +109,15 @@ pub(crate) fn play_so<R: AllocGlobal + Print + Eprint + Clock>(
 ) -> Result<(), PlayFault>
     requires { IsPlayable (script_view script) }
 {
-    let writer = output(rt, &script, play.progress);
+    if play.summary {
+        let trace = counted(rt, &script, play.progress, Nowhere);
+        return play_for_summary(rt.alloc(), script, play.told, trace, io::writer(rt));
+    }
+    let writer = counted(rt, &script, play.progress, io::writer(rt));
+    if play.units {
+        let plain = is_plain(play.told);
+        return play_with_units(rt.alloc(), script, play.told, plain, writer);
+    }
     if !is_plain(play.told) {
         return play_told(rt.alloc(), script, play.told, writer);
     }
