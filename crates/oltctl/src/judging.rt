@@ -9,9 +9,10 @@ use crate::reporting::cause_text;
 use gp_folder::{Beside, Case, Part};
 use gp_outcome::{Expected, Failure, Outcome, judge, path_of};
 use gp_replay::{PlayFault, play_script};
-use gp_script::{Script, read_script};
+use gp_script::{Script, ScriptError, read_script};
 use gp_stream::{Sink, Source, SourceFault, read_all};
 use std::alloc::{AllocError, Global};
+use std::fs::File;
 use std::io::Write;
 use std::rt::Files;
 use std::{fs, io};
@@ -149,24 +150,23 @@ fn judge_by<R: AllocGlobal + Files>(
     }
 }
 
-/// Plays a script into a new file.
-fn write_file<R: AllocGlobal + Files>(
-    rt: &R,
+/// Plays a script into a file.
+fn play_into<F: Write + Drop>(
+    alloc: Global,
     script: Script,
-    path: &str,
+    file: F,
 ) -> Result<(), Option<io::Error>>
     requires { IsPlayable (script_view script) }
 {
-    let file = fs::create(rt, path).map_err(Some)?;
     let mut error = None;
     let blamed = Blamed {
         inner: file,
         error: &mut error,
     };
-    let Ok(mut sink) = Sink::new(rt.alloc(), blamed) else {
+    let Ok(mut sink) = Sink::new(alloc, blamed) else {
         return Err(Some(io::Error::from(io::ErrorKind::OutOfMemory)));
     };
-    let played = play_script(rt.alloc(), script, &mut sink);
+    let played = play_script(alloc, script, &mut sink);
     drop(sink);
     match played {
         Ok(()) => Ok(()),
@@ -175,23 +175,38 @@ fn write_file<R: AllocGlobal + Files>(
     }
 }
 
-/// Plays a script into a file beside the one that it then becomes, so that none is there that is not whole.
+/// Plays a script into a file aside, which is new and then gets its name: so no trace is there that is not whole, and
+/// none that was there is written over, whoever wrote it meanwhile. The name aside goes again.
 fn write_aside<R: AllocGlobal + Files>(
     rt: &R,
     script: Script,
+    file: R::File,
     path: &str,
     aside: &str,
 ) -> Result<(), Option<io::Error>>
     requires { IsPlayable (script_view script) }
 {
-    if let Err(error) = write_file(rt, script, aside) {
-        let _ = fs::remove_file(rt, aside);
-        return Err(error);
-    }
-    fs::rename(rt, aside, path).map_err(Some)
+    let written = match play_into(rt.alloc(), script, file) {
+        Ok(()) => fs::hard_link(rt, aside, path).map_err(Some),
+        Err(error) => Err(error),
+    };
+    let _ = fs::remove_file(rt, aside);
+    written
 }
 
-/// Writes the trace of a script.
+/// A trace that was not written, since something happened to this file.
+fn unwritten(alloc: Global, file: &str, error: Option<io::Error>) -> Result<Outcome, AllocError>
+    ensures { IfOk result (λ outcome. is_passed outcome ≡ false) }
+{
+    let cause = match error {
+        None => String::from_str(alloc, "a write failed or took nothing")?,
+        Some(error) => cause_text(alloc, &error)?,
+    };
+    let cause = format!(in alloc; "{file}: {cause}")?;
+    Ok(Outcome::Failed(Failure::Unwritten { cause }))
+}
+
+/// Writes the trace of a script, where neither it nor the file aside is there.
 fn write_trace<R: AllocGlobal + Files>(
     rt: &R,
     octets: &[u8],
@@ -200,20 +215,19 @@ fn write_trace<R: AllocGlobal + Files>(
     ensures { IfOk result (λ outcome. is_passed outcome ≡ false) }
 {
     let alloc = rt.alloc();
-    let Ok(script) = read_script(alloc, octets) else {
-        return Ok(Outcome::Failed(Failure::Stopped));
+    let script = match read_script(alloc, octets) {
+        Ok(script) => script,
+        Err(ScriptError::OutOfMemory) => return Err(AllocError),
+        Err(ScriptError::Fault(_)) => return Ok(Outcome::Failed(Failure::Stopped)),
     };
     let aside = format!(in alloc; "{path}.new")?;
-    match write_aside(rt, script, path, aside.as_str()) {
+    let file = match File::create_new(rt, aside.as_str()) {
+        Ok(file) => file,
+        Err(error) => return unwritten(alloc, aside.as_str(), Some(error)),
+    };
+    match write_aside(rt, script, file, path, aside.as_str()) {
         Ok(()) => Ok(Outcome::Written),
-        Err(None) => {
-            let cause = String::from_str(alloc, "a write failed or took nothing")?;
-            Ok(Outcome::Failed(Failure::Unwritten { cause }))
-        }
-        Err(Some(error)) => {
-            let cause = cause_text(alloc, &error)?;
-            Ok(Outcome::Failed(Failure::Unwritten { cause }))
-        }
+        Err(error) => unwritten(alloc, path, error),
     }
 }
 
