@@ -205,7 +205,11 @@ pub(crate) fn units_told<'a>(alloc: Global) -> Arg<'a>
 pub(crate) fn summary<'a>(alloc: Global) -> Arg<'a>
     ensures { HasRule (flag_rule (codes "summary")) result }
 {
-    flag(alloc, "summary", "Tells that alone, in place of the trace")
+    flag(
+        alloc,
+        "summary",
+        "Writes what --units tells, in place of the trace",
+    )
 }
 
 pub(crate) fn timed<'a>(alloc: Global) -> Arg<'a>

@@ -64,6 +64,7 @@ Of each NAME.toml in a folder:
   NAME.faults beside it   the script is wrong: what check tells behind the file's
                           name has to be this, and a line feed
   neither                 it fails; with --bless its NAME.trace is written
+  both                    it fails
 What fails has a line on standard output: where it differs the first time, what was
 expected there and what came. A folder without a script fails too, and so does a
 NAME.trace or NAME.faults without NAME.toml. Other files are passed over.
@@ -96,7 +97,8 @@ pub const GENERATE_HELP: &str = "\
 The script is fixed by the options, which its first line repeats. Without units
 it has scenes on each port: units that are found, ranged, polled, lost, disabled
 and wrong in each way. With units it is a world of one port, with losses and
-with light that comes and goes. A mistake is told by a comment before it.
+with light that comes and goes. What is wrong with an event is told by a comment
+before it.
 
 Examples:
   oltctl generate --seed 7 > lab.toml
