@@ -105,9 +105,10 @@ impl<W: Write> Sink<W> {
         Ok(Sink { writer, gathered })
     }
 
-    /// Returns the writer below. What is gathered is lost.
+    /// Returns the writer below, which holds what the sink says that it holds. What is gathered is lost.
     pub fn into_inner(self) -> W
-        ensures { result ≡ self.writer }
+        ensures writer { result ≡ self.writer }
+        ensures held { W.contents result ≡ self.held }
     {
         let Sink { writer, .. } = self;
         writer.into_inner()
