@@ -1,5 +1,5 @@
 -- Mistakes that a script may have (this profile's own rule). Each text says in a comment which fault it is.
-use Rattle.std.specs.Prelude.{ℕ, ◌≡◌, ◌+◌, ◌-◌, ◌/◌, ◌%◌, ◌==◌, ◌&&◌, if◌then◌else◌, List, Option, None, Some, codes, length, nat_lt, option_map, slice_index_or}
+use Rattle.std.specs.Prelude.{ℕ, ◌≡◌, ◌+◌, ◌-◌, ◌/◌, ◌%◌, ◌==◌, ◌&&◌, ◌++◌, if◌then◌else◌, List, Option, None, Some, codes, length, nat_lt, option_map, slice_index_or}
 use Rattle.std.specs.Borrow.{Bor}
 use Rattle.gp_generate.specs.declared.mistake.Mistake.{Mistake}
 use Rattle.gp_generate.specs.declared.mistake.Mistake.TheVariants as mistakes
@@ -47,19 +47,26 @@ text_of_mistake mistakes.TooManyFrames =
 text_of_mistake mistakes.NoSuchPort =
     Some (codes "# mistake 3 range: No port has this number.\n[[event]]\nport = 16\nframes = 1\n\n")
 text_of_mistake mistakes.TooFarAway =
-    Some (codes "# mistake 3 range: The delay has more than 32 bits.\n[[event]]\nport = 0\nat = 4294967296\nsay = \"none\"\nonu = 0\n\n")
+    Some (codes "# mistake 3 range: The delay has more than 32 bits.\n"
+    ++ codes "[[event]]\nport = 0\nat = 4294967296\nsay = \"none\"\nonu = 0\n\n")
 text_of_mistake mistakes.NoSuchOnu =
-    Some (codes "# mistake 3 range: The ONU-ID is no octet.\n[[event]]\nport = 0\nat = 0\nsay = \"none\"\nonu = 256\n\n")
+    Some (codes "# mistake 3 range: The ONU-ID is no octet.\n"
+    ++ codes "[[event]]\nport = 0\nat = 0\nsay = \"none\"\nonu = 256\n\n")
 text_of_mistake mistakes.ShortSerial =
-    Some (codes "# mistake 4 serial: A serial number has a digit too few.\n[[event]]\nport = 0\ncommand = \"show\"\nserial = \"ABCD0000000\"\n\n")
+    Some (codes "# mistake 4 serial: A serial number has a digit too few.\n"
+    ++ codes "[[event]]\nport = 0\ncommand = \"show\"\nserial = \"ABCD0000000\"\n\n")
 text_of_mistake mistakes.LowerVendor =
-    Some (codes "# mistake 4 serial: A vendor code is in lower case.\n[[event]]\nport = 0\ncommand = \"show\"\nserial = \"abcd00000000\"\n\n")
+    Some (codes "# mistake 4 serial: A vendor code is in lower case.\n"
+    ++ codes "[[event]]\nport = 0\ncommand = \"show\"\nserial = \"abcd00000000\"\n\n")
 text_of_mistake mistakes.NoDigit =
-    Some (codes "# mistake 4 serial: A digit of a serial number is none.\n[[event]]\nport = 0\ncommand = \"show\"\nserial = \"ABCD0000000G\"\n\n")
+    Some (codes "# mistake 4 serial: A digit of a serial number is none.\n"
+    ++ codes "[[event]]\nport = 0\ncommand = \"show\"\nserial = \"ABCD0000000G\"\n\n")
 text_of_mistake mistakes.ShortCode =
-    Some (codes "# mistake 5 hex: A code has two digits too few.\n[[event]]\nport = 0\nat = 0\nburst = \"000400000000000000000000\"\n\n")
+    Some (codes "# mistake 5 hex: A code has two digits too few.\n"
+    ++ codes "[[event]]\nport = 0\nat = 0\nburst = \"000400000000000000000000\"\n\n")
 text_of_mistake mistakes.NoHexDigit =
-    Some (codes "# mistake 5 hex: A digit of a code is none.\n[[event]]\nport = 0\nat = 0\nburst = \"000400000000000000000000g0\"\n\n")
+    Some (codes "# mistake 5 hex: A digit of a code is none.\n"
+    ++ codes "[[event]]\nport = 0\nat = 0\nburst = \"000400000000000000000000g0\"\n\n")
 text_of_mistake mistakes.AdmittedTwice = None
 
 -- as it is returned

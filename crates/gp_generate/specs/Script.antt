@@ -1,8 +1,10 @@
 -- The text of a generated script (this profile's own rule). The functions are given the tables `MISTAKES`, `SCENES`,
 -- `SAYINGS` and `ORDERS`.
-use Rattle.std.specs.Prelude.{ℕ, zero, suc, List, [], ◌++◌, Option, None, Some, Result, OnOk, OnErr}
+use Rattle.std.specs.Prelude.{◌≡◌, ◌||◌, ℕ, zero, suc, Bool, true, false, List, [], ◌++◌, Option, None, Some, Result, Ok, Err, OnOk, OnErr}
 use Rattle.gp_stream.specs.Sink.{SinkState, Takes, TakesPrefix}
 use Rattle.gp_generate.specs.declared.event.Event.{Event}
+use Rattle.gp_generate.specs.declared.generating.GenerateFault.{GenerateFault}
+use Rattle.gp_generate.specs.declared.generating.GenerateFault.TheVariants as faults
 use Rattle.gp_generate.specs.declared.mistake.Mistake.{Mistake}
 use Rattle.gp_generate.specs.declared.plan.Wish.{Wish}
 use Rattle.gp_generate.specs.declared.scene.Scene.{Scene}
@@ -17,6 +19,21 @@ use Rattle.gp_generate.specs.Tables.{head_text}
 pub record HandsOver {W T E : Type 0} (old new : SinkState W) (text : List ℕ) (answer : Result T E) : Type 0 where
   pub ok : OnOk answer (Takes old new text)
   pub error : OnErr answer (TakesPrefix old new text)
+
+-- it ended with a failed write
+abbrev pub is_write : {T : Type 0} → Result T GenerateFault → Bool
+is_write (Ok value) = false
+is_write (Err faults.OutOfMemory) = false
+is_write (Err faults.Write) = true
+
+-- how something was handed over with this answer leaves the sink
+pub record StopsBy {W T : Type 0} (old new : SinkState W) (answer : Result T GenerateFault) : Type 0 where
+  -- a failed write stops the sink, and nothing else does
+  pub stopped : new.stopped ≡ (old.stopped || is_write answer)
+  -- a stopped sink writes nothing
+  pub refused : old.stopped ≡ true → new.writer ≡ old.writer
+  -- whatever was written was flushed
+  pub flushed : old.flushed ≡ true → OnOk answer (new.flushed ≡ true)
 
 abbrev pub text_or_event : Event → Option (List ℕ) → List ℕ
 text_or_event event (Some text) = text

@@ -1,7 +1,8 @@
 //! `generate`: the whole script, written into a sink, an event at a time.
 ghost use Rattle.std.specs.Prelude.{◌≡◌, ◌<◌, ◌++◌, [], OnOk};
 ghost use Rattle.gp_generate.specs.Script as spec;
-ghost use Rattle.gp_generate.specs.Script.{HandsOver};
+ghost use Rattle.gp_generate.specs.declared.generating.GenerateFault.TheVariants as faults;
+ghost use Rattle.gp_generate.specs.Script.{HandsOver, StopsBy};
 ghost use Rattle.gp_generate.specs.Tables.{head_text};
 
 use crate::course::Course;
@@ -29,12 +30,16 @@ pub enum GenerateFault {
 }
 
 impl From<AllocError> for GenerateFault {
+    ghost from_gives = { λ _ fault. fault ≡ faults.OutOfMemory };
+
     fn from(_error: AllocError) -> GenerateFault {
         GenerateFault::OutOfMemory
     }
 }
 
 impl From<WriteStopped> for GenerateFault {
+    ghost from_gives = { λ _ fault. fault ≡ faults.Write };
+
     fn from(_error: WriteStopped) -> GenerateFault {
         GenerateFault::Write
     }
@@ -68,7 +73,8 @@ fn put_told<W: Write>(
     number: u32,
     event: &Event,
 ) -> Result<(), GenerateFault>
-    ensures { HandsOver sink.old sink.new (spec.told MISTAKES plan.now number event.now) result }
+    ensures hands { HandsOver sink.old sink.new (spec.told MISTAKES plan.now number event.now) result }
+    ensures stops { StopsBy sink.old sink.new result }
 {
     text.clear();
     push_told(text, plan, number, event)?;
@@ -82,7 +88,8 @@ fn put_head<W: Write>(
     text: &mut Vec<u8>,
     plan: &Plan,
 ) -> Result<(), GenerateFault>
-    ensures { HandsOver sink.old sink.new (head_text MISTAKES plan.now) result }
+    ensures hands { HandsOver sink.old sink.new (head_text MISTAKES plan.now) result }
+    ensures stops { StopsBy sink.old sink.new result }
 {
     text.clear();
     push_head(text, plan)?;
@@ -96,8 +103,9 @@ fn put_events<W: Write>(
     text: &mut Vec<u8>,
     plan: &Plan,
 ) -> Result<(), GenerateFault>
-    ensures { HandsOver sink.old sink.new
+    ensures hands { HandsOver sink.old sink.new
         (spec.events_text MISTAKES SCENES SAYINGS ORDERS plan.now plan.now.events) result }
+    ensures stops { StopsBy sink.old sink.new result }
 {
     let mut course = Course::begin(plan);
     'events: for number in 0..plan.events() {
@@ -113,7 +121,8 @@ fn put_script<W: Write>(
     text: &mut Vec<u8>,
     plan: &Plan,
 ) -> Result<(), GenerateFault>
-    ensures { HandsOver sink.old sink.new (spec.script_text MISTAKES SCENES SAYINGS ORDERS plan.now) result }
+    ensures hands { HandsOver sink.old sink.new (spec.script_text MISTAKES SCENES SAYINGS ORDERS plan.now) result }
+    ensures stops { StopsBy sink.old sink.new result }
 {
     put_head(sink, text, plan)?;
     put_events(sink, text, plan)
@@ -128,6 +137,7 @@ pub fn generate<W: Write>(
 ) -> Result<(), GenerateFault>
     ensures script { HandsOver sink.old sink.new (spec.script_text MISTAKES SCENES SAYINGS ORDERS plan.now) result }
     ensures empty { OnOk result (sink.new.gathered ≡ []) }
+    ensures stops { StopsBy sink.old sink.new result }
 {
     let mut text = Vec::new(alloc);
     put_script(sink, &mut text, plan)?;

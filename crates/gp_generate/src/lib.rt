@@ -37,6 +37,6 @@ pub use course::Moment;
 pub use event::{Event, Said};
 pub use generating::{GenerateFault, generate};
 pub use mistake::{MISTAKES, Mistake};
-pub use plan::{Asked, MAX_EVENTS, MAX_MISTAKES, MAX_PORTS, MAX_UNITS, Plan, PlanFault, Wish};
+pub use plan::{Asked, Plan, PlanFault, Wish};
 pub use scene::{ORDERS, SAYINGS, SCENES, Scene};
 pub use step::{Opening, Order, Step, Words};

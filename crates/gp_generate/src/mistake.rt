@@ -138,37 +138,44 @@ pub(crate) fn mistake_text(mistake: Mistake) -> Option<&'static str>
         }
         Mistake::TooFarAway => {
             Some(
-                "# mistake 3 range: The delay has more than 32 bits.\n[[event]]\nport = 0\nat = 4294967296\nsay = \"none\"\nonu = 0\n\n",
+                "# mistake 3 range: The delay has more than 32 bits.\n\
+                 [[event]]\nport = 0\nat = 4294967296\nsay = \"none\"\nonu = 0\n\n",
             )
         }
         Mistake::NoSuchOnu => {
             Some(
-                "# mistake 3 range: The ONU-ID is no octet.\n[[event]]\nport = 0\nat = 0\nsay = \"none\"\nonu = 256\n\n",
+                "# mistake 3 range: The ONU-ID is no octet.\n\
+                 [[event]]\nport = 0\nat = 0\nsay = \"none\"\nonu = 256\n\n",
             )
         }
         Mistake::ShortSerial => {
             Some(
-                "# mistake 4 serial: A serial number has a digit too few.\n[[event]]\nport = 0\ncommand = \"show\"\nserial = \"ABCD0000000\"\n\n",
+                "# mistake 4 serial: A serial number has a digit too few.\n\
+                 [[event]]\nport = 0\ncommand = \"show\"\nserial = \"ABCD0000000\"\n\n",
             )
         }
         Mistake::LowerVendor => {
             Some(
-                "# mistake 4 serial: A vendor code is in lower case.\n[[event]]\nport = 0\ncommand = \"show\"\nserial = \"abcd00000000\"\n\n",
+                "# mistake 4 serial: A vendor code is in lower case.\n\
+                 [[event]]\nport = 0\ncommand = \"show\"\nserial = \"abcd00000000\"\n\n",
             )
         }
         Mistake::NoDigit => {
             Some(
-                "# mistake 4 serial: A digit of a serial number is none.\n[[event]]\nport = 0\ncommand = \"show\"\nserial = \"ABCD0000000G\"\n\n",
+                "# mistake 4 serial: A digit of a serial number is none.\n\
+                 [[event]]\nport = 0\ncommand = \"show\"\nserial = \"ABCD0000000G\"\n\n",
             )
         }
         Mistake::ShortCode => {
             Some(
-                "# mistake 5 hex: A code has two digits too few.\n[[event]]\nport = 0\nat = 0\nburst = \"000400000000000000000000\"\n\n",
+                "# mistake 5 hex: A code has two digits too few.\n\
+                 [[event]]\nport = 0\nat = 0\nburst = \"000400000000000000000000\"\n\n",
             )
         }
         Mistake::NoHexDigit => {
             Some(
-                "# mistake 5 hex: A digit of a code is none.\n[[event]]\nport = 0\nat = 0\nburst = \"000400000000000000000000g0\"\n\n",
+                "# mistake 5 hex: A digit of a code is none.\n\
+                 [[event]]\nport = 0\nat = 0\nburst = \"000400000000000000000000g0\"\n\n",
             )
         }
         Mistake::AdmittedTwice => None,

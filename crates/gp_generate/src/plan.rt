@@ -7,13 +7,13 @@ use std::marker::Model;
 use thiserror::Error;
 
 /// How many ports a script has at most.
-pub const MAX_PORTS: u64 = 16;
+const MAX_PORTS: u64 = 16;
 /// How many simulated units.
-pub const MAX_UNITS: u64 = 1024;
+const MAX_UNITS: u64 = 1024;
 /// How many events.
-pub const MAX_EVENTS: u64 = 10_000;
+const MAX_EVENTS: u64 = 10_000;
 /// How many mistakes.
-pub const MAX_MISTAKES: u64 = 100;
+const MAX_MISTAKES: u64 = 100;
 
 /// How many units a port admits, where there are no simulated ones.
 const UNITS_OF_A_PORT: u16 = 3;
@@ -25,13 +25,13 @@ const MOST_ADMITTED: u16 = 400;
 pub struct Wish {
     /// Where chance begins.
     pub seed: u64,
-    /// How many ports, 1 to [`MAX_PORTS`]; 1 beside simulated units.
+    /// How many ports, 1 to 16; 1 beside simulated units.
     pub ports: u64,
-    /// How many simulated units, at most [`MAX_UNITS`].
+    /// How many simulated units, at most 1,024.
     pub units: u64,
-    /// How many events, at most [`MAX_EVENTS`].
+    /// How many events, at most 10,000.
     pub events: u64,
-    /// How many mistakes, at most [`MAX_MISTAKES`], and no more than events.
+    /// How many mistakes, at most 100, and no more than events.
     pub mistakes: u64,
 }
 
@@ -67,18 +67,18 @@ impl Asked {
     }
 }
 
-/// Why there is no such script.
+/// Why there is no such script. Each is printed behind the name of what is asked for.
 #[derive(Clone, Copy, Debug, PartialEq, Eq, Error)]
 pub enum PlanFault {
-    #[error("--ports: 1 to 16 are wanted")]
+    #[error("ports: 1 to 16 are wanted")]
     Ports,
-    #[error("--units: at most 1024 are wanted")]
+    #[error("units: at most 1024 are wanted")]
     Units,
-    #[error("--units: one port is wanted beside units")]
+    #[error("units: one port is wanted beside units")]
     UnitsBesidePorts,
-    #[error("--events: at most 10000 are wanted")]
+    #[error("events: at most 10000 are wanted")]
     Events,
-    #[error("--mistakes: at most 100 are wanted, and no more than events")]
+    #[error("mistakes: at most 100 are wanted, and no more than events")]
     Mistakes,
 }
 

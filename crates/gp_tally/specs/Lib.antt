@@ -4,3 +4,4 @@ pub mod Ports
 pub mod Text
 pub mod Counter
 pub mod Counting
+pub mod Entries

@@ -13,6 +13,7 @@
 //! - `counter.rt`: `Counter`, which counts the lines of a text that comes in any pieces. `counting.rt`: `Counting`, a
 //!   writer that passes on what it is handed and counts its lines. `taken.rt`: the octets that were handed in, which
 //!   only proofs see; `began.rt`: what that writer began with. `nowhere.rt`: `Nowhere`, a writer that keeps nothing.
+//! - `laws.rt`: laws: the line of an entry tells the entry, so what is counted of a trace is counted of its entries.
 //!
 //! Where to make which change: a new count is a field of `PortCounts` or `UnitCounts` and a line of `specs/Tally.antt`;
 //! what a line tells stands in `specs/Told.antt`.
@@ -25,6 +26,7 @@ mod counter;
 mod counting;
 mod counts;
 mod hearing;
+mod laws;
 mod nowhere;
 mod port_tally;
 mod reading;
@@ -37,6 +39,7 @@ pub use began::Began;
 pub use counter::Counter;
 pub use counting::Counting;
 pub use counts::{ALARM_KINDS, PortCounts, REFUSAL_NUMBERS, UnitCounts, kind_place};
+pub use laws::{entry_is_within_limits, lines_tell_entries, traces_count_entries};
 pub use nowhere::Nowhere;
 pub use port_tally::PortTally;
 pub use taken::Taken;

@@ -25,11 +25,11 @@ fn end_generate<R: Eprint>(rt: &R, outcome: &Result<(), GenerateFault>) -> u8
     }
 }
 
-/// Says why there is no such script, and answers the exit status.
+/// Says why there is no such script, by the option that asks for it, and answers the exit status.
 fn refuse_plan<R: Eprint>(rt: &R, fault: PlanFault) -> u8
     ensures { result ≡ BAD_ARGUMENTS }
 {
-    let _ = eprintln!(rt; "oltctl: {fault}");
+    let _ = eprintln!(rt; "oltctl: --{fault}");
     BAD_ARGUMENTS
 }
 
