@@ -3,7 +3,9 @@ use Rattle.std.specs.Prelude.{◌≡◌, ◌⊎◌, ℕ, ◌+◌, ◌-◌, ◌*�
 use Rattle.gp_ploam.specs.declared.check.Mask.{Mask}
 use Rattle.gp_machine.specs.declared.event.Event.{Event}
 use Rattle.gp_machine.specs.declared.event.Event.TheVariants as events
+use Rattle.gp_lines.specs.Parts.{parts_of}
 use Rattle.gp_lines.specs.Trace.{SplitsLine}
+use Rattle.gp_json.specs.Light.{LightFields, light_fields, light_object}
 use Rattle.gp_json.specs.Object.{TellsObject, other_object}
 use Rattle.gp_explain.specs.declared.form.Form.{Form}
 use Rattle.gp_explain.specs.declared.form.Form.TheVariants.{Plain, Words, Json}
@@ -62,6 +64,21 @@ other_of Plain text = text ++ codes "\n"
 other_of Words text = text ++ codes "\n"
 other_of Json text = other_object text
 
+-- that light came or went at a simulated unit, by its form, with the time if that is told
+abbrev pub light_told : Form → Bool → ℕ → LightFields → List ℕ → List ℕ
+light_told Plain timed frames light text = time_of timed frames ++ (text ++ codes "\n")
+light_told Words timed frames light text = time_of timed frames ++ (text ++ codes "\n")
+light_told Json timed frames light text = light_object (shown timed frames) light
+
+-- a line that is none of a trace: one of light is told at the time of port 0, the only port where there are simulated
+-- units
+abbrev pub told_by : Option LightFields → Manner → List ℕ → List ℕ
+told_by None manner text = other_of manner.form text
+told_by (Some light) manner text = light_told manner.form manner.timed (slice_index manner.frames 0) light text
+
+abbrev pub other_told : Manner → List ℕ → List ℕ
+other_told manner text = told_by (light_fields (parts_of text)) manner text
+
 -- a line of a trace is told at its port's time
 pub record TellsTraceLine (old : Manner) (text said : List ℕ) (new : Manner) : Type 0 where
   pub port : ℕ
@@ -78,7 +95,7 @@ pub record TellsTraceLine (old : Manner) (text said : List ℕ) (new : Manner) :
 -- from the old manner, to this line, these octets, to the new manner
 abbrev pub Tells : Manner → List ℕ → List ℕ → Manner → Type 0
 Tells old text said new =
-    TellsTraceLine old text said new ⊎ ((IsTraceLine text → ⊥) × (said ≡ other_of old.form text) × (new ≡ old))
+    TellsTraceLine old text said new ⊎ ((IsTraceLine text → ⊥) × (said ≡ other_told old text) × (new ≡ old))
 
 -- no port has had a frame
 abbrev pub no_frames : List ℕ

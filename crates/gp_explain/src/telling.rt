@@ -1,12 +1,22 @@
 //! How lines are told, one after another.
-ghost use Rattle.std.specs.Prelude.{◌≡◌, ◌++◌, [], OnErr, OnOk, codes};
+ghost use Rattle.std.specs.Prelude.{◌≡◌, ◌++◌, [], OnErr, OnOk, codes, slice_index};
 ghost use Rattle.gp_lines.specs.Trace.{SplitsLine};
-ghost use Rattle.gp_explain.specs.Telling.{Tells, TellsAt, TellsTraceLine, no_frames, other_of, shown, time_of};
+ghost use Rattle.gp_explain.specs.Telling.{
+  Tells,
+  TellsAt,
+  TellsTraceLine,
+  light_told,
+  no_frames,
+  other_of,
+  other_told,
+  shown,
+  time_of,
+};
 
 use crate::form::Form;
 use crate::line::push_words;
 use crate::time::{frames_with, push_time};
-use gp_json::{write_object, write_other};
+use gp_json::{LightLine, light_in, write_light, write_object, write_other};
 use gp_lines::{TraceLine, split_line};
 use gp_ploam::Mask;
 use std::alloc::{AllocError, Global};
@@ -14,6 +24,9 @@ use std::marker::Model;
 
 /// How many ports a trace may tell of.
 const PORTS: usize = 16;
+
+/// The number of the only port where there are simulated units.
+const ONLY_PORT: usize = 0;
 
 /// Tells lines, one after another. Contracts see what the next line is told by.
 #[derive(Drop)]
@@ -58,7 +71,7 @@ fn shown(timed: bool, frames: u64) -> Option<u64>
     if timed { Some(frames) } else { None }
 }
 
-/// Writes a line that is none of a trace in this form, into an empty buffer.
+/// Writes a line that tells nothing of a trace in this form, into an empty buffer.
 fn push_other(form: Form, text: &[u8], out: &mut Vec<u8>) -> Result<(), AllocError>
     requires { out.old.items ≡ [] }
     ensures { OnOk result (out.new.items ≡ other_of form text.now) }
@@ -95,7 +108,7 @@ impl Telling {
         out.clear();
         match split_line(text) {
             Some(line) => self.tell_line(text, &line, out),
-            None => push_other(self.form, text, out),
+            None => self.push_other(text, out),
         }
     }
 
@@ -116,6 +129,39 @@ impl Telling {
         self.push_at(frames, text, out)?;
         self.frames[port] = frames;
         Ok(())
+    }
+
+    /// Writes that light came or went at a simulated unit in this form, with the time of the only port if that is told.
+    fn push_light(
+        &self,
+        light: &LightLine<'_>,
+        text: &[u8],
+        out: &mut Vec<u8>,
+    ) -> Result<(), AllocError>
+        requires { out.old.items ≡ [] }
+        ensures { OnOk result (out.new.items
+            ≡ light_told self.now.form self.now.timed (slice_index self.now.frames 0)
+            (record { place = light.now.place.now; is_lit = light.now.is_lit }) text.now) }
+    {
+        let frames = self.frames[ONLY_PORT];
+        match self.form {
+            Form::Plain | Form::Words => {
+                push_time_if(self.timed, frames, out)?;
+                push_plain(text, out)
+            }
+            Form::Json => write_light(shown(self.timed, frames), light, out),
+        }
+    }
+
+    /// Writes a line that is none of a trace in its form.
+    fn push_other(&self, text: &[u8], out: &mut Vec<u8>) -> Result<(), AllocError>
+        requires { out.old.items ≡ [] }
+        ensures { OnOk result (out.new.items ≡ other_told self.now text.now) }
+    {
+        match light_in(text) {
+            Some(light) => self.push_light(&light, text, out),
+            None => push_other(self.form, text, out),
+        }
     }
 
     /// Writes a line of a trace in its form, with its port's time if that is told.

@@ -6,4 +6,5 @@ pub mod Allocs
 pub mod Fields
 pub mod Units
 pub mod Object
+pub mod Light
 pub mod Runs

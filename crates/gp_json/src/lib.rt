@@ -1,9 +1,10 @@
 //! Writes the lines of a trace as JSON, one object a line.
 //!
-//! Promise: a line is the object of its parts, or that of a line that is none (`write_object`, `write_other`).
+//! Promise: a line is the object of its parts, or that of a line that is none (`write_object`, `write_other`,
+//! `write_light`).
 //!
 //! - `object.rt`: `write_object`, a line as an object; `other.rt`: `write_other`, one that is none of a trace, with
-//!   `unit.rt`, what is told of a simulated unit.
+//!   `unit.rt`, what is told of a simulated unit. `light.rt`: `light_in` and `write_light`, that light came or went there.
 //! - `slot.rt`: what stands where in a line, and which field it makes; `field.rt`: that field.
 //! - `message.rt`: a message as an object; `words.rt`: in words; `allocs.rt`: Alloc-IDs as a list of objects.
 //! - `writer.rt`: `ObjectWriter`, which gathers the pieces of an object.
@@ -17,6 +18,7 @@
 
 mod allocs;
 mod field;
+mod light;
 mod message;
 mod object;
 mod other;
@@ -27,6 +29,7 @@ mod unit;
 mod words;
 mod writer;
 
+pub use light::{LightLine, light_in, write_light};
 pub use object::write_object;
 pub use other::write_other;
 pub use quoted::quoted_text;

@@ -19,7 +19,7 @@ pub(crate) fn write_line(text: &[u8], out: &mut Vec<u8>) -> Result<(), AllocErro
 }
 
 /// Gives the only part of a text.
-fn one_in(text: &[u8]) -> Option<&[u8]>
+pub(crate) fn one_in(text: &[u8]) -> Option<&[u8]>
     ensures { MatchOption result (one_of (parts_of text.now) ≡ None)
         (λ part. one_of (parts_of text.now) ≡ Some part.now) }
 {

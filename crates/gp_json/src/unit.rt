@@ -124,7 +124,7 @@ fn push_number_if(out: &mut Vec<u8>, name: &str, digits: Option<&[u8]>) -> Resul
 }
 
 /// Gives whether light reaches a unit, as its object ends.
-fn light_end(is_lit: bool) -> &'static str
+pub(crate) fn light_end(is_lit: bool) -> &'static str
     ensures { result.now ≡ spec.light_end is_lit }
 {
     if is_lit {
