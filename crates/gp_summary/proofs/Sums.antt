@@ -31,6 +31,8 @@ use Rattle.gp_replay.specs.WorldWriting.{FibrePlay, Numbered}
 use Rattle.gp_replay.specs.Writing.{EndsPlay, Happening, PlaysOn, Writes}
 use Rattle.gp_replay.proofs.WorldRunLemmas.{world_runs}
 use Rattle.gp_tally.specs.Counting.{CountingState}
+use Rattle.gp_tally.specs.Text.{AreTallies}
+use Rattle.gp_tally.proofs.LineLemmas.{entries_counted}
 use Rattle.gp_summary.specs.declared.form.SummaryForm.{SummaryForm}
 use Rattle.gp_summary.specs.Summary.{IsFresh, IsSummaryOf, SaysCounted, free_after}
 
@@ -89,30 +91,34 @@ whole_taken mask T start end x y z u taken fresh w f is =
 pub summary_told : {S W : Type 0} (form : SummaryForm) (script : ScriptView) (T P : Happening S) (start end : S) (ports : S → List PortState) (free : S → ℕ)
     (x y z : SinkState (CountingState W)) (played ended : Result (Unit {0}) PlayFault) (text : List ℕ)
     → Leaves script start T ports free → IsFresh x → PlaysOn script.mask T P start end x y played → EndsPlay y z played ended → ended ≡ Ok tt
+    → z.held ≡ Some z.writer.counter.taken
     → SaysCounted form script.mask z.writer.counter.taken (ports end) (length script.ports) (free end) script.licences text
     → IsSummaryOf form script z text
-summary_told form script T P start end ports free x y z (Ok v) (Ok u) text leaves fresh p e done says =
+summary_told form script T P start end ports free x y z (Ok v) (Ok u) text leaves fresh p e done is says =
     let w = p.ok in
     let left = leaves.all w.receipts end w.happened in
+    let trace = whole_taken script.mask T start end x y z u z.writer.counter.taken fresh w e.0 is in
+    let said = subst (λ (n : ℕ). SaysCounted form script.mask z.writer.counter.taken (ends_of script w.receipts left.0) (length script.ports) n script.licences text) (sym left.3)
+    (subst (λ (s : List PortState). SaysCounted form script.mask z.writer.counter.taken s (length script.ports) (free end) script.licences text) (sym left.2) says) in
     record {
       receipts = w.receipts;
       plays = left.0;
       runs = left.1;
-      trace = λ is. whole_taken script.mask T start end x y z u z.writer.counter.taken fresh w e.0 is;
-      says = subst (λ (n : ℕ). SaysCounted form script.mask z.writer.counter.taken (ends_of script w.receipts left.0) (length script.ports) n script.licences text) (sym left.3)
-          (subst (λ (s : List PortState). SaysCounted form script.mask z.writer.counter.taken s (length script.ports) (free end) script.licences text) (sym left.2) says);
+      trace = trace;
+      says = said;
+      entries = λ limits. entries_counted script.mask w.receipts said.tallies limits (subst (λ (t : List ℕ). AreTallies script.mask t said.tallies) trace said.counted);
     }
-summary_told form script T P start end ports free x y z (Ok v) (Err fault) text leaves fresh p e done says = cc done
-summary_told form script T P start end ports free x y z (Err faults.OutOfMemory) ended text leaves fresh p e done says = cc (sym e.0 ∙ done)
-summary_told form script T P start end ports free x y z (Err faults.Write) ended text leaves fresh p e done says = cc (sym e.0 ∙ done)
+summary_told form script T P start end ports free x y z (Ok v) (Err fault) text leaves fresh p e done is says = cc done
+summary_told form script T P start end ports free x y z (Err faults.OutOfMemory) ended text leaves fresh p e done is says = cc (sym e.0 ∙ done)
+summary_told form script T P start end ports free x y z (Err faults.Write) ended text leaves fresh p e done is says = cc (sym e.0 ∙ done)
 
 -- the same of an answer that may fail
 pub summary_answered : {S W : Type 0} (form : SummaryForm) (script : ScriptView) (T P : Happening S) (start end : S) (ports : S → List PortState) (free : S → ℕ)
     (x y z : SinkState (CountingState W)) (played ended : Result (Unit {0}) PlayFault) (r : Result (Vec ℕ Global) AllocError) (mask : Mask) (count : ℕ)
     → Leaves script start T ports free → IsFresh x → PlaysOn script.mask T P start end x y played → EndsPlay y z played ended
-    → mask ≡ script.mask → count ≡ length script.ports
+    → mask ≡ script.mask → count ≡ length script.ports → z.held ≡ Some z.writer.counter.taken
     → IfOk r (λ text. SaysCounted form mask z.writer.counter.taken (ports end) count (free end) script.licences text.items)
     → ended ≡ Ok tt → IfOk r (λ text. IsSummaryOf form script z text.items)
-summary_answered form script T P start end ports free x y z played ended (Ok text) mask count leaves fresh p e masked counted says done =
-    summary_told form script T P start end ports free x y z played ended text.items leaves fresh p e done (rw (masked, counted) at says)
-summary_answered form script T P start end ports free x y z played ended (Err f) mask count leaves fresh p e masked counted says done = tt
+summary_answered form script T P start end ports free x y z played ended (Ok text) mask count leaves fresh p e masked counted is says done =
+    summary_told form script T P start end ports free x y z played ended text.items leaves fresh p e done is (rw (masked, counted) at says)
+summary_answered form script T P start end ports free x y z played ended (Err f) mask count leaves fresh p e masked counted is says done = tt

@@ -1,5 +1,5 @@
 -- What a summary tells of a play (this profile's own rule).
-use Rattle.std.specs.Prelude.{◌≡◌, ℕ, List, [], Some, Result, Ok, Err, IfOk, length}
+use Rattle.std.specs.Prelude.{◌≡◌, All, ℕ, List, [], Some, Result, Ok, Err, IfOk, length}
 use Rattle.std.specs.declared.alloc.AllocError.{AllocError}
 use Rattle.std.specs.declared.alloc.Global.{Global}
 use Rattle.std.specs.declared.vec.Vec.{Vec}
@@ -17,6 +17,7 @@ use Rattle.gp_replay.specs.Runs.{PortsRun}
 use Rattle.gp_replay.specs.ScriptPlay.{Plays, ByChassis, ByFibre, ends_of}
 use Rattle.gp_replay.specs.Writing.{EndsPlay, PlaysOn, PlaysScript}
 use Rattle.gp_tally.specs.Counting.{CountingState}
+use Rattle.gp_tally.specs.Entries.{AreCountsOf, IsWithinLimits}
 use Rattle.gp_tally.specs.Tally.{PortTally}
 use Rattle.gp_tally.specs.Text.{AreTallies}
 use Rattle.gp_summary.specs.declared.form.SummaryForm.{SummaryForm}
@@ -34,18 +35,18 @@ pub record SaysCounted (form : SummaryForm) (mask : Mask) (taken : List ℕ) (st
   pub counted : AreTallies mask taken tallies
   pub says : Says form states tallies count free licences text
 
--- the script was played, and the text tells what was counted of all octets that the writer took, how each port and its
--- units stand at the end, and the licences. What a sink says that its writer holds is what that writer took: so that is
--- the whole trace
+-- the script was played, the writer took the whole trace and nothing else, and the text tells what was counted of that,
+-- how each port and its units stand at the end, and the licences. What was counted is what is counted of the entries of
+-- the play, which are within their limits by their types
 pub record IsSummaryOf {W : Type 0} (form : SummaryForm) (script : ScriptView) (after : SinkState (CountingState W))
     (text : List ℕ) : Type 0 where
   pub receipts : List Receipt
   pub plays : Plays script receipts
   pub runs : PortsRun script.ports receipts (ends_of script receipts plays)
-  pub trace : after.held ≡ Some after.writer.counter.taken
-      → after.writer.counter.taken ≡ trace_text script.mask receipts
+  pub trace : after.writer.counter.taken ≡ trace_text script.mask receipts
   pub says : SaysCounted form script.mask after.writer.counter.taken (ends_of script receipts plays)
       (length script.ports) (free_after script receipts plays) script.licences text
+  pub entries : All IsWithinLimits receipts → AreCountsOf script.mask receipts says.tallies
 
 -- events are played on a player, and what it has handed in of its lines is written out; where that ends early is told
 -- Inside: no public contract cites this.
@@ -67,7 +68,7 @@ pub record IsSummed {W : Type 0} (form : SummaryForm) (script : ScriptView) (bef
   pub plays : PlaysScript script before after played
   pub tells : played ≡ Ok tt → IfOk summary (λ text. IsSummaryOf form script after text.items)
 
--- a play on a sink that was fresh, and the writer that is given back
+-- a play on a sink that was fresh, and the writer that is given back: what the sink says that it holds is what it took
 pub record PlaysSummed {W : Type 0} (form : SummaryForm) (script : ScriptView) (counting : CountingState W)
     (played : Result (Unit {0}) PlayFault) (summary : Result (Vec ℕ Global) AllocError) : Type 0 where
   pub before : SinkState (CountingState W)
@@ -75,3 +76,4 @@ pub record PlaysSummed {W : Type 0} (form : SummaryForm) (script : ScriptView) (
   pub fresh : IsFresh before
   pub summed : IsSummed form script before after played summary
   pub writer : counting ≡ after.writer
+  pub held : after.held ≡ Some after.writer.counter.taken

@@ -1,4 +1,4 @@
-use Rattle.std.proofs.Common.{◌<◌, ◌≤◌, ◌*◌, ◌^◌, ◌∙◌, ℕ, List, IfOk, ap, arith, length, subst}
+use Rattle.std.proofs.Common.{◌≡◌, ◌<◌, ◌≤◌, ◌*◌, ◌^◌, ◌∙◌, ℕ, List, Some, IfOk, ap, arith, length, subst, sym}
 use Rattle.gp_script.specs.View.{script_view}
 use Rattle.gp_replay.specs.Chassis.{opening_play}
 use Rattle.gp_replay.specs.Play.{TakesAllTurns, TakesSomeTurns, all_turns}
@@ -39,7 +39,9 @@ returns g c =
     let played : PlaysOn script.mask (PlaysAll chassis_playing script.events) (PlaysSome chassis_playing script.events) start end x y done.played =
     rw (c.in_ok-player.ensures.player, c.in_ok-player.ensures.mask, c.as_slice.ensures.value, c.in_ok-player.ensures.events) at done.plays in
     let turns = chassis_plays script.mask script.events start end x y done.played played in
-    let counter = c.counter.ensures.counter ∙ ap (λ w. w.counter) c.into_inner-counting.ensures in
+    let held : z.held ≡ Some z.writer.counter.taken =
+    sym c.into_inner-counting.ensures.held ∙ ap (λ w. Some w.counter.taken) c.into_inner-counting.ensures.writer in
+    let counter = c.counter.ensures.counter ∙ ap (λ w. w.counter) c.into_inner-counting.ensures.writer in
     let says = subst (λ (t : List ℕ). IfOk c.chassis_summary-summary.result (λ text. SaysCounted c.args.form c.counter.result.now.mask t end.world.ports (length c.counter.result.now.ports) end.world.free script.licences text.items))
     (ap (λ s. s.taken) counter) c.chassis_summary-summary.ensures in
     record {
@@ -51,7 +53,8 @@ returns g c =
             (chassis_stands runs script none) (λ is. absurd (done.memory is)) turns done.ends;
         tells = λ ok. summary_answered c.args.form script (TakesAllTurns (all_turns script.events)) (TakesSomeTurns (all_turns script.events)) start end
             (λ p. p.world.ports) (λ p. p.world.free) x y z done.played answer c.chassis_summary-summary.result c.counter.result.now.mask (length c.counter.result.now.ports)
-            (chassis_leaves runs script none) c.requires.fresh turns done.ends (c.counter.ensures.mask ∙ c.requires.mask) (c.counter.ensures.ports ∙ c.requires.ports) says ok;
+            (chassis_leaves runs script none) c.requires.fresh turns done.ends (c.counter.ensures.mask ∙ c.requires.mask) (c.counter.ensures.ports ∙ c.requires.ports) held says ok;
       };
-      writer = c.into_inner-counting.ensures;
+      writer = c.into_inner-counting.ensures.writer;
+      held = held;
     }

@@ -1,4 +1,4 @@
-use Rattle.std.proofs.Common.{◌≤◌, ◌+◌, ◌*◌, ◌^◌, ◌∷◌, [], ◌∙◌, ℕ, List, IfOk, ap, arith, length, subst}
+use Rattle.std.proofs.Common.{◌≡◌, ◌≤◌, ◌+◌, ◌*◌, ◌^◌, ◌∷◌, [], ◌∙◌, ℕ, List, Some, IfOk, ap, arith, length, subst, sym}
 use Rattle.gp_script.specs.View.{script_view}
 use Rattle.gp_replay.specs.WorldPlay.{WorldTakesAll}
 use Rattle.gp_replay.specs.WorldWriting.{Numbered, WorldTakesPrefix}
@@ -37,7 +37,9 @@ returns g c =
     let part = Numbered (WorldTakesPrefix script.losses script.events) in
     let played = fibre_plays script.mask script.losses script.events start end x y done.played opens.losses
     (rw (c.in_ok-player.ensures.mask, c.as_slice.ensures.value, c.in_ok-player.ensures.events) at done.plays) in
-    let counter = c.counter.ensures.counter ∙ ap (λ w. w.counter) c.into_inner-counting.ensures in
+    let held : z.held ≡ Some z.writer.counter.taken =
+    sym c.into_inner-counting.ensures.held ∙ ap (λ w. Some w.counter.taken) c.into_inner-counting.ensures.writer in
+    let counter = c.counter.ensures.counter ∙ ap (λ w. w.counter) c.into_inner-counting.ensures.writer in
     let says = subst (λ (t : List ℕ). IfOk c.fibre_summary-summary.result (λ text. SaysCounted c.args.form c.counter.result.now.mask t (end.play.world.fibre.port ∷ []) (length c.counter.result.now.ports) end.play.world.fibre.free script.licences text.items))
     (ap (λ s. s.taken) counter) c.fibre_summary-summary.ensures in
     record {
@@ -50,7 +52,8 @@ returns g c =
         tells = λ ok. summary_answered c.args.form script whole part start.play end.play
             (λ p. p.world.fibre.port ∷ []) (λ p. p.world.fibre.free) x y z done.played answer c.fibre_summary-summary.result c.counter.result.now.mask (length c.counter.result.now.ports)
             (fibre_leaves script opens.config start.play c.requires.units opens.one_port opens.world opens.next) c.requires.fresh played done.ends
-            (c.counter.ensures.mask ∙ c.requires.mask) (c.counter.ensures.ports ∙ c.requires.ports) says ok;
+            (c.counter.ensures.mask ∙ c.requires.mask) (c.counter.ensures.ports ∙ c.requires.ports) held says ok;
       };
-      writer = c.into_inner-counting.ensures;
+      writer = c.into_inner-counting.ensures.writer;
+      held = held;
     }
