@@ -11,3 +11,5 @@ pub mod WorldRoomLemmas
 pub mod WorldRunLemmas
 pub mod WorldPlayLemmas
 pub mod ScriptPlayLemmas
+pub mod LightLemmas
+pub mod ToldLemmas

@@ -5,7 +5,7 @@ use Rattle.std.proofs.lemmas.List.{append-nil}
 use Rattle.gp_ploam.specs.declared.check.Mask.{Mask}
 use Rattle.gp_machine.specs.declared.entry.Receipt.{Receipt}
 use Rattle.gp_stream.specs.Sink.{SinkState, Gives}
-use Rattle.gp_stream.proofs.SinkLemmas.{takes_nothing, takes_more, takes_prefix_after}
+use Rattle.gp_stream.proofs.SinkLemmas.{takes_nothing, takes_more, takes_prefix_after, takes_prefix_more}
 use Rattle.gp_trace.specs.Text.{line_of, trace_text}
 use Rattle.gp_replay.specs.declared.fault.PlayFault.{PlayFault}
 use Rattle.gp_replay.specs.declared.fault.PlayFault.TheVariants as faults
@@ -129,6 +129,56 @@ stops_on {B = B} mask T U V X P joins a b c x y z e (Err f) s p told =
 -- bytes that are put in at once are handed in
 pub hands_in : {W T E : Type 0} (x y : SinkState W) (bytes : List ℕ) (r : Result T E) → Gives x y bytes r → HandsIn x y bytes r
 hands_in x y bytes r g = record { ok = g.ok; error = g.error; stopped = g.stopped; refused = λ h. (g.refused h).1; flushed = g.flushed }
+
+-- ---- what is handed in in pieces
+
+stopped_still : (a b : Bool) → b ≡ (a || false) → a ≡ true → b ≡ true
+stopped_still false b e h = absurd (let bad : false ≡ true = h in cc)
+stopped_still true b e h = e
+
+stopped_more : (a b c error : Bool) → b ≡ (a || false) → c ≡ (b || error) → c ≡ (a || error)
+stopped_more false b c error p q = q ∙ ap (λ (o : Bool). o || error) p
+stopped_more true b c error p q = q ∙ ap (λ (o : Bool). o || error) p
+
+-- nothing
+pub hands_nothing : {W A E : Type 0} (x : SinkState W) (v : A) → HandsIn {E = E} x x [] (Ok v)
+hands_nothing x v = record {
+  ok = takes_nothing x;
+  error = tt;
+  stopped = to_or_false x.stopped x.stopped refl;
+  refused = λ s. refl;
+  flushed = λ f. f;
+}
+
+-- a piece, and then more
+pub hands_more : {W A B E F : Type 0} (x y z : SinkState W) (first rest : List ℕ) (u : A) (r : Result B F) → HandsIn {E = E} x y first (Ok u) → HandsIn y z rest r
+    → HandsIn x z (first ++ rest) r
+hands_more x y z first rest u (Ok v) p q = record {
+  ok = takes_more x y z first rest p.ok q.ok;
+  error = tt;
+  stopped = stopped_more x.stopped y.stopped z.stopped false p.stopped q.stopped;
+  refused = λ s. q.refused (stopped_still x.stopped y.stopped p.stopped s) ∙ p.refused s;
+  flushed = λ f. q.flushed (p.flushed f);
+}
+hands_more x y z first rest u (Err e) p q = record {
+  ok = tt;
+  error = takes_prefix_after x y z first rest p.ok q.error;
+  stopped = stopped_more x.stopped y.stopped z.stopped true p.stopped q.stopped;
+  refused = λ s. q.refused (stopped_still x.stopped y.stopped p.stopped s) ∙ p.refused s;
+  flushed = λ f. tt;
+}
+
+-- a piece that was not put in, and so no more
+pub hands_stopped : {W A B E F : Type 0} (x y : SinkState W) (first rest : List ℕ) (e : E) (r : Result B F) (P : F → Type 0) → HandsIn {T = A} x y first (Err e) → IsErrAnd r P
+    → HandsIn x y (first ++ rest) r
+hands_stopped x y first rest e (Ok v) P p told = absurd told
+hands_stopped x y first rest e (Err f) P p told = record {
+  ok = tt;
+  error = takes_prefix_more x y first rest p.error;
+  stopped = p.stopped;
+  refused = p.refused;
+  flushed = λ f. tt;
+}
 
 -- it happened, and its lines were handed in
 pub plays_lines : {S W A B E : Type 0} (mask : Mask) (T P : Happening S) (a b : S) (rs : List Receipt) (x y : SinkState W) (u : B) (v : A)

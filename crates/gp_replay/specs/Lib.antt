@@ -13,3 +13,4 @@ pub mod Opening
 pub mod Telling
 pub mod Seats
 pub mod Out
+pub mod Lights

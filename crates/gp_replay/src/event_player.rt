@@ -87,7 +87,7 @@ pub(crate) fn is_grant(made: Option<Grant>, grant: Grant) -> bool
 }
 
 /// States that an event of a script is no more frames than its type can count.
-fn event_is_short(event: &ScriptEvent)
+pub(crate) fn event_is_short(event: &ScriptEvent)
     ensures { count_of event.now ≤ 2 ^ 32 }
 {
     match event {

@@ -3,11 +3,11 @@
 //! Promise: what is written is the whole trace of a play of the script, and nothing else; each port's entries are a
 //! run (`run_replay`).
 //!
-//! - `replaying.rt`: `play_script`, from a script that was read to the bytes of its trace, and `run_replay`, from the
-//!   bytes of a script.
+//! - `replaying.rt`: `play_script`, from a script that was read to the bytes of its trace, `tell_script`, with the light
+//!   that comes and goes at simulated units between, and `run_replay`, from the bytes of a script.
 //! - `opening.rt`: `open_chassis` and `open_fibre`, which take a script apart and open what its events are played on.
 //! - `event_player.rt`: `EventPlayer`, what events are played on, and `play_events`, which plays the events of a script
-//!   on it; `play_end.rt`: the end of a play.
+//!   on it; `lights.rt`: `tell_events`, which also tells when light comes or goes; `play_end.rt`: the end of a play.
 //! - `player.rt`: `Player`, the ports of a script (`seat.rt`) with the book of their licences: it keeps no journal, and a
 //!   turn (`turn.rt`) takes no memory, of which only what is asked behind its line is told (`told.rt`). `playing.rt`:
 //!   plays an event on it, which is a turn or more, and writes the line of each.
@@ -18,7 +18,7 @@
 //!
 //! Where to make which change: what playing means stands in `specs/ScriptPlay.antt`, by `specs/Play.antt` on a
 //! chassis and by `specs/WorldPlay.antt` on a fibre, and what the two have in common in `specs/Playing.antt`; what is
-//! written of it in `specs/Writing.antt` and `specs/WorldWriting.antt`, and how a replay may end in
+//! written of it in `specs/Writing.antt`, `specs/WorldWriting.antt` and, of light, `specs/Lights.antt`, and how a replay may end in
 //! `specs/Outcome.antt`. A new form of event is a case of `turns_of` and `WorldTakes` there, and of `play_event` and
 //! `play_world_event` here.
 #![tactic(auto)]
@@ -27,6 +27,7 @@ mod event_player;
 mod fault;
 mod fibre_player;
 mod laws;
+mod lights;
 mod line_buffer;
 mod opening;
 mod play_end;
@@ -43,12 +44,13 @@ mod world_playing;
 pub use event_player::{EventPlayer, play_events};
 pub use fault::{PlayFault, RunFault};
 pub use fibre_player::FibrePlayer;
-pub use laws::{each_port_runs, licences_are_kept};
+pub use laws::{each_port_runs, licences_are_kept, lights_are_told};
+pub use lights::{put_light_if, tell_events};
 pub use line_buffer::LineBuffer;
 pub use opening::{Opened, open_chassis, open_fibre};
 pub use play_end::end_play;
 pub use player::Player;
-pub use replaying::{play_script, run_replay};
+pub use replaying::{play_script, run_replay, tell_script};
 pub use told::Told;
 pub use trace_out::TraceOut;
 pub use turn::Turn;

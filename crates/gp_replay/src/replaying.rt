@@ -1,14 +1,15 @@
 //! A script that was read, played from its opening to its end.
-ghost use Rattle.std.specs.Prelude.{◌≡◌, ◌≢◌, ◌<◌, [], Err, length};
+ghost use Rattle.std.specs.Prelude.{◌≡◌, ◌≢◌, ◌<◌, [], Err, length, true};
 ghost use Rattle.gp_script.specs.Playable.{IsPlayable};
 ghost use Rattle.gp_script.specs.Script.{script_of};
 ghost use Rattle.gp_script.specs.View.{script_view};
+ghost use Rattle.gp_replay.specs.Lights.{TellsScript};
 ghost use Rattle.gp_replay.specs.Outcome.{LeavesReplay, RunEnds, RunReads, RunWrites};
 ghost use Rattle.gp_replay.specs.Writing.{PlaysScript};
 
-use super::event_player::play_events;
 use super::fault::{PlayFault, RunFault};
 use super::laws::each_port_runs;
+use super::lights::tell_events;
 use super::opening::{Opened, open_chassis, open_fibre};
 use super::play_end::end_play;
 use super::trace_out::TraceOut;
@@ -20,18 +21,19 @@ use std::io::{Read, Write};
 use std::marker::Brand;
 use std::sync::ledger::{Blank, Ledger};
 
-/// Plays a script without simulated units on a chassis of its own, whose ledger is the blank.
+/// Plays a script without simulated units on a chassis of its own, whose ledger is the blank, and tells it.
 fn play_on_chassis<L: Ledger, W: Write>(
     alloc: Global,
     blank: Blank,
     script: Script,
+    lights: bool,
     sink: &mut Sink<W>,
 ) -> Result<(), PlayFault>
     requires name { blank.name ≡ L.name }
     requires parts { (blank.parts ≡ L.parts) × (L.parts ≡ MAX_LICENCES) }
     requires playable { IsPlayable (script_view script) }
     requires no_units { script.units.items ≡ [] }
-    ensures { PlaysScript (script_view script) sink.old sink.new result }
+    ensures { TellsScript lights (script_view script) sink.old sink.new result }
 {
     each_port_runs();
     let Opened {
@@ -45,25 +47,26 @@ fn play_on_chassis<L: Ledger, W: Write>(
         buffer: &mut buffer,
         mask,
     };
-    let played = play_events(&mut player, &mut out, events.as_slice());
+    let played = tell_events(&mut player, &mut out, events.as_slice(), lights);
     player.close();
     end_play(out.sink, played)
 }
 
-/// Plays a script with simulated units on a fibre of its own, whose ledger is the blank. Entries are written as they
-/// come, a few frames' at a time, so memory for them stays small however long the trace is; the script's limit of
+/// Plays a script with simulated units on a fibre of its own, whose ledger is the blank, and tells it, with the light
+/// that comes and goes where that is wanted. Entries are written as they come, a few frames' at a time, so memory for them stays small however long the trace is; the script's limit of
 /// journals means nothing here.
 fn play_on_fibre<L: Ledger, W: Write>(
     alloc: Global,
     blank: Blank,
     script: Script,
+    lights: bool,
     sink: &mut Sink<W>,
 ) -> Result<(), PlayFault>
     requires name { blank.name ≡ L.name }
     requires parts { (blank.parts ≡ L.parts) × (L.parts ≡ MAX_LICENCES) }
     requires playable { IsPlayable (script_view script) }
     requires units { 0 < length script.units.items }
-    ensures { PlaysScript (script_view script) sink.old sink.new result }
+    ensures { TellsScript lights (script_view script) sink.old sink.new result }
 {
     let Opened {
         mut player,
@@ -76,7 +79,7 @@ fn play_on_fibre<L: Ledger, W: Write>(
         buffer: &mut buffer,
         mask,
     };
-    let outcome = play_events(&mut player, &mut out, events.as_slice());
+    let outcome = tell_events(&mut player, &mut out, events.as_slice(), lights);
     player.close();
     end_play(out.sink, outcome)
 }
@@ -87,17 +90,18 @@ fn play_on<L: Ledger, W: Write>(
     alloc: Global,
     blank: Blank,
     script: Script,
+    lights: bool,
     sink: &mut Sink<W>,
 ) -> Result<(), PlayFault>
     requires name { blank.name ≡ L.name }
     requires parts { (blank.parts ≡ L.parts) × (L.parts ≡ MAX_LICENCES) }
     requires playable { IsPlayable (script_view script) }
-    ensures { PlaysScript (script_view script) sink.old sink.new result }
+    ensures { TellsScript lights (script_view script) sink.old sink.new result }
 {
     if script.units.is_empty() {
-        play_on_chassis::<L, W>(alloc, blank, script, sink)
+        play_on_chassis::<L, W>(alloc, blank, script, lights, sink)
     } else {
-        play_on_fibre::<L, W>(alloc, blank, script, sink)
+        play_on_fibre::<L, W>(alloc, blank, script, lights, sink)
     }
 }
 
@@ -117,7 +121,33 @@ pub fn play_script<W: Write>(
     requires { IsPlayable (script_view script) }
     ensures { PlaysScript (script_view script) sink.old sink.new result }
 {
-    play_on::<Brand, W>(alloc, Blank::new(u64::from(MAX_LICENCES)), script, sink)
+    play_on::<Brand, W>(
+        alloc,
+        Blank::new(u64::from(MAX_LICENCES)),
+        script,
+        false,
+        sink,
+    )
+}
+
+/// Plays a script that was read, and writes its trace as `play_script` does, with a line of its own, `unit I light` or
+/// `unit I dark`, for each event with which light comes or goes at a simulated unit, in its place. These lines are no
+/// lines of the trace, and take no memory.
+pub fn tell_script<W: Write>(
+    alloc: Global,
+    script: Script,
+    sink: &mut Sink<W>,
+) -> Result<(), PlayFault>
+    requires { IsPlayable (script_view script) }
+    ensures { TellsScript true (script_view script) sink.old sink.new result }
+{
+    play_on::<Brand, W>(
+        alloc,
+        Blank::new(u64::from(MAX_LICENCES)),
+        script,
+        true,
+        sink,
+    )
 }
 
 /// Reads a script to the end of the source, and plays it as `play_script` does. Memory for the script is taken before
