@@ -9,7 +9,7 @@
 //!
 //! - `verifying.rt`, `auditing.rt`, `picturing.rt`, `waving.rt`, `explaining.rt`, `checking.rt`, `generating.rt`: one
 //!   command each, from its inputs to how it ended. The others stand here; `telling.rt` has what is told while it is
-//!   played or driven, `summing.rt` what is told at its end.
+//!   played or driven, `summing.rt` what is told at its end, `recounting.rt` what is counted of a trace that is told again.
 //! - `objects.rt`: one code, or the words of one message, as an object.
 //! - `testing.rt`: scripts of folders, several at once, and what is told of them. `scripts.rt`: which files of a folder are
 //!   scripts, and what stands beside them; `judging.rt`: one of them, from its files to what became of it.
@@ -42,6 +42,7 @@ mod objects;
 mod observed;
 mod picturing;
 mod progress;
+mod recounting;
 mod reporting;
 mod scripts;
 mod summing;
