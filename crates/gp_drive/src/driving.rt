@@ -1,12 +1,14 @@
 //! From a script and an input of lines to the answers.
-ghost use Rattle.std.specs.Prelude.{◌≡◌, ◌<◌, ◌+◌, ◌*◌, ◌^◌, [], length, true};
+ghost use Rattle.std.specs.Prelude.{◌≡◌, ◌<◌, ◌+◌, ◌*◌, ◌^◌, [], None, Err, IfOk, IfSome, IsOk, is_some, length, true};
 ghost use Rattle.gp_replay.specs.Playing.{HasRoomFor, PlaysAll};
 ghost use Rattle.gp_script.specs.Playable.{IsPlayable};
 ghost use Rattle.gp_script.specs.View.{script_view};
+ghost use Rattle.gp_replay.specs.declared.fault.RunFault.TheVariants as runs;
+ghost use Rattle.gp_drive.specs.declared.fault.DriveFault.TheVariants.{Script};
 ghost use Rattle.gp_drive.specs.Drive.{begun_in, driving, most_turns, never_over};
-ghost use Rattle.gp_drive.specs.Outcome.{DrivesInput, DrivesInputIn, DrivesScriptIn, ServesTurns, told};
+ghost use Rattle.gp_drive.specs.Outcome.{DrivesInput, DrivesInputIn, DrivesScriptIn, LeavesServed, LeftByChassis, LeftByFibre, ServesTurns};
 
-use crate::driven::Driven;
+use crate::driven::{Driven, Drove};
 use crate::driver::Driver;
 use crate::fault::DriveFault;
 use crate::manner::DriveManner;
@@ -14,12 +16,12 @@ use gp_flow::{LinesFault, run_lines};
 use gp_licence::MAX_LICENCES;
 use gp_ploam::Mask;
 use gp_replay::{
-    EventPlayer, LineBuffer, Opened, TraceOut, each_port_runs, end_play, open_chassis, open_fibre,
-    play_events,
+    EventPlayer, FibrePlayer, LineBuffer, Opened, Player, TraceOut, each_port_runs, end_play,
+    open_chassis, open_fibre, play_events,
 };
 use gp_script::Script;
 use gp_stream::{Sink, Source};
-use std::alloc::Global;
+use std::alloc::{AllocError, Global};
 use std::io::{Read, Write};
 use std::marker::Brand;
 use std::sync::ledger::{Blank, Ledger};
@@ -36,7 +38,9 @@ fn drive_lines<P: EventPlayer, T: Read, W: Write>(
 ) -> (P, Result<Driven, LinesFault>)
     requires room { HasRoomFor P.playing most_turns player }
     requires flushed { sink.old.flushed ≡ true }
-    ensures { ServesTurns manner P.playing player mask result.1 turns.old turns.new sink.old sink.new }
+    ensures serves { ServesTurns manner P.playing player mask result.1 turns.old turns.new sink.old sink.new }
+    ensures left { IfOk result.1 (λ driven.
+        LeavesServed manner P.playing player mask result.0 driven turns.old turns.new sink.old sink.new) }
 {
     let mut driver = Driver::new_in(manner, player, mask, buffer);
     let served = run_lines(alloc, turns, sink, &mut driver);
@@ -51,39 +55,47 @@ fn drive_lines<P: EventPlayer, T: Read, W: Write>(
     }
 }
 
-/// Tells how many lines were answered, or why not all were.
-fn told(driven: Result<Driven, LinesFault>) -> Result<Driven, DriveFault>
-    ensures { result ≡ told driven }
+/// A script that was not opened for want of memory.
+fn unopened<P>() -> Drove<P>
+    ensures player { result.player ≡ None }
+    ensures driven { result.driven ≡ Err (Script runs.OutOfMemory) }
 {
-    match driven {
-        Ok(driven) => Ok(driven),
-        Err(fault) => Err(DriveFault::Turns(fault)),
+    Drove {
+        player: None,
+        driven: Err(DriveFault::from(AllocError)),
     }
 }
 
-/// Drives a script without simulated units on a chassis of its own, whose ledger is the blank.
-fn drive_chassis<L: Ledger, T: Read, W: Write>(
+/// Drives a script without simulated units on a chassis of its own, whose ledger is the blank, as `drive_script` does, and
+/// gives the ports as they stand at the end, where all lines were answered.
+pub fn drive_chassis<L: Ledger, T: Read, W: Write>(
     alloc: Global,
     manner: DriveManner,
     blank: Blank,
     script: Script,
     turns: &mut Source<T>,
     sink: &mut Sink<W>,
-) -> Result<Driven, DriveFault>
+) -> Drove<Player<L>>
     requires name { blank.name ≡ L.name }
     requires parts { (blank.parts ≡ L.parts) × (L.parts ≡ MAX_LICENCES) }
     requires playable { IsPlayable (script_view script) }
     requires no_units { script.units.items ≡ [] }
     requires flushed { sink.old.flushed ≡ true }
-    ensures { DrivesScriptIn manner result turns.old turns.new sink.old sink.new (script_view script) }
+    ensures drives { DrivesScriptIn manner result.driven turns.old turns.new sink.old sink.new (script_view script) }
+    ensures left { IfSome result.player (λ player.
+        LeftByChassis manner (script_view script) player result.driven turns.old turns.new sink.old sink.new) }
+    ensures there { IsOk result.driven → is_some result.player ≡ true }
 {
     each_port_runs();
+    let Ok(opened) = open_chassis::<L>(alloc, blank, script) else {
+        return unopened();
+    };
     let Opened {
         mut player,
         mut buffer,
         mask,
         events,
-    } = open_chassis::<L>(alloc, blank, script)?;
+    } = opened;
     let mut out = TraceOut {
         sink,
         buffer: &mut buffer,
@@ -92,35 +104,56 @@ fn drive_chassis<L: Ledger, T: Read, W: Write>(
     if let Err(fault) = play_events(&mut player, &mut out, events.as_slice()) {
         player.close();
         let _ = end_play(sink, Err(fault));
-        return Err(DriveFault::from(fault));
+        return Drove {
+            player: None,
+            driven: Err(DriveFault::from(fault)),
+        };
     }
     let (player, driven) = drive_lines(alloc, manner, player, buffer, mask, turns, sink);
-    player.close();
-    told(driven)
+    match driven {
+        Ok(driven) => Drove {
+            player: Some(player),
+            driven: Ok(driven),
+        },
+        Err(fault) => {
+            player.close();
+            Drove {
+                player: None,
+                driven: Err(DriveFault::Turns(fault)),
+            }
+        }
+    }
 }
 
-/// Drives a script with simulated units on a fibre of its own, whose ledger is the blank.
-fn drive_fibre<L: Ledger, T: Read, W: Write>(
+/// Drives a script with simulated units on a fibre of its own, whose ledger is the blank, and gives the fibre as it stands
+/// at the end, where all lines were answered.
+pub fn drive_fibre<L: Ledger, T: Read, W: Write>(
     alloc: Global,
     manner: DriveManner,
     blank: Blank,
     script: Script,
     turns: &mut Source<T>,
     sink: &mut Sink<W>,
-) -> Result<Driven, DriveFault>
+) -> Drove<FibrePlayer<L>>
     requires name { blank.name ≡ L.name }
     requires parts { (blank.parts ≡ L.parts) × (L.parts ≡ MAX_LICENCES) }
     requires playable { IsPlayable (script_view script) }
     requires units { 0 < length script.units.items }
     requires flushed { sink.old.flushed ≡ true }
-    ensures { DrivesScriptIn manner result turns.old turns.new sink.old sink.new (script_view script) }
+    ensures drives { DrivesScriptIn manner result.driven turns.old turns.new sink.old sink.new (script_view script) }
+    ensures left { IfSome result.player (λ player.
+        LeftByFibre manner (script_view script) player result.driven turns.old turns.new sink.old sink.new) }
+    ensures there { IsOk result.driven → is_some result.player ≡ true }
 {
+    let Ok(opened) = open_fibre::<L>(alloc, blank, script) else {
+        return unopened();
+    };
     let Opened {
         mut player,
         mut buffer,
         mask,
         events,
-    } = open_fibre::<L>(alloc, blank, script)?;
+    } = opened;
     let mut out = TraceOut {
         sink,
         buffer: &mut buffer,
@@ -129,11 +162,47 @@ fn drive_fibre<L: Ledger, T: Read, W: Write>(
     if let Err(fault) = play_events(&mut player, &mut out, events.as_slice()) {
         player.close();
         let _ = end_play(sink, Err(fault));
-        return Err(DriveFault::from(fault));
+        return Drove {
+            player: None,
+            driven: Err(DriveFault::from(fault)),
+        };
     }
     let (player, driven) = drive_lines(alloc, manner, player, buffer, mask, turns, sink);
-    player.close();
-    told(driven)
+    match driven {
+        Ok(driven) => Drove {
+            player: Some(player),
+            driven: Ok(driven),
+        },
+        Err(fault) => {
+            player.close();
+            Drove {
+                player: None,
+                driven: Err(DriveFault::Turns(fault)),
+            }
+        }
+    }
+}
+
+/// Ends what a script without simulated units was driven on.
+fn end_chassis<L: Ledger>(drove: Drove<Player<L>>) -> Result<Driven, DriveFault>
+    ensures { result ≡ drove.driven }
+{
+    let Drove { player, driven } = drove;
+    if let Some(player) = player {
+        player.close();
+    }
+    driven
+}
+
+/// Ends what a script with simulated units was driven on.
+fn end_fibre<L: Ledger>(drove: Drove<FibrePlayer<L>>) -> Result<Driven, DriveFault>
+    ensures { result ≡ drove.driven }
+{
+    let Drove { player, driven } = drove;
+    if let Some(player) = player {
+        player.close();
+    }
+    driven
 }
 
 /// Drives a script on a ledger of its own, which is the blank: on a chassis, or, where it has simulated units, on the
@@ -153,9 +222,9 @@ fn drive_on<L: Ledger, T: Read, W: Write>(
     ensures { DrivesScriptIn manner result turns.old turns.new sink.old sink.new (script_view script) }
 {
     if script.units.is_empty() {
-        drive_chassis::<L, T, W>(alloc, manner, blank, script, turns, sink)
+        end_chassis(drive_chassis::<L, T, W>(alloc, manner, blank, script, turns, sink))
     } else {
-        drive_fibre::<L, T, W>(alloc, manner, blank, script, turns, sink)
+        end_fibre(drive_fibre::<L, T, W>(alloc, manner, blank, script, turns, sink))
     }
 }
 
