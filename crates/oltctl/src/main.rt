@@ -257,7 +257,7 @@ fn drive_from<R: AllocGlobal + Print, S: Read + Drop, T: Read + Drop>(
 
 /// What is wanted of a drive.
 #[derive(Clone, Copy)]
-struct Driving {
+struct DriveWanted {
     told: Told,
     manner: DriveManner,
     units: bool,
@@ -267,7 +267,7 @@ struct Driving {
 fn drive_file<R: AllocGlobal + Files + Print + Eprint + Input>(
     rt: &R,
     script: &str,
-    wanted: Driving,
+    wanted: DriveWanted,
     of_script: &mut Seen<'_>,
     of_turns: &mut Seen<'_>,
 ) -> Result<Driven, DriveFault> {
@@ -279,7 +279,7 @@ fn drive_file<R: AllocGlobal + Files + Print + Eprint + Input>(
         }
     };
     let turns = Observed::new(rt.reader(), of_turns);
-    let Driving {
+    let DriveWanted {
         told,
         manner,
         units,
@@ -297,7 +297,7 @@ fn drive_file<R: AllocGlobal + Files + Print + Eprint + Input>(
 fn drive<R: AllocGlobal + Files + Print + Eprint + Input>(
     rt: &R,
     script: &str,
-    wanted: Driving,
+    wanted: DriveWanted,
 ) -> u8
     ensures { IsDriven result }
 {
@@ -660,7 +660,7 @@ fn serve<R: AllocGlobal + Files + Print + Eprint + Input + Clock + Threads + Wai
             units,
         } => {
             let manner = DriveManner { done };
-            let wanted = Driving {
+            let wanted = DriveWanted {
                 told,
                 manner,
                 units,
