@@ -109,11 +109,12 @@ pub record LeavesDriven {S T W : Type 0} (manner : DriveManner) (playing : Playi
   pub all : DrivesAll manner playing start mask events driven from to before after
   pub end : given ≡ all.end.player
 
+-- where not all lines were answered, nothing is said of what is given
 abbrev pub LeftBy : {S T W : Type 0} → DriveManner → Playing S → S → Mask → List ScriptEvent → S
-    → Result Driven DriveFault → SourceState T → SourceState T → SinkState W → SinkState W → Type 0
+    → Result Driven LinesFault → SourceState T → SourceState T → SinkState W → SinkState W → Type 0
 LeftBy manner playing start mask events given (Ok driven) from to before after =
     LeavesDriven manner playing start mask events given driven from to before after
-LeftBy manner playing start mask events given (Err fault) from to before after = ⊥
+LeftBy manner playing start mask events given (Err fault) from to before after = Unit {0}
 
 -- how the lines ended, by the answer
 abbrev pub DrivesTo : {S T W : Type 0} → DriveManner → Playing S → S → Mask → List ScriptEvent → Result Driven LinesFault
@@ -137,14 +138,14 @@ pub data Drives {T W : Type 0} (manner : DriveManner) (script : ScriptView) (ans
       → Drives manner script answer from to before after
 
 -- a chassis as a drive of this script left it
-abbrev pub LeftByChassis : {T W : Type 0} → DriveManner → ScriptView → PlayState → Result Driven DriveFault
+abbrev pub LeftByChassis : {T W : Type 0} → DriveManner → ScriptView → PlayState → Result Driven LinesFault
     → SourceState T → SourceState T → SinkState W → SinkState W → Type 0
 LeftByChassis manner script given answer from to before after =
     LeftBy manner chassis_playing (opening_play script) script.mask script.events given answer from to before after
 
 -- a fibre as a drive of this script left it
 pub record LeftByFibre {T W : Type 0} (manner : DriveManner) (script : ScriptView) (given : LossyPlay)
-    (answer : Result Driven DriveFault) (from to : SourceState T) (before after : SinkState W) : Type 0 where
+    (answer : Result Driven LinesFault) (from to : SourceState T) (before after : SinkState W) : Type 0 where
   pub start : LossyPlay
   pub opens : OpensFibre script start
   pub left : LeftBy manner fibre_playing start script.mask script.events given answer from to before after

@@ -1,5 +1,5 @@
 //! How many lines a drive answered, and how many of them by an error; and what it leaves.
-use crate::fault::DriveFault;
+use gp_flow::LinesFault;
 
 /// How many lines a drive answered.
 #[derive(Clone, Copy, Debug, PartialEq, Eq)]
@@ -11,12 +11,12 @@ pub struct Driven {
     pub errors: u64,
 }
 
-/// How a drive ended, and what it was driven on, where all lines were answered.
+/// How lines were answered, and what they were answered on, as the last one left it.
 ///
 /// It has no `Drop`: its player is closed.
 pub struct Drove<P> {
-    /// The player, as the last line left it.
-    pub player: Option<P>,
+    /// The player.
+    pub player: P,
     /// How many lines there were, or why not all were answered.
-    pub driven: Result<Driven, DriveFault>,
+    pub driven: Result<Driven, LinesFault>,
 }

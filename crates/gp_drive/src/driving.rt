@@ -1,12 +1,10 @@
 //! From a script and an input of lines to the answers.
-ghost use Rattle.std.specs.Prelude.{◌≡◌, ◌<◌, ◌+◌, ◌*◌, ◌^◌, [], None, Err, IfOk, IfSome, IsOk, is_some, length, true};
+ghost use Rattle.std.specs.Prelude.{◌≡◌, ◌<◌, ◌+◌, ◌*◌, ◌^◌, [], Err, IfErr, IfOk, length, true};
 ghost use Rattle.gp_replay.specs.Playing.{HasRoomFor, PlaysAll};
 ghost use Rattle.gp_script.specs.Playable.{IsPlayable};
 ghost use Rattle.gp_script.specs.View.{script_view};
-ghost use Rattle.gp_replay.specs.declared.fault.RunFault.TheVariants as runs;
-ghost use Rattle.gp_drive.specs.declared.fault.DriveFault.TheVariants.{Script};
 ghost use Rattle.gp_drive.specs.Drive.{begun_in, driving, most_turns, never_over};
-ghost use Rattle.gp_drive.specs.Outcome.{DrivesInput, DrivesInputIn, DrivesScriptIn, LeavesServed, LeftByChassis, LeftByFibre, ServesTurns};
+ghost use Rattle.gp_drive.specs.Outcome.{DrivesInput, DrivesInputIn, DrivesScriptIn, LeavesServed, LeftByChassis, LeftByFibre, ServesTurns, told};
 
 use crate::driven::{Driven, Drove};
 use crate::driver::Driver;
@@ -21,7 +19,7 @@ use gp_replay::{
 };
 use gp_script::Script;
 use gp_stream::{Sink, Source};
-use std::alloc::{AllocError, Global};
+use std::alloc::Global;
 use std::io::{Read, Write};
 use std::marker::Brand;
 use std::sync::ledger::{Blank, Ledger};
@@ -55,19 +53,18 @@ fn drive_lines<P: EventPlayer, T: Read, W: Write>(
     }
 }
 
-/// A script that was not opened for want of memory.
-fn unopened<P>() -> Drove<P>
-    ensures player { result.player ≡ None }
-    ensures driven { result.driven ≡ Err (Script runs.OutOfMemory) }
+/// Tells how many lines were answered, or why not all were.
+fn told(driven: Result<Driven, LinesFault>) -> Result<Driven, DriveFault>
+    ensures { result ≡ told driven }
 {
-    Drove {
-        player: None,
-        driven: Err(DriveFault::from(AllocError)),
+    match driven {
+        Ok(driven) => Ok(driven),
+        Err(fault) => Err(DriveFault::Turns(fault)),
     }
 }
 
 /// Drives a script without simulated units on a chassis of its own, whose ledger is the blank, as `drive_script` does, and
-/// gives the ports as they stand at the end, where all lines were answered.
+/// gives the ports as they stand at the end. An error is answered where no line was read.
 pub fn drive_chassis<L: Ledger, T: Read, W: Write>(
     alloc: Global,
     manner: DriveManner,
@@ -75,27 +72,26 @@ pub fn drive_chassis<L: Ledger, T: Read, W: Write>(
     script: Script,
     turns: &mut Source<T>,
     sink: &mut Sink<W>,
-) -> Drove<Player<L>>
+) -> Result<Drove<Player<L>>, DriveFault>
     requires name { blank.name ≡ L.name }
     requires parts { (blank.parts ≡ L.parts) × (L.parts ≡ MAX_LICENCES) }
     requires playable { IsPlayable (script_view script) }
     requires no_units { script.units.items ≡ [] }
     requires flushed { sink.old.flushed ≡ true }
-    ensures drives { DrivesScriptIn manner result.driven turns.old turns.new sink.old sink.new (script_view script) }
-    ensures left { IfSome result.player (λ player.
-        LeftByChassis manner (script_view script) player result.driven turns.old turns.new sink.old sink.new) }
-    ensures there { IsOk result.driven → is_some result.player ≡ true }
+    ensures drives { IfOk result (λ drove.
+        DrivesScriptIn manner (told drove.driven) turns.old turns.new sink.old sink.new (script_view script)) }
+    ensures left { IfOk result (λ drove. LeftByChassis
+        manner (script_view script) drove.player drove.driven turns.old turns.new sink.old sink.new) }
+    ensures unplayed { IfErr result (λ fault.
+        DrivesScriptIn manner (Err fault) turns.old turns.new sink.old sink.new (script_view script)) }
 {
     each_port_runs();
-    let Ok(opened) = open_chassis::<L>(alloc, blank, script) else {
-        return unopened();
-    };
     let Opened {
         mut player,
         mut buffer,
         mask,
         events,
-    } = opened;
+    } = open_chassis::<L>(alloc, blank, script)?;
     let mut out = TraceOut {
         sink,
         buffer: &mut buffer,
@@ -104,29 +100,14 @@ pub fn drive_chassis<L: Ledger, T: Read, W: Write>(
     if let Err(fault) = play_events(&mut player, &mut out, events.as_slice()) {
         player.close();
         let _ = end_play(sink, Err(fault));
-        return Drove {
-            player: None,
-            driven: Err(DriveFault::from(fault)),
-        };
+        return Err(DriveFault::from(fault));
     }
     let (player, driven) = drive_lines(alloc, manner, player, buffer, mask, turns, sink);
-    match driven {
-        Ok(driven) => Drove {
-            player: Some(player),
-            driven: Ok(driven),
-        },
-        Err(fault) => {
-            player.close();
-            Drove {
-                player: None,
-                driven: Err(DriveFault::Turns(fault)),
-            }
-        }
-    }
+    Ok(Drove { player, driven })
 }
 
-/// Drives a script with simulated units on a fibre of its own, whose ledger is the blank, and gives the fibre as it stands
-/// at the end, where all lines were answered.
+/// Drives a script with simulated units on a fibre of its own, whose ledger is the blank, as `drive_script` does, and gives
+/// the fibre as it stands at the end. An error is answered where no line was read.
 pub fn drive_fibre<L: Ledger, T: Read, W: Write>(
     alloc: Global,
     manner: DriveManner,
@@ -134,26 +115,25 @@ pub fn drive_fibre<L: Ledger, T: Read, W: Write>(
     script: Script,
     turns: &mut Source<T>,
     sink: &mut Sink<W>,
-) -> Drove<FibrePlayer<L>>
+) -> Result<Drove<FibrePlayer<L>>, DriveFault>
     requires name { blank.name ≡ L.name }
     requires parts { (blank.parts ≡ L.parts) × (L.parts ≡ MAX_LICENCES) }
     requires playable { IsPlayable (script_view script) }
     requires units { 0 < length script.units.items }
     requires flushed { sink.old.flushed ≡ true }
-    ensures drives { DrivesScriptIn manner result.driven turns.old turns.new sink.old sink.new (script_view script) }
-    ensures left { IfSome result.player (λ player.
-        LeftByFibre manner (script_view script) player result.driven turns.old turns.new sink.old sink.new) }
-    ensures there { IsOk result.driven → is_some result.player ≡ true }
+    ensures drives { IfOk result (λ drove.
+        DrivesScriptIn manner (told drove.driven) turns.old turns.new sink.old sink.new (script_view script)) }
+    ensures left { IfOk result (λ drove. LeftByFibre
+        manner (script_view script) drove.player drove.driven turns.old turns.new sink.old sink.new) }
+    ensures unplayed { IfErr result (λ fault.
+        DrivesScriptIn manner (Err fault) turns.old turns.new sink.old sink.new (script_view script)) }
 {
-    let Ok(opened) = open_fibre::<L>(alloc, blank, script) else {
-        return unopened();
-    };
     let Opened {
         mut player,
         mut buffer,
         mask,
         events,
-    } = opened;
+    } = open_fibre::<L>(alloc, blank, script)?;
     let mut out = TraceOut {
         sink,
         buffer: &mut buffer,
@@ -162,47 +142,30 @@ pub fn drive_fibre<L: Ledger, T: Read, W: Write>(
     if let Err(fault) = play_events(&mut player, &mut out, events.as_slice()) {
         player.close();
         let _ = end_play(sink, Err(fault));
-        return Drove {
-            player: None,
-            driven: Err(DriveFault::from(fault)),
-        };
+        return Err(DriveFault::from(fault));
     }
     let (player, driven) = drive_lines(alloc, manner, player, buffer, mask, turns, sink);
-    match driven {
-        Ok(driven) => Drove {
-            player: Some(player),
-            driven: Ok(driven),
-        },
-        Err(fault) => {
-            player.close();
-            Drove {
-                player: None,
-                driven: Err(DriveFault::Turns(fault)),
-            }
-        }
-    }
+    Ok(Drove { player, driven })
 }
 
-/// Ends what a script without simulated units was driven on.
-fn end_chassis<L: Ledger>(drove: Drove<Player<L>>) -> Result<Driven, DriveFault>
-    ensures { result ≡ drove.driven }
+/// Ends what a script was driven on, and tells how that ended.
+fn end_chassis<L: Ledger>(drove: Result<Drove<Player<L>>, DriveFault>) -> Result<Driven, DriveFault>
+    ensures ok { IfOk drove (λ drove. result ≡ told drove.driven) }
+    ensures err { IfErr drove (λ fault. result ≡ Err fault) }
 {
-    let Drove { player, driven } = drove;
-    if let Some(player) = player {
-        player.close();
-    }
-    driven
+    let Drove { player, driven } = drove?;
+    player.close();
+    told(driven)
 }
 
-/// Ends what a script with simulated units was driven on.
-fn end_fibre<L: Ledger>(drove: Drove<FibrePlayer<L>>) -> Result<Driven, DriveFault>
-    ensures { result ≡ drove.driven }
+/// Ends what a script was driven on, and tells how that ended.
+fn end_fibre<L: Ledger>(drove: Result<Drove<FibrePlayer<L>>, DriveFault>) -> Result<Driven, DriveFault>
+    ensures ok { IfOk drove (λ drove. result ≡ told drove.driven) }
+    ensures err { IfErr drove (λ fault. result ≡ Err fault) }
 {
-    let Drove { player, driven } = drove;
-    if let Some(player) = player {
-        player.close();
-    }
-    driven
+    let Drove { player, driven } = drove?;
+    player.close();
+    told(driven)
 }
 
 /// Drives a script on a ledger of its own, which is the blank: on a chassis, or, where it has simulated units, on the

@@ -3,9 +3,11 @@ ghost use Rattle.std.specs.Prelude.{◌≡◌, ◌<◌, [], IfOk, IfSome, IsOk, 
 ghost use Rattle.gp_script.specs.Playable.{IsPlayable};
 ghost use Rattle.gp_script.specs.View.{script_view};
 ghost use Rattle.gp_summary.specs.Summary.{IsFresh};
-ghost use Rattle.gp_summed.specs.Driving.{DrivesSummed};
+ghost use Rattle.gp_drive.specs.Outcome.{told};
+ghost use Rattle.gp_summed.specs.Driving.{DrivesSummed, summary_if};
 
 use gp_drive::{DriveFault, DriveManner, Driven, Drove, drive_chassis, drive_fibre};
+use gp_flow::LinesFault;
 use gp_licence::MAX_LICENCES;
 use gp_script::Script;
 use gp_stream::{Sink, Source};
@@ -26,6 +28,30 @@ pub struct DriveSummed<B: Began, W: Write> {
     pub summary: Option<Result<Vec<u8>, AllocError>>,
     /// The writer, with its counter.
     pub counting: Counting<B, W>,
+}
+
+/// What a drive comes to whose lines were answered so, and whose summary is this, where all were.
+fn summed<B: Began, W: Write>(
+    driven: Result<Driven, LinesFault>,
+    summary: Result<Vec<u8>, AllocError>,
+    counting: Counting<B, W>,
+) -> DriveSummed<B, W>
+    ensures driven { result.driven ≡ told driven }
+    ensures summary { result.summary ≡ summary_if driven summary }
+    ensures counting { result.counting ≡ counting }
+{
+    match driven {
+        Ok(driven) => DriveSummed {
+            driven: Ok(driven),
+            summary: Some(summary),
+            counting,
+        },
+        Err(fault) => DriveSummed {
+            driven: Err(DriveFault::Turns(fault)),
+            summary: None,
+            counting,
+        },
+    }
 }
 
 /// Drives a script without simulated units.
@@ -52,27 +78,19 @@ fn sum_chassis<B: Began, L: Ledger, T: Read, W: Write + Drop>(
 {
     let licences = script.licences;
     let mut sink = sink;
-    let Drove { player, driven } = drive_chassis::<L, T, Counting<B, W>>(
-        alloc,
-        manner,
-        blank,
-        script,
-        turns,
-        &mut sink,
-    );
+    let drove = drive_chassis::<L, T, Counting<B, W>>(alloc, manner, blank, script, turns, &mut sink);
     let counting = sink.into_inner();
-    let summary = match player {
-        Some(player) => {
+    match drove {
+        Ok(Drove { player, driven }) => {
             let summary = chassis_summary(alloc, form, &player, counting.counter(), licences);
             player.close();
-            Some(summary)
+            summed(driven, summary, counting)
         }
-        None => None,
-    };
-    DriveSummed {
-        driven,
-        summary,
-        counting,
+        Err(fault) => DriveSummed {
+            driven: Err(fault),
+            summary: None,
+            counting,
+        },
     }
 }
 
@@ -100,27 +118,19 @@ fn sum_fibre<B: Began, L: Ledger, T: Read, W: Write + Drop>(
 {
     let licences = script.licences;
     let mut sink = sink;
-    let Drove { player, driven } = drive_fibre::<L, T, Counting<B, W>>(
-        alloc,
-        manner,
-        blank,
-        script,
-        turns,
-        &mut sink,
-    );
+    let drove = drive_fibre::<L, T, Counting<B, W>>(alloc, manner, blank, script, turns, &mut sink);
     let counting = sink.into_inner();
-    let summary = match player {
-        Some(player) => {
+    match drove {
+        Ok(Drove { player, driven }) => {
             let summary = fibre_summary(alloc, form, &player, counting.counter(), licences);
             player.close();
-            Some(summary)
+            summed(driven, summary, counting)
         }
-        None => None,
-    };
-    DriveSummed {
-        driven,
-        summary,
-        counting,
+        Err(fault) => DriveSummed {
+            driven: Err(fault),
+            summary: None,
+            counting,
+        },
     }
 }
 

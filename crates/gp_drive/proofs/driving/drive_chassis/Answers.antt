@@ -35,11 +35,11 @@ drive_lines-player-requires-clause-room g c =
     let kept = rw (c.in_ok-player.ensures.player, c.as_slice.ensures.value, c.in_ok-player.ensures.events) at c.in_default.ensures.keeps in
     room_behind chassis_playing many _ _ kept (chassis_room_for c.args.script.ports.items c.args.script.licences many within)
 
-pub returns : goal.returns
-returns g c =
+pub returns-clause-drives : goal.returns-clause-drives
+returns-clause-drives g c =
     let script = script_view c.args.script in
     let written = rw (c.in_ok-player.ensures.player, c.in_ok-player.ensures.mask, c.as_slice.ensures.value, c.in_ok-player.ensures.events) at c.in_default.ensures.plays.ok in
-    let driven = rw (c.in_ok-player.ensures.mask) at c.drive_lines-player.ensures in
+    let driven = rw (c.in_ok-player.ensures.mask) at c.drive_lines-player.ensures.serves in
     rw c.told.ensures
     (drives_told c.args.manner script _ _ _ _ _ (OnChassis c.requires.no_units (drives_to c.args.manner chassis_playing _ _ script.mask script.events _ _ _ _ _ _ written
     (subst (λ s. ServesTurns c.args.manner chassis_playing c.play_events.new.player script.mask c.drive_lines-player.result.1 c.args.turns.now c.drive_lines-player.new.turns s c.drive_lines-player.new.sink)

@@ -41,11 +41,11 @@ drive_lines-player-requires-clause-room g c =
     room_behind fibre_playing many c.in_ok-player.field-0.player _ (rw (c.as_slice.ensures.value, c.in_ok-player.ensures.events) at c.in_default.ensures.keeps)
     (fibre_room_for (script_view c.args.script) c.in_ok-player.field-0.player many within c.requires.playable.few_units c.in_ok-player.ensures.player)
 
-pub returns : goal.returns
-returns g c =
+pub returns-clause-drives : goal.returns-clause-drives
+returns-clause-drives g c =
     let script = script_view c.args.script in
     let written = rw (c.in_ok-player.ensures.mask, c.as_slice.ensures.value, c.in_ok-player.ensures.events) at c.in_default.ensures.plays.ok in
-    let driven = rw (c.in_ok-player.ensures.mask) at c.drive_lines-player.ensures in
+    let driven = rw (c.in_ok-player.ensures.mask) at c.drive_lines-player.ensures.serves in
     rw c.told.ensures
     (drives_told c.args.manner script _ _ _ _ _
     (OnFibre c.requires.units c.in_ok-player.field-0.player c.in_ok-player.ensures.player (drives_to c.args.manner fibre_playing _ _ script.mask script.events _ _ _ _ _ _ written
