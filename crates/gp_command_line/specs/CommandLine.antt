@@ -2,16 +2,17 @@
 -- `--words`, MASK is `0`, `85` or `0x55`, and JUDGED `[--teqd T].. [--drift D] [--midway] [--mask MASK]`:
 -- `oltctl replay [--explain] [--progress] [--units] [--summary] [FORM] [FILE]`
 -- `oltctl storm [--explain] [--progress] [--format text|json] [FILE]`
--- `oltctl drive [--explain] [--done] [FORM] FILE`
+-- `oltctl drive [--explain] [--done] [--units] [FORM] FILE`
 -- `oltctl check [--storm] [-q] [--format text|json] FILE..`
 -- `oltctl test [--bless] [--jobs N] [--junit FILE] [--format text|json] [-q] FOLDER..`
 -- `oltctl generate [--seed N] [--ports P] [--units U] [--events E] [--mistakes K]`
--- `oltctl verify [--explain] [--at-least N] [--progress] [--words] [--format text|json] FILE [TRACE]`
+-- `oltctl verify [--explain] [--at-least N] [--progress] [--words] [--units] [--format text|json]
+-- FILE [TRACE]`
 -- `oltctl audit [JUDGED] [--side terminal|units] [--only RULES].. [--without RULES].. [--words] [--units]
 -- [--format text|json] [--progress] [LOG]`
 -- `oltctl picture [--from FRAME] [--to FRAME] [JUDGED] [LOG]`
 -- `oltctl waves [--from FRAME] [--to FRAME] [--midway] [--mask MASK] [LOG]`
--- `oltctl explain [--mask MASK] [FORM] [--log] [TRACE]`
+-- `oltctl explain [--mask MASK] [FORM] [--log] [--units] [--summary] [TRACE]`
 -- `oltctl decode [--up] [--both] [--names] [--mask MASK] [--format text|json] [HEX..]`
 -- `oltctl encode [--up] [--mask MASK] [--format text|json] [WORDS..]`
 use Rattle.std.specs.Prelude.{◌≡◌, List, [], ◌∷◌, Option, None, Some, map, Bool, true, false, codes, if◌then◌else◌, ◌||◌}
@@ -120,8 +121,8 @@ storm_rules formats =
 
 abbrev pub drive_rules : Names → List Rule
 drive_rules formats =
-    flag_rule (codes "explain") ∷ flag_rule (codes "done") ∷ flag_rule (codes "words") ∷ flag_rule (codes "time")
-    ∷ format_rule formats ∷ required_rule (codes "script") ∷ []
+    flag_rule (codes "explain") ∷ flag_rule (codes "done") ∷ flag_rule (codes "units") ∷ flag_rule (codes "words")
+    ∷ flag_rule (codes "time") ∷ format_rule formats ∷ required_rule (codes "script") ∷ []
 
 abbrev pub check_rules : Names → List Rule
 check_rules formats = flag_rule (codes "storm") ∷ quiet_rule ∷ format_rule formats ∷ files_rule ∷ []
@@ -139,7 +140,7 @@ generate_rules =
 abbrev pub verify_rules : Names → List Rule
 verify_rules formats =
     flag_rule (codes "explain") ∷ number_rule (codes "at-least") ∷ flag_rule (codes "progress")
-    ∷ flag_rule (codes "words") ∷ format_rule formats ∷ required_rule (codes "script")
+    ∷ flag_rule (codes "words") ∷ flag_rule (codes "units") ∷ format_rule formats ∷ required_rule (codes "script")
     ∷ positional_rule (codes "trace") ∷ []
 
 abbrev pub audit_rules : Choices → List Rule
@@ -162,7 +163,7 @@ waves_rules masks =
 abbrev pub explain_rules : Names → Names → List Rule
 explain_rules masks formats =
     mask_rule masks ∷ flag_rule (codes "time") ∷ format_rule formats ∷ flag_rule (codes "log")
-    ∷ positional_rule (codes "trace") ∷ []
+    ∷ flag_rule (codes "units") ∷ flag_rule (codes "summary") ∷ positional_rule (codes "trace") ∷ []
 
 abbrev pub decode_rules : Names → Names → List Rule
 decode_rules masks formats =

@@ -67,10 +67,12 @@ abbrev pub AsksToReplay : List Row → Request → Type 0
 AsksToReplay rows (Replay file play) = (name_in file ≡ file_named (first_of (codes "file") rows)) × AsksForPlay rows play
 AsksToReplay rows _ = ⊥
 
--- the rows of `drive` ask to drive the script of FILE, with `--done` by answers that tell where they end
+-- the rows of `drive` ask to drive the script of FILE, with `--done` by answers that tell where they end, and with
+-- `--units` for what became of each port and unit
 abbrev pub AsksToDrive : List Row → Request → Type 0
-AsksToDrive rows (Drive script told done) =
+AsksToDrive rows (Drive script told done units) =
     (first_of (codes "script") rows ≡ Some script.now) × AsksForTrace rows told × IsFlag rows (codes "done") done
+    × IsFlag rows (codes "units") units
 AsksToDrive rows _ = ⊥
 
 -- what scripts are to be for: a storm, or else a replay
@@ -134,6 +136,7 @@ pub record AsksForVerification (rows : List Row) (wanted : Verification) : Type 
   pub words : Bool
   pub in_words : IsFlag rows (codes "words") words
   pub form : wanted.form ≡ form_named words (first_of (codes "format") rows)
+  pub units : IsFlag rows (codes "units") wanted.units
   pub progress : IsFlag rows (codes "progress") wanted.progress
 
 abbrev pub AsksToVerify : List Row → Request → Type 0
@@ -224,12 +227,14 @@ AsksToEncode rows (EncodeLines upstream mask json) =
 AsksToEncode rows _ = ⊥
 
 -- the rows of `explain` ask for TRACE in words, or for standard input where it is left out, under the mask of `--mask`;
--- with `--log` they ask for it as a log
+-- with `--log` they ask for it as a log, with `--units` for what is counted behind it, and with `--summary` for that alone
 pub record AsksForExplanation (rows : List Row) (wanted : Explanation) : Type 0 where
   pub trace : name_in wanted.trace ≡ file_named (first_of (codes "trace") rows)
   pub mask : wanted.mask ≡ mask_named (first_of (codes "mask") rows)
   pub told : AsksForForm rows true wanted.told
   pub log : IsFlag rows (codes "log") wanted.as_log
+  pub units : IsFlag rows (codes "units") wanted.units
+  pub summary : IsFlag rows (codes "summary") wanted.summary
 
 abbrev pub AsksToExplain : List Row → Request → Type 0
 AsksToExplain rows (Explain wanted) = AsksForExplanation rows wanted
@@ -239,7 +244,8 @@ AsksToExplain rows _ = ⊥
 abbrev pub Asks : Option (Text × List Row) → Request → Type 0
 Asks None request = ⊥
 Asks (Some (name, rows)) (Replay file play) = (name ≡ codes "replay") × AsksToReplay rows (Replay file play)
-Asks (Some (name, rows)) (Drive script told done) = (name ≡ codes "drive") × AsksToDrive rows (Drive script told done)
+Asks (Some (name, rows)) (Drive script told done units) =
+    (name ≡ codes "drive") × AsksToDrive rows (Drive script told done units)
 Asks (Some (name, rows)) (Check files manner) = (name ≡ codes "check") × AsksToCheck rows (Check files manner)
 Asks (Some (name, rows)) (Test wanted) = (name ≡ codes "test") × AsksToTest rows (Test wanted)
 Asks (Some (name, rows)) (Storm file play) = (name ≡ codes "storm") × AsksToStorm rows (Storm file play)

@@ -208,7 +208,7 @@ pub(crate) fn summary<'a>(alloc: Global) -> Arg<'a>
     flag(
         alloc,
         "summary",
-        "Writes what --units tells, in place of the trace",
+        "Writes what --units tells, in place of the trace; --words and --time then change nothing",
     )
 }
 

@@ -73,6 +73,11 @@ fn drive<'a>(alloc: Global, formats: &'a [&'a str]) -> Result<Command<'a>, Alloc
         "done",
         "Ends the answer to each line of input with a line: done LINE",
     );
+    let units = flag(
+        alloc,
+        "units",
+        "Tells at the end, on standard error, what became of each port and unit, in a line each",
+    );
     let script = required(
         alloc,
         "script",
@@ -82,6 +87,7 @@ fn drive<'a>(alloc: Global, formats: &'a [&'a str]) -> Result<Command<'a>, Alloc
     let args = vec![in alloc;
         explained_always(alloc),
         done,
+        units,
         in_words(alloc),
         timed(alloc),
         form(alloc, formats),
@@ -129,7 +135,12 @@ fn test<'a>(alloc: Global, formats: &'a [&'a str]) -> Result<Command<'a>, AllocE
         "bless",
         "Writes NAME.trace where neither it nor NAME.faults is there",
     );
-    let junit = valued(alloc, "junit", "FILE", "Writes JUnit's XML to a file too");
+    let junit = valued(
+        alloc,
+        "junit",
+        "FILE",
+        "Writes JUnit's XML to a file too: a new one, or over XML",
+    );
     let format = format(
         alloc,
         formats,
@@ -152,7 +163,12 @@ fn test<'a>(alloc: Global, formats: &'a [&'a str]) -> Result<Command<'a>, AllocE
 fn generate<'a>(alloc: Global) -> Result<Command<'a>, AllocError>
     ensures { IfOk result (ReadsAs (spec_command (codes "generate") generate_rules)) }
 {
-    let seed = number(alloc, "seed", "N", "Where chance begins; 0 if left out");
+    let seed = number(
+        alloc,
+        "seed",
+        "N",
+        "Where chance begins, 0 to 18446744073709551615; 0 if left out",
+    );
     let ports = number(
         alloc,
         "ports",
@@ -197,6 +213,11 @@ fn verify<'a>(alloc: Global, formats: &'a [&'a str]) -> Result<Command<'a>, Allo
         formats,
         "How what was found is told; json: one object in all",
     );
+    let units = flag(
+        alloc,
+        "units",
+        "Tells then what became of each port and unit, up to the line that can't be, in a line each",
+    );
     let script = required(
         alloc,
         "script",
@@ -208,6 +229,7 @@ fn verify<'a>(alloc: Global, formats: &'a [&'a str]) -> Result<Command<'a>, Allo
         at_least(alloc),
         progress(alloc),
         words,
+        units,
         format,
         script,
         trace(alloc),
@@ -335,11 +357,23 @@ fn explain<'a>(
         "log",
         "Writes it as a log of messages instead, as audit reads; other options then change nothing",
     );
+    let units = flag(
+        alloc,
+        "units",
+        "Tells at the end what was counted of each port and of each unit, in a line each",
+    );
+    let counts_alone = flag(
+        alloc,
+        "summary",
+        "Writes what --units tells, in place of the trace; --time then changes nothing",
+    );
     let args = vec![in alloc;
         mask(alloc, masks),
         timed(alloc),
         form(alloc, formats),
         as_log,
+        units,
+        counts_alone,
         trace(alloc),
     ]?;
     Command::new(alloc, "explain")

@@ -67,7 +67,11 @@ Of each NAME.toml in a folder:
   both                    it fails
 What fails has a line on standard output: where it differs the first time, what was
 expected there and what came. A folder without a script fails too, and so does a
-NAME.trace or NAME.faults without NAME.toml. Other files are passed over.
+NAME.trace or NAME.faults without NAME.toml, and what is no regular file. Other files
+are passed over. A folder that is named twice counts once.
+
+The FILE of --junit is written where there is none, or where it is empty or begins with
+<?xml; over anything else it is not written.
 
 Exit status:
   0  all passed, or a trace was written
@@ -119,10 +123,13 @@ Examples:
   oltctl replay script.toml | oltctl verify --at-least 10 script.toml
   oltctl verify --words script.toml my-own.trace
   oltctl verify --format json script.toml my-own.trace
+  oltctl verify --units script.toml my-own.trace
 
 With --words the line that can't be and the machine's own are told with their
 codes in words; with --format json standard output is one object, whose field
-run says whether the trace is a run.
+run says whether the trace is a run. With --units an object, or a line, for each port,
+each unit and the licences stands behind that. Where a line can't be they tell of the
+lines before it, and of the machine's own in its place.
 
 Exit status:
   0  the trace is a run
@@ -162,6 +169,7 @@ With --done the answer to each line, also to an empty one, ends with: done LINE
 
 Examples:
   oltctl drive script.toml
+  oltctl drive --units script.toml < turns 2> units.txt
   printf '0 search\\n0 frame 4\\n' | oltctl drive script.toml
 
 Exit status:
@@ -178,6 +186,7 @@ Examples:
   oltctl explain trace.txt
   oltctl replay script.toml | oltctl explain -
   oltctl explain --log trace.txt | oltctl audit
+  oltctl explain --summary --format json trace.txt
 
 With --log each line of the trace that says something on the fibre is written as lines
 of a log: PORT TIME down CODE, PORT TIME up CODE DELAY, PORT TIME grant GRANT, TIME in

@@ -74,6 +74,8 @@ pub struct Verification<'a> {
     pub at_least: Option<u64>,
     /// What is found is said by lines as they are, by lines in words, or by objects.
     pub form: Form,
+    /// Behind that, what became of each port and unit, as far as the trace is a run.
+    pub units: bool,
     /// Once a second, how many lines were read.
     pub progress: bool,
 }
@@ -89,6 +91,10 @@ pub struct Explanation<'a> {
     pub told: Told,
     /// As a log, whatever else is wanted.
     pub as_log: bool,
+    /// At the end, what was counted of each port and unit is told behind it.
+    pub units: bool,
+    /// That alone is told, in place of the trace.
+    pub summary: bool,
 }
 
 /// An audit that is wanted. Options are as they are given.
@@ -163,11 +169,12 @@ pub enum Request<'m, 'a> {
         play: Play,
     },
     /// Play the script of this file, and then what the lines of standard input ask for; where `done`, each answer ends
-    /// with a line that says so.
+    /// with a line that says so; where `units`, what became of each port and unit is told at the end.
     Drive {
         script: &'a str,
         told: Told,
         done: bool,
+        units: bool,
     },
     /// Say of each of these files whether it is a script, or where it is wrong.
     Check {
@@ -367,6 +374,7 @@ fn drive_of<'m, 'a>(found: &'m ArgMatches<'a>) -> Option<Request<'m, 'a>>
         script: found.get_str("script")?,
         told: told_in(found),
         done: found.get_flag("done"),
+        units: found.get_flag("units"),
     })
 }
 
@@ -414,6 +422,7 @@ fn verify_of<'m, 'a>(found: &'m ArgMatches<'a>) -> Option<Request<'m, 'a>>
         trace: file_of(found.get_str("trace")),
         at_least: number_at(found, "at-least"),
         form: form_of(found.get_flag("words"), found.get_str("format")),
+        units: found.get_flag("units"),
         progress: found.get_flag("progress"),
     }))
 }
@@ -573,6 +582,8 @@ fn explain_of<'m, 'a>(found: &'m ArgMatches<'a>) -> Request<'m, 'a>
         mask: mask_of(found.get_str("mask")),
         told: form_in(found, true),
         as_log: found.get_flag("log"),
+        units: found.get_flag("units"),
+        summary: found.get_flag("summary"),
     })
 }
 

@@ -1,5 +1,5 @@
 -- A drive, from the script's events and the lines behind them.
-use Rattle.std.proofs.Common.{◌≡◌, ℕ, ◌+◌, ◌^◌, ◌<◌, ◌≤◌, ◌⊎◌, inl, inr, true, false, List, ◌++◌, Result, Ok, Err, IsErrAnd, length, take, refl, sym, ap, subst, ◌∙◌, arith, append_assoc}
+use Rattle.std.proofs.Common.{◌≡◌, ℕ, ◌+◌, ◌^◌, ◌<◌, ◌≤◌, ◌⊎◌, inl, inr, true, false, List, ◌++◌, Result, Ok, Err, IfOk, IsErrAnd, length, take, refl, sym, ap, subst, ◌∙◌, arith, append_assoc}
 use Rattle.std.specs.Io.KnownBytes.{Appends}
 use Rattle.std.proofs.KnownBytes.{Appends-trans}
 use Rattle.std.proofs.Math.Seq.{take-append-add}
@@ -39,7 +39,7 @@ use Rattle.gp_drive.specs.declared.fault.DriveFault.TheVariants as drives
 use Rattle.gp_drive.specs.declared.driven.Driven.{Driven}
 use Rattle.gp_drive.specs.declared.manner.DriveManner.{DriveManner}
 use Rattle.gp_drive.specs.Drive.{DriveState, begun_in, driving, most_turns, never_over}
-use Rattle.gp_drive.specs.Outcome.{Drives, DrivesInputIn, DrivesScriptIn, DrivesTo, IsNoScript, ServesTurns, longest_line, told}
+use Rattle.gp_drive.specs.Outcome.{Drives, DrivesInputIn, DrivesScriptIn, DrivesTo, IsNoScript, LeavesServed, LeftBy, ServesTurns, longest_line, told}
 use Rattle.gp_drive.specs.Outcome.DrivesInputIn.{NotRead}
 
 -- ---- the lines
@@ -142,6 +142,39 @@ drives_to manner playing start mid mask events (Err (lines.Line fault)) from to 
   spoken = s.spoken;
   written = joined_left fault x y z (trace_text mask w.receipts) s.said w.lines s.written;
 }
+
+-- what the last line left
+pub turns_left : {S T W : Type 0} (manner : DriveManner) (playing : Playing S) (player : S) (mask : Mask) (end : LinesEnd) (first last : DriveState S) (given : S) (driven : Driven)
+    (from to : SourceState T) (before after : SinkState W) → first ≡ begun_in manner player mask → driven ≡ record { lines = last.lines; errors = last.errors } → given ≡ last.player
+    → ServesTo (driving playing) never_over longest_line end from to first last before after → LeavesServed manner playing player mask given driven from to before after
+turns_left manner playing player mask ends.Whole first last given driven from to before after is counted left s =
+    (true, last, counted, left, subst (λ d. ServesTo (driving playing) never_over longest_line ends.Whole from to d last before after) is s)
+turns_left manner playing player mask ends.Open first last given driven from to before after is counted left s =
+    (false, last, counted, left, subst (λ d. ServesTo (driving playing) never_over longest_line ends.Open from to d last before after) is s)
+turns_left manner playing player mask ends.Over first last given driven from to before after is counted left s = not_over s.1
+
+pub left_by : {S T W : Type 0} (manner : DriveManner) (playing : Playing S) (start mid : S) (mask : Mask) (events : List ScriptEvent) (given : S) (answer : Result Driven LinesFault)
+    (from to : SourceState T) (x y z : SinkState W) → Writes mask (PlaysAll playing events) start mid x y
+    → IfOk answer (λ driven. LeavesServed manner playing mid mask given driven from to y z) → LeftBy manner playing start mask events given answer from to x z
+left_by manner playing start mid mask events given (Err fault) from to x y z w s = tt
+left_by manner playing start mid mask events given (Ok driven) from to x y z w s =
+    let all = s.4 in
+    record {
+      all = record {
+        receipts = w.receipts;
+        mid = mid;
+        opened = w.happened;
+        bytes = all.bytes;
+        read = all.read;
+        said = all.said;
+        end = s.1;
+        spoken = all.spoken;
+        counted = s.2;
+        written = joined x y z (trace_text mask w.receipts) all.said w.lines all.written;
+        kept = all.kept;
+      };
+      end = s.3;
+    }
 
 -- ---- room
 

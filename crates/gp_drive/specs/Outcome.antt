@@ -15,7 +15,7 @@ use Rattle.gp_flow.specs.Lines.{DoesAll, DoesSome, Leaves, ServesAll, ServesEnde
 use Rattle.gp_replay.specs.declared.fault.PlayFault.TheVariants as plays
 use Rattle.gp_replay.specs.declared.fault.RunFault.{RunFault}
 use Rattle.gp_replay.specs.declared.fault.RunFault.TheVariants as runs
-use Rattle.gp_replay.specs.Chassis.{opening_play}
+use Rattle.gp_replay.specs.Chassis.{PlayState, opening_play}
 use Rattle.gp_replay.specs.Opening.{OpensFibre}
 use Rattle.gp_replay.specs.Outcome.{OfScript, ReadsBy}
 use Rattle.gp_replay.specs.Playing.{LossyPlay, Playing, PlaysAll, chassis_playing, fibre_playing}
@@ -94,6 +94,28 @@ ServesTurns manner playing player mask (Err lines.Read) from to before after =
 ServesTurns manner playing player mask (Err (lines.Line fault)) from to before after =
     ServesSome (Leaves fault) (driving playing) longest_line from to (begun_in manner player mask) before after
 
+-- all lines were answered, and the player is given back as the last one left it
+abbrev pub LeavesServed : {S T W : Type 0} → DriveManner → Playing S → S → Mask → S → Driven → SourceState T
+    → SourceState T → SinkState W → SinkState W → Type 0
+LeavesServed manner playing player mask given driven from to before after =
+    (whole : Bool) × (end : DriveState _) × (driven ≡ record { lines = end.lines; errors = end.errors })
+    × (given ≡ end.player)
+    × ServesAll (driving playing) longest_line whole from to (begun_in manner player mask) end before after
+
+-- the events were played and all lines answered, and this is what the last one left
+pub record LeavesDriven {S T W : Type 0} (manner : DriveManner) (playing : Playing S) (start : S) (mask : Mask)
+    (events : List ScriptEvent) (given : S) (driven : Driven) (from to : SourceState T) (before after : SinkState W)
+    : Type 0 where
+  pub all : DrivesAll manner playing start mask events driven from to before after
+  pub end : given ≡ all.end.player
+
+-- where not all lines were answered, nothing is said of what is given
+abbrev pub LeftBy : {S T W : Type 0} → DriveManner → Playing S → S → Mask → List ScriptEvent → S
+    → Result Driven LinesFault → SourceState T → SourceState T → SinkState W → SinkState W → Type 0
+LeftBy manner playing start mask events given (Ok driven) from to before after =
+    LeavesDriven manner playing start mask events given driven from to before after
+LeftBy manner playing start mask events given (Err fault) from to before after = Unit {0}
+
 -- how the lines ended, by the answer
 abbrev pub DrivesTo : {S T W : Type 0} → DriveManner → Playing S → S → Mask → List ScriptEvent → Result Driven LinesFault
     → SourceState T → SourceState T → SinkState W → SinkState W → Type 0
@@ -114,6 +136,19 @@ pub data Drives {T W : Type 0} (manner : DriveManner) (script : ScriptView) (ans
   OnFibre : 0 < length script.units → (start : LossyPlay) → OpensFibre script start
       → DrivesTo manner fibre_playing start script.mask script.events answer from to before after
       → Drives manner script answer from to before after
+
+-- a chassis as a drive of this script left it
+abbrev pub LeftByChassis : {T W : Type 0} → DriveManner → ScriptView → PlayState → Result Driven LinesFault
+    → SourceState T → SourceState T → SinkState W → SinkState W → Type 0
+LeftByChassis manner script given answer from to before after =
+    LeftBy manner chassis_playing (opening_play script) script.mask script.events given answer from to before after
+
+-- a fibre as a drive of this script left it
+pub record LeftByFibre {T W : Type 0} (manner : DriveManner) (script : ScriptView) (given : LossyPlay)
+    (answer : Result Driven LinesFault) (from to : SourceState T) (before after : SinkState W) : Type 0 where
+  pub start : LossyPlay
+  pub opens : OpensFibre script start
+  pub left : LeftBy manner fibre_playing start script.mask script.events given answer from to before after
 
 -- the answer of a drive, by that of its lines
 abbrev pub told : Result Driven LinesFault → Result Driven DriveFault

@@ -1,12 +1,12 @@
 //! From a script and an input of lines to the answers.
-ghost use Rattle.std.specs.Prelude.{◌≡◌, ◌<◌, ◌+◌, ◌*◌, ◌^◌, [], length, true};
+ghost use Rattle.std.specs.Prelude.{◌≡◌, ◌<◌, ◌+◌, ◌*◌, ◌^◌, [], Err, IfErr, IfOk, length, true};
 ghost use Rattle.gp_replay.specs.Playing.{HasRoomFor, PlaysAll};
 ghost use Rattle.gp_script.specs.Playable.{IsPlayable};
 ghost use Rattle.gp_script.specs.View.{script_view};
 ghost use Rattle.gp_drive.specs.Drive.{begun_in, driving, most_turns, never_over};
-ghost use Rattle.gp_drive.specs.Outcome.{DrivesInput, DrivesInputIn, DrivesScriptIn, ServesTurns, told};
+ghost use Rattle.gp_drive.specs.Outcome.{DrivesInput, DrivesInputIn, DrivesScriptIn, LeavesServed, LeftByChassis, LeftByFibre, ServesTurns, told};
 
-use crate::driven::Driven;
+use crate::driven::{Driven, Drove};
 use crate::driver::Driver;
 use crate::fault::DriveFault;
 use crate::manner::DriveManner;
@@ -14,8 +14,8 @@ use gp_flow::{LinesFault, run_lines};
 use gp_licence::MAX_LICENCES;
 use gp_ploam::Mask;
 use gp_replay::{
-    EventPlayer, LineBuffer, Opened, TraceOut, each_port_runs, end_play, open_chassis, open_fibre,
-    play_events,
+    EventPlayer, FibrePlayer, LineBuffer, Opened, Player, TraceOut, each_port_runs, end_play,
+    open_chassis, open_fibre, play_events,
 };
 use gp_script::Script;
 use gp_stream::{Sink, Source};
@@ -36,7 +36,9 @@ fn drive_lines<P: EventPlayer, T: Read, W: Write>(
 ) -> (P, Result<Driven, LinesFault>)
     requires room { HasRoomFor P.playing most_turns player }
     requires flushed { sink.old.flushed ≡ true }
-    ensures { ServesTurns manner P.playing player mask result.1 turns.old turns.new sink.old sink.new }
+    ensures serves { ServesTurns manner P.playing player mask result.1 turns.old turns.new sink.old sink.new }
+    ensures left { IfOk result.1 (λ driven.
+        LeavesServed manner P.playing player mask result.0 driven turns.old turns.new sink.old sink.new) }
 {
     let mut driver = Driver::new_in(manner, player, mask, buffer);
     let served = run_lines(alloc, turns, sink, &mut driver);
@@ -61,21 +63,27 @@ fn told(driven: Result<Driven, LinesFault>) -> Result<Driven, DriveFault>
     }
 }
 
-/// Drives a script without simulated units on a chassis of its own, whose ledger is the blank.
-fn drive_chassis<L: Ledger, T: Read, W: Write>(
+/// Drives a script without simulated units on a chassis of its own, whose ledger is the blank, as `drive_script` does, and
+/// gives the ports as they stand at the end. An error is answered where no line was read.
+pub fn drive_chassis<L: Ledger, T: Read, W: Write>(
     alloc: Global,
     manner: DriveManner,
     blank: Blank,
     script: Script,
     turns: &mut Source<T>,
     sink: &mut Sink<W>,
-) -> Result<Driven, DriveFault>
+) -> Result<Drove<Player<L>>, DriveFault>
     requires name { blank.name ≡ L.name }
     requires parts { (blank.parts ≡ L.parts) × (L.parts ≡ MAX_LICENCES) }
     requires playable { IsPlayable (script_view script) }
     requires no_units { script.units.items ≡ [] }
     requires flushed { sink.old.flushed ≡ true }
-    ensures { DrivesScriptIn manner result turns.old turns.new sink.old sink.new (script_view script) }
+    ensures drives { IfOk result (λ drove.
+        DrivesScriptIn manner (told drove.driven) turns.old turns.new sink.old sink.new (script_view script)) }
+    ensures left { IfOk result (λ drove. LeftByChassis
+        manner (script_view script) drove.player drove.driven turns.old turns.new sink.old sink.new) }
+    ensures unplayed { IfErr result (λ fault.
+        DrivesScriptIn manner (Err fault) turns.old turns.new sink.old sink.new (script_view script)) }
 {
     each_port_runs();
     let Opened {
@@ -95,25 +103,30 @@ fn drive_chassis<L: Ledger, T: Read, W: Write>(
         return Err(DriveFault::from(fault));
     }
     let (player, driven) = drive_lines(alloc, manner, player, buffer, mask, turns, sink);
-    player.close();
-    told(driven)
+    Ok(Drove { player, driven })
 }
 
-/// Drives a script with simulated units on a fibre of its own, whose ledger is the blank.
-fn drive_fibre<L: Ledger, T: Read, W: Write>(
+/// Drives a script with simulated units on a fibre of its own, whose ledger is the blank, as `drive_script` does, and gives
+/// the fibre as it stands at the end. An error is answered where no line was read.
+pub fn drive_fibre<L: Ledger, T: Read, W: Write>(
     alloc: Global,
     manner: DriveManner,
     blank: Blank,
     script: Script,
     turns: &mut Source<T>,
     sink: &mut Sink<W>,
-) -> Result<Driven, DriveFault>
+) -> Result<Drove<FibrePlayer<L>>, DriveFault>
     requires name { blank.name ≡ L.name }
     requires parts { (blank.parts ≡ L.parts) × (L.parts ≡ MAX_LICENCES) }
     requires playable { IsPlayable (script_view script) }
     requires units { 0 < length script.units.items }
     requires flushed { sink.old.flushed ≡ true }
-    ensures { DrivesScriptIn manner result turns.old turns.new sink.old sink.new (script_view script) }
+    ensures drives { IfOk result (λ drove.
+        DrivesScriptIn manner (told drove.driven) turns.old turns.new sink.old sink.new (script_view script)) }
+    ensures left { IfOk result (λ drove. LeftByFibre
+        manner (script_view script) drove.player drove.driven turns.old turns.new sink.old sink.new) }
+    ensures unplayed { IfErr result (λ fault.
+        DrivesScriptIn manner (Err fault) turns.old turns.new sink.old sink.new (script_view script)) }
 {
     let Opened {
         mut player,
@@ -132,6 +145,25 @@ fn drive_fibre<L: Ledger, T: Read, W: Write>(
         return Err(DriveFault::from(fault));
     }
     let (player, driven) = drive_lines(alloc, manner, player, buffer, mask, turns, sink);
+    Ok(Drove { player, driven })
+}
+
+/// Ends what a script was driven on, and tells how that ended.
+fn end_chassis<L: Ledger>(drove: Result<Drove<Player<L>>, DriveFault>) -> Result<Driven, DriveFault>
+    ensures ok { IfOk drove (λ drove. result ≡ told drove.driven) }
+    ensures err { IfErr drove (λ fault. result ≡ Err fault) }
+{
+    let Drove { player, driven } = drove?;
+    player.close();
+    told(driven)
+}
+
+/// Ends what a script was driven on, and tells how that ended.
+fn end_fibre<L: Ledger>(drove: Result<Drove<FibrePlayer<L>>, DriveFault>) -> Result<Driven, DriveFault>
+    ensures ok { IfOk drove (λ drove. result ≡ told drove.driven) }
+    ensures err { IfErr drove (λ fault. result ≡ Err fault) }
+{
+    let Drove { player, driven } = drove?;
     player.close();
     told(driven)
 }
@@ -153,9 +185,9 @@ fn drive_on<L: Ledger, T: Read, W: Write>(
     ensures { DrivesScriptIn manner result turns.old turns.new sink.old sink.new (script_view script) }
 {
     if script.units.is_empty() {
-        drive_chassis::<L, T, W>(alloc, manner, blank, script, turns, sink)
+        end_chassis(drive_chassis::<L, T, W>(alloc, manner, blank, script, turns, sink))
     } else {
-        drive_fibre::<L, T, W>(alloc, manner, blank, script, turns, sink)
+        end_fibre(drive_fibre::<L, T, W>(alloc, manner, blank, script, turns, sink))
     }
 }
 

@@ -5,7 +5,7 @@
 //! each answer ends by telling so (`run_drive_in`).
 //!
 //! - `driving.rt`: `drive_script`, from a script that was read and an input of lines to the answers, and `run_drive`,
-//!   from the bytes of a script.
+//!   from the bytes of a script; `drive_chassis`, `drive_fibre`, which give what was driven on too.
 //! - `driver.rt`: `Driver`, which answers one line after another on a player, as what serves lines.
 //!   `driven.rt`: how many lines there were. `manner.rt`: in what manner they are answered.
 //! - `turn.rt`: plays what a line asks for. `shown.rt`: what is told of a simulated unit. `ending.rt`: what ends an
@@ -27,9 +27,9 @@ mod manner;
 mod shown;
 mod turn;
 
-pub use driven::Driven;
+pub use driven::{Driven, Drove};
 pub use driver::{Driver, MOST_TURNS};
-pub use driving::{drive_script, run_drive, run_drive_in};
+pub use driving::{drive_chassis, drive_fibre, drive_script, run_drive, run_drive_in};
 pub use fault::{DriveFault, TurnFault};
 pub use laws::drives_are_runs;
 pub use manner::DriveManner;

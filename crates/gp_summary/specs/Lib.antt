@@ -1,3 +1,4 @@
 pub mod Standing
 pub mod Text
+pub mod Counted
 pub mod Summary

@@ -19,7 +19,7 @@ use Rattle.gp_tally.specs.Tally.{PortTally, kind_place, refusal_place}
 use Rattle.gp_summary.specs.declared.form.SummaryForm.{SummaryForm}
 use Rattle.gp_summary.specs.declared.form.SummaryForm.TheVariants.{Text, Json}
 use Rattle.gp_summary.specs.declared.standing.UnitState.{UnitState}
-use Rattle.gp_summary.specs.declared.standing.UnitState.TheVariants.{Ranging, Operating, Disabled, Gone}
+use Rattle.gp_summary.specs.declared.standing.UnitState.TheVariants.{Ranging, Operating, Disabled, Asking, Gone}
 use Rattle.gp_summary.specs.declared.standing.Standing.{Standing}
 use Rattle.gp_summary.specs.Standing.{standing_of}
 
@@ -29,6 +29,7 @@ abbrev pub state_name : UnitState → List ℕ
 state_name Ranging = codes "ranging"
 state_name Operating = codes "operating"
 state_name Disabled = codes "disabled"
+state_name Asking = codes "asking"
 state_name Gone = codes "gone"
 
 -- a number behind its name

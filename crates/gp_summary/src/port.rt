@@ -13,7 +13,7 @@ use std::alloc::AllocError;
 use std::sync::ledger::Ledger;
 
 /// The refusals, in the order in which they are told.
-static REFUSALS: [Refusal; 14] = [
+pub(crate) static REFUSALS: [Refusal; 14] = [
     Refusal::Stray,
     Refusal::Garbled,
     Refusal::WrongWindow,
@@ -83,7 +83,11 @@ fn push_front(
 }
 
 /// Appends what happened at a port.
-fn push_events(out: &mut Vec<u8>, form: SummaryForm, counts: &PortCounts) -> Result<(), AllocError>
+pub(crate) fn push_events(
+    out: &mut Vec<u8>,
+    form: SummaryForm,
+    counts: &PortCounts,
+) -> Result<(), AllocError>
     ensures { OnOk result (out.new.items ≡ out.old.items ++ spec.events_told form counts.now) }
 {
     match form {
@@ -114,7 +118,7 @@ fn push_refusal(
 }
 
 /// Appends how often something was refused, by each of these refusals.
-fn push_refusals(
+pub(crate) fn push_refusals(
     out: &mut Vec<u8>,
     form: SummaryForm,
     counts: &[u64; REFUSAL_NUMBERS],

@@ -33,8 +33,10 @@ fn push_ports<L: Ledger>(
     Ok(())
 }
 
-/// Gives the summary of a chassis, whose ports were counted so.
-pub(crate) fn chassis_summary<L: Ledger>(
+/// Gives the summary of a chassis, whose ports were counted so, as they stand now: the lines of each port that was
+/// counted and of its units, and that of the licences, of which it has so many. There is no answer where a port was
+/// counted that isn't there.
+pub fn chassis_summary<L: Ledger>(
     alloc: Global,
     form: SummaryForm,
     player: &Player<L>,
@@ -51,8 +53,9 @@ pub(crate) fn chassis_summary<L: Ledger>(
     Ok(text)
 }
 
-/// Gives the summary of a fibre, whose port was counted so. There is no answer where other than one port was counted.
-pub(crate) fn fibre_summary<L: Ledger>(
+/// Gives the summary of a fibre, whose port was counted so, as it stands now. There is no answer where other than one
+/// port was counted.
+pub fn fibre_summary<L: Ledger>(
     alloc: Global,
     form: SummaryForm,
     player: &FibrePlayer<L>,

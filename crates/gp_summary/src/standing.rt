@@ -16,7 +16,9 @@ pub(crate) enum UnitState {
     Operating,
     /// It may not be activated for now.
     Disabled,
-    /// It isn't active.
+    /// It isn't active, and was never found.
+    Asking,
+    /// It isn't active, but was found.
     Gone,
 }
 
@@ -54,12 +56,14 @@ fn phase_delay(phase: &Phase) -> Option<u32>
     }
 }
 
-/// Gives what a unit does that isn't active.
-fn inactive_state(disabled: bool) -> UnitState
-    ensures { result ≡ spec.inactive_state disabled }
+/// Gives what a unit does that isn't active, and was found so often.
+fn inactive_state(disabled: bool, found: u64) -> UnitState
+    ensures { result ≡ spec.inactive_state disabled found }
 {
     if disabled {
         UnitState::Disabled
+    } else if found == 0 {
+        UnitState::Asking
     } else {
         UnitState::Gone
     }
@@ -71,7 +75,7 @@ fn standing_by(row: &Option<RowView>, disabled: bool, found: u64) -> Standing
 {
     match row {
         None => Standing {
-            state: inactive_state(disabled),
+            state: inactive_state(disabled, found),
             onu: None,
             delay: None,
             allocs: [None; 8],

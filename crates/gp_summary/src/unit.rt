@@ -19,6 +19,7 @@ fn state_name(state: UnitState) -> &'static str
         UnitState::Ranging => "ranging",
         UnitState::Operating => "operating",
         UnitState::Disabled => "disabled",
+        UnitState::Asking => "asking",
         UnitState::Gone => "gone",
     }
 }
@@ -180,7 +181,11 @@ fn push_counted(
 }
 
 /// Appends when a unit was heard last, and how long its last activation took.
-fn push_times(out: &mut Vec<u8>, form: SummaryForm, unit: &UnitCounts) -> Result<(), AllocError>
+pub(crate) fn push_times(
+    out: &mut Vec<u8>,
+    form: SummaryForm,
+    unit: &UnitCounts,
+) -> Result<(), AllocError>
     ensures { OnOk result (out.new.items ≡ out.old.items ++ spec.unit_times form unit.now) }
 {
     match form {

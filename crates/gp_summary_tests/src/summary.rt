@@ -44,6 +44,25 @@ port = 0
 frames = 4
 "#;
 
+/// A unit asks, and there is no licence for it.
+const NO_LICENCE: &str = r#"
+licences = 0
+[[port]]
+cycles = 1
+admit = ["ABCD00000001"]
+[[event]]
+port = 0
+command = "search"
+[[event]]
+port = 0
+frames = 5
+[[event]]
+port = 0
+at = 100000
+say = "serial"
+serial = "ABCD00000001"
+"#;
+
 /// How many lines its trace has: a command, thirteen frames and two bursts.
 const LINES: usize = 16;
 
@@ -109,6 +128,17 @@ impl Write for ShortWriter {
     fn flush(&mut self) -> io::Result<()> {
         Ok(())
     }
+}
+
+#[test]
+fn a_unit_that_was_never_found_asks(rt: HostRuntime) -> Result<(), AllocError> {
+    let (text, lines) = summary(rt.alloc(), NO_LICENCE, SummaryForm::Text)?;
+    assert_eq!(rt; lines, 7);
+    let wanted = "port 0: units 0, acquisition 0, frames 5, bursts 1, commands 1, refused no-licence 1\n\
+        unit ABCD00000001: asking, found 0, ranged 0, lost 0, last frame 5\n\
+        licences: free 0, in use 0\n";
+    assert!(rt; text.as_slice() == wanted.as_bytes());
+    Ok(())
 }
 
 #[test]

@@ -29,7 +29,7 @@ use Rattle.std.proofs.Common.{lit<}
 use Rattle.std.proofs.lemmas.List.{length-map}
 use Rattle.gp_replay.proofs.RoomLemmas.{leave_after_all, opening_room}
 use Rattle.gp_verify.specs.Tells.{Tells, TellsAlone, TellsNothing}
-use Rattle.gp_verify.specs.Verdicts.{IsNoStep, NamesOtherNumber, PartsOf, SaysInstead}
+use Rattle.gp_verify.specs.Verdicts.{IsNoStep, MovesOn, NamesOtherNumber, PartsOf, SaysInstead}
 use Rattle.gp_verify.proofs.SmallLemmas.{run_small}
 
 -- an event that is spelled has an Alloc-ID that a line can tell
@@ -139,6 +139,12 @@ told_it mask old new text port event r taken is_told line alone =
       };
       alone = alone;
     }
+
+-- the play goes on by the turn that was taken
+pub moves_on : (mask : Mask) (old new : PlayState) (turn : Turn) (r : Receipt) (said : List ℕ)
+    → TakesTurns old (turn ∷ []) (r ∷ []) new → said ≡ line_of mask r → MovesOn mask old new said
+moves_on mask old new turn r said taken line =
+    record { receipt = r; taken = record { told = refl; run = taken.run; numbers = taken.numbers }; line = line }
 
 -- a turn has the number that was the next one of its port
 turn_number : (old new : PlayState) (port : ℕ) (event : Event) (r : Receipt)

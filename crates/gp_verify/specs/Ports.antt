@@ -1,5 +1,4 @@
 -- Ports of which no line is too long to be looked at (this profile's own rule).
--- Inside: no public contract cites this.
 use Rattle.std.specs.Prelude.{All}
 use Rattle.gp_ploam.specs.Down.{IsProperDown}
 use Rattle.gp_machine.specs.State.{PortState}

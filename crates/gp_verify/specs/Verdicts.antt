@@ -1,5 +1,5 @@
 -- What is said of a line (this profile's own rule).
-use Rattle.std.specs.Prelude.{◌≡◌, ◌≢◌, ◌↔◌, ◌<◌, ◌≤◌, ℕ, List, [], ◌∷◌, Option, None, Some, length, slice_get}
+use Rattle.std.specs.Prelude.{◌≡◌, ◌≢◌, ◌↔◌, ◌<◌, ◌≤◌, ℕ, List, [], ◌∷◌, ◌++◌, Option, None, Some, codes, length, slice_get}
 use Rattle.gp_ploam.specs.declared.check.Mask.{Mask}
 use Rattle.gp_machine.specs.declared.config.PortConfig.{PortConfig}
 use Rattle.gp_machine.specs.declared.entry.Receipt.{Receipt}
@@ -11,7 +11,7 @@ use Rattle.gp_trace.specs.Text.{line_of}
 use Rattle.gp_lines.specs.Picks.{Picks}
 use Rattle.gp_lines.specs.Trace.{SplitsLine}
 use Rattle.gp_replay.specs.Chassis.{PlayState, opened_play}
-use Rattle.gp_replay.specs.Play.{TakesTurns}
+use Rattle.gp_replay.specs.Play.{TakesTurns, turn_of}
 use Rattle.gp_verify.specs.declared.verdict.Verdict.{Verdict}
 use Rattle.gp_verify.specs.declared.verdict.Verdict.TheVariants as verdict
 use Rattle.gp_verify.specs.Tells.{TellsAlone, TellsNothing}
@@ -63,6 +63,22 @@ Judges verdict.NoPort mask old text new said = TellsNothing mask old text × Nam
 Judges verdict.WrongNumber mask old text new said = TellsNothing mask old text × NamesOtherNumber mask old text said
 Judges verdict.NotAStep mask old text new said = TellsNothing mask old text × IsNoStep mask old text said
 Judges verdict.TooLong mask old text new said = ⊥
+
+-- the play goes on by one entry, and the machine says its line
+pub record MovesOn (mask : Mask) (old new : PlayState) (said : List ℕ) : Type 0 where
+  pub receipt : Receipt
+  pub taken : TakesTurns old (turn_of receipt ∷ []) (receipt ∷ []) new
+  pub line : said ≡ line_of mask receipt
+
+-- what a line does to the play, by what is said of it: one that follows is the line of the entry by which it goes on; in
+-- the place of another that names an event and a port the machine's own entry stands; any other changes nothing
+abbrev pub Moves : Verdict → Mask → List ℕ → PlayState → PlayState → List ℕ → Type 0
+Moves verdict.Follows mask text old new said = MovesOn mask old new said × (said ≡ text ++ codes "\n")
+Moves verdict.WrongNumber mask text old new said = MovesOn mask old new said
+Moves verdict.NotAStep mask text old new said = MovesOn mask old new said
+Moves verdict.NotALine mask text old new said = new ≡ old
+Moves verdict.NoPort mask text old new said = new ≡ old
+Moves verdict.TooLong mask text old new said = new ≡ old
 
 -- the most lines that are judged
 abbrev pub most_lines : ℕ

@@ -1,8 +1,8 @@
 //! A text judged against the chassis of a script.
-ghost use Rattle.std.specs.Prelude.{◌≡◌, ℕ, List, true};
+ghost use Rattle.std.specs.Prelude.{◌≡◌, ℕ, List, IfOk, true};
 ghost use Rattle.gp_script.specs.Playable.{IsPlayable};
 ghost use Rattle.gp_script.specs.View.{script_view};
-ghost use Rattle.gp_verify.specs.Checking.{Checks, ChecksIn, ChecksTrace};
+ghost use Rattle.gp_verify.specs.Checking.{Checks, ChecksIn, ChecksTrace, opened_by};
 ghost use Rattle.gp_verify.specs.Ending.{ChecksTold, as_checked};
 ghost use Rattle.gp_verify.specs.Outcome.{Writes};
 
@@ -16,10 +16,33 @@ use gp_licence::MAX_LICENCES;
 use gp_replay::{Opened, open_chassis};
 use gp_script::Script;
 use gp_stream::{Sink, Source};
-use std::alloc::Global;
+use std::alloc::{AllocError, Global};
 use std::io::{Read, Write};
 use std::marker::Brand;
 use std::sync::ledger::{Blank, Ledger};
+
+/// Opens the chassis of a script that was read, before the first line, where the line that can't be is to be told in this
+/// form. `blank` is a new ledger of `MAX_LICENCES` parts, made by `Blank::new`, and `L` its name.
+pub fn open_verify<L: Ledger>(
+    alloc: Global,
+    form: Form,
+    blank: Blank,
+    script: Script,
+) -> Result<Verifier<L>, AllocError>
+    requires name { blank.name ≡ L.name }
+    requires parts { (blank.parts ≡ L.parts) × (L.parts ≡ MAX_LICENCES) }
+    requires playable { IsPlayable (script_view script) }
+    ensures { IfOk result (λ verifier. verifier ≡ opened_by form (script_view script)) }
+{
+    configs_are_typed(script.ports.as_slice());
+    let Opened {
+        player,
+        buffer,
+        mask,
+        events: _,
+    } = open_chassis::<L>(alloc, blank, script)?;
+    Ok(Verifier::<L>::on(alloc, form, player, buffer, mask))
+}
 
 /// Tells whether a text is the trace of a run on the chassis of a script that was read, whose ledger is the blank.
 fn verify_on<L: Ledger, T: Read, W: Write>(
@@ -37,14 +60,7 @@ fn verify_on<L: Ledger, T: Read, W: Write>(
     ensures { (told : List ℕ) × ChecksTrace form trace.old trace.new told result (script_view script)
         × Writes sink.old sink.new told result }
 {
-    configs_are_typed(script.ports.as_slice());
-    let Opened {
-        player,
-        buffer,
-        mask,
-        events: _,
-    } = open_chassis::<L>(alloc, blank, script)?;
-    let mut verifier = Verifier::<L>::on(alloc, form, player, buffer, mask);
+    let mut verifier = open_verify::<L>(alloc, form, blank, script)?;
     let found = run_verify(alloc, trace, sink, &mut verifier);
     verifier.close();
     found

@@ -181,7 +181,7 @@ fn tell_read<W: Write>(
 /// also what is wrong where no line was told: too few lines, one that is too long, or the last one without its line
 /// feed. Where the text was not read, or a line not judged, nothing is written. Takes no memory; a write that fails is
 /// answered in place of what was found.
-pub(crate) fn tell_end<W: Write>(
+pub fn tell_end<W: Write>(
     sink: &mut Sink<W>,
     form: Form,
     at_least: Option<u64>,

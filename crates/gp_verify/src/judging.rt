@@ -3,7 +3,7 @@ ghost use Rattle.std.specs.Prelude.{◌≡◌, ◌<◌, ◌≤◌, ◌+◌, ◌�
 ghost use Rattle.gp_lines.specs.Trace.{SplitsLine};
 ghost use Rattle.gp_replay.specs.Chassis.{HasRoom};
 ghost use Rattle.gp_verify.specs.Ports.{IsOrderlyPort};
-ghost use Rattle.gp_verify.specs.Verdicts.{Judges};
+ghost use Rattle.gp_verify.specs.Verdicts.{Judges, Moves};
 
 use super::verdict::Verdict;
 use gp_lines::{TraceLine, event_is_told, picked, split_line};
@@ -36,6 +36,7 @@ fn judge_turn<L: Ledger>(
     requires room { HasRoom 1 player.old }
     requires split { SplitsLine text.now line.port line.number line.event line.answer.now }
     ensures judged { IfOk result (λ verdict. Judges verdict mask player.old text.now player.new buffer.new) }
+    ensures moved { IfOk result (λ verdict. Moves verdict mask text.now player.old player.new buffer.new) }
     ensures err { OnErr result ((player.new ≡ player.old) × (buffer.new ≡ buffer.old)) }
     ensures ports { length player.new.next ≡ length player.old.next }
     ensures room { (count : ℕ) → HasRoom (1 + count) player.old → HasRoom count player.new }
@@ -68,6 +69,7 @@ pub(crate) fn judge_line<L: Ledger>(
     requires few { length player.old.next ≤ 16 }
     requires room { HasRoom 1 player.old }
     ensures judged { IfOk result (λ verdict. Judges verdict mask player.old text.now player.new buffer.new) }
+    ensures moved { IfOk result (λ verdict. Moves verdict mask text.now player.old player.new buffer.new) }
     ensures err { OnErr result ((player.new ≡ player.old) × (buffer.new ≡ buffer.old)) }
     ensures ports { length player.new.next ≡ length player.old.next }
     ensures room { (count : ℕ) → HasRoom (1 + count) player.old → HasRoom count player.new }

@@ -3,8 +3,9 @@
 //! Promise: Ok exactly where the text read is the trace of a run; else its first line that can't be is told
 //! (`verify_script`, `Verifier`).
 //!
-//! - `checking.rt`: `verify_script`, from the bytes of a script and of a text to whether it is a trace of the
-//!   script's chassis; `verify_told`, the same, with all that is told of it.
+//! - `checking.rt`: `open_verify`, the chassis of a script before the first line; `verify_script`, from the bytes of a
+//!   script and of a text to whether it is a trace of the script's chassis; `verify_told`, the same, with all that is
+//!   told of it.
 //! - `running.rt`: `run_verify`, from the bytes of a text to whether it is a trace.
 //! - `verifier.rt`: `Verifier`, which is given the lines of a text one after another; `following.rt`: as what serves
 //!   lines.
@@ -36,11 +37,11 @@ mod typed;
 mod verdict;
 mod verifier;
 
-pub use checking::{verify_script, verify_told};
-pub use ending::wanted_lines;
+pub use checking::{open_verify, verify_script, verify_told};
+pub use ending::{tell_end, wanted_lines};
 pub use fault::LineRefusal;
 pub use laws::traces_are_lines;
 pub use outcome::{CheckFault, VerifyFault};
-pub use running::run_verify;
+pub use running::{finding, run_verify};
 pub use verdict::Verdict;
 pub use verifier::Verifier;

@@ -8,7 +8,7 @@ ghost use Rattle.gp_verify.specs.declared.verdict.Verdict.{Verdict as AnyVerdict
 ghost use Rattle.gp_verify.specs.declared.verdict.Verdict.TheVariants.{NoPort, TooLong};
 ghost use Rattle.gp_verify.specs.Ports.{IsOrderlyPort};
 ghost use Rattle.gp_verify.specs.Report.{Explains, Reports, TellsBoth, TellsFor, TellsLine, left_behind, why_no_port};
-ghost use Rattle.gp_verify.specs.Verdicts.{Judges, ending, most_lines, opened_verify};
+ghost use Rattle.gp_verify.specs.Verdicts.{Judges, Moves, ending, most_lines, opened_verify};
 
 use super::fault::LineRefusal;
 use super::judging::judge_line;
@@ -126,6 +126,8 @@ impl<L: Ledger> Verifier<L> {
     pub fn judge(&mut self, text: &[u8]) -> Result<Verdict, LineRefusal>
         ensures judged { self.old.ended ≡ None → IfOk result (λ verdict.
             Judges verdict self.old.mask self.old.play text.now self.new.play self.new.said) }
+        ensures moved { self.old.ended ≡ None → IfOk result (λ verdict.
+            Moves verdict self.old.mask text.now self.old.play self.new.play self.new.said) }
         ensures ends { self.old.ended ≡ None → IfOk result (λ verdict. self.new.ended ≡ ending verdict) }
         ensures lines { self.old.ended ≡ None → IfOk result (λ _. self.new.lines ≡ self.old.lines + 1) }
         ensures ended { (verdict : AnyVerdict) → self.old.ended ≡ Some verdict
@@ -168,7 +170,7 @@ impl<L: Ledger> Verifier<L> {
     }
 
     /// States what holds of each port: no line of it is too long.
-    pub(crate) fn stands(&self)
+    pub fn stands(&self)
         ensures { All IsOrderlyPort self.now.play.world.ports }
     {
         // The invariant is known once a field is looked at.
@@ -187,6 +189,20 @@ impl<L: Ledger> Verifier<L> {
         ensures { result ≡ self.now.lines }
     {
         self.lines
+    }
+
+    /// The ports as the lines so far left them.
+    pub fn player(&self) -> &Player<L>
+        ensures { result.now ≡ self.now.play }
+    {
+        &self.player
+    }
+
+    /// The mask of the codes.
+    pub fn mask(&self) -> Mask
+        ensures { result ≡ self.now.mask }
+    {
+        self.mask
     }
 
     /// The line that the machine said last, with its line feed: after `WrongNumber` and `NotAStep` that in the line's
@@ -346,8 +362,9 @@ impl<L: Ledger> Verifier<L> {
         self.report_for(verdict, text, reason.as_slice())
     }
 
-    /// Makes what is told of the line that was judged last, by its verdict and its text.
-    pub(crate) fn report(&self, verdict: Verdict, text: &[u8]) -> Result<Vec<u8>, AllocError>
+    /// Makes what is told of the line that was judged last, by its verdict and its text: nothing of one that follows,
+    /// and of one that is too long.
+    pub fn report(&self, verdict: Verdict, text: &[u8]) -> Result<Vec<u8>, AllocError>
         ensures { IfOk result
             (λ report. Reports self.now.form verdict self.now.lines self.now text.now report.items) }
     {

@@ -1,5 +1,5 @@
 -- What a run found in its input, from how it ended.
-use Rattle.std.proofs.Common.{◌≡◌, ℕ, List, [], Option, Result, Ok, Err, OnOk, IfOk, IsErrAnd, subst, sym, refl, ap, ◌∙◌}
+use Rattle.std.proofs.Common.{◌≡◌, ℕ, List, [], Option, Result, Ok, Err, OnOk, IfOk, IsErrAnd, inl, inr, subst, sym, refl, ap, ◌∙◌}
 use Rattle.gp_script.specs.declared.fault.ScriptFault.{ScriptFault}
 use Rattle.gp_script.specs.Script.{ScriptView, script_of}
 use Rattle.gp_stream.specs.Source.{SourceState, ReadsTooMuch, max_bytes}
@@ -21,6 +21,7 @@ use Rattle.gp_verify.specs.declared.outcome.VerifyFault.TheVariants as verifies
 use Rattle.gp_verify.specs.Checking.{ChecksScript, ChecksTrace}
 use Rattle.gp_verify.specs.Ending.{ChecksTold, Ends, EndsCheck, TellsEnd, after_writing, as_checked}
 use Rattle.gp_explain.specs.declared.form.Form.{Form}
+use Rattle.gp_flow.specs.declared.fault.LineFault.{LineFault}
 use Rattle.gp_flow.specs.declared.fault.LineFault.TheVariants as lines
 use Rattle.gp_flow.specs.declared.fault.LinesFault.TheVariants.{Line}
 use Rattle.gp_stream.specs.declared.sink.WriteStopped.{WriteStopped}
@@ -30,7 +31,7 @@ use Rattle.gp_drive.specs.declared.fault.DriveFault.TheVariants as drives
 use Rattle.gp_drive.specs.declared.manner.DriveManner.{DriveManner}
 use Rattle.gp_drive.specs.Outcome.{DrivesInputIn, DrivesScriptIn, IsNoScript}
 use Rattle.gp_drive.specs.Outcome.DrivesInputIn.{NotRead, Read}
-use Rattle.oltctl.specs.Replays.{IsCheckedBy, IsReadBy, IsToldBy, IsTooLong, unread, unread_endless}
+use Rattle.oltctl.specs.Replays.{IsCheckedBy, IsReadBy, IsToldBy, IsTooLong, IsWrittenBehind, unread, unread_endless}
 
 pub found_script : {R W : Type 0} (says_of : List ℕ → Result ScriptView ScriptFault) (leaves : RunAnswer → ScriptView → Type 0) (reader : R)
     (remaining : Option (List ℕ)) (before after : SourceState R) (old new : SinkState W) (r : RunAnswer) → before ≡ unread reader remaining
@@ -114,6 +115,24 @@ pub told_from : {S T W : Type 0} (form : Form) (at_least : Option ℕ) (script :
 told_from form at_least script of_script trace of_trace before after from to old new r is also all =
     checked_from form script of_script trace of_trace before after from to all.checked.told r is also
     (ended_check form before after from to all.checked.told at_least all.found r all.mid new all.ended all.checked.checked)
+
+-- what more is written behind it changes nothing
+module _ {S T : Type 0} (form : Form) (script : S) (of_script : Option (List ℕ)) (trace : T) (of_trace : Option (List ℕ)) where
+  cut_off : (checked : Result ℕ VerifyFault) (fault : LineFault) → IsCheckedBy form script of_script trace of_trace (as_checked checked)
+      → IsCheckedBy form script of_script trace of_trace (Err (Trace (verifies.Lines (Line fault))))
+  cut_off (Ok lines) fault h = (h.0, h.1, h.2, record { script = h.3.script; input = h.3.input; held = (h.3.held.0, tt) })
+  cut_off (Err found) fault h = (h.0, h.1, h.2, record { script = h.3.script; input = h.3.input; held = (h.3.held.0, tt) })
+
+  by_answer : (found answer : Result ℕ CheckFault) → answer ≡ found → IsCheckedBy form script of_script trace of_trace found → IsCheckedBy form script of_script trace of_trace answer
+  by_answer found answer is h = subst (λ (a : Result ℕ CheckFault). IsCheckedBy form script of_script trace of_trace a) (sym is) h
+
+  pub behind : (found answer : Result ℕ CheckFault) → IsCheckedBy form script of_script trace of_trace found → IsWrittenBehind found answer
+      → IsCheckedBy form script of_script trace of_trace answer
+  behind (Err (Script fault)) answer h is = by_answer (Err (Script fault)) answer is h
+  behind (Err (Trace fault)) answer h (inl is) = by_answer (Err (Trace fault)) answer is h
+  behind (Err (Trace fault)) answer h (inr cut) = by_answer _ answer cut.1 (cut_off (Err fault) cut.0 h)
+  behind (Ok lines) answer h (inl is) = by_answer (Ok lines) answer is h
+  behind (Ok lines) answer h (inr cut) = by_answer _ answer cut.1 (cut_off (Ok lines) cut.0 h)
 
 -- ---- a drive
 

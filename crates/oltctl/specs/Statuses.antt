@@ -260,7 +260,7 @@ IsGenerated asked status =
 -- the status after what was asked for
 abbrev pub IsServed : Request → ℕ → Type 0
 IsServed (Replay file play) status = IsPlayed status
-IsServed (Drive script told done) status = IsDriven status
+IsServed (Drive script told done units) status = IsDriven status
 IsServed (Check files manner) status = IsChecked status
 IsServed (Test wanted) status = IsTested status
 IsServed (Storm file play) status = IsStormed status

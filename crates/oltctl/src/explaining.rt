@@ -1,8 +1,10 @@
-//! The command `explain`: a trace is written again, with its codes in words, as JSON, or as a log.
+//! The command `explain`: a trace is written again, with its codes in words, as JSON, or as a log, and what was counted of
+//! its ports and units.
 ghost use Rattle.std.specs.Prelude.{◌≡◌};
 ghost use Rattle.oltctl.specs.Statuses.{IsExplained, told_status};
 
 use crate::observed::{Observed, Seen};
+use crate::recounting::{explain_for_summary, explain_with_units};
 use crate::reporting::{report, report_at};
 use gp_command_line::Explanation;
 use gp_explain::{ExplainFault, Telling, explain_trace};
@@ -21,12 +23,19 @@ fn explain_from<R: AllocGlobal + Print, T: Read + Drop>(
     wanted: &Explanation<'_>,
 ) -> Result<u64, ExplainFault> {
     let mut source = Source::endless(trace);
-    let mut sink = Sink::new(rt.alloc(), io::writer(rt))?;
     if wanted.as_log {
+        let mut sink = Sink::new(rt.alloc(), io::writer(rt))?;
         return transcribe_trace(rt.alloc(), &mut source, &mut sink);
+    }
+    if wanted.summary {
+        return explain_for_summary(rt.alloc(), wanted, &mut source, io::writer(rt));
+    }
+    if wanted.units {
+        return explain_with_units(rt.alloc(), wanted, &mut source, io::writer(rt));
     }
     let told = wanted.told;
     let telling = Telling::new(rt.alloc(), wanted.mask, told.form, told.timed);
+    let mut sink = Sink::new(rt.alloc(), io::writer(rt))?;
     explain_trace(rt.alloc(), telling, &mut source, &mut sink)
 }
 

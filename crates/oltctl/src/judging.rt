@@ -67,13 +67,24 @@ fn unread(alloc: Global, part: Part, what: &str, seen: &Seen<'_>) -> Result<Fail
     Ok(Failure::Unread { part, cause })
 }
 
-/// Opens a file of a script, or says why it was not opened.
+/// Tells whether reading this may wait for somebody: a pipe, a device or a socket, and no file or folder.
+fn may_wait<R: Files>(rt: &R, path: &str) -> bool {
+    match fs::metadata(rt, path) {
+        Ok(about) => !about.is_file() && !about.is_dir(),
+        Err(_) => false,
+    }
+}
+
+/// Opens a file of a script, or says why it was not opened. What may keep a reader waiting isn't opened.
 fn open_part<R: AllocGlobal + Files>(
     rt: &R,
     path: &str,
     part: Part,
     seen: &mut Seen<'_>,
 ) -> Result<Result<R::File, Failure>, AllocError> {
+    if may_wait(rt, path) {
+        return Ok(Err(unread(rt.alloc(), part, "can't be read: no regular file", seen)?));
+    }
     match fs::open(rt, path) {
         Ok(file) => Ok(Ok(file)),
         Err(error) => {

@@ -9,7 +9,8 @@
 //!
 //! - `verifying.rt`, `auditing.rt`, `picturing.rt`, `waving.rt`, `explaining.rt`, `checking.rt`, `generating.rt`: one
 //!   command each, from its inputs to how it ended. The others stand here; `telling.rt` has what is told while it is
-//!   played or driven, `summing.rt` what is told at its end.
+//!   played or driven, `summing.rt` what is told at its end, `recounting.rt` what is counted of a trace that is
+//!   told again, `driving.rt` a drive with what is told at its end.
 //! - `objects.rt`: one code, or the words of one message, as an object.
 //! - `testing.rt`: scripts of folders, several at once, and what is told of them. `scripts.rt`: which files of a folder are
 //!   scripts, and what stands beside them; `judging.rt`: one of them, from its files to what became of it.
@@ -34,6 +35,7 @@ ghost use Rattle.oltctl.specs.Statuses.{AreDecoded, AreEncoded, IsArgumentsRepor
 mod auditing;
 mod checking;
 mod descriptors;
+mod driving;
 mod explaining;
 mod generating;
 mod joined;
@@ -42,6 +44,7 @@ mod objects;
 mod observed;
 mod picturing;
 mod progress;
+mod recounting;
 mod reporting;
 mod scripts;
 mod summing;
@@ -56,6 +59,7 @@ use checking::check_files;
 use clap::Error;
 use clap::error::ErrorKind;
 use descriptors::hold;
+use driving::drive_with_units;
 use explaining::explain;
 use generating::generate;
 use gp_check::{Purpose, ScriptCheckFault};
@@ -251,12 +255,19 @@ fn drive_from<R: AllocGlobal + Print, S: Read + Drop, T: Read + Drop>(
     run_drive_in(rt.alloc(), manner, &mut script, &mut turns, &mut sink)
 }
 
-/// Drives the script of a file by the lines of standard input.
-fn drive_file<R: AllocGlobal + Files + Print + Input>(
-    rt: &R,
-    script: &str,
+/// What is wanted of a drive.
+#[derive(Clone, Copy)]
+struct DriveWanted {
     told: Told,
     manner: DriveManner,
+    units: bool,
+}
+
+/// Drives the script of a file by the lines of standard input.
+fn drive_file<R: AllocGlobal + Files + Print + Eprint + Input>(
+    rt: &R,
+    script: &str,
+    wanted: DriveWanted,
     of_script: &mut Seen<'_>,
     of_turns: &mut Seen<'_>,
 ) -> Result<Driven, DriveFault> {
@@ -268,7 +279,14 @@ fn drive_file<R: AllocGlobal + Files + Print + Input>(
         }
     };
     let turns = Observed::new(rt.reader(), of_turns);
-    if is_plain(told) {
+    let DriveWanted {
+        told,
+        manner,
+        units,
+    } = wanted;
+    if units {
+        drive_with_units(rt, manner, script, turns, told)
+    } else if is_plain(told) {
         drive_from(rt, manner, script, turns)
     } else {
         drive_told(rt, manner, script, turns, told)
@@ -279,15 +297,13 @@ fn drive_file<R: AllocGlobal + Files + Print + Input>(
 fn drive<R: AllocGlobal + Files + Print + Eprint + Input>(
     rt: &R,
     script: &str,
-    told: Told,
-    done: bool,
+    wanted: DriveWanted,
 ) -> u8
     ensures { IsDriven result }
 {
     let mut of_script = Seen::keeping(rt.alloc(), Some(script));
     let mut of_turns = Seen::new(None);
-    let manner = DriveManner { done };
-    let outcome = drive_file(rt, script, told, manner, &mut of_script, &mut of_turns);
+    let outcome = drive_file(rt, script, wanted, &mut of_script, &mut of_turns);
     end_drive(rt, &outcome, &of_script, &of_turns)
 }
 
@@ -637,7 +653,20 @@ fn serve<R: AllocGlobal + Files + Print + Eprint + Input + Clock + Threads + Wai
 {
     match request {
         Request::Replay { file, play } => replay(rt, file, play),
-        Request::Drive { script, told, done } => drive(rt, script, told, done),
+        Request::Drive {
+            script,
+            told,
+            done,
+            units,
+        } => {
+            let manner = DriveManner { done };
+            let wanted = DriveWanted {
+                told,
+                manner,
+                units,
+            };
+            drive(rt, script, wanted)
+        }
         Request::Check { files, manner } => end_check(rt, &check_files(rt, files, manner)),
         Request::Test(wanted) => test(rt, host, &wanted),
         Request::Storm { file, play } => storm(rt, file, play),

@@ -1,4 +1,5 @@
-//! Traces whose lines are counted while a script is played, with what is told of each port and unit at the end.
+//! Traces whose lines are counted while a script is played, or while they are told again, with what is told of each port
+//! and unit at the end.
 ghost use Rattle.std.specs.Prelude.{◌≡◌, [], Some, length};
 ghost use Rattle.gp_script.specs.Playable.{IsPlayable};
 ghost use Rattle.gp_script.specs.View.{script_view};
@@ -16,7 +17,7 @@ use std::io::Write;
 use std::marker::Brand;
 
 /// How a summary is told beside a trace that is written so.
-fn summary_form(told: Told) -> SummaryForm {
+pub(crate) fn summary_form(told: Told) -> SummaryForm {
     match told.form {
         Form::Json => SummaryForm::Json,
         Form::Plain | Form::Words => SummaryForm::Text,

@@ -151,7 +151,7 @@ fn drive_by<B: Began, T: Read, W: Write + Drop>(
 }
 
 /// Reads the script that a reader gives to its end.
-fn script_from<S: Read + Drop>(alloc: Global, reader: S) -> Result<Script, DriveFault>
+pub(crate) fn script_from<S: Read + Drop>(alloc: Global, reader: S) -> Result<Script, DriveFault>
     ensures { IfOk result (λ script. IsPlayable (script_view script)) }
 {
     let mut source = Source::new(reader);

@@ -17,7 +17,7 @@ use gp_outcome::{
 use gp_report::{NOT_WRITTEN, SUCCESS, TEST_FAILED, memory_report, write_report};
 use gp_stream::{Sink, WriteStopped};
 use std::alloc::{AllocError, Global};
-use std::io::Write;
+use std::io::{Read, Write};
 use std::rt::Files;
 use std::sync::{Mutex, Wait};
 use std::thread::Threads;
@@ -197,11 +197,47 @@ fn junit_of(
     Ok(out)
 }
 
+/// How a file of XML begins.
+static XML_BEGUN: [u8; 5] = *b"<?xml";
+
+/// Tells whether a reader gives what XML begins with.
+fn gives_xml<F: Read>(file: &mut F) -> io::Result<bool> {
+    for wanted in &XML_BEGUN {
+        let mut octet = [0];
+        if file.read(&mut octet)? == 0 || octet[0] != *wanted {
+            return Ok(false);
+        }
+    }
+    Ok(true)
+}
+
+/// Tells whether a file has something that isn't XML, and would be lost.
+fn would_lose<R: Files>(rt: &R, path: &str) -> io::Result<bool> {
+    let about = match fs::metadata(rt, path) {
+        Ok(about) => about,
+        Err(_) => return Ok(false),
+    };
+    if !about.is_file() || about.len() == 0 {
+        return Ok(false);
+    }
+    let mut file = fs::open(rt, path)?;
+    Ok(!gives_xml(&mut file)?)
+}
+
 /// Writes octets to a file.
 fn write_octets<R: AllocGlobal + Files>(rt: &R, path: &str, octets: &[u8]) -> io::Result<()> {
     let mut file = fs::create(rt, path)?;
     file.write_all(octets)?;
     file.flush()
+}
+
+/// Writes octets to a file, unless it has something that isn't XML, and tells whether it was written.
+fn write_over<R: AllocGlobal + Files>(rt: &R, path: &str, octets: &[u8]) -> io::Result<bool> {
+    if would_lose(rt, path)? {
+        return Ok(false);
+    }
+    write_octets(rt, path, octets)?;
+    Ok(true)
 }
 
 /// Writes JUnit's XML; where it was not written, it says so, and answers the exit status.
@@ -217,8 +253,12 @@ fn write_junit<R: AllocGlobal + Files + Eprint>(
     let Ok(octets) = junit_of(rt.alloc(), judged, folders, tally) else {
         return Err(report(rt, memory_report()));
     };
-    match write_octets(rt, path, octets.as_slice()) {
-        Ok(()) => Ok(()),
+    match write_over(rt, path, octets.as_slice()) {
+        Ok(true) => Ok(()),
+        Ok(false) => {
+            let _ = eprintln!(rt; "oltctl: {path}: has something that is no XML, and stays");
+            Err(NOT_WRITTEN)
+        }
         Err(error) => {
             tell_unwritten(rt, path, &error);
             Err(NOT_WRITTEN)
@@ -241,7 +281,12 @@ struct Judged {
     ends: Vec<usize>,
 }
 
-/// Lists the scripts of folders, and judges them.
+/// Tells whether a folder is among those that were named before it.
+fn is_among(folder: &str, named: &[&str]) -> bool {
+    named.iter().any(|other| *other == folder)
+}
+
+/// Lists the scripts of folders, each of which counts once, and judges them.
 fn judged_in<R: Threads + Wait + Sync>(
     rt: &R,
     host: &HostRuntime,
@@ -249,8 +294,10 @@ fn judged_in<R: Threads + Wait + Sync>(
 ) -> Result<Judged, AllocError> {
     let mut slots = Vec::new(host.alloc());
     let mut ends = Vec::new(host.alloc());
-    for folder in wanted.folders {
-        list_folder(host, folder, &mut slots)?;
+    for (place, folder) in wanted.folders.iter().enumerate() {
+        if !is_among(folder, &wanted.folders[..place]) {
+            list_folder(host, folder, &mut slots)?;
+        }
         ends.push(slots.len())?;
     }
     let jobs = jobs_of(rt, wanted.jobs, slots.len());

@@ -8,6 +8,6 @@ pub returns : goal.returns
 unfolding command
 returns c =
     let start : ReadsAs (new_app (codes "drive")) c.after_help.result = record { is = search rules; local = search rules } in
-    let same : c.in_ok-args.args.items ≡ c.explained_always.result ∷ c.flag-done.result ∷ c.in_words.result ∷ c.timed.result ∷ c.form.result ∷ c.required-script.result ∷ [] = search rules in
+    let same : c.in_ok-args.args.items ≡ c.explained_always.result ∷ c.flag-done.result ∷ c.flag-units.result ∷ c.in_words.result ∷ c.timed.result ∷ c.form.result ∷ c.required-script.result ∷ [] = search rules in
     ruled_by c.args-2.result (drive_rules c.args.formats) _ _ _ _ start same
-    (c.explained_always.ensures, (search rules, (c.in_words.ensures, (c.timed.ensures, (c.form.ensures, (search rules, tt)))))) c.args-2.ensures
+    (c.explained_always.ensures, (search rules, (search rules, (c.in_words.ensures, (c.timed.ensures, (c.form.ensures, (search rules, tt))))))) c.args-2.ensures

@@ -8,6 +8,6 @@ pub returns : goal.returns
 unfolding command
 returns c =
     let start : ReadsAs (new_app (codes "explain")) c.after_help.result = record { is = search rules; local = search rules } in
-    let same : c.in_ok-args.args.items ≡ c.mask.result ∷ c.timed.result ∷ c.form.result ∷ c.flag-as_log.result ∷ c.trace.result ∷ [] = search rules in
+    let same : c.in_ok-args.args.items ≡ c.mask.result ∷ c.timed.result ∷ c.form.result ∷ c.flag-as_log.result ∷ c.flag-units.result ∷ c.flag-counts_alone.result ∷ c.trace.result ∷ [] = search rules in
     ruled_by c.args-2.result (explain_rules c.args.masks c.args.formats) _ _ _ _ start same
-    (c.mask.ensures, (c.timed.ensures, (c.form.ensures, (search rules, (c.trace.ensures, tt))))) c.args-2.ensures
+    (c.mask.ensures, (c.timed.ensures, (c.form.ensures, (search rules, (search rules, (search rules, (c.trace.ensures, tt))))))) c.args-2.ensures

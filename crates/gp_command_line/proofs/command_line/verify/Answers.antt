@@ -8,6 +8,6 @@ pub returns : goal.returns
 unfolding command
 returns c =
     let start : ReadsAs (new_app (codes "verify")) c.after_help.result = record { is = search rules; local = search rules } in
-    let same : c.in_ok-args.args.items ≡ c.explained_always.result ∷ c.at_least.result ∷ c.progress.result ∷ c.flag-words.result ∷ c.format-format.result ∷ c.required-script.result ∷ c.trace.result ∷ [] = search rules in
+    let same : c.in_ok-args.args.items ≡ c.explained_always.result ∷ c.at_least.result ∷ c.progress.result ∷ c.flag-words.result ∷ c.flag-units.result ∷ c.format-format.result ∷ c.required-script.result ∷ c.trace.result ∷ [] = search rules in
     ruled_by c.args-2.result (verify_rules c.args.formats) _ _ _ _ start same
-    (c.explained_always.ensures, (c.at_least.ensures, (c.progress.ensures, (search rules, (c.format-format.ensures, (search rules, (c.trace.ensures, tt))))))) c.args-2.ensures
+    (c.explained_always.ensures, (c.at_least.ensures, (c.progress.ensures, (search rules, (search rules, (c.format-format.ensures, (search rules, (c.trace.ensures, tt)))))))) c.args-2.ensures

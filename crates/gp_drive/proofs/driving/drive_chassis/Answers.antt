@@ -1,4 +1,4 @@
-use Rattle.std.proofs.Common.{arith, ap, rules, subst, Err, ◌*◌, ◌^◌, ◌≤◌, length}
+use Rattle.std.proofs.Common.{arith, ap, rules, subst, Err, IfOk, ◌*◌, ◌^◌, ◌≤◌, length}
 use Rattle.gp_script.specs.View.{script_view}
 use Rattle.gp_replay.specs.Chassis.{opened_play}
 use Rattle.gp_replay.specs.Playing.{chassis_playing}
@@ -6,9 +6,9 @@ use Rattle.gp_replay.proofs.PlayingLemmas.{chassis_plays}
 use Rattle.gp_replay.proofs.ScriptPlayLemmas.{chassis_stands}
 use Rattle.gp_replay.specs.Writing.{EndsPlay}
 use Rattle.gp_drive.specs.Drive.{most_turns}
-use Rattle.gp_drive.specs.Outcome.{ServesTurns}
+use Rattle.gp_drive.specs.Outcome.{LeavesServed, ServesTurns}
 use Rattle.gp_drive.specs.Outcome.Drives.{OnChassis}
-use Rattle.gp_drive.proofs.DriveLemmas.{chassis_room_for, drives_to, drives_told, events_unplayed, room_behind, room_for_less, told_unplayed}
+use Rattle.gp_drive.proofs.DriveLemmas.{chassis_room_for, drives_to, drives_told, events_unplayed, left_by, room_behind, room_for_less, told_unplayed}
 use Rattle.gp_drive.proofs.driving.drive_chassis.Goals as goal
 
 pub play_events-requires-clause-room : goal.play_events-requires-clause-room
@@ -19,8 +19,8 @@ play_events-requires-clause-room g c =
     rw (c.in_ok-player.ensures.player, c.as_slice.ensures.value, c.in_ok-player.ensures.events)
     (room_for_less chassis_playing many most_turns (opened_play c.args.script.ports.items c.args.script.licences) (chassis_room_for c.args.script.ports.items c.args.script.licences many within))
 
-pub returns-in-Err : goal.returns-in-Err
-returns-in-Err g c =
+pub returns-in-Err-clause-unplayed : goal.returns-in-Err-clause-unplayed
+returns-in-Err-clause-unplayed g c =
     let script = script_view c.args.script in
     let played = rw (c.in_ok-player.ensures.player, c.in_ok-player.ensures.mask, c.as_slice.ensures.value, c.in_ok-player.ensures.events) at c.in-Err.ensures.plays in
     told_unplayed c.args.manner script _ _ _ c.in-Err.fault _ c.from.ensures
@@ -35,12 +35,21 @@ drive_lines-player-requires-clause-room g c =
     let kept = rw (c.in_ok-player.ensures.player, c.as_slice.ensures.value, c.in_ok-player.ensures.events) at c.in_default.ensures.keeps in
     room_behind chassis_playing many _ _ kept (chassis_room_for c.args.script.ports.items c.args.script.licences many within)
 
-pub returns : goal.returns
-returns g c =
+pub returns-clause-drives : goal.returns-clause-drives
+returns-clause-drives g c =
     let script = script_view c.args.script in
     let written = rw (c.in_ok-player.ensures.player, c.in_ok-player.ensures.mask, c.as_slice.ensures.value, c.in_ok-player.ensures.events) at c.in_default.ensures.plays.ok in
-    let driven = rw (c.in_ok-player.ensures.mask) at c.drive_lines-player.ensures in
-    rw c.told.ensures
+    let driven = rw (c.in_ok-player.ensures.mask) at c.drive_lines-player.ensures.serves in
     (drives_told c.args.manner script _ _ _ _ _ (OnChassis c.requires.no_units (drives_to c.args.manner chassis_playing _ _ script.mask script.events _ _ _ _ _ _ written
     (subst (λ s. ServesTurns c.args.manner chassis_playing c.play_events.new.player script.mask c.drive_lines-player.result.1 c.args.turns.now c.drive_lines-player.new.turns s c.drive_lines-player.new.sink)
     (search rules) driven))))
+
+pub returns-clause-left : goal.returns-clause-left
+returns-clause-left g c =
+    let script = script_view c.args.script in
+    let written = rw (c.in_ok-player.ensures.player, c.in_ok-player.ensures.mask, c.as_slice.ensures.value, c.in_ok-player.ensures.events) at c.in_default.ensures.plays.ok in
+    let left = rw (c.in_ok-player.ensures.mask) at c.drive_lines-player.ensures.left in
+    left_by c.args.manner chassis_playing _ _ script.mask script.events _ c.drive_lines-player.result.1 _ _ _ _ _ written
+    (subst (λ s. IfOk c.drive_lines-player.result.1
+    (λ driven. LeavesServed c.args.manner chassis_playing c.play_events.new.player script.mask c.drive_lines-player.result.0 driven c.args.turns.now c.drive_lines-player.new.turns s c.drive_lines-player.new.sink))
+    (search rules) left)

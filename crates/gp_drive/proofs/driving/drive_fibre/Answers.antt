@@ -1,13 +1,13 @@
-use Rattle.std.proofs.Common.{arith, rules, subst, Err, ◌*◌, ◌^◌, ◌≤◌, length}
+use Rattle.std.proofs.Common.{arith, rules, subst, Err, IfOk, ◌*◌, ◌^◌, ◌≤◌, length}
 use Rattle.gp_script.specs.View.{script_view}
 use Rattle.gp_replay.specs.Playing.{fibre_playing}
 use Rattle.gp_replay.proofs.PlayingLemmas.{fibre_names, fibre_plays}
 use Rattle.gp_replay.proofs.WorldPlayLemmas.{world_stands}
 use Rattle.gp_replay.specs.Writing.{EndsPlay}
 use Rattle.gp_drive.specs.Drive.{most_turns}
-use Rattle.gp_drive.specs.Outcome.{ServesTurns}
+use Rattle.gp_drive.specs.Outcome.{LeavesServed, ServesTurns}
 use Rattle.gp_drive.specs.Outcome.Drives.{OnFibre}
-use Rattle.gp_drive.proofs.DriveLemmas.{drives_to, drives_told, events_unplayed, fibre_room_for, room_behind, room_for_less, told_unplayed}
+use Rattle.gp_drive.proofs.DriveLemmas.{drives_to, drives_told, events_unplayed, fibre_room_for, left_by, room_behind, room_for_less, told_unplayed}
 use Rattle.gp_drive.proofs.driving.drive_fibre.Goals as goal
 
 pub play_events-requires-clause-named : goal.play_events-requires-clause-named
@@ -23,8 +23,8 @@ play_events-requires-clause-room g c =
     rw (c.as_slice.ensures.value, c.in_ok-player.ensures.events)
     (room_for_less fibre_playing many most_turns c.in_ok-player.field-0.player (fibre_room_for (script_view c.args.script) c.in_ok-player.field-0.player many within c.requires.playable.few_units c.in_ok-player.ensures.player))
 
-pub returns-in-Err : goal.returns-in-Err
-returns-in-Err g c =
+pub returns-in-Err-clause-unplayed : goal.returns-in-Err-clause-unplayed
+returns-in-Err-clause-unplayed g c =
     let script = script_view c.args.script in
     let opens = c.in_ok-player.ensures.player in
     let played = fibre_plays script.mask script.losses script.events c.in_ok-player.field-0.player c.play_events.new.player _ _ _ opens.losses
@@ -41,13 +41,26 @@ drive_lines-player-requires-clause-room g c =
     room_behind fibre_playing many c.in_ok-player.field-0.player _ (rw (c.as_slice.ensures.value, c.in_ok-player.ensures.events) at c.in_default.ensures.keeps)
     (fibre_room_for (script_view c.args.script) c.in_ok-player.field-0.player many within c.requires.playable.few_units c.in_ok-player.ensures.player)
 
-pub returns : goal.returns
-returns g c =
+pub returns-clause-drives : goal.returns-clause-drives
+returns-clause-drives g c =
     let script = script_view c.args.script in
     let written = rw (c.in_ok-player.ensures.mask, c.as_slice.ensures.value, c.in_ok-player.ensures.events) at c.in_default.ensures.plays.ok in
-    let driven = rw (c.in_ok-player.ensures.mask) at c.drive_lines-player.ensures in
-    rw c.told.ensures
+    let driven = rw (c.in_ok-player.ensures.mask) at c.drive_lines-player.ensures.serves in
     (drives_told c.args.manner script _ _ _ _ _
     (OnFibre c.requires.units c.in_ok-player.field-0.player c.in_ok-player.ensures.player (drives_to c.args.manner fibre_playing _ _ script.mask script.events _ _ _ _ _ _ written
     (subst (λ s. ServesTurns c.args.manner fibre_playing c.play_events.new.player script.mask c.drive_lines-player.result.1 c.args.turns.now c.drive_lines-player.new.turns s c.drive_lines-player.new.sink)
     (search rules) driven))))
+
+pub returns-clause-left : goal.returns-clause-left
+returns-clause-left g c =
+    let script = script_view c.args.script in
+    let written = rw (c.in_ok-player.ensures.mask, c.as_slice.ensures.value, c.in_ok-player.ensures.events) at c.in_default.ensures.plays.ok in
+    let left = rw (c.in_ok-player.ensures.mask) at c.drive_lines-player.ensures.left in
+    record {
+      start = c.in_ok-player.field-0.player;
+      opens = c.in_ok-player.ensures.player;
+      left = left_by c.args.manner fibre_playing _ _ script.mask script.events _ c.drive_lines-player.result.1 _ _ _ _ _ written
+          (subst (λ s. IfOk c.drive_lines-player.result.1
+          (λ driven. LeavesServed c.args.manner fibre_playing c.play_events.new.player script.mask c.drive_lines-player.result.0 driven c.args.turns.now c.drive_lines-player.new.turns s c.drive_lines-player.new.sink))
+          (search rules) left);
+    }

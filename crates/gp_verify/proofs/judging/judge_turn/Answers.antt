@@ -1,5 +1,5 @@
 use Rattle.std.proofs.Common.{◌∙◌, sym}
-use Rattle.gp_verify.proofs.JudgingLemmas.{other_number, no_step, spelled_small, told_alone, told_nothing, told_it, turn_room, not_true}
+use Rattle.gp_verify.proofs.JudgingLemmas.{moves_on, other_number, no_step, spelled_small, told_alone, told_nothing, told_it, turn_room, not_true}
 use Rattle.gp_verify.proofs.PortLemmas.{turn_ports}
 use Rattle.gp_verify.proofs.judging.judge_turn.Goals as goal
 
@@ -12,6 +12,12 @@ returns-then-is_line_of-clause-judged g c =
     (sym c.in_ok-told.ensures.told.line_is ∙ sym c.as_bytes.ensures ∙ c.is_line_of.ensures.0 c.if-is_line_of.true)
     (told_alone c.args.mask c.args.player.now c.tell_turn.new.self c.args.text.now c.args.line.port c.args.line.number c.args.line.event c.args.line.answer.now c.picked-wished.result c.in_ok-told.ensures.told.receipt
     c.requires.few c.requires.room c.stands.ensures c.requires.split c.picked-wished.ensures c.in_ok-told.ensures.told.taken c.in_ok-told.ensures.told.grants)
+
+pub returns-then-is_line_of-clause-moved : goal.returns-then-is_line_of-clause-moved
+returns-then-is_line_of-clause-moved g c = (
+  moves_on c.args.mask c.args.player.now c.tell_turn.new.self _ c.in_ok-told.ensures.told.receipt c.tell_turn.new.buffer c.in_ok-told.ensures.told.taken c.in_ok-told.ensures.told.line_is,
+  sym c.as_bytes.ensures ∙ c.is_line_of.ensures.0 c.if-is_line_of.true,
+)
 
 pub returns-then-is_line_of-clause-room : goal.returns-then-is_line_of-clause-room
 returns-then-is_line_of-clause-room g c = turn_room _ _ _ _ c.in_ok-told.ensures.told.taken
@@ -29,6 +35,10 @@ returns-then-told-line-clause-judged g c = (
       c.in_ok-told.ensures.told.receipt c.requires.split c.picked-wished.ensures c.in_ok-told.ensures.told.taken c.in_ok-told.ensures.told.grants c.in_ok-told.ensures.told.line_is c.requires.port (λ e. c.if-told-line.true (c.in_ok-told.ensures.told.number_is ∙ e)),
 )
 
+pub returns-then-told-line-clause-moved : goal.returns-then-told-line-clause-moved
+returns-then-told-line-clause-moved g c =
+    moves_on c.args.mask c.args.player.now c.tell_turn.new.self _ c.in_ok-told.ensures.told.receipt c.tell_turn.new.buffer c.in_ok-told.ensures.told.taken c.in_ok-told.ensures.told.line_is
+
 pub returns-then-told-line-clause-room : goal.returns-then-told-line-clause-room
 returns-then-told-line-clause-room g c = turn_room _ _ _ _ c.in_ok-told.ensures.told.taken
 
@@ -44,6 +54,10 @@ returns-clause-judged g c = (
   no_step c.args.mask c.args.player.now c.tell_turn.new.self c.args.text.now c.tell_turn.new.buffer c.args.line.port c.args.line.number c.args.line.event c.args.line.answer.now c.picked-wished.result
       c.in_ok-told.ensures.told.receipt c.requires.split c.picked-wished.ensures c.in_ok-told.ensures.told.taken c.in_ok-told.ensures.told.grants c.in_ok-told.ensures.told.line_is (sym c.in_ok-told.ensures.told.number_is ∙ c.if-told-line.false),
 )
+
+pub returns-clause-moved : goal.returns-clause-moved
+returns-clause-moved g c =
+    moves_on c.args.mask c.args.player.now c.tell_turn.new.self _ c.in_ok-told.ensures.told.receipt c.tell_turn.new.buffer c.in_ok-told.ensures.told.taken c.in_ok-told.ensures.told.line_is
 
 pub returns-clause-room : goal.returns-clause-room
 returns-clause-room g c = turn_room _ _ _ _ c.in_ok-told.ensures.told.taken

@@ -1,0 +1,106 @@
+-- What a verifier that counts says to lines, and what was counted of a whole text.
+use Rattle.std.specs.Prelude.{is_some}
+use Rattle.std.proofs.Common.{◌≡◌, ℕ, true, false, List, [], ◌∷◌, ◌++◌, Option, None, Some, Result, IfOk, codes, map, refl, sym, ap, ◌∙◌, subst, append_assoc}
+use Rattle.std.proofs.lemmas.List.{append-nil}
+use Rattle.gp_stream.specs.Sink.{SinkState}
+use Rattle.gp_stream.specs.Source.{SourceState, ReadsWhole}
+use Rattle.gp_flow.specs.declared.fault.LinesFault.{LinesFault}
+use Rattle.gp_flow.specs.declared.fault.LinesFault.TheVariants as faults
+use Rattle.gp_flow.specs.declared.lines.LinesEnd.{LinesEnd}
+use Rattle.gp_flow.specs.declared.lines.LinesEnd.TheVariants.{Whole, Open, Over}
+use Rattle.gp_flow.specs.Lines.{DoesAll, Serves, ServesTo, ended_lines, handed, lines_of, with_feeds}
+use Rattle.gp_flow.proofs.LineLemmas.{handed_whole}
+use Rattle.gp_verify.specs.declared.outcome.VerifyFault.{VerifyFault}
+use Rattle.gp_verify.specs.declared.verdict.Verdict.{Verdict}
+use Rattle.gp_verify.specs.Following.{Following, has_ended}
+use Rattle.gp_verify.specs.Outcome.{finding}
+use Rattle.gp_verify.specs.Verdicts.{VerifyState}
+use Rattle.gp_summed.specs.Verifying.{AccountState, Accounts, Counts, CountsIt, is_over}
+
+-- ---- as a verifier that doesn't count
+
+pub as_verified : (ls : List (Option (List ℕ))) (old new : AccountState) (said : List ℕ) → DoesAll Accounts old ls said new → DoesAll Following old.verify ls said new.verify
+as_verified [] old new said h = (h.0, ap (λ (s : AccountState). s.verify) h.1)
+as_verified (l ∷ ls) old new said h = (h.0, h.1, h.2.verify, h.3.follows, as_verified ls h.2 new h.1 h.4, h.5)
+
+-- ---- what was counted
+
+some_none : {A : Type 0} {P : Type 0} (x : A) → Some x ≡ None → P
+some_none x h = absurd (cc)
+
+line_counted : (limit : ℕ) (l : List ℕ) (o : Option (List ℕ)) (a b : List ℕ) → handed limit l ≡ o → CountsIt o a b → b ≡ a ++ (l ++ codes "\n")
+line_counted limit l None a b is c = absurd c
+line_counted limit l (Some text) a b is c = c ∙ ap (λ (t : List ℕ). a ++ (t ++ codes "\n")) (sym (handed_whole limit l text is))
+
+-- where it goes on behind lines, each of them was counted
+pub lines_counted : (limit : ℕ) (ls : List (List ℕ)) (old new : AccountState) (said : List ℕ) → DoesAll Accounts old (map (handed limit) ls) said new → new.verify.ended ≡ None
+    → (old.verify.ended ≡ None) × (new.counter.taken ≡ old.counter.taken ++ with_feeds ls)
+lines_counted limit [] old new said h on = (
+  ap (λ (s : AccountState). s.verify.ended) (sym h.1) ∙ on,
+  ap (λ (s : AccountState). s.counter.taken) h.1 ∙ sym (append-nil old.counter.taken),
+)
+lines_counted limit (l ∷ ls) old new said h on =
+    let rest = lines_counted limit ls h.2 new h.1 h.4 on in
+    let first = h.3.on rest.0 in
+    let line = line_counted limit l (handed limit l) old.counter.taken h.2.counter.taken refl first.1 in (
+      first.0,
+      rest.1 ∙ ap (λ (t : List ℕ). t ++ with_feeds ls) line ∙ append_assoc old.counter.taken (l ++ codes "\n") (with_feeds ls),
+    )
+
+-- ---- a text
+
+module _ {R W : Type 0} (from to : SourceState R) (old new : AccountState) (before after : SinkState W) (limit : ℕ) where
+  pub served : (end : LinesEnd) → ServesTo Accounts is_over limit end from to old new before after
+      → ServesTo Following has_ended limit end from to old.verify new.verify before after
+  served Whole s = record {
+    bytes = s.bytes;
+    read = s.read;
+    feeds = s.feeds;
+    said = s.said;
+    spoken = as_verified (map (handed limit) (lines_of s.bytes)) old new s.said s.spoken;
+    written = s.written;
+    kept = s.kept;
+  }
+  served Open s = record {
+    bytes = s.bytes;
+    read = s.read;
+    feeds = s.feeds;
+    said = s.said;
+    spoken = as_verified (map (handed limit) (lines_of s.bytes)) old new s.said s.spoken;
+    written = s.written;
+    kept = s.kept;
+  }
+  served Over s = (
+    record {
+      bytes = s.0.bytes;
+      read = s.0.read;
+      said = s.0.said;
+      spoken = as_verified (map (handed limit) (ended_lines s.0.bytes)) old new s.0.said s.0.spoken;
+      written = s.0.written;
+      kept = s.0.kept;
+    },
+    s.1,
+  )
+
+  -- of a text that was read to its end, and whose last line has its line feed, all was counted
+  pub whole_counted : ServesTo Accounts is_over limit Whole from to old new before after → new.verify.ended ≡ None → old.counter.taken ≡ [] → ReadsWhole from to new.counter.taken
+  whole_counted s on none =
+      let lines = lines_counted limit (lines_of s.bytes) old new s.said s.spoken on in
+      let all : new.counter.taken ≡ s.bytes = lines.1 ∙ ap (λ (t : List ℕ). t ++ with_feeds (lines_of s.bytes)) none ∙ sym (s.feeds.0 refl) in
+      subst (λ (t : List ℕ). ReadsWhole from to t) (sym all) s.read
+
+  never : {P : Type 0} → false ≡ true → P
+  never h = absurd (cc)
+
+  found_whole : (end : LinesEnd) (ended : Option Verdict) (line : ℕ) → new.verify.ended ≡ ended → old.counter.taken ≡ [] → ServesTo Accounts is_over limit end from to old new before after
+      → IfOk (finding end ended line) (λ lines. ReadsWhole from to new.counter.taken)
+  found_whole end (Some why) line is none s = tt
+  found_whole Open None line is none s = tt
+  found_whole Whole None line is none s = whole_counted s is none
+  found_whole Over None line is none s = never (ap is_some (sym is) ∙ s.1)
+
+  -- of a text that is a run all was counted
+  pub counted_as : (end : LinesEnd) (found : Option Verdict) (line : ℕ) (answer : Result ℕ VerifyFault) → found ≡ new.verify.ended → answer ≡ finding end found line
+      → old.counter.taken ≡ [] → ServesTo Accounts is_over limit end from to old new before after → IfOk answer (λ lines. ReadsWhole from to new.counter.taken)
+  counted_as end found line answer is same none s =
+      subst (λ (a : Result ℕ VerifyFault). IfOk a (λ lines. ReadsWhole from to new.counter.taken)) (sym same) (found_whole end found line (sym is) none s)

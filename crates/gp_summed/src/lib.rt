@@ -1,0 +1,24 @@
+//! Traces that are told or verified and scripts that are driven, and what became of each port and unit in them.
+//!
+//! Promise: what is read and written is as without it, and what is told at the end is what was counted of the lines of
+//! the trace, and, where there are ports, how they stand then (`explain_summed`, `verify_summed`, `drive_summed`).
+//!
+//! - `explaining.rt`: `explain_summed`, a trace that is told again while its lines are counted.
+//! - `verifying.rt`: `verify_summed`, a trace that is verified while its entries are counted; `accounting.rt`: the
+//!   verifier that counts, `opening.rt` what it began with. `reach.rt`: up to which line a trace is told of.
+//! - `driving.rt`: `drive_summed`, a script that is driven while the lines of its entries are counted.
+//!
+//! Where to make which change: the lines that are told of ports and units are `gp_summary`'s, what is counted is
+//! `gp_tally`'s; what is said before them of a trace that is no run stands in `specs/Verifying.antt`.
+#![tactic(auto)]
+
+mod accounting;
+mod driving;
+mod explaining;
+mod opening;
+mod reach;
+mod verifying;
+
+pub use driving::{DriveSummed, drive_summed};
+pub use explaining::{Explained, TRACE_PORTS, explain_summed};
+pub use verifying::{Verified, verify_summed};
