@@ -159,7 +159,9 @@ fn end_chassis<L: Ledger>(drove: Result<Drove<Player<L>>, DriveFault>) -> Result
 }
 
 /// Ends what a script was driven on, and tells how that ended.
-fn end_fibre<L: Ledger>(drove: Result<Drove<FibrePlayer<L>>, DriveFault>) -> Result<Driven, DriveFault>
+fn end_fibre<L: Ledger>(
+    drove: Result<Drove<FibrePlayer<L>>, DriveFault>,
+) -> Result<Driven, DriveFault>
     ensures ok { IfOk drove (λ drove. result ≡ told drove.driven) }
     ensures err { IfErr drove (λ fault. result ≡ Err fault) }
 {

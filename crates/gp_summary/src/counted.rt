@@ -137,11 +137,7 @@ fn push_port(
 }
 
 /// Appends the lines of all ports that were counted.
-fn push_ports(
-    out: &mut Vec<u8>,
-    form: SummaryForm,
-    tallies: &[PortTally],
-) -> Result<(), AllocError>
+fn push_ports(out: &mut Vec<u8>, form: SummaryForm, tallies: &[PortTally]) -> Result<(), AllocError>
     ensures { OnOk result ((text : List ℕ) × spec.CountedText form (length tallies.now) tallies.now text
         × (out.new.items ≡ out.old.items ++ text)) }
 {

@@ -134,7 +134,8 @@ impl Write for ShortWriter {
 fn a_unit_that_was_never_found_asks(rt: HostRuntime) -> Result<(), AllocError> {
     let (text, lines) = summary(rt.alloc(), NO_LICENCE, SummaryForm::Text)?;
     assert_eq!(rt; lines, 7);
-    let wanted = "port 0: units 0, acquisition 0, frames 5, bursts 1, commands 1, refused no-licence 1\n\
+    let wanted =
+        "port 0: units 0, acquisition 0, frames 5, bursts 1, commands 1, refused no-licence 1\n\
         unit ABCD00000001: asking, found 0, ranged 0, lost 0, last frame 5\n\
         licences: free 0, in use 0\n";
     assert!(rt; text.as_slice() == wanted.as_bytes());

@@ -78,7 +78,9 @@ fn sum_chassis<B: Began, L: Ledger, T: Read, W: Write + Drop>(
 {
     let licences = script.licences;
     let mut sink = sink;
-    let drove = drive_chassis::<L, T, Counting<B, W>>(alloc, manner, blank, script, turns, &mut sink);
+    let drove = drive_chassis::<L, T, Counting<B, W>>(
+        alloc, manner, blank, script, turns, &mut sink,
+    );
     let counting = sink.into_inner();
     match drove {
         Ok(Drove { player, driven }) => {
