@@ -1,5 +1,5 @@
 -- Answers to a line, by how what it asks for was played.
-use Rattle.std.proofs.Common.{◌≡◌, ◌≤◌, ◌||◌, ℕ, ◌+◌, ◌-◌, Bool, true, false, List, [], ◌++◌, Option, None, Some, Result, Ok, Err, IsErrAnd, refl, subst, ap, ◌∙◌, arith}
+use Rattle.std.proofs.Common.{◌≡◌, ◌≤◌, ◌||◌, ℕ, ◌+◌, ◌-◌, Bool, true, false, List, ◌++◌, Option, None, Some, Result, Ok, Err, refl, subst, ap, ◌∙◌, arith}
 use Rattle.gp_flow.specs.declared.fault.LineFault.{LineFault}
 use Rattle.gp_flow.specs.declared.fault.LineFault.TheVariants.{Write}
 use Rattle.gp_flow.specs.Lines.{Answers, Speech}
@@ -10,7 +10,7 @@ use Rattle.gp_lines.specs.TurnReading.{turn_of}
 use Rattle.gp_stream.specs.declared.sink.WriteStopped.{WriteStopped}
 use Rattle.gp_ploam.specs.declared.check.Mask.{Mask}
 use Rattle.gp_stream.specs.Sink.{SinkState}
-use Rattle.gp_stream.proofs.SinkLemmas.{takes_nothing, takes_more, takes_prefix_after, takes_prefix_more}
+use Rattle.gp_stream.proofs.SinkLemmas.{takes_more, takes_prefix_after}
 use Rattle.gp_replay.specs.declared.fault.PlayFault.{PlayFault}
 use Rattle.gp_replay.specs.declared.fault.PlayFault.TheVariants as faults
 use Rattle.gp_replay.specs.Playing.{Playing}
@@ -23,59 +23,6 @@ use Rattle.gp_drive.specs.Turns.{PlaysTo, PlaysTurnPart, cost_of, missing_in}
 
 stops : {P : Type 0} → true ≡ false → P
 stops e = absurd (cc)
-
--- ---- what is put in pieces
-
-or_false : (a b : Bool) → b ≡ a → b ≡ (a || false)
-or_false false b e = e
-or_false true b e = e
-
-stopped_still : (a b : Bool) → b ≡ (a || false) → a ≡ true → b ≡ true
-stopped_still false b e h = absurd (let bad : false ≡ true = h in cc)
-stopped_still true b e h = e
-
-stopped_more : (a b c error : Bool) → b ≡ (a || false) → c ≡ (b || error) → c ≡ (a || error)
-stopped_more false b c error p q = q ∙ ap (λ (o : Bool). o || error) p
-stopped_more true b c error p q = q ∙ ap (λ (o : Bool). o || error) p
-
-pub hands_nothing : {W A E : Type 0} (x : SinkState W) (v : A) → HandsIn {E = E} x x [] (Ok v)
-hands_nothing x v = record {
-  ok = takes_nothing x;
-  error = tt;
-  stopped = or_false x.stopped x.stopped refl;
-  refused = λ s. refl;
-  flushed = λ f. f;
-}
-
--- a piece, and then more
-pub hands_more : {W A B E F : Type 0} (x y z : SinkState W) (first rest : List ℕ) (u : A) (r : Result B F) → HandsIn {E = E} x y first (Ok u) → HandsIn y z rest r
-    → HandsIn x z (first ++ rest) r
-hands_more x y z first rest u (Ok v) p q = record {
-  ok = takes_more x y z first rest p.ok q.ok;
-  error = tt;
-  stopped = stopped_more x.stopped y.stopped z.stopped false p.stopped q.stopped;
-  refused = λ s. q.refused (stopped_still x.stopped y.stopped p.stopped s) ∙ p.refused s;
-  flushed = λ f. q.flushed (p.flushed f);
-}
-hands_more x y z first rest u (Err e) p q = record {
-  ok = tt;
-  error = takes_prefix_after x y z first rest p.ok q.error;
-  stopped = stopped_more x.stopped y.stopped z.stopped true p.stopped q.stopped;
-  refused = λ s. q.refused (stopped_still x.stopped y.stopped p.stopped s) ∙ p.refused s;
-  flushed = λ f. tt;
-}
-
--- a piece that was not put in, and so no more
-pub hands_stopped : {W A B E F : Type 0} (x y : SinkState W) (first rest : List ℕ) (e : E) (r : Result B F) (P : F → Type 0) → HandsIn {T = A} x y first (Err e) → IsErrAnd r P
-    → HandsIn x y (first ++ rest) r
-hands_stopped x y first rest e (Ok v) P p told = absurd told
-hands_stopped x y first rest e (Err f) P p told = record {
-  ok = tt;
-  error = takes_prefix_more x y first rest p.error;
-  stopped = p.stopped;
-  refused = p.refused;
-  flushed = λ f. tt;
-}
 
 -- all that is said to a line was put in
 pub answered : {S W A B : Type 0} (does : Speech S) (line : Option (List ℕ)) (old new : S) (x y : SinkState W) (said : List ℕ) (u : A) (v : B) → does.says old line said new
@@ -113,16 +60,16 @@ pub hands_from : {W T E : Type 0} (x y z : SinkState W) (bytes : List ℕ) (r : 
 hands_from x y z bytes r same h = subst (λ s. HandsIn s z bytes r) same h
 
 pub played : {S W A B C : Type 0} (playing : Playing S) (turn : Asked) (fault : Option TurnFault) (old new : DriveState S) (x y z : SinkState W) (u : A) (w : C) (v : B)
-    → new.mask ≡ old.mask → new.done ≡ old.done → new.lines ≡ old.lines + 1 → new.errors ≡ old.errors + errors_of fault → new.left + cost_of turn ≡ old.left
+    → new.mask ≡ old.mask → new.done ≡ old.done → new.lights ≡ old.lights → new.lines ≡ old.lines + 1 → new.errors ≡ old.errors + errors_of fault → new.left + cost_of turn ≡ old.left
     → tells playing turn fault old new.player x y u
-    → HandsIn {E = WriteStopped} y z (shown_of playing turn new.player ++ ending old.done (old.lines + 1) fault) (Ok w)
+    → HandsIn {E = WriteStopped} y z (shown_of old.lights playing turn new.player ++ ending old.done (old.lines + 1) fault) (Ok w)
     → Answers (playing_of playing turn) None old new x z (Ok v)
-played playing turn fault old new x y z u w v mask done lines errors left p h = record {
+played playing turn fault old new x y z u w v mask done lights lines errors left p h = record {
   ok = (
-    trace_text old.mask p.ok.receipts ++ (shown_of playing turn new.player ++ ending old.done (old.lines + 1) fault),
+    trace_text old.mask p.ok.receipts ++ (shown_of old.lights playing turn new.player ++ ending old.done (old.lines + 1) fault),
     (
       fault,
-      record { receipts = p.ok.receipts; played = p.ok.happened; said_is = refl; mask = mask; done = done; lines = lines; errors = errors; left = left },
+      record { receipts = p.ok.receipts; played = p.ok.happened; said_is = refl; mask = mask; done = done; lights = lights; lines = lines; errors = errors; left = left },
     ),
     takes_more x y z _ _ p.ok.lines h.ok,
   );
@@ -134,15 +81,15 @@ played playing turn fault old new x y z u w v mask done lines errors left p h = 
 -- it was, but a write failed in what ends the answer
 pub unended : {S W A B C : Type 0} (playing : Playing S) (turn : Asked) (fault : Option TurnFault) (old new : DriveState S) (end : S) (x y z : SinkState W) (u : A) (e : WriteStopped)
     → cost_of turn ≤ old.left
-    → tells playing turn fault old end x y u → HandsIn {T = C} y z (shown_of playing turn end ++ ending old.done (old.lines + 1) fault) (Err e)
+    → tells playing turn fault old end x y u → HandsIn {T = C} y z (shown_of old.lights playing turn end ++ ending old.done (old.lines + 1) fault) (Err e)
     → Answers {T = B} (playing_of playing turn) None old new x z (Err Write)
 unended playing turn fault old new end x y z u e enough p h =
     let is : (old.left - cost_of turn) + cost_of turn ≡ old.left = omega (arith, enough) in
     let next : DriveState _ = record old { player = end; lines = old.lines + 1; errors = old.errors + errors_of fault; left = old.left - cost_of turn } in
     record {
       ok = tt;
-      error = AllSaid (trace_text old.mask p.ok.receipts ++ (shown_of playing turn end ++ ending old.done (old.lines + 1) fault)) next
-          (fault, record { receipts = p.ok.receipts; played = p.ok.happened; said_is = refl; mask = refl; done = refl; lines = refl; errors = refl; left = is })
+      error = AllSaid (trace_text old.mask p.ok.receipts ++ (shown_of old.lights playing turn end ++ ending old.done (old.lines + 1) fault)) next
+          (fault, record { receipts = p.ok.receipts; played = p.ok.happened; said_is = refl; mask = refl; done = refl; lights = refl; lines = refl; errors = refl; left = is })
           (takes_prefix_after x y z _ _ p.ok.lines h.error);
       flushed = λ f unstopped. stops unstopped;
       stopped = λ s. h.stopped ∙ ap (λ (b : Bool). b || true) (p.stopped ∙ ap (λ (b : Bool). b || false) s);

@@ -1,5 +1,5 @@
 -- A drive, from the script's events and the lines behind them.
-use Rattle.std.proofs.Common.{◌≡◌, ℕ, ◌+◌, ◌^◌, ◌<◌, ◌≤◌, ◌⊎◌, inl, inr, true, false, List, ◌++◌, Result, Ok, Err, IfOk, IsErrAnd, length, take, refl, sym, ap, subst, ◌∙◌, arith, append_assoc}
+use Rattle.std.proofs.Common.{◌≡◌, ℕ, ◌+◌, ◌^◌, ◌<◌, ◌≤◌, ◌⊎◌, inl, inr, Bool, true, false, List, ◌++◌, Result, Ok, Err, IfOk, IsErrAnd, length, take, refl, sym, ap, subst, ◌∙◌, arith, append_assoc}
 use Rattle.std.specs.Io.KnownBytes.{Appends}
 use Rattle.std.proofs.KnownBytes.{Appends-trans}
 use Rattle.std.proofs.Math.Seq.{take-append-add}
@@ -7,7 +7,6 @@ use Rattle.gp_ploam.specs.declared.check.Mask.{Mask}
 use Rattle.gp_stream.specs.Sink.{SinkState, Takes}
 use Rattle.gp_stream.specs.Source.{ReadsAll, SourceState}
 use Rattle.gp_script.specs.declared.script.ScriptEvent.{ScriptEvent}
-use Rattle.gp_trace.specs.Text.{trace_text}
 use Rattle.gp_flow.specs.declared.fault.LineFault.{LineFault}
 use Rattle.gp_flow.specs.declared.fault.LineFault.TheVariants as unanswered
 use Rattle.gp_flow.specs.declared.fault.LinesFault.{LinesFault}
@@ -28,12 +27,13 @@ use Rattle.gp_replay.specs.declared.fault.PlayFault.{PlayFault}
 use Rattle.gp_replay.specs.declared.fault.PlayFault.TheVariants as faults
 use Rattle.gp_replay.specs.Chassis.{opened_play}
 use Rattle.gp_replay.specs.Fault.{fault_of_play, fault_of_script, fault_of_source}
-use Rattle.gp_replay.specs.Playing.{HasRoomFor, Keeps, LossyPlay, Playing, PlaysAll, chassis_playing, fibre_playing}
+use Rattle.gp_replay.specs.Lights.{LeavesTold, Saying, Says, TellsAll, TellsOn, TellsScript}
+use Rattle.gp_replay.specs.Playing.{HasRoomFor, Keeps, LossyPlay, Playing, chassis_playing, fibre_playing}
 use Rattle.gp_replay.specs.Opening.{OpensFibre}
-use Rattle.gp_replay.specs.Writing.{EndsPlay, Happening, LeavesScript, PlaysOn, PlaysScript, Writes}
+use Rattle.gp_replay.specs.Writing.{EndsPlay}
 use Rattle.gp_replay.proofs.PlayingLemmas.{opened_fibre_room}
 use Rattle.gp_replay.proofs.RoomLemmas.{opening_room}
-use Rattle.gp_replay.proofs.ScriptPlayLemmas.{StandsFor, play_ends}
+use Rattle.gp_replay.proofs.ToldLemmas.{SaysFor, tell_ends}
 use Rattle.gp_drive.specs.declared.fault.DriveFault.{DriveFault}
 use Rattle.gp_drive.specs.declared.fault.DriveFault.TheVariants as drives
 use Rattle.gp_drive.specs.declared.driven.Driven.{Driven}
@@ -96,43 +96,46 @@ joined_left unanswered.OutOfMemory x y z text said t a = joined_all x y z text s
 joined_left unanswered.Full x y z text said t a = joined_all x y z text said t a
 
 pub drives_to : {S T W : Type 0} (manner : DriveManner) (playing : Playing S) (start mid : S) (mask : Mask) (events : List ScriptEvent) (answer : Result Driven LinesFault)
-    (from to : SourceState T) (x y z : SinkState W) → Writes mask (PlaysAll playing events) start mid x y → ServesTurns manner playing mid mask answer from to y z
+    (from to : SourceState T) (x y z : SinkState W) → Says (TellsAll manner.lights mask playing events) start mid x y → ServesTurns manner playing mid mask answer from to y z
     → DrivesTo manner playing start mask events answer from to x z
 drives_to manner playing start mid mask events (Ok driven) from to x y z w s =
     let all = s.3 in
     record {
       receipts = w.receipts;
+      text = w.text;
       mid = mid;
-      opened = w.happened;
+      opened = w.told;
       bytes = all.bytes;
       read = all.read;
       said = all.said;
       end = s.1;
       spoken = all.spoken;
       counted = s.2;
-      written = joined x y z (trace_text mask w.receipts) all.said w.lines all.written;
+      written = joined x y z w.text all.said w.lines all.written;
       kept = all.kept;
     }
 drives_to manner playing start mid mask events (Err lines.Read) from to x y z w s =
     let ended = s.0.1 in (
       record {
         receipts = w.receipts;
+        text = w.text;
         mid = mid;
-        opened = w.happened;
+        opened = w.told;
         bytes = ended.bytes;
         read = ended.read;
         said = ended.said;
         end = s.0.0;
         spoken = ended.spoken;
-        written = joined x y z (trace_text mask w.receipts) ended.said w.lines ended.written;
+        written = joined x y z w.text ended.said w.lines ended.written;
         kept = ended.kept;
       },
       s.1,
     )
 drives_to manner playing start mid mask events (Err (lines.Line fault)) from to x y z w s = record {
   receipts = w.receipts;
+  text = w.text;
   mid = mid;
-  opened = w.happened;
+  opened = w.told;
   bytes = s.bytes;
   read = s.read;
   first = s.begun;
@@ -140,7 +143,7 @@ drives_to manner playing start mid mask events (Err (lines.Line fault)) from to 
   all = s.all;
   said = s.said;
   spoken = s.spoken;
-  written = joined_left fault x y z (trace_text mask w.receipts) s.said w.lines s.written;
+  written = joined_left fault x y z w.text s.said w.lines s.written;
 }
 
 -- what the last line left
@@ -154,7 +157,7 @@ turns_left manner playing player mask ends.Open first last given driven from to 
 turns_left manner playing player mask ends.Over first last given driven from to before after is counted left s = not_over s.1
 
 pub left_by : {S T W : Type 0} (manner : DriveManner) (playing : Playing S) (start mid : S) (mask : Mask) (events : List ScriptEvent) (given : S) (answer : Result Driven LinesFault)
-    (from to : SourceState T) (x y z : SinkState W) → Writes mask (PlaysAll playing events) start mid x y
+    (from to : SourceState T) (x y z : SinkState W) → Says (TellsAll manner.lights mask playing events) start mid x y
     → IfOk answer (λ driven. LeavesServed manner playing mid mask given driven from to y z) → LeftBy manner playing start mask events given answer from to x z
 left_by manner playing start mid mask events given (Err fault) from to x y z w s = tt
 left_by manner playing start mid mask events given (Ok driven) from to x y z w s =
@@ -162,15 +165,16 @@ left_by manner playing start mid mask events given (Ok driven) from to x y z w s
     record {
       all = record {
         receipts = w.receipts;
+        text = w.text;
         mid = mid;
-        opened = w.happened;
+        opened = w.told;
         bytes = all.bytes;
         read = all.read;
         said = all.said;
         end = s.1;
         spoken = all.spoken;
         counted = s.2;
-        written = joined x y z (trace_text mask w.receipts) all.said w.lines all.written;
+        written = joined x y z w.text all.said w.lines all.written;
         kept = all.kept;
       };
       end = s.3;
@@ -196,23 +200,23 @@ room_for_less playing few more a r = (r.0, omega (arith, r.1), r.2)
 
 -- ---- a script whose events were not played to their end
 
-unplayed_as : {W T : Type 0} (script : ScriptView) (from : SourceState T) (x z : SinkState W) (fault : PlayFault) (answer : Result (Unit {0}) PlayFault)
-    → answer ≡ Err fault → PlaysScript script x z answer → LeavesScript fault script x z
-unplayed_as script from x z fault answer is p =
-    let q = subst (λ (a : Result (Unit {0}) PlayFault). PlaysScript script x z a) is p in q.fault
+unplayed_as : {W : Type 0} (lights : Bool) (script : ScriptView) (x z : SinkState W) (fault : PlayFault) (answer : Result (Unit {0}) PlayFault)
+    → answer ≡ Err fault → TellsScript lights script x z answer → LeavesTold fault lights script x z
+unplayed_as lights script x z fault answer is p =
+    let q = subst (λ (a : Result (Unit {0}) PlayFault). TellsScript lights script x z a) is p in q.fault
 
 -- the fault of an answer that has one
 abbrev fault_in : Result (Unit {0}) PlayFault → PlayFault
 fault_in (Ok value) = faults.Write
 fault_in (Err fault) = fault
 
-pub events_unplayed : {S W U : Type 0} (manner : DriveManner) (script : ScriptView) (T P : Happening S) (start b : S) (from : SourceState U) (x y z : SinkState W) (fault : PlayFault)
-    (answer : Result (Unit {0}) PlayFault) → StandsFor script start T P → (fault ≡ faults.OutOfMemory → 0 < length script.units)
-    → PlaysOn {T = Unit {0}} script.mask T P start b x y (Err fault) → EndsPlay y z (Err fault) answer → DrivesScriptIn manner (Err (drives.Script (fault_of_play fault))) from from x z script
+pub events_unplayed : {S W U : Type 0} (manner : DriveManner) (script : ScriptView) (T P : Saying S) (start b : S) (from : SourceState U) (x y z : SinkState W) (fault : PlayFault)
+    (answer : Result (Unit {0}) PlayFault) → SaysFor manner.lights script start T P → (fault ≡ faults.OutOfMemory → 0 < length script.units)
+    → TellsOn {T = Unit {0}} T P start b x y (Err fault) → EndsPlay y z (Err fault) answer → DrivesScriptIn manner (Err (drives.Script (fault_of_play fault))) from from x z script
 events_unplayed manner script T P start b from x y z faults.OutOfMemory answer stands some p e =
-    (refl, unplayed_as script from x z faults.OutOfMemory answer e.0 (play_ends script T P start b x y z (Err faults.OutOfMemory) answer stands (λ is. some refl) p e))
+    (refl, unplayed_as manner.lights script x z faults.OutOfMemory answer e.0 (tell_ends manner.lights script T P start b x y z (Err faults.OutOfMemory) answer stands (λ is. some refl) p e))
 events_unplayed manner script T P start b from x y z faults.Write answer stands some p e =
-    (refl, unplayed_as script from x z faults.Write answer e.0 (play_ends script T P start b x y z (Err faults.Write) answer stands (λ is. some (ap fault_in is)) p e))
+    (refl, unplayed_as manner.lights script x z faults.Write answer e.0 (tell_ends manner.lights script T P start b x y z (Err faults.Write) answer stands (λ is. some (ap fault_in is)) p e))
 
 pub told_unplayed : {W U : Type 0} (manner : DriveManner) (script : ScriptView) (from : SourceState U) (x z : SinkState W) (fault : PlayFault) (result : DriveFault)
     → result ≡ drives.Script (fault_of_play fault) → DrivesScriptIn manner (Err (drives.Script (fault_of_play fault))) from from x z script → DrivesScriptIn manner (Err result) from from x z script

@@ -15,6 +15,7 @@ use Rattle.gp_lines.specs.TurnReading.{turn_of}
 use Rattle.gp_flow.specs.Lines.{DoesAll}
 use Rattle.gp_replay.specs.Chassis.{opening_play}
 use Rattle.gp_replay.specs.Laws.{EachPortRuns}
+use Rattle.gp_replay.specs.Lights.{light_if, light_line}
 use Rattle.gp_replay.specs.Playing.{Playing, PlaysAll, chassis_playing, fibre_playing}
 use Rattle.gp_replay.specs.WorldPlay.{WorldTakesAll}
 use Rattle.gp_replay.specs.WorldWriting.{Numbered}
@@ -23,8 +24,8 @@ use Rattle.gp_replay.proofs.ScriptPlayLemmas.{chassis_stands}
 use Rattle.gp_replay.proofs.WorldPlayLemmas.{world_stands}
 use Rattle.gp_drive.specs.declared.fault.TurnFault.{TurnFault}
 use Rattle.gp_drive.specs.Drive.{AnswersAsked, AnswersTurn, DriveState, Plays, Refuses, Says, begun_in, done_if, done_line, driving, ending, error_line}
-use Rattle.gp_drive.specs.Runs.{ChassisDrivesRun, FibreDrivesRun, LineAnswer, Entries, UnitLine, ErrorLine, DoneLine, answer_text, answers_text, entries_in, entries_of, followed_by}
-use Rattle.gp_drive.specs.Shown.{shown_of, told_of, unit_line, unit_line_if, unit_shown}
+use Rattle.gp_drive.specs.Runs.{ChassisDrivesRun, FibreDrivesRun, LineAnswer, Entries, UnitLine, LightLine, ErrorLine, DoneLine, answer_text, answers_text, entries_in, entries_of, followed_by}
+use Rattle.gp_drive.specs.Shown.{shown_of, unit_line, unit_line_if}
 use Rattle.gp_drive.specs.Turns.{FramesPlayed, PlaysInVain, PlaysTo, PlaysTurn, PlaysUntil, PlaysWithout, all_of, event_of}
 use Rattle.gp_ranging.specs.declared.grant.Grant.{Grant}
 
@@ -121,45 +122,68 @@ abbrev unit_parts : ℕ → Option UnitStatus → List LineAnswer
 unit_parts unit None = []
 unit_parts unit (Some status) = UnitLine unit status ∷ []
 
-abbrev told_parts : {S : Type 0} → Playing S → S → Option ℕ → List LineAnswer
-told_parts playing state None = []
-told_parts playing state (Some unit) = unit_parts unit (playing.status state unit)
+-- what is told of light
+abbrev light_parts : Bool → ℕ → Bool → List LineAnswer
+light_parts false unit lit = []
+light_parts true unit lit = LightLine unit lit ∷ []
 
-abbrev shown_parts : {S : Type 0} → Playing S → Asked → S → List LineAnswer
-shown_parts playing turn state = told_parts playing state (unit_shown turn)
+abbrev shown_parts : {S : Type 0} → Bool → Playing S → Asked → S → List LineAnswer
+shown_parts lights playing asked.Nothing state = []
+shown_parts lights playing (asked.Event port event) state = []
+shown_parts lights playing (asked.Frames port count) state = []
+shown_parts lights playing (asked.Until port grant most) state = []
+shown_parts lights playing (asked.Light unit lit) state = light_parts lights unit lit
+shown_parts lights playing (asked.ShowUnit unit) state = unit_parts unit (playing.status state unit)
 
 unit_text : (mask : Mask) (unit : ℕ) (status : Option UnitStatus) → unit_line_if unit status ≡ answers_text mask (unit_parts unit status)
 unit_text mask unit None = refl
 unit_text mask unit (Some status) = sym (append-nil (unit_line unit status))
 
-told_text : {S : Type 0} (mask : Mask) (playing : Playing S) (state : S) (unit : Option ℕ) → told_of playing state unit ≡ answers_text mask (told_parts playing state unit)
-told_text mask playing state None = refl
-told_text mask playing state (Some unit) = unit_text mask unit (playing.status state unit)
+light_text : (mask : Mask) (lights : Bool) (unit : ℕ) (lit : Bool) → light_if lights unit lit ≡ answers_text mask (light_parts lights unit lit)
+light_text mask false unit lit = refl
+light_text mask true unit lit = sym (append-nil (light_line unit lit))
+
+shown_text : {S : Type 0} (mask : Mask) (lights : Bool) (playing : Playing S) (turn : Asked) (state : S)
+    → shown_of lights playing turn state ≡ answers_text mask (shown_parts lights playing turn state)
+shown_text mask lights playing asked.Nothing state = refl
+shown_text mask lights playing (asked.Event port event) state = refl
+shown_text mask lights playing (asked.Frames port count) state = refl
+shown_text mask lights playing (asked.Until port grant most) state = refl
+shown_text mask lights playing (asked.Light unit lit) state = light_text mask lights unit lit
+shown_text mask lights playing (asked.ShowUnit unit) state = unit_text mask unit (playing.status state unit)
 
 unit_entries : (unit : ℕ) (status : Option UnitStatus) → entries_of (unit_parts unit status) ≡ []
 unit_entries unit None = refl
 unit_entries unit (Some status) = refl
 
-told_entries : {S : Type 0} (playing : Playing S) (state : S) (unit : Option ℕ) → entries_of (told_parts playing state unit) ≡ []
-told_entries playing state None = refl
-told_entries playing state (Some unit) = unit_entries unit (playing.status state unit)
+light_entries : (lights : Bool) (unit : ℕ) (lit : Bool) → entries_of (light_parts lights unit lit) ≡ []
+light_entries false unit lit = refl
+light_entries true unit lit = refl
+
+shown_entries : {S : Type 0} (lights : Bool) (playing : Playing S) (turn : Asked) (state : S) → entries_of (shown_parts lights playing turn state) ≡ []
+shown_entries lights playing asked.Nothing state = refl
+shown_entries lights playing (asked.Event port event) state = refl
+shown_entries lights playing (asked.Frames port count) state = refl
+shown_entries lights playing (asked.Until port grant most) state = refl
+shown_entries lights playing (asked.Light unit lit) state = light_entries lights unit lit
+shown_entries lights playing (asked.ShowUnit unit) state = unit_entries unit (playing.status state unit)
 
 -- what stands behind the lines of entries
-abbrev behind_parts : {S : Type 0} → Playing S → Asked → S → Bool → ℕ → Option TurnFault → List LineAnswer
-behind_parts playing turn state done line fault = shown_parts playing turn state ++ ending_parts done line fault
+abbrev behind_parts : {S : Type 0} → Bool → Playing S → Asked → S → Bool → ℕ → Option TurnFault → List LineAnswer
+behind_parts lights playing turn state done line fault = shown_parts lights playing turn state ++ ending_parts done line fault
 
-behind_text : {S : Type 0} (mask : Mask) (playing : Playing S) (turn : Asked) (state : S) (done : Bool) (line : ℕ) (fault : Option TurnFault)
-    → shown_of playing turn state ++ ending done line fault ≡ answers_text mask (behind_parts playing turn state done line fault)
-behind_text mask playing turn state done line fault =
-    ap (λ (l : List ℕ). l ++ ending done line fault) (told_text mask playing state (unit_shown turn))
-    ∙ ap (λ (l : List ℕ). answers_text mask (shown_parts playing turn state) ++ l) (ending_text mask done line fault)
-    ∙ sym (answers_joined mask (shown_parts playing turn state) (ending_parts done line fault))
+behind_text : {S : Type 0} (mask : Mask) (lights : Bool) (playing : Playing S) (turn : Asked) (state : S) (done : Bool) (line : ℕ) (fault : Option TurnFault)
+    → shown_of lights playing turn state ++ ending done line fault ≡ answers_text mask (behind_parts lights playing turn state done line fault)
+behind_text mask lights playing turn state done line fault =
+    ap (λ (l : List ℕ). l ++ ending done line fault) (shown_text mask lights playing turn state)
+    ∙ ap (λ (l : List ℕ). answers_text mask (shown_parts lights playing turn state) ++ l) (ending_text mask done line fault)
+    ∙ sym (answers_joined mask (shown_parts lights playing turn state) (ending_parts done line fault))
 
-behind_entries : {S : Type 0} (playing : Playing S) (turn : Asked) (state : S) (done : Bool) (line : ℕ) (fault : Option TurnFault)
-    → entries_of (behind_parts playing turn state done line fault) ≡ []
-behind_entries playing turn state done line fault =
-    entries_joined (shown_parts playing turn state) (ending_parts done line fault)
-    ∙ ap (λ (l : List Receipt). l ++ entries_of (ending_parts done line fault)) (told_entries playing state (unit_shown turn))
+behind_entries : {S : Type 0} (lights : Bool) (playing : Playing S) (turn : Asked) (state : S) (done : Bool) (line : ℕ) (fault : Option TurnFault)
+    → entries_of (behind_parts lights playing turn state done line fault) ≡ []
+behind_entries lights playing turn state done line fault =
+    entries_joined (shown_parts lights playing turn state) (ending_parts done line fault)
+    ∙ ap (λ (l : List Receipt). l ++ entries_of (ending_parts done line fault)) (shown_entries lights playing turn state)
     ∙ ending_entries done line fault
 
 -- ---- the answer to a line
@@ -183,12 +207,12 @@ refused playing fault old said new h = record {
 played : {S : Type 0} (playing : Playing S) (turn : Asked) (fault : Option TurnFault) (old : DriveState S) (said : List ℕ) (new : DriveState S) → Plays playing turn fault old said new
     → IsAnswered playing old said new
 played playing turn fault old said new h =
-    let parts = behind_parts playing turn new.player old.done (old.lines + 1) fault in
+    let parts = behind_parts old.lights playing turn new.player old.done (old.lines + 1) fault in
     let all : h.receipts ≡ h.receipts ++ entries_of parts =
-    sym (append-nil h.receipts) ∙ ap (λ (l : List Receipt). h.receipts ++ l) (sym (behind_entries playing turn new.player old.done (old.lines + 1) fault)) in
+    sym (append-nil h.receipts) ∙ ap (λ (l : List Receipt). h.receipts ++ l) (sym (behind_entries old.lights playing turn new.player old.done (old.lines + 1) fault)) in
     record {
       answers = Entries h.receipts ∷ parts;
-      said_is = h.said_is ∙ ap (λ (l : List ℕ). trace_text old.mask h.receipts ++ l) (behind_text old.mask playing turn new.player old.done (old.lines + 1) fault);
+      said_is = h.said_is ∙ ap (λ (l : List ℕ). trace_text old.mask h.receipts ++ l) (behind_text old.mask old.lights playing turn new.player old.done (old.lines + 1) fault);
       mask = h.mask;
       plays = subst (λ (l : List Receipt). SomePlay playing old.player l new.player) all (told_plays playing turn fault old.player new.player h.receipts h.played);
     }

@@ -19,12 +19,14 @@ use Rattle.gp_drive.specs.declared.manner.DriveManner.{DriveManner}
 use Rattle.gp_drive.specs.Shown.{shown_of}
 use Rattle.gp_drive.specs.Turns.{PlaysTo, PlaysTurnPart, cost_of, missing_in}
 
--- where a drive stands: its player, the mask of the codes, whether it tells that a line is done, how many lines were
--- answered, how many of them by an error, and for how many more frames and other events there is room
+-- where a drive stands: its player, the mask of the codes, whether it tells that a line is done, and when light comes or
+-- goes, how many lines were answered, how many of them by an error, and for how many more frames and other events there
+-- is room
 pub record DriveState (S : Type 0) : Type 0 where
   pub player : S
   pub mask : Mask
   pub done : Bool
+  pub lights : Bool
   pub lines : ℕ
   pub errors : ℕ
   pub left : ℕ
@@ -85,15 +87,17 @@ pub record Refuses {S : Type 0} (fault : TurnFault) (old : DriveState S) (said :
   pub new_is : new ≡ record old { lines = old.lines + 1; errors = old.errors + 1 }
 
 -- what the line asks for is played, and the lines of its entries are the answer; behind them what is told of the unit
--- that it asks to be shown, or an error where the grant that was asked for is made in none of its frames
+-- that it asks to be shown, or of the light that it brings or takes, or an error where the grant that was asked for is made in none of its frames
 pub record Plays {S : Type 0} (playing : Playing S) (turn : Asked) (fault : Option TurnFault) (old : DriveState S)
     (said : List ℕ) (new : DriveState S) : Type 0 where
   pub receipts : List Receipt
   pub played : PlaysTo playing turn fault old.player receipts new.player
   pub said_is : said
-      ≡ trace_text old.mask receipts ++ (shown_of playing turn new.player ++ ending old.done (old.lines + 1) fault)
+      ≡ trace_text old.mask receipts
+      ++ (shown_of old.lights playing turn new.player ++ ending old.done (old.lines + 1) fault)
   pub mask : new.mask ≡ old.mask
   pub done : new.done ≡ old.done
+  pub lights : new.lights ≡ old.lights
   pub lines : new.lines ≡ old.lines + 1
   pub errors : new.errors ≡ old.errors + errors_of fault
   pub left : new.left + cost_of turn ≡ old.left
@@ -165,13 +169,21 @@ never_over state = false
 -- before the first line, in this manner
 abbrev pub begun_in : {S : Type 0} → DriveManner → S → Mask → DriveState S
 begun_in manner player mask =
-    record { player = player; mask = mask; done = manner.done; lines = 0; errors = 0; left = most_turns }
+    record {
+      player = player;
+      mask = mask;
+      done = manner.done;
+      lights = manner.lights;
+      lines = 0;
+      errors = 0;
+      left = most_turns;
+    }
 
--- answers end without telling so
+-- answers end without telling so, and of light nothing is told
 abbrev pub untold : DriveManner
-untold = record { done = false }
+untold = record { done = false; lights = false }
 
--- before the first line, where it isn't told that lines are done
+-- before the first line, where it isn't told that lines are done, nor when light comes or goes
 abbrev pub begun : {S : Type 0} → S → Mask → DriveState S
 begun player mask = begun_in untold player mask
 

@@ -7,7 +7,6 @@ use Rattle.gp_stream.specs.Sink.{SinkState, KeepsNothing}
 use Rattle.gp_stream.specs.Source.{SourceState, ReadsTooMuch, ReadsWhole, max_bytes}
 use Rattle.gp_script.specs.declared.script.ScriptEvent.{ScriptEvent}
 use Rattle.gp_script.specs.Script.{ScriptView, script_of}
-use Rattle.gp_trace.specs.Text.{trace_text}
 use Rattle.gp_flow.specs.declared.fault.LineFault.{LineFault}
 use Rattle.gp_flow.specs.declared.fault.LinesFault.{LinesFault}
 use Rattle.gp_flow.specs.declared.fault.LinesFault.TheVariants as lines
@@ -18,8 +17,8 @@ use Rattle.gp_replay.specs.declared.fault.RunFault.TheVariants as runs
 use Rattle.gp_replay.specs.Chassis.{PlayState, opening_play}
 use Rattle.gp_replay.specs.Opening.{OpensFibre}
 use Rattle.gp_replay.specs.Outcome.{OfScript, ReadsBy}
-use Rattle.gp_replay.specs.Playing.{LossyPlay, Playing, PlaysAll, chassis_playing, fibre_playing}
-use Rattle.gp_replay.specs.Writing.{LeavesScript}
+use Rattle.gp_replay.specs.Lights.{LeavesTold, TellsAll}
+use Rattle.gp_replay.specs.Playing.{LossyPlay, Playing, chassis_playing, fibre_playing}
 use Rattle.gp_drive.specs.declared.fault.DriveFault.{DriveFault}
 use Rattle.gp_drive.specs.declared.fault.DriveFault.TheVariants as drives
 use Rattle.gp_drive.specs.declared.driven.Driven.{Driven}
@@ -33,10 +32,11 @@ longest_line = 4096
 -- the events were played; then the whole input was read, and each of its lines was answered
 pub record DrivesAll {S T W : Type 0} (manner : DriveManner) (playing : Playing S) (start : S) (mask : Mask) (events : List ScriptEvent)
     (driven : Driven) (from to : SourceState T) (before after : SinkState W) : Type 0 where
-  -- the entries of the events
+  -- the entries of the events, and what is told of them
   pub receipts : List Receipt
+  pub text : List ℕ
   pub mid : S
-  pub opened : PlaysAll playing events start receipts mid
+  pub opened : TellsAll manner.lights mask playing events start receipts text mid
   -- the input
   pub bytes : List ℕ
   pub read : ReadsWhole from to bytes
@@ -46,22 +46,23 @@ pub record DrivesAll {S T W : Type 0} (manner : DriveManner) (playing : Playing 
   pub spoken : DoesAll (driving playing) (begun_in manner mid mask) (map (handed longest_line) (lines_of bytes)) said end
   pub counted : driven ≡ record { lines = end.lines; errors = end.errors }
   -- the writer got all of it, and keeps nothing back
-  pub written : Appends before.held after.held (before.gathered ++ trace_text mask receipts ++ said)
+  pub written : Appends before.held after.held (before.gathered ++ text ++ said)
   pub kept : KeepsNothing after
 
 -- the events were played; then a read failed, and each line was answered that a line feed ended before
 pub record DrivesEnded {S T W : Type 0} (manner : DriveManner) (playing : Playing S) (start : S) (mask : Mask) (events : List ScriptEvent)
     (from to : SourceState T) (before after : SinkState W) : Type 0 where
   pub receipts : List Receipt
+  pub text : List ℕ
   pub mid : S
-  pub opened : PlaysAll playing events start receipts mid
+  pub opened : TellsAll manner.lights mask playing events start receipts text mid
   pub bytes : List ℕ
   pub read : Consumes from.remaining to.remaining bytes
   pub said : List ℕ
   pub end : DriveState S
   pub spoken : DoesAll (driving playing) (begun_in manner mid mask) (map (handed longest_line) (ended_lines bytes)) said end
   -- the writer got all of it, and keeps nothing back
-  pub written : Appends before.held after.held (before.gathered ++ trace_text mask receipts ++ said)
+  pub written : Appends before.held after.held (before.gathered ++ text ++ said)
   pub kept : KeepsNothing after
 
 -- the events were played; then the first of the lines that came were answered, the last of these maybe in part, when
@@ -69,8 +70,9 @@ pub record DrivesEnded {S T W : Type 0} (manner : DriveManner) (playing : Playin
 pub record DrivesSome {S T W : Type 0} (manner : DriveManner) (playing : Playing S) (start : S) (mask : Mask) (events : List ScriptEvent)
     (fault : LineFault) (from to : SourceState T) (before after : SinkState W) : Type 0 where
   pub receipts : List Receipt
+  pub text : List ℕ
   pub mid : S
-  pub opened : PlaysAll playing events start receipts mid
+  pub opened : TellsAll manner.lights mask playing events start receipts text mid
   pub bytes : List ℕ
   pub read : Consumes from.remaining to.remaining bytes
   -- the lines that were begun, and the others
@@ -80,7 +82,7 @@ pub record DrivesSome {S T W : Type 0} (manner : DriveManner) (playing : Playing
   pub said : List ℕ
   pub spoken : DoesSome (driving playing) (begun_in manner mid mask) first said
   -- the writer got all of it, unless a write failed, and else a prefix
-  pub written : Leaves fault before after (trace_text mask receipts ++ said)
+  pub written : Leaves fault before after (text ++ said)
 
 -- the lines of an input were answered on a player, by the answer
 abbrev pub ServesTurns : {S T W : Type 0} → DriveManner → Playing S → S → Mask → Result Driven LinesFault
@@ -162,12 +164,12 @@ DrivesScriptIn manner (Ok driven) from to before after script = Drives manner sc
 DrivesScriptIn manner (Err (drives.Turns fault)) from to before after script =
     Drives manner script (Err fault) from to before after
 DrivesScriptIn manner (Err (drives.Script runs.OutOfMemory)) from to before after script =
-    (to ≡ from) × LeavesScript plays.OutOfMemory script before after
+    (to ≡ from) × LeavesTold plays.OutOfMemory manner.lights script before after
 DrivesScriptIn manner (Err (drives.Script runs.Write)) from to before after script =
-    (to ≡ from) × LeavesScript plays.Write script before after
+    (to ≡ from) × LeavesTold plays.Write manner.lights script before after
 DrivesScriptIn manner (Err (drives.Script _)) from to before after script = ⊥
 
--- the same where it isn't told that lines are done
+-- the same where it isn't told that lines are done, nor when light comes or goes
 abbrev pub DrivesScript : {T W : Type 0} → Result Driven DriveFault → SourceState T → SourceState T → SinkState W
     → SinkState W → ScriptView → Type 0
 DrivesScript answer from to before after script = DrivesScriptIn untold answer from to before after script
@@ -188,7 +190,7 @@ pub data DrivesInputIn {R T W : Type 0} (manner : DriveManner) (answer : Result 
   NotRead : (fault : RunFault) → answer ≡ Err (drives.Script fault) → IsNoScript script_from script_to fault
       → to ≡ from → after ≡ before → DrivesInputIn manner answer script_from script_to from to before after
 
--- how a drive ends that doesn't tell that lines are done
+-- how a drive ends that doesn't tell that lines are done, nor when light comes or goes
 abbrev pub DrivesInput : {R T W : Type 0} → Result Driven DriveFault → SourceState R → SourceState R → SourceState T
     → SourceState T → SinkState W → SinkState W → Type 0
 DrivesInput answer script_from script_to from to before after =

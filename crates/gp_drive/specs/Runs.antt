@@ -1,5 +1,5 @@
 -- What a whole drive comes to (this profile's own rule): a run of each port, told line by line with the errors between.
-use Rattle.std.specs.Prelude.{◌≡◌, ◌<◌, ℕ, List, [], ◌∷◌, ◌++◌, Option, length}
+use Rattle.std.specs.Prelude.{◌≡◌, ◌<◌, ℕ, Bool, List, [], ◌∷◌, ◌++◌, Option, length}
 use Rattle.gp_ploam.specs.declared.check.Mask.{Mask}
 use Rattle.gp_machine.specs.declared.entry.Receipt.{Receipt}
 use Rattle.gp_onu.specs.declared.status.UnitStatus.{UnitStatus}
@@ -8,6 +8,7 @@ use Rattle.gp_script.specs.Script.{ScriptView}
 use Rattle.gp_trace.specs.Text.{trace_text}
 use Rattle.gp_flow.specs.Lines.{DoesAll}
 use Rattle.gp_replay.specs.Chassis.{PlayState, opening_play}
+use Rattle.gp_replay.specs.Lights.{light_line}
 use Rattle.gp_replay.specs.Playing.{LossyPlay, PlaysAll, chassis_playing, fibre_playing}
 use Rattle.gp_replay.specs.Runs.{PortsRun}
 use Rattle.gp_replay.specs.ScriptPlay.{Plays, ends_of}
@@ -16,11 +17,12 @@ use Rattle.gp_drive.specs.Drive.{DriveState, begun_in, done_line, driving}
 use Rattle.gp_replay.specs.Opening.{OpensFibre}
 use Rattle.gp_drive.specs.Shown.{unit_line}
 
--- a part of the answer to a line: the entries of what it asks for, what is told of a simulated unit, an error line, or
--- that the line is done
+-- a part of the answer to a line: the entries of what it asks for, what is told of a simulated unit, that light came or
+-- went there, an error line, or that the line is done
 pub data LineAnswer : Type 0 where
   Entries : (receipts : List Receipt) → LineAnswer
   UnitLine : (unit : ℕ) (status : UnitStatus) → LineAnswer
+  LightLine : (unit : ℕ) (lit : Bool) → LineAnswer
   ErrorLine : (text : List ℕ) → LineAnswer
   DoneLine : (line : ℕ) → LineAnswer
 
@@ -28,6 +30,7 @@ pub data LineAnswer : Type 0 where
 abbrev pub answer_text : Mask → LineAnswer → List ℕ
 answer_text mask (Entries receipts) = trace_text mask receipts
 answer_text mask (UnitLine unit status) = unit_line unit status
+answer_text mask (LightLine unit lit) = light_line unit lit
 answer_text mask (ErrorLine text) = text
 answer_text mask (DoneLine line) = done_line line
 
@@ -40,6 +43,7 @@ answers_text mask (answer ∷ answers) = answer_text mask answer ++ answers_text
 abbrev pub entries_in : LineAnswer → List Receipt
 entries_in (Entries receipts) = receipts
 entries_in (UnitLine unit status) = []
+entries_in (LightLine unit lit) = []
 entries_in (ErrorLine text) = []
 entries_in (DoneLine line) = []
 

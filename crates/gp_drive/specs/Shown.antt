@@ -1,9 +1,10 @@
--- What is told of a simulated unit (this profile's own rule).
+-- What is told of a simulated unit, and of light that comes or goes there (this profile's own rule).
 use Rattle.std.specs.Prelude.{ℕ, Bool, false, true, List, [], ◌++◌, Option, None, Some, codes, decimal}
 use Rattle.gp_onu.specs.declared.status.UnitStatus.{UnitStatus}
 use Rattle.gp_onu.specs.State.{state_name}
 use Rattle.gp_lines.specs.declared.turn.Asked.{Asked}
 use Rattle.gp_lines.specs.declared.turn.Asked.TheVariants as asked
+use Rattle.gp_replay.specs.Lights.{light_if}
 use Rattle.gp_replay.specs.Playing.{Playing}
 
 -- a number behind this text, where there is one
@@ -31,20 +32,12 @@ abbrev pub unit_line_if : ℕ → Option UnitStatus → List ℕ
 unit_line_if unit None = []
 unit_line_if unit (Some status) = unit_line unit status
 
--- the place of the unit that a line asks to be shown
-abbrev pub unit_shown : Asked → Option ℕ
-unit_shown asked.Nothing = None
-unit_shown (asked.Event port event) = None
-unit_shown (asked.Frames port count) = None
-unit_shown (asked.Until port grant most) = None
-unit_shown (asked.Light unit lit) = None
-unit_shown (asked.ShowUnit unit) = Some unit
-
--- what is told of the unit at this place, where one is asked for
-abbrev pub told_of : {S : Type 0} → Playing S → S → Option ℕ → List ℕ
-told_of playing state None = []
-told_of playing state (Some unit) = unit_line_if unit (playing.status state unit)
-
--- what is told of the unit that a line asks to be shown
-abbrev pub shown_of : {S : Type 0} → Playing S → Asked → S → List ℕ
-shown_of playing turn state = told_of playing state (unit_shown turn)
+-- what is told of the unit that a line asks to be shown, and, where that is wanted, of the light that comes or goes with
+-- it
+abbrev pub shown_of : {S : Type 0} → Bool → Playing S → Asked → S → List ℕ
+shown_of lights playing asked.Nothing state = []
+shown_of lights playing (asked.Event port event) state = []
+shown_of lights playing (asked.Frames port count) state = []
+shown_of lights playing (asked.Until port grant most) state = []
+shown_of lights playing (asked.Light unit lit) state = light_if lights unit lit
+shown_of lights playing (asked.ShowUnit unit) state = unit_line_if unit (playing.status state unit)

@@ -8,7 +8,7 @@ ghost use Rattle.gp_drive.specs.Turns.{cost_of, missing_in};
 
 use crate::ending::{errors_of, put_ending};
 use crate::fault::TurnFault;
-use crate::manner::DriveManner;
+use crate::manner::{DriveManner, UNTOLD};
 use crate::shown::put_behind;
 use crate::turn::{cost_of, missing_in, play_turn};
 use gp_flow::{LineFault, LineWork};
@@ -49,6 +49,7 @@ impl<P: EventPlayer> Model for Driver<P> {
       player = d.player;
       mask = d.mask;
       done = d.manner.done;
+      lights = d.manner.lights;
       lines = d.lines;
       errors = d.errors;
       left = d.left;
@@ -63,7 +64,7 @@ impl<P: EventPlayer> Driver<P> {
         requires { HasRoomFor P.playing most_turns player }
         ensures { result ≡ begun player mask }
     {
-        Driver::new_in(DriveManner { done: false }, player, mask, buffer)
+        Driver::new_in(UNTOLD, player, mask, buffer)
     }
 
     /// The same, in this manner.
@@ -157,8 +158,7 @@ impl<P: EventPlayer> Driver<P> {
         match play_turn(&mut self.player, &mut out, asked) {
             Ok(told) => {
                 self.left -= cost;
-                let done = self.manner.done;
-                put_behind(sink, &self.player, asked, done, self.lines + 1, told)?;
+                put_behind(sink, &self.player, asked, self.manner, self.lines + 1, told)?;
                 self.lines += 1;
                 self.errors += errors_of(told);
                 Ok(())

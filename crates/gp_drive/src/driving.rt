@@ -1,6 +1,6 @@
 //! From a script and an input of lines to the answers.
 ghost use Rattle.std.specs.Prelude.{◌≡◌, ◌<◌, ◌+◌, ◌*◌, ◌^◌, [], Err, IfErr, IfOk, length, true};
-ghost use Rattle.gp_replay.specs.Playing.{HasRoomFor, PlaysAll};
+ghost use Rattle.gp_replay.specs.Playing.{HasRoomFor};
 ghost use Rattle.gp_script.specs.Playable.{IsPlayable};
 ghost use Rattle.gp_script.specs.View.{script_view};
 ghost use Rattle.gp_drive.specs.Drive.{begun_in, driving, most_turns, never_over};
@@ -9,13 +9,13 @@ ghost use Rattle.gp_drive.specs.Outcome.{DrivesInput, DrivesInputIn, DrivesScrip
 use crate::driven::{Driven, Drove};
 use crate::driver::Driver;
 use crate::fault::DriveFault;
-use crate::manner::DriveManner;
+use crate::manner::{DriveManner, UNTOLD};
 use gp_flow::{LinesFault, run_lines};
 use gp_licence::MAX_LICENCES;
 use gp_ploam::Mask;
 use gp_replay::{
     EventPlayer, FibrePlayer, LineBuffer, Opened, Player, TraceOut, each_port_runs, end_play,
-    open_chassis, open_fibre, play_events,
+    open_chassis, open_fibre, tell_events,
 };
 use gp_script::Script;
 use gp_stream::{Sink, Source};
@@ -97,7 +97,7 @@ pub fn drive_chassis<L: Ledger, T: Read, W: Write>(
         buffer: &mut buffer,
         mask,
     };
-    if let Err(fault) = play_events(&mut player, &mut out, events.as_slice()) {
+    if let Err(fault) = tell_events(&mut player, &mut out, events.as_slice(), manner.lights) {
         player.close();
         let _ = end_play(sink, Err(fault));
         return Err(DriveFault::from(fault));
@@ -139,7 +139,7 @@ pub fn drive_fibre<L: Ledger, T: Read, W: Write>(
         buffer: &mut buffer,
         mask,
     };
-    if let Err(fault) = play_events(&mut player, &mut out, events.as_slice()) {
+    if let Err(fault) = tell_events(&mut player, &mut out, events.as_slice(), manner.lights) {
         player.close();
         let _ = end_play(sink, Err(fault));
         return Err(DriveFault::from(fault));
@@ -214,7 +214,7 @@ pub fn drive_script<T: Read, W: Write>(
 }
 
 /// Reads a script to the end of its source, at most 1,048,576 bytes, and drives it as `drive_script` does. It isn't told
-/// that lines are done.
+/// that lines are done, nor when light comes or goes.
 pub fn run_drive<R: Read, T: Read, W: Write>(
     alloc: Global,
     script: &mut Source<R>,
@@ -224,7 +224,7 @@ pub fn run_drive<R: Read, T: Read, W: Write>(
     requires { sink.old.flushed ≡ true }
     ensures { DrivesInput result script.old script.new turns.old turns.new sink.old sink.new }
 {
-    run_drive_in(alloc, DriveManner { done: false }, script, turns, sink)
+    run_drive_in(alloc, UNTOLD, script, turns, sink)
 }
 
 /// The same, in this manner.

@@ -1,15 +1,16 @@
-//! What is told of a simulated unit, and what stands behind it.
+//! What is told of a simulated unit, and of light that comes or goes there, and what stands behind it.
 ghost use Rattle.std.specs.Prelude.{◌≡◌, ◌++◌, codes};
 ghost use Rattle.gp_onu.specs.State.{state_name};
 ghost use Rattle.gp_replay.specs.Writing.{HandsIn};
 ghost use Rattle.gp_drive.specs.Drive.{ending};
-ghost use Rattle.gp_drive.specs.Shown.{dark_if, number_if, shown_of, status_end, unit_line, unit_line_if, unit_shown};
+ghost use Rattle.gp_drive.specs.Shown.{dark_if, number_if, shown_of, status_end, unit_line, unit_line_if};
 
 use crate::ending::{put_ending, put_numbered};
 use crate::fault::TurnFault;
+use crate::manner::DriveManner;
 use gp_lines::Asked;
 use gp_onu::{State, UnitStatus};
-use gp_replay::EventPlayer;
+use gp_replay::{EventPlayer, put_light_if};
 use gp_stream::{Sink, WriteStopped};
 use std::io::Write;
 
@@ -113,46 +114,37 @@ fn put_unit_if<W: Write>(
     }
 }
 
-/// Gives the place of the unit that a line asks to be shown.
-fn unit_shown(asked: Asked) -> Option<u16>
-    ensures { result ≡ unit_shown asked }
-{
-    match asked {
-        Asked::ShowUnit { unit } => Some(unit),
-        Asked::Nothing
-        | Asked::Event { .. }
-        | Asked::Frames { .. }
-        | Asked::Until { .. }
-        | Asked::Light { .. } => None,
-    }
-}
-
-/// Puts what is told of the unit that a line asks to be shown.
+/// Puts what is told of the unit that a line asks to be shown, or, where that is told, of the light that comes or goes
+/// with it.
 fn put_shown<P: EventPlayer, W: Write>(
     sink: &mut Sink<W>,
     player: &P,
     asked: Asked,
+    lights: bool,
 ) -> Result<(), WriteStopped>
-    ensures { HandsIn sink.old sink.new (shown_of P.playing asked player.now) result }
+    ensures { HandsIn sink.old sink.new (shown_of lights P.playing asked player.now) result }
 {
-    match unit_shown(asked) {
-        Some(unit) => put_unit_if(sink, unit, player.unit_status(unit)),
-        None => Ok(()),
+    match asked {
+        Asked::ShowUnit { unit } => put_unit_if(sink, unit, player.unit_status(unit)),
+        Asked::Light { unit, lit } => put_light_if(sink, lights, unit, lit),
+        Asked::Nothing | Asked::Event { .. } | Asked::Frames { .. } | Asked::Until { .. } => Ok(()),
     }
 }
 
 /// Puts what stands behind the lines of the entries of what a line asks for: what is told of the unit that it asks to
-/// be shown, and what ends the answer to the line with this number. Takes no memory.
+/// be shown, or of the light that comes or goes with it, and what ends the answer to the line with this number. Takes no
+/// memory.
 pub(crate) fn put_behind<P: EventPlayer, W: Write>(
     sink: &mut Sink<W>,
     player: &P,
     asked: Asked,
-    done: bool,
+    manner: DriveManner,
     line: u64,
     fault: Option<TurnFault>,
 ) -> Result<(), WriteStopped>
-    ensures { HandsIn sink.old sink.new (shown_of P.playing asked player.now ++ ending done line fault) result }
+    ensures { HandsIn sink.old sink.new
+        (shown_of manner.lights P.playing asked player.now ++ ending manner.done line fault) result }
 {
-    put_shown(sink, player, asked)?;
-    put_ending(sink, done, line, fault)
+    put_shown(sink, player, asked, manner.lights)?;
+    put_ending(sink, manner.done, line, fault)
 }

@@ -1,8 +1,8 @@
 use Rattle.std.proofs.Common.{arith, rules, subst, Err, IfOk, ◌*◌, ◌^◌, ◌≤◌, length}
 use Rattle.gp_script.specs.View.{script_view}
 use Rattle.gp_replay.specs.Playing.{fibre_playing}
-use Rattle.gp_replay.proofs.PlayingLemmas.{fibre_names, fibre_plays}
-use Rattle.gp_replay.proofs.WorldPlayLemmas.{world_stands}
+use Rattle.gp_replay.proofs.PlayingLemmas.{fibre_names}
+use Rattle.gp_replay.proofs.ToldLemmas.{fibre_says}
 use Rattle.gp_replay.specs.Writing.{EndsPlay}
 use Rattle.gp_drive.specs.Drive.{most_turns}
 use Rattle.gp_drive.specs.Outcome.{LeavesServed, ServesTurns}
@@ -10,13 +10,13 @@ use Rattle.gp_drive.specs.Outcome.Drives.{OnFibre}
 use Rattle.gp_drive.proofs.DriveLemmas.{drives_to, drives_told, events_unplayed, fibre_room_for, left_by, room_behind, room_for_less, told_unplayed}
 use Rattle.gp_drive.proofs.driving.drive_fibre.Goals as goal
 
-pub play_events-requires-clause-named : goal.play_events-requires-clause-named
-play_events-requires-clause-named g c =
+pub tell_events-requires-clause-named : goal.tell_events-requires-clause-named
+tell_events-requires-clause-named g c =
     rw (c.as_slice.ensures.value, c.in_ok-player.ensures.events)
     (fibre_names (script_view c.args.script) c.in_ok-player.field-0.player c.requires.playable c.requires.units c.in_ok-player.ensures.player)
 
-pub play_events-requires-clause-room : goal.play_events-requires-clause-room
-play_events-requires-clause-room g c =
+pub tell_events-requires-clause-room : goal.tell_events-requires-clause-room
+tell_events-requires-clause-room g c =
     let few : length c.args.script.events.items ≤ 1048576 = c.requires.playable.few_events in
     let many = length c.args.script.events.items * 2 ^ 32 in
     let within : many ≤ 2 ^ 52 = omega (arith, few) in
@@ -26,12 +26,10 @@ play_events-requires-clause-room g c =
 pub returns-in-Err-clause-unplayed : goal.returns-in-Err-clause-unplayed
 returns-in-Err-clause-unplayed g c =
     let script = script_view c.args.script in
-    let opens = c.in_ok-player.ensures.player in
-    let played = fibre_plays script.mask script.losses script.events c.in_ok-player.field-0.player c.play_events.new.player _ _ _ opens.losses
-    (rw (c.in_ok-player.ensures.mask, c.as_slice.ensures.value, c.in_ok-player.ensures.events) at c.in-Err.ensures.plays) in
+    let told = rw (c.in_ok-player.ensures.mask, c.as_slice.ensures.value, c.in_ok-player.ensures.events) at c.in-Err.ensures.tells in
     told_unplayed c.args.manner script _ _ _ c.in-Err.fault _ c.from.ensures
-    (events_unplayed c.args.manner script _ _ _ _ _ _ _ _ c.in-Err.fault _ (world_stands script opens.config c.in_ok-player.field-0.player.play c.requires.units opens.one_port opens.world opens.next)
-    (λ is. c.requires.units) played (subst (λ s. EndsPlay s c.end_play.new.sink (Err c.in-Err.fault) c.end_play.result) (search rules) c.end_play.ensures))
+    (events_unplayed c.args.manner script _ _ _ _ _ _ _ _ c.in-Err.fault _ (fibre_says c.args.manner.lights script c.in_ok-player.field-0.player c.requires.units c.in_ok-player.ensures.player)
+    (λ is. c.requires.units) told (subst (λ s. EndsPlay s c.end_play.new.sink (Err c.in-Err.fault) c.end_play.result) (search rules) c.end_play.ensures))
 
 pub drive_lines-player-requires-clause-room : goal.drive_lines-player-requires-clause-room
 drive_lines-player-requires-clause-room g c =
@@ -44,23 +42,23 @@ drive_lines-player-requires-clause-room g c =
 pub returns-clause-drives : goal.returns-clause-drives
 returns-clause-drives g c =
     let script = script_view c.args.script in
-    let written = rw (c.in_ok-player.ensures.mask, c.as_slice.ensures.value, c.in_ok-player.ensures.events) at c.in_default.ensures.plays.ok in
+    let written = rw (c.in_ok-player.ensures.mask, c.as_slice.ensures.value, c.in_ok-player.ensures.events) at c.in_default.ensures.tells.ok in
     let driven = rw (c.in_ok-player.ensures.mask) at c.drive_lines-player.ensures.serves in
     (drives_told c.args.manner script _ _ _ _ _
     (OnFibre c.requires.units c.in_ok-player.field-0.player c.in_ok-player.ensures.player (drives_to c.args.manner fibre_playing _ _ script.mask script.events _ _ _ _ _ _ written
-    (subst (λ s. ServesTurns c.args.manner fibre_playing c.play_events.new.player script.mask c.drive_lines-player.result.1 c.args.turns.now c.drive_lines-player.new.turns s c.drive_lines-player.new.sink)
+    (subst (λ s. ServesTurns c.args.manner fibre_playing c.tell_events.new.player script.mask c.drive_lines-player.result.1 c.args.turns.now c.drive_lines-player.new.turns s c.drive_lines-player.new.sink)
     (search rules) driven))))
 
 pub returns-clause-left : goal.returns-clause-left
 returns-clause-left g c =
     let script = script_view c.args.script in
-    let written = rw (c.in_ok-player.ensures.mask, c.as_slice.ensures.value, c.in_ok-player.ensures.events) at c.in_default.ensures.plays.ok in
+    let written = rw (c.in_ok-player.ensures.mask, c.as_slice.ensures.value, c.in_ok-player.ensures.events) at c.in_default.ensures.tells.ok in
     let left = rw (c.in_ok-player.ensures.mask) at c.drive_lines-player.ensures.left in
     record {
       start = c.in_ok-player.field-0.player;
       opens = c.in_ok-player.ensures.player;
       left = left_by c.args.manner fibre_playing _ _ script.mask script.events _ c.drive_lines-player.result.1 _ _ _ _ _ written
           (subst (λ s. IfOk c.drive_lines-player.result.1
-          (λ driven. LeavesServed c.args.manner fibre_playing c.play_events.new.player script.mask c.drive_lines-player.result.0 driven c.args.turns.now c.drive_lines-player.new.turns s c.drive_lines-player.new.sink))
+          (λ driven. LeavesServed c.args.manner fibre_playing c.tell_events.new.player script.mask c.drive_lines-player.result.0 driven c.args.turns.now c.drive_lines-player.new.turns s c.drive_lines-player.new.sink))
           (search rules) left);
     }

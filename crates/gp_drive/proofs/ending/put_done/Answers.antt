@@ -1,6 +1,5 @@
 use Rattle.std.proofs.Common.{codes}
-use Rattle.gp_replay.proofs.PlayLemmas.{hands_in}
-use Rattle.gp_drive.proofs.AnswerLemmas.{hands_more, hands_stopped}
+use Rattle.gp_replay.proofs.PlayLemmas.{hands_in, hands_more, hands_stopped}
 use Rattle.gp_drive.proofs.ending.put_done.Goals as goal
 
 pub returns-in_err-put_numbered : goal.returns-in_err-put_numbered

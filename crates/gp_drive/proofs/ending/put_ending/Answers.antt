@@ -1,5 +1,5 @@
+use Rattle.gp_replay.proofs.PlayLemmas.{hands_more, hands_stopped}
 use Rattle.gp_drive.specs.Drive.{done_if}
-use Rattle.gp_drive.proofs.AnswerLemmas.{hands_more, hands_stopped}
 use Rattle.gp_drive.proofs.ending.put_ending.Goals as goal
 
 pub returns-in_err-put_error_if : goal.returns-in_err-put_error_if

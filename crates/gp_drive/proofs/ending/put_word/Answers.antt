@@ -1,7 +1,6 @@
 use Rattle.std.proofs.Common.{◌∙◌, ◌++◌, codes}
-use Rattle.gp_replay.proofs.PlayLemmas.{hands_in}
+use Rattle.gp_replay.proofs.PlayLemmas.{hands_in, hands_more, hands_stopped}
 use Rattle.gp_drive.specs.Drive.{fault_word}
-use Rattle.gp_drive.proofs.AnswerLemmas.{hands_more, hands_stopped}
 use Rattle.gp_drive.proofs.ending.put_word.Goals as goal
 
 pub returns-in_err-put : goal.returns-in_err-put

@@ -1,6 +1,6 @@
 use Rattle.std.proofs.Common.{◌++◌, codes}
+use Rattle.gp_replay.proofs.PlayLemmas.{hands_more, hands_stopped}
 use Rattle.gp_drive.specs.Shown.{dark_if}
-use Rattle.gp_drive.proofs.AnswerLemmas.{hands_more, hands_stopped}
 use Rattle.gp_drive.proofs.shown.put_eqd.Goals as goal
 
 pub returns-in_err-put_number_if : goal.returns-in_err-put_number_if

@@ -1,6 +1,5 @@
 use Rattle.std.proofs.Common.{codes}
-use Rattle.gp_replay.proofs.PlayLemmas.{hands_in}
-use Rattle.gp_drive.proofs.AnswerLemmas.{hands_more, hands_stopped}
+use Rattle.gp_replay.proofs.PlayLemmas.{hands_in, hands_more, hands_stopped}
 use Rattle.gp_drive.proofs.shown.put_light.Goals as goal
 
 pub returns-in_err-put_dark_if : goal.returns-in_err-put_dark_if

@@ -1,5 +1,5 @@
+use Rattle.gp_replay.proofs.PlayLemmas.{hands_more, hands_stopped}
 use Rattle.gp_drive.specs.Shown.{status_end}
-use Rattle.gp_drive.proofs.AnswerLemmas.{hands_more, hands_stopped}
 use Rattle.gp_drive.proofs.shown.put_status.Goals as goal
 
 pub returns-in_err-put_state : goal.returns-in_err-put_state

@@ -1,7 +1,7 @@
 use Rattle.std.proofs.Common.{◌++◌, codes}
 use Rattle.gp_onu.specs.State.{state_name}
+use Rattle.gp_replay.proofs.PlayLemmas.{hands_more, hands_stopped}
 use Rattle.gp_drive.specs.Shown.{status_end}
-use Rattle.gp_drive.proofs.AnswerLemmas.{hands_more, hands_stopped}
 use Rattle.gp_drive.proofs.shown.put_unit.Goals as goal
 
 pub returns-in_err-put_numbered : goal.returns-in_err-put_numbered

@@ -1,4 +1,4 @@
-use Rattle.gp_drive.proofs.AnswerLemmas.{hands_nothing}
+use Rattle.gp_replay.proofs.PlayLemmas.{hands_nothing}
 use Rattle.gp_drive.proofs.shown.put_unit_if.Goals as goal
 
 pub returns-in-None : goal.returns-in-None

@@ -24,4 +24,4 @@ returns-in_ok-put_behind-in-Ok-clause-answers g c =
     let left : (c.self.inside.left - c.cost_of-cost.result) + cost_of c.args.asked ≡ c.self.inside.left = omega (arith, over, is) in
     let errors = ap (λ (n : ℕ). c.self.inside.errors + n) c.errors_of.ensures in
     rw (← c.self.view_is)
-    (played g.P.EventPlayer.playing c.args.asked c.in-Ok.told _ _ _ _ _ _ _ _ refl refl refl errors left c.in-Ok.ensures.plays (hands_from _ _ _ _ _ (search rules) c.in_ok-put_behind-in-Ok.ensures))
+    (played g.P.EventPlayer.playing c.args.asked c.in-Ok.told _ _ _ _ _ _ _ _ refl refl refl refl errors left c.in-Ok.ensures.plays (hands_from _ _ _ _ _ (search rules) c.in_ok-put_behind-in-Ok.ensures))
