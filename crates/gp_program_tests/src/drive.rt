@@ -194,16 +194,16 @@ fn what_a_unit_is(rt: HostRuntime) {
     assert!(rt; drives_and_tells(rt.alloc(), FIBRE, lines, expected, (3, 0)));
 }
 
-/// Tells whether this is written of a script and lines, so many of which are answered, so many of them by errors, where
-/// it is told that each is done.
-fn drives_and_tells(
+/// Tells whether this is written of a script and lines, so many of which are answered, so many of them by errors, in this
+/// manner.
+fn drives_in(
     alloc: Global,
+    manner: DriveManner,
     script: &str,
     lines: &[u8],
     expected: &str,
     (count, errors): (u64, u64),
 ) -> bool {
-    let manner = DriveManner { done: true };
     let all = Driven {
         lines: count,
         errors,
@@ -215,6 +215,50 @@ fn drives_and_tells(
     };
     let outcome = run_drive_in(alloc, manner, &mut script, &mut turns, &mut sink);
     outcome == Ok(all) && sink.into_inner().as_slice() == expected.as_bytes()
+}
+
+/// Tells the same, where it is told that each is done.
+fn drives_and_tells(
+    alloc: Global,
+    script: &str,
+    lines: &[u8],
+    expected: &str,
+    counts: (u64, u64),
+) -> bool {
+    let manner = DriveManner {
+        done: true,
+        lights: false,
+    };
+    drives_in(alloc, manner, script, lines, expected, counts)
+}
+
+/// Light of the script's own events, and light that lines ask for, also at a unit that has it already.
+#[test]
+fn lights_that_are_told(rt: HostRuntime) {
+    let manner = DriveManner {
+        done: true,
+        lights: true,
+    };
+    let script = "licences = 1\n[[port]]\n[[unit]]\nserial = \"ABCD00000001\"\ndelay = 0\n\
+        [[event]]\nunit = 0\nlight = false\n[[event]]\nport = 0\nframes = 1\n";
+    let lines = b"unit 0 light\nunit 0 light\n0 frame\nunit 0 dark\nunit 0 show\nunit 1 dark\n";
+    let expected = "unit 0 dark\n0 0 frame = ok\nunit 0 light\ndone 1\nunit 0 light\ndone 2\n\
+        0 1 frame = ok\ndone 3\nunit 0 dark\ndone 4\nunit 0 O1 dark\ndone 5\nerror 6 unit\ndone 6\n";
+    assert!(rt; drives_in(rt.alloc(), manner, script, lines, expected, (6, 1)));
+    let manner = DriveManner {
+        done: false,
+        lights: true,
+    };
+    assert!(rt;
+        drives_in(
+            rt.alloc(),
+            manner,
+            PORT,
+            b"0 search\n0 until search\n",
+            SEARCH,
+            (2, 0)
+        )
+    );
 }
 
 /// A search, and frames up to its window: the first four don't reach it, and the fifth is it.
@@ -274,7 +318,10 @@ fn a_script_that_was_read(rt: HostRuntime) -> Result<(), Fail> {
     for text in [PORT, FIBRE] {
         let script = read_script(rt.alloc(), text.as_bytes())?;
         let lines: &[u8] = b"0 search\n0 until search\n";
-        let manner = DriveManner { done: false };
+        let manner = DriveManner {
+            done: false,
+            lights: false,
+        };
         let mut turns = Source::endless(lines);
         let mut sink = Sink::new(rt.alloc(), Vec::new(rt.alloc()))?;
         let outcome = drive_script(rt.alloc(), manner, script, &mut turns, &mut sink);

@@ -1,5 +1,5 @@
 //! Replays of scripts: what is written, and how each ends where the script, memory, a read or a write fails.
-use gp_replay::{RunFault, play_script, run_replay};
+use gp_replay::{PlayFault, RunFault, play_script, run_replay, play_with_lights};
 use gp_script::{ScriptFault, read_script};
 use gp_stream::{Sink, Source};
 use std::alloc::{AllocError, Global};
@@ -109,6 +109,48 @@ const ONE_SIMULATED_UNIT_TRACE: &str = "\
 0 11 frame = ok grant range 0
 0 12 frame = ok
 0 13 burst 200000 0001414243440000000100006b = ranged 0 111040
+";
+
+/// Light goes, and comes twice, with frames between and behind.
+const LIGHTS: &str = r#"
+licences = 1
+[[port]]
+[[unit]]
+serial = "ABCD00000001"
+delay = 0
+[[unit]]
+serial = "ABCD00000002"
+delay = 0
+[[event]]
+unit = 1
+light = false
+[[event]]
+port = 0
+frames = 2
+[[event]]
+unit = 1
+light = true
+[[event]]
+unit = 0
+light = true
+[[event]]
+port = 0
+frames = 1
+[[event]]
+unit = 0
+light = false
+"#;
+
+const LIGHTS_TRACE: &str = "0 0 frame = ok\n0 1 frame = ok\n0 2 frame = ok\n";
+
+const LIGHTS_TOLD: &str = "\
+unit 1 dark
+0 0 frame = ok
+0 1 frame = ok
+unit 1 light
+unit 0 light
+0 2 frame = ok
+unit 0 dark
 ";
 
 /// A script in two pieces, how its replay ends, and what is written.
@@ -281,6 +323,47 @@ fn scripts_that_were_read(rt: HostRuntime) -> Result<(), Fail> {
         );
     }
     Ok(())
+}
+
+/// How the telling of a script ends, and what is told; nothing where there is no memory for the script or the sink.
+fn told(alloc: Global, text: &str) -> Option<(Result<(), PlayFault>, Vec<u8>)> {
+    let script = read_script(alloc, text.as_bytes()).ok()?;
+    let mut sink = Sink::new(alloc, Vec::new(alloc)).ok()?;
+    let outcome = play_with_lights(alloc, script, &mut sink);
+    Some((outcome, sink.into_inner()))
+}
+
+/// What is told of a script is its trace with a line for each light, and without simulated units its trace.
+#[test]
+fn scripts_that_are_told(rt: HostRuntime) -> Result<(), Fail> {
+    for (text, wanted) in [
+        (LIGHTS, LIGHTS_TOLD),
+        (ONE_UNIT, ONE_UNIT_TRACE),
+        (ONE_SIMULATED_UNIT, ONE_SIMULATED_UNIT_TRACE),
+    ] {
+        let is_so = match told(rt.alloc(), text) {
+            Some((outcome, said)) => outcome == Ok(()) && said.as_slice() == wanted.as_bytes(),
+            None => false,
+        };
+        assert!(rt; is_so, "{text}");
+    }
+    assert!(rt; ends_with(rt.alloc(), LIGHTS.as_bytes(), Ok(()), LIGHTS_TRACE)?);
+    Ok(())
+}
+
+/// Where memory is refused the lines that were told by then are written, each of them whole.
+#[test]
+fn lights_with_memory_short_or_ample(rt: HostRuntime) {
+    let Some((outcome, written)) = told(rt.alloc(), LIGHTS) else {
+        return;
+    };
+    if outcome == Err(PlayFault::OutOfMemory) {
+        assert!(rt; LIGHTS_TOLD.as_bytes().starts_with(&written));
+        assert!(rt; written.is_empty() || written.last() == Some(&b'\n'));
+        return;
+    }
+    assert!(rt; outcome == Ok(()));
+    assert!(rt; written.as_slice() == LIGHTS_TOLD.as_bytes());
 }
 
 /// With memory enough each of many frames has its line, to the last.

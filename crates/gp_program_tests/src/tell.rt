@@ -49,7 +49,7 @@ fn told(
 /// A trace, its form, whether its time is told, and what is told of it.
 type Row = (&'static str, Form, bool, &'static str);
 
-fn rows() -> [Row; 7] {
+fn rows() -> [Row; 9] {
     [
         ("", Form::Words, true, ""),
         (
@@ -85,6 +85,21 @@ fn rows() -> [Row; 7] {
             true,
             "error 3 word\ndone 3\nunit 0 O4 onu 0\n\nx sent ff03004142434400000001001b\n",
         ),
+        // light comes and goes at port 0's time, whatever other ports had
+        (
+            "unit 0 dark\n0 0 frame = ok\n1 0 frame = ok\n1 1 frame = ok\nunit 1023 light\nunit 7 dark\n",
+            Form::Plain,
+            true,
+            "[frame 0, 0.000 ms] unit 0 dark\n[frame 1, 0.125 ms] 0 0 frame = ok\n\
+             [frame 1, 0.125 ms] 1 0 frame = ok\n[frame 2, 0.250 ms] 1 1 frame = ok\n\
+             [frame 1, 0.125 ms] unit 1023 light\n[frame 1, 0.125 ms] unit 7 dark\n",
+        ),
+        (
+            "0 0 frame = ok\nunit 3 light\n",
+            Form::Words,
+            false,
+            "0 0 frame = ok\nunit 3 light\n",
+        ),
         // a millisecond has eight frames
         (
             "0 0 frame = ok\n0 1 frame = ok\n0 2 frame = ok\n0 3 frame = ok\n0 4 frame = ok\n0 5 frame = ok\n\
@@ -101,7 +116,7 @@ fn rows() -> [Row; 7] {
 }
 
 /// The same as JSON.
-fn objects() -> [Row; 13] {
+fn objects() -> [Row; 16] {
     [
         (
             "0 6 burst 100000 ff01414243440000000100002c = found 0\n",
@@ -196,6 +211,29 @@ fn objects() -> [Row; 13] {
             "{\"line\":\"unit 0\"}\n{\"line\":\"unit 00 O2\"}\n{\"line\":\"unit 0 O8\"}\n\
              {\"line\":\"unit 0 O2 light\"}\n{\"line\":\"unit 0 O5 eqd 1 onu 0\"}\n\
              {\"line\":\"unit 0 O4 onu x\"}\n{\"line\":\"unit 0 O2 dark \"}\n",
+        ),
+        // that light came or went
+        (
+            "0 0 frame = ok\nunit 0 light\nunit 1023 dark\n",
+            Form::Json,
+            true,
+            "{\"frames\":1,\"port\":0,\"number\":0,\"event\":\"frame\",\"reply\":\"ok\"}\n\
+             {\"frames\":1,\"unit\":0,\"light\":true}\n{\"frames\":1,\"unit\":1023,\"light\":false}\n",
+        ),
+        (
+            "unit 7 dark\nunit 7 light\n",
+            Form::Json,
+            false,
+            "{\"unit\":7,\"light\":false}\n{\"unit\":7,\"light\":true}\n",
+        ),
+        // what looks like it
+        (
+            "unit light\nunit 07 dark\nunit x light\nunits 7 dark\nunit 7 Dark\nunit 7 light \nunit 7 dark 1\n",
+            Form::Json,
+            true,
+            "{\"line\":\"unit light\"}\n{\"line\":\"unit 07 dark\"}\n{\"line\":\"unit x light\"}\n\
+             {\"line\":\"units 7 dark\"}\n{\"line\":\"unit 7 Dark\"}\n{\"line\":\"unit 7 light \"}\n\
+             {\"line\":\"unit 7 dark 1\"}\n",
         ),
         // what no trace spells so
         (

@@ -3,7 +3,7 @@
 //! Promise: what is written is the whole trace of a play of the script, and nothing else; each port's entries are a
 //! run (`run_replay`).
 //!
-//! - `replaying.rt`: `play_script`, from a script that was read to the bytes of its trace, `tell_script`, with the light
+//! - `replaying.rt`: `play_script`, from a script that was read to the bytes of its trace, `play_with_lights`, with the light
 //!   that comes and goes at simulated units between, and `run_replay`, from the bytes of a script.
 //! - `opening.rt`: `open_chassis` and `open_fibre`, which take a script apart and open what its events are played on.
 //! - `event_player.rt`: `EventPlayer`, what events are played on, and `play_events`, which plays the events of a script
@@ -50,7 +50,7 @@ pub use line_buffer::LineBuffer;
 pub use opening::{Opened, open_chassis, open_fibre};
 pub use play_end::end_play;
 pub use player::Player;
-pub use replaying::{play_script, run_replay, tell_script};
+pub use replaying::{play_script, play_with_lights, run_replay};
 pub use told::Told;
 pub use trace_out::TraceOut;
 pub use turn::Turn;

@@ -121,19 +121,14 @@ pub fn play_script<W: Write>(
     requires { IsPlayable (script_view script) }
     ensures { PlaysScript (script_view script) sink.old sink.new result }
 {
-    play_on::<Brand, W>(
-        alloc,
-        Blank::new(u64::from(MAX_LICENCES)),
-        script,
-        false,
-        sink,
-    )
+    let blank = Blank::new(u64::from(MAX_LICENCES));
+    play_on::<Brand, W>(alloc, blank, script, false, sink)
 }
 
 /// Plays a script that was read, and writes its trace as `play_script` does, with a line of its own, `unit I light` or
 /// `unit I dark`, for each event with which light comes or goes at a simulated unit, in its place. These lines are no
 /// lines of the trace, and take no memory.
-pub fn tell_script<W: Write>(
+pub fn play_with_lights<W: Write>(
     alloc: Global,
     script: Script,
     sink: &mut Sink<W>,
@@ -141,13 +136,8 @@ pub fn tell_script<W: Write>(
     requires { IsPlayable (script_view script) }
     ensures { TellsScript true (script_view script) sink.old sink.new result }
 {
-    play_on::<Brand, W>(
-        alloc,
-        Blank::new(u64::from(MAX_LICENCES)),
-        script,
-        true,
-        sink,
-    )
+    let blank = Blank::new(u64::from(MAX_LICENCES));
+    play_on::<Brand, W>(alloc, blank, script, true, sink)
 }
 
 /// Reads a script to the end of the source, and plays it as `play_script` does. Memory for the script is taken before
