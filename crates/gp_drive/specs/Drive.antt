@@ -87,7 +87,8 @@ pub record Refuses {S : Type 0} (fault : TurnFault) (old : DriveState S) (said :
   pub new_is : new ≡ record old { lines = old.lines + 1; errors = old.errors + 1 }
 
 -- what the line asks for is played, and the lines of its entries are the answer; behind them what is told of the unit
--- that it asks to be shown, or of the light that it brings or takes, or an error where the grant that was asked for is made in none of its frames
+-- that it asks to be shown, or of the light that it brings or takes, or an error where the grant that was asked for is
+-- made in none of its frames
 pub record Plays {S : Type 0} (playing : Playing S) (turn : Asked) (fault : Option TurnFault) (old : DriveState S)
     (said : List ℕ) (new : DriveState S) : Type 0 where
   pub receipts : List Receipt

@@ -342,21 +342,7 @@ fibre_some (e ∷ es) a b rs (inr h) =
       losses = rest.losses ∙ same;
     }
 
--- ---- the events of a script, as what each of the two plays
-
-pub chassis_plays : {W A : Type 0} (mask : Mask) (es : List ScriptEvent) (a b : PlayState) (x y : SinkState W) (r : Result A PlayFault)
-    → PlaysOn mask (PlaysAll chassis_playing es) (PlaysSome chassis_playing es) a b x y r
-    → PlaysOn mask (TakesAllTurns (all_turns es)) (TakesSomeTurns (all_turns es)) a b x y r
-chassis_plays mask es a b x y r p =
-    plays_as mask _ _ _ _ a b a b x y r (λ rs h. chassis_all es a b rs h) (λ rs end h. (end, chassis_some es a end rs h)) p
-
-pub fibre_plays : {W A : Type 0} (mask : Mask) (losses : LossesView) (es : List ScriptEvent) (a b : LossyPlay) (x y : SinkState W) (r : Result A PlayFault)
-    → a.losses ≡ losses → PlaysOn mask (PlaysAll fibre_playing es) (PlaysSome fibre_playing es) a b x y r
-    → PlaysOn mask (Numbered (WorldTakesAll losses es)) (Numbered (WorldTakesPrefix losses es)) a.play b.play x y r
-fibre_plays mask losses es a b x y r same p =
-    plays_as mask _ _ _ _ a b a.play b.play x y r
-    (λ rs h. subst (λ (l : LossesView). Numbered (WorldTakesAll l es) a.play rs b.play) same (fibre_all es a b rs h).happened)
-    (λ rs end h. (end.play, subst (λ (l : LossesView). Numbered (WorldTakesPrefix l es) a.play rs end.play) same (fibre_some es a end rs h).happened)) p
+-- ---- room on a fibre
 
 -- on a fibre that has just begun no frame was made and no entry has a number
 pub opening_fibre_room : (count : ℕ) (script : ScriptView) (config : PortConfig) (play : FibrePlay) → length script.units ≤ 1024 → count ≤ 2 ^ 52 + 2 ^ 51

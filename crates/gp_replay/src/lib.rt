@@ -3,8 +3,8 @@
 //! Promise: what is written is the whole trace of a play of the script, and nothing else; each port's entries are a
 //! run (`run_replay`).
 //!
-//! - `replaying.rt`: `play_script`, from a script that was read to the bytes of its trace, `play_with_lights`, with the light
-//!   that comes and goes at simulated units between, and `run_replay`, from the bytes of a script.
+//! - `replaying.rt`: `play_script`, from a script that was read to the bytes of its trace, `play_with_lights`, with the
+//!   light that comes and goes at simulated units between, and `run_replay`, from the bytes of a script.
 //! - `opening.rt`: `open_chassis` and `open_fibre`, which take a script apart and open what its events are played on.
 //! - `event_player.rt`: `EventPlayer`, what events are played on, and `play_events`, which plays the events of a script
 //!   on it; `lights.rt`: `tell_events`, which also tells when light comes or goes; `play_end.rt`: the end of a play.
@@ -18,8 +18,8 @@
 //!
 //! Where to make which change: what playing means stands in `specs/ScriptPlay.antt`, by `specs/Play.antt` on a
 //! chassis and by `specs/WorldPlay.antt` on a fibre, and what the two have in common in `specs/Playing.antt`; what is
-//! written of it in `specs/Writing.antt`, `specs/WorldWriting.antt` and, of light, `specs/Lights.antt`, and how a replay may end in
-//! `specs/Outcome.antt`. A new form of event is a case of `turns_of` and `WorldTakes` there, and of `play_event` and
+//! written of it in `specs/Writing.antt`, `specs/WorldWriting.antt` and, of light, `specs/Lights.antt`, and how a
+//! replay may end in `specs/Outcome.antt`. A new form of event is a case of `turns_of` and `WorldTakes` there, and of `play_event` and
 //! `play_world_event` here.
 #![tactic(auto)]
 

@@ -53,8 +53,8 @@ fn play_on_chassis<L: Ledger, W: Write>(
 }
 
 /// Plays a script with simulated units on a fibre of its own, whose ledger is the blank, and tells it, with the light
-/// that comes and goes where that is wanted. Entries are written as they come, a few frames' at a time, so memory for them stays small however long the trace is; the script's limit of
-/// journals means nothing here.
+/// that comes and goes where that is wanted. Entries are written as they come, a few frames' at a time, so memory for
+/// them stays small however long the trace is; the script's limit of journals means nothing here.
 fn play_on_fibre<L: Ledger, W: Write>(
     alloc: Global,
     blank: Blank,

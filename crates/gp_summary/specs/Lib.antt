@@ -2,3 +2,4 @@ pub mod Standing
 pub mod Text
 pub mod Counted
 pub mod Summary
+pub mod Told

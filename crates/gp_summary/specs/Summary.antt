@@ -8,14 +8,11 @@ use Rattle.gp_machine.specs.declared.entry.Receipt.{Receipt}
 use Rattle.gp_machine.specs.State.{PortState}
 use Rattle.gp_stream.specs.Sink.{SinkState}
 use Rattle.gp_trace.specs.Text.{trace_text}
-use Rattle.gp_script.specs.declared.script.ScriptEvent.{ScriptEvent}
 use Rattle.gp_script.specs.Script.{ScriptView}
 use Rattle.gp_replay.specs.declared.fault.PlayFault.{PlayFault}
-use Rattle.gp_replay.specs.declared.fault.PlayFault.TheVariants as faults
-use Rattle.gp_replay.specs.Playing.{Playing, PlaysAll, PlaysSome}
 use Rattle.gp_replay.specs.Runs.{PortsRun}
 use Rattle.gp_replay.specs.ScriptPlay.{Plays, ByChassis, ByFibre, ends_of}
-use Rattle.gp_replay.specs.Writing.{EndsPlay, PlaysOn, PlaysScript}
+use Rattle.gp_replay.specs.Writing.{PlaysScript}
 use Rattle.gp_tally.specs.Counting.{CountingState}
 use Rattle.gp_tally.specs.Entries.{AreCountsOf, IsWithinLimits}
 use Rattle.gp_tally.specs.Tally.{PortTally}
@@ -47,16 +44,6 @@ pub record IsSummaryOf {W : Type 0} (form : SummaryForm) (script : ScriptView) (
   pub says : SaysCounted form script.mask after.writer.counter.taken (ends_of script receipts plays)
       (length script.ports) (free_after script receipts plays) script.licences text
   pub entries : All IsWithinLimits receipts → AreCountsOf script.mask receipts says.tallies
-
--- events are played on a player, and what it has handed in of its lines is written out; where that ends early is told
--- Inside: no public contract cites this.
-pub record PlaysToEnd {S W : Type 0} (playing : Playing S) (mask : Mask) (events : List ScriptEvent) (old new : S)
-    (before after : SinkState W) (answer : Result (Unit {0}) PlayFault) : Type 0 where
-  pub played : Result (Unit {0}) PlayFault
-  pub mid : SinkState W
-  pub plays : PlaysOn mask (PlaysAll playing events) (PlaysSome playing events) old new before mid played
-  pub ends : EndsPlay mid after played answer
-  pub memory : played ≡ Err faults.OutOfMemory → playing.refuses
 
 -- nothing was handed to the sink, nor to the writer below
 abbrev pub IsFresh : {W : Type 0} → SinkState W → Type 0

@@ -7,8 +7,9 @@
 //! - `form.rt`: `SummaryForm`, text or JSON. `pieces.rt`: numbers behind their names, and counts by a name each.
 //! - `standing.rt`: how a unit stands. `port.rt`, `unit.rt`: the line of a port and of a unit. `lines.rt`: a port with
 //!   its units, and the licences. `ports.rt`: the ports that a script was played on.
-//! - `playing.rt`: `play_summed`, a script that is played and summed. `counted.rt`: what was counted alone, of a trace
-//!   whose ports nobody knows (`counted_summary`).
+//! - `playing.rt`: `play_summed`, a script that is played and summed, and `sum_with_lights`, with the light that comes and
+//!   goes between the lines of its trace. `counted.rt`: what was counted alone, of a trace whose ports nobody knows
+//!   (`counted_summary`).
 //!
 //! Where to make which change: what a line says stands in `specs/Text.antt`, of counts alone in `specs/Counted.antt`;
 //! what is counted, in `gp_tally`.
@@ -27,5 +28,5 @@ mod unit;
 pub use counted::counted_summary;
 pub use form::SummaryForm;
 pub use lines::{push_licences, push_port};
-pub use playing::{Ended, Summed, play_summed};
+pub use playing::{Ended, Summed, play_summed, sum_with_lights};
 pub use ports::{chassis_summary, fibre_summary};

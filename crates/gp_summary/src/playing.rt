@@ -1,9 +1,10 @@
 //! A script that is played while the lines of its trace are counted, and its summary.
-ghost use Rattle.std.specs.Prelude.{◌≡◌, ◌<◌, ◌*◌, ◌^◌, [], All, IfOk, length};
+ghost use Rattle.std.specs.Prelude.{◌≡◌, ◌<◌, ◌*◌, ◌^◌, [], All, IfOk, length, true};
 ghost use Rattle.gp_script.specs.Playable.{IsPlayable};
 ghost use Rattle.gp_script.specs.View.{NamesOneOf, script_view};
 ghost use Rattle.gp_replay.specs.Playing.{HasRoomFor};
-ghost use Rattle.gp_summary.specs.Summary.{IsFresh, PlaysSummed, PlaysToEnd};
+ghost use Rattle.gp_summary.specs.Summary.{IsFresh, PlaysSummed};
+ghost use Rattle.gp_summary.specs.Told.{TellsSummed, TellsToEnd};
 
 use crate::form::SummaryForm;
 use crate::ports::{chassis_summary, fibre_summary};
@@ -11,7 +12,7 @@ use gp_licence::MAX_LICENCES;
 use gp_ploam::Mask;
 use gp_replay::{
     EventPlayer, LineBuffer, Opened, PlayFault, TraceOut, each_port_runs, end_play, open_chassis,
-    open_fibre, play_events,
+    open_fibre, tell_events,
 };
 use gp_script::{Script, ScriptEvent};
 use gp_stream::Sink;
@@ -40,21 +41,22 @@ pub struct Summed<B: Began, W: Write> {
     pub counting: Counting<B, W>,
 }
 
-/// Plays events on a player to their end, and writes out the lines of what it does.
-fn play_to_end<P: EventPlayer, W: Write>(
+/// Tells events on a player to their end, with their lights where that is wanted, and writes out what is told.
+fn tell_to_end<P: EventPlayer, W: Write>(
     player: &mut P,
     sink: &mut Sink<W>,
     buffer: &mut LineBuffer,
     mask: Mask,
     events: &[ScriptEvent],
+    lights: bool,
 ) -> Result<(), PlayFault>
     requires named { All (NamesOneOf (P.playing.ports player.old) (P.playing.units player.old)) events.now }
     requires room { HasRoomFor P.playing (length events.now * 2 ^ 32) player.old }
-    ensures { PlaysToEnd P.playing mask events.now player.old player.new sink.old sink.new result }
+    ensures { TellsToEnd lights P.playing mask events.now player.old player.new sink.old sink.new result }
 {
     let mut out = TraceOut { sink, buffer, mask };
-    let played = play_events(player, &mut out, events);
-    end_play(out.sink, played)
+    let told = tell_events(player, &mut out, events, lights);
+    end_play(out.sink, told)
 }
 
 /// Plays a script without simulated units on a chassis of its own, whose ledger is the blank.
@@ -63,6 +65,7 @@ fn sum_on_chassis<B: Began, L: Ledger, W: Write + Drop>(
     blank: Blank,
     script: Script,
     form: SummaryForm,
+    lights: bool,
     sink: Sink<Counting<B, W>>,
 ) -> Result<Summed<B, W>, AllocError>
     requires name { blank.name ≡ L.name }
@@ -73,7 +76,7 @@ fn sum_on_chassis<B: Began, L: Ledger, W: Write + Drop>(
     requires ports { B.ports ≡ length script.ports.items }
     requires fresh { IsFresh sink }
     ensures { IfOk result (λ summed.
-        PlaysSummed form (script_view script) summed.counting summed.ended.played summed.ended.summary) }
+        TellsSummed lights form (script_view script) summed.counting summed.ended.played summed.ended.summary) }
 {
     each_port_runs();
     let mut sink = sink;
@@ -84,7 +87,14 @@ fn sum_on_chassis<B: Began, L: Ledger, W: Write + Drop>(
         mask,
         events,
     } = open_chassis::<L>(alloc, blank, script)?;
-    let played = play_to_end(&mut player, &mut sink, &mut buffer, mask, events.as_slice());
+    let played = tell_to_end(
+        &mut player,
+        &mut sink,
+        &mut buffer,
+        mask,
+        events.as_slice(),
+        lights,
+    );
     let counting = sink.into_inner();
     let summary = chassis_summary(alloc, form, &player, counting.counter(), licences);
     player.close();
@@ -100,6 +110,7 @@ fn sum_on_fibre<B: Began, L: Ledger, W: Write + Drop>(
     blank: Blank,
     script: Script,
     form: SummaryForm,
+    lights: bool,
     sink: Sink<Counting<B, W>>,
 ) -> Result<Summed<B, W>, AllocError>
     requires name { blank.name ≡ L.name }
@@ -110,7 +121,7 @@ fn sum_on_fibre<B: Began, L: Ledger, W: Write + Drop>(
     requires ports { B.ports ≡ length script.ports.items }
     requires fresh { IsFresh sink }
     ensures { IfOk result (λ summed.
-        PlaysSummed form (script_view script) summed.counting summed.ended.played summed.ended.summary) }
+        TellsSummed lights form (script_view script) summed.counting summed.ended.played summed.ended.summary) }
 {
     let mut sink = sink;
     let licences = script.licences;
@@ -120,7 +131,14 @@ fn sum_on_fibre<B: Began, L: Ledger, W: Write + Drop>(
         mask,
         events,
     } = open_fibre::<L>(alloc, blank, script)?;
-    let played = play_to_end(&mut player, &mut sink, &mut buffer, mask, events.as_slice());
+    let played = tell_to_end(
+        &mut player,
+        &mut sink,
+        &mut buffer,
+        mask,
+        events.as_slice(),
+        lights,
+    );
     let counting = sink.into_inner();
     let summary = fibre_summary(alloc, form, &player, counting.counter(), licences);
     player.close();
@@ -137,6 +155,7 @@ fn sum_on<B: Began, L: Ledger, W: Write + Drop>(
     blank: Blank,
     script: Script,
     form: SummaryForm,
+    lights: bool,
     sink: Sink<Counting<B, W>>,
 ) -> Result<Summed<B, W>, AllocError>
     requires name { blank.name ≡ L.name }
@@ -146,12 +165,12 @@ fn sum_on<B: Began, L: Ledger, W: Write + Drop>(
     requires ports { B.ports ≡ length script.ports.items }
     requires fresh { IsFresh sink }
     ensures { IfOk result (λ summed.
-        PlaysSummed form (script_view script) summed.counting summed.ended.played summed.ended.summary) }
+        TellsSummed lights form (script_view script) summed.counting summed.ended.played summed.ended.summary) }
 {
     if script.units.is_empty() {
-        sum_on_chassis::<B, L, W>(alloc, blank, script, form, sink)
+        sum_on_chassis::<B, L, W>(alloc, blank, script, form, lights, sink)
     } else {
-        sum_on_fibre::<B, L, W>(alloc, blank, script, form, sink)
+        sum_on_fibre::<B, L, W>(alloc, blank, script, form, lights, sink)
     }
 }
 
@@ -178,5 +197,26 @@ pub fn play_summed<B: Began, W: Write + Drop>(
     let counter = Counter::new(alloc, script.mask, script.ports.len())?;
     let sink = Sink::new(alloc, Counting::<B, W>::new(counter, writer))?;
     let blank = Blank::new(u64::from(MAX_LICENCES));
-    sum_on::<B, Brand, W>(alloc, blank, script, form, sink)
+    sum_on::<B, Brand, W>(alloc, blank, script, form, false, sink)
+}
+
+/// Plays a script and sums it as `play_summed` does, and writes its trace with a line of its own for each event with which
+/// light comes or goes at a simulated unit, as `gp_replay::play_with_lights` does. Of these lines nothing is counted.
+pub fn sum_with_lights<B: Began, W: Write + Drop>(
+    alloc: Global,
+    script: Script,
+    form: SummaryForm,
+    writer: W,
+) -> Result<Summed<B, W>, AllocError>
+    requires playable { IsPlayable (script_view script) }
+    requires held { W.contents writer ≡ B.held }
+    requires mask { B.mask ≡ script.mask }
+    requires ports { B.ports ≡ length script.ports.items }
+    ensures { IfOk result (λ summed.
+        TellsSummed true form (script_view script) summed.counting summed.ended.played summed.ended.summary) }
+{
+    let counter = Counter::new(alloc, script.mask, script.ports.len())?;
+    let sink = Sink::new(alloc, Counting::<B, W>::new(counter, writer))?;
+    let blank = Blank::new(u64::from(MAX_LICENCES));
+    sum_on::<B, Brand, W>(alloc, blank, script, form, true, sink)
 }

@@ -659,7 +659,10 @@ fn serve<R: AllocGlobal + Files + Print + Eprint + Input + Clock + Threads + Wai
             done,
             units,
         } => {
-            let manner = DriveManner { done };
+            let manner = DriveManner {
+                done,
+                lights: !is_plain(told),
+            };
             let wanted = DriveWanted {
                 told,
                 manner,

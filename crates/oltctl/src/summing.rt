@@ -9,7 +9,7 @@ use gp_explain::{Form, Telling};
 use gp_replay::PlayFault;
 use gp_script::Script;
 use gp_stream::Sink;
-use gp_summary::{Ended, SummaryForm, Summed, play_summed};
+use gp_summary::{Ended, SummaryForm, Summed, play_summed, sum_with_lights};
 use gp_tally::Began;
 use gp_tell::{Began as TellingBegan, TellFault, Teller};
 use std::alloc::Global;
@@ -67,7 +67,8 @@ fn play_by<B: Began, T: TellingBegan, W: Write + Drop>(
     requires below { W.contents writer ≡ T.held }
 {
     let teller = Teller::<T, W>::new(alloc, telling, writer)?;
-    let Summed { ended, counting } = play_summed::<B, Teller<T, W>>(alloc, script, form, teller)?;
+    let Summed { ended, counting } =
+        sum_with_lights::<B, Teller<T, W>>(alloc, script, form, teller)?;
     let (teller, _) = counting.into_parts();
     if let Some(TellFault::OutOfMemory) = teller.fault() {
         return Err(PlayFault::OutOfMemory);

@@ -9,7 +9,7 @@ use gp_command_line::{Play, Told};
 use gp_drive::{DriveFault, DriveManner, Driven, drive_script};
 use gp_explain::{Form, Telling};
 use gp_flow::{LineFault, LinesFault};
-use gp_replay::{PlayFault, play_script};
+use gp_replay::{PlayFault, play_script, play_with_lights};
 use gp_script::{Script, ScriptEvent, read_script};
 use gp_stream::{Sink, Source, read_all};
 use gp_tally::Nowhere;
@@ -84,7 +84,7 @@ fn play_by<B: Began, W: Write + Drop>(
 {
     let teller = Teller::<B, W>::new(alloc, telling, writer)?;
     let mut sink = Sink::new(alloc, teller)?;
-    let played = play_script(alloc, script, &mut sink);
+    let played = play_with_lights(alloc, script, &mut sink);
     ended(sink.into_inner().fault(), played)
 }
 

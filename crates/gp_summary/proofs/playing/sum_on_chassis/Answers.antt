@@ -1,23 +1,21 @@
 use Rattle.std.proofs.Common.{◌≡◌, ◌<◌, ◌≤◌, ◌*◌, ◌^◌, ◌∙◌, ℕ, List, Some, IfOk, ap, arith, length, subst, sym}
 use Rattle.gp_script.specs.View.{script_view}
 use Rattle.gp_replay.specs.Chassis.{opening_play}
-use Rattle.gp_replay.specs.Play.{TakesAllTurns, TakesSomeTurns, all_turns}
-use Rattle.gp_replay.specs.Playing.{PlaysAll, PlaysSome, chassis_playing}
-use Rattle.gp_replay.specs.Writing.{PlaysOn}
-use Rattle.gp_replay.proofs.PlayingLemmas.{chassis_plays}
+use Rattle.gp_replay.specs.Lights.{TellsAll, TellsOn, TellsSome}
+use Rattle.gp_replay.specs.Playing.{chassis_playing}
 use Rattle.gp_replay.proofs.RoomLemmas.{opening_room}
-use Rattle.gp_replay.proofs.ScriptPlayLemmas.{chassis_stands, play_ends}
+use Rattle.gp_replay.proofs.ToldLemmas.{chassis_says, tell_ends}
 use Rattle.gp_summary.specs.Summary.{SaysCounted}
-use Rattle.gp_summary.proofs.Sums.{chassis_leaves, chassis_names, summary_answered}
+use Rattle.gp_summary.proofs.Sums.{chassis_leaves_said, chassis_names, summary_answered}
 use Rattle.gp_summary.proofs.playing.sum_on_chassis.Goals as goal
 
-pub play_to_end-played-requires-clause-named : goal.play_to_end-played-requires-clause-named
-play_to_end-played-requires-clause-named g c =
+pub tell_to_end-played-requires-clause-named : goal.tell_to_end-played-requires-clause-named
+tell_to_end-played-requires-clause-named g c =
     rw (c.in_ok-player.ensures.player, c.as_slice.ensures.value, c.in_ok-player.ensures.events)
     (chassis_names (script_view c.args.script) c.requires.no_units c.requires.playable.events)
 
-pub play_to_end-played-requires-clause-room : goal.play_to_end-played-requires-clause-room
-play_to_end-played-requires-clause-room g c =
+pub tell_to_end-played-requires-clause-room : goal.tell_to_end-played-requires-clause-room
+tell_to_end-played-requires-clause-room g c =
     let few : length c.args.script.events.items ≤ 1048576 = c.requires.playable.few_events in
     let many = length c.args.script.events.items * 2 ^ 32 in
     let within : many < 2 ^ 64 = omega (arith, few) in
@@ -29,16 +27,18 @@ returns g c =
     let script = script_view c.args.script in
     let runs = c.each_port_runs.ensures in
     let none = c.requires.no_units in
-    let done = c.play_to_end-played.ensures in
+    let done = c.tell_to_end-played.ensures in
     let start = opening_play script in
-    let end = c.play_to_end-played.new.player in
+    let end = c.tell_to_end-played.new.player in
     let x = c.args.sink in
     let y = done.mid in
-    let z = c.play_to_end-played.new.sink in
-    let answer = c.play_to_end-played.result in
-    let played : PlaysOn script.mask (PlaysAll chassis_playing script.events) (PlaysSome chassis_playing script.events) start end x y done.played =
-    rw (c.in_ok-player.ensures.player, c.in_ok-player.ensures.mask, c.as_slice.ensures.value, c.in_ok-player.ensures.events) at done.plays in
-    let turns = chassis_plays script.mask script.events start end x y done.played played in
+    let z = c.tell_to_end-played.new.sink in
+    let answer = c.tell_to_end-played.result in
+    let lights = c.args.lights in
+    let whole = TellsAll lights script.mask chassis_playing script.events in
+    let part = TellsSome lights script.mask chassis_playing script.events in
+    let told : TellsOn whole part start end x y done.told =
+    rw (c.in_ok-player.ensures.player, c.in_ok-player.ensures.mask, c.as_slice.ensures.value, c.in_ok-player.ensures.events) at done.tells in
     let held : z.held ≡ Some z.writer.counter.taken =
     sym c.into_inner-counting.ensures.held ∙ ap (λ w. Some w.counter.taken) c.into_inner-counting.ensures.writer in
     let counter = c.counter.ensures.counter ∙ ap (λ w. w.counter) c.into_inner-counting.ensures.writer in
@@ -49,11 +49,10 @@ returns g c =
       after = z;
       fresh = c.requires.fresh;
       summed = record {
-        plays = play_ends script (TakesAllTurns (all_turns script.events)) (TakesSomeTurns (all_turns script.events)) start end x y z done.played answer
-            (chassis_stands runs script none) (λ is. absurd (done.memory is)) turns done.ends;
-        tells = λ ok. summary_answered c.args.form script (TakesAllTurns (all_turns script.events)) (TakesSomeTurns (all_turns script.events)) start end
-            (λ p. p.world.ports) (λ p. p.world.free) x y z done.played answer c.chassis_summary-summary.result c.counter.result.now.mask (length c.counter.result.now.ports)
-            (chassis_leaves runs script none) c.requires.fresh turns done.ends (c.counter.ensures.mask ∙ c.requires.mask) (c.counter.ensures.ports ∙ c.requires.ports) held says ok;
+        tells = tell_ends lights script whole part start end x y z done.told answer (chassis_says runs lights script none) (λ is. absurd (done.memory is)) told done.ends;
+        sums = λ ok. summary_answered lights c.args.form script whole part start end
+            (λ p. p.world.ports) (λ p. p.world.free) x y z done.told answer c.chassis_summary-summary.result c.counter.result.now.mask (length c.counter.result.now.ports)
+            (chassis_leaves_said runs lights script none) c.requires.fresh told done.ends (c.counter.ensures.mask ∙ c.requires.mask) (c.counter.ensures.ports ∙ c.requires.ports) held says ok;
       };
       writer = c.into_inner-counting.ensures.writer;
       held = held;
