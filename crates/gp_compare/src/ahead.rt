@@ -15,7 +15,7 @@ const BLOCK_BYTES: usize = 65_536;
 
 /// A source of which a block is read ahead. Contracts see the source, and the octets that were read and are not passed.
 #[derive(Drop)]
-pub struct Ahead<R: Read> {
+pub(crate) struct Ahead<R: Read> {
     source: Source<R>,
     block: Vec<u8>,
     from: usize,

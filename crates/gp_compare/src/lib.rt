@@ -27,12 +27,9 @@ mod step;
 mod taken;
 mod texts;
 
-pub use ahead::Ahead;
 pub use comparer::Comparer;
 pub use difference::Difference;
 pub use expects::Expects;
 pub use fault::CompareFault;
-pub use place::Place;
 pub use shown::{LineEnd, MAX_SHOWN, ShownLine};
-pub use taken::Taken;
 pub use texts::compare_text;

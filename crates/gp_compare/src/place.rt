@@ -13,7 +13,7 @@ const LINE_FEED: u8 = b'\n';
 /// A place in a text behind octets that were passed: which line it is in, how many octets of it were passed, and the
 /// first [`MAX_SHOWN`] of them. Counts go no further than 64 bits hold.
 #[derive(Drop)]
-pub struct Place {
+pub(crate) struct Place {
     feeds: u64,
     octets: u64,
     shown: Vec<u8>,

@@ -6,7 +6,7 @@ use std::marker::{Model, PhantomData};
 
 /// All octets that a writer took, one after another. Only clauses read them, as `octets`.
 #[derive(Drop)]
-pub struct Taken {
+pub(crate) struct Taken {
     of: PhantomData<u8>,
     pub ghost octets: { List ℕ },
 }

@@ -29,7 +29,5 @@ pub use junit::{push_suite, push_suites_begin, push_suites_end};
 pub use line::verdict_line;
 pub use object::verdict_object;
 pub use outcome::{Failure, Outcome};
-pub use playing::{Compared, compare_play};
 pub use tally::Tally;
 pub use verdict::{Verdict, path_of};
-pub use words::why;

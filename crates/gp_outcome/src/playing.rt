@@ -14,7 +14,7 @@ use std::marker::Brand;
 
 /// How the trace of a play compares with what is expected.
 #[derive(Debug, Drop)]
-pub enum Compared {
+pub(crate) enum Compared {
     /// It is the same, to the last octet, and has so many lines.
     Same { lines: u64 },
     /// It isn't, from there on.
@@ -66,7 +66,7 @@ fn compare_by<E: Expects, R: Read + Drop>(
 /// Behind the first line that differs nothing more is played.
 ///
 /// Fails where memory is refused or the source can't be read to its end.
-pub fn compare_play<R: Read + Drop>(
+pub(crate) fn compare_play<R: Read + Drop>(
     alloc: Global,
     script: Script,
     expected: Source<R>,

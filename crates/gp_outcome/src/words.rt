@@ -137,7 +137,7 @@ fn push_why(out: &mut Vec<u8>, failure: &Failure) -> Result<(), AllocError>
 
 /// Tells why something did not pass, in words, without a line feed: the first line that differs, where one does. Fails
 /// where memory was refused.
-pub fn why(alloc: Global, failure: &Failure) -> Result<Vec<u8>, AllocError>
+pub(crate) fn why(alloc: Global, failure: &Failure) -> Result<Vec<u8>, AllocError>
     ensures { IfOk result (λ text. text.items ≡ spec.why_text failure.now) }
 {
     let mut out = Vec::new(alloc);
