@@ -32,7 +32,7 @@ extern "C" {
 /* The version of the library, as `oltctl --version` has it: CHANGELOG.md says what came with which. */
 #define WP_VERSION "1.3.0"
 #define WP_VERSION_MAJOR 1
-#define WP_VERSION_MINOR 2
+#define WP_VERSION_MINOR 3
 #define WP_VERSION_PATCH 0
 
 /* What a call answers. */
