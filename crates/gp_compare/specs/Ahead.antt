@@ -1,4 +1,5 @@
 -- A source of which a block is read ahead (this profile's own rule).
+-- Inside: no public contract cites this.
 use Rattle.std.specs.Prelude.{◌≡◌, ◌⊎◌, ℕ, List, [], ◌++◌, false, true, Result, OnOk}
 use Rattle.std.specs.Io.KnownBytes.{Consumes, IsAtEnd}
 use Rattle.gp_stream.specs.Source.{SourceState}
