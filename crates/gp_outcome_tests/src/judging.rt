@@ -112,6 +112,28 @@ fn what_fails_has_a_line(rt: HostRuntime) -> Result<(), Fail> {
     Ok(())
 }
 
+/// Where a request for memory is refused, a script is not judged or not told of; else it is as with ample memory.
+#[test]
+fn memory_short_or_ample(rt: HostRuntime) {
+    let alloc = rt.alloc();
+    for case in &CASES {
+        let Ok(outcome) = judge(alloc, case.script.as_bytes(), expected_of(case)) else {
+            return;
+        };
+        let Ok(verdict) = verdict_of(alloc, "x.toml", outcome) else {
+            return;
+        };
+        let Ok(line) = verdict_line(alloc, &verdict) else {
+            return;
+        };
+        let told = match &line {
+            Some(line) => std::str::from_utf8(line.as_slice()).unwrap_or("no text"),
+            None => "",
+        };
+        assert_eq!(rt; told, case.told);
+    }
+}
+
 /// Judges a script by a trace.
 fn judged(alloc: Global, trace: &'static str) -> Result<Outcome, AllocError> {
     judge(

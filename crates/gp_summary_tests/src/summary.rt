@@ -66,6 +66,11 @@ serial = "ABCD00000001"
 /// How many lines its trace has: a command, thirteen frames and two bursts.
 const LINES: usize = 16;
 
+/// What is told of it.
+const TOLD: &str = "port 0: units 1, standby, frames 13, bursts 2, commands 1\n\
+    unit ABCD00000001: operating, onu 0, eqd 211040, found 1, ranged 1, lost 0, last frame 9, took frames 4\n\
+    licences: free 2, in use 1\n";
+
 /// How a play ended, and the writer that its trace went to.
 type Played<W> = (Ended, W);
 
@@ -146,11 +151,40 @@ fn a_unit_that_was_never_found_asks(rt: HostRuntime) -> Result<(), AllocError> {
 fn one_unit_is_told(rt: HostRuntime) -> Result<(), AllocError> {
     let (text, lines) = summary(rt.alloc(), ONE_UNIT, SummaryForm::Text)?;
     assert_eq!(rt; lines, LINES);
-    let wanted = "port 0: units 1, standby, frames 13, bursts 2, commands 1\n\
-        unit ABCD00000001: operating, onu 0, eqd 211040, found 1, ranged 1, lost 0, last frame 9, took frames 4\n\
-        licences: free 2, in use 1\n";
-    assert!(rt; text.as_slice() == wanted.as_bytes());
+    assert!(rt; text.as_slice() == TOLD.as_bytes());
     Ok(())
+}
+
+/// Counts the lines of what it takes, and keeps nothing.
+#[derive(Drop)]
+struct LineCount {
+    lines: usize,
+}
+
+impl Write for LineCount {
+    fn write(&mut self, bytes: &[u8]) -> io::Result<usize> {
+        let lines = bytes.iter().filter(|octet| **octet == b'\n').count();
+        self.lines = self.lines.saturating_add(lines);
+        Ok(bytes.len())
+    }
+
+    fn flush(&mut self) -> io::Result<()> {
+        Ok(())
+    }
+}
+
+/// Where a request for memory is refused, nothing is played; or all of it is, and there is no summary.
+#[test]
+fn memory_short_or_ample(rt: HostRuntime) {
+    let writer = LineCount { lines: 0 };
+    let Ok((ended, writer)) = played(rt.alloc(), ONE_UNIT, SummaryForm::Text, writer) else {
+        return;
+    };
+    assert!(rt; ended.played == Ok(()));
+    assert_eq!(rt; writer.lines, LINES);
+    if let Ok(text) = &ended.summary {
+        assert!(rt; text.as_slice() == TOLD.as_bytes());
+    }
 }
 
 /// The object of a line, if it is one.
