@@ -21,5 +21,4 @@ mod standing;
 mod unit;
 
 pub use form::SummaryForm;
-pub use lines::{push_licences, push_port};
 pub use playing::{Ended, Summed, play_summed};
