@@ -27,6 +27,5 @@ mod unit;
 
 pub use counted::counted_summary;
 pub use form::SummaryForm;
-pub use lines::{push_licences, push_port};
 pub use playing::{Ended, Summed, play_summed, sum_with_lights};
 pub use ports::{chassis_summary, fibre_summary};

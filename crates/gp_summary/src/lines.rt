@@ -50,7 +50,7 @@ fn push_units<L: Ledger>(
 /// Appends the lines of a port and of its units: of each of which something was counted, in the order of their serial
 /// numbers. Where memory is refused, a part of them may be appended.
 #[tactic(auto, unfolding(crate::specs::Text::port_lines))]
-pub fn push_port<L: Ledger>(
+pub(crate) fn push_port<L: Ledger>(
     out: &mut Vec<u8>,
     form: SummaryForm,
     number: u8,
@@ -87,7 +87,7 @@ fn push_licences_told(
 }
 
 /// Appends the line of the licences, of which so many are free. Where memory is refused, a part of it may be appended.
-pub fn push_licences(
+pub(crate) fn push_licences(
     out: &mut Vec<u8>,
     form: SummaryForm,
     free: u32,
