@@ -140,5 +140,6 @@ pub record AreUnitsOf {R T : Type 0} (form : SummaryForm) (before after : Source
 abbrev pub SumsCheck : {R T : Type 0} → SummaryForm → SourceState R → SourceState R → SourceState T → SourceState T
     → Result ℕ CheckFault → Option (Result (Vec ℕ Global) AllocError) → Type 0
 SumsCheck form before after from to (Err (Script fault)) units = units ≡ None
-SumsCheck form before after from to (Err (Trace fault)) units = AreUnitsOf form before after from to (Err (Trace fault)) units
+SumsCheck form before after from to (Err (Trace fault)) units =
+    AreUnitsOf form before after from to (Err (Trace fault)) units
 SumsCheck form before after from to (Ok lines) units = AreUnitsOf form before after from to (Ok lines) units

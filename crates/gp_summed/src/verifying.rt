@@ -60,7 +60,8 @@ fn run_counted<B: Opening, L: Ledger, R: Read, W: Write>(
     requires first { accounting.old.verify.lines ≡ 0 }
     requires nothing { accounting.old.counter.taken ≡ [] }
     requires flushed { sink.old.flushed ≡ true }
-    ensures runs { RunsVerify accounting.old.verify accounting.new.verify source.old source.new sink.old sink.new result }
+    ensures runs { RunsVerify accounting.old.verify accounting.new.verify source.old source.new sink.old sink.new
+        result }
     ensures whole { IfOk result (λ _. ReadsWhole source.old source.new accounting.new.counter.taken) }
 {
     accounting.verifier().stands();
@@ -112,7 +113,8 @@ fn judge_on<B: Opening, L: Ledger, T: Read, W: Write>(
     requires first { accounting.verify.lines ≡ 0 }
     requires nothing { accounting.counter.taken ≡ [] }
     requires flushed { sink.old.flushed ≡ true }
-    ensures runs { (end : VerifyState) × RunsVerify accounting.verify end trace.old trace.new sink.old sink.new result.found }
+    ensures runs { (end : VerifyState)
+        × RunsVerify accounting.verify end trace.old trace.new sink.old sink.new result.found }
     ensures there { spec_was_read result.found ≡ true → is_some result.units ≡ true }
     ensures tells { IfSome result.units (λ told. IfOk told (λ text. (taken : List ℕ)
         × TellsPlay (summary_form form) B.mask B.start B.ports licences result.found taken text.items
