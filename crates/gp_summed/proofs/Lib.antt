@@ -1,2 +1,3 @@
 pub mod Plays
-pub mod Accounting
+pub mod CountedLines
+pub mod CountedChecks
