@@ -1,4 +1,4 @@
-use Rattle.std.proofs.Common.{◌≡◌, ◌∙◌, ◌++◌, ℕ, List, None, ap, rules, subst}
+use Rattle.std.proofs.Common.{◌≡◌, ◌∙◌, ◌++◌, ℕ, List, None, rules, subst}
 use Rattle.gp_ploam.specs.declared.check.Mask.{Mask}
 use Rattle.gp_verify.specs.Verdicts.{Moves}
 use Rattle.gp_summed.specs.Verifying.{said_by}
@@ -17,7 +17,7 @@ invariant_of-self-2 g c =
     let moves : Moves verdict g.B.Opening.mask c.args.text.now old.play new.play new.said =
     subst (λ (m : Mask). Moves verdict m c.args.text.now old.play new.play new.said) was.1 (judged.moved none) in
     let taken : c.count.new.counter.taken ≡ before ++ said_by verdict new.said =
-    c.count.ensures.taken ∙ ap (λ (s : List ℕ). before ++ said_by verdict s) c.said.ensures in (
+    subst (λ (s : List ℕ). c.count.new.counter.taken ≡ before ++ said_by verdict s) c.said.ensures c.count.ensures.taken in (
       moved_to verdict g.B.Opening.mask c.args.text.now g.B.Opening.start old.play new.play before c.count.new.counter.taken new.said was.0 moves taken,
       judged.mask ∙ was.1,
       c.count.ensures.mask ∙ was.2,
