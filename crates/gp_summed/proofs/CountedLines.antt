@@ -1,6 +1,6 @@
 -- What a verifier that counts says to lines, and what was counted of a whole text.
 use Rattle.std.specs.Prelude.{is_some}
-use Rattle.std.proofs.Common.{◌≡◌, ℕ, true, false, List, [], ◌∷◌, ◌++◌, Option, None, Some, Result, IfOk, codes, map, refl, sym, ap, ◌∙◌, subst, append_assoc}
+use Rattle.std.proofs.Common.{◌≡◌, ℕ, ◌+◌, true, false, List, [], ◌∷◌, ◌++◌, Option, None, Some, Result, IfOk, codes, map, refl, sym, ap, ◌∙◌, subst, append_assoc}
 use Rattle.std.proofs.lemmas.List.{append-nil}
 use Rattle.gp_stream.specs.Sink.{SinkState}
 use Rattle.gp_stream.specs.Source.{SourceState, ReadsWhole}
@@ -12,10 +12,13 @@ use Rattle.gp_flow.specs.Lines.{DoesAll, Serves, ServesTo, ended_lines, handed, 
 use Rattle.gp_flow.proofs.LineLemmas.{handed_whole}
 use Rattle.gp_verify.specs.declared.outcome.VerifyFault.{VerifyFault}
 use Rattle.gp_verify.specs.declared.verdict.Verdict.{Verdict}
-use Rattle.gp_verify.specs.Following.{Following, has_ended}
+use Rattle.gp_verify.specs.declared.verdict.Verdict.TheVariants as verdict
+use Rattle.gp_verify.specs.Following.{Following, Follows, has_ended}
 use Rattle.gp_verify.specs.Outcome.{finding}
-use Rattle.gp_verify.specs.Verdicts.{VerifyState}
-use Rattle.gp_summed.specs.Verifying.{AccountState, Accounts, Counts, CountsIt, is_over}
+use Rattle.gp_verify.specs.Report.{Reports}
+use Rattle.gp_verify.specs.Verdicts.{Judges, VerifyState, ending}
+use Rattle.gp_verify.proofs.FollowingLemmas.{told_line}
+use Rattle.gp_summed.specs.Verifying.{AccountState, Accounts, Counts, CountsIt, is_over, said_by}
 
 -- ---- as a verifier that doesn't count
 
@@ -46,6 +49,43 @@ lines_counted limit (l ∷ ls) old new said h on =
       first.0,
       rest.1 ∙ ap (λ (t : List ℕ). t ++ with_feeds ls) line ∙ append_assoc old.counter.taken (l ++ codes "\n") (with_feeds ls),
     )
+
+-- ---- a line
+
+-- behind a line where it goes on, by what is said of it
+goes_on : (why : Verdict) (text before after said : List ℕ) → ending why ≡ None → after ≡ before ++ said_by why said → (why ≡ verdict.Follows → said ≡ text ++ codes "\n")
+    → after ≡ before ++ (text ++ codes "\n")
+goes_on verdict.Follows text before after said on taken line = taken ∙ ap (λ (t : List ℕ). before ++ t) (line refl)
+goes_on verdict.NotALine text before after said on taken line = some_none verdict.NotALine on
+goes_on verdict.NoPort text before after said on taken line = some_none verdict.NoPort on
+goes_on verdict.WrongNumber text before after said on taken line = some_none verdict.WrongNumber on
+goes_on verdict.NotAStep text before after said on taken line = some_none verdict.NotAStep on
+goes_on verdict.TooLong text before after said on taken line = some_none verdict.TooLong on
+
+module _ (old new : AccountState) (text : List ℕ) where
+  counts_line : (told : List ℕ) (why : Verdict) → Follows old.verify (Some text) told new.verify → old.verify.ended ≡ None → new.verify.ended ≡ ending why
+      → new.counter.taken ≡ old.counter.taken ++ said_by why new.verify.said → (why ≡ verdict.Follows → new.verify.said ≡ text ++ codes "\n") → Counts old (Some text) told new
+  counts_line told why follows none ends taken line = record {
+    follows = follows;
+    on = λ on. (none, goes_on why text old.counter.taken new.counter.taken new.verify.said (sym ends ∙ on) taken line);
+  }
+
+  -- a line that was judged, and its report
+  pub counts_told : (told : List ℕ) (why : Verdict) → old.verify.ended ≡ None → Judges why old.verify.mask old.verify.play text new.verify.play new.verify.said
+      → new.verify.ended ≡ ending why → new.verify.lines ≡ old.verify.lines + 1 → new.verify.mask ≡ old.verify.mask → new.verify.form ≡ old.verify.form
+      → new.counter.taken ≡ old.counter.taken ++ said_by why new.verify.said → (why ≡ verdict.Follows → new.verify.said ≡ text ++ codes "\n")
+      → Reports new.verify.form why new.verify.lines new.verify text told → Counts old (Some text) told new
+  counts_told told why none judged ends lines mask form taken line is =
+      counts_line told why (told_line old.verify new.verify text told why none (λ x. judged) (λ x. ends) (λ x. lines) mask form is) none ends taken line
+
+  -- of a line that follows nothing is told
+  pub follows_silently : (why : Verdict) → why ≡ verdict.Follows → old.verify.ended ≡ None → Judges why old.verify.mask old.verify.play text new.verify.play new.verify.said
+      → new.verify.ended ≡ ending why → new.verify.lines ≡ old.verify.lines + 1 → new.verify.mask ≡ old.verify.mask → new.verify.form ≡ old.verify.form
+      → new.counter.taken ≡ old.counter.taken ++ said_by why new.verify.said → (why ≡ verdict.Follows → new.verify.said ≡ text ++ codes "\n") → Counts old (Some text) [] new
+  follows_silently why follows none judged ends lines mask form taken line =
+      let report : Reports new.verify.form why new.verify.lines new.verify text [] =
+      subst (λ (v : Verdict). Reports new.verify.form v new.verify.lines new.verify text []) (sym follows) refl in
+      counts_told [] why none judged ends lines mask form taken line report
 
 -- ---- a text
 

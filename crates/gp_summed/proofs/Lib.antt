@@ -1,3 +1,4 @@
 pub mod Plays
 pub mod CountedLines
 pub mod Drives
+pub mod CountedChecks
