@@ -36,8 +36,8 @@ pub chassis_told : {T W : Type 0} (form : SummaryForm) (manner : DriveManner) (s
     (summary : Result (Vec ℕ Global) AllocError) → LeftByChassis manner script given driven from to before after
     → IfOk summary (λ text. SaysCounted form script.mask taken given.world.ports (length script.ports) given.world.free script.licences text.items)
     → IfSome (summary_if driven summary) (λ told. IfOk told (λ text. (lines : Driven)
-      × (SaysChassis form manner script from to before after (Ok lines) taken text.items
-      ⊎ SaysFibre form manner script from to before after (Ok lines) taken text.items)))
+    × (SaysChassis form manner script from to before after (Ok lines) taken text.items
+    ⊎ SaysFibre form manner script from to before after (Ok lines) taken text.items)))
 chassis_told form manner script from to before after taken given (Ok lines) (Ok text) left says =
     (lines, inl (record { given = given; left = left; says = says }))
 chassis_told form manner script from to before after taken given (Ok lines) (Err refused) left says = tt
@@ -49,8 +49,8 @@ pub fibre_told : {T W : Type 0} (form : SummaryForm) (manner : DriveManner) (scr
     (summary : Result (Vec ℕ Global) AllocError) → LeftByFibre manner script given driven from to before after
     → IfOk summary (λ text. SaysCounted form script.mask taken (given.play.world.fibre.port ∷ []) (length script.ports) given.play.world.fibre.free script.licences text.items)
     → IfSome (summary_if driven summary) (λ told. IfOk told (λ text. (lines : Driven)
-      × (SaysChassis form manner script from to before after (Ok lines) taken text.items
-      ⊎ SaysFibre form manner script from to before after (Ok lines) taken text.items)))
+    × (SaysChassis form manner script from to before after (Ok lines) taken text.items
+    ⊎ SaysFibre form manner script from to before after (Ok lines) taken text.items)))
 fibre_told form manner script from to before after taken given (Ok lines) (Ok text) left says =
     (lines, inr (record { given = given; left = left; says = says }))
 fibre_told form manner script from to before after taken given (Ok lines) (Err refused) left says = tt

@@ -1,5 +1,5 @@
 -- A trace that is told again while its lines are counted (this profile's own rule).
-use Rattle.std.specs.Prelude.{◌≡◌, ℕ, false, Some, Result, Ok, IfOk}
+use Rattle.std.specs.Prelude.{◌≡◌, ℕ, false, Some, Result, IfOk}
 use Rattle.std.specs.declared.alloc.AllocError.{AllocError}
 use Rattle.std.specs.declared.alloc.Global.{Global}
 use Rattle.std.specs.declared.vec.Vec.{Vec}

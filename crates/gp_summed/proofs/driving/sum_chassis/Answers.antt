@@ -13,8 +13,8 @@ returns-in-Ok-clause-drives g c =
     let driven = c.in-Ok.field-0.driven in
     let summary = c.chassis_summary-summary.result in
     let says = says_of c.args.form _ script.mask _ counting.counter.taken given.world.ports _ _ given.world.free script.licences summary
-        (c.counter.ensures.mask ∙ c.requires.mask) (ap (λ s. s.taken) c.counter.ensures.counter) (c.counter.ensures.ports ∙ c.requires.ports)
-        c.chassis_summary-summary.ensures in
+    (c.counter.ensures.mask ∙ c.requires.mask) (ap (λ s. s.taken) c.counter.ensures.counter) (c.counter.ensures.ports ∙ c.requires.ports)
+    c.chassis_summary-summary.ensures in
     answered_so c.args.form c.args.manner script c.args.turns.now c.drive_chassis-drove.new.turns counting c.summed.result.counting (told driven) c.summed.result.driven
     (summary_if driven summary) c.summed.result.summary c.summed.ensures.counting c.summed.ensures.driven c.summed.ensures.summary
     (record {
