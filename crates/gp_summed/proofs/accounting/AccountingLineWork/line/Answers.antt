@@ -34,14 +34,14 @@ returns g c =
     let same : c.self-2.inside.verifier ≡ new.verify = ap (λ (s : AccountState). s.verify) c.self-2.view_is in
     elim c.match-branch-2.branch [
       | in-Follows w ↦
-        rw (w.sink-is, w.result-is)
-        (silent_answers Accounts (Some text) old new c.args.sink.now tt
-        (follows_silently old new text verdict (search rules) (is_none _ on) judged.judged judged.ends judged.lines judged.mask judged.form judged.taken judged.follows))
+          rw (w.sink-is, w.result-is)
+          (silent_answers Accounts (Some text) old new c.args.sink.now tt
+          (follows_silently old new text verdict (search rules) (is_none _ on) judged.judged judged.ends judged.lines judged.mask judged.form judged.taken judged.follows))
       | in_default+in_ok-report-in_default+in_ok-put-in_default w ↦
-        rw (w.sink-is, w.result-is)
-        (put_answers Accounts (Some text) old new c.args.sink.now _ _ _ tt
-        (counts_told old new text _ verdict (is_none _ on) judged.judged judged.ends judged.lines judged.mask judged.form judged.taken judged.follows
-        (subst (λ (t : List ℕ). Reports new.verify.form verdict new.verify.lines new.verify text t) (sym w.as_slice.ensures.value)
-        (subst (λ (s : VerifyState). Reports s.form verdict s.lines s text w.in_ok-report-in_default.report.items) same w.in_ok-report-in_default.ensures)))
-        w.in_ok-put-in_default.ensures)
+          rw (w.sink-is, w.result-is)
+          (put_answers Accounts (Some text) old new c.args.sink.now _ _ _ tt
+          (counts_told old new text _ verdict (is_none _ on) judged.judged judged.ends judged.lines judged.mask judged.form judged.taken judged.follows
+          (subst (λ (t : List ℕ). Reports new.verify.form verdict new.verify.lines new.verify text t) (sym w.as_slice.ensures.value)
+          (subst (λ (s : VerifyState). Reports s.form verdict s.lines s text w.in_ok-report-in_default.report.items) same w.in_ok-report-in_default.ensures)))
+          w.in_ok-put-in_default.ensures)
     ]
