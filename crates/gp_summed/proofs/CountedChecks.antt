@@ -14,18 +14,17 @@ use Rattle.gp_stream.specs.declared.sink.WriteStopped.{WriteStopped}
 use Rattle.gp_stream.specs.Sink.{SinkState}
 use Rattle.gp_stream.specs.Source.{SourceState, ReadsWhole}
 use Rattle.gp_script.specs.Script.{ScriptView, script_of}
-use Rattle.gp_replay.specs.declared.fault.RunFault.{RunFault}
 use Rattle.gp_replay.specs.Chassis.{PlayState, opening_play}
 use Rattle.gp_replay.specs.Outcome.{ReadsBy}
 use Rattle.gp_summary.specs.declared.form.SummaryForm.{SummaryForm}
 use Rattle.gp_verify.specs.declared.outcome.CheckFault.{CheckFault}
-use Rattle.gp_verify.specs.declared.outcome.CheckFault.TheVariants.{Script, Trace}
+use Rattle.gp_verify.specs.declared.outcome.CheckFault.TheVariants.{Trace}
 use Rattle.gp_verify.specs.declared.outcome.VerifyFault.{VerifyFault}
 use Rattle.gp_verify.specs.declared.outcome.VerifyFault.TheVariants.{Refused, Unended, Lines}
-use Rattle.gp_verify.specs.Checking.{ChecksTrace, IsNoScript, opened_by}
+use Rattle.gp_verify.specs.Checking.{ChecksTrace, opened_by}
 use Rattle.gp_verify.specs.Ending.{ChecksTold, Ends, after_writing, as_checked, was_read}
-use Rattle.gp_verify.specs.Outcome.{Verifies, Writes}
-use Rattle.gp_summed.specs.Verifying.{AreUnits, AreUnitsOf, SumsCheck, Tells, TellsPlay}
+use Rattle.gp_verify.specs.Outcome.{Writes}
+use Rattle.gp_summed.specs.Verifying.{AreUnits, SumsCheck, Tells, TellsPlay}
 
 absurdly : {P : Type 0} → false ≡ true → P
 absurdly h = absurd (cc)

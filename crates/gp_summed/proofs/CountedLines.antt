@@ -4,11 +4,9 @@ use Rattle.std.proofs.Common.{◌≡◌, ℕ, ◌+◌, true, false, List, [], �
 use Rattle.std.proofs.lemmas.List.{append-nil}
 use Rattle.gp_stream.specs.Sink.{SinkState}
 use Rattle.gp_stream.specs.Source.{SourceState, ReadsWhole}
-use Rattle.gp_flow.specs.declared.fault.LinesFault.{LinesFault}
-use Rattle.gp_flow.specs.declared.fault.LinesFault.TheVariants as faults
 use Rattle.gp_flow.specs.declared.lines.LinesEnd.{LinesEnd}
 use Rattle.gp_flow.specs.declared.lines.LinesEnd.TheVariants.{Whole, Open, Over}
-use Rattle.gp_flow.specs.Lines.{DoesAll, Serves, ServesTo, ended_lines, handed, lines_of, with_feeds}
+use Rattle.gp_flow.specs.Lines.{DoesAll, ServesTo, ended_lines, handed, lines_of, with_feeds}
 use Rattle.gp_flow.proofs.LineLemmas.{handed_whole}
 use Rattle.gp_verify.specs.declared.outcome.VerifyFault.{VerifyFault}
 use Rattle.gp_verify.specs.declared.verdict.Verdict.{Verdict}
@@ -16,7 +14,7 @@ use Rattle.gp_verify.specs.declared.verdict.Verdict.TheVariants as verdict
 use Rattle.gp_verify.specs.Following.{Following, Follows, has_ended}
 use Rattle.gp_verify.specs.Outcome.{finding}
 use Rattle.gp_verify.specs.Report.{Reports}
-use Rattle.gp_verify.specs.Verdicts.{Judges, VerifyState, ending}
+use Rattle.gp_verify.specs.Verdicts.{Judges, ending}
 use Rattle.gp_verify.proofs.FollowingLemmas.{told_line}
 use Rattle.gp_summed.specs.Verifying.{AccountState, Accounts, Counts, CountsIt, is_over, said_by}
 

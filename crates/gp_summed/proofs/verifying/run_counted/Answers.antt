@@ -1,5 +1,4 @@
-use Rattle.std.proofs.Common.{◌≡◌, ◌∙◌, All, Option, ap, subst}
-use Rattle.gp_verify.specs.declared.verdict.Verdict.{Verdict}
+use Rattle.std.proofs.Common.{◌∙◌, All, ap, subst}
 use Rattle.gp_verify.specs.Ports.{IsOrderlyPort}
 use Rattle.gp_verify.specs.Verdicts.{VerifyState}
 use Rattle.gp_verify.proofs.OutcomeLemmas.{verified_as}
