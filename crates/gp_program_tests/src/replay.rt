@@ -1,5 +1,5 @@
 //! Replays of scripts: what is written, and how each ends where the script, memory, a read or a write fails.
-use gp_replay::{PlayFault, RunFault, play_script, run_replay, play_with_lights};
+use gp_replay::{PlayFault, RunFault, play_script, play_with_lights, run_replay};
 use gp_script::{ScriptFault, read_script};
 use gp_stream::{Sink, Source};
 use std::alloc::{AllocError, Global};

@@ -67,8 +67,9 @@ fn play_by<B: Began, T: TellingBegan, W: Write + Drop>(
     requires below { W.contents writer ≡ T.held }
 {
     let teller = Teller::<T, W>::new(alloc, telling, writer)?;
-    let Summed { ended, counting } =
-        sum_with_lights::<B, Teller<T, W>>(alloc, script, form, teller)?;
+    let Summed { ended, counting } = sum_with_lights::<B, Teller<T, W>>(
+        alloc, script, form, teller,
+    )?;
     let (teller, _) = counting.into_parts();
     if let Some(TellFault::OutOfMemory) = teller.fault() {
         return Err(PlayFault::OutOfMemory);
