@@ -34,18 +34,13 @@ pub struct Player<L: Ledger> {
 
 impl<L: Ledger> Model for Player<L> {
     ghost use Rattle.std.specs.Prelude.{All};
-    ghost use Rattle.std.specs.FinMap as map;
-    ghost use Rattle.std.specs.FinSet as set;
-    ghost use Rattle.std.specs.Coded.{codes};
-    ghost use Rattle.gp_ploam.specs.Serials.{serial_cmp, coded_serial};
-    ghost use Rattle.gp_unit.specs.contracts.row.Row as row;
+    ghost use Rattle.gp_machine.specs.Codes.{port_codes};
     ghost use Rattle.gp_replay.specs.Chassis.{IsSoundPort, PlayState};
     ghost use Rattle.gp_replay.specs.Seats.{SeatState, play_on};
 
     ghost Value = { PlayState };
 
-    ghost coded = { Prim.hlevel
-        (codes, map.code {R = serial_cmp} coded_serial row.the_row.coded, set.code {R = serial_cmp} coded_serial) };
+    ghost coded = { Prim.hlevel port_codes };
 
     ghost view = { λ p. play_on p.seats.items p.book.free };
 
