@@ -1,8 +1,8 @@
 -- How auditing a log may end (this profile's own rule).
 use Rattle.std.specs.Prelude.{◌≡◌, ◌≢◌, ◌⊎◌, ℕ, ◌+◌, true, List, [], ◌∷◌, ◌++◌, length, map, Option, Result, Ok, Err}
 use Rattle.std.specs.Io.KnownBytes.{Appends}
-use Rattle.gp_flow.specs.declared.fault.LineFault.{LineFault}
-use Rattle.gp_flow.specs.declared.fault.LineFault.TheVariants.{Write, OutOfMemory, Full}
+use Rattle.gp_flow.specs.declared.fault.Unanswered.{Unanswered}
+use Rattle.gp_flow.specs.declared.fault.Unanswered.TheVariants.{Write, OutOfMemory, Full}
 use Rattle.gp_flow.specs.declared.fault.LinesFault.{LinesFault}
 use Rattle.gp_flow.specs.declared.fault.LinesFault.TheVariants.{Read, Line}
 use Rattle.gp_flow.specs.Lines.{DoesAll, GetsPrefix, Leaves, ServesEnded, ServesSome, handed, lines_of}
@@ -46,7 +46,7 @@ pub record IsRead {R : Type 0} (from to : SourceState R) (old : AuditState) (sai
     pub counts : Counts old (map (handed longest_line) (lines_of text)) said new
 
 -- the units and the sum were told, or not: where memory is refused nothing is written
-abbrev pub TellsEnd : {W : Type 0} → AuditState → SinkState W → SinkState W → Result (Unit {0}) LineFault → Type 0
+abbrev pub TellsEnd : {W : Type 0} → AuditState → SinkState W → SinkState W → Result (Unit {0}) Unanswered → Type 0
 TellsEnd state before after (Ok _) =
     Appends before.held after.held (before.gathered ++ end_text state) × (after.gathered ≡ [])
     × (before.flushed ≡ true → after.flushed ≡ true)
@@ -66,13 +66,13 @@ pub record IsAudited {R W : Type 0} (old new : AuditState) (from to : SourceStat
 
 -- each line was audited, and the end was not told: for want of memory, and then the writer got all that is said to the
 -- lines; or since a write failed, and then it got a prefix of that and of the end
-abbrev pub LeavesUnended : {W : Type 0} → LineFault → SinkState W → SinkState W → List ℕ → List ℕ → Type 0
+abbrev pub LeavesUnended : {W : Type 0} → Unanswered → SinkState W → SinkState W → List ℕ → List ℕ → Type 0
 LeavesUnended OutOfMemory before after said end =
     Appends before.held after.held (before.gathered ++ said) × KeepsNothing after
 LeavesUnended Write before after said end = GetsPrefix before after (said ++ end)
 LeavesUnended Full before after said end = ⊥
 
-pub record IsUnended {R W : Type 0} (fault : LineFault) (old new : AuditState) (from to : SourceState R)
+pub record IsUnended {R W : Type 0} (fault : Unanswered) (old new : AuditState) (from to : SourceState R)
     (before after : SinkState W) : Type 0 where
   pub said : List ℕ
   pub audited : IsRead from to old said new

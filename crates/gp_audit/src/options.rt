@@ -28,7 +28,7 @@ pub enum AuditForm {
 
 /// Which findings are told.
 #[derive(Clone, Copy, Debug, PartialEq, Eq)]
-pub struct Told {
+pub struct FindingChoice {
     /// Those of the line terminal.
     pub terminal: bool,
     /// Those of the units.
@@ -37,7 +37,7 @@ pub struct Told {
     pub rules: RuleSet,
 }
 
-impl Told {
+impl FindingChoice {
     /// Tells whether findings of its side are told.
     fn tells_side(&self, heard: &Heard) -> bool
         ensures { result ≡ is_side_told self.now (heard_of heard.now) }
@@ -69,7 +69,7 @@ pub struct AuditOptions {
     /// one was heard.
     pub midway: bool,
     /// Which findings are told.
-    pub told: Told,
+    pub told: FindingChoice,
     /// How they are told.
     pub form: AuditForm,
     /// Whether what was heard of each unit is told at the end. Each thing that is heard then costs a look for its unit.

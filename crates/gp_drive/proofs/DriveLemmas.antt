@@ -8,8 +8,8 @@ use Rattle.gp_stream.specs.Sink.{SinkState, Takes}
 use Rattle.gp_stream.specs.Source.{ReadsAll, SourceState}
 use Rattle.gp_script.specs.declared.script.ScriptEvent.{ScriptEvent}
 use Rattle.gp_trace.specs.Text.{trace_text}
-use Rattle.gp_flow.specs.declared.fault.LineFault.{LineFault}
-use Rattle.gp_flow.specs.declared.fault.LineFault.TheVariants as unanswered
+use Rattle.gp_flow.specs.declared.fault.Unanswered.{Unanswered}
+use Rattle.gp_flow.specs.declared.fault.Unanswered.TheVariants as unanswered
 use Rattle.gp_flow.specs.declared.fault.LinesFault.{LinesFault}
 use Rattle.gp_flow.specs.declared.fault.LinesFault.TheVariants as lines
 use Rattle.gp_flow.specs.declared.lines.LinesEnd.{LinesEnd}
@@ -90,7 +90,7 @@ joined_all : {W : Type 0} (x y z : SinkState W) (text said : List ℕ) → Takes
 joined_all x y z text said t (inl all) = inl (record { written = subst (Appends x.held z.held) (append_assoc x.gathered text said) (joined x y z text said t all.written); kept = all.kept; unstopped = all.unstopped })
 joined_all x y z text said t (inr (some, stopped)) = inr (joined_prefix x y z text said t some, stopped)
 
-joined_left : {W : Type 0} (fault : LineFault) (x y z : SinkState W) (text said : List ℕ) → Takes x y text → Leaves fault y z said → Leaves fault x z (text ++ said)
+joined_left : {W : Type 0} (fault : Unanswered) (x y z : SinkState W) (text said : List ℕ) → Takes x y text → Leaves fault y z said → Leaves fault x z (text ++ said)
 joined_left unanswered.Write x y z text said t a = joined_prefix x y z text said t a
 joined_left unanswered.OutOfMemory x y z text said t a = joined_all x y z text said t a
 joined_left unanswered.Full x y z text said t a = joined_all x y z text said t a

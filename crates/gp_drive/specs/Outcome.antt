@@ -8,7 +8,7 @@ use Rattle.gp_stream.specs.Source.{SourceState, ReadsTooMuch, ReadsWhole, max_by
 use Rattle.gp_script.specs.declared.script.ScriptEvent.{ScriptEvent}
 use Rattle.gp_script.specs.Script.{ScriptView, script_of}
 use Rattle.gp_trace.specs.Text.{trace_text}
-use Rattle.gp_flow.specs.declared.fault.LineFault.{LineFault}
+use Rattle.gp_flow.specs.declared.fault.Unanswered.{Unanswered}
 use Rattle.gp_flow.specs.declared.fault.LinesFault.{LinesFault}
 use Rattle.gp_flow.specs.declared.fault.LinesFault.TheVariants as lines
 use Rattle.gp_flow.specs.Lines.{DoesAll, DoesSome, Leaves, ServesAll, ServesEnded, ServesSome, ended_lines, handed, lines_of}
@@ -67,7 +67,7 @@ pub record DrivesEnded {S T W : Type 0} (manner : DriveManner) (playing : Playin
 -- the events were played; then the first of the lines that came were answered, the last of these maybe in part, when
 -- this fault came
 pub record DrivesSome {S T W : Type 0} (manner : DriveManner) (playing : Playing S) (start : S) (mask : Mask) (events : List ScriptEvent)
-    (fault : LineFault) (from to : SourceState T) (before after : SinkState W) : Type 0 where
+    (fault : Unanswered) (from to : SourceState T) (before after : SinkState W) : Type 0 where
   pub receipts : List Receipt
   pub mid : S
   pub opened : PlaysAll playing events start receipts mid

@@ -3,7 +3,7 @@ use Rattle.std.specs.Prelude.{is_some}
 use Rattle.std.proofs.Common.{◌≡◌, ℕ, true, false, List, [], ◌∷◌, ◌++◌, Option, None, Some, Result, Ok, Err, IsErrAnd, inl, inr, length, take, map, refl, sym, ap, subst, ◌∙◌, append_assoc, arith}
 use Rattle.std.proofs.lemmas.List.{append-nil, take_all}
 use Rattle.std.specs.Io.KnownBytes.{Appends, Consumes}
-use Rattle.gp_flow.specs.declared.fault.LineFault.TheVariants.{OutOfMemory}
+use Rattle.gp_flow.specs.declared.fault.Unanswered.TheVariants.{OutOfMemory}
 use Rattle.gp_flow.specs.declared.lines.LinesEnd.{LinesEnd}
 use Rattle.gp_flow.specs.declared.lines.LinesEnd.TheVariants.{Whole, Open, Over}
 use Rattle.gp_flow.specs.declared.fault.LinesFault.{LinesFault}

@@ -1,7 +1,7 @@
 -- How telling a trace may end (this profile's own rule).
 use Rattle.std.specs.Prelude.{◌≡◌, ◌<◌, ◌⊎◌, ℕ, ◌+◌, true, List, [], ◌∷◌, ◌++◌, length, Option, Some, None, Result, Ok, Err}
 use Rattle.std.specs.Io.KnownBytes.{Appends, Consumes}
-use Rattle.gp_flow.specs.declared.fault.LineFault.TheVariants.{OutOfMemory}
+use Rattle.gp_flow.specs.declared.fault.Unanswered.TheVariants.{OutOfMemory}
 use Rattle.gp_flow.specs.declared.fault.LinesFault.TheVariants as faults
 use Rattle.gp_flow.specs.Lines.{GetsPrefix, Leaves, lines_of}
 use Rattle.gp_stream.specs.Sink.{SinkState, KeepsNothing}

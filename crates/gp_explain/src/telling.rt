@@ -1,7 +1,7 @@
 //! How lines are told, one after another.
 ghost use Rattle.std.specs.Prelude.{◌≡◌, ◌++◌, [], OnErr, OnOk, codes};
 ghost use Rattle.gp_lines.specs.Trace.{SplitsLine};
-ghost use Rattle.gp_explain.specs.Telling.{Tells, TellsAt, TellsTraceLine, no_frames, other_of, shown, time_of};
+ghost use Rattle.gp_explain.specs.Telling.{TellsOneLine, TellsAt, TellsTraceLine, no_frames, other_of, shown, time_of};
 
 use crate::form::Form;
 use crate::line::push_words;
@@ -89,7 +89,7 @@ impl Telling {
     ///
     /// Memory is taken only where the buffer has no room. Where it is refused, the buffer may hold a part of it.
     pub fn tell(&mut self, text: &[u8], out: &mut Vec<u8>) -> Result<(), AllocError>
-        ensures ok { OnOk result (Tells self.old text.now out.new.items self.new) }
+        ensures ok { OnOk result (TellsOneLine self.old text.now out.new.items self.new) }
         ensures err { OnErr result (self.new ≡ self.old) }
     {
         out.clear();

@@ -1,4 +1,5 @@
 -- How the state of a port is coded, for the types that show one.
+-- Inside: no public contract cites this.
 use Rattle.std.specs.FinMap as map
 use Rattle.std.specs.FinSet as set
 use Rattle.std.specs.FinSet.{FinSet}

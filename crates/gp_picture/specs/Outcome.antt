@@ -2,7 +2,7 @@
 use Rattle.std.specs.Prelude.{◌≡◌, ◌<◌, ◌⊎◌, ℕ, ◌+◌, true, List, [], ◌∷◌, ◌++◌, length, codes, Option, Some, None, Result, Ok, Err}
 use Rattle.std.specs.Io.KnownBytes.{Appends, Consumes}
 use Rattle.std.specs.List.{All}
-use Rattle.gp_flow.specs.declared.fault.LineFault.TheVariants.{OutOfMemory}
+use Rattle.gp_flow.specs.declared.fault.Unanswered.TheVariants.{OutOfMemory}
 use Rattle.gp_flow.specs.declared.fault.LinesFault.TheVariants as faults
 use Rattle.gp_flow.specs.Lines.{lines_of}
 use Rattle.gp_lines.specs.Turn.{longest_line}

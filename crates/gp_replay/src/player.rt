@@ -12,7 +12,7 @@ ghost use Rattle.gp_replay.specs.Telling.{TellsTurn};
 
 use super::line_buffer::LineBuffer;
 use super::seat::{Seat, close_seats, core_at, open_seats, owed_at};
-use super::told::Told;
+use super::told::EntryWritten;
 use super::turn::Turn;
 use gp_chassis::ChassisConfig;
 use gp_licence::{LicenceBook, Licences, MAX_LICENCES};
@@ -74,7 +74,7 @@ impl<L: Ledger> Player<L> {
         wished: Option<u16>,
         mask: Mask,
         buffer: &mut LineBuffer,
-    ) -> Result<Told, AllocError>
+    ) -> Result<EntryWritten, AllocError>
         requires port { turn.port < length self.old.next }
         requires room { HasRoom 1 self.old }
         ensures told { IfOk result (λ told. TellsTurn mask self.old turn wished told buffer.new self.new) }
@@ -85,7 +85,7 @@ impl<L: Ledger> Player<L> {
         let mut entry = Entry::blank();
         let number = self.serve(turn, wished, &mut entry);
         buffer.build_entry(mask, turn.port, number, &entry);
-        Ok(Told {
+        Ok(EntryWritten {
             number,
             grant: entry.answer.grant,
         })

@@ -2,8 +2,8 @@
 use Rattle.std.specs.Prelude.{◌≡◌, ℕ, Bool, true, false, List, Option, Result}
 use Rattle.gp_check.specs.declared.checking.Purpose.{Purpose}
 use Rattle.gp_check.specs.declared.found.Found.{Found}
-use Rattle.gp_check.specs.declared.telling.Told.{Told}
-use Rattle.gp_check.specs.declared.telling.Told.TheVariants as told
+use Rattle.gp_check.specs.declared.source.CheckedSource.{CheckedSource}
+use Rattle.gp_check.specs.declared.source.CheckedSource.TheVariants as told
 use Rattle.gp_check.specs.Check.{IsFound, is_script}
 use Rattle.gp_script.specs.declared.fault.ScriptFault.{ScriptFault}
 use Rattle.gp_script.specs.Script.{ScriptView}
@@ -42,14 +42,14 @@ IsCheckedBy {S = S} {T = T} form script of_script trace of_trace answer =
     × ChecksScript form (unread script of_script) after (unread_endless trace of_trace) to told answer
 
 -- what was told of a file is that it is a script
-abbrev pub is_told_script : Told → Bool
+abbrev pub is_told_script : CheckedSource → Bool
 is_told_script told.Script = true
 is_told_script told.NoScript = false
 is_told_script (told.Wrong line) = false
 is_told_script told.Unread = false
 
 -- something was found in what a reader had to give, and what is told of it is whether that is a script for this
-pub record IsToldBy {R : Type 0} (purpose : Purpose) (reader : R) (remaining : Option (List ℕ)) (answer : Told) : Type 0 where
+pub record IsToldBy {R : Type 0} (purpose : Purpose) (reader : R) (remaining : Option (List ℕ)) (answer : CheckedSource) : Type 0 where
   pub after : SourceState R
   pub found : Found
   pub is : IsFound purpose (unread reader remaining) after found

@@ -23,8 +23,8 @@ ghost use Rattle.std.specs.Prelude.{◌≡◌, ◌≢◌, ◌≤◌, ◌↔◌, 
 ghost use Rattle.std.specs.String.{string_bytes};
 ghost use Rattle.clap.specs.Values.{kind_of};
 ghost use Rattle.std.specs.IoError.{error_kind};
-ghost use Rattle.gp_decode.specs.declared.fault.LineFault.{LineFault as AnyFault};
-ghost use Rattle.gp_decode.specs.Line.{HasLineFault, IsOfText, SaysIn};
+ghost use Rattle.gp_decode.specs.declared.fault.DecodeFault.{DecodeFault as AnyFault};
+ghost use Rattle.gp_decode.specs.Line.{HasDecodeFault, IsOfText, SaysIn};
 ghost use Rattle.gp_script.specs.declared.fault.ScriptFault.{ScriptFault};
 ghost use Rattle.gp_script.specs.Script.{ScriptView, script_of, storm_script_of};
 ghost use Rattle.oltctl.specs.Replays.{IsReadBy, IsTooLong};
@@ -60,8 +60,8 @@ use explaining::explain;
 use generating::generate;
 use gp_check::{Purpose, ScriptCheckFault};
 use gp_code_objects::{decode_objects, encode_objects};
-use gp_command_line::{Play, Request, StormPlay, Told, parse, request_of};
-use gp_decode::{Direction, FaultAt, LineFault, decode_each_in, decode_line_in};
+use gp_command_line::{Play, Request, StormPlay, TraceForm, parse, request_of};
+use gp_decode::{DecodeFault, Direction, FaultAt, decode_each_in, decode_line_in};
 use gp_drive::{DriveFault, DriveManner, Driven, run_drive_in};
 use gp_encode::{EncodeFault, WordsFaultAt, encode_line, encode_lines};
 use gp_flow::LinesFault;
@@ -255,7 +255,7 @@ fn drive_from<R: AllocGlobal + Print, S: Read + Drop, T: Read + Drop>(
 fn drive_file<R: AllocGlobal + Files + Print + Input>(
     rt: &R,
     script: &str,
-    told: Told,
+    told: TraceForm,
     manner: DriveManner,
     of_script: &mut Seen<'_>,
     of_turns: &mut Seen<'_>,
@@ -279,7 +279,7 @@ fn drive_file<R: AllocGlobal + Files + Print + Input>(
 fn drive<R: AllocGlobal + Files + Print + Eprint + Input>(
     rt: &R,
     script: &str,
-    told: Told,
+    told: TraceForm,
     done: bool,
 ) -> u8
     ensures { IsDriven result }
@@ -443,10 +443,10 @@ fn decode<R: AllocGlobal + Print>(
     upstream: bool,
     mask: Mask,
     names: bool,
-) -> Result<(), LineFault>
+) -> Result<(), DecodeFault>
     ensures ok { OnOk result ((line : List ℕ) × SaysIn names upstream mask code.now line) }
-    ensures fault { result ≢ Err LineFault.OutOfMemory → (fault : AnyFault) → IsOfText fault
-        → (result ≡ Err fault) ↔ HasLineFault mask code.now fault }
+    ensures fault { result ≢ Err DecodeFault.OutOfMemory → (fault : AnyFault) → IsOfText fault
+        → (result ≡ Err fault) ↔ HasDecodeFault mask code.now fault }
 {
     let mut sink = Sink::new(rt.alloc(), io::writer(rt))?;
     decode_line_in(rt.alloc(), code, upstream, mask, names, &mut sink)
