@@ -9,12 +9,12 @@ use Rattle.gp_flow.specs.declared.fault.LinesFault.{LinesFault}
 use Rattle.gp_flow.specs.declared.fault.LinesFault.TheVariants as faults
 use Rattle.gp_flow.specs.declared.lines.LinesEnd.{LinesEnd}
 use Rattle.gp_flow.specs.declared.lines.LinesEnd.TheVariants.{Whole, Open, Over}
-use Rattle.gp_flow.specs.Lines.{GetsPrefix, ServesAll, ServesTo, handed, lines_of}
+use Rattle.gp_flow.specs.Lines.{GetsPrefix, ServesAll, ServesTo, handed, lines_of, longest_line}
 use Rattle.gp_stream.specs.Sink.{SinkState, KeepsNothing, TakesPrefix}
 use Rattle.gp_stream.specs.Source.{SourceState}
 use Rattle.gp_finding.specs.declared.error.AuditSum.{AuditSum}
 use Rattle.gp_audit.specs.Audit.{AuditState, Auditing, never}
-use Rattle.gp_audit.specs.Outcome.{AuditsLog, IsAudited, IsRead, LeavesUnended, TellsEnd, longest_line}
+use Rattle.gp_audit.specs.Outcome.{AuditsLog, IsAudited, IsRead, LeavesUnended, TellsEnd}
 use Rattle.gp_audit.specs.Ending.{end_text}
 use Rattle.gp_audit.proofs.CountLemmas.{counts}
 

@@ -5,7 +5,7 @@ use Rattle.gp_flow.specs.declared.fault.Unanswered.{Unanswered}
 use Rattle.gp_flow.specs.declared.fault.Unanswered.TheVariants.{Write, OutOfMemory, Full}
 use Rattle.gp_flow.specs.declared.fault.LinesFault.{LinesFault}
 use Rattle.gp_flow.specs.declared.fault.LinesFault.TheVariants.{Read, Line}
-use Rattle.gp_flow.specs.Lines.{DoesAll, GetsPrefix, Leaves, ServesEnded, ServesSome, handed, lines_of}
+use Rattle.gp_flow.specs.Lines.{DoesAll, GetsPrefix, Leaves, ServesEnded, ServesSome, handed, lines_of, longest_line}
 use Rattle.gp_stream.specs.Sink.{SinkState, KeepsNothing, TakesPrefix}
 use Rattle.gp_stream.specs.Source.{SourceState, ReadsWhole}
 use Rattle.gp_log.specs.declared.fault.LogFault.{LogFault}
@@ -15,10 +15,6 @@ use Rattle.gp_audit.specs.declared.options.AuditForm.TheVariants.{Words}
 use Rattle.gp_audit.specs.Audit.{AuditState, Auditing, ReadsLine, audit_after, next_told}
 use Rattle.gp_audit.specs.Ending.{end_text}
 use Rattle.gp_audit.specs.Notice.{Notice, errors_among, findings_among, notices_text}
-
--- the most octets of a line that is looked at
-abbrev pub longest_line : ℕ
-longest_line = 4096
 
 -- these are told of lines, one after another
 abbrev pub AreTold : AuditState → List (Option (List ℕ)) → List Notice → AuditState → Type 0

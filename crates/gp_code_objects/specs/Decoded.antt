@@ -4,7 +4,7 @@ use Rattle.std.specs.Prelude.{◌≡◌, ◌⊎◌, ◌==◌, ℕ, ◌+◌, Bool
 use Rattle.hex.specs.Hex.{decode_of, encode_lower}
 use Rattle.gp_flow.specs.declared.lines.LinesEnd.{LinesEnd}
 use Rattle.gp_flow.specs.declared.fault.LinesFault.{LinesFault}
-use Rattle.gp_flow.specs.Lines.{Serves, Speech, WholeLines}
+use Rattle.gp_flow.specs.Lines.{Serves, Speech, WholeLines, longest_line}
 use Rattle.gp_stream.specs.Sink.{SinkState}
 use Rattle.gp_stream.specs.Source.{SourceState}
 use Rattle.gp_ploam.specs.declared.check.Mask.{Mask}
@@ -99,5 +99,5 @@ pub record DecodesToObjects {R W : Type 0} (direction : Direction) (mask : Mask)
     (before after : SinkState W) (answer : Result (Option FaultAt) LinesFault) : Type 0 where
   pub new : DecodeState
   pub end : Result LinesEnd LinesFault
-  pub served : Serves Showing never 4096 from to (opened_objects direction mask) new before after end
+  pub served : Serves Showing never longest_line from to (opened_objects direction mask) new before after end
   pub told : IsAnswer end new answer

@@ -3,7 +3,7 @@ use Rattle.std.specs.Prelude.{◌≡◌, ◌⊎◌, ◌==◌, ℕ, ◌+◌, Bool
 use Rattle.hex.specs.Hex.{decode_of, encode_lower}
 use Rattle.gp_flow.specs.declared.lines.LinesEnd.{LinesEnd}
 use Rattle.gp_flow.specs.declared.fault.LinesFault.{LinesFault}
-use Rattle.gp_flow.specs.Lines.{Serves, Speech, WholeLines}
+use Rattle.gp_flow.specs.Lines.{Serves, Speech, WholeLines, longest_line}
 use Rattle.gp_stream.specs.Sink.{SinkState}
 use Rattle.gp_stream.specs.Source.{SourceState}
 use Rattle.gp_ploam.specs.declared.check.Mask.{Mask}
@@ -146,7 +146,7 @@ pub record DecodesIn {R W : Type 0} (names : Bool) (direction : Direction) (mask
     (before after : SinkState W) (answer : Result (Option FaultAt) LinesFault) : Type 0 where
   pub new : DecodeState
   pub end : Result LinesEnd LinesFault
-  pub served : Serves Decoding never 4096 from to (opened_in names direction mask) new before after end
+  pub served : Serves Decoding never longest_line from to (opened_in names direction mask) new before after end
   pub told : IsAnswer end new answer
 
 -- the same without, where all codes are of one direction

@@ -14,7 +14,7 @@ use Rattle.gp_flow.specs.declared.fault.LinesFault.{LinesFault}
 use Rattle.gp_flow.specs.declared.fault.LinesFault.TheVariants as lines
 use Rattle.gp_flow.specs.declared.lines.LinesEnd.{LinesEnd}
 use Rattle.gp_flow.specs.declared.lines.LinesEnd.TheVariants as ends
-use Rattle.gp_flow.specs.Lines.{GetsAll, GetsPrefix, Leaves, Serves, ServesTo}
+use Rattle.gp_flow.specs.Lines.{GetsAll, GetsPrefix, Leaves, Serves, ServesTo, longest_line}
 use Rattle.gp_script.specs.declared.fault.ScriptError.{ScriptError}
 use Rattle.gp_script.specs.declared.fault.ScriptError.TheVariants as errors
 use Rattle.gp_script.specs.declared.fault.ScriptFault.{ScriptFault}
@@ -39,7 +39,7 @@ use Rattle.gp_drive.specs.declared.fault.DriveFault.TheVariants as drives
 use Rattle.gp_drive.specs.declared.driven.Driven.{Driven}
 use Rattle.gp_drive.specs.declared.manner.DriveManner.{DriveManner}
 use Rattle.gp_drive.specs.Drive.{DriveState, begun_in, driving, most_turns, never_over}
-use Rattle.gp_drive.specs.Outcome.{Drives, DrivesInputIn, DrivesScriptIn, DrivesTo, IsNoScript, ServesTurns, longest_line, told}
+use Rattle.gp_drive.specs.Outcome.{Drives, DrivesInputIn, DrivesScriptIn, DrivesTo, IsNoScript, ServesTurns, told}
 use Rattle.gp_drive.specs.Outcome.DrivesInputIn.{NotRead}
 
 -- ---- the lines

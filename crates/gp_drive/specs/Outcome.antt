@@ -11,7 +11,7 @@ use Rattle.gp_trace.specs.Text.{trace_text}
 use Rattle.gp_flow.specs.declared.fault.Unanswered.{Unanswered}
 use Rattle.gp_flow.specs.declared.fault.LinesFault.{LinesFault}
 use Rattle.gp_flow.specs.declared.fault.LinesFault.TheVariants as lines
-use Rattle.gp_flow.specs.Lines.{DoesAll, DoesSome, Leaves, ServesAll, ServesEnded, ServesSome, ended_lines, handed, lines_of}
+use Rattle.gp_flow.specs.Lines.{DoesAll, DoesSome, Leaves, ServesAll, ServesEnded, ServesSome, ended_lines, handed, lines_of, longest_line}
 use Rattle.gp_replay.specs.declared.fault.PlayFault.TheVariants as plays
 use Rattle.gp_replay.specs.declared.fault.RunFault.{RunFault}
 use Rattle.gp_replay.specs.declared.fault.RunFault.TheVariants as runs
@@ -25,10 +25,6 @@ use Rattle.gp_drive.specs.declared.fault.DriveFault.TheVariants as drives
 use Rattle.gp_drive.specs.declared.driven.Driven.{Driven}
 use Rattle.gp_drive.specs.declared.manner.DriveManner.{DriveManner}
 use Rattle.gp_drive.specs.Drive.{DriveState, begun_in, driving, untold}
-
--- the most octets of a line that is looked at
-abbrev pub longest_line : ℕ
-longest_line = 4096
 
 -- the events were played; then the whole input was read, and each of its lines was answered
 pub record DrivesAll {S T W : Type 0} (manner : DriveManner) (playing : Playing S) (start : S) (mask : Mask) (events : List ScriptEvent)

@@ -35,6 +35,10 @@ lines_of (b ∷ bytes) = if b == 10 then [] ∷ lines_of bytes else onto_line b 
 abbrev pub with_feeds : List (List ℕ) → List ℕ
 with_feeds lines = flat_map (λ (line : List ℕ). line ++ 10 ∷ []) lines
 
+-- the most octets of a line that is handed on: `MAX_LINE_BYTES`
+abbrev pub longest_line : ℕ
+longest_line = 4096
+
 -- what is handed on of a line: nothing of one that is longer than the limit
 abbrev pub handed : ℕ → List ℕ → Option (List ℕ)
 handed limit line = if nat_le (length line) limit then Some line else None

@@ -2,9 +2,8 @@
 use Rattle.std.specs.Prelude.{◌==◌, if◌then◌else◌}
 use Rattle.std.proofs.Common.{◌≡◌, ◌≤◌, ◌<◌, ℕ, true, false, List, [], ◌∷◌, ◌++◌, refl, sym, ap, subst, ◌∙◌, append_assoc, append-nil, length, length-append, arith, inl, inr}
 use Rattle.std.proofs.lemmas.Bool.{lt-leb, le-leb}
-use Rattle.gp_flow.specs.Lines.{ended_lines, onto_first}
+use Rattle.gp_flow.specs.Lines.{ended_lines, onto_first, longest_line}
 use Rattle.gp_flow.proofs.LineLemmas.{NoFeed}
-use Rattle.gp_explain.specs.Outcome.{longest_line}
 use Rattle.gp_explain.specs.Telling.{Manner, TellsOneLine}
 use Rattle.gp_tell.specs.Octets.{TellsLine, TellsLines, TellsOctets, onto_open, open_line, told_open}
 

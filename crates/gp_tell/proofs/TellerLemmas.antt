@@ -7,13 +7,13 @@ use Rattle.std.proofs.lemmas.List.Elements.{recursion_from_All}
 use Rattle.std.proofs.Math.Seq.{take-append_seam}
 use Rattle.std.specs.Io.KnownBytes.{Appends}
 use Rattle.std.proofs.KnownBytes.{Appends-trans}
+use Rattle.gp_flow.specs.Lines.{longest_line}
 use Rattle.gp_stream.specs.Sink.{SinkState, Gives, Takes, TakesPrefix}
 use Rattle.gp_stream.specs.Sink as sink
 use Rattle.gp_stream.proofs.SinkLemmas.{gives_unstopped}
 use Rattle.gp_flow.proofs.LineLemmas.{NoFeed}
 use Rattle.gp_lines.specs.Trace.{is_feed}
 use Rattle.gp_stream.specs.declared.sink.WriteStopped.{WriteStopped}
-use Rattle.gp_explain.specs.Outcome.{longest_line}
 use Rattle.gp_explain.specs.Telling.{Manner, TellsOneLine}
 use Rattle.gp_tell.specs.declared.fault.TellFault.{TellFault}
 use Rattle.gp_tell.specs.declared.fault.TellFault.TheVariants.{Write, OutOfMemory}

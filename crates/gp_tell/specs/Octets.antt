@@ -1,7 +1,6 @@
 -- What is told of octets that come in any pieces (this profile's own rule).
 use Rattle.std.specs.Prelude.{◌≡◌, ◌==◌, ◌<◌, ◌≤◌, ◌⊎◌, ℕ, nat_le, if◌then◌else◌, List, [], ◌∷◌, ◌++◌, length}
-use Rattle.gp_flow.specs.Lines.{ended_lines}
-use Rattle.gp_explain.specs.Outcome.{longest_line}
+use Rattle.gp_flow.specs.Lines.{ended_lines, longest_line}
 use Rattle.gp_explain.specs.Telling.{Manner, TellsOneLine}
 
 -- an octet before an open line, unless lines end before that one

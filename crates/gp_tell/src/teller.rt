@@ -37,7 +37,7 @@ pub struct Teller<B: Began, W: Write> {
 
 impl<B: Began, W: Write> Model for Teller<B, W> {
     ghost use Rattle.std.specs.Prelude.{◌≤◌, vec_capacity};
-    ghost use Rattle.gp_explain.specs.Outcome.{longest_line};
+    ghost use Rattle.gp_flow.specs.Lines.{longest_line};
     ghost use Rattle.gp_tell.specs.Teller.{IsTelling, TellerState};
 
     ghost Value = { TellerState W };
