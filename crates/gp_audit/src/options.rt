@@ -8,12 +8,10 @@ ghost use Rattle.gp_audit.specs.RuleSet.{is_side_told, is_told};
 use crate::rule_set::RuleSet;
 use gp_census::CensusForm;
 use gp_finding::FindingForm;
+use gp_lines::PORTS;
 use gp_observer::Rule;
 use gp_ploam::Mask;
 use gp_watch::{Heard, Settings};
-
-/// How many ports a log may tell of.
-pub(crate) const PORTS: usize = 16;
 
 /// How a log is told.
 #[derive(Clone, Copy, Debug, PartialEq, Eq)]

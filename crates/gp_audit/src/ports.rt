@@ -10,9 +10,10 @@ ghost use Rattle.gp_audit.specs.Places.{IsNear};
 
 use crate::book::Book;
 use crate::fault::AuditFault;
-use crate::options::{AuditOptions, PORTS};
+use crate::options::AuditOptions;
 use crate::port::Port;
 use gp_finding::{LineError, Place};
+use gp_lines::PORTS;
 use gp_log::{LogFault, LogLine, Said};
 use std::alloc::{AllocError, Global};
 use std::marker::Model;

@@ -7,13 +7,10 @@ use crate::form::Form;
 use crate::line::push_words;
 use crate::time::{frames_with, push_time};
 use gp_json::{write_object, write_other};
-use gp_lines::{TraceLine, split_line};
+use gp_lines::{PORTS, TraceLine, split_line};
 use gp_ploam::Mask;
 use std::alloc::{AllocError, Global};
 use std::marker::Model;
-
-/// How many ports a trace may tell of.
-const PORTS: usize = 16;
 
 /// Tells lines, one after another. Contracts see what the next line is told by.
 #[derive(Drop)]

@@ -7,9 +7,7 @@ use crate::frames::frames_with;
 use crate::push::push_lines;
 use crate::traced::traced;
 use gp_flow::Unanswered;
-
-/// How many ports a trace may tell of.
-pub(crate) const PORTS: usize = 16;
+use gp_lines::PORTS;
 
 /// Writes what a line of a trace says, in the place of what the buffer holds, and counts its frame, if it is one's.
 /// Tells whether it is a line of a trace. Full where a log can't tell so many frames.
