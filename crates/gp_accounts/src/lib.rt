@@ -28,4 +28,4 @@ mod told;
 pub use fault::CloseFault;
 pub use reconciling::reconcile;
 pub use recorded::Recorded;
-pub use told::Told;
+pub use told::ReceiptList;

@@ -6,7 +6,7 @@ ghost use Rattle.gp_accounts.specs.Places.{AreStarts, GrowBy, IsNamedAgain, entr
 
 use super::places::place_of;
 use super::recorded::Recorded;
-use super::told::Told;
+use super::told::ReceiptList;
 use gp_machine::Receipt;
 
 /// How many ports a receipt can name.
@@ -14,7 +14,7 @@ const PORTS: usize = 256;
 
 /// Tells whether the receipts of all workers and the journals of all ports tell of the same steps, in one pass over
 /// each worker's receipts. There is a mark for each entry, which is not made yet.
-pub(super) fn are_accounted<J: Recorded, W: Told>(
+pub(super) fn are_accounted<J: Recorded, W: ReceiptList>(
     journals: &[J],
     workers: &[W],
     starts: &[usize],

@@ -6,14 +6,14 @@ use super::fault::CloseFault;
 use super::marking::are_accounted;
 use super::places::places_of;
 use super::recorded::Recorded;
-use super::told::Told;
+use super::told::ReceiptList;
 use std::alloc::Global;
 
 /// Tells whether the receipts of all workers and the journals of all ports tell of the same steps: each receipt names
 /// an entry, each worker's numbers on a port rise, and each entry is named by one receipt. The memory for the check
 /// is taken before anything is compared: `OutOfMemory` where the allocator refused it, else `Mismatch` where they do
 /// not.
-pub fn reconcile<J: Recorded, W: Told>(
+pub fn reconcile<J: Recorded, W: ReceiptList>(
     alloc: Global,
     journals: &[J],
     workers: &[W],

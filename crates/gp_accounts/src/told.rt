@@ -5,7 +5,7 @@ ghost use Rattle.gp_machine.specs.declared.entry.Receipt.{Receipt as ReceiptOf};
 use gp_machine::Receipt;
 
 /// What one worker was told, in order.
-pub trait Told {
+pub trait ReceiptList {
     ghost told: { Self → List ReceiptOf };
 
     /// Gives the receipts.
@@ -13,7 +13,7 @@ pub trait Told {
         ensures { result.now ≡ told self.now };
 }
 
-impl Told for Vec<Receipt> {
+impl ReceiptList for Vec<Receipt> {
     ghost told = { λ v. v.items };
 
     fn receipts(&self) -> &[Receipt] {

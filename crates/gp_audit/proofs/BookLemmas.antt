@@ -9,7 +9,7 @@ use Rattle.gp_finding.specs.declared.error.LineError.{LineError}
 use Rattle.gp_finding.specs.declared.push.Place.{Place}
 use Rattle.gp_audit.specs.declared.book.Book.{Book}
 use Rattle.gp_audit.specs.declared.options.AuditOptions.{AuditOptions}
-use Rattle.gp_audit.specs.Book.{Tells}
+use Rattle.gp_audit.specs.Book.{TellsNotices}
 use Rattle.gp_audit.specs.Notice.{Notice, Finding, Fault, errors_among, findings_among, notice_text, notices_text, sum_with}
 
 pub text_more : (options : AuditOptions) (xs ys : List Notice) → notices_text options (xs ++ ys) ≡ notices_text options xs ++ notices_text options ys
@@ -38,11 +38,11 @@ sum_more sum xs ys =
     counts_same sum _ (sum.findings + findings_among (xs ++ ys)) _ (sum.errors + errors_among (xs ++ ys)) (omega (arith, f)) (omega (arith, e))
 
 -- nothing is told
-pub tells_none : (options : AuditOptions) (book : Book) → Tells options [] book book
+pub tells_none : (options : AuditOptions) (book : Book) → TellsNotices options [] book book
 tells_none options book = record { said = sym (append-nil book.said.items); sum = sum_none book.sum }
 
 -- some, and then some
-pub tells_more : (options : AuditOptions) (xs ys : List Notice) (a b c : Book) → Tells options xs a b → Tells options ys b c → Tells options (xs ++ ys) a c
+pub tells_more : (options : AuditOptions) (xs ys : List Notice) (a b c : Book) → TellsNotices options xs a b → TellsNotices options ys b c → TellsNotices options (xs ++ ys) a c
 tells_more options xs ys a b c p q = record {
   said = q.said ∙ ap (λ (l : List ℕ). l ++ notices_text options ys) p.said
       ∙ append_assoc a.said.items (notices_text options xs) (notices_text options ys)
@@ -51,8 +51,8 @@ tells_more options xs ys a b c p q = record {
 }
 
 -- some, and then some if all went well
-pub tells_then : {T E : Type 0} (r : Result T E) (options : AuditOptions) (xs ys : List Notice) (a b c : Book) → Tells options xs a b → OnOk r (Tells options ys b c)
-    → OnOk r (Tells options (xs ++ ys) a c)
+pub tells_then : {T E : Type 0} (r : Result T E) (options : AuditOptions) (xs ys : List Notice) (a b c : Book) → TellsNotices options xs a b → OnOk r (TellsNotices options ys b c)
+    → OnOk r (TellsNotices options (xs ++ ys) a c)
 tells_then (Ok x) options xs ys a b c p q = tells_more options xs ys a b c p q
 tells_then (Err e) options xs ys a b c p q = tt
 
@@ -64,7 +64,7 @@ one_text options notice = append-nil (notice_text options notice)
 -- one finding more
 pub tells_finding : (options : AuditOptions) (watch : Watch) (place : Place) (said : Said) (rule : Rule) (old new : Book)
     → new.said.items ≡ old.said.items ++ notice_text options (Finding watch place said rule)
-    → new.sum ≡ record old.sum { findings = old.sum.findings + 1 } → Tells options (Finding watch place said rule ∷ []) old new
+    → new.sum ≡ record old.sum { findings = old.sum.findings + 1 } → TellsNotices options (Finding watch place said rule ∷ []) old new
 tells_finding options watch place said rule old new text sum = record {
   said = text ∙ ap (λ (l : List ℕ). old.said.items ++ l) (sym (one_text options (Finding watch place said rule)));
   sum = sum ∙ counts_same old.sum (old.sum.findings + 1) (old.sum.findings + 1) old.sum.errors (old.sum.errors + 0) refl (omega arith);
@@ -72,7 +72,7 @@ tells_finding options watch place said rule old new text sum = record {
 
 -- one error more
 pub tells_fault : (options : AuditOptions) (line : ℕ) (error : LineError) (old new : Book) → new.said.items ≡ old.said.items ++ notice_text options (Fault line error)
-    → new.sum ≡ record old.sum { errors = old.sum.errors + 1 } → Tells options (Fault line error ∷ []) old new
+    → new.sum ≡ record old.sum { errors = old.sum.errors + 1 } → TellsNotices options (Fault line error ∷ []) old new
 tells_fault options line error old new text sum = record {
   said = text ∙ ap (λ (l : List ℕ). old.said.items ++ l) (sym (one_text options (Fault line error)));
   sum = sum ∙ counts_same old.sum old.sum.findings (old.sum.findings + 0) (old.sum.errors + 1) (old.sum.errors + 1) (omega arith) refl;

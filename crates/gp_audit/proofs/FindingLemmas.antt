@@ -9,7 +9,7 @@ use Rattle.gp_log.specs.declared.said.Said.{Said}
 use Rattle.gp_finding.specs.declared.push.Place.{Place}
 use Rattle.gp_audit.specs.declared.book.Book.{Book}
 use Rattle.gp_audit.specs.declared.options.AuditOptions.{AuditOptions}
-use Rattle.gp_audit.specs.Book.{Tells}
+use Rattle.gp_audit.specs.Book.{TellsNotices}
 use Rattle.gp_audit.specs.Hearing.{findings_of}
 use Rattle.gp_audit.specs.Notice.{Notice, Finding}
 use Rattle.gp_audit.proofs.BookLemmas.{tells_more}
@@ -26,16 +26,16 @@ found_next test watch place said rules i d more within is =
 
 -- one more, if it is told
 pub found_more : (options : AuditOptions) (test : Rule → Bool) (watch : Watch) (place : Place) (said : Said) (rules : List Rule) (i : ℕ) (d : Rule) (a b c : Book)
-    → i < length rules → Tells options (found test watch place said rules i) a b
-    → Tells options (findings_of watch place said (if test (get_or rules i d) then get_or rules i d ∷ [] else [])) b c
-    → Tells options (found test watch place said rules (i + 1)) a c
+    → i < length rules → TellsNotices options (found test watch place said rules i) a b
+    → TellsNotices options (findings_of watch place said (if test (get_or rules i d) then get_or rules i d ∷ [] else [])) b c
+    → TellsNotices options (found test watch place said rules (i + 1)) a c
 found_more options test watch place said rules i d a b c within p q =
     let one : List Rule = if test (get_or rules i d) then get_or rules i d ∷ [] else [] in
-    subst (λ (ns : List Notice). Tells options ns a c) (sym (found_next test watch place said rules i d one within (filter_more test rules i d within)))
+    subst (λ (ns : List Notice). TellsNotices options ns a c) (sym (found_next test watch place said rules i d one within (filter_more test rules i d within)))
     (tells_more options (found test watch place said rules i) (findings_of watch place said one) a b c p q)
 
 -- all of them
 pub found_all : (options : AuditOptions) (test : Rule → Bool) (watch : Watch) (place : Place) (said : Said) (rules wanted : List Rule) (i : ℕ) (a b : Book)
-    → rules ≡ wanted → length rules ≤ i → Tells options (found test watch place said rules i) a b → Tells options (findings_of watch place said (filter test wanted)) a b
+    → rules ≡ wanted → length rules ≤ i → TellsNotices options (found test watch place said rules i) a b → TellsNotices options (findings_of watch place said (filter test wanted)) a b
 found_all options test watch place said rules wanted i a b same all p =
-    subst (λ (rs : List Rule). Tells options (findings_of watch place said (filter test rs)) a b) (take_all i rules all ∙ same) p
+    subst (λ (rs : List Rule). TellsNotices options (findings_of watch place said (filter test rs)) a b) (take_all i rules all ∙ same) p

@@ -3,18 +3,18 @@ use Rattle.std.proofs.Common.{◌≡◌, ℕ, true, false, List, [], ◌++◌, R
 use Rattle.std.proofs.Math.Seq.{take-append_seam}
 use Rattle.std.specs.Io.KnownBytes.{Appends}
 use Rattle.std.proofs.KnownBytes.{Appends-trans}
-use Rattle.gp_flow.specs.declared.fault.LineFault.{LineFault}
-use Rattle.gp_flow.specs.declared.fault.LineFault.TheVariants.{Write, OutOfMemory, Full}
+use Rattle.gp_flow.specs.declared.fault.Unanswered.{Unanswered}
+use Rattle.gp_flow.specs.declared.fault.Unanswered.TheVariants.{Write, OutOfMemory, Full}
 use Rattle.gp_flow.specs.declared.fault.LinesFault.{LinesFault}
 use Rattle.gp_flow.specs.declared.fault.LinesFault.TheVariants as faults
 use Rattle.gp_flow.specs.declared.lines.LinesEnd.{LinesEnd}
 use Rattle.gp_flow.specs.declared.lines.LinesEnd.TheVariants.{Whole, Open, Over}
-use Rattle.gp_flow.specs.Lines.{GetsPrefix, ServesAll, ServesTo, handed, lines_of}
+use Rattle.gp_flow.specs.Lines.{GetsPrefix, ServesAll, ServesTo, handed, lines_of, longest_line}
 use Rattle.gp_stream.specs.Sink.{SinkState, KeepsNothing, TakesPrefix}
 use Rattle.gp_stream.specs.Source.{SourceState}
 use Rattle.gp_finding.specs.declared.error.AuditSum.{AuditSum}
 use Rattle.gp_audit.specs.Audit.{AuditState, Auditing, never}
-use Rattle.gp_audit.specs.Outcome.{AuditsLog, IsAudited, IsRead, LeavesUnended, TellsEnd, longest_line}
+use Rattle.gp_audit.specs.Outcome.{AuditsLog, IsAudited, IsRead, LeavesUnended, TellsEnd}
 use Rattle.gp_audit.specs.Ending.{end_text}
 use Rattle.gp_audit.proofs.CountLemmas.{counts}
 
@@ -79,13 +79,13 @@ module _ {R W : Type 0} (old new : AuditState) (from to : SourceState R) (before
             (Appends-trans before.held between.held after.held (before.gathered ++ said) p.written written p.appended);
       }
 
-  left : (fault : LineFault) (s : Spoken old new from to before between) → TellsEnd new between after (Err fault) → LeavesUnended fault before after s.said (end_text new)
+  left : (fault : Unanswered) (s : Spoken old new from to before between) → TellsEnd new between after (Err fault) → LeavesUnended fault before after s.said (end_text new)
   left Write s t = prefix s.said (end_text new) s.written s.kept.0 t
   left OutOfMemory s t =
       subst (λ (x : SinkState W). Appends before.held x.held (before.gathered ++ s.said) × KeepsNothing x) (sym t) (s.written, s.kept)
   left Full s t = t
 
-  unsummed : (fault : LineFault) → Spoken old new from to before between → TellsEnd new between after (Err fault)
+  unsummed : (fault : Unanswered) → Spoken old new from to before between → TellsEnd new between after (Err fault)
       → AuditsLog old new from to before after (Err (faults.Line fault))
   unsummed fault s t = inr (record { said = s.said; audited = s.audited; left = left fault s t })
 
@@ -98,7 +98,7 @@ audited_as old new later from to before between after end sum s t same counted =
     subst (λ (x : AuditState). IsAudited old x from to before after sum) (sym same)
     (summed old new from to before between after sum (spoken old new from to before between after end s) t (counted ∙ ap (λ (x : AuditState). x.sum) same))
 
-pub unsummed_as : {R W : Type 0} (old new later : AuditState) (from to : SourceState R) (before between after : SinkState W) (end : LinesEnd) (fault : LineFault)
+pub unsummed_as : {R W : Type 0} (old new later : AuditState) (from to : SourceState R) (before between after : SinkState W) (end : LinesEnd) (fault : Unanswered)
     (r : Result AuditSum LinesFault) → ServesTo Auditing never longest_line end from to old new before between → TellsEnd new between after (Err fault) → later ≡ new
     → IsErrAnd r (λ f. f ≡ faults.Line fault) → AuditsLog old later from to before after r
 unsummed_as old new later from to before between after end fault (Ok sum) s t same told = absurd told

@@ -1,7 +1,7 @@
 -- Lines that are handed to an auditor.
 use Rattle.std.proofs.Common.{◌≡◌, ℕ, ◌+◌, List, ◌++◌, Option, Result, Ok, Err, IsErrAnd, sym, ap, subst, ◌∙◌}
-use Rattle.gp_flow.specs.declared.fault.LineFault.{LineFault}
-use Rattle.gp_flow.specs.declared.fault.LineFault.TheVariants.{Write}
+use Rattle.gp_flow.specs.declared.fault.Unanswered.{Unanswered}
+use Rattle.gp_flow.specs.declared.fault.Unanswered.TheVariants.{Write}
 use Rattle.gp_flow.specs.Lines.{Answers}
 use Rattle.gp_flow.proofs.AnswerLemmas.{put_stopped}
 use Rattle.gp_stream.specs.declared.sink.WriteStopped.{WriteStopped}
@@ -14,7 +14,7 @@ use Rattle.gp_audit.specs.declared.book.Book.{Book}
 use Rattle.gp_audit.specs.declared.options.AuditForm.{AuditForm}
 use Rattle.gp_audit.specs.Again.{TellsAgain}
 use Rattle.gp_audit.specs.Audit.{AuditState, Auditing, Audits, ReadsLine, TellsLineAgain, next_told}
-use Rattle.gp_audit.specs.Book.{Tells}
+use Rattle.gp_audit.specs.Book.{TellsNotices}
 use Rattle.gp_audit.specs.Hearing.{ports_after, told_of}
 use Rattle.gp_audit.specs.Notice.{notices_text, sum_behind, sum_with}
 use Rattle.gp_audit.specs.Port.{PortState}
@@ -26,7 +26,7 @@ stands old ports sum = record old { ports = ports; sum = sum }
 -- what the book says of a line is what is said to it
 pub audited : (old : AuditState) (line : Option (List ℕ)) (read : Result LogLine LogFault) (again : List ℕ) (a b : Book) (ports : List PortState)
     → ReadsLine line read → TellsLineAgain old.options line read again → a.said.items ≡ again → a.sum ≡ sum_behind old.sum
-    → Tells old.options (next_told old read) a b → ports ≡ ports_after old.options old.ports read → Audits old line b.said.items (stands old ports b.sum)
+    → TellsNotices old.options (next_told old read) a b → ports ≡ ports_after old.options old.ports read → Audits old line b.said.items (stands old ports b.sum)
 audited old line read again a b ports reads tells first begun told noted =
     let sums = told.sum ∙ ap (λ (s : AuditSum). sum_with s (next_told old read)) begun in (
       read,
@@ -42,10 +42,10 @@ audited old line read again a b ports reads tells first begun told noted =
 -- the same of a line with this number, and how it stood before it
 pub line_says : (old now : AuditState) (line : Option (List ℕ)) (read : Result LogLine LogFault) (again said : List ℕ) (number : ℕ) (a b : Book) (ports : List PortState) → old ≡ now
     → ReadsLine line read → TellsLineAgain old.options line read again → a.said.items ≡ again → a.sum ≡ sum_behind old.sum → number ≡ old.sum.lines + 1
-    → Tells old.options (told_of old.options old.ports number read) a b → ports ≡ ports_after old.options old.ports read → said ≡ b.said.items
+    → TellsNotices old.options (told_of old.options old.ports number read) a b → ports ≡ ports_after old.options old.ports read → said ≡ b.said.items
     → Audits now line said (stands old ports b.sum)
 line_says old now line read again said number a b ports is reads tells first begun counted told noted all =
-    let here = subst (λ (n : ℕ). Tells old.options (told_of old.options old.ports n read) a b) counted told in
+    let here = subst (λ (n : ℕ). TellsNotices old.options (told_of old.options old.ports n read) a b) counted told in
     let says = audited old line read again a b ports reads tells first begun here noted in
     subst (λ (o : AuditState). Audits o line said (stands old ports b.sum)) is
     (subst (λ (l : List ℕ). Audits old line l (stands old ports b.sum)) (sym all) says)
@@ -57,9 +57,9 @@ again_told form m mask t text read out masked same h =
     subst (λ (x : Mask). TellsAgain form x text read out) masked (subst (λ (x : List ℕ). TellsAgain form m x read out) same h)
 
 -- a line of which the writer took a part
-pub stopped_as : {W T : Type 0} (line : Option (List ℕ)) (old new next : AuditState) (before after : SinkState W) (said : List ℕ) (e : WriteStopped) (r : Result (Unit {0}) LineFault)
+pub stopped_as : {W T : Type 0} (line : Option (List ℕ)) (old new next : AuditState) (before after : SinkState W) (said : List ℕ) (e : WriteStopped) (r : Result (Unit {0}) Unanswered)
     → Audits old line said next → Puts {T = T} before after said (Err e) → IsErrAnd r (λ f. f ≡ Write) → Answers Auditing line old new before after r
 stopped_as line old new next before after said e (Ok x) says puts told = absurd told
 stopped_as line old new next before after said e (Err f) says puts told =
-    subst (λ (g : LineFault). Answers {T = Unit {0}} Auditing line old new before after (Err g)) (sym told)
+    subst (λ (g : Unanswered). Answers {T = Unit {0}} Auditing line old new before after (Err g)) (sym told)
     (put_stopped Auditing line old new next before after said e says puts)

@@ -1,8 +1,8 @@
 -- What is told when a log has ended: what was counted of its units, where that is wanted, and the sum (this profile's own
 -- rule).
 use Rattle.std.specs.Prelude.{ℕ, zero, suc, Bool, true, false, List, [], ◌++◌, if◌then◌else◌}
-use Rattle.gp_census.specs.declared.telling.CensusForm.{CensusForm}
-use Rattle.gp_census.specs.declared.telling.CensusForm.TheVariants as censuses
+use Rattle.gp_census.specs.declared.pushing.CensusForm.{CensusForm}
+use Rattle.gp_census.specs.declared.pushing.CensusForm.TheVariants as censuses
 use Rattle.gp_census.specs.Text.{told_census}
 use Rattle.gp_finding.specs.Told.{told_sum}
 use Rattle.gp_audit.specs.declared.options.AuditForm.{AuditForm}

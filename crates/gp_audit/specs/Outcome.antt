@@ -1,11 +1,11 @@
 -- How auditing a log may end (this profile's own rule).
 use Rattle.std.specs.Prelude.{◌≡◌, ◌≢◌, ◌⊎◌, ℕ, ◌+◌, true, List, [], ◌∷◌, ◌++◌, length, map, Option, Result, Ok, Err}
 use Rattle.std.specs.Io.KnownBytes.{Appends}
-use Rattle.gp_flow.specs.declared.fault.LineFault.{LineFault}
-use Rattle.gp_flow.specs.declared.fault.LineFault.TheVariants.{Write, OutOfMemory, Full}
+use Rattle.gp_flow.specs.declared.fault.Unanswered.{Unanswered}
+use Rattle.gp_flow.specs.declared.fault.Unanswered.TheVariants.{Write, OutOfMemory, Full}
 use Rattle.gp_flow.specs.declared.fault.LinesFault.{LinesFault}
 use Rattle.gp_flow.specs.declared.fault.LinesFault.TheVariants.{Read, Line}
-use Rattle.gp_flow.specs.Lines.{DoesAll, GetsPrefix, Leaves, ServesEnded, ServesSome, handed, lines_of}
+use Rattle.gp_flow.specs.Lines.{DoesAll, GetsPrefix, Leaves, ServesEnded, ServesSome, handed, lines_of, longest_line}
 use Rattle.gp_stream.specs.Sink.{SinkState, KeepsNothing, TakesPrefix}
 use Rattle.gp_stream.specs.Source.{SourceState, ReadsWhole}
 use Rattle.gp_log.specs.declared.fault.LogFault.{LogFault}
@@ -15,10 +15,6 @@ use Rattle.gp_audit.specs.declared.options.AuditForm.TheVariants.{Words}
 use Rattle.gp_audit.specs.Audit.{AuditState, Auditing, ReadsLine, audit_after, next_told}
 use Rattle.gp_audit.specs.Ending.{end_text}
 use Rattle.gp_audit.specs.Notice.{Notice, errors_among, findings_among, notices_text}
-
--- the most octets of a line that is looked at
-abbrev pub longest_line : ℕ
-longest_line = 4096
 
 -- these are told of lines, one after another
 abbrev pub AreTold : AuditState → List (Option (List ℕ)) → List Notice → AuditState → Type 0
@@ -46,7 +42,7 @@ pub record IsRead {R : Type 0} (from to : SourceState R) (old : AuditState) (sai
     pub counts : Counts old (map (handed longest_line) (lines_of text)) said new
 
 -- the units and the sum were told, or not: where memory is refused nothing is written
-abbrev pub TellsEnd : {W : Type 0} → AuditState → SinkState W → SinkState W → Result (Unit {0}) LineFault → Type 0
+abbrev pub TellsEnd : {W : Type 0} → AuditState → SinkState W → SinkState W → Result (Unit {0}) Unanswered → Type 0
 TellsEnd state before after (Ok _) =
     Appends before.held after.held (before.gathered ++ end_text state) × (after.gathered ≡ [])
     × (before.flushed ≡ true → after.flushed ≡ true)
@@ -66,13 +62,13 @@ pub record IsAudited {R W : Type 0} (old new : AuditState) (from to : SourceStat
 
 -- each line was audited, and the end was not told: for want of memory, and then the writer got all that is said to the
 -- lines; or since a write failed, and then it got a prefix of that and of the end
-abbrev pub LeavesUnended : {W : Type 0} → LineFault → SinkState W → SinkState W → List ℕ → List ℕ → Type 0
+abbrev pub LeavesUnended : {W : Type 0} → Unanswered → SinkState W → SinkState W → List ℕ → List ℕ → Type 0
 LeavesUnended OutOfMemory before after said end =
     Appends before.held after.held (before.gathered ++ said) × KeepsNothing after
 LeavesUnended Write before after said end = GetsPrefix before after (said ++ end)
 LeavesUnended Full before after said end = ⊥
 
-pub record IsUnended {R W : Type 0} (fault : LineFault) (old new : AuditState) (from to : SourceState R)
+pub record IsUnended {R W : Type 0} (fault : Unanswered) (old new : AuditState) (from to : SourceState R)
     (before after : SinkState W) : Type 0 where
   pub said : List ℕ
   pub audited : IsRead from to old said new

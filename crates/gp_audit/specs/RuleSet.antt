@@ -3,7 +3,7 @@ use Rattle.std.specs.Prelude.{ℕ, Bool, false, ◌&&◌, replicate, slice_index
 use Rattle.gp_observer.specs.declared.rule.Rule.{Rule}
 use Rattle.gp_observer.specs.declared.rule.Rule.TheVariants as rule
 use Rattle.gp_observer.specs.Heard.{Heard, HeardDown, HeardUp, HeardGrant}
-use Rattle.gp_audit.specs.declared.options.Told.{Told}
+use Rattle.gp_audit.specs.declared.options.FindingChoice.{FindingChoice}
 use Rattle.gp_audit.specs.declared.rule_set.RuleSet.{RuleSet}
 
 -- how many rules there are
@@ -45,11 +45,11 @@ abbrev pub with_rule : Bool → RuleSet → Rule → RuleSet
 with_rule is_in set rule = record { places = slice_set set.places (rule_place rule) is_in }
 
 -- what is heard is of a side that is told
-abbrev pub is_side_told : Told → Heard → Bool
+abbrev pub is_side_told : FindingChoice → Heard → Bool
 is_side_told told (HeardDown message) = told.terminal
 is_side_told told (HeardUp message delay) = told.units
 is_side_told told (HeardGrant grant) = told.terminal
 
 -- it is told that this breaks the rule
-abbrev pub is_told : Told → Heard → Rule → Bool
+abbrev pub is_told : FindingChoice → Heard → Rule → Bool
 is_told told heard rule = is_side_told told heard && contains told.rules rule

@@ -4,7 +4,7 @@ ghost use Rattle.gp_audit.specs.Again.{TellsAgain, TellsCode, TellsRead, TellsSa
 ghost use Rattle.gp_audit.specs.Places.{IsTraced};
 
 use crate::options::AuditForm;
-use gp_decode::{LineFault, push_check_note, push_words_of};
+use gp_decode::{DecodeFault, push_check_note, push_words_of};
 use gp_explain::{Form, Telling};
 use gp_log::{LogFault, LogLine, Said};
 use gp_ploam::Mask;
@@ -62,7 +62,7 @@ fn push_code(
     out.extend_from_slice(b" (")?;
     match push_words_of(out, code, upstream, mask) {
         Ok(()) => out.extend_from_slice(b")"),
-        Err(LineFault::Crc) => push_wanted(out, note, code, mask),
+        Err(DecodeFault::Crc) => push_wanted(out, note, code, mask),
         Err(_) => Err(AllocError),
     }
 }

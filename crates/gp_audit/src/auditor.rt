@@ -9,7 +9,7 @@ use crate::book::Book;
 use crate::options::AuditOptions;
 use crate::ports::Ports;
 use gp_finding::{AuditSum, push_sum};
-use gp_flow::LineFault;
+use gp_flow::Unanswered;
 use gp_stream::Sink;
 use std::alloc::{AllocError, Global};
 use std::io::Write;
@@ -80,7 +80,7 @@ impl Auditor {
     }
 
     /// Writes what was counted of the units, where that is wanted, and the sum.
-    pub(crate) fn tell_end<W: Write>(&mut self, sink: &mut Sink<W>) -> Result<(), LineFault>
+    pub(crate) fn tell_end<W: Write>(&mut self, sink: &mut Sink<W>) -> Result<(), Unanswered>
         ensures told { TellsEnd self.old sink.old sink.new result }
         ensures same { self.new ≡ self.old }
     {

@@ -1,7 +1,7 @@
 //! What is said of the line at hand, and the counts.
 ghost use Rattle.std.specs.Prelude.{◌≡◌, ◌+◌, ◌<◌, [], ◌∷◌, IfOk, OnOk};
 ghost use Rattle.gp_watch.specs.Heard.{settings_of};
-ghost use Rattle.gp_audit.specs.Book.{Tells};
+ghost use Rattle.gp_audit.specs.Book.{TellsNotices};
 ghost use Rattle.gp_audit.specs.Notice.{Finding, Fault, sum_behind};
 
 use crate::fault::AuditFault;
@@ -43,7 +43,7 @@ impl Book {
         rule: Rule,
     ) -> Result<(), AuditFault>
         requires { place.now.port < 16 }
-        ensures { OnOk result (Tells options.now (Finding watch.now place.now said.now rule ∷ []) self.old self.new) }
+        ensures { OnOk result (TellsNotices options.now (Finding watch.now place.now said.now rule ∷ []) self.old self.new) }
     {
         if self.sum.findings == u64::MAX {
             return Err(AuditFault::Full);
@@ -71,7 +71,7 @@ impl Book {
         line: u64,
         error: LineError,
     ) -> Result<(), AuditFault>
-        ensures { OnOk result (Tells options.now (Fault line error ∷ []) self.old self.new) }
+        ensures { OnOk result (TellsNotices options.now (Fault line error ∷ []) self.old self.new) }
     {
         if self.sum.errors == u64::MAX {
             return Err(AuditFault::Full);

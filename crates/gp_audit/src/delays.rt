@@ -3,8 +3,7 @@ ghost use Rattle.std.specs.Prelude.{◌≡◌, Ok, Err, None, Some, MatchResult,
 ghost use Rattle.gp_audit.specs.Delays as spec;
 ghost use Rattle.gp_audit.specs.Texts.{given, texts};
 
-use crate::options::PORTS;
-use gp_lines::{LAST_PORT, number_in};
+use gp_lines::{LAST_PORT, PORTS, number_in};
 
 /// The equalized round-trip delay of a port where none is given, in bit times.
 const EQUALIZED_DELAY: u32 = 311_040;

@@ -2,7 +2,7 @@
 ghost use Rattle.std.specs.Prelude.{◌≡◌};
 ghost use Rattle.gp_audit.specs.Faults.{of_watch, unanswered};
 
-use gp_flow::LineFault;
+use gp_flow::Unanswered;
 use gp_watch::WatchFault;
 use std::alloc::AllocError;
 
@@ -36,13 +36,13 @@ impl From<WatchFault> for AuditFault {
     }
 }
 
-impl From<AuditFault> for LineFault {
+impl From<AuditFault> for Unanswered {
     ghost from_gives = { λ audit fault. fault ≡ unanswered audit };
 
-    fn from(fault: AuditFault) -> LineFault {
+    fn from(fault: AuditFault) -> Unanswered {
         match fault {
-            AuditFault::OutOfMemory => LineFault::OutOfMemory,
-            AuditFault::Full => LineFault::Full,
+            AuditFault::OutOfMemory => Unanswered::OutOfMemory,
+            AuditFault::Full => Unanswered::Full,
         }
     }
 }

@@ -36,7 +36,8 @@ mod serving;
 
 pub use auditor::Auditor;
 pub use delays::equalized_delays;
-pub use options::{AuditForm, AuditOptions, Told};
+pub use gp_lines::PORTS;
+pub use options::{AuditForm, AuditOptions, FindingChoice};
 pub use rule_names::rules_told;
 pub use rule_set::RuleSet;
 pub use running::audit_log;

@@ -8,12 +8,10 @@ ghost use Rattle.gp_audit.specs.RuleSet.{is_side_told, is_told};
 use crate::rule_set::RuleSet;
 use gp_census::CensusForm;
 use gp_finding::FindingForm;
+use gp_lines::PORTS;
 use gp_observer::Rule;
 use gp_ploam::Mask;
 use gp_watch::{Heard, Settings};
-
-/// How many ports a log may tell of.
-pub(crate) const PORTS: usize = 16;
 
 /// How a log is told.
 #[derive(Clone, Copy, Debug, PartialEq, Eq)]
@@ -28,7 +26,7 @@ pub enum AuditForm {
 
 /// Which findings are told.
 #[derive(Clone, Copy, Debug, PartialEq, Eq)]
-pub struct Told {
+pub struct FindingChoice {
     /// Those of the line terminal.
     pub terminal: bool,
     /// Those of the units.
@@ -37,7 +35,7 @@ pub struct Told {
     pub rules: RuleSet,
 }
 
-impl Told {
+impl FindingChoice {
     /// Tells whether findings of its side are told.
     fn tells_side(&self, heard: &Heard) -> bool
         ensures { result ≡ is_side_told self.now (heard_of heard.now) }
@@ -69,7 +67,7 @@ pub struct AuditOptions {
     /// one was heard.
     pub midway: bool,
     /// Which findings are told.
-    pub told: Told,
+    pub told: FindingChoice,
     /// How they are told.
     pub form: AuditForm,
     /// Whether what was heard of each unit is told at the end. Each thing that is heard then costs a look for its unit.

@@ -1,7 +1,7 @@
 //! What is known of one port, and what is told of something that is heard there.
 ghost use Rattle.std.specs.Prelude.{◌≡◌, ◌<◌, ◌||◌, [], ◌∷◌, ◌++◌, if◌then◌else◌, IfOk, OnOk};
 ghost use Rattle.gp_watch.specs.Heard.{followed_down, followed_up, heard_of, IsFitting};
-ghost use Rattle.gp_audit.specs.Book.{Tells};
+ghost use Rattle.gp_audit.specs.Book.{TellsNotices};
 ghost use Rattle.gp_audit.specs.Ending.{units_of};
 ghost use Rattle.gp_audit.specs.Hearing.{census_after, findings_of, followed_in, full_told, heard_told, log_told, maybe_told, overfills, port_after, port_behind, port_logged, port_maybe, port_ticked, port_traced, said_told, told_rules, trace_told};
 ghost use Rattle.gp_audit.specs.Port.{is_silent, port_begun, time_after};
@@ -121,7 +121,7 @@ impl Port {
         rule: Rule,
     ) -> Result<(), AuditFault>
         requires { place.now.port < 16 }
-        ensures { OnOk result (Tells options.now (findings_of self.now.watch place.now said.now
+        ensures { OnOk result (TellsNotices options.now (findings_of self.now.watch place.now said.now
             (if is_told options.now.told (heard_of heard.now) rule then rule ∷ [] else [])) book.old book.new) }
     {
         if options.told.tells(heard, rule) {
@@ -140,7 +140,7 @@ impl Port {
         heard: &Heard,
     ) -> Result<(), AuditFault>
         requires { place.now.port < 16 }
-        ensures { OnOk result (Tells options.now (findings_of self.now.watch place.now said.now
+        ensures { OnOk result (TellsNotices options.now (findings_of self.now.watch place.now said.now
             (told_rules options.now place.now.port self.now.watch (heard_of heard.now))) book.old book.new) }
     {
         let broken = self.watch.broken(&options.settings(place.port), heard);
@@ -159,7 +159,7 @@ impl Port {
         line: u64,
         overfills: bool,
     ) -> Result<(), AuditFault>
-        ensures told { OnOk result (Tells options.now (full_told line self.old.full overfills) book.old book.new) }
+        ensures told { OnOk result (TellsNotices options.now (full_told line self.old.full overfills) book.old book.new) }
         ensures full { OnOk result (self.new ≡ record self.old { full = self.old.full || overfills }) }
     {
         if overfills && !self.full {
@@ -207,7 +207,7 @@ impl Port {
     ) -> Result<(), AuditFault>
         requires port { place.now.port < 16 }
         requires fits { IsFitting heard.now }
-        ensures told { OnOk result (Tells options.now
+        ensures told { OnOk result (TellsNotices options.now
             (heard_told options.now place.now self.old said.now (heard_of heard.now)) book.old book.new) }
         ensures noted { OnOk result (self.new ≡ port_after options.now self.old (heard_of heard.now)) }
     {
@@ -229,7 +229,7 @@ impl Port {
         said: &Said,
     ) -> Result<(), AuditFault>
         requires { place.now.port < 16 }
-        ensures told { OnOk result (Tells options.now (said_told options.now place.now self.old said.now)
+        ensures told { OnOk result (TellsNotices options.now (said_told options.now place.now self.old said.now)
             book.old book.new) }
         ensures noted { OnOk result (self.new ≡ port_behind options.now self.old said.now) }
     {
@@ -246,7 +246,7 @@ impl Port {
         said: &Option<Said>,
     ) -> Result<(), AuditFault>
         requires { place.now.port < 16 }
-        ensures told { OnOk result (Tells options.now (maybe_told options.now place.now self.old said.now)
+        ensures told { OnOk result (TellsNotices options.now (maybe_told options.now place.now self.old said.now)
             book.old book.new) }
         ensures noted { OnOk result (self.new ≡ port_maybe options.now self.old said.now) }
     {
@@ -266,7 +266,7 @@ impl Port {
         said: &Said,
     ) -> Result<(), AuditFault>
         requires { place.now.port < 16 }
-        ensures told { OnOk result (Tells options.now (log_told options.now place.now self.old time said.now)
+        ensures told { OnOk result (TellsNotices options.now (log_told options.now place.now self.old time said.now)
             book.old book.new) }
         ensures noted { OnOk result (self.new ≡ port_logged options.now self.old time said.now) }
     {
@@ -297,7 +297,7 @@ impl Port {
         second: &Option<Said>,
     ) -> Result<(), AuditFault>
         requires { place.now.port < 16 }
-        ensures told { OnOk result (Tells options.now
+        ensures told { OnOk result (TellsNotices options.now
             (trace_told options.now place.now (port_ticked self.old is_frame) first.now second.now) book.old book.new) }
         ensures noted { OnOk result (self.new
             ≡ port_traced options.now (port_ticked self.old is_frame) first.now second.now) }

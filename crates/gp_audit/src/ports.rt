@@ -1,6 +1,6 @@
 //! What is known of each of sixteen ports, and a line heard on its own.
 ghost use Rattle.std.specs.Prelude.{◌≡◌, ◌<◌, ◌++◌, IfOk, OnOk, replicate, length, slice_set};
-ghost use Rattle.gp_audit.specs.Book.{Tells};
+ghost use Rattle.gp_audit.specs.Book.{TellsNotices};
 ghost use Rattle.gp_audit.specs.Audit.{most_ports};
 ghost use Rattle.gp_audit.specs.Ending.{first_units};
 ghost use Rattle.gp_audit.specs.Hearing.{log_told, port_at, port_logged, port_ticked, port_traced, ports_after, told_of, trace_told};
@@ -10,9 +10,10 @@ ghost use Rattle.gp_audit.specs.Places.{IsNear};
 
 use crate::book::Book;
 use crate::fault::AuditFault;
-use crate::options::{AuditOptions, PORTS};
+use crate::options::AuditOptions;
 use crate::port::Port;
 use gp_finding::{LineError, Place};
+use gp_lines::PORTS;
 use gp_log::{LogFault, LogLine, Said};
 use std::alloc::{AllocError, Global};
 use std::marker::Model;
@@ -91,7 +92,7 @@ impl Ports {
         said: &Said,
     ) -> Result<(), AuditFault>
         requires { place.now.port < 16 }
-        ensures told { OnOk result (Tells options.now (log_told options.now place.now
+        ensures told { OnOk result (TellsNotices options.now (log_told options.now place.now
             (port_at options.now self.old place.now.port) time said.now) book.old book.new) }
         ensures noted { OnOk result (self.new ≡ slice_set self.old place.now.port
             (port_logged options.now (port_at options.now self.old place.now.port) time said.now)) }
@@ -111,7 +112,7 @@ impl Ports {
         second: &Option<Said>,
     ) -> Result<(), AuditFault>
         requires { place.now.port < 16 }
-        ensures told { OnOk result (Tells options.now (trace_told options.now place.now
+        ensures told { OnOk result (TellsNotices options.now (trace_told options.now place.now
             (port_ticked (port_at options.now self.old place.now.port) is_frame) first.now second.now)
             book.old book.new) }
         ensures noted { OnOk result (self.new ≡ slice_set self.old place.now.port (port_traced options.now
@@ -130,7 +131,7 @@ impl Ports {
         read: &Result<LogLine, LogFault>,
     ) -> Result<(), AuditFault>
         requires { IsNear read.now }
-        ensures told { OnOk result (Tells options.now (told_of options.now self.old line read.now) book.old book.new) }
+        ensures told { OnOk result (TellsNotices options.now (told_of options.now self.old line read.now) book.old book.new) }
         ensures noted { OnOk result (self.new ≡ ports_after options.now self.old read.now) }
     {
         match read {

@@ -1,7 +1,7 @@
 //! An auditor serves lines, and is never over: a line that is none is told as an error.
 use crate::auditor::Auditor;
 use gp_finding::LineError;
-use gp_flow::{LineFault, LineWork};
+use gp_flow::{LineWork, Unanswered};
 use gp_log::{LogFault, read_line, text_of};
 use gp_stream::Sink;
 use std::io::Write;
@@ -17,7 +17,7 @@ impl LineWork for Auditor {
         false
     }
 
-    fn line<W: Write>(&mut self, text: &[u8], sink: &mut Sink<W>) -> Result<(), LineFault> {
+    fn line<W: Write>(&mut self, text: &[u8], sink: &mut Sink<W>) -> Result<(), Unanswered> {
         let read = read_line(text);
         let number = self.book.begin_line()?;
         self.again.tell_in(self.options.form, text_of(text), &read, &mut self.book.said)?;
@@ -27,7 +27,7 @@ impl LineWork for Auditor {
         Ok(())
     }
 
-    fn long_line<W: Write>(&mut self, sink: &mut Sink<W>) -> Result<(), LineFault> {
+    fn long_line<W: Write>(&mut self, sink: &mut Sink<W>) -> Result<(), Unanswered> {
         let number = self.book.begin_line()?;
         self.book
             .tell_error(&self.options, number, LineError::Log(LogFault::Long))?;

@@ -1,5 +1,5 @@
 //! Logs in words, and what an audit says of one.
-use gp_audit::{AuditForm, AuditOptions, Auditor, RuleSet, Told, audit_log};
+use gp_audit::{AuditForm, AuditOptions, Auditor, FindingChoice, RuleSet, audit_log};
 use gp_encode::encode_words;
 use gp_flow::LinesFault;
 use gp_log::{Said, push_entry};
@@ -15,7 +15,7 @@ pub(crate) fn plain_options() -> AuditOptions {
         teqd: [311_040; 16],
         drift: 8,
         midway: false,
-        told: Told {
+        told: FindingChoice {
             terminal: true,
             units: true,
             rules: RuleSet::all(),

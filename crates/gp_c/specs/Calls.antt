@@ -95,7 +95,7 @@ ServesEvent before port event after answered =
     → StaysOpen after (λ new. Answers core port event new answered))
 
 -- what the caller is told of that
-pub record Tells (before : Option CoreState) (port : ℕ) (event : Event) (after : Option CoreState) (status : ℕ)
+pub record TellsAnswer (before : Option CoreState) (port : ℕ) (event : Event) (after : Option CoreState) (status : ℕ)
     (old new : AnswerNumbers) : Type 0 where
   pub answered : Result AnswerNumbers Fault
   pub serves : ServesEvent before port event after answered

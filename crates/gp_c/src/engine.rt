@@ -23,22 +23,13 @@ pub struct Engine<L: Ledger> {
 }
 
 impl<L: Ledger> Model for Engine<L> {
-    ghost use Rattle.std.specs.FinMap as map;
-    ghost use Rattle.std.specs.FinSet as set;
-    ghost use Rattle.std.specs.Coded.{codes};
-    ghost use Rattle.gp_ploam.specs.Serials.{serial_cmp, coded_serial};
-    ghost use Rattle.gp_unit.specs.contracts.row.Row as row;
+    ghost use Rattle.gp_machine.specs.Codes.{port_codes};
     ghost use Rattle.gp_machine.specs.contracts.entry.Entry as entry;
     ghost use Rattle.gp_chassis.specs.Core.{CoreState};
 
     ghost Value = { CoreState };
 
-    ghost coded = { Prim.hlevel (
-      codes,
-      map.code {R = serial_cmp} coded_serial row.the_row.coded,
-      set.code {R = serial_cmp} coded_serial,
-      entry.the_row.coded,
-    ) };
+    ghost coded = { Prim.hlevel (port_codes, entry.the_row.coded) };
 
     ghost view = { λ e. e.core };
 }
@@ -55,7 +46,7 @@ impl<L: Ledger> Engine<L> {
             return Err(Fault::NoPort);
         };
         let mask = desk.config().mask;
-        let number = match self.core.apply_kept(port, event, None) {
+        let number = match self.core.apply_in_place(port, event, None) {
             Ok(number) => number,
             Err(fault) => return Err(fault_of(fault)),
         };

@@ -12,7 +12,7 @@ ghost use Rattle.gp_c.specs.Entries.{told_by, event_told, answer_told, line_told
 ghost use Rattle.gp_c.specs.Turns.{turn_of};
 ghost use Rattle.gp_c.specs.Commands as spec;
 ghost use Rattle.gp_c.specs.Settings.{serial_of};
-ghost use Rattle.gp_c.specs.Calls.{asked_for, TellsOpen, Tells, TellsCut, kept_at, shown_at, free_at, closed_at, tallied_at, status_of, written, text_in, line_in, length_in};
+ghost use Rattle.gp_c.specs.Calls.{asked_for, TellsOpen, TellsAnswer, TellsCut, kept_at, shown_at, free_at, closed_at, tallied_at, status_of, written, text_in, line_in, length_in};
 
 use crate::answer::AnswerNumbers;
 use crate::calls::{apply, close, cut, entry, free, open, show, tally};
@@ -58,7 +58,7 @@ pub extern "C" fn wp_frame(
     port: u8,
     answer: &mut AnswerNumbers,
 ) -> u32
-    ensures { Tells handle.old.value port Frame handle.new.value result answer.old answer.new }
+    ensures { TellsAnswer handle.old.value port Frame handle.new.value result answer.old answer.new }
 {
     serve(handle, alloc, port, Event::Frame, answer)
 }
@@ -73,7 +73,7 @@ pub extern "C" fn wp_burst(
     octets: &[u8; 13],
     answer: &mut AnswerNumbers,
 ) -> u32
-    ensures { Tells handle.old.value port (Burst at octets.now) handle.new.value result answer.old answer.new }
+    ensures { TellsAnswer handle.old.value port (Burst at octets.now) handle.new.value result answer.old answer.new }
 {
     let event = Event::Burst { at, bytes: *octets };
     serve(handle, alloc, port, event, answer)
@@ -91,7 +91,7 @@ pub extern "C" fn wp_command(
     answer: &mut AnswerNumbers,
 ) -> u32
     ensures serves { (command : AnyCommand) → spec.command_of kind (serial_of serial.now) alloc_id ≡ Some command
-        → Tells handle.old.value port (Commanded command) handle.new.value result answer.old answer.new }
+        → TellsAnswer handle.old.value port (Commanded command) handle.new.value result answer.old answer.new }
     ensures unknown { spec.command_of kind (serial_of serial.now) alloc_id ≡ None
         → result ≡ fault_number AnyFault.NoCommand }
     ensures nothing { spec.command_of kind (serial_of serial.now) alloc_id ≡ None
@@ -113,7 +113,7 @@ pub extern "C" fn wp_apply(
     answer: &mut AnswerNumbers,
 ) -> u32
     ensures serves { (happens : AnyEvent) → event_of event.now ≡ Some happens
-        → Tells handle.old.value port happens handle.new.value result answer.old answer.new }
+        → TellsAnswer handle.old.value port happens handle.new.value result answer.old answer.new }
     ensures unknown { event_of event.now ≡ None → result ≡ fault_number AnyFault.NoEvent }
     ensures nothing { event_of event.now ≡ None
         → (handle.new.value ≡ handle.old.value) × (answer.new ≡ answer.old) }
@@ -264,7 +264,7 @@ fn serve(
     event: Event,
     answer: &mut AnswerNumbers,
 ) -> u32
-    ensures { Tells handle.old.value port event handle.new.value result answer.old answer.new }
+    ensures { TellsAnswer handle.old.value port event handle.new.value result answer.old answer.new }
 {
     match apply(handle, alloc, port, event) {
         Ok(told) => {

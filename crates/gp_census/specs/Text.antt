@@ -7,8 +7,8 @@ use Rattle.gp_serial.specs.Spelling.{text_of_serial}
 use Rattle.gp_observer.specs.Watch.{Watch}
 use Rattle.gp_census.specs.declared.sighting.PortCounts.{PortCounts}
 use Rattle.gp_census.specs.declared.sighting.Sighting.{Sighting}
-use Rattle.gp_census.specs.declared.telling.CensusForm.{CensusForm}
-use Rattle.gp_census.specs.declared.telling.CensusForm.TheVariants.{Text, Json}
+use Rattle.gp_census.specs.declared.pushing.CensusForm.{CensusForm}
+use Rattle.gp_census.specs.declared.pushing.CensusForm.TheVariants.{Text, Json}
 use Rattle.gp_census.specs.declared.told.UnitState.{UnitState}
 use Rattle.gp_census.specs.declared.told.UnitState.TheVariants.{Disabled, Operating, Assigned, Asking, Gone}
 use Rattle.gp_census.specs.Census.{Census}

@@ -28,9 +28,9 @@ use Rattle.gp_port.specs.Numbers.{GrantsWish, HandsOut}
 use Rattle.gp_laws.proofs.WholeRuns.{every_state}
 use Rattle.gp_journal.specs.declared.piece.Piece.{Piece}
 use Rattle.gp_journal.proofs.Runs.{Replays-opened}
-use Rattle.gp_chassis.specs.Desk.{DeskState, DeskStands, HasRoom, opened, Serves, Keeps, Cuts, IsProperEntry, last_kept}
+use Rattle.gp_chassis.specs.Desk.{DeskState, DeskStands, HasRoom, opened, Serves, ServesInPlace, Cuts, IsProperEntry, last_kept}
 use Rattle.gp_chassis.specs.World.{ChassisWorld, Port, PortMoves, hand, taken, given, ChassisStep, ChassisRun, IsBalanced, HoldsApart, units_of, world_opened}
-use Rattle.gp_chassis.specs.Core.{CoreState, Stands, CoreServes, CoreCuts, CoreApplies, CoreKeeps, CoreKeepsFrom, GrantsFrom, GrantsTurn, IsBurst, world_of, with_licences, lent, last_kept_at, moves_of, core_opened, IsFullAt, JoinsAt}
+use Rattle.gp_chassis.specs.Core.{CoreState, Stands, CoreServes, CoreCuts, CoreApplies, CoreAppliesInPlace, CoreServesInPlace, GrantsFrom, GrantsTurn, IsBurst, world_of, with_licences, lent, last_kept_at, moves_of, core_opened, IsFullAt, JoinsAt}
 use Rattle.gp_chassis.proofs.Desks.{served_last, receipt_is}
 use Rattle.gp_chassis.proofs.Worlds.{move_keeps, taken_ports, set_same, apart_reached}
 
@@ -310,10 +310,10 @@ turn_granted old between new p (Burst at bytes) wished r l h grants given_is oth
 -- ---- what stands in the journal
 
 -- the desk of a port serves with what was pulled out of an actor's hands, and its entry stands in the journal
-pub kept_core : (s : CoreState) (a p q : ℕ) (event : Event) (wished : Option ℕ) (number : ℕ) (d next : DeskState) (rest purse : ℕ) (h1 h2 : List ℕ)
-    → p < length s.desks → q ≡ p → d ≡ get_or s.desks q d → purse ≡ slice_index s.hands a → h1 ≡ set s.hands a 0 → h2 ≡ set h1 a rest → Keeps d next purse event wished number rest
-    → CoreKeepsFrom s (record s { desks = set s.desks q next; hands = h2 }) a p event wished number
-kept_core s a p q event wished number d next rest purse h1 h2 l is at pulled one two k =
+pub in_place_core : (s : CoreState) (a p q : ℕ) (event : Event) (wished : Option ℕ) (number : ℕ) (d next : DeskState) (rest purse : ℕ) (h1 h2 : List ℕ)
+    → p < length s.desks → q ≡ p → d ≡ get_or s.desks q d → purse ≡ slice_index s.hands a → h1 ≡ set s.hands a 0 → h2 ≡ set h1 a rest → ServesInPlace d next purse event wished number rest
+    → CoreServesInPlace s (record s { desks = set s.desks q next; hands = h2 }) a p event wished number
+in_place_core s a p q event wished number d next rest purse h1 h2 l is at pulled one two k =
     let r : Receipt = record { port = p; number = number; entry = k.entry } in
     let serves : Serves d next p purse event r rest = k.serves p in
     record {
@@ -353,7 +353,7 @@ burst_served old between p (Burst at bytes) r l h burst none =
 
 -- actor 0 takes, has the event served, and gives: of that the journal keeps the entry
 pub kept_applies : (old between new : CoreState) (p : ℕ) (event : Event) (wished : Option ℕ) (number : ℕ) → 0 < length old.hands
-    → CoreKeepsFrom (lent event old) between 0 p event wished number → new ≡ with_licences between (given 0 (world_of between)) → CoreKeeps old new p event wished number
+    → CoreServesInPlace (lent event old) between 0 p event wished number → new ≡ with_licences between (given 0 (world_of between)) → CoreAppliesInPlace old new p event wished number
 kept_applies old between new p event wished number l k given_is =
     let applies : CoreApplies old new p event k.receipt = record { between = between; serves = k.serves; given_is = given_is } in
     record {
@@ -369,13 +369,13 @@ kept_applies old between new p event wished number l k given_is =
     }
 
 -- the receipt with these numbers and the last entry is the one that was served
-pub served_kept : (old new : CoreState) (a p : ℕ) (event : Event) (wished : Option ℕ) (number : ℕ) (r : Receipt) → CoreKeepsFrom old new a p event wished number
+pub served_in_place : (old new : CoreState) (a p : ℕ) (event : Event) (wished : Option ℕ) (number : ℕ) (r : Receipt) → CoreServesInPlace old new a p event wished number
     → r.port ≡ p → r.number ≡ number → last_kept_at new p ≡ Some r.entry → CoreServes old new a p event r
-served_kept old new a p event wished number r k h1 h2 h3 =
+served_in_place old new a p event wished number r k h1 h2 h3 =
     subst (λ (x : Receipt). CoreServes old new a p event x) (receipt_is k.receipt r (k.is_port ∙ sym h1) (k.is_number ∙ sym h2) (sym k.kept ∙ h3)) k.serves
 
 -- and the one that was applied
-pub applied_kept : (old new : CoreState) (p : ℕ) (event : Event) (wished : Option ℕ) (number : ℕ) (r : Receipt) → CoreKeeps old new p event wished number
+pub applied_in_place : (old new : CoreState) (p : ℕ) (event : Event) (wished : Option ℕ) (number : ℕ) (r : Receipt) → CoreAppliesInPlace old new p event wished number
     → r.port ≡ p → r.number ≡ number → last_kept_at new p ≡ Some r.entry → CoreApplies old new p event r
-applied_kept old new p event wished number r k h1 h2 h3 =
+applied_in_place old new p event wished number r k h1 h2 h3 =
     subst (λ (x : Receipt). CoreApplies old new p event x) (receipt_is k.receipt r (k.is_port ∙ sym h1) (k.is_number ∙ sym h2) (sym k.kept ∙ h3)) k.applies

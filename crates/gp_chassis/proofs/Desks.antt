@@ -14,7 +14,7 @@ use Rattle.gp_port.specs.Numbers.{GrantsWish}
 use Rattle.gp_laws.proofs.WholeRuns.{step_config}
 use Rattle.gp_journal.specs.Replays.{Replays}
 use Rattle.gp_journal.proofs.Runs.{Replays-push, Run-push}
-use Rattle.gp_chassis.specs.Desk.{DeskState, DeskStands, IsProperEntry, Serves, Keeps, desk_after, last_kept}
+use Rattle.gp_chassis.specs.Desk.{DeskState, DeskStands, IsProperEntry, Serves, ServesInPlace, desk_after, last_kept}
 
 -- what holds of a desk holds of it after a step more
 pub stepped_desk : (d : DeskState) (e : Entry) (next : PortState) → DeskStands d → IsStep d.state e next → IsProperEntry e → DeskStands (desk_after d e next)
@@ -59,20 +59,20 @@ receipt_is a b h1 h2 h3 =
     ap (λ (p : ℕ). M p a.number a.entry) h1 ∙ ap (λ (n : ℕ). M b.port n a.entry) h2 ∙ ap (M b.port b.number) (same_Some a.entry b.entry h3)
 
 -- a desk that has served keeps an entry
-pub kept_some : (old new : DeskState) (purse : ℕ) (event : Event) (wished : Option ℕ) (number rest : ℕ) → Keeps old new purse event wished number rest → last_kept new ≡ None → ⊥
-kept_some old new purse event wished number rest h none = let last = served_last old new 0 purse event _ rest (h.serves 0) in let both = sym last ∙ none in cc
+pub in_place_some : (old new : DeskState) (purse : ℕ) (event : Event) (wished : Option ℕ) (number rest : ℕ) → ServesInPlace old new purse event wished number rest → last_kept new ≡ None → ⊥
+in_place_some old new purse event wished number rest h none = let last = served_last old new 0 purse event _ rest (h.serves 0) in let both = sym last ∙ none in cc
 
 -- the receipt of the last entry is the one that the desk served
-pub kept_serves : (old new : DeskState) (port purse : ℕ) (event : Event) (wished : Option ℕ) (number rest : ℕ) (r : Receipt) → Keeps old new purse event wished number rest
+pub in_place_serves : (old new : DeskState) (port purse : ℕ) (event : Event) (wished : Option ℕ) (number rest : ℕ) (r : Receipt) → ServesInPlace old new purse event wished number rest
     → r.port ≡ port → r.number ≡ number → last_kept new ≡ Some r.entry → Serves old new port purse event r rest
-kept_serves old new port purse event wished number rest r h h1 h2 h3 =
+in_place_serves old new port purse event wished number rest r h h1 h2 h3 =
     let s : Receipt = record { port = port; number = number; entry = h.entry } in
     let last = served_last old new port purse event s rest (h.serves port) in
     subst (λ (x : Receipt). Serves old new port purse event x rest) (receipt_is s r (sym h1) (sym h2) (sym last ∙ h3)) (h.serves port)
 
 -- and it grants the wish
-pub kept_grants : (old new : DeskState) (purse : ℕ) (event : Event) (wished : Option ℕ) (number rest : ℕ) (e : Entry) → Keeps old new purse event wished number rest
+pub in_place_grants : (old new : DeskState) (purse : ℕ) (event : Event) (wished : Option ℕ) (number rest : ℕ) (e : Entry) → ServesInPlace old new purse event wished number rest
     → last_kept new ≡ Some e → GrantsWish purse old.state event wished (entry_outcome e new.state)
-kept_grants old new purse event wished number rest e h last =
+in_place_grants old new purse event wished number rest e h last =
     let same : h.entry ≡ e = same_Some _ _ (sym (served_last old new 0 purse event _ rest (h.serves 0)) ∙ last) in
     subst (λ (x : Entry). GrantsWish purse old.state event wished (entry_outcome x new.state)) same h.grants

@@ -110,7 +110,7 @@ last_kept_at core port = option_and_then last_kept (slice_get core.desks port)
 
 -- actor 0 takes for a burst, has the event served with this wish, and gives; the entry has this number, and is the last
 -- that the port's journal keeps
-pub record CoreKeeps (old new : CoreState) (port : ℕ) (event : Event) (wished : Option ℕ) (number : ℕ) : Type 0 where
+pub record CoreAppliesInPlace (old new : CoreState) (port : ℕ) (event : Event) (wished : Option ℕ) (number : ℕ) : Type 0 where
   pub receipt : Receipt
   pub applies : CoreApplies old new port event receipt
   pub run : ChassisRun (moves_of event port receipt.entry) (world_of old) (world_of new)
@@ -125,7 +125,7 @@ pub record CoreKeeps (old new : CoreState) (port : ℕ) (event : Event) (wished 
 
 -- a desk serves with what the actor has in hand and with this wish; the entry has this number, and is the last that the
 -- port's journal keeps. Inside: no public contract cites this
-pub record CoreKeepsFrom (old new : CoreState) (actor port : ℕ) (event : Event) (wished : Option ℕ) (number : ℕ)
+pub record CoreServesInPlace (old new : CoreState) (actor port : ℕ) (event : Event) (wished : Option ℕ) (number : ℕ)
     : Type 0 where
   pub receipt : Receipt
   pub serves : CoreServes old new actor port event receipt

@@ -6,7 +6,7 @@ ghost use Rattle.gp_ploam.specs.Down.{IsProperDown};
 ghost use Rattle.gp_chassis.specs.Desk.{opened};
 ghost use Rattle.gp_chassis.specs.Limits.{IsWithin};
 ghost use Rattle.gp_chassis.specs.World.{Take, Port, Give, ChassisStep, ChassisRun, HoldsApart, hand, taken, given, units_of, actors, world_opened};
-ghost use Rattle.gp_chassis.specs.Core.{Stands, CoreServes, CoreCuts, CoreApplies, CoreKeeps, CoreKeepsFrom, JoinsAt, IsBurst, world_of, core_opened, with_licences, lent, last_kept_at, IsFullAt, moves_of, GrantsTurn};
+ghost use Rattle.gp_chassis.specs.Core.{Stands, CoreServes, CoreCuts, CoreApplies, CoreAppliesInPlace, CoreServesInPlace, JoinsAt, IsBurst, world_of, core_opened, with_licences, lent, last_kept_at, IsFullAt, moves_of, GrantsTurn};
 
 use crate::config::ChassisConfig;
 use crate::desk::PortDesk;
@@ -34,22 +34,13 @@ pub struct ChassisCore<L: Ledger> {
 impl<L: Ledger> NeverDropped for ChassisCore<L> {}
 
 impl<L: Ledger> Model for ChassisCore<L> {
-    ghost use Rattle.std.specs.FinMap as map;
-    ghost use Rattle.std.specs.FinSet as set;
-    ghost use Rattle.std.specs.Coded.{codes};
-    ghost use Rattle.gp_ploam.specs.Serials.{serial_cmp, coded_serial};
-    ghost use Rattle.gp_unit.specs.contracts.row.Row as row;
+    ghost use Rattle.gp_machine.specs.Codes.{port_codes};
     ghost use Rattle.gp_machine.specs.contracts.entry.Entry as entry;
     ghost use Rattle.gp_chassis.specs.Core.{CoreState, Stands};
 
     ghost Value = { CoreState };
 
-    ghost coded = { Prim.hlevel (
-      codes,
-      map.code {R = serial_cmp} coded_serial row.the_row.coded,
-      set.code {R = serial_cmp} coded_serial,
-      entry.the_row.coded,
-    ) };
+    ghost coded = { Prim.hlevel (port_codes, entry.the_row.coded) };
 
     ghost view = { λ c. record
         { desks = c.desks.items; free = c.book.free; hands = c.hands.items; licences = c.book.total } };
@@ -169,8 +160,8 @@ impl<L: Ledger> ChassisCore<L> {
         if usize::from(port) >= self.desks.len() {
             return Err(CoreFault::NoPort);
         }
-        let number = self.keep_from(actor, port, event, None)?;
-        Ok(self.receipt_kept(port, number))
+        let number = self.serve_from(actor, port, event, None)?;
+        Ok(self.last_receipt(port, number))
     }
 
     /// Makes all that is in the actor's hands free again. The only fault is `NoActor`. It takes no memory.
@@ -203,8 +194,8 @@ impl<L: Ledger> ChassisCore<L> {
             → IfErr result (λ fault. (fault ≡ CoreFault.JournalFull) ↔ IsFullAt self.old port) }
         ensures some_actor { result ≡ Err CoreFault.NoActor → ⊥ }
     {
-        let number = self.apply_kept(port, event, None)?;
-        Ok(self.receipt_kept(port, number))
+        let number = self.apply_in_place(port, event, None)?;
+        Ok(self.last_receipt(port, number))
     }
 
     /// Does the same, and hands out the wished number where it is free and one is handed out.
@@ -227,18 +218,18 @@ impl<L: Ledger> ChassisCore<L> {
         ensures wished { IfOk result
             (λ receipt. GrantsTurn (world_of self.old) (world_of self.new) port event wished receipt.entry) }
     {
-        let number = self.apply_kept(port, event, wished)?;
-        Ok(self.receipt_kept(port, number))
+        let number = self.apply_in_place(port, event, wished)?;
+        Ok(self.last_receipt(port, number))
     }
 
     /// Does the same, and gives the number of the entry alone, which `last_entry` then lends.
-    pub fn apply_kept(
+    pub fn apply_in_place(
         &mut self,
         port: u8,
         event: Event,
         wished: Option<u16>,
     ) -> Result<u64, CoreFault>
-        ensures ok { IfOk result (λ number. CoreKeeps self.old self.new port event wished number) }
+        ensures ok { IfOk result (λ number. CoreAppliesInPlace self.old self.new port event wished number) }
         ensures err { OnErr result (self.new ≡ self.old) }
         ensures no_port { (result ≡ Err CoreFault.NoPort) ↔ (length self.old.desks ≤ port) }
         ensures full { port < length self.old.desks
@@ -250,7 +241,7 @@ impl<L: Ledger> ChassisCore<L> {
         }
         let before = self.hands[0].count();
         self.lend(&event);
-        match self.keep_from(0, port, event, wished) {
+        match self.serve_from(0, port, event, wished) {
             Ok(number) => {
                 self.give_from(0);
                 Ok(number)
@@ -337,7 +328,7 @@ impl<L: Ledger> ChassisCore<L> {
 
     /// Has the desk of a port serve an event with all that is in the actor's hands, and hand out the wished number
     /// where it can. The entry then stands in the port's journal, and its number is told.
-    fn keep_from(
+    fn serve_from(
         &mut self,
         actor: usize,
         port: u8,
@@ -346,14 +337,14 @@ impl<L: Ledger> ChassisCore<L> {
     ) -> Result<u64, CoreFault>
         requires actor { actor < length self.old.hands }
         requires port { port < length self.old.desks }
-        ensures ok { IfOk result (λ number. CoreKeepsFrom self.old self.new actor port event wished number) }
+        ensures ok { IfOk result (λ number. CoreServesInPlace self.old self.new actor port event wished number) }
         ensures err { OnErr result (self.new ≡ self.old) }
         ensures full { IfErr result (λ fault. (fault ≡ CoreFault.JournalFull) ↔ IsFullAt self.old port) }
         ensures only { IfErr result (λ fault. (fault ≡ CoreFault.NoActor → ⊥) × (fault ≡ CoreFault.NoPort → ⊥)) }
     {
         let purse = pull(&mut self.hands, actor);
         let desk = &mut self.desks[usize::from(port)];
-        match desk.serve_kept(purse, event, wished) {
+        match desk.serve_in_place(purse, event, wished) {
             Ok((number, rest)) => {
                 put(&mut self.hands, actor, rest);
                 Ok(number)
@@ -367,13 +358,13 @@ impl<L: Ledger> ChassisCore<L> {
 
     /// Gives the receipt of the last entry that the journal of this port keeps, with this number of the entry.
     #[inline(always)]
-    fn receipt_kept(&self, port: u8, number: u64) -> Receipt
+    fn last_receipt(&self, port: u8, number: u64) -> Receipt
         requires { last_kept_at self.now port ≡ None → ⊥ }
         ensures port { result.port ≡ port }
         ensures number { result.number ≡ number }
         ensures entry { last_kept_at self.now port ≡ Some result.entry }
     {
-        self.desks[usize::from(port)].receipt_kept(port, number)
+        self.desks[usize::from(port)].last_receipt(port, number)
     }
 }
 

@@ -3,7 +3,7 @@ ghost use Rattle.std.specs.Prelude.{◌≡◌, ◌≤◌, ◌↔◌, length, Non
 ghost use Rattle.gp_machine.specs.State.{rows_of};
 ghost use Rattle.gp_machine.specs.Run.{entry_outcome};
 ghost use Rattle.gp_port.specs.Numbers.{GrantsWish};
-ghost use Rattle.gp_chassis.specs.Desk.{DeskStands, HasRoom, MayOpen, Serves, Keeps, Cuts, opened, last_kept};
+ghost use Rattle.gp_chassis.specs.Desk.{DeskStands, HasRoom, MayOpen, Serves, ServesInPlace, Cuts, opened, last_kept};
 ghost use Rattle.gp_machine.specs.Config.{max_journal_limit};
 
 use crate::fault::ApplyFault;
@@ -30,24 +30,15 @@ pub struct PortDesk<L: Ledger> {
 impl<L: Ledger> NeverDropped for PortDesk<L> {}
 
 impl<L: Ledger> Model for PortDesk<L> {
-    ghost use Rattle.std.specs.FinMap as map;
-    ghost use Rattle.std.specs.FinSet as set;
-    ghost use Rattle.std.specs.Coded.{codes};
     ghost use Rattle.std.specs.Prelude.{◌≤◌, length};
-    ghost use Rattle.gp_ploam.specs.Serials.{serial_cmp, coded_serial};
-    ghost use Rattle.gp_unit.specs.contracts.row.Row as row;
+    ghost use Rattle.gp_machine.specs.Codes.{port_codes};
     ghost use Rattle.gp_machine.specs.contracts.entry.Entry as entry;
     ghost use Rattle.gp_machine.specs.Config.{max_journal_limit};
     ghost use Rattle.gp_chassis.specs.Desk.{DeskState, DeskStands};
 
     ghost Value = { DeskState };
 
-    ghost coded = { Prim.hlevel (
-      codes,
-      map.code {R = serial_cmp} coded_serial row.the_row.coded,
-      set.code {R = serial_cmp} coded_serial,
-      entry.the_row.coded,
-    ) };
+    ghost coded = { Prim.hlevel (port_codes, entry.the_row.coded) };
 
     ghost view = { λ d. record {
       limit = d.limit;
@@ -126,8 +117,8 @@ impl<L: Ledger> PortDesk<L> {
         ensures wished { IfOk result
             (λ served. GrantsWish purse self.old.state event wished (entry_outcome served.0.entry self.new.state)) }
     {
-        match self.serve_kept(purse, event, wished) {
-            Ok((number, rest)) => Ok((self.receipt_kept(port, number), rest)),
+        match self.serve_in_place(purse, event, wished) {
+            Ok((number, rest)) => Ok((self.last_receipt(port, number), rest)),
             Err(fault) => Err(fault),
         }
     }
@@ -135,13 +126,13 @@ impl<L: Ledger> PortDesk<L> {
     /// Makes the step and records it in the journal alone, as the last entry there, and gives the entry's number.
     // The entry is written to the journal once: whoever wants it copies it out, or borrows it there.
     #[inline(always)]
-    pub(crate) fn serve_kept(
+    pub(crate) fn serve_in_place(
         &mut self,
         purse: Licences<L>,
         event: Event,
         wished: Option<u16>,
     ) -> Result<(u64, Licences<L>), (ApplyFault, Licences<L>)>
-        ensures ok { IfOk result (λ kept. Keeps self.old self.new purse event wished kept.0 kept.1) }
+        ensures ok { IfOk result (λ kept. ServesInPlace self.old self.new purse event wished kept.0 kept.1) }
         ensures err { IfErr result (λ fault. (fault.1 ≡ purse) × (self.new ≡ self.old)) }
         ensures full { IfErr result (λ fault. (fault.0 ≡ ApplyFault.JournalFull) ↔ (HasRoom self.old → ⊥)) }
         ensures some_port { IfErr result (λ fault. fault.0 ≡ ApplyFault.NoPort → ⊥) }
@@ -159,7 +150,7 @@ impl<L: Ledger> PortDesk<L> {
 
     /// Gives the receipt of the last entry that the journal keeps, with these numbers of the port and of the entry.
     #[inline(always)]
-    pub(crate) fn receipt_kept(&self, port: u8, number: u64) -> Receipt
+    pub(crate) fn last_receipt(&self, port: u8, number: u64) -> Receipt
         requires { last_kept self.now ≡ None → ⊥ }
         ensures port { result.port ≡ port }
         ensures number { result.number ≡ number }

@@ -90,7 +90,7 @@ IsFound purpose before after said = IsOfSource purpose before after said
 
 -- something was found in a source and told by its line: all of the line went to the sink, or a prefix of it where
 -- writing stopped, and the answer is whether it is a script
-pub record Tells {R W : Type 0} (name : List ℕ) (before after : SourceState R) (old new : SinkState W)
+pub record ChecksSource {R W : Type 0} (name : List ℕ) (before after : SourceState R) (old new : SinkState W)
     (answer : Result Bool ScriptCheckFault) : Type 0 where
   pub found : Found
   pub is : IsFound purposes.Replay before after found
@@ -100,6 +100,6 @@ pub record Tells {R W : Type 0} (name : List ℕ) (before after : SourceState R)
 -- how checking a source ends, by its answer: where memory ran out nothing was written
 abbrev pub Checks : {R W : Type 0} → List ℕ → SourceState R → SourceState R → SinkState W → SinkState W
     → Result Bool ScriptCheckFault → Type 0
-Checks name before after old new (Ok answer) = Tells name before after old new (Ok answer)
-Checks name before after old new (Err ends.Write) = Tells name before after old new (Err ends.Write)
+Checks name before after old new (Ok answer) = ChecksSource name before after old new (Ok answer)
+Checks name before after old new (Err ends.Write) = ChecksSource name before after old new (Err ends.Write)
 Checks name before after old new (Err ends.OutOfMemory) = new ≡ old

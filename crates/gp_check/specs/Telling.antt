@@ -6,9 +6,9 @@ use Rattle.gp_check.specs.declared.fault.ScriptCheckFault.{ScriptCheckFault}
 use Rattle.gp_check.specs.declared.fault.ScriptCheckFault.TheVariants as ends
 use Rattle.gp_check.specs.declared.found.Found.{Found}
 use Rattle.gp_check.specs.declared.found.Found.TheVariants as founds
-use Rattle.gp_check.specs.declared.telling.CheckManner.{CheckManner}
-use Rattle.gp_check.specs.declared.telling.Told.{Told}
-use Rattle.gp_check.specs.declared.telling.Told.TheVariants as told
+use Rattle.gp_check.specs.declared.source.CheckManner.{CheckManner}
+use Rattle.gp_check.specs.declared.source.CheckedSource.{CheckedSource}
+use Rattle.gp_check.specs.declared.source.CheckedSource.TheVariants as told
 use Rattle.gp_check.specs.Check.{IsFound, is_script, line_of}
 use Rattle.gp_check.specs.Object.{object_of}
 
@@ -23,7 +23,7 @@ text_of manner name found = if manner.json then object_of name found else line_o
 -- what was found in a source that was read is told: of a script all of it goes to the sink or nothing is told, of
 -- another an object does, or its line is handed back and nothing goes there; a prefix where writing stopped
 abbrev pub TellsFound : {W : Type 0} → CheckManner → List ℕ → Found → SinkState W → SinkState W
-    → Result Told ScriptCheckFault → Type 0
+    → Result CheckedSource ScriptCheckFault → Type 0
 TellsFound manner name found old new (Ok told.Script) =
     (is_script found ≡ true)
     × (manner.quiet ≡ true → new ≡ old)
@@ -41,15 +41,15 @@ TellsFound manner name found old new (Err ends.Write) =
 
 -- something was found in a source that was read to its end, and it is told
 pub record TellsRead {R W : Type 0} (manner : CheckManner) (name : List ℕ) (before after : SourceState R)
-    (old new : SinkState W) (answer : Result Told ScriptCheckFault) : Type 0 where
+    (old new : SinkState W) (answer : Result CheckedSource ScriptCheckFault) : Type 0 where
   pub found : Found
   pub is : IsFound manner.purpose before after found
   pub tells : TellsFound manner name found old new answer
 
 -- how a source is told of, by the answer: where memory ran out nothing was written
-abbrev pub Tells : {R W : Type 0} → CheckManner → List ℕ → SourceState R → SourceState R → SinkState W → SinkState W
-    → Result Told ScriptCheckFault → Type 0
-Tells manner name before after old new (Ok told.Unread) =
+abbrev pub TellsSource : {R W : Type 0} → CheckManner → List ℕ → SourceState R → SourceState R → SinkState W → SinkState W
+    → Result CheckedSource ScriptCheckFault → Type 0
+TellsSource manner name before after old new (Ok told.Unread) =
     IsFound manner.purpose before after founds.Unread × (new ≡ old)
-Tells manner name before after old new (Err ends.OutOfMemory) = new ≡ old
-Tells manner name before after old new answer = TellsRead manner name before after old new answer
+TellsSource manner name before after old new (Err ends.OutOfMemory) = new ≡ old
+TellsSource manner name before after old new answer = TellsRead manner name before after old new answer

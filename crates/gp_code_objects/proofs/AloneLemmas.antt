@@ -3,27 +3,27 @@ use Rattle.std.proofs.Common.{◌≡◌, ℕ, ◌++◌, Bool, true, false, List,
 use Rattle.std.specs.Prelude.{◌↔◌}
 use Rattle.hex.specs.Hex.{decode_of}
 use Rattle.gp_ploam.specs.declared.check.Mask.{Mask}
-use Rattle.gp_decode.specs.declared.fault.LineFault.{LineFault}
-use Rattle.gp_decode.specs.declared.fault.LineFault.TheVariants as fault
-use Rattle.gp_decode.specs.Line.{HasLineFault, SaysCode, SaysIn}
+use Rattle.gp_decode.specs.declared.fault.DecodeFault.{DecodeFault}
+use Rattle.gp_decode.specs.declared.fault.DecodeFault.TheVariants as fault
+use Rattle.gp_decode.specs.Line.{HasDecodeFault, SaysCode, SaysIn}
 use Rattle.gp_decode.specs.Message.{down_text, up_text}
 use Rattle.gp_decode.proofs.Faults.{fault_of_said, one_fault}
 use Rattle.gp_code_objects.specs.Decoded.{ShowsCode, ShowsDigits}
 
 -- the fault that is told, or another where none is
-abbrev told_in : LineFault → Option LineFault → LineFault
+abbrev told_in : DecodeFault → Option DecodeFault → DecodeFault
 told_in other None = other
 told_in other (Some f) = f
 
 -- a fault that the text has is told exactly where it is the one
-own_fault : (mask : Mask) (text : List ℕ) (f g : LineFault) → HasLineFault mask text f → (◌≡◌ {A = Option LineFault} (Some f) (Some g)) ↔ HasLineFault mask text g
+own_fault : (mask : Mask) (text : List ℕ) (f g : DecodeFault) → HasDecodeFault mask text f → (◌≡◌ {A = Option DecodeFault} (Some f) (Some g)) ↔ HasDecodeFault mask text g
 own_fault mask text f g has = (
-  λ same. subst (HasLineFault mask text) (ap (told_in f) same) has,
-  λ h. ap (λ (x : LineFault). Some x) (one_fault mask text f g has h),
+  λ same. subst (HasDecodeFault mask text) (ap (told_in f) same) has,
+  λ h. ap (λ (x : DecodeFault). Some x) (one_fault mask text f g has h),
 )
 
 -- a text that is the code of a message has no fault
-none_told : (mask : Mask) (text : List ℕ) (g : LineFault) → ((h : HasLineFault mask text g) → ⊥) → (◌≡◌ {A = Option LineFault} None (Some g)) ↔ HasLineFault mask text g
+none_told : (mask : Mask) (text : List ℕ) (g : DecodeFault) → ((h : HasDecodeFault mask text g) → ⊥) → (◌≡◌ {A = Option DecodeFault} None (Some g)) ↔ HasDecodeFault mask text g
 none_told mask text g none = (λ same. cc same, λ h. absurd (none h))
 
 said_words : (upstream : Bool) (mask : Mask) (line : ℕ) (code said : List ℕ) → ShowsCode upstream mask line code said
@@ -37,8 +37,8 @@ says_so upstream mask line text said code spelled shows =
     let words = said_words upstream mask line code said shows in
     (words.0, record { code = code; spelled = spelled; said = words.1 })
 
-pub shown_fault : (upstream : Bool) (mask : Mask) (line : ℕ) (text said : List ℕ) (told : Option LineFault) (g : LineFault)
-    → ShowsDigits upstream mask line text told said → (told ≡ Some g) ↔ HasLineFault mask text g
+pub shown_fault : (upstream : Bool) (mask : Mask) (line : ℕ) (text said : List ℕ) (told : Option DecodeFault) (g : DecodeFault)
+    → ShowsDigits upstream mask line text told said → (told ≡ Some g) ↔ HasDecodeFault mask text g
 shown_fault upstream mask line text said None g (code, spelled, shows) =
     let words = says_so upstream mask line text said code spelled shows in
     none_told mask text g (fault_of_said false upstream mask text words.0 g words.1)

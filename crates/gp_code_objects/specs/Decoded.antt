@@ -4,7 +4,7 @@ use Rattle.std.specs.Prelude.{◌≡◌, ◌⊎◌, ◌==◌, ℕ, ◌+◌, Bool
 use Rattle.hex.specs.Hex.{decode_of, encode_lower}
 use Rattle.gp_flow.specs.declared.lines.LinesEnd.{LinesEnd}
 use Rattle.gp_flow.specs.declared.fault.LinesFault.{LinesFault}
-use Rattle.gp_flow.specs.Lines.{Serves, Speech, WholeLines}
+use Rattle.gp_flow.specs.Lines.{Serves, Speech, WholeLines, longest_line}
 use Rattle.gp_stream.specs.Sink.{SinkState}
 use Rattle.gp_stream.specs.Source.{SourceState}
 use Rattle.gp_ploam.specs.declared.check.Mask.{Mask}
@@ -15,9 +15,9 @@ use Rattle.gp_ploam.specs.Mask.{mask_value}
 use Rattle.gp_ploam.specs.Up.{ReadsUp}
 use Rattle.gp_decode.specs.declared.decoder.FaultAt.{FaultAt}
 use Rattle.gp_decode.specs.declared.direction.Direction.{Direction}
-use Rattle.gp_decode.specs.declared.fault.LineFault.{LineFault}
-use Rattle.gp_decode.specs.declared.fault.LineFault.TheVariants as fault
-use Rattle.gp_decode.specs.Line.{HasLineFault, HasWrongCheck}
+use Rattle.gp_decode.specs.declared.fault.DecodeFault.{DecodeFault}
+use Rattle.gp_decode.specs.declared.fault.DecodeFault.TheVariants as fault
+use Rattle.gp_decode.specs.Line.{HasDecodeFault, HasWrongCheck}
 use Rattle.gp_decode.specs.Lines.{DecodeState, IsAnswer, after, counted, fault_name, faulted, mask_text, never, opened_in, other_mask, wanted_check}
 use Rattle.gp_decode.specs.LineText.{code_digits, directed, is_remark, without_return}
 use Rattle.gp_json.specs.Message.{down_fields, down_name, key_text, text_field, up_fields, up_name}
@@ -55,29 +55,29 @@ check_object line mask code =
 
 -- the digits of a code with this fault, or none, are answered by the object of the code; or by what would be right of a
 -- wrong check octet; or by their first fault
-abbrev pub ShowsDigits : Bool → Mask → ℕ → List ℕ → Option LineFault → List ℕ → Type 0
+abbrev pub ShowsDigits : Bool → Mask → ℕ → List ℕ → Option DecodeFault → List ℕ → Type 0
 ShowsDigits upstream mask line digits None said =
     (code : List ℕ) × (decode_of digits ≡ Ok code) × ShowsCode upstream mask line code said
 ShowsDigits upstream mask line digits (Some fault.Crc) said = (code : List ℕ) × (decode_of digits ≡ Ok code)
     × (length code ≡ 13) × HasWrongCheck mask code × (said ≡ check_object line mask code)
 ShowsDigits upstream mask line digits (Some fault) said =
-    HasLineFault mask digits fault × (said ≡ error_object line (fault_name fault))
+    HasDecodeFault mask digits fault × (said ≡ error_object line (fault_name fault))
 
 -- the same of a text whose code is a unit's or not; or of one that would have to say it and doesn't
-abbrev pub ShowsWay : Mask → ℕ → Option (Bool × List ℕ) → Option LineFault → List ℕ → Type 0
+abbrev pub ShowsWay : Mask → ℕ → Option (Bool × List ℕ) → Option DecodeFault → List ℕ → Type 0
 ShowsWay mask line None told said =
     (told ≡ Some fault.Direction) × (said ≡ error_object line (fault_name fault.Direction))
 ShowsWay mask line (Some way) told said = ShowsDigits way.0 mask line (code_digits way.1) told said
 
 -- a text that is no remark is answered so
-abbrev pub ShowsText : Direction → Mask → ℕ → List ℕ → Option LineFault → List ℕ → Type 0
+abbrev pub ShowsText : Direction → Mask → ℕ → List ℕ → Option DecodeFault → List ℕ → Type 0
 ShowsText direction mask line text fault said = ShowsWay mask line (directed direction text) fault said
 
 -- a line without its carriage return is passed over, or answered, and counted
 abbrev pub ShowsOrPasses : DecodeState → List ℕ → List ℕ → DecodeState → Type 0
 ShowsOrPasses old text said new =
     ((is_remark text ≡ true) × (said ≡ []) × (new ≡ counted old))
-    ⊎ ((is_remark text ≡ false) × (fault : Option LineFault)
+    ⊎ ((is_remark text ≡ false) × (fault : Option DecodeFault)
     × ShowsText old.direction old.mask (old.lines + 1) text fault said × (new ≡ after fault old))
 
 -- what is said to a line; one that is too long to be looked at has the fault of its length
@@ -99,5 +99,5 @@ pub record DecodesToObjects {R W : Type 0} (direction : Direction) (mask : Mask)
     (before after : SinkState W) (answer : Result (Option FaultAt) LinesFault) : Type 0 where
   pub new : DecodeState
   pub end : Result LinesEnd LinesFault
-  pub served : Serves Showing never 4096 from to (opened_objects direction mask) new before after end
+  pub served : Serves Showing never longest_line from to (opened_objects direction mask) new before after end
   pub told : IsAnswer end new answer

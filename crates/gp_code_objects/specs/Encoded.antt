@@ -3,7 +3,7 @@
 use Rattle.std.specs.Prelude.{◌≡◌, ◌⊎◌, ℕ, ◌+◌, Bool, true, false, List, [], ◌++◌, Option, Some, None, Result, Ok, Err}
 use Rattle.gp_flow.specs.declared.lines.LinesEnd.{LinesEnd}
 use Rattle.gp_flow.specs.declared.fault.LinesFault.{LinesFault}
-use Rattle.gp_flow.specs.Lines.{Serves, Speech, WholeLines}
+use Rattle.gp_flow.specs.Lines.{Serves, Speech, WholeLines, longest_line}
 use Rattle.gp_stream.specs.Sink.{SinkState}
 use Rattle.gp_stream.specs.Source.{SourceState}
 use Rattle.gp_ploam.specs.declared.check.Mask.{Mask}
@@ -49,5 +49,5 @@ pub record EncodesToObjects {R W : Type 0} (upstream : Bool) (mask : Mask) (from
     (before after : SinkState W) (answer : Result (Option WordsFaultAt) LinesFault) : Type 0 where
   pub new : EncodeState
   pub end : Result LinesEnd LinesFault
-  pub served : Serves Showing never 4096 from to (opened_encode upstream mask) new before after end
+  pub served : Serves Showing never longest_line from to (opened_encode upstream mask) new before after end
   pub told : IsAnswer end new answer

@@ -1,17 +1,17 @@
 //! `decode_object` and `encode_object`: one text is answered by an object, as if it were the first line of an input.
 ghost use Rattle.std.specs.Prelude.{◌≡◌, ◌≢◌, ◌↔◌, ℕ, List, [], IfErr, IfOk, OnOk, Option, Some, Err, true, false};
 ghost use Rattle.gp_stream.specs.Sink.{Takes, TakesPrefix};
-ghost use Rattle.gp_decode.specs.declared.fault.LineFault.{LineFault as AnyFault};
-ghost use Rattle.gp_decode.specs.Line.{HasLineFault, IsOfText};
+ghost use Rattle.gp_decode.specs.declared.fault.DecodeFault.{DecodeFault as AnyFault};
+ghost use Rattle.gp_decode.specs.Line.{HasDecodeFault, IsOfText};
 ghost use Rattle.gp_encode.specs.declared.fault.WordsFault.{WordsFault as AnyWordsFault};
 ghost use Rattle.gp_code_objects.specs.Decoded.{ShowsDigits};
 ghost use Rattle.gp_code_objects.specs.Encoded.{ShowsWords};
 
 use crate::shown::put_digits;
 use crate::words::put_words;
-use gp_decode::LineFault;
+use gp_decode::DecodeFault;
 use gp_encode::WordsFault;
-use gp_flow::LineFault as Unanswered;
+use gp_flow::Unanswered;
 use gp_ploam::Mask;
 use gp_stream::Sink;
 use std::alloc::Global;
@@ -29,12 +29,12 @@ pub fn decode_object<W: Write>(
     upstream: bool,
     mask: Mask,
     sink: &mut Sink<W>,
-) -> Result<Option<LineFault>, Unanswered>
+) -> Result<Option<DecodeFault>, Unanswered>
     ensures ok { IfOk result (λ fault. (said : List ℕ) × ShowsDigits upstream mask 1 text.now fault said
         × Takes sink.old sink.new said) }
     // The text alone decides which fault it is.
     ensures fault { IfOk result (λ told. (fault : AnyFault) → IsOfText fault
-        → (told ≡ Some fault) ↔ HasLineFault mask text.now fault) }
+        → (told ≡ Some fault) ↔ HasDecodeFault mask text.now fault) }
     ensures written { OnOk result (sink.new.gathered ≡ []) }
     ensures flushed { sink.old.flushed ≡ true → OnOk result (sink.new.flushed ≡ true) }
     ensures finished { OnOk result (sink.new.stopped ≡ false) }

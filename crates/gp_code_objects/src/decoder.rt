@@ -5,8 +5,8 @@ ghost use Rattle.gp_decode.specs.Lines.{after};
 ghost use Rattle.gp_code_objects.specs.Decoded.{DecodesToObjects, opened_objects};
 
 use crate::shown::Shown;
-use gp_decode::{Direction, FaultAt, LineFault, is_remark, without_return};
-use gp_flow::{LineFault as Unanswered, LineWork, LinesFault, run_lines};
+use gp_decode::{DecodeFault, Direction, FaultAt, is_remark, without_return};
+use gp_flow::{LineWork, LinesFault, Unanswered, run_lines};
 use gp_ploam::Mask;
 use gp_stream::{Sink, Source};
 use std::alloc::Global;
@@ -61,7 +61,7 @@ impl ObjectDecoder {
     }
 
     /// Counts a line, with its fault.
-    fn count(&mut self, fault: Option<LineFault>)
+    fn count(&mut self, fault: Option<DecodeFault>)
         requires { self.old.lines + 1 < 2 ^ 64 }
         ensures { self.new ≡ after fault self.old }
     {
@@ -105,9 +105,9 @@ impl LineWork for ObjectDecoder {
         if self.lines == u64::MAX {
             return Err(Unanswered::Full);
         }
-        self.shown.refuse(self.lines + 1, LineFault::Length)?;
+        self.shown.refuse(self.lines + 1, DecodeFault::Length)?;
         sink.put(self.shown.said.as_slice())?;
-        self.count(Some(LineFault::Length));
+        self.count(Some(DecodeFault::Length));
         Ok(())
     }
 }

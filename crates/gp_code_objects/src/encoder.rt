@@ -7,7 +7,7 @@ ghost use Rattle.gp_code_objects.specs.Encoded.{EncodesToObjects};
 use crate::words::{put_words, put_words_fault};
 use gp_decode::{is_remark, without_return};
 use gp_encode::{WordsFault, WordsFaultAt};
-use gp_flow::{LineFault as Unanswered, LineWork, LinesFault, run_lines};
+use gp_flow::{LineWork, LinesFault, Unanswered, run_lines};
 use gp_lines::LineFault as PartFault;
 use gp_ploam::Mask;
 use gp_stream::{Sink, Source};

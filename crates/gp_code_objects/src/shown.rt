@@ -12,7 +12,7 @@ use crate::message::{down_name, push_down_fields, push_up_fields, up_name};
 use crate::object::{begin_object, end_object, push_code, push_text, put_error};
 use crate::spelled::{code_in, directed, push_digits};
 use gp_code::octets_in;
-use gp_decode::{Direction, LineFault};
+use gp_decode::{DecodeFault, Direction};
 use gp_ploam::{Down, Mask, Up, crc, decode_down, decode_up};
 use std::alloc::{AllocError, Global};
 
@@ -127,7 +127,7 @@ fn put_code(
     code: &[u8; 13],
     upstream: bool,
     mask: Mask,
-) -> Result<Option<LineFault>, AllocError>
+) -> Result<Option<DecodeFault>, AllocError>
     ensures { (digits : List ℕ) → decode_of digits ≡ Ok code.now
         → IfOk result (λ fault. ShowsDigits upstream mask line digits fault out.new.items) }
 {
@@ -144,7 +144,7 @@ fn put_up_code(
     line: u64,
     code: &[u8; 13],
     mask: Mask,
-) -> Result<Option<LineFault>, AllocError>
+) -> Result<Option<DecodeFault>, AllocError>
     ensures { (digits : List ℕ) → decode_of digits ≡ Ok code.now
         → IfOk result (λ fault. ShowsDigits true mask line digits fault out.new.items) }
 {
@@ -155,7 +155,7 @@ fn put_up_code(
         }
         Err(_) => {
             put_check(out, line, code, mask)?;
-            Ok(Some(LineFault::Crc))
+            Ok(Some(DecodeFault::Crc))
         }
     }
 }
@@ -166,7 +166,7 @@ fn put_down_code(
     line: u64,
     code: &[u8; 13],
     mask: Mask,
-) -> Result<Option<LineFault>, AllocError>
+) -> Result<Option<DecodeFault>, AllocError>
     ensures { (digits : List ℕ) → decode_of digits ≡ Ok code.now
         → IfOk result (λ fault. ShowsDigits false mask line digits fault out.new.items) }
 {
@@ -177,27 +177,27 @@ fn put_down_code(
         }
         Err(_) => {
             put_check(out, line, code, mask)?;
-            Ok(Some(LineFault::Crc))
+            Ok(Some(DecodeFault::Crc))
         }
     }
 }
 
 /// Gives the name of a fault.
-fn fault_name(fault: LineFault) -> &'static str
+fn fault_name(fault: DecodeFault) -> &'static str
     ensures { result.now ≡ fault_name fault }
 {
     match fault {
-        LineFault::Length => "length",
-        LineFault::Digit => "digit",
-        LineFault::Crc => "crc",
-        LineFault::OutOfMemory => "memory",
-        LineFault::Write => "write",
-        LineFault::Direction => "direction",
+        DecodeFault::Length => "length",
+        DecodeFault::Digit => "digit",
+        DecodeFault::Crc => "crc",
+        DecodeFault::OutOfMemory => "memory",
+        DecodeFault::Write => "write",
+        DecodeFault::Direction => "direction",
     }
 }
 
 /// Puts the object of a line with a fault into a buffer, in place of what it held.
-fn put_fault(out: &mut Vec<u8>, line: u64, fault: LineFault) -> Result<(), AllocError>
+fn put_fault(out: &mut Vec<u8>, line: u64, fault: DecodeFault) -> Result<(), AllocError>
     ensures { OnOk result (out.new.items ≡ error_object line (fault_name fault)) }
 {
     put_error(out, line, fault_name(fault))
@@ -210,7 +210,7 @@ pub(crate) fn put_digits(
     digits: &[u8],
     upstream: bool,
     mask: Mask,
-) -> Result<Option<LineFault>, AllocError>
+) -> Result<Option<DecodeFault>, AllocError>
     ensures { IfOk result (λ fault. ShowsDigits upstream mask line digits.now fault out.new.items) }
 {
     match code_in(digits) {
@@ -239,7 +239,7 @@ impl Shown {
     }
 
     /// Says of a line that it has a fault.
-    pub(crate) fn refuse(&mut self, line: u64, fault: LineFault) -> Result<(), AllocError>
+    pub(crate) fn refuse(&mut self, line: u64, fault: DecodeFault) -> Result<(), AllocError>
         ensures { OnOk result (self.new.said.items ≡ error_object line (fault_name fault)) }
     {
         put_fault(&mut self.said, line, fault)
@@ -253,12 +253,12 @@ impl Shown {
         text: &[u8],
         direction: Direction,
         mask: Mask,
-    ) -> Result<Option<LineFault>, AllocError>
+    ) -> Result<Option<DecodeFault>, AllocError>
         ensures { IfOk result (λ fault. ShowsText direction mask line text.now fault self.new.said.items) }
     {
         let Some((upstream, spelled)) = directed(direction, text) else {
-            self.refuse(line, LineFault::Direction)?;
-            return Ok(Some(LineFault::Direction));
+            self.refuse(line, DecodeFault::Direction)?;
+            return Ok(Some(DecodeFault::Direction));
         };
         match octets_in(spelled) {
             Some(code) => put_code(&mut self.said, line, &code, upstream, mask),
@@ -273,7 +273,7 @@ impl Shown {
         text: &[u8],
         upstream: bool,
         mask: Mask,
-    ) -> Result<Option<LineFault>, AllocError>
+    ) -> Result<Option<DecodeFault>, AllocError>
         ensures { IfOk result (λ fault. ShowsDigits upstream mask line (code_digits text.now) fault
             self.new.said.items) }
     {

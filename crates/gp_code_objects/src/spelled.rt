@@ -6,10 +6,10 @@ ghost use Rattle.hex.specs.Hex.{decode_of, decode_sized, is_hex_digit};
 ghost use Rattle.hex.specs.declared.error.FromHexError.{FromHexError};
 ghost use Rattle.gp_ploam.specs.declared.check.Mask.{Mask as AnyMask};
 ghost use Rattle.gp_decode.specs.LineText as spec;
-ghost use Rattle.gp_decode.specs.Line.{HasLineFault, IsOfSpelling};
+ghost use Rattle.gp_decode.specs.Line.{HasDecodeFault, IsOfSpelling};
 
 use gp_code::octets_in;
-use gp_decode::{Direction, LineFault};
+use gp_decode::{DecodeFault, Direction};
 use std::alloc::AllocError;
 
 /// Gives what stands behind a word at the head of a text.
@@ -67,9 +67,9 @@ pub(crate) fn push_digits(out: &mut Vec<u8>, text: &[u8]) -> Result<(), AllocErr
 }
 
 /// Reads the thirteen octets that a text of 26 digits stands for, or answers the text's first fault.
-pub(crate) fn code_in(text: &[u8]) -> Result<[u8; 13], LineFault>
+pub(crate) fn code_in(text: &[u8]) -> Result<[u8; 13], DecodeFault>
     ensures code { IfOk result (λ code. decode_of text.now ≡ Ok code) }
-    ensures fault { IfErr result (λ fault. (mask : AnyMask) → HasLineFault mask text.now fault) }
+    ensures fault { IfErr result (λ fault. (mask : AnyMask) → HasDecodeFault mask text.now fault) }
     ensures spelling { IfErr result IsOfSpelling }
 {
     match octets_in(text) {
@@ -79,18 +79,18 @@ pub(crate) fn code_in(text: &[u8]) -> Result<[u8; 13], LineFault>
 }
 
 /// Gives the first fault of a text that isn't 26 hexadecimal digits.
-fn fault_of(text: &[u8]) -> LineFault
+fn fault_of(text: &[u8]) -> DecodeFault
     requires { (fault : FromHexError) × (decode_sized text.now 13 ≡ Err fault) }
-    ensures fault { (mask : AnyMask) → HasLineFault mask text.now result }
+    ensures fault { (mask : AnyMask) → HasDecodeFault mask text.now result }
     ensures spelling { IsOfSpelling result }
 {
     if text.len() % 2 == 1 {
-        return LineFault::Length;
+        return DecodeFault::Length;
     }
     if !are_digits(text) {
-        return LineFault::Digit;
+        return DecodeFault::Digit;
     }
-    LineFault::Length
+    DecodeFault::Length
 }
 
 /// Tells whether each byte is a hexadecimal digit.

@@ -18,7 +18,7 @@ use Rattle.gp_command_line.specs.declared.request.Dumping.{Dumping}
 use Rattle.gp_command_line.specs.declared.request.Explanation.{Explanation}
 use Rattle.gp_command_line.specs.declared.request.Play.{Play}
 use Rattle.gp_command_line.specs.declared.request.Testing.{Testing}
-use Rattle.gp_command_line.specs.declared.request.Told.{Told}
+use Rattle.gp_command_line.specs.declared.request.TraceForm.{TraceForm}
 use Rattle.gp_command_line.specs.declared.request.Verification.{Verification}
 
 -- a flag is given or not, as its text says, and is not where it has none
@@ -45,12 +45,12 @@ abbrev pub name_in : Option (Bor Text) → Option Text
 name_in file = option_map (λ name. name.now) file
 
 -- the rows ask for a trace in this form: in words, with each port's time, as JSON
-pub record AsksForForm (rows : List Row) (words : Bool) (told : Told) : Type 0 where
+pub record AsksForForm (rows : List Row) (words : Bool) (told : TraceForm) : Type 0 where
   pub form : told.form ≡ form_named words (first_of (codes "format") rows)
   pub time : IsFlag rows (codes "time") told.timed
 
 -- in words where `--words` stands
-pub record AsksForTrace (rows : List Row) (told : Told) : Type 0 where
+pub record AsksForTrace (rows : List Row) (told : TraceForm) : Type 0 where
   pub words : Bool
   pub in_words : IsFlag rows (codes "words") words
   pub form : AsksForForm rows words told

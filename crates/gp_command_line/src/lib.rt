@@ -18,6 +18,6 @@ mod request;
 
 pub use command_line::{VERSION, parse};
 pub use request::{
-    Audit, Drawing, Dumping, Explanation, Play, Request, StormPlay, Testing, Told, Verification,
-    request_of,
+    Audit, Drawing, Dumping, Explanation, Play, Request, StormPlay, Testing, TraceForm,
+    Verification, request_of,
 };

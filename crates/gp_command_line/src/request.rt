@@ -13,7 +13,7 @@ use gp_ploam::Mask;
 
 /// How the lines of a trace are written.
 #[derive(Clone, Copy)]
-pub struct Told {
+pub struct TraceForm {
     /// As they are, in words, or as JSON.
     pub form: Form,
     /// With the time of its port before each.
@@ -24,7 +24,7 @@ pub struct Told {
 #[derive(Clone, Copy)]
 pub struct Play {
     /// How its trace is written.
-    pub told: Told,
+    pub told: TraceForm,
     /// At the end, what became of each unit is told behind the trace.
     pub units: bool,
     /// That alone is told, in place of the trace.
@@ -88,7 +88,7 @@ pub struct Explanation<'a> {
     /// The mask of its codes.
     pub mask: Mask,
     /// In words, or as JSON.
-    pub told: Told,
+    pub told: TraceForm,
     /// As a log, whatever else is wanted.
     pub as_log: bool,
     /// At the end, what was counted of each port and unit is told behind it.
@@ -172,7 +172,7 @@ pub enum Request<'m, 'a> {
     /// with a line that says so; where `units`, what became of each port and unit is told at the end.
     Drive {
         script: &'a str,
-        told: Told,
+        told: TraceForm,
         done: bool,
         units: bool,
     },
@@ -278,17 +278,17 @@ fn form_of(words: bool, format: Option<&str>) -> Form
 }
 
 #[tactic(auto, using(crate::proofs::Rows::value_by_rows, crate::proofs::Rows::flag_by_rows))]
-fn form_in(found: &ArgMatches<'_>, words: bool) -> Told
+fn form_in(found: &ArgMatches<'_>, words: bool) -> TraceForm
     ensures { AsksForForm (rows_of (found_of found.now)) words result }
 {
-    Told {
+    TraceForm {
         form: form_of(words, found.get_str("format")),
         timed: found.get_flag("time"),
     }
 }
 
 #[tactic(auto, using(crate::proofs::Rows::flag_by_rows))]
-fn told_in(found: &ArgMatches<'_>) -> Told
+fn told_in(found: &ArgMatches<'_>) -> TraceForm
     ensures { AsksForTrace (rows_of (found_of found.now)) result }
 {
     form_in(found, found.get_flag("words"))

@@ -1,20 +1,20 @@
 -- Lines that are handed to a decoder.
 use Rattle.std.proofs.Common.{◌≡◌, ℕ, ◌+◌, Bool, false, List, None, Some, Option, Result, Ok, Err, IsErrAnd, inr, refl, sym, subst}
-use Rattle.gp_flow.specs.declared.fault.LineFault.{LineFault as Unanswered}
-use Rattle.gp_flow.specs.declared.fault.LineFault.TheVariants.{Write}
+use Rattle.gp_flow.specs.declared.fault.Unanswered.{Unanswered}
+use Rattle.gp_flow.specs.declared.fault.Unanswered.TheVariants.{Write}
 use Rattle.gp_flow.specs.Lines.{Answers}
 use Rattle.gp_flow.proofs.AnswerLemmas.{put_stopped}
 use Rattle.gp_stream.specs.declared.sink.WriteStopped.{WriteStopped}
 use Rattle.gp_stream.specs.Sink.{SinkState, Puts}
-use Rattle.gp_decode.specs.declared.fault.LineFault.{LineFault}
-use Rattle.gp_decode.specs.declared.fault.LineFault.TheVariants as fault
+use Rattle.gp_decode.specs.declared.fault.DecodeFault.{DecodeFault}
+use Rattle.gp_decode.specs.declared.fault.DecodeFault.TheVariants as fault
 use Rattle.gp_ploam.specs.declared.check.Mask.{Mask}
-use Rattle.gp_decode.specs.Line.{HasLineFault, IsOfSpelling}
+use Rattle.gp_decode.specs.Line.{HasDecodeFault, IsOfSpelling}
 use Rattle.gp_decode.specs.LineText.{is_remark, without_return}
 use Rattle.gp_decode.specs.Lines.{DecodeState, Decoding, SaysToDigits, SaysToText, after, error_line, faulted}
 
 -- digits with a fault that is seen in them are answered by its name
-pub of_spelling : (names upstream : Bool) (mask : Mask) (line : ℕ) (digits said : List ℕ) (f : LineFault) → IsOfSpelling f → HasLineFault mask digits f
+pub of_spelling : (names upstream : Bool) (mask : Mask) (line : ℕ) (digits said : List ℕ) (f : DecodeFault) → IsOfSpelling f → HasDecodeFault mask digits f
     → said ≡ error_line line f → SaysToDigits names upstream mask line digits (Some f) said
 of_spelling names upstream mask line digits said fault.Length own h says = (h, says)
 of_spelling names upstream mask line digits said fault.Digit own h says = (h, says)
@@ -24,7 +24,7 @@ of_spelling names upstream mask line digits said fault.Write own h says = absurd
 of_spelling names upstream mask line digits said fault.Direction own h says = absurd own
 
 -- a line of which the writer took a part
-pub stopped_line : {W T : Type 0} (old new : DecodeState) (line said : List ℕ) (f : Option LineFault) (before after_ : SinkState W) (e : WriteStopped) (r : Result (Unit {0}) Unanswered)
+pub stopped_line : {W T : Type 0} (old new : DecodeState) (line said : List ℕ) (f : Option DecodeFault) (before after_ : SinkState W) (e : WriteStopped) (r : Result (Unit {0}) Unanswered)
     → is_remark (without_return line) ≡ false → SaysToText old.names old.direction old.mask (old.lines + 1) (without_return line) f said → Puts {T = T} before after_ said (Err e)
     → IsErrAnd r (λ g. g ≡ Write) → Answers Decoding (Some line) old new before after_ r
 stopped_line old new line said f before after_ e (Ok x) text says puts told = absurd told

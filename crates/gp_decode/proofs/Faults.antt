@@ -6,11 +6,11 @@ use Rattle.std.proofs.lemmas.List.Sums.{list_all-from_AllPass}
 use Rattle.hex.specs.Hex.{decode_of, is_hex_digit}
 use Rattle.hex.proofs.HexLemmas.{decode_of-ok}
 use Rattle.gp_ploam.specs.declared.check.Mask.{Mask}
-use Rattle.gp_decode.specs.declared.fault.LineFault.{LineFault}
-use Rattle.gp_decode.specs.declared.fault.LineFault.TheVariants as fault
+use Rattle.gp_decode.specs.declared.fault.DecodeFault.{DecodeFault}
+use Rattle.gp_decode.specs.declared.fault.DecodeFault.TheVariants as fault
 use Rattle.gp_ploam.specs.Mask.{mask_value}
 use Rattle.gp_ploam.specs.Row.{HasRightCheck}
-use Rattle.gp_decode.specs.Line.{HasLineFault, IsOfText, LacksLine, SaysIn}
+use Rattle.gp_decode.specs.Line.{HasDecodeFault, IsOfText, LacksLine, SaysIn}
 
 -- the code of a text that says a line, with its check octet
 pub code_said : (names upstream : Bool) (mask : Mask) (text line : List ℕ) → SaysIn names upstream mask text line
@@ -24,8 +24,8 @@ octets_in (Ok octets) = octets
 octets_in (Err e) = []
 
 -- a text of thirteen octets in digits has no fault but a wrong check octet
-pub fault_of_code : (mask : Mask) (text code : List ℕ) (f : LineFault) → decode_of text ≡ Ok code → length code ≡ 13
-    → HasLineFault mask text f → f ≡ fault.Crc
+pub fault_of_code : (mask : Mask) (text code : List ℕ) (f : DecodeFault) → decode_of text ≡ Ok code → length code ≡ 13
+    → HasDecodeFault mask text f → f ≡ fault.Crc
 fault_of_code mask text code fault.Length spelled long (inl odd) =
     let digits = decode_of-ok text code spelled in
     let even = digits.0 in
@@ -44,17 +44,17 @@ fault_of_code mask text code fault.Write spelled long h = absurd h
 fault_of_code mask text code fault.Direction spelled long h = absurd h
 
 -- a text that says a line has no fault
-pub fault_of_said : (names upstream : Bool) (mask : Mask) (text line : List ℕ) (f : LineFault) → SaysIn names upstream mask text line → HasLineFault mask text f → ⊥
+pub fault_of_said : (names upstream : Bool) (mask : Mask) (text line : List ℕ) (f : DecodeFault) → SaysIn names upstream mask text line → HasDecodeFault mask text f → ⊥
 fault_of_said names upstream mask text line f s h =
     let known = code_said names upstream mask text line s in
-    right_and_wrong mask text known.0 known.1 known.3 (subst (HasLineFault mask text) (fault_of_code mask text known.0 f known.1 known.2 h) h)
+    right_and_wrong mask text known.0 known.1 known.3 (subst (HasDecodeFault mask text) (fault_of_code mask text known.0 f known.1 known.2 h) h)
   where
-    right_and_wrong : (mask : Mask) (text code : List ℕ) → decode_of text ≡ Ok code → HasRightCheck code (mask_value mask) → HasLineFault mask text fault.Crc → ⊥
+    right_and_wrong : (mask : Mask) (text code : List ℕ) → decode_of text ≡ Ok code → HasRightCheck code (mask_value mask) → HasDecodeFault mask text fault.Crc → ⊥
     right_and_wrong mask text code spelled right h =
         h.3 (subst (λ (c : List ℕ). HasRightCheck c (mask_value mask)) (ap octets_in (sym spelled ∙ h.1)) right)
 
 -- a text has one first fault
-pub one_fault : (mask : Mask) (text : List ℕ) (f g : LineFault) → HasLineFault mask text f → HasLineFault mask text g → f ≡ g
+pub one_fault : (mask : Mask) (text : List ℕ) (f g : DecodeFault) → HasDecodeFault mask text f → HasDecodeFault mask text g → f ≡ g
 one_fault mask text fault.Crc g h k = sym (fault_of_code mask text h.0 g h.1 h.2 k)
 one_fault mask text fault.Length fault.Length h k = refl
 one_fault mask text fault.Length fault.Digit (inl odd) k = let even = k.0 in let neither : ⊥ = omega (arith, even, odd) in absurd neither
@@ -72,30 +72,30 @@ one_fault mask text f fault.Write h k = absurd k
 one_fault mask text f fault.Direction h k = absurd k
 
 -- the fault answered
-abbrev fault_in : Result (Unit {0}) LineFault → LineFault
+abbrev fault_in : Result (Unit {0}) DecodeFault → DecodeFault
 fault_in (Ok u) = fault.Write
 fault_in (Err f) = f
 
-abbrev failing : LineFault → Result (Unit {0}) LineFault
+abbrev failing : DecodeFault → Result (Unit {0}) DecodeFault
 failing f = Err f
 
-pub own_fault : (mask : Mask) (text : List ℕ) (e f : LineFault) → HasLineFault mask text e → (failing e ≡ failing f) ↔ HasLineFault mask text f
+pub own_fault : (mask : Mask) (text : List ℕ) (e f : DecodeFault) → HasDecodeFault mask text e → (failing e ≡ failing f) ↔ HasDecodeFault mask text f
 own_fault mask text e f has = (
-  λ same. subst (HasLineFault mask text) (ap fault_in same) has,
+  λ same. subst (HasDecodeFault mask text) (ap fault_in same) has,
   λ h. ap failing (one_fault mask text e f has h),
 )
 
 -- where the text says a line, a fault that is none of the text's is not its fault
-pub foreign_fault : (names upstream : Bool) (mask : Mask) (text line : List ℕ) (e f : LineFault) → SaysIn names upstream mask text line → IsOfText f → (IsOfText e → ⊥)
-    → (failing e ≡ failing f) ↔ HasLineFault mask text f
+pub foreign_fault : (names upstream : Bool) (mask : Mask) (text line : List ℕ) (e f : DecodeFault) → SaysIn names upstream mask text line → IsOfText f → (IsOfText e → ⊥)
+    → (failing e ≡ failing f) ↔ HasDecodeFault mask text f
 foreign_fault names upstream mask text line e f s own foreign = (
   λ same. absurd (foreign (subst IsOfText (sym (ap fault_in same)) own)),
   λ h. absurd (fault_of_said names upstream mask text line f s h),
 )
 
 -- what is answered where there is no line is the text's fault
-pub fault_without_line : (upstream : Bool) (mask : Mask) (text : List ℕ) (e f : LineFault) → LacksLine upstream mask text e → IsOfText f
-    → (failing e ≡ failing f) ↔ HasLineFault mask text f
+pub fault_without_line : (upstream : Bool) (mask : Mask) (text : List ℕ) (e f : DecodeFault) → LacksLine upstream mask text e → IsOfText f
+    → (failing e ≡ failing f) ↔ HasDecodeFault mask text f
 fault_without_line upstream mask text fault.Length f lacks own = own_fault mask text fault.Length f lacks
 fault_without_line upstream mask text fault.Digit f lacks own = own_fault mask text fault.Digit f lacks
 fault_without_line upstream mask text fault.Crc f lacks own = own_fault mask text fault.Crc f lacks
@@ -104,8 +104,8 @@ fault_without_line upstream mask text fault.Write f lacks own = absurd lacks
 fault_without_line upstream mask text fault.Direction f lacks own = absurd lacks
 
 -- what is answered where there is a line is no fault
-pub no_fault_with_line : (names upstream : Bool) (mask : Mask) (text line : List ℕ) (f : LineFault) → SaysIn names upstream mask text line
-    → (◌≡◌ {A = Result (Unit {0}) LineFault} (Ok tt) (Err f)) ↔ HasLineFault mask text f
+pub no_fault_with_line : (names upstream : Bool) (mask : Mask) (text line : List ℕ) (f : DecodeFault) → SaysIn names upstream mask text line
+    → (◌≡◌ {A = Result (Unit {0}) DecodeFault} (Ok tt) (Err f)) ↔ HasDecodeFault mask text f
 no_fault_with_line names upstream mask text line f s = (
   λ same. cc same,
   λ h. absurd (fault_of_said names upstream mask text line f s h),

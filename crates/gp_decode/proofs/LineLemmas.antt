@@ -2,13 +2,13 @@
 use Rattle.std.proofs.Common.{◌≡◌, ℕ, Bool, true, false, List, ◌++◌, length, codes, Ok, refl}
 use Rattle.hex.specs.Hex.{decode_of}
 use Rattle.gp_ploam.specs.declared.check.Mask.{Mask}
-use Rattle.gp_decode.specs.declared.fault.LineFault.{LineFault}
-use Rattle.gp_decode.specs.declared.fault.LineFault.TheVariants as fault
+use Rattle.gp_decode.specs.declared.fault.DecodeFault.{DecodeFault}
+use Rattle.gp_decode.specs.declared.fault.DecodeFault.TheVariants as fault
 use Rattle.gp_decode.specs.Message.{down_text, up_text}
-use Rattle.gp_decode.specs.Line.{HasLineFault, HasWordsIn, LacksLine, LacksWords}
+use Rattle.gp_decode.specs.Line.{HasDecodeFault, HasWordsIn, LacksLine, LacksWords}
 
 -- a text with a fault of its own has no line
-pub lacks_line : (upstream : Bool) (mask : Mask) (text : List ℕ) (f : LineFault) → HasLineFault mask text f → LacksLine upstream mask text f
+pub lacks_line : (upstream : Bool) (mask : Mask) (text : List ℕ) (f : DecodeFault) → HasDecodeFault mask text f → LacksLine upstream mask text f
 lacks_line upstream mask text fault.Length h = h
 lacks_line upstream mask text fault.Digit h = h
 lacks_line upstream mask text fault.Crc h = h
@@ -17,7 +17,7 @@ lacks_line upstream mask text fault.Write h = absurd h
 lacks_line upstream mask text fault.Direction h = absurd h
 
 -- why thirteen octets have no words is why a text of their digits has no line
-pub lacks_words : (upstream : Bool) (mask : Mask) (text code : List ℕ) (f : LineFault) → decode_of text ≡ Ok code → length code ≡ 13
+pub lacks_words : (upstream : Bool) (mask : Mask) (text code : List ℕ) (f : DecodeFault) → decode_of text ≡ Ok code → length code ≡ 13
     → LacksWords upstream mask code f → LacksLine upstream mask text f
 lacks_words upstream mask text code fault.OutOfMemory spelled long h =
     (h.0 ++ codes "\n", record { code = code; spelled = spelled; said = (h.0, h.1, refl) })

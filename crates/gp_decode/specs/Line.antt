@@ -10,8 +10,8 @@ use Rattle.gp_ploam.specs.Mask.{mask_value}
 use Rattle.gp_ploam.specs.Row.{HasRightCheck}
 use Rattle.gp_ploam.specs.Down.{ReadsDown}
 use Rattle.gp_ploam.specs.Up.{ReadsUp}
-use Rattle.gp_decode.specs.declared.fault.LineFault.{LineFault}
-use Rattle.gp_decode.specs.declared.fault.LineFault.TheVariants as fault
+use Rattle.gp_decode.specs.declared.fault.DecodeFault.{DecodeFault}
+use Rattle.gp_decode.specs.declared.fault.DecodeFault.TheVariants as fault
 use Rattle.gp_decode.specs.Message.{down_words, up_words}
 
 -- the words of the message that a code is read as, with names of the standard or without: upstream or downstream, under
@@ -47,36 +47,36 @@ HasWrongCheck mask code = HasRightCheck code (mask_value mask) → ⊥
 -- the first fault of a text: an odd number of bytes, then a byte that is no hexadecimal digit, then another number of
 -- octets than thirteen, then a check octet that is wrong. Memory, the writer and what a line says of the direction are
 -- no matter of the text
-abbrev pub HasLineFault : Mask → List ℕ → LineFault → Type 0
-HasLineFault mask text fault.Length =
+abbrev pub HasDecodeFault : Mask → List ℕ → DecodeFault → Type 0
+HasDecodeFault mask text fault.Length =
     (length text % 2 ≡ 1) ⊎ ((length text % 2 ≡ 0) × (list_all is_hex_digit text ≡ true) × (length text ≢ 26))
-HasLineFault mask text fault.Digit = (length text % 2 ≡ 0) × (list_all is_hex_digit text ≡ false)
-HasLineFault mask text fault.Crc =
+HasDecodeFault mask text fault.Digit = (length text % 2 ≡ 0) × (list_all is_hex_digit text ≡ false)
+HasDecodeFault mask text fault.Crc =
     (code : List ℕ) × (decode_of text ≡ Ok code) × (length code ≡ 13) × HasWrongCheck mask code
-HasLineFault mask text fault.OutOfMemory = ⊥
-HasLineFault mask text fault.Write = ⊥
-HasLineFault mask text fault.Direction = ⊥
+HasDecodeFault mask text fault.OutOfMemory = ⊥
+HasDecodeFault mask text fault.Write = ⊥
+HasDecodeFault mask text fault.Direction = ⊥
 
 -- the fault is the text's own, and no matter of memory, of the writer, or of what a line says of the direction
-abbrev pub IsOfText : LineFault → Type 0
+abbrev pub IsOfText : DecodeFault → Type 0
 IsOfText fault.OutOfMemory = ⊥
 IsOfText fault.Write = ⊥
 IsOfText fault.Direction = ⊥
 IsOfText _ = Unit {0}
 
 -- the fault is seen in the text alone, before its octets are looked at
-abbrev pub IsOfSpelling : LineFault → Type 0
+abbrev pub IsOfSpelling : DecodeFault → Type 0
 IsOfSpelling fault.Length = Unit {0}
 IsOfSpelling fault.Digit = Unit {0}
 IsOfSpelling _ = ⊥
 
 -- why there is no line for a text: out of memory for the line that it says, or the text's own fault
-abbrev pub LacksLine : Bool → Mask → List ℕ → LineFault → Type 0
+abbrev pub LacksLine : Bool → Mask → List ℕ → DecodeFault → Type 0
 LacksLine upstream mask text fault.OutOfMemory = (line : List ℕ) × Says upstream mask text line
-LacksLine upstream mask text own = HasLineFault mask text own
+LacksLine upstream mask text own = HasDecodeFault mask text own
 
 -- why there are no words for thirteen octets: out of memory for those that they have, or a check octet that is wrong
-abbrev pub LacksWords : Bool → Mask → List ℕ → LineFault → Type 0
+abbrev pub LacksWords : Bool → Mask → List ℕ → DecodeFault → Type 0
 LacksWords upstream mask code fault.OutOfMemory = (words : List ℕ) × HasWords upstream mask code words
 LacksWords upstream mask code fault.Crc = HasWrongCheck mask code
 LacksWords upstream mask code _ = ⊥

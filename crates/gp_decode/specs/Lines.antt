@@ -3,7 +3,7 @@ use Rattle.std.specs.Prelude.{◌≡◌, ◌⊎◌, ◌==◌, ℕ, ◌+◌, Bool
 use Rattle.hex.specs.Hex.{decode_of, encode_lower}
 use Rattle.gp_flow.specs.declared.lines.LinesEnd.{LinesEnd}
 use Rattle.gp_flow.specs.declared.fault.LinesFault.{LinesFault}
-use Rattle.gp_flow.specs.Lines.{Serves, Speech, WholeLines}
+use Rattle.gp_flow.specs.Lines.{Serves, Speech, WholeLines, longest_line}
 use Rattle.gp_stream.specs.Sink.{SinkState}
 use Rattle.gp_stream.specs.Source.{SourceState}
 use Rattle.gp_ploam.specs.declared.check.Mask.{Mask}
@@ -12,13 +12,13 @@ use Rattle.gp_ploam.specs.Crc.{crc_of}
 use Rattle.gp_ploam.specs.Mask.{mask_value}
 use Rattle.gp_decode.specs.declared.decoder.FaultAt.{FaultAt}
 use Rattle.gp_decode.specs.declared.direction.Direction.{Direction}
-use Rattle.gp_decode.specs.declared.fault.LineFault.{LineFault}
-use Rattle.gp_decode.specs.declared.fault.LineFault.TheVariants as fault
-use Rattle.gp_decode.specs.Line.{HasLineFault, HasWrongCheck, SaysIn}
+use Rattle.gp_decode.specs.declared.fault.DecodeFault.{DecodeFault}
+use Rattle.gp_decode.specs.declared.fault.DecodeFault.TheVariants as fault
+use Rattle.gp_decode.specs.Line.{HasDecodeFault, HasWrongCheck, SaysIn}
 use Rattle.gp_decode.specs.LineText.{code_digits, directed, direction_of, is_remark, without_return}
 
 -- the name of a fault of a text
-abbrev pub fault_name : LineFault → List ℕ
+abbrev pub fault_name : DecodeFault → List ℕ
 fault_name fault.Length = codes "length"
 fault_name fault.Digit = codes "digit"
 fault_name fault.Crc = codes "crc"
@@ -27,10 +27,10 @@ fault_name fault.Write = codes "write"
 fault_name fault.Direction = codes "direction"
 
 -- what is said to a line with a fault: the line's number, counted from 1, and the fault's name
-abbrev pub error_text : ℕ → LineFault → List ℕ
+abbrev pub error_text : ℕ → DecodeFault → List ℕ
 error_text line fault = codes "error " ++ decimal line ++ codes " " ++ fault_name fault
 
-abbrev pub error_line : ℕ → LineFault → List ℕ
+abbrev pub error_line : ℕ → DecodeFault → List ℕ
 error_line line fault = error_text line fault ++ codes "\n"
 
 -- the mask that is not in use
@@ -87,40 +87,40 @@ abbrev pub counted : DecodeState → DecodeState
 counted state = record state { lines = state.lines + 1 }
 
 -- one line more came, which had this fault
-abbrev pub faulted : LineFault → DecodeState → DecodeState
+abbrev pub faulted : DecodeFault → DecodeState → DecodeState
 faulted fault state = record state {
   lines = state.lines + 1;
   first = Some (first_of state.first (record { line = state.lines + 1; fault = fault }));
 }
 
 -- one line more came, which had this fault, or none
-abbrev pub after : Option LineFault → DecodeState → DecodeState
+abbrev pub after : Option DecodeFault → DecodeState → DecodeState
 after None state = counted state
 after (Some fault) state = faulted fault state
 
 -- the digits of a code with this fault, or none: they are answered by the line of the code's message; or by what would
 -- be right of a wrong check octet; or by their first fault
-abbrev pub SaysToDigits : Bool → Bool → Mask → ℕ → List ℕ → Option LineFault → List ℕ → Type 0
+abbrev pub SaysToDigits : Bool → Bool → Mask → ℕ → List ℕ → Option DecodeFault → List ℕ → Type 0
 SaysToDigits names upstream mask line digits None said = SaysIn names upstream mask digits said
 SaysToDigits names upstream mask line digits (Some fault.Crc) said = (code : List ℕ) × (decode_of digits ≡ Ok code)
     × (length code ≡ 13) × HasWrongCheck mask code × (said ≡ check_line line mask code)
 SaysToDigits names upstream mask line digits (Some fault) said =
-    HasLineFault mask digits fault × (said ≡ error_line line fault)
+    HasDecodeFault mask digits fault × (said ≡ error_line line fault)
 
 -- the same of a text whose code is a unit's or not; or of one that would have to say it and doesn't
-abbrev pub SaysToWay : Bool → Mask → ℕ → Option (Bool × List ℕ) → Option LineFault → List ℕ → Type 0
+abbrev pub SaysToWay : Bool → Mask → ℕ → Option (Bool × List ℕ) → Option DecodeFault → List ℕ → Type 0
 SaysToWay names mask line None told said = (told ≡ Some fault.Direction) × (said ≡ error_line line fault.Direction)
 SaysToWay names mask line (Some way) told said = SaysToDigits names way.0 mask line (code_digits way.1) told said
 
 -- a text that is no remark is answered so
-abbrev pub SaysToText : Bool → Direction → Mask → ℕ → List ℕ → Option LineFault → List ℕ → Type 0
+abbrev pub SaysToText : Bool → Direction → Mask → ℕ → List ℕ → Option DecodeFault → List ℕ → Type 0
 SaysToText names direction mask line text fault said = SaysToWay names mask line (directed direction text) fault said
 
 -- a line without its carriage return is passed over, or answered, and counted
 abbrev pub SaysOrPasses : DecodeState → List ℕ → List ℕ → DecodeState → Type 0
 SaysOrPasses old text said new =
     ((is_remark text ≡ true) × (said ≡ []) × (new ≡ counted old))
-    ⊎ ((is_remark text ≡ false) × (fault : Option LineFault)
+    ⊎ ((is_remark text ≡ false) × (fault : Option DecodeFault)
     × SaysToText old.names old.direction old.mask (old.lines + 1) text fault said × (new ≡ after fault old))
 
 -- what is said to a line; one that is too long to be looked at has the fault of its length
@@ -146,7 +146,7 @@ pub record DecodesIn {R W : Type 0} (names : Bool) (direction : Direction) (mask
     (before after : SinkState W) (answer : Result (Option FaultAt) LinesFault) : Type 0 where
   pub new : DecodeState
   pub end : Result LinesEnd LinesFault
-  pub served : Serves Decoding never 4096 from to (opened_in names direction mask) new before after end
+  pub served : Serves Decoding never longest_line from to (opened_in names direction mask) new before after end
   pub told : IsAnswer end new answer
 
 -- the same without, where all codes are of one direction

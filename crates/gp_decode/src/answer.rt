@@ -8,7 +8,7 @@ ghost use Rattle.gp_decode.specs.Lines.{SaysToDigits, SaysToText, SaysToWay, che
 use crate::append::push_words_in;
 use crate::code::code_in;
 use crate::direction::Direction;
-use crate::fault::LineFault;
+use crate::fault::DecodeFault;
 use crate::text::{directed, push_digits};
 use gp_code::octets_in;
 use gp_ploam::{Mask, crc};
@@ -16,21 +16,21 @@ use itoa::Buffer;
 use std::alloc::{AllocError, Global};
 
 /// Gives the name of a fault.
-fn fault_name(fault: LineFault) -> &'static str
+fn fault_name(fault: DecodeFault) -> &'static str
     ensures { result.now ≡ fault_name fault }
 {
     match fault {
-        LineFault::Length => "length",
-        LineFault::Digit => "digit",
-        LineFault::Crc => "crc",
-        LineFault::OutOfMemory => "memory",
-        LineFault::Write => "write",
-        LineFault::Direction => "direction",
+        DecodeFault::Length => "length",
+        DecodeFault::Digit => "digit",
+        DecodeFault::Crc => "crc",
+        DecodeFault::OutOfMemory => "memory",
+        DecodeFault::Write => "write",
+        DecodeFault::Direction => "direction",
     }
 }
 
 /// Puts a line's number and its fault into a buffer, in place of what it held.
-fn put_error(out: &mut Vec<u8>, line: u64, fault: LineFault) -> Result<(), AllocError>
+fn put_error(out: &mut Vec<u8>, line: u64, fault: DecodeFault) -> Result<(), AllocError>
     ensures { OnOk result (out.new.items ≡ error_text line fault) }
 {
     let mut digits = Buffer::new();
@@ -42,7 +42,7 @@ fn put_error(out: &mut Vec<u8>, line: u64, fault: LineFault) -> Result<(), Alloc
 }
 
 /// Puts what is said to a line with a fault into a buffer, in place of what it held.
-fn put_error_line(out: &mut Vec<u8>, line: u64, fault: LineFault) -> Result<(), AllocError>
+fn put_error_line(out: &mut Vec<u8>, line: u64, fault: DecodeFault) -> Result<(), AllocError>
     ensures { OnOk result (out.new.items ≡ error_line line fault) }
 {
     put_error(out, line, fault)?;
@@ -102,7 +102,7 @@ fn put_check_line(
 ) -> Result<(), AllocError>
     ensures { OnOk result (out.new.items ≡ check_line line mask code.now) }
 {
-    put_error(out, line, LineFault::Crc)?;
+    put_error(out, line, DecodeFault::Crc)?;
     push_check_note(out, code, mask)?;
     out.extend_from_slice(b"\n")
 }
@@ -115,7 +115,7 @@ fn put_code(
     upstream: bool,
     mask: Mask,
     names: bool,
-) -> Result<Option<LineFault>, AllocError>
+) -> Result<Option<DecodeFault>, AllocError>
     ensures { (digits : List ℕ) → decode_of digits ≡ Ok code.now
         → IfOk result (λ fault. SaysToDigits names upstream mask line digits fault out.new.items) }
 {
@@ -125,10 +125,10 @@ fn put_code(
             out.extend_from_slice(b"\n")?;
             Ok(None)
         }
-        Err(LineFault::OutOfMemory) => Err(AllocError),
+        Err(DecodeFault::OutOfMemory) => Err(AllocError),
         Err(_) => {
             put_check_line(out, line, code, mask)?;
-            Ok(Some(LineFault::Crc))
+            Ok(Some(DecodeFault::Crc))
         }
     }
 }
@@ -141,7 +141,7 @@ fn put_answer(
     upstream: bool,
     mask: Mask,
     names: bool,
-) -> Result<Option<LineFault>, AllocError>
+) -> Result<Option<DecodeFault>, AllocError>
     ensures { IfOk result (λ fault. SaysToDigits names upstream mask line digits.now fault out.new.items) }
 {
     match code_in(digits) {
@@ -170,7 +170,7 @@ impl Answer {
     }
 
     /// Says to a line that it has a fault.
-    pub(crate) fn refuse(&mut self, line: u64, fault: LineFault) -> Result<(), AllocError>
+    pub(crate) fn refuse(&mut self, line: u64, fault: DecodeFault) -> Result<(), AllocError>
         ensures { OnOk result (self.new.said.items ≡ error_line line fault) }
     {
         put_error_line(&mut self.said, line, fault)
@@ -185,12 +185,12 @@ impl Answer {
         direction: Direction,
         mask: Mask,
         names: bool,
-    ) -> Result<Option<LineFault>, AllocError>
+    ) -> Result<Option<DecodeFault>, AllocError>
         ensures { IfOk result (λ fault. SaysToText names direction mask line text.now fault self.new.said.items) }
     {
         let Some((upstream, spelled)) = directed(direction, text) else {
-            self.refuse(line, LineFault::Direction)?;
-            return Ok(Some(LineFault::Direction));
+            self.refuse(line, DecodeFault::Direction)?;
+            return Ok(Some(DecodeFault::Direction));
         };
         match octets_in(spelled) {
             Some(code) => put_code(&mut self.said, line, &code, upstream, mask, names),
@@ -206,7 +206,7 @@ impl Answer {
         upstream: bool,
         mask: Mask,
         names: bool,
-    ) -> Result<Option<LineFault>, AllocError>
+    ) -> Result<Option<DecodeFault>, AllocError>
         ensures { IfOk result (λ fault. SaysToDigits names upstream mask line (code_digits text.now) fault
             self.new.said.items) }
     {

@@ -7,7 +7,7 @@ ghost use Rattle.gp_decode.specs.Line.{HasWords, HasWordsIn, LacksWords};
 ghost use Rattle.gp_decode.specs.Message.{down_named, down_text, down_words, keep_text, named_text, other_text, up_named, up_text, up_words};
 ghost use Rattle.gp_decode.specs.Names as standard;
 
-use super::fault::LineFault;
+use super::fault::DecodeFault;
 use super::names::other_name;
 use gp_ploam::{Down, Mask, Serial, Up, decode_down, decode_up};
 use gp_serial::push_serial_text;
@@ -242,14 +242,14 @@ pub fn push_words_of(
     code: &[u8; 13],
     upstream: bool,
     mask: Mask,
-) -> Result<(), LineFault>
+) -> Result<(), DecodeFault>
     ensures words { OnOk result ((words : List ℕ) × HasWords upstream mask code.now words
         × (out.new.items ≡ out.old.items ++ words)) }
     ensures fault { IfErr result (LacksWords upstream mask code.now) }
-    ensures kept { IfErr result (λ fault. fault ≢ LineFault.OutOfMemory → out.new.items ≡ out.old.items) }
-    ensures part { result ≡ Err LineFault.OutOfMemory → (part rest : List ℕ) × HasWords upstream mask code.now (part ++ rest)
+    ensures kept { IfErr result (λ fault. fault ≢ DecodeFault.OutOfMemory → out.new.items ≡ out.old.items) }
+    ensures part { result ≡ Err DecodeFault.OutOfMemory → (part rest : List ℕ) × HasWords upstream mask code.now (part ++ rest)
         × (out.new.items ≡ out.old.items ++ part) }
-    ensures room { result ≡ Err LineFault.OutOfMemory → (words : List ℕ) × HasWords upstream mask code.now words
+    ensures room { result ≡ Err DecodeFault.OutOfMemory → (words : List ℕ) × HasWords upstream mask code.now words
         × (vec_capacity out.old < vec_len out.old + length words) }
     ensures capacity { vec_capacity out.old ≤ vec_capacity out.new }
 {
@@ -267,14 +267,14 @@ pub(crate) fn push_words_in(
     upstream: bool,
     mask: Mask,
     names: bool,
-) -> Result<(), LineFault>
+) -> Result<(), DecodeFault>
     ensures words { OnOk result ((words : List ℕ) × HasWordsIn names upstream mask code.now words
         × (out.new.items ≡ out.old.items ++ words)) }
     ensures fault { IfErr result (LacksWords upstream mask code.now) }
-    ensures kept { IfErr result (λ fault. fault ≢ LineFault.OutOfMemory → out.new.items ≡ out.old.items) }
-    ensures part { result ≡ Err LineFault.OutOfMemory → (part rest : List ℕ)
+    ensures kept { IfErr result (λ fault. fault ≢ DecodeFault.OutOfMemory → out.new.items ≡ out.old.items) }
+    ensures part { result ≡ Err DecodeFault.OutOfMemory → (part rest : List ℕ)
         × HasWordsIn names upstream mask code.now (part ++ rest) × (out.new.items ≡ out.old.items ++ part) }
-    ensures room { result ≡ Err LineFault.OutOfMemory → (words : List ℕ) × HasWordsIn names upstream mask code.now words
+    ensures room { result ≡ Err DecodeFault.OutOfMemory → (words : List ℕ) × HasWordsIn names upstream mask code.now words
         × (vec_capacity out.old < vec_len out.old + length words) }
     ensures capacity { vec_capacity out.old ≤ vec_capacity out.new }
 {
@@ -291,14 +291,14 @@ fn push_up_words(
     code: &[u8; 13],
     mask: Mask,
     names: bool,
-) -> Result<(), LineFault>
+) -> Result<(), DecodeFault>
     ensures words { OnOk result ((words : List ℕ) × HasWordsIn names true mask code.now words
         × (out.new.items ≡ out.old.items ++ words)) }
     ensures fault { IfErr result (LacksWords true mask code.now) }
-    ensures kept { IfErr result (λ fault. fault ≢ LineFault.OutOfMemory → out.new.items ≡ out.old.items) }
-    ensures part { result ≡ Err LineFault.OutOfMemory → (part rest : List ℕ)
+    ensures kept { IfErr result (λ fault. fault ≢ DecodeFault.OutOfMemory → out.new.items ≡ out.old.items) }
+    ensures part { result ≡ Err DecodeFault.OutOfMemory → (part rest : List ℕ)
         × HasWordsIn names true mask code.now (part ++ rest) × (out.new.items ≡ out.old.items ++ part) }
-    ensures room { result ≡ Err LineFault.OutOfMemory → (words : List ℕ) × HasWordsIn names true mask code.now words
+    ensures room { result ≡ Err DecodeFault.OutOfMemory → (words : List ℕ) × HasWordsIn names true mask code.now words
         × (vec_capacity out.old < vec_len out.old + length words) }
     ensures capacity { vec_capacity out.old ≤ vec_capacity out.new }
 {
@@ -313,14 +313,14 @@ fn push_down_words(
     code: &[u8; 13],
     mask: Mask,
     names: bool,
-) -> Result<(), LineFault>
+) -> Result<(), DecodeFault>
     ensures words { OnOk result ((words : List ℕ) × HasWordsIn names false mask code.now words
         × (out.new.items ≡ out.old.items ++ words)) }
     ensures fault { IfErr result (LacksWords false mask code.now) }
-    ensures kept { IfErr result (λ fault. fault ≢ LineFault.OutOfMemory → out.new.items ≡ out.old.items) }
-    ensures part { result ≡ Err LineFault.OutOfMemory → (part rest : List ℕ)
+    ensures kept { IfErr result (λ fault. fault ≢ DecodeFault.OutOfMemory → out.new.items ≡ out.old.items) }
+    ensures part { result ≡ Err DecodeFault.OutOfMemory → (part rest : List ℕ)
         × HasWordsIn names false mask code.now (part ++ rest) × (out.new.items ≡ out.old.items ++ part) }
-    ensures room { result ≡ Err LineFault.OutOfMemory → (words : List ℕ) × HasWordsIn names false mask code.now words
+    ensures room { result ≡ Err DecodeFault.OutOfMemory → (words : List ℕ) × HasWordsIn names false mask code.now words
         × (vec_capacity out.old < vec_len out.old + length words) }
     ensures capacity { vec_capacity out.old ≤ vec_capacity out.new }
 {

@@ -4,15 +4,15 @@ ghost use Rattle.std.specs.List.{list_all};
 ghost use Rattle.hex.specs.Hex.{decode_of, decode_sized, is_hex_digit};
 ghost use Rattle.hex.specs.declared.error.FromHexError.{FromHexError};
 ghost use Rattle.gp_ploam.specs.declared.check.Mask.{Mask};
-ghost use Rattle.gp_decode.specs.Line.{HasLineFault, IsOfSpelling};
+ghost use Rattle.gp_decode.specs.Line.{HasDecodeFault, IsOfSpelling};
 
-use super::fault::LineFault;
+use super::fault::DecodeFault;
 use gp_code::octets_in;
 
 /// Reads the thirteen octets that a text of 26 digits stands for, or answers the text's first fault.
-pub fn code_in(text: &[u8]) -> Result<[u8; 13], LineFault>
+pub fn code_in(text: &[u8]) -> Result<[u8; 13], DecodeFault>
     ensures code { IfOk result (λ code. decode_of text.now ≡ Ok code) }
-    ensures fault { IfErr result (λ fault. (mask : Mask) → HasLineFault mask text.now fault) }
+    ensures fault { IfErr result (λ fault. (mask : Mask) → HasDecodeFault mask text.now fault) }
     ensures spelling { IfErr result IsOfSpelling }
 {
     match octets_in(text) {
@@ -22,18 +22,18 @@ pub fn code_in(text: &[u8]) -> Result<[u8; 13], LineFault>
 }
 
 /// Gives the first fault of a text that isn't 26 hexadecimal digits.
-fn fault_of(text: &[u8]) -> LineFault
+fn fault_of(text: &[u8]) -> DecodeFault
     requires { (fault : FromHexError) × (decode_sized text.now 13 ≡ Err fault) }
-    ensures fault { (mask : Mask) → HasLineFault mask text.now result }
+    ensures fault { (mask : Mask) → HasDecodeFault mask text.now result }
     ensures spelling { IsOfSpelling result }
 {
     if text.len() % 2 == 1 {
-        return LineFault::Length;
+        return DecodeFault::Length;
     }
     if !are_digits(text) {
-        return LineFault::Digit;
+        return DecodeFault::Digit;
     }
-    LineFault::Length
+    DecodeFault::Length
 }
 
 /// Tells whether each byte is a hexadecimal digit.

@@ -5,9 +5,9 @@ ghost use Rattle.gp_decode.specs.Lines.{after, opened_decode, opened_in};
 
 use super::answer::Answer;
 use super::direction::Direction;
-use super::fault::LineFault;
+use super::fault::DecodeFault;
 use super::text::{is_remark, without_return};
-use gp_flow::{LineFault as Unanswered, LineWork};
+use gp_flow::{LineWork, Unanswered};
 use gp_ploam::Mask;
 use gp_stream::Sink;
 use std::alloc::Global;
@@ -20,7 +20,7 @@ pub struct FaultAt {
     /// The line, counted from 1.
     pub line: u64,
     /// Its fault: `Length`, `Digit`, `Crc` or `Direction`.
-    pub fault: LineFault,
+    pub fault: DecodeFault,
 }
 
 /// Says to each line the message of the code in it, or its fault, and passes over remarks. Contracts see the direction
@@ -81,7 +81,7 @@ impl Decoder {
     }
 
     /// Counts a line, with its fault.
-    fn count(&mut self, fault: Option<LineFault>)
+    fn count(&mut self, fault: Option<DecodeFault>)
         requires { self.old.lines + 1 < 2 ^ 64 }
         ensures { self.new ≡ after fault self.old }
     {
@@ -126,9 +126,9 @@ impl LineWork for Decoder {
         if self.lines == u64::MAX {
             return Err(Unanswered::Full);
         }
-        self.answer.refuse(self.lines + 1, LineFault::Length)?;
+        self.answer.refuse(self.lines + 1, DecodeFault::Length)?;
         sink.put(self.answer.said.as_slice())?;
-        self.count(Some(LineFault::Length));
+        self.count(Some(DecodeFault::Length));
         Ok(())
     }
 }

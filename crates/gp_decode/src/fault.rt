@@ -1,6 +1,6 @@
 //! What is wrong with a line that is to be decoded, or with decoding it.
 ghost use Rattle.std.specs.Prelude.{◌≡◌};
-ghost use Rattle.gp_decode.specs.declared.fault.LineFault.TheVariants as faults;
+ghost use Rattle.gp_decode.specs.declared.fault.DecodeFault.TheVariants as faults;
 
 use gp_ploam::PloamFault;
 use gp_stream::WriteStopped;
@@ -10,7 +10,7 @@ use thiserror::Error;
 /// Why the message of a code was not written in words. The faults of the text come in this order, and
 /// the first that applies is answered; they come before any memory is taken and before anything is written.
 #[derive(Clone, Copy, Debug, PartialEq, Eq, Error)]
-pub enum LineFault {
+pub enum DecodeFault {
     /// An odd number of bytes; or an even number of digits for another number of octets than 13.
     #[error("a code has 26 hexadecimal digits")]
     Length,
@@ -31,31 +31,31 @@ pub enum LineFault {
     Direction,
 }
 
-impl From<PloamFault> for LineFault {
+impl From<PloamFault> for DecodeFault {
     ghost use Rattle.gp_decode.specs.Faults.{line_fault_of};
 
     ghost from_gives = { λ f e. e ≡ line_fault_of f };
 
-    fn from(fault: PloamFault) -> LineFault {
+    fn from(fault: PloamFault) -> DecodeFault {
         match fault {
-            PloamFault::Length => LineFault::Length,
-            PloamFault::Crc => LineFault::Crc,
+            PloamFault::Length => DecodeFault::Length,
+            PloamFault::Crc => DecodeFault::Crc,
         }
     }
 }
 
-impl From<AllocError> for LineFault {
+impl From<AllocError> for DecodeFault {
     ghost from_gives = { λ _ e. e ≡ faults.OutOfMemory };
 
-    fn from(_error: AllocError) -> LineFault {
-        LineFault::OutOfMemory
+    fn from(_error: AllocError) -> DecodeFault {
+        DecodeFault::OutOfMemory
     }
 }
 
-impl From<WriteStopped> for LineFault {
+impl From<WriteStopped> for DecodeFault {
     ghost from_gives = { λ _ e. e ≡ faults.Write };
 
-    fn from(_error: WriteStopped) -> LineFault {
-        LineFault::Write
+    fn from(_error: WriteStopped) -> DecodeFault {
+        DecodeFault::Write
     }
 }

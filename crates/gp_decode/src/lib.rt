@@ -38,7 +38,7 @@ pub use answer::push_check_note;
 pub use append::push_words_of;
 pub use decoder::{Decoder, FaultAt};
 pub use direction::Direction;
-pub use fault::LineFault;
+pub use fault::DecodeFault;
 pub use laws::{named_rows_stay, plain_digits_stay};
 pub use line::{decode_line, decode_line_in};
 pub use lines::{decode_each_in, decode_lines};

@@ -2,12 +2,12 @@
 //! line.
 ghost use Rattle.std.specs.Prelude.{◌≡◌, ◌≢◌, ◌↔◌, ℕ, List, [], OnOk, OnErr, IfOk, IfErr, IsErr, Err, true, false};
 ghost use Rattle.gp_stream.specs.Sink.{Takes, TakesPrefix};
-ghost use Rattle.gp_decode.specs.declared.fault.LineFault.{LineFault as AnyFault};
-ghost use Rattle.gp_decode.specs.Line.{HasLineFault, IsOfText, LacksLine, Says, SaysIn};
+ghost use Rattle.gp_decode.specs.declared.fault.DecodeFault.{DecodeFault as AnyFault};
+ghost use Rattle.gp_decode.specs.Line.{HasDecodeFault, IsOfText, LacksLine, Says, SaysIn};
 
 use super::append::push_words_in;
 use super::code::code_in;
-use super::fault::LineFault;
+use super::fault::DecodeFault;
 use gp_ploam::Mask;
 use gp_stream::Sink;
 use std::alloc::Global;
@@ -24,19 +24,19 @@ pub fn decode_line<W: Write>(
     upstream: bool,
     mask: Mask,
     sink: &mut Sink<W>,
-) -> Result<(), LineFault>
+) -> Result<(), DecodeFault>
     ensures ok { OnOk result ((line : List ℕ) × Says upstream mask text.now line × Takes sink.old sink.new line) }
     ensures written { OnOk result (sink.new.gathered ≡ []) }
     ensures flushed { sink.old.flushed ≡ true → OnOk result (sink.new.flushed ≡ true) }
     ensures finished { OnOk result (sink.new.stopped ≡ false) }
 
     // Memory and the writer aside, the text alone decides, by its first fault.
-    ensures fault { (fault : AnyFault) → IsOfText fault → (result ≡ Err fault) ↔ HasLineFault mask text.now fault }
+    ensures fault { (fault : AnyFault) → IsOfText fault → (result ≡ Err fault) ↔ HasDecodeFault mask text.now fault }
 
-    ensures write { result ≡ Err LineFault.Write → sink.new.stopped ≡ true }
-    ensures prefix { result ≡ Err LineFault.Write
+    ensures write { result ≡ Err DecodeFault.Write → sink.new.stopped ≡ true }
+    ensures prefix { result ≡ Err DecodeFault.Write
         → (line : List ℕ) × Says upstream mask text.now line × TakesPrefix sink.old sink.new line }
-    ensures kept { IfErr result (λ fault. fault ≢ LineFault.Write → sink.new ≡ sink.old) }
+    ensures kept { IfErr result (λ fault. fault ≢ DecodeFault.Write → sink.new ≡ sink.old) }
 {
     decode_line_in(alloc, text, upstream, mask, false, sink)
 }
@@ -50,17 +50,17 @@ pub fn decode_line_in<W: Write>(
     mask: Mask,
     names: bool,
     sink: &mut Sink<W>,
-) -> Result<(), LineFault>
+) -> Result<(), DecodeFault>
     ensures ok { OnOk result ((line : List ℕ) × SaysIn names upstream mask text.now line
         × Takes sink.old sink.new line) }
     ensures written { OnOk result (sink.new.gathered ≡ []) }
     ensures flushed { sink.old.flushed ≡ true → OnOk result (sink.new.flushed ≡ true) }
     ensures finished { OnOk result (sink.new.stopped ≡ false) }
-    ensures fault { (fault : AnyFault) → IsOfText fault → (result ≡ Err fault) ↔ HasLineFault mask text.now fault }
-    ensures write { result ≡ Err LineFault.Write → sink.new.stopped ≡ true }
-    ensures prefix { result ≡ Err LineFault.Write
+    ensures fault { (fault : AnyFault) → IsOfText fault → (result ≡ Err fault) ↔ HasDecodeFault mask text.now fault }
+    ensures write { result ≡ Err DecodeFault.Write → sink.new.stopped ≡ true }
+    ensures prefix { result ≡ Err DecodeFault.Write
         → (line : List ℕ) × SaysIn names upstream mask text.now line × TakesPrefix sink.old sink.new line }
-    ensures kept { IfErr result (λ fault. fault ≢ LineFault.Write → sink.new ≡ sink.old) }
+    ensures kept { IfErr result (λ fault. fault ≢ DecodeFault.Write → sink.new ≡ sink.old) }
 {
     let line = line_for(alloc, text.as_bytes(), upstream, mask, names)?;
     sink.write_whole(line.as_slice())?;
@@ -74,7 +74,7 @@ fn line_for(
     upstream: bool,
     mask: Mask,
     names: bool,
-) -> Result<Vec<u8>, LineFault>
+) -> Result<Vec<u8>, DecodeFault>
     ensures line { IfOk result (λ line. SaysIn names upstream mask text.now line.items) }
     ensures fault { IfErr result (LacksLine upstream mask text.now) }
 {

@@ -4,7 +4,7 @@ ghost use Rattle.std.specs.String.{string_bytes};
 ghost use Rattle.gp_decode.specs.Line.{HasWords, LacksWords};
 
 use super::append::push_words_of;
-use super::fault::LineFault;
+use super::fault::DecodeFault;
 use gp_ploam::Mask;
 use std::alloc::Global;
 
@@ -15,7 +15,7 @@ pub fn words_of(
     code: &[u8; 13],
     upstream: bool,
     mask: Mask,
-) -> Result<String, LineFault>
+) -> Result<String, DecodeFault>
     ensures words { IfOk result (λ words. HasWords upstream mask code.now (string_bytes words)) }
     ensures fault { IfErr result (LacksWords upstream mask code.now) }
 {

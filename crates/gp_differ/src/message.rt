@@ -4,7 +4,7 @@ ghost use Rattle.hex.specs.Hex.{decode_sized};
 ghost use Rattle.gp_differ.specs.Reasons.{TellsMessage, TellsOctets, code_remark, octets_remark};
 
 use gp_code::octets_in;
-use gp_decode::{LineFault, push_check_note, push_words_of};
+use gp_decode::{DecodeFault, push_check_note, push_words_of};
 use gp_ploam::{Mask, crc};
 use std::alloc::{AllocError, Global};
 
@@ -20,7 +20,7 @@ fn push_octets(
 {
     match push_words_of(out, octets, false, mask) {
         Ok(()) => Ok(()),
-        Err(LineFault::Crc) => out.extend_from_slice(part),
+        Err(DecodeFault::Crc) => out.extend_from_slice(part),
         Err(_) => Err(AllocError),
     }
 }

@@ -1,7 +1,7 @@
 -- Answers to a line, by how what it asks for was played.
 use Rattle.std.proofs.Common.{◌≡◌, ◌≤◌, ◌||◌, ℕ, ◌+◌, ◌-◌, Bool, true, false, List, ◌++◌, Option, None, Some, Result, Ok, Err, refl, subst, ap, ◌∙◌, arith}
-use Rattle.gp_flow.specs.declared.fault.LineFault.{LineFault}
-use Rattle.gp_flow.specs.declared.fault.LineFault.TheVariants.{Write}
+use Rattle.gp_flow.specs.declared.fault.Unanswered.{Unanswered}
+use Rattle.gp_flow.specs.declared.fault.Unanswered.TheVariants.{Write}
 use Rattle.gp_flow.specs.Lines.{Answers, Speech}
 use Rattle.gp_flow.specs.Lines.Starts.{AllSaid, PartSaid}
 use Rattle.gp_flow.proofs.AnswerLemmas.{answers_as}
@@ -118,7 +118,7 @@ unplayed playing turn old new end x y faults.Write p =
 -- ---- what was read from a line
 
 -- what it asks for is not there
-pub answers_missing : {S W T : Type 0} (playing : Playing S) (turn : Asked) (fault : TurnFault) (old new : DriveState S) (x y : SinkState W) (r : Result T LineFault)
+pub answers_missing : {S W T : Type 0} (playing : Playing S) (turn : Asked) (fault : TurnFault) (old new : DriveState S) (x y : SinkState W) (r : Result T Unanswered)
     → missing_in (playing.ports old.player) (playing.units old.player) turn ≡ Some fault → Answers (refusing fault) None old new x y r
     → Answers (answering playing turn) None old new x y r
 answers_missing playing turn fault old new x y r missing p =
@@ -126,7 +126,7 @@ answers_missing playing turn fault old new x y r missing p =
     (λ said next h. rw missing h) (λ said next none. absurd none) p
 
 -- it is there
-pub answers_there : {S W T : Type 0} (playing : Playing S) (turn : Asked) (old new : DriveState S) (x y : SinkState W) (r : Result T LineFault)
+pub answers_there : {S W T : Type 0} (playing : Playing S) (turn : Asked) (old new : DriveState S) (x y : SinkState W) (r : Result T Unanswered)
     → missing_in (playing.ports old.player) (playing.units old.player) turn ≡ None → Answers (playing_of playing turn) None old new x y r
     → Answers (answering playing turn) None old new x y r
 answers_there playing turn old new x y r there p =
@@ -134,12 +134,12 @@ answers_there playing turn old new x y r there p =
 
 -- ---- lines
 
-pub answers_long : {S W T : Type 0} (playing : Playing S) (fault : TurnFault) (line : Option (List ℕ)) (old new : DriveState S) (x y : SinkState W) (r : Result T LineFault)
+pub answers_long : {S W T : Type 0} (playing : Playing S) (fault : TurnFault) (line : Option (List ℕ)) (old new : DriveState S) (x y : SinkState W) (r : Result T Unanswered)
     → ((said : List ℕ) (next : DriveState S) → (refusing fault).says old None said next → Says playing old line said next)
     → Answers (refusing fault) None old new x y r → Answers (driving playing) line old new x y r
 answers_long playing fault line old new x y r whole p = answers_as (refusing fault) (driving playing) None line old new x y r whole (λ said next none. absurd none) p
 
-pub answers_asked : {S W T : Type 0} (playing : Playing S) (turn : Asked) (text : List ℕ) (old new : DriveState S) (x y : SinkState W) (r : Result T LineFault)
+pub answers_asked : {S W T : Type 0} (playing : Playing S) (turn : Asked) (text : List ℕ) (old new : DriveState S) (x y : SinkState W) (r : Result T Unanswered)
     → turn_of old.mask text ≡ Ok turn → Answers (answering playing turn) None old new x y r → Answers (driving playing) (Some text) old new x y r
 answers_asked playing turn text old new x y r is p =
     answers_as (answering playing turn) (driving playing) None (Some text) old new x y r (λ said next h. rw is h) (λ said next h. (turn, is, h)) p

@@ -7,13 +7,13 @@ use Rattle.gp_ploam.specs.declared.check.Mask.{Mask}
 use Rattle.gp_stream.specs.Sink.{SinkState, Takes}
 use Rattle.gp_stream.specs.Source.{ReadsAll, SourceState}
 use Rattle.gp_script.specs.declared.script.ScriptEvent.{ScriptEvent}
-use Rattle.gp_flow.specs.declared.fault.LineFault.{LineFault}
-use Rattle.gp_flow.specs.declared.fault.LineFault.TheVariants as unanswered
+use Rattle.gp_flow.specs.declared.fault.Unanswered.{Unanswered}
+use Rattle.gp_flow.specs.declared.fault.Unanswered.TheVariants as unanswered
 use Rattle.gp_flow.specs.declared.fault.LinesFault.{LinesFault}
 use Rattle.gp_flow.specs.declared.fault.LinesFault.TheVariants as lines
 use Rattle.gp_flow.specs.declared.lines.LinesEnd.{LinesEnd}
 use Rattle.gp_flow.specs.declared.lines.LinesEnd.TheVariants as ends
-use Rattle.gp_flow.specs.Lines.{GetsAll, GetsPrefix, Leaves, Serves, ServesTo}
+use Rattle.gp_flow.specs.Lines.{GetsAll, GetsPrefix, Leaves, Serves, ServesTo, longest_line}
 use Rattle.gp_script.specs.declared.fault.ScriptError.{ScriptError}
 use Rattle.gp_script.specs.declared.fault.ScriptError.TheVariants as errors
 use Rattle.gp_script.specs.declared.fault.ScriptFault.{ScriptFault}
@@ -39,7 +39,7 @@ use Rattle.gp_drive.specs.declared.fault.DriveFault.TheVariants as drives
 use Rattle.gp_drive.specs.declared.driven.Driven.{Driven}
 use Rattle.gp_drive.specs.declared.manner.DriveManner.{DriveManner}
 use Rattle.gp_drive.specs.Drive.{DriveState, begun_in, driving, most_turns, never_over}
-use Rattle.gp_drive.specs.Outcome.{Drives, DrivesInputIn, DrivesScriptIn, DrivesTo, IsNoScript, LeavesServed, LeftBy, ServesTurns, longest_line, told}
+use Rattle.gp_drive.specs.Outcome.{Drives, DrivesInputIn, DrivesScriptIn, DrivesTo, IsNoScript, LeavesServed, LeftBy, ServesTurns, told}
 use Rattle.gp_drive.specs.Outcome.DrivesInputIn.{NotRead}
 
 -- ---- the lines
@@ -90,7 +90,7 @@ joined_all : {W : Type 0} (x y z : SinkState W) (text said : List ℕ) → Takes
 joined_all x y z text said t (inl all) = inl (record { written = subst (Appends x.held z.held) (append_assoc x.gathered text said) (joined x y z text said t all.written); kept = all.kept; unstopped = all.unstopped })
 joined_all x y z text said t (inr (some, stopped)) = inr (joined_prefix x y z text said t some, stopped)
 
-joined_left : {W : Type 0} (fault : LineFault) (x y z : SinkState W) (text said : List ℕ) → Takes x y text → Leaves fault y z said → Leaves fault x z (text ++ said)
+joined_left : {W : Type 0} (fault : Unanswered) (x y z : SinkState W) (text said : List ℕ) → Takes x y text → Leaves fault y z said → Leaves fault x z (text ++ said)
 joined_left unanswered.Write x y z text said t a = joined_prefix x y z text said t a
 joined_left unanswered.OutOfMemory x y z text said t a = joined_all x y z text said t a
 joined_left unanswered.Full x y z text said t a = joined_all x y z text said t a

@@ -2,8 +2,8 @@
 use Rattle.std.specs.Prelude.{◌≡◌, ◌+◌, ℕ, Bool, false, true, List, [], ◌++◌, Option, None, Some, Result, Ok, Err, codes, decimal}
 use Rattle.gp_ploam.specs.declared.check.Mask.{Mask}
 use Rattle.gp_machine.specs.declared.entry.Receipt.{Receipt}
-use Rattle.gp_flow.specs.declared.fault.LineFault as unanswered
-use Rattle.gp_flow.specs.declared.fault.LineFault.TheVariants as unanswered_by
+use Rattle.gp_flow.specs.declared.fault.Unanswered as unanswered
+use Rattle.gp_flow.specs.declared.fault.Unanswered.TheVariants as unanswered_by
 use Rattle.gp_flow.specs.Lines.{Speech, WholeLines}
 use Rattle.gp_replay.specs.declared.fault.PlayFault.{PlayFault}
 use Rattle.gp_replay.specs.declared.fault.PlayFault.TheVariants as plays

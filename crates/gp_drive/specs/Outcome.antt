@@ -7,10 +7,10 @@ use Rattle.gp_stream.specs.Sink.{SinkState, KeepsNothing}
 use Rattle.gp_stream.specs.Source.{SourceState, ReadsTooMuch, ReadsWhole, max_bytes}
 use Rattle.gp_script.specs.declared.script.ScriptEvent.{ScriptEvent}
 use Rattle.gp_script.specs.Script.{ScriptView, script_of}
-use Rattle.gp_flow.specs.declared.fault.LineFault.{LineFault}
+use Rattle.gp_flow.specs.declared.fault.Unanswered.{Unanswered}
 use Rattle.gp_flow.specs.declared.fault.LinesFault.{LinesFault}
 use Rattle.gp_flow.specs.declared.fault.LinesFault.TheVariants as lines
-use Rattle.gp_flow.specs.Lines.{DoesAll, DoesSome, Leaves, ServesAll, ServesEnded, ServesSome, ended_lines, handed, lines_of}
+use Rattle.gp_flow.specs.Lines.{DoesAll, DoesSome, Leaves, ServesAll, ServesEnded, ServesSome, ended_lines, handed, lines_of, longest_line}
 use Rattle.gp_replay.specs.declared.fault.PlayFault.TheVariants as plays
 use Rattle.gp_replay.specs.declared.fault.RunFault.{RunFault}
 use Rattle.gp_replay.specs.declared.fault.RunFault.TheVariants as runs
@@ -24,10 +24,6 @@ use Rattle.gp_drive.specs.declared.fault.DriveFault.TheVariants as drives
 use Rattle.gp_drive.specs.declared.driven.Driven.{Driven}
 use Rattle.gp_drive.specs.declared.manner.DriveManner.{DriveManner}
 use Rattle.gp_drive.specs.Drive.{DriveState, begun_in, driving, untold}
-
--- the most octets of a line that is looked at
-abbrev pub longest_line : ℕ
-longest_line = 4096
 
 -- the events were played; then the whole input was read, and each of its lines was answered
 pub record DrivesAll {S T W : Type 0} (manner : DriveManner) (playing : Playing S) (start : S) (mask : Mask) (events : List ScriptEvent)
@@ -68,7 +64,7 @@ pub record DrivesEnded {S T W : Type 0} (manner : DriveManner) (playing : Playin
 -- the events were played; then the first of the lines that came were answered, the last of these maybe in part, when
 -- this fault came
 pub record DrivesSome {S T W : Type 0} (manner : DriveManner) (playing : Playing S) (start : S) (mask : Mask) (events : List ScriptEvent)
-    (fault : LineFault) (from to : SourceState T) (before after : SinkState W) : Type 0 where
+    (fault : Unanswered) (from to : SourceState T) (before after : SinkState W) : Type 0 where
   pub receipts : List Receipt
   pub text : List ℕ
   pub mid : S

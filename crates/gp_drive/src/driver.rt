@@ -1,7 +1,7 @@
 //! What a drive does with one line, and where it stands between two.
 ghost use Rattle.std.specs.Prelude.{◌≡◌, ◌≤◌, ◌⊎◌, None, Err};
 ghost use Rattle.gp_flow.specs.Lines.{Answers};
-ghost use Rattle.gp_flow.specs.declared.fault.LineFault.TheVariants as lines;
+ghost use Rattle.gp_flow.specs.declared.fault.Unanswered.TheVariants as lines;
 ghost use Rattle.gp_replay.specs.Playing.{HasRoomFor};
 ghost use Rattle.gp_drive.specs.Drive.{answering, begun, begun_in, line_fault, most_lines, most_turns, playing_of, refusing};
 ghost use Rattle.gp_drive.specs.Turns.{cost_of, missing_in};
@@ -11,7 +11,7 @@ use crate::fault::TurnFault;
 use crate::manner::{DriveManner, UNTOLD};
 use crate::shown::put_behind;
 use crate::turn::{cost_of, missing_in, play_turn};
-use gp_flow::{LineFault, LineWork};
+use gp_flow::{LineWork, Unanswered};
 use gp_lines::{Asked, LineFault as Fault, parse_turn};
 use gp_ploam::Mask;
 use gp_replay::{EventPlayer, LineBuffer, PlayFault, TraceOut};
@@ -126,12 +126,12 @@ impl<P: EventPlayer> Driver<P> {
     }
 
     /// Answers a line by an error.
-    fn refuse<W: Write>(&mut self, sink: &mut Sink<W>, fault: TurnFault) -> Result<(), LineFault>
+    fn refuse<W: Write>(&mut self, sink: &mut Sink<W>, fault: TurnFault) -> Result<(), Unanswered>
         ensures answers { Answers (refusing fault) None self.old self.new sink.old sink.new result }
         ensures full { result ≡ Err lines.Full → self.old.lines ≡ most_lines }
     {
         if self.lines == u64::MAX {
-            return Err(LineFault::Full);
+            return Err(Unanswered::Full);
         }
         put_ending(sink, self.manner.done, self.lines + 1, Some(fault))?;
         self.lines += 1;
@@ -140,7 +140,7 @@ impl<P: EventPlayer> Driver<P> {
     }
 
     /// Plays what a line asks for that is there.
-    fn play<W: Write>(&mut self, sink: &mut Sink<W>, asked: Asked) -> Result<(), LineFault>
+    fn play<W: Write>(&mut self, sink: &mut Sink<W>, asked: Asked) -> Result<(), Unanswered>
         requires { missing_in (P.playing.ports self.old.player) (P.playing.units self.old.player) asked ≡ None }
         ensures answers { Answers (playing_of P.playing asked) None self.old self.new sink.old sink.new result }
         ensures full { result ≡ Err lines.Full
@@ -148,7 +148,7 @@ impl<P: EventPlayer> Driver<P> {
     {
         let cost = cost_of(asked);
         if self.lines == u64::MAX || self.left <= cost {
-            return Err(LineFault::Full);
+            return Err(Unanswered::Full);
         }
         let mut out = TraceOut {
             sink,
@@ -171,7 +171,7 @@ impl<P: EventPlayer> Driver<P> {
     }
 
     /// Answers what was read from a line.
-    fn answer<W: Write>(&mut self, sink: &mut Sink<W>, asked: Asked) -> Result<(), LineFault>
+    fn answer<W: Write>(&mut self, sink: &mut Sink<W>, asked: Asked) -> Result<(), Unanswered>
         ensures answers { Answers (answering P.playing asked) None self.old self.new sink.old sink.new result }
         ensures full { result ≡ Err lines.Full
             → (self.old.lines ≡ most_lines) ⊎ (self.old.left ≤ cost_of asked) }
@@ -184,12 +184,12 @@ impl<P: EventPlayer> Driver<P> {
 }
 
 /// Why a line was not answered, where a turn was not played.
-fn line_fault(fault: PlayFault) -> LineFault
+fn line_fault(fault: PlayFault) -> Unanswered
     ensures { result ≡ line_fault fault }
 {
     match fault {
-        PlayFault::OutOfMemory => LineFault::OutOfMemory,
-        PlayFault::Write => LineFault::Write,
+        PlayFault::OutOfMemory => Unanswered::OutOfMemory,
+        PlayFault::Write => Unanswered::Write,
     }
 }
 
@@ -204,14 +204,14 @@ impl<P: EventPlayer> LineWork for Driver<P> {
         false
     }
 
-    fn line<W: Write>(&mut self, text: &[u8], sink: &mut Sink<W>) -> Result<(), LineFault> {
+    fn line<W: Write>(&mut self, text: &[u8], sink: &mut Sink<W>) -> Result<(), Unanswered> {
         match parse_turn(self.mask(), text) {
             Err(fault) => self.refuse(sink, TurnFault::NoTurn(fault)),
             Ok(asked) => self.answer(sink, asked),
         }
     }
 
-    fn long_line<W: Write>(&mut self, sink: &mut Sink<W>) -> Result<(), LineFault> {
+    fn long_line<W: Write>(&mut self, sink: &mut Sink<W>) -> Result<(), Unanswered> {
         self.refuse(sink, TurnFault::NoTurn(Fault::Long))
     }
 }

@@ -1,7 +1,7 @@
 -- Lines that are handed to an encoder.
 use Rattle.std.proofs.Common.{◌≡◌, ℕ, ◌+◌, false, List, None, Some, Option, Result, Ok, Err, IsErrAnd, inr, refl, sym, subst}
-use Rattle.gp_flow.specs.declared.fault.LineFault.{LineFault as Unanswered}
-use Rattle.gp_flow.specs.declared.fault.LineFault.TheVariants.{Write}
+use Rattle.gp_flow.specs.declared.fault.Unanswered.{Unanswered}
+use Rattle.gp_flow.specs.declared.fault.Unanswered.TheVariants.{Write}
 use Rattle.gp_flow.specs.Lines.{Answers}
 use Rattle.gp_flow.proofs.AnswerLemmas.{put_stopped}
 use Rattle.gp_stream.specs.declared.sink.WriteStopped.{WriteStopped}

@@ -5,7 +5,7 @@ ghost use Rattle.gp_encode.specs.Lines.{after, opened_encode};
 use crate::answer::{put_answer, put_error_line};
 use crate::fault::WordsFault;
 use gp_decode::{is_remark, without_return};
-use gp_flow::{LineFault as Unanswered, LineWork};
+use gp_flow::{LineWork, Unanswered};
 use gp_lines::LineFault as PartFault;
 use gp_ploam::Mask;
 use gp_stream::Sink;

@@ -1,8 +1,8 @@
 -- Lines that are handed to an explainer.
 use Rattle.std.specs.Prelude.{IfNone, is_some}
 use Rattle.std.proofs.Common.{◌≡◌, ℕ, false, List, [], Option, None, Some, Ok, Err, IsErrAnd, Result, inl, inr, refl, sym, subst}
-use Rattle.gp_flow.specs.declared.fault.LineFault.{LineFault}
-use Rattle.gp_flow.specs.declared.fault.LineFault.TheVariants.{Write}
+use Rattle.gp_flow.specs.declared.fault.Unanswered.{Unanswered}
+use Rattle.gp_flow.specs.declared.fault.Unanswered.TheVariants.{Write}
 use Rattle.gp_flow.specs.Lines.{Answers}
 use Rattle.gp_flow.proofs.AnswerLemmas.{put_stopped, silent_answers}
 use Rattle.gp_stream.specs.declared.sink.WriteStopped.{WriteStopped}
@@ -36,10 +36,10 @@ refused_line old new text before none uncut same =
     (subst (λ (e : Option NoLine). SaysFrom e old (Some text) [] new) (sym none) (inr (λ is. uncut is.0 is.1 is.2 is.3 is.4, refl, same)))
 
 -- a line of which the writer took a part
-pub stopped_line : {W T : Type 0} (old new next : ExplainState) (manner : Manner) (text said : List ℕ) (before after : SinkState W) (e : WriteStopped) (r : Result (Unit {0}) LineFault)
+pub stopped_line : {W T : Type 0} (old new next : ExplainState) (manner : Manner) (text said : List ℕ) (before after : SinkState W) (e : WriteStopped) (r : Result (Unit {0}) Unanswered)
     → old.ended ≡ None → TellsTraceLine old.manner text said manner → next ≡ counted manner old → Puts {T = T} before after said (Err e) → IsErrAnd r (λ f. f ≡ Write)
     → Answers Explaining (Some text) old new before after r
 stopped_line old new next manner text said before after e (Ok x) none tells same puts told = absurd told
 stopped_line old new next manner text said before after e (Err f) none tells same puts told =
-    subst (λ (fault : LineFault). Answers {T = Unit {0}} Explaining (Some text) old new before after (Err fault)) (sym told)
+    subst (λ (fault : Unanswered). Answers {T = Unit {0}} Explaining (Some text) old new before after (Err fault)) (sym told)
     (put_stopped Explaining (Some text) old new next before after said e (told_line old next manner text said none tells same) puts)

@@ -1,9 +1,9 @@
 -- How telling a trace may end (this profile's own rule).
 use Rattle.std.specs.Prelude.{◌≡◌, ◌<◌, ◌⊎◌, ℕ, ◌+◌, true, List, [], ◌∷◌, ◌++◌, length, Option, Some, None, Result, Ok, Err}
 use Rattle.std.specs.Io.KnownBytes.{Appends, Consumes}
-use Rattle.gp_flow.specs.declared.fault.LineFault.TheVariants.{OutOfMemory}
+use Rattle.gp_flow.specs.declared.fault.Unanswered.TheVariants.{OutOfMemory}
 use Rattle.gp_flow.specs.declared.fault.LinesFault.TheVariants as faults
-use Rattle.gp_flow.specs.Lines.{GetsPrefix, Leaves, lines_of}
+use Rattle.gp_flow.specs.Lines.{GetsPrefix, Leaves, lines_of, longest_line}
 use Rattle.gp_stream.specs.Sink.{SinkState, KeepsNothing}
 use Rattle.gp_stream.specs.Source.{SourceState, ReadsWhole}
 use Rattle.gp_explain.specs.declared.fault.ExplainFault.{ExplainFault}
@@ -12,10 +12,6 @@ use Rattle.gp_explain.specs.declared.fault.NoLine.{NoLine}
 use Rattle.gp_explain.specs.declared.fault.NoLine.TheVariants.{NotALine, TooLong}
 use Rattle.gp_explain.specs.Words.{IsTraceLine}
 use Rattle.gp_explain.specs.Telling.{Manner, TellsTraceLine}
-
--- the most octets of a line that is looked at
-abbrev pub longest_line : ℕ
-longest_line = 4096
 
 -- these texts are lines of a trace, and this is what is told of them, one after another
 abbrev pub AreTold : Manner → List (List ℕ) → List ℕ → Type 0

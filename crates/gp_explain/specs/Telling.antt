@@ -93,8 +93,8 @@ pub record TellsTraceLine (old : Manner) (text said : List ℕ) (new : Manner) :
   pub next : new ≡ record old { frames = slice_set old.frames port frames }
 
 -- from the old manner, to this line, these octets, to the new manner
-abbrev pub Tells : Manner → List ℕ → List ℕ → Manner → Type 0
-Tells old text said new =
+abbrev pub TellsOneLine : Manner → List ℕ → List ℕ → Manner → Type 0
+TellsOneLine old text said new =
     TellsTraceLine old text said new ⊎ ((IsTraceLine text → ⊥) × (said ≡ other_told old text) × (new ≡ old))
 
 -- no port has had a frame

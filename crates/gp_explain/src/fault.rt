@@ -1,10 +1,10 @@
 //! Why a line is none of a trace, and how an explanation may end.
 ghost use Rattle.std.specs.Prelude.{◌≡◌};
-ghost use Rattle.gp_flow.specs.declared.fault.LineFault.TheVariants as lines;
+ghost use Rattle.gp_flow.specs.declared.fault.Unanswered.TheVariants as lines;
 ghost use Rattle.gp_flow.specs.declared.fault.LinesFault.TheVariants.{Line};
 ghost use Rattle.gp_explain.specs.declared.fault.ExplainFault.TheVariants.{Lines};
 
-use gp_flow::{LineFault, LinesFault};
+use gp_flow::{LinesFault, Unanswered};
 use std::alloc::AllocError;
 use thiserror::Error;
 
@@ -45,6 +45,6 @@ impl From<AllocError> for ExplainFault {
     ghost from_gives = { λ _ outcome. outcome ≡ Lines (Line lines.OutOfMemory) };
 
     fn from(_error: AllocError) -> ExplainFault {
-        ExplainFault::Lines(LinesFault::Line(LineFault::OutOfMemory))
+        ExplainFault::Lines(LinesFault::Line(Unanswered::OutOfMemory))
     }
 }

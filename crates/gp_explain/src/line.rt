@@ -5,7 +5,7 @@ ghost use Rattle.gp_explain.specs.Runs.{RunsOn, front};
 
 use crate::place::Place;
 use gp_code::octets_in;
-use gp_decode::{LineFault, push_words_of};
+use gp_decode::{DecodeFault, push_words_of};
 use gp_lines::cut;
 use gp_ploam::Mask;
 use std::alloc::AllocError;
@@ -33,7 +33,7 @@ fn push_octets(
     out.extend_from_slice(b"[")?;
     match push_words_of(out, octets, upstream, mask) {
         Ok(()) => out.extend_from_slice(b"]"),
-        Err(LineFault::Crc) => push_garbled(out, part),
+        Err(DecodeFault::Crc) => push_garbled(out, part),
         Err(_) => Err(AllocError),
     }
 }

@@ -1,7 +1,7 @@
 //! An explainer serves lines, and is over behind the first that is none of a trace.
 use crate::explainer::Explainer;
 use crate::fault::NoLine;
-use gp_flow::{LineFault, LineWork};
+use gp_flow::{LineWork, Unanswered};
 use gp_lines::split_line;
 use gp_stream::Sink;
 use std::io::Write;
@@ -17,12 +17,12 @@ impl LineWork for Explainer {
         self.ended.is_some()
     }
 
-    fn line<W: Write>(&mut self, text: &[u8], sink: &mut Sink<W>) -> Result<(), LineFault> {
+    fn line<W: Write>(&mut self, text: &[u8], sink: &mut Sink<W>) -> Result<(), Unanswered> {
         if self.ended.is_some() {
             return Ok(());
         }
         if self.lines == u64::MAX {
-            return Err(LineFault::Full);
+            return Err(Unanswered::Full);
         }
         let Some(line) = split_line(text) else {
             self.lines += 1;
@@ -36,12 +36,12 @@ impl LineWork for Explainer {
         Ok(())
     }
 
-    fn long_line<W: Write>(&mut self, _sink: &mut Sink<W>) -> Result<(), LineFault> {
+    fn long_line<W: Write>(&mut self, _sink: &mut Sink<W>) -> Result<(), Unanswered> {
         if self.ended.is_some() {
             return Ok(());
         }
         if self.lines == u64::MAX {
-            return Err(LineFault::Full);
+            return Err(Unanswered::Full);
         }
         self.lines += 1;
         self.ended = Some(NoLine::TooLong);

@@ -2,7 +2,7 @@
 ghost use Rattle.std.specs.Prelude.{◌≡◌, ◌++◌, [], OnErr, OnOk, codes, slice_index};
 ghost use Rattle.gp_lines.specs.Trace.{SplitsLine};
 ghost use Rattle.gp_explain.specs.Telling.{
-  Tells,
+  TellsOneLine,
   TellsAt,
   TellsTraceLine,
   light_told,
@@ -17,18 +17,15 @@ use crate::form::Form;
 use crate::line::push_words;
 use crate::time::{frames_with, push_time};
 use gp_json::{LightLine, light_in, write_light, write_object, write_other};
-use gp_lines::{TraceLine, split_line};
+use gp_lines::{PORTS, TraceLine, split_line};
 use gp_ploam::Mask;
 use std::alloc::{AllocError, Global};
 use std::marker::Model;
 
-/// How many ports a trace may tell of.
-const PORTS: usize = 16;
-
 /// The number of the only port where there are simulated units.
 const ONLY_PORT: usize = 0;
 
-/// Tells lines, one after another. Contracts see what the next line is told by.
+/// TellsOneLine lines, one after another. Contracts see what the next line is told by.
 #[derive(Drop)]
 pub struct Telling {
     alloc: Global,
@@ -83,7 +80,7 @@ fn push_other(form: Form, text: &[u8], out: &mut Vec<u8>) -> Result<(), AllocErr
 }
 
 impl Telling {
-    /// Tells lines of traces in this form, with the port's time if that is wanted. The mask is that of
+    /// TellsOneLine lines of traces in this form, with the port's time if that is wanted. The mask is that of
     /// their codes. No port has had a frame.
     pub fn new(alloc: Global, mask: Mask, form: Form, timed: bool) -> Telling
         ensures { result ≡ record { mask = mask; form = form; timed = timed; frames = no_frames } }
@@ -102,7 +99,7 @@ impl Telling {
     ///
     /// Memory is taken only where the buffer has no room. Where it is refused, the buffer may hold a part of it.
     pub fn tell(&mut self, text: &[u8], out: &mut Vec<u8>) -> Result<(), AllocError>
-        ensures ok { OnOk result (Tells self.old text.now out.new.items self.new) }
+        ensures ok { OnOk result (TellsOneLine self.old text.now out.new.items self.new) }
         ensures err { OnErr result (self.new ≡ self.old) }
     {
         out.clear();

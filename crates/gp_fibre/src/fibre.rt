@@ -37,12 +37,8 @@ pub struct Fibre<L: Ledger> {
 
 impl<L: Ledger> Model for Fibre<L> {
     ghost use Rattle.std.specs.Prelude.{◌≡◌, ◌+◌, ◌-◌, ◌≤◌, All, [], vec_capacity, vec_len};
-    ghost use Rattle.std.specs.FinMap as map;
-    ghost use Rattle.std.specs.FinSet as set;
-    ghost use Rattle.std.specs.Coded.{codes};
-    ghost use Rattle.gp_ploam.specs.Serials.{serial_cmp, coded_serial};
     ghost use Rattle.gp_ploam.specs.Down.{IsProperDown};
-    ghost use Rattle.gp_unit.specs.contracts.row.Row as row;
+    ghost use Rattle.gp_machine.specs.Codes.{port_codes};
     ghost use Rattle.gp_machine.specs.State.{rows_of};
     ghost use Rattle.gp_ploam.specs.declared.message.Down.TheVariants.{NoMessage};
     ghost use Rattle.gp_ranging.specs.declared.grant.Grant.TheVariants.{Search};
@@ -53,8 +49,7 @@ impl<L: Ledger> Model for Fibre<L> {
 
     ghost Value = { FibreStand };
 
-    ghost coded = { Prim.hlevel
-        (codes, map.code {R = serial_cmp} coded_serial row.the_row.coded, set.code {R = serial_cmp} coded_serial) };
+    ghost coded = { Prim.hlevel port_codes };
 
     ghost view = { λ f. record {
       world = record {

@@ -8,7 +8,7 @@ ghost use Rattle.gp_finding.specs.Hearing.{heard_in};
 ghost use Rattle.gp_finding.specs.Words as spec;
 
 use crate::piece::{Piece, push_pieces};
-use gp_decode::{LineFault, push_words_of};
+use gp_decode::{DecodeFault, push_words_of};
 use gp_log::Said;
 use gp_ploam::{Down, Mask, Serial, Up};
 use gp_ranging::Grant;
@@ -49,7 +49,7 @@ fn push_code(
 {
     match push_words_of(out, code, upstream, mask) {
         Ok(()) => Ok(()),
-        Err(LineFault::OutOfMemory) => Err(AllocError),
+        Err(DecodeFault::OutOfMemory) => Err(AllocError),
         Err(_) => push_digits(out, code),
     }
 }

@@ -1,7 +1,7 @@
 -- Lines answered one after another.
 use Rattle.std.proofs.Common.{◌≡◌, inl, inr, ◌||◌, ℕ, true, false, List, [], ◌∷◌, ◌++◌, Option, Result, Ok, Err, refl, sym, ap, ◌∙◌, subst, append_assoc, append-nil}
-use Rattle.gp_flow.specs.declared.fault.LineFault.{LineFault}
-use Rattle.gp_flow.specs.declared.fault.LineFault.TheVariants.{Write, OutOfMemory, Full}
+use Rattle.gp_flow.specs.declared.fault.Unanswered.{Unanswered}
+use Rattle.gp_flow.specs.declared.fault.Unanswered.TheVariants.{Write, OutOfMemory, Full}
 use Rattle.gp_stream.specs.declared.sink.WriteStopped.{WriteStopped}
 use Rattle.gp_stream.specs.Sink.{SinkState, Puts, Finishes, Takes}
 use Rattle.gp_flow.specs.Lines.{Speech, WholeLines, DoesAll, DoesSome, HandsIn, Starts, StopsWithin, Answers, AnswersAll}
@@ -29,13 +29,13 @@ does_some_more does old mid (x ∷ xs) ys said more p q =
     inl (p.0, p.1 ++ more, p.2, p.3, does_some_more does p.2 mid xs ys p.1 more p.4 q, ap (λ l. l ++ more) p.5 ∙ append_assoc p.0 p.1 more)
 
 -- octets, and then what a fault left of more
-hands_after : {W : Type 0} (e : LineFault) (a b c : SinkState W) (xs ys : List ℕ) → Takes a b xs → HandsIn e b c ys → HandsIn e a c (xs ++ ys)
+hands_after : {W : Type 0} (e : Unanswered) (a b c : SinkState W) (xs ys : List ℕ) → Takes a b xs → HandsIn e b c ys → HandsIn e a c (xs ++ ys)
 hands_after Write a b c xs ys p q = takes_prefix_after a b c xs ys p q
 hands_after OutOfMemory a b c xs ys p q = takes_more a b c xs ys p q
 hands_after Full a b c xs ys p q = takes_more a b c xs ys p q
 
 -- one line, or a beginning of it
-one_begun : {S W : Type 0} (does : Speech S) (line : Option (List ℕ)) (e : LineFault) (old : S) (before after : SinkState W)
+one_begun : {S W : Type 0} (does : Speech S) (line : Option (List ℕ)) (e : Unanswered) (old : S) (before after : SinkState W)
     → Starts does line e old before after → StopsWithin does (line ∷ []) e old before after
 one_begun does line e old before after (NotBegun written) =
     record { begun = []; others = line ∷ []; all = refl; said = []; spoken = refl; written = written }
@@ -45,7 +45,7 @@ one_begun does line e old before after (PartSaid said next p written) =
     record { begun = line ∷ []; others = []; all = refl; said = said; spoken = inr (refl, next, p); written = written }
 
 -- an answer to one line is an answer to a list of one
-pub answers_one : {S W T : Type 0} (does : Speech S) (line : Option (List ℕ)) (old new : S) (before after : SinkState W) (r : Result T LineFault)
+pub answers_one : {S W T : Type 0} (does : Speech S) (line : Option (List ℕ)) (old new : S) (before after : SinkState W) (r : Result T Unanswered)
     → Answers does line old new before after r → AnswersAll does (line ∷ []) old new before after r
 answers_one does line old new before after (Ok x) p = record {
   ok = (p.ok.0, does_one does old new line p.ok.0 p.ok.1, p.ok.2);
@@ -65,7 +65,7 @@ pub answers_none : {S W T : Type 0} (does : Speech S) (old : S) (before : SinkSt
 answers_none does old before x = record { ok = ([], (refl, refl), takes_nothing before); error = tt; flushed = λ f unstopped. f; stopped = λ s. s }
 
 -- lines, and then lines
-pub answers_more : {S W T U : Type 0} (does : Speech S) (xs ys : List (Option (List ℕ))) (old mid new : S) (before between after : SinkState W) (x : T) (r : Result U LineFault)
+pub answers_more : {S W T U : Type 0} (does : Speech S) (xs ys : List (Option (List ℕ))) (old mid new : S) (before between after : SinkState W) (x : T) (r : Result U Unanswered)
     → AnswersAll does xs old mid before between (Ok x) → AnswersAll does ys mid new between after r → AnswersAll does (xs ++ ys) old new before after r
 answers_more does xs ys old mid new before between after x (Ok y) p q = record {
   ok = (p.ok.0 ++ q.ok.0, does_more does old mid new xs ys p.ok.0 q.ok.0 p.ok.1 q.ok.1, takes_more before between after p.ok.0 q.ok.0 p.ok.2 q.ok.2);
@@ -88,7 +88,7 @@ answers_more does xs ys old mid new before between after x (Err e) p q = record 
 }
 
 -- where a fault comes, it doesn't matter which lines would have followed
-pub answers_stopped : {S W T U : Type 0} (does : Speech S) (xs ys : List (Option (List ℕ))) (old new other : S) (before after : SinkState W) (e : LineFault)
+pub answers_stopped : {S W T U : Type 0} (does : Speech S) (xs ys : List (Option (List ℕ))) (old new other : S) (before after : SinkState W) (e : Unanswered)
     → AnswersAll {T = T} does xs old new before after (Err e) → AnswersAll {T = U} does (xs ++ ys) old other before after (Err e)
 answers_stopped does xs ys old new other before after e p = record {
   ok = tt;
@@ -171,7 +171,7 @@ silent_answers does line old new before y d = record { ok = ([], d, takes_nothin
 
 -- ---- the answer of one speech is that of another
 
-starts_as : {S W : Type 0} (f g : Speech S) (l m : Option (List ℕ)) (e : LineFault) (old : S) (before after : SinkState W)
+starts_as : {S W : Type 0} (f g : Speech S) (l m : Option (List ℕ)) (e : Unanswered) (old : S) (before after : SinkState W)
     → ((said : List ℕ) (next : S) → f.says old l said next → g.says old m said next)
     → ((said : List ℕ) (next : S) → f.begins old l said next → g.begins old m said next)
     → Starts f l e old before after → Starts g m e old before after
@@ -179,7 +179,7 @@ starts_as f g l m e old before after whole part (NotBegun written) = NotBegun wr
 starts_as f g l m e old before after whole part (AllSaid said next h written) = AllSaid said next (whole said next h) written
 starts_as f g l m e old before after whole part (PartSaid said next h written) = PartSaid said next (part said next h) written
 
-pub answers_as : {S W T : Type 0} (f g : Speech S) (l m : Option (List ℕ)) (old new : S) (before after : SinkState W) (r : Result T LineFault)
+pub answers_as : {S W T : Type 0} (f g : Speech S) (l m : Option (List ℕ)) (old new : S) (before after : SinkState W) (r : Result T Unanswered)
     → ((said : List ℕ) (next : S) → f.says old l said next → g.says old m said next)
     → ((said : List ℕ) (next : S) → f.begins old l said next → g.begins old m said next)
     → Answers f l old new before after r → Answers g m old new before after r

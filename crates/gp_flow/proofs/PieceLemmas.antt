@@ -4,7 +4,7 @@ use Rattle.std.proofs.Math.Seq.{take_all}
 use Rattle.std.proofs.lemmas.Bool.{eqb-true}
 use Rattle.std.proofs.lemmas.List.{length-take, take_rest}
 use Rattle.memchr.specs.Find.{IsFirstByte, Passes, is_byte}
-use Rattle.gp_flow.specs.declared.fault.LineFault.{LineFault}
+use Rattle.gp_flow.specs.declared.fault.Unanswered.{Unanswered}
 use Rattle.gp_stream.specs.Sink.{SinkState}
 use Rattle.gp_flow.specs.Lines.{Speech, AnswersAll, handed}
 use Rattle.gp_flow.specs.OpenLine.{OpenLine, kept, kept_all, fed_lines, fed_text}
@@ -142,7 +142,7 @@ module _ {S W : Type 0} (does : Speech S) (first now : OpenLine) (piece rest : L
   }
 
   -- a fault at a line
-  pub stops_at : {T U : Type 0} (k : ℕ) (e : LineFault) (other : S) → IsFirstByte (is_byte 10) rest (Some k)
+  pub stops_at : {T U : Type 0} (k : ℕ) (e : Unanswered) (other : S) → IsFirstByte (is_byte 10) rest (Some k)
       → AnswersAll {T = T} does (handed now.limit (now.text ++ take k rest) ∷ []) mid new between after (Err e)
       → AnswersAll {T = U} does (fed_lines first.limit first.text piece) old other before after (Err e)
   stops_at {T = T} k e other found answered =

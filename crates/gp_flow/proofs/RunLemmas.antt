@@ -4,8 +4,8 @@ use Rattle.std.proofs.Common.{◌≡◌, ◌<◌, ◌||◌, ◌⊎◌, inl, inr,
 use Rattle.std.proofs.Math.Seq.{take-append_seam}
 use Rattle.std.specs.Io.KnownBytes.{Appends, Consumes, Keeps, IsAtEnd}
 use Rattle.std.proofs.KnownBytes.{Consumes-nil, Consumes-trans, Consumes-kept}
-use Rattle.gp_flow.specs.declared.fault.LineFault.{LineFault}
-use Rattle.gp_flow.specs.declared.fault.LineFault.TheVariants.{Write, OutOfMemory, Full}
+use Rattle.gp_flow.specs.declared.fault.Unanswered.{Unanswered}
+use Rattle.gp_flow.specs.declared.fault.Unanswered.TheVariants.{Write, OutOfMemory, Full}
 use Rattle.gp_flow.specs.declared.lines.LinesEnd.TheVariants.{Over}
 use Rattle.gp_flow.specs.declared.fault.LinesFault.{LinesFault}
 use Rattle.gp_flow.specs.declared.fault.LinesFault.TheVariants.{Read, Line}
@@ -34,19 +34,19 @@ gets_prefix before after said p =
 
 -- ---- where a fault came
 
-line_same : (e f : LineFault) (answer : Result LinesEnd LinesFault) → answer ≡ Err (Line e) → answer ≡ Err (Line f) → e ≡ f
+line_same : (e f : Unanswered) (answer : Result LinesEnd LinesFault) → answer ≡ Err (Line e) → answer ≡ Err (Line f) → e ≡ f
 line_same e f answer p q = cc
 
-by_fault : (P : LineFault → Type 0) (e f : LineFault) (answer : Result LinesEnd LinesFault) → answer ≡ Err (Line e) → P e → answer ≡ Err (Line f) → P f
+by_fault : (P : Unanswered → Type 0) (e f : Unanswered) (answer : Result LinesEnd LinesFault) → answer ≡ Err (Line e) → P e → answer ≡ Err (Line f) → P f
 by_fault P e f answer is h same = subst P (line_same e f answer is same) h
 
-gathered : {W : Type 0} (T : Type 0) (e : LineFault) (before after : SinkState W) (said : List ℕ) → HandsIn e before after said
+gathered : {W : Type 0} (T : Type 0) (e : Unanswered) (before after : SinkState W) (said : List ℕ) → HandsIn e before after said
     → (tells_stopped {T = T} (Err e) ≡ false → after.flushed ≡ true) → Gathered e before after said
 gathered T Write before after said h flushed = h
 gathered T OutOfMemory before after said h flushed = (h, flushed refl)
 gathered T Full before after said h flushed = (h, flushed refl)
 
-stops : (T : Type 0) (e : LineFault) (stopped : Bool) → stopped ≡ tells_stopped {T = T} (Err e) → Stops {T = LinesEnd} (Err (Line e)) stopped
+stops : (T : Type 0) (e : Unanswered) (stopped : Bool) → stopped ≡ tells_stopped {T = T} (Err e) → Stops {T = LinesEnd} (Err (Line e)) stopped
 stops T Write stopped h = h
 stops T OutOfMemory stopped h = tt
 stops T Full stopped h = tt
@@ -133,7 +133,7 @@ module _ {S R W : Type 0} (does : Speech S) (limit : ℕ) (line : OpenLine) (fro
   }
 
   -- a fault in a piece more, or at the last line
-  serves_fault : {T : Type 0} (over : S → Bool) (more : List ℕ) (to : SourceState R) (begun others : List (Option (List ℕ))) (new other : S) (after : SinkState W) (e : LineFault)
+  serves_fault : {T : Type 0} (over : S → Bool) (more : List ℕ) (to : SourceState R) (begun others : List (Option (List ℕ))) (new other : S) (after : SinkState W) (e : Unanswered)
       → Consumes now.remaining to.remaining more → to.failed ≡ (now.failed || false)
       → fed_lines limit [] p.bytes ++ begun ++ others ≡ map (handed limit) (lines_of (p.bytes ++ more))
       → AnswersAll {T = T} does begun mid new between after (Err e) → ServesGathered does over limit from to old other before after (Err (Line e))
@@ -142,7 +142,7 @@ module _ {S R W : Type 0} (does : Speech S) (limit : ℕ) (line : OpenLine) (fro
       let within = sofar.error in record {
         ok = tt;
         read = λ e. absurd (cc);
-        fault = λ fault same. by_fault (λ (f : LineFault). ServesSome (Gathered f) does limit from to old before after) e fault (Err (Line e)) refl (record {
+        fault = λ fault same. by_fault (λ (f : Unanswered). ServesSome (Gathered f) does limit from to old before after) e fault (Err (Line e)) refl (record {
           bytes = p.bytes ++ more;
           read = Consumes-trans _ _ _ p.bytes more p.came came;
           begun = within.begun;
@@ -157,7 +157,7 @@ module _ {S R W : Type 0} (does : Speech S) (limit : ℕ) (line : OpenLine) (fro
         stopped = λ s. stops T e after.stopped (sofar.stopped s);
       }
 
-  pub serves_piece_fault : {T : Type 0} (over : S → Bool) (more : List ℕ) (to : SourceState R) (new other : S) (after : SinkState W) (e : LineFault)
+  pub serves_piece_fault : {T : Type 0} (over : S → Bool) (more : List ℕ) (to : SourceState R) (new other : S) (after : SinkState W) (e : Unanswered)
       → Consumes now.remaining to.remaining more → to.failed ≡ (now.failed || false)
       → AnswersAll {T = T} does (fed_lines line.limit line.text more) mid new between after (Err e) → ServesGathered does over limit from to old other before after (Err (Line e))
   serves_piece_fault {T = T} over more to new other after e came ok answers =
@@ -178,7 +178,7 @@ module _ {S R W : Type 0} (does : Speech S) (limit : ℕ) (line : OpenLine) (fro
   last_is : last_line line.limit line.text ≡ last_line limit (fed_text limit [] p.bytes)
   last_is = ap (λ (l : OpenLine). last_line l.limit l.text) p.line_is
 
-  pub serves_last_fault : {T : Type 0} (over : S → Bool) (none : List ℕ) (to : SourceState R) (new other : S) (after : SinkState W) (e : LineFault)
+  pub serves_last_fault : {T : Type 0} (over : S → Bool) (none : List ℕ) (to : SourceState R) (new other : S) (after : SinkState W) (e : Unanswered)
       → none ≡ [] → Consumes now.remaining to.remaining none → to.failed ≡ (now.failed || false)
       → AnswersAll {T = T} does (last_line line.limit line.text) mid new between after (Err e) → ServesGathered does over limit from to old other before after (Err (Line e))
   serves_last_fault {T = T} over none to new other after e empty came ok answers =
@@ -217,13 +217,13 @@ module _ {S R W : Type 0} (does : Speech S) (limit : ℕ) (line : OpenLine) (fro
       }
 
 -- before the first read
-unbegun : {S R W : Type 0} (does : Speech S) (over : S → Bool) (limit : ℕ) (from : SourceState R) (old other : S) (before after : SinkState W) (e : LineFault)
+unbegun : {S R W : Type 0} (does : Speech S) (over : S → Bool) (limit : ℕ) (from : SourceState R) (old other : S) (before after : SinkState W) (e : Unanswered)
     → Gathered e before after [] → (before.stopped ≡ false → Stops {T = LinesEnd} (Err (Line e)) after.stopped)
     → ServesGathered does over limit from from old other before after (Err (Line e))
 unbegun does over limit from old other before after e g stopped = record {
   ok = tt;
   read = λ e. absurd (cc);
-  fault = λ fault same. by_fault (λ (f : LineFault). ServesSome (Gathered f) does limit from from old before after) e fault (Err (Line e)) refl (record {
+  fault = λ fault same. by_fault (λ (f : Unanswered). ServesSome (Gathered f) does limit from from old before after) e fault (Err (Line e)) refl (record {
     bytes = [];
     read = Consumes-nil from.remaining;
     begun = [];
@@ -278,14 +278,14 @@ all_out before between after said (Err e) took flushed p =
     let some : TakesPrefix before after said = subst (TakesPrefix before after) (append-nil said) (takes_prefix_after before between after said [] took p.gives.error) in
     inr (gets_prefix before after said some, p.gives.stopped ∙ or_true between.stopped)
 
-written_out : {W : Type 0} (e : LineFault) (before between after : SinkState W) (said : List ℕ) (written : Result (Unit {0}) WriteStopped) → Gathered e before between said
+written_out : {W : Type 0} (e : Unanswered) (before between after : SinkState W) (said : List ℕ) (written : Result (Unit {0}) WriteStopped) → Gathered e before between said
     → WritesOut e between after written → Leaves e before after said
 written_out Write before between after said written g same =
     subst (λ s. GetsPrefix before s said) (sym same) (gets_prefix before between said g)
 written_out OutOfMemory before between after said written g out = all_out before between after said written g.0 g.1 out
 written_out Full before between after said written g out = all_out before between after said written g.0 g.1 out
 
-stops_out : {W : Type 0} (e : LineFault) (between after : SinkState W) (written : Result (Unit {0}) WriteStopped) → WritesOut e between after written
+stops_out : {W : Type 0} (e : Unanswered) (between after : SinkState W) (written : Result (Unit {0}) WriteStopped) → WritesOut e between after written
     → Stops {T = LinesEnd} (Err (Line e)) between.stopped → Stops {T = LinesEnd} (Err (Line e)) after.stopped
 stops_out Write between after written same h = ap (λ s. s.stopped) same ∙ h
 stops_out OutOfMemory between after written out h = tt
@@ -300,13 +300,13 @@ module _ {S R W : Type 0} (does : Speech S) (over : S → Bool) (limit : ℕ) (f
   served_read s =
       record { ok = s.ok; read = s.read; fault = λ fault e. absurd (cc); tells_read = s.tells_read; failed = s.failed; stopped = s.stopped }
 
-  pub served_fault : (e : LineFault) (after : SinkState W) (written : Result (Unit {0}) WriteStopped) → ServesGathered does over limit from to old new before between (Err (Line e))
+  pub served_fault : (e : Unanswered) (after : SinkState W) (written : Result (Unit {0}) WriteStopped) → ServesGathered does over limit from to old new before between (Err (Line e))
       → WritesOut e between after written → Serves does over limit from to old new before after (Err (Line e))
   served_fault e after written s out =
       let some = s.fault e refl in record {
         ok = tt;
         read = λ e. absurd (cc);
-        fault = λ fault same. by_fault (λ (f : LineFault). ServesSome (Leaves f) does limit from to old before after) e fault (Err (Line e)) refl (record {
+        fault = λ fault same. by_fault (λ (f : Unanswered). ServesSome (Leaves f) does limit from to old before after) e fault (Err (Line e)) refl (record {
           bytes = some.bytes;
           read = some.read;
           begun = some.begun;

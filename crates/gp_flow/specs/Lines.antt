@@ -1,9 +1,9 @@
 -- The lines of an input, and what answering each of them means (this profile's own rule).
 use Rattle.std.specs.Prelude.{◌≡◌, ◌↔◌, ◌⊎◌, take, IfOk, IfErr, IsTrue, ◌==◌, if◌then◌else◌, nat_le, ℕ, Bool, true, false, List, [], ◌∷◌, ◌++◌, length, map, Option, None, Some, Result, Ok, Err, OnOk}
 use Rattle.std.specs.Io.KnownBytes.{Appends, Consumes}
-use Rattle.gp_flow.specs.declared.fault.LineFault.{LineFault}
+use Rattle.gp_flow.specs.declared.fault.Unanswered.{Unanswered}
 use Rattle.gp_flow.specs.declared.fault.LinesFault.{LinesFault}
-use Rattle.gp_flow.specs.declared.fault.LineFault.TheVariants.{Write, OutOfMemory, Full}
+use Rattle.gp_flow.specs.declared.fault.Unanswered.TheVariants.{Write, OutOfMemory, Full}
 use Rattle.gp_flow.specs.declared.lines.LinesEnd.{LinesEnd}
 use Rattle.gp_flow.specs.declared.lines.LinesEnd.TheVariants.{Whole, Open, Over}
 use Rattle.std.specs.List.{flat_map}
@@ -34,6 +34,10 @@ lines_of (b ∷ bytes) = if b == 10 then [] ∷ lines_of bytes else onto_line b 
 -- these lines, with a line feed behind each
 abbrev pub with_feeds : List (List ℕ) → List ℕ
 with_feeds lines = flat_map (λ (line : List ℕ). line ++ 10 ∷ []) lines
+
+-- the most octets of a line that is handed on: `MAX_LINE_BYTES`
+abbrev pub longest_line : ℕ
+longest_line = 4096
 
 -- what is handed on of a line: nothing of one that is longer than the limit
 abbrev pub handed : ℕ → List ℕ → Option (List ℕ)
@@ -66,7 +70,7 @@ DoesSome does old (line ∷ lines) said =
     ⊎ ((lines ≡ []) × (next : _) × does.begins old line said next)
 
 -- the answer tells that the writer stopped
-abbrev pub tells_stopped : {T : Type 0} → Result T LineFault → Bool
+abbrev pub tells_stopped : {T : Type 0} → Result T Unanswered → Bool
 tells_stopped (Ok _) = false
 tells_stopped (Err Write) = true
 tells_stopped (Err OutOfMemory) = false
@@ -74,13 +78,13 @@ tells_stopped (Err Full) = false
 
 -- what is left of octets where a fault came: of a failed write the writer took a prefix; any other left all of them
 -- handed in
-abbrev pub HandsIn : {W : Type 0} → LineFault → SinkState W → SinkState W → List ℕ → Type 0
+abbrev pub HandsIn : {W : Type 0} → Unanswered → SinkState W → SinkState W → List ℕ → Type 0
 HandsIn Write before after said = TakesPrefix before after said
 HandsIn OutOfMemory before after said = Takes before after said
 HandsIn Full before after said = Takes before after said
 
 -- what is said to a line, or a beginning of it, or nothing, was said when this fault came
-pub data Starts {S W : Type 0} (does : Speech S) (line : Option (List ℕ)) (fault : LineFault) (old : S)
+pub data Starts {S W : Type 0} (does : Speech S) (line : Option (List ℕ)) (fault : Unanswered) (old : S)
     (before after : SinkState W) : Type 0 where
   NotBegun : HandsIn fault before after [] → Starts does line fault old before after
   AllSaid : (said : List ℕ) (next : S) → does.says old line said next → HandsIn fault before after said
@@ -90,7 +94,7 @@ pub data Starts {S W : Type 0} (does : Speech S) (line : Option (List ℕ)) (fau
 
 -- a line was answered
 pub record Answers {S W T : Type 0} (does : Speech S) (line : Option (List ℕ)) (old new : S)
-    (before after : SinkState W) (answer : Result T LineFault) : Type 0 where
+    (before after : SinkState W) (answer : Result T Unanswered) : Type 0 where
   -- all that is said to it was handed in
   pub ok : OnOk answer ((said : List ℕ) × does.says old line said new × Takes before after said)
   pub error : IfErr answer (λ fault. Starts does line fault old before after)
@@ -99,7 +103,7 @@ pub record Answers {S W T : Type 0} (does : Speech S) (line : Option (List ℕ))
   pub stopped : before.stopped ≡ false → after.stopped ≡ tells_stopped answer
 
 -- only the first of these lines were answered when this fault came, the last of them maybe in part
-pub record StopsWithin {S W : Type 0} (does : Speech S) (lines : List (Option (List ℕ))) (fault : LineFault) (old : S)
+pub record StopsWithin {S W : Type 0} (does : Speech S) (lines : List (Option (List ℕ))) (fault : Unanswered) (old : S)
     (before after : SinkState W) : Type 0 where
   -- the lines that were begun
   pub begun : List (Option (List ℕ))
@@ -113,7 +117,7 @@ pub record StopsWithin {S W : Type 0} (does : Speech S) (lines : List (Option (L
 
 -- lines were answered in their order, up to the first fault
 pub record AnswersAll {S W T : Type 0} (does : Speech S) (lines : List (Option (List ℕ))) (old new : S)
-    (before after : SinkState W) (answer : Result T LineFault) : Type 0 where
+    (before after : SinkState W) (answer : Result T Unanswered) : Type 0 where
   pub ok : OnOk answer ((said : List ℕ) × DoesAll does old lines said new × Takes before after said)
   pub error : IfErr answer (λ fault. StopsWithin does lines fault old before after)
   pub flushed : before.flushed ≡ true → tells_stopped answer ≡ false → after.flushed ≡ true
@@ -170,7 +174,7 @@ pub record GetsPrefix {W : Type 0} (before after : SinkState W) (said : List ℕ
 
 -- what the writer got where a fault came: after a failed write a prefix; after any other all, or a prefix where it
 -- could not be written, and then the sink has stopped
-abbrev pub Leaves : {W : Type 0} → LineFault → SinkState W → SinkState W → List ℕ → Type 0
+abbrev pub Leaves : {W : Type 0} → Unanswered → SinkState W → SinkState W → List ℕ → Type 0
 Leaves Write before after said = GetsPrefix before after said
 Leaves OutOfMemory before after said =
     GetsAll before after said ⊎ (GetsPrefix before after said × (after.stopped ≡ true))
@@ -201,12 +205,12 @@ Stops (Err (Line OutOfMemory)) stopped = Unit {0}
 Stops (Err (Line Full)) stopped = Unit {0}
 
 -- the lines of an input were answered in their order, up to the first fault, which leaves this
-pub record ServesUpTo {S R W : Type 0} (leaves : LineFault → SinkState W → SinkState W → List ℕ → Type 0)
+pub record ServesUpTo {S R W : Type 0} (leaves : Unanswered → SinkState W → SinkState W → List ℕ → Type 0)
     (does : Speech S) (over : S → Bool) (limit : ℕ) (from to : SourceState R) (old new : S) (before after : SinkState W)
     (answer : Result LinesEnd LinesFault) : Type 0 where
   pub ok : IfOk answer (λ end. ServesTo does over limit end from to old new before after)
   pub read : answer ≡ Err Read → ServesEnded does limit from to old new before after
-  pub fault : (fault : LineFault) → answer ≡ Err (Line fault)
+  pub fault : (fault : Unanswered) → answer ≡ Err (Line fault)
       → ServesSome (leaves fault) does limit from to old before after
   -- a failed read is always answered
   pub tells_read : from.failed ≡ false → to.failed ≡ true → answer ≡ Err Read

@@ -1,6 +1,6 @@
 //! Why a line was not answered, and why not all lines of an input were.
 ghost use Rattle.std.specs.Prelude.{◌≡◌};
-ghost use Rattle.gp_flow.specs.declared.fault.LineFault.TheVariants.{Write, OutOfMemory};
+ghost use Rattle.gp_flow.specs.declared.fault.Unanswered.TheVariants.{Write, OutOfMemory};
 ghost use Rattle.gp_flow.specs.declared.fault.LinesFault.TheVariants.{Line};
 
 use gp_stream::WriteStopped;
@@ -9,7 +9,7 @@ use thiserror::Error;
 
 /// Why a line was not answered.
 #[derive(Clone, Copy, Debug, PartialEq, Eq, Error)]
-pub enum LineFault {
+pub enum Unanswered {
     /// A write failed or took nothing, or a flush failed.
     #[error("a write failed or took nothing")]
     Write,
@@ -21,19 +21,19 @@ pub enum LineFault {
     Full,
 }
 
-impl From<WriteStopped> for LineFault {
+impl From<WriteStopped> for Unanswered {
     ghost from_gives = { λ _ fault. fault ≡ Write };
 
-    fn from(_error: WriteStopped) -> LineFault {
-        LineFault::Write
+    fn from(_error: WriteStopped) -> Unanswered {
+        Unanswered::Write
     }
 }
 
-impl From<AllocError> for LineFault {
+impl From<AllocError> for Unanswered {
     ghost from_gives = { λ _ fault. fault ≡ OutOfMemory };
 
-    fn from(_error: AllocError) -> LineFault {
-        LineFault::OutOfMemory
+    fn from(_error: AllocError) -> Unanswered {
+        Unanswered::OutOfMemory
     }
 }
 
@@ -45,13 +45,13 @@ pub enum LinesFault {
     Read,
     /// A line was not answered.
     #[error("a line was not answered")]
-    Line(LineFault),
+    Line(Unanswered),
 }
 
-impl From<LineFault> for LinesFault {
+impl From<Unanswered> for LinesFault {
     ghost from_gives = { λ line fault. fault ≡ Line line };
 
-    fn from(fault: LineFault) -> LinesFault {
+    fn from(fault: Unanswered) -> LinesFault {
         LinesFault::Line(fault)
     }
 }
@@ -60,7 +60,7 @@ impl From<WriteStopped> for LinesFault {
     ghost from_gives = { λ _ fault. fault ≡ Line Write };
 
     fn from(_error: WriteStopped) -> LinesFault {
-        LinesFault::Line(LineFault::Write)
+        LinesFault::Line(Unanswered::Write)
     }
 }
 
@@ -68,6 +68,6 @@ impl From<AllocError> for LinesFault {
     ghost from_gives = { λ _ fault. fault ≡ Line OutOfMemory };
 
     fn from(_error: AllocError) -> LinesFault {
-        LinesFault::Line(LineFault::OutOfMemory)
+        LinesFault::Line(Unanswered::OutOfMemory)
     }
 }

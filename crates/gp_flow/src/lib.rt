@@ -18,7 +18,7 @@ mod lines;
 mod open_line;
 mod work;
 
-pub use fault::{LineFault, LinesFault};
+pub use fault::{LinesFault, Unanswered};
 pub use lines::{LinesEnd, MAX_LINE_BYTES, run_lines};
 pub use open_line::OpenLine;
 pub use work::LineWork;

@@ -5,7 +5,7 @@ ghost use Rattle.gp_stream.specs.Source.{Reads};
 ghost use Rattle.gp_flow.specs.Gathering.{ServesGathered, WritesOut};
 ghost use Rattle.gp_flow.specs.Lines.{Serves, end_of_input};
 
-use crate::fault::{LineFault, LinesFault};
+use crate::fault::{LinesFault, Unanswered};
 use crate::open_line::OpenLine;
 use crate::work::LineWork;
 use gp_stream::{Sink, Source, WriteStopped};
@@ -57,12 +57,12 @@ pub fn run_lines<R: Read, W: Write, K: LineWork>(
 
 /// Writes out what is gathered where a line was not answered, which takes no memory. After a failed write nothing more
 /// is written.
-fn write_out<W: Write>(sink: &mut Sink<W>, fault: LineFault) -> Result<(), WriteStopped>
+fn write_out<W: Write>(sink: &mut Sink<W>, fault: Unanswered) -> Result<(), WriteStopped>
     ensures { WritesOut fault sink.old sink.new result }
 {
     match fault {
-        LineFault::Write => Ok(()),
-        LineFault::OutOfMemory | LineFault::Full => sink.finish(),
+        Unanswered::Write => Ok(()),
+        Unanswered::OutOfMemory | Unanswered::Full => sink.finish(),
     }
 }
 

@@ -5,7 +5,7 @@ ghost use Rattle.gp_flow.specs.Lines.{AnswersAll, handed};
 ghost use Rattle.gp_stream.specs.Sink.{KeepsNothing};
 ghost use Rattle.gp_flow.specs.OpenLine.{kept_all, fed_lines, fed_text, last_line};
 
-use crate::fault::LineFault;
+use crate::fault::Unanswered;
 use crate::work::LineWork;
 use gp_stream::Sink;
 use memchr::memchr;
@@ -60,7 +60,7 @@ impl OpenLine {
         &mut self,
         work: &mut K,
         sink: &mut Sink<W>,
-    ) -> Result<(), LineFault>
+    ) -> Result<(), Unanswered>
         ensures answers { AnswersAll K.speech (handed self.old.limit self.old.text ∷ [])
             work.old work.new sink.old sink.new result }
         ensures next { OnOk result (self.new ≡ record { text = []; limit = self.old.limit }) }
@@ -77,7 +77,7 @@ impl OpenLine {
         octets: &[u8],
         work: &mut K,
         sink: &mut Sink<W>,
-    ) -> Result<(), LineFault>
+    ) -> Result<(), Unanswered>
         ensures answers { AnswersAll K.speech (handed self.old.limit (self.old.text ++ octets.now) ∷ [])
             work.old work.new sink.old sink.new result }
         ensures next { OnOk result (self.new ≡ record { text = []; limit = self.old.limit }) }
@@ -94,7 +94,7 @@ impl OpenLine {
         &mut self,
         work: &mut K,
         sink: &mut Sink<W>,
-    ) -> Result<(), LineFault>
+    ) -> Result<(), Unanswered>
         ensures { AnswersAll K.speech (last_line self.old.limit self.old.text)
             work.old work.new sink.old sink.new result }
     {
@@ -111,7 +111,7 @@ impl OpenLine {
         piece: &[u8],
         work: &mut K,
         sink: &mut Sink<W>,
-    ) -> Result<(), LineFault>
+    ) -> Result<(), Unanswered>
         requires { sink.old.flushed ≡ true }
         ensures answers { AnswersAll K.speech (fed_lines self.old.limit self.old.text piece.now)
             work.old work.new sink.old sink.new result }
@@ -135,7 +135,7 @@ impl OpenLine {
         mut self,
         work: &mut K,
         sink: &mut Sink<W>,
-    ) -> Result<bool, LineFault>
+    ) -> Result<bool, Unanswered>
         requires { sink.old.flushed ≡ true }
         ensures answers { AnswersAll K.speech (last_line self.limit self.text)
             work.old work.new sink.old sink.new result }
@@ -155,7 +155,7 @@ fn answer<K: LineWork, W: Write>(
     limit: usize,
     work: &mut K,
     sink: &mut Sink<W>,
-) -> Result<(), LineFault>
+) -> Result<(), Unanswered>
     ensures { AnswersAll K.speech (handed limit line.now ∷ []) work.old work.new sink.old sink.new result }
 {
     if line.len() <= limit {

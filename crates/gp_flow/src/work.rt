@@ -1,6 +1,6 @@
 //! What is done with lines, as a trait: each line is answered into a sink, and whether more are wanted is told.
 
-use crate::fault::LineFault;
+use crate::fault::Unanswered;
 use gp_stream::Sink;
 use std::io::Write;
 
@@ -20,10 +20,10 @@ pub trait LineWork {
         ensures { result ≡ over self.now };
 
     /// Answers a line, which comes without its line feed.
-    fn line<W: Write>(&mut self, text: &[u8], sink: &mut Sink<W>) -> Result<(), LineFault>
+    fn line<W: Write>(&mut self, text: &[u8], sink: &mut Sink<W>) -> Result<(), Unanswered>
         ensures { Answers speech (Some text.now) self.old self.new sink.old sink.new result };
 
     /// Answers a line that is too long to be kept.
-    fn long_line<W: Write>(&mut self, sink: &mut Sink<W>) -> Result<(), LineFault>
+    fn long_line<W: Write>(&mut self, sink: &mut Sink<W>) -> Result<(), Unanswered>
         ensures { Answers speech None self.old self.new sink.old sink.new result };
 }

@@ -25,23 +25,14 @@ pub struct Journal {
 }
 
 impl Model for Journal {
-    ghost use Rattle.std.specs.FinMap as map;
-    ghost use Rattle.std.specs.FinSet as set;
-    ghost use Rattle.std.specs.Coded.{codes};
     ghost use Rattle.std.specs.Prelude.{◌-◌, ◌+◌, ◌<◌, ◌^◌, vec_len, vec_capacity};
-    ghost use Rattle.gp_ploam.specs.Serials.{serial_cmp, coded_serial};
-    ghost use Rattle.gp_unit.specs.contracts.row.Row as row;
+    ghost use Rattle.gp_machine.specs.Codes.{port_codes};
     ghost use Rattle.gp_machine.specs.contracts.entry.Entry as entry;
     ghost use Rattle.gp_journal.specs.Kept.{Kept};
 
     ghost Value = { Kept };
 
-    ghost coded = { Prim.hlevel (
-      codes,
-      map.code {R = serial_cmp} coded_serial row.the_row.coded,
-      set.code {R = serial_cmp} coded_serial,
-      entry.the_row.coded,
-    ) };
+    ghost coded = { Prim.hlevel (port_codes, entry.the_row.coded) };
 
     ghost view = { λ j. record {
       first = j.first;

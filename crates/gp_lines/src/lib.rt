@@ -50,4 +50,4 @@ pub use picks::picked;
 pub use short::answer_is_short;
 pub use told::event_is_told;
 pub use traced::{TraceLine, split_line};
-pub use turn::{Asked, LAST_PORT, LAST_UNIT, LONGEST_LINE, MOST_FRAMES, parse_turn};
+pub use turn::{Asked, LAST_PORT, LAST_UNIT, LONGEST_LINE, MOST_FRAMES, PORTS, parse_turn};

@@ -25,6 +25,9 @@ use gp_ranging::Grant;
 /// The greatest port.
 pub const LAST_PORT: u8 = 15;
 
+/// How many ports a trace may tell of: 0 to [`LAST_PORT`].
+pub const PORTS: usize = 16;
+
 /// The most frames that one line asks for.
 pub const MOST_FRAMES: u32 = 1_000_000;
 

@@ -23,21 +23,21 @@ use Rattle.gp_machine.specs.declared.reply.Reply.TheVariants as reply
 use Rattle.gp_machine.specs.ComparingAnswers.{ComparesReplies, ComparesRows}
 
 -- the test tells whether the fact holds
-abbrev Tells : Bool → Type 0 → Type 0
-Tells test P = (test ≡ true → P) × (P → test ≡ true)
+abbrev Decides : Bool → Type 0 → Type 0
+Decides test P = (test ≡ true → P) × (P → test ≡ true)
 
-conv : (b : Bool) (P Q : Type 0) → (P → Q) → (Q → P) → Tells b P → Tells b Q
+conv : (b : Bool) (P Q : Type 0) → (P → Q) → (Q → P) → Decides b P → Decides b Q
 conv b P Q into back h = (λ t. into (h.0 t), λ q. h.1 (back q))
 
-both : (b c : Bool) (P Q : Type 0) → Tells b P → Tells c Q → Tells (b && c) (P × Q)
+both : (b c : Bool) (P Q : Type 0) → Decides b P → Decides c Q → Decides (b && c) (P × Q)
 both true true P Q f g = (λ h. (f.0 refl, g.0 refl), λ h. refl)
 both true false P Q f g = (λ h. (f.0 refl, g.0 h), λ h. g.1 h.1)
 both false c P Q f g = (λ h. absurd (false≢true h), λ h. f.1 h.0)
 
-numbers : (m n : ℕ) → Tells (eqb m n) (m ≡ n)
+numbers : (m n : ℕ) → Decides (eqb m n) (m ≡ n)
 numbers m n = (eqb-true m n, eq-eqb m n)
 
-bools : (a b : Bool) → Tells ((bool.ghosts).eq a b) (a ≡ b)
+bools : (a b : Bool) → Decides ((bool.ghosts).eq a b) (a ≡ b)
 bools true true = (λ h. refl, λ e. refl)
 bools true false = (λ h. absurd (false≢true h), λ e. cc)
 bools false true = (λ h. absurd (false≢true h), λ e. cc)
@@ -47,7 +47,7 @@ abbrev some_of : {A : Type 0} → A → Option A → A
 some_of d None = d
 some_of d (Some x) = x
 
-options : {A : Type 0} (test : A → A → Bool) → ((x y : A) → Tells (test x y) (x ≡ y)) → (a b : Option A) → Tells (option_eq test a b) (a ≡ b)
+options : {A : Type 0} (test : A → A → Bool) → ((x y : A) → Decides (test x y) (x ≡ y)) → (a b : Option A) → Decides (option_eq test a b) (a ≡ b)
 options test tells None None = (λ h. refl, λ e. refl)
 options test tells None (Some y) = (λ h. absurd (false≢true h), λ e. cc)
 options test tells (Some x) None = (λ h. absurd (false≢true h), λ e. cc)
@@ -78,7 +78,7 @@ abbrev leaves : Option (ℕ × Bool) → Bool
 leaves None = false
 leaves (Some e) = e.1
 
-same_place : (a b : Option (ℕ × Bool)) → Tells ((place.ghosts).eq a b) (a ≡ b)
+same_place : (a b : Option (ℕ × Bool)) → Decides ((place.ghosts).eq a b) (a ≡ b)
 same_place None None = (λ h. refl, λ e. refl)
 same_place None (Some (n, false)) = (λ h. absurd (false≢true h), λ e. cc)
 same_place None (Some (n, true)) = (λ h. absurd (false≢true h), λ e. cc)
@@ -89,7 +89,7 @@ same_place (Some (m, true)) (Some (n, true)) = conv (eqb m n) (m ≡ n) (Some (m
 same_place (Some (m, false)) (Some (n, true)) = (λ h. absurd (false≢true h), λ e. absurd (false≢true (ap leaves e)))
 same_place (Some (m, true)) (Some (n, false)) = (λ h. absurd (false≢true h), λ e. absurd (false≢true (sym (ap leaves e))))
 
-same_allocs : (a b : FinMap nat_cmp Bool) → Tells ((allocs.ghosts).eq a b) (a ≡ b)
+same_allocs : (a b : FinMap nat_cmp Bool) → Decides ((allocs.ghosts).eq a b) (a ≡ b)
 same_allocs a b =
     conv ((allocs.ghosts).eq a b) (slots_of (entries a) ≡ slots_of (entries b)) (a ≡ b)
     (λ e. same_entries_map a b (sym (filled_slots (entries a)) ∙ ap (λ (xs : List (Option (ℕ × Bool))). filled xs) e ∙ filled_slots (entries b)))
@@ -118,7 +118,7 @@ abbrev garbled_in : Phase → ℕ
 garbled_in (Ranging attempts seen) = 0
 garbled_in (Operating eqd dark garbled) = garbled
 
-same_phase : (a b : Phase) → Tells ((phase.ghosts).eq a b) (a ≡ b)
+same_phase : (a b : Phase) → Decides ((phase.ghosts).eq a b) (a ≡ b)
 same_phase (Ranging a s) (Ranging b t) =
     conv (eqb a b && (bool.ghosts).eq s t) ((a ≡ b) × (s ≡ t)) (Ranging a s ≡ Ranging b t) (λ p. λ i. Ranging (p.0 i) (p.1 i)) (λ e. (ap attempts_in e, ap seen_in e))
     (both (eqb a b) ((bool.ghosts).eq s t) (a ≡ b) (s ≡ t) (numbers a b) (bools s t))
@@ -139,7 +139,7 @@ same_rows a b =
 
 -- ---- replies
 
-same_refusal : (a b : Refusal) → Tells ((refusal.ghosts).eq a b) (a ≡ b)
+same_refusal : (a b : Refusal) → Decides ((refusal.ghosts).eq a b) (a ≡ b)
 same_refusal refused.Stray refused.Stray = (λ h. refl, λ e. refl)
 same_refusal refused.Garbled refused.Garbled = (λ h. refl, λ e. refl)
 same_refusal refused.WrongWindow refused.WrongWindow = (λ h. refl, λ e. refl)

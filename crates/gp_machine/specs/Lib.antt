@@ -4,6 +4,7 @@ pub mod State
 pub mod Changes
 pub mod Responses
 pub mod Closes
+pub mod Codes
 pub mod Frame
 pub mod SearchWindow
 pub mod RangeWindow

@@ -4,8 +4,8 @@ mod rows;
 
 use crate::fields::{Plain, are_lines, is_split_object, read_lines};
 use gp_code_objects::{decode_object, decode_objects};
-use gp_decode::{Direction, FaultAt, LineFault};
-use gp_flow::{LineFault as Unanswered, LinesFault};
+use gp_decode::{DecodeFault, Direction, FaultAt};
+use gp_flow::{LinesFault, Unanswered};
 use gp_ploam::Mask;
 use gp_stream::{Sink, Source};
 use rows::{DOWN, Row, UP};
@@ -30,7 +30,7 @@ fn decoded_alone(
     code: &str,
     upstream: bool,
     mask: Mask,
-) -> Result<(Result<Option<LineFault>, Unanswered>, Vec<u8>), AllocError> {
+) -> Result<(Result<Option<DecodeFault>, Unanswered>, Vec<u8>), AllocError> {
     let mut sink = Sink::new(alloc, Vec::new(alloc))?;
     let outcome = decode_object(alloc, code, upstream, mask, &mut sink);
     Ok((outcome, sink.into_inner()))
@@ -95,45 +95,45 @@ fn messages(rt: HostRuntime) -> Result<(), AllocError> {
 }
 
 /// Texts that are the codes of nothing, the mask, the fault of each, and the fields of its object behind `line`.
-const FAULTS: [(&'static str, Mask, LineFault, &'static [Plain]); 9] = [
-    ("", Mask::Plain, LineFault::Length, &[LINE, LENGTH]),
-    ("0", Mask::Plain, LineFault::Length, &[LINE, LENGTH]),
-    ("ff", Mask::Plain, LineFault::Length, &[LINE, LENGTH]),
+const FAULTS: [(&'static str, Mask, DecodeFault, &'static [Plain]); 9] = [
+    ("", Mask::Plain, DecodeFault::Length, &[LINE, LENGTH]),
+    ("0", Mask::Plain, DecodeFault::Length, &[LINE, LENGTH]),
+    ("ff", Mask::Plain, DecodeFault::Length, &[LINE, LENGTH]),
     (
         "ff0c00000000000000000000c300",
         Mask::Plain,
-        LineFault::Length,
+        DecodeFault::Length,
         &[LINE, LENGTH],
     ),
     (
         "0g",
         Mask::Plain,
-        LineFault::Digit,
+        DecodeFault::Digit,
         &[LINE, Plain::Text("error", "digit")],
     ),
     // Of one code nothing is passed over.
     (
         "ff 0c 00 00 00 00 00 00 00 00 00 00 c3",
         Mask::Plain,
-        LineFault::Digit,
+        DecodeFault::Digit,
         &[LINE, Plain::Text("error", "digit")],
     ),
     (
         "00050000000000000000000062",
         Mask::Plain,
-        LineFault::Crc,
+        DecodeFault::Crc,
         &[LINE, CRC, Plain::Text("wanted", "63")],
     ),
     (
         "ff03004142434400000001004e",
         Mask::Plain,
-        LineFault::Crc,
+        DecodeFault::Crc,
         &[LINE, CRC, Plain::Number("right_under_mask", 85)],
     ),
     (
         "ff03004142434400000001001b",
         Mask::Coset,
-        LineFault::Crc,
+        DecodeFault::Crc,
         &[LINE, CRC, Plain::Number("right_under_mask", 0)],
     ),
 ];

@@ -2,7 +2,7 @@
 use crate::fields::{Plain, are_lines};
 use gp_code_objects::{encode_object, encode_objects};
 use gp_encode::{WordsFault, WordsFaultAt};
-use gp_flow::{LineFault as Unanswered, LinesFault};
+use gp_flow::{LinesFault, Unanswered};
 use gp_lines::LineFault;
 use gp_ploam::Mask;
 use gp_stream::{Sink, Source};

@@ -4,7 +4,7 @@ ghost use Rattle.gp_options.specs.Options.{AuditsAs, IsBadAudit, form_of, tells_
 
 use crate::bad_option::BadOption;
 use crate::judged::{delays_of, drift_of};
-use gp_audit::{AuditForm, AuditOptions, Told, rules_told};
+use gp_audit::{AuditForm, AuditOptions, FindingChoice, rules_told};
 use gp_command_line::Audit;
 
 /// Tells whether the findings of a side are told, where this one alone may be.
@@ -44,7 +44,7 @@ pub fn audit_options<'m, 'a>(wanted: &Audit<'m, 'a>) -> Result<AuditOptions, Bad
         teqd,
         drift: drift_of(wanted.drift),
         midway: wanted.midway,
-        told: Told {
+        told: FindingChoice {
             terminal: tells_side(wanted.side, "terminal"),
             units: tells_side(wanted.side, "units"),
             rules,

@@ -6,10 +6,7 @@ ghost use Rattle.gp_options.specs.Options.{drift_of, first_frame, last_frame};
 ghost use Rattle.gp_options.specs.declared.bad_option.BadOption.TheVariants as bad;
 
 use crate::bad_option::BadOption;
-use gp_audit::equalized_delays;
-
-/// How many ports a log may tell of.
-const PORTS: usize = 16;
+use gp_audit::{PORTS, equalized_delays};
 
 /// How far a unit's delay may be off where that is left out, in bit times.
 const DRIFT: u32 = 8;

@@ -5,15 +5,14 @@ use Rattle.std.proofs.lemmas.List.{append-nil, take-append-drop}
 use Rattle.std.proofs.KnownBytes.{Appends-trans}
 use Rattle.std.specs.List.{All}
 use Rattle.std.specs.Io.KnownBytes.{Appends, Consumes}
-use Rattle.gp_flow.specs.declared.fault.LineFault.{LineFault}
-use Rattle.gp_flow.specs.declared.fault.LineFault.TheVariants.{Write, OutOfMemory, Full}
+use Rattle.gp_flow.specs.declared.fault.Unanswered.{Unanswered}
+use Rattle.gp_flow.specs.declared.fault.Unanswered.TheVariants.{Write, OutOfMemory, Full}
 use Rattle.gp_flow.specs.declared.lines.LinesEnd.{LinesEnd}
 use Rattle.gp_flow.specs.declared.lines.LinesEnd.TheVariants.{Whole, Open, Over}
 use Rattle.gp_flow.specs.declared.fault.LinesFault.{LinesFault}
 use Rattle.gp_flow.specs.declared.fault.LinesFault.TheVariants as faults
-use Rattle.gp_flow.specs.Lines.{DoesAll, DoesSome, GetsAll, GetsPrefix, Leaves, Serves, ServesTo, ended_lines, handed, lines_of}
+use Rattle.gp_flow.specs.Lines.{DoesAll, DoesSome, GetsAll, GetsPrefix, Leaves, Serves, ServesTo, ended_lines, handed, lines_of, longest_line}
 use Rattle.gp_flow.proofs.LineLemmas.{ended_first, handed_none, handed_whole}
-use Rattle.gp_lines.specs.Turn.{longest_line}
 use Rattle.gp_stream.specs.Sink.{SinkState, KeepsNothing}
 use Rattle.gp_stream.specs.Source.{SourceState, ReadsWhole}
 use Rattle.gp_stream.proofs.SinkLemmas.{takes_whole}
@@ -226,7 +225,7 @@ module _ {R W : Type 0} (from to : SourceState R) (before after : SinkState W) w
   begun_either bytes said none came (inl all) = begun_all bytes said none came all.written
   begun_either bytes said none came (inr p) = begun_prefix bytes said none came p.0
 
-  begun_by : (fault : LineFault) (bytes said : List ℕ) → said ≡ [] → Consumes from.remaining to.remaining bytes → Leaves fault before after said → IsBegun from to before after
+  begun_by : (fault : Unanswered) (bytes said : List ℕ) → said ≡ [] → Consumes from.remaining to.remaining bytes → Leaves fault before after said → IsBegun from to before after
   begun_by Write bytes said none came left = begun_prefix bytes said none came left
   begun_by OutOfMemory bytes said none came left = begun_either bytes said none came left
   begun_by Full bytes said none came left = begun_either bytes said none came left

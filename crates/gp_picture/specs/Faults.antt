@@ -1,7 +1,7 @@
 -- Why nothing is drawn of a line.
 -- Inside: no public contract cites this.
-use Rattle.gp_flow.specs.declared.fault.LineFault.{LineFault}
-use Rattle.gp_flow.specs.declared.fault.LineFault.TheVariants as lines
+use Rattle.gp_flow.specs.declared.fault.Unanswered.{Unanswered}
+use Rattle.gp_flow.specs.declared.fault.Unanswered.TheVariants as lines
 use Rattle.gp_watch.specs.declared.fault.WatchFault.{WatchFault}
 use Rattle.gp_watch.specs.declared.fault.WatchFault.TheVariants as watches
 use Rattle.gp_picture.specs.declared.fault.PictureFault.{PictureFault}
@@ -11,6 +11,6 @@ abbrev pub of_watch : WatchFault → PictureFault
 of_watch watches.OutOfMemory = drawn.OutOfMemory
 of_watch watches.Full = drawn.Full
 
-abbrev pub undrawn : PictureFault → LineFault
+abbrev pub undrawn : PictureFault → Unanswered
 undrawn drawn.OutOfMemory = lines.OutOfMemory
 undrawn drawn.Full = lines.Full

@@ -2,7 +2,7 @@
 ghost use Rattle.std.specs.Prelude.{◌≡◌};
 ghost use Rattle.gp_picture.specs.Faults.{of_watch, undrawn};
 
-use gp_flow::LineFault;
+use gp_flow::Unanswered;
 use gp_watch::WatchFault;
 use std::alloc::AllocError;
 
@@ -36,13 +36,13 @@ impl From<WatchFault> for PictureFault {
     }
 }
 
-impl From<PictureFault> for LineFault {
+impl From<PictureFault> for Unanswered {
     ghost from_gives = { λ picture fault. fault ≡ undrawn picture };
 
-    fn from(fault: PictureFault) -> LineFault {
+    fn from(fault: PictureFault) -> Unanswered {
         match fault {
-            PictureFault::OutOfMemory => LineFault::OutOfMemory,
-            PictureFault::Full => LineFault::Full,
+            PictureFault::OutOfMemory => Unanswered::OutOfMemory,
+            PictureFault::Full => Unanswered::Full,
         }
     }
 }

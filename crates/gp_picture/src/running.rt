@@ -8,7 +8,7 @@ use crate::options::PictureOptions;
 use crate::picture::Picture;
 use crate::whole::picture_text;
 use gp_explain::ExplainFault;
-use gp_flow::{LineFault, LinesFault, run_lines};
+use gp_flow::{LinesFault, Unanswered, run_lines};
 use gp_stream::{Sink, Source};
 use std::alloc::Global;
 use std::io::{Read, Write};
@@ -75,6 +75,6 @@ fn write_picture<W: Write>(
     let text = picture_text(alloc, picture)?;
     match sink.write_whole(text.as_bytes()) {
         Ok(()) => Ok(()),
-        Err(_) => Err(ExplainFault::Lines(LinesFault::Line(LineFault::Write))),
+        Err(_) => Err(ExplainFault::Lines(LinesFault::Line(Unanswered::Write))),
     }
 }

@@ -1,6 +1,6 @@
 //! Codes that are decoded, one and line by line: what is written, faults, memory that runs out, writers that end.
 use gp_decode::{
-    Direction, FaultAt, LineFault, decode_each_in, decode_line, decode_line_in, decode_lines,
+    DecodeFault, Direction, FaultAt, decode_each_in, decode_line, decode_line_in, decode_lines,
     other_name, push_words_of, words_of,
 };
 use gp_ploam::Mask;
@@ -100,12 +100,12 @@ const LINES: [(&'static str, bool, Mask, &'static str); 14] = [
 ];
 
 /// Texts with a fault, or with two, and which is told.
-const FAULTS: [(&'static str, LineFault); 5] = [
-    ("zz0", LineFault::Length),
-    ("0g", LineFault::Digit),
-    ("00", LineFault::Length),
-    ("", LineFault::Length),
-    ("00050000000000000000000062", LineFault::Crc),
+const FAULTS: [(&'static str, DecodeFault); 5] = [
+    ("zz0", DecodeFault::Length),
+    ("0g", DecodeFault::Digit),
+    ("00", DecodeFault::Length),
+    ("", DecodeFault::Length),
+    ("00050000000000000000000062", DecodeFault::Crc),
 ];
 
 #[test]
@@ -144,7 +144,7 @@ fn a_writer_that_stops(rt: HostRuntime) -> Result<(), AllocError> {
         let outcome = decode_line(rt.alloc(), text, DOWN, Mask::Plain, &mut sink);
         drop(sink);
         let wanted = if room < line.len() {
-            Err(LineFault::Write)
+            Err(DecodeFault::Write)
         } else {
             Ok(())
         };
@@ -162,7 +162,7 @@ fn decoded(
     text: &str,
     upstream: bool,
     mask: Mask,
-) -> Result<(Result<(), LineFault>, Vec<u8>), AllocError> {
+) -> Result<(Result<(), DecodeFault>, Vec<u8>), AllocError> {
     let mut sink = Sink::new(alloc, Vec::with_capacity(alloc, ROOM)?)?;
     let outcome = decode_line(alloc, text, upstream, mask, &mut sink);
     Ok((outcome, sink.into_inner()))
@@ -176,7 +176,7 @@ fn memory_short_or_ample(rt: HostRuntime) {
         let Ok((outcome, written)) = decoded(rt.alloc(), text, upstream, mask) else {
             return;
         };
-        if outcome == Err(LineFault::OutOfMemory) {
+        if outcome == Err(DecodeFault::OutOfMemory) {
             assert!(rt; written.is_empty(), "{text}");
             return;
         }
@@ -186,7 +186,7 @@ fn memory_short_or_ample(rt: HostRuntime) {
 }
 
 /// A line, and its fault.
-type Fault = Option<(u64, LineFault)>;
+type Fault = Option<(u64, DecodeFault)>;
 
 /// Lines of codes, what is said to them, and the first that has a fault.
 const INPUTS: [(&'static str, &'static str, Fault); 15] = [
@@ -199,18 +199,22 @@ const INPUTS: [(&'static str, &'static str, Fault); 15] = [
     (
         "ff03004142434400000001001b\n0g\n00050000000000000000000062\nff0c00000000000000000000c3\n",
         "Assign_ONU-ID 0 ABCD00000001\nerror 2 digit\nerror 3 crc, 63 should stand\nPOPUP 255\n",
-        Some((2, LineFault::Digit)),
+        Some((2, DecodeFault::Digit)),
     ),
     // Empty lines and remarks are passed over, and counted.
     ("\n\r\n#\n# 0g\r\n#0g", "", None),
-    ("\n#\n0\n", "error 3 length\n", Some((3, LineFault::Length))),
+    (
+        "\n#\n0\n",
+        "error 3 length\n",
+        Some((3, DecodeFault::Length)),
+    ),
     // A carriage return at the end is no part of a line, and anywhere else it is no digit.
     ("ff0c00000000000000000000c3\r\n", "POPUP 255\n", None),
     ("ff0c00000000000000000000c3\r", "POPUP 255\n", None),
     (
         "ff0c00000000000000000000c\r3\r\r\n",
         "error 1 digit\n",
-        Some((1, LineFault::Digit)),
+        Some((1, DecodeFault::Digit)),
     ),
     // What may stand between digits, and in front of them.
     (
@@ -231,24 +235,24 @@ const INPUTS: [(&'static str, &'static str, Fault); 15] = [
     (
         "ff0x0c00000000000000000000c3\n0x0xff0c00000000000000000000c3\nxff0c00000000000000000000c3a\n",
         "error 1 digit\nerror 2 digit\nerror 3 digit\n",
-        Some((1, LineFault::Digit)),
+        Some((1, DecodeFault::Digit)),
     ),
     (
         "0x\n \nff:0\n:-#\n",
         "error 1 length\nerror 2 length\nerror 3 length\nerror 4 length\n",
-        Some((1, LineFault::Length)),
+        Some((1, DecodeFault::Length)),
     ),
     // What would be right: the other mask where it is, and else an octet.
     (
         "ff03004142434400000001004e\nff03004142434400000001001a\n00050000000000000000000036",
         "error 1 crc, right under mask 85\nerror 2 crc, 1b should stand\nerror 3 crc, right under mask 85\n",
-        Some((1, LineFault::Crc)),
+        Some((1, DecodeFault::Crc)),
     ),
     // A tabulator isn't passed over.
     (
         "ff\t0c00000000000000000000c3\n",
         "error 1 length\n",
-        Some((1, LineFault::Length)),
+        Some((1, DecodeFault::Length)),
     ),
 ];
 
@@ -296,7 +300,7 @@ const DIRECTED: [(&'static str, Direction, Mask, &'static str, Fault); 6] = [
         Direction::Down,
         Mask::Coset,
         "error 1 crc, right under mask 0\nerror 2 crc, 29 should stand\n",
-        Some((1, LineFault::Crc)),
+        Some((1, DecodeFault::Crc)),
     ),
     (
         "up 00090a0000000000000000007e\ndown ff0c00000000000000000000c3\r\n\n# up\ndown  0xff:0c00000000000000000000c3",
@@ -310,7 +314,7 @@ const DIRECTED: [(&'static str, Direction, Mask, &'static str, Fault); 6] = [
         Direction::Each,
         Mask::Plain,
         "error 1 direction\nerror 2 direction\nerror 3 direction\nerror 4 direction\n",
-        Some((1, LineFault::Direction)),
+        Some((1, DecodeFault::Direction)),
     ),
     (
         "up \ndown:ff\nupff\nup 0g\ndown ff0c000000000000000000000\nup 00090a0000000000000000002b\n",
@@ -318,14 +322,14 @@ const DIRECTED: [(&'static str, Direction, Mask, &'static str, Fault); 6] = [
         Mask::Plain,
         "error 1 length\nerror 2 direction\nerror 3 direction\nerror 4 digit\nerror 5 length\n\
         error 6 crc, right under mask 85\n",
-        Some((1, LineFault::Length)),
+        Some((1, DecodeFault::Length)),
     ),
     (
         "up 00090a0000000000000000007e\n",
         Direction::Up,
         Mask::Plain,
         "error 1 digit\n",
-        Some((1, LineFault::Digit)),
+        Some((1, DecodeFault::Digit)),
     ),
 ];
 
@@ -342,7 +346,7 @@ fn lines_that_say_their_direction(rt: HostRuntime) -> Result<(), AllocError> {
 #[test]
 fn long_lines(rt: HostRuntime) -> Result<(), AllocError> {
     let none: Fault = None;
-    for (count, first) in [(4095, none), (4096, Some((1, LineFault::Length)))] {
+    for (count, first) in [(4095, none), (4096, Some((1, DecodeFault::Length)))] {
         let mut input = String::new(rt.alloc());
         input.push('#')?;
         for _ in 0..count {
@@ -385,7 +389,7 @@ fn appended(
     alloc: Global,
     room: usize,
     row: (&'static str, bool, Mask),
-) -> Result<(Result<(), LineFault>, Vec<u8>), AllocError> {
+) -> Result<(Result<(), DecodeFault>, Vec<u8>), AllocError> {
     let (text, upstream, mask) = row;
     let mut out = Vec::with_capacity(alloc, FRONT.len().saturating_add(room))?;
     out.extend_from_slice(FRONT.as_bytes())?;
@@ -408,7 +412,7 @@ fn words_behind_what_stands(rt: HostRuntime) {
             let Ok((outcome, out)) = appended(rt.alloc(), room, (text, upstream, mask)) else {
                 return;
             };
-            if outcome == Err(LineFault::OutOfMemory) {
+            if outcome == Err(DecodeFault::OutOfMemory) {
                 let begun = out.strip_prefix(FRONT.as_bytes()).unwrap_or(b"\n");
                 assert!(rt; room < 64 && line.as_bytes().starts_with(begun), "{text}");
                 return;
@@ -425,7 +429,7 @@ fn words_as_a_text(rt: HostRuntime) {
         match words_of(rt.alloc(), &octets_of(text), upstream, mask) {
             Ok(words) => assert!(rt; words.as_str() == line.trim_end_matches('\n'), "{text}"),
             Err(fault) => {
-                assert_eq!(rt; fault, LineFault::OutOfMemory, "{text}");
+                assert_eq!(rt; fault, DecodeFault::OutOfMemory, "{text}");
                 return;
             }
         }
@@ -438,7 +442,7 @@ fn no_words_of_a_wrong_code(rt: HostRuntime) -> Result<(), AllocError> {
     for upstream in [DOWN, UP] {
         let row = ("00050000000000000000000062", upstream, Mask::Plain);
         let (outcome, out) = appended(rt.alloc(), 0, row)?;
-        assert_eq!(rt; outcome, Err(LineFault::Crc));
+        assert_eq!(rt; outcome, Err(DecodeFault::Crc));
         assert!(rt; holds(&out, ""));
     }
     Ok(())

@@ -1,7 +1,7 @@
 //! Codes of messages in words.
 use gp_decode::decode_lines;
 use gp_encode::{EncodeFault, WordsFault, WordsFaultAt, encode_line, encode_lines};
-use gp_flow::{LineFault as Unanswered, LinesFault};
+use gp_flow::{LinesFault, Unanswered};
 use gp_lines::LineFault;
 use gp_ploam::Mask;
 use gp_stream::{Sink, Source};

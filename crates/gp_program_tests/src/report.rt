@@ -1,8 +1,8 @@
 //! The line on standard error and the exit status of each ending.
-use gp_decode::LineFault;
+use gp_decode::DecodeFault;
 use gp_encode::WordsFault;
 use gp_explain::{ExplainFault, NoLine};
-use gp_flow::{LineFault as UnansweredLine, LinesFault};
+use gp_flow::{LinesFault, Unanswered};
 use gp_lines::LineFault as PartFault;
 use gp_replay::RunFault;
 use gp_report::{
@@ -53,13 +53,13 @@ const REPORTS: &[(RunFault, &'static str, u8)] = &[
 ];
 
 /// The same of the faults of a code.
-const LINE_REPORTS: &[(LineFault, &'static str, u8)] = &[
-    (LineFault::Length, "oltctl: decode length", 1),
-    (LineFault::Digit, "oltctl: decode digit", 1),
-    (LineFault::Crc, "oltctl: decode crc", 1),
-    (LineFault::Direction, "oltctl: decode direction", 1),
-    (LineFault::OutOfMemory, "oltctl: memory", 3),
-    (LineFault::Write, "oltctl: write", 4),
+const LINE_REPORTS: &[(DecodeFault, &'static str, u8)] = &[
+    (DecodeFault::Length, "oltctl: decode length", 1),
+    (DecodeFault::Digit, "oltctl: decode digit", 1),
+    (DecodeFault::Crc, "oltctl: decode crc", 1),
+    (DecodeFault::Direction, "oltctl: decode direction", 1),
+    (DecodeFault::OutOfMemory, "oltctl: memory", 3),
+    (DecodeFault::Write, "oltctl: write", 4),
 ];
 
 /// A verdict that ends a verification, with its line and its status.
@@ -132,13 +132,13 @@ fn reports_of_words(rt: HostRuntime) {
 const INPUTS: [(LinesFault, &'static str, u8); 4] = [
     (LinesFault::Read, "oltctl: read", 1),
     (
-        LinesFault::Line(UnansweredLine::OutOfMemory),
+        LinesFault::Line(Unanswered::OutOfMemory),
         "oltctl: memory",
         3,
     ),
-    (LinesFault::Line(UnansweredLine::Write), "oltctl: write", 4),
+    (LinesFault::Line(Unanswered::Write), "oltctl: write", 4),
     (
-        LinesFault::Line(UnansweredLine::Full),
+        LinesFault::Line(Unanswered::Full),
         "oltctl: too many lines",
         1,
     ),

@@ -22,7 +22,7 @@ use Rattle.gp_replay.specs.declared.turn.Turn.{Turn}
 use Rattle.gp_replay.specs.Chassis.{HasRoom, PlayState}
 use Rattle.gp_replay.specs.Opening.{OpensFibre}
 use Rattle.gp_replay.specs.Play.{TakesAllTurns, TakesSomeTurns, TakesTurns, all_turns, frame_turn, turns_of}
-use Rattle.gp_replay.specs.Playing.{HasGrant, HasRoomFor, Keeps, Loses, LossyPlay, MakesGrant, Playing, PlaysAll, PlaysSome, Tells, chassis_playing, count_of, fibre_playing}
+use Rattle.gp_replay.specs.Playing.{HasGrant, HasRoomFor, Keeps, Loses, LossyPlay, MakesGrant, Playing, PlaysAll, PlaysSome, TellsEntries, chassis_playing, count_of, fibre_playing}
 use Rattle.gp_replay.specs.WorldPlay.{MakesFrames, WorldTakes, WorldTakesAll, opening_fibre, receipts_from}
 use Rattle.gp_replay.specs.WorldWriting.{FibrePlay, HasFibreRoom, Numbered, WorldHappening, WorldTakesPart, WorldTakesPrefix}
 use Rattle.gp_replay.specs.Writing.{HandsIn, Happening, PlaysOn, Writes}
@@ -160,7 +160,7 @@ one_grants grant entry made h = (λ t. inl (h.0 t), λ w. elim w [ inl is ↦ h.
 
 -- whether the grant is made in what happens is told by its entries
 pub makes_told : {S W : Type 0} (mask : Mask) (grant : Grant) (entries : List Entry) (made : Bool) (happens : Happening S) (old new : S) (x y : SinkState W)
-    → IsTrue made ↔ HasGrant grant entries → Writes mask (Tells entries happens) old new x y → Writes mask (MakesGrant grant made happens) old new x y
+    → IsTrue made ↔ HasGrant grant entries → Writes mask (TellsEntries entries happens) old new x y → Writes mask (MakesGrant grant made happens) old new x y
 makes_told mask grant entries made happens old new x y h w = record {
   receipts = w.receipts;
   happened = record {
@@ -267,7 +267,7 @@ numbered_entries n (e ∷ es) = ap (λ (l : List Entry). e ∷ l) (numbered_entr
 
 pub frames_told : {W T E : Type 0} (mask : Mask) (entries : List Entry) (happens : WorldHappening) (old new : FibrePlay) (n : ℕ) (x y : SinkState W) (v : T)
     → Numbered happens old (receipts_from n entries) new → HandsIn {T = T} {E = E} x y (trace_text mask (receipts_from n entries)) (Ok v)
-    → Writes mask (Tells entries (Numbered happens)) old new x y
+    → Writes mask (TellsEntries entries (Numbered happens)) old new x y
 frames_told mask entries happens old new n x y v numbered w =
     record { receipts = receipts_from n entries; happened = (numbered, numbered_entries n entries); lines = w.ok }
 

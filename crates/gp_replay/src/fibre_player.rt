@@ -32,18 +32,13 @@ pub struct FibrePlayer<L: Ledger> {
 }
 
 impl<L: Ledger> Model for FibrePlayer<L> {
-    ghost use Rattle.std.specs.FinMap as map;
-    ghost use Rattle.std.specs.FinSet as set;
-    ghost use Rattle.std.specs.Coded.{codes};
-    ghost use Rattle.gp_ploam.specs.Serials.{serial_cmp, coded_serial};
-    ghost use Rattle.gp_unit.specs.contracts.row.Row as row;
+    ghost use Rattle.gp_machine.specs.Codes.{port_codes};
     ghost use Rattle.gp_replay.specs.Playing.{LossyPlay};
     ghost use Rattle.gp_replay.specs.WorldWriting.{lost_by};
 
     ghost Value = { LossyPlay };
 
-    ghost coded = { Prim.hlevel
-        (codes, map.code {R = serial_cmp} coded_serial row.the_row.coded, set.code {R = serial_cmp} coded_serial) };
+    ghost coded = { Prim.hlevel port_codes };
 
     ghost view = { λ p. record { play = p.player; losses = lost_by p.losses } };
 }

@@ -51,6 +51,6 @@ pub use opening::{Opened, open_chassis, open_fibre};
 pub use play_end::end_play;
 pub use player::Player;
 pub use replaying::{play_script, play_with_lights, run_replay};
-pub use told::Told;
+pub use told::EntryWritten;
 pub use trace_out::TraceOut;
 pub use turn::Turn;

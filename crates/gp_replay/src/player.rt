@@ -12,7 +12,7 @@ ghost use Rattle.gp_replay.specs.Telling.{TellsTurn};
 
 use super::line_buffer::LineBuffer;
 use super::seat::{Seat, close_seats, core_at, open_seats, owed_at};
-use super::told::Told;
+use super::told::EntryWritten;
 use super::turn::Turn;
 use gp_chassis::ChassisConfig;
 use gp_licence::{LicenceBook, Licences, MAX_LICENCES};
@@ -34,18 +34,13 @@ pub struct Player<L: Ledger> {
 
 impl<L: Ledger> Model for Player<L> {
     ghost use Rattle.std.specs.Prelude.{All};
-    ghost use Rattle.std.specs.FinMap as map;
-    ghost use Rattle.std.specs.FinSet as set;
-    ghost use Rattle.std.specs.Coded.{codes};
-    ghost use Rattle.gp_ploam.specs.Serials.{serial_cmp, coded_serial};
-    ghost use Rattle.gp_unit.specs.contracts.row.Row as row;
+    ghost use Rattle.gp_machine.specs.Codes.{port_codes};
     ghost use Rattle.gp_replay.specs.Chassis.{IsSoundPort, PlayState};
     ghost use Rattle.gp_replay.specs.Seats.{SeatState, play_on};
 
     ghost Value = { PlayState };
 
-    ghost coded = { Prim.hlevel
-        (codes, map.code {R = serial_cmp} coded_serial row.the_row.coded, set.code {R = serial_cmp} coded_serial) };
+    ghost coded = { Prim.hlevel port_codes };
 
     ghost view = { λ p. play_on p.seats.items p.book.free };
 
@@ -79,7 +74,7 @@ impl<L: Ledger> Player<L> {
         wished: Option<u16>,
         mask: Mask,
         buffer: &mut LineBuffer,
-    ) -> Result<Told, AllocError>
+    ) -> Result<EntryWritten, AllocError>
         requires port { turn.port < length self.old.next }
         requires room { HasRoom 1 self.old }
         ensures told { IfOk result (λ told. TellsTurn mask self.old turn wished told buffer.new self.new) }
@@ -90,7 +85,7 @@ impl<L: Ledger> Player<L> {
         let mut entry = Entry::blank();
         let number = self.serve(turn, wished, &mut entry);
         buffer.build_entry(mask, turn.port, number, &entry);
-        Ok(Told {
+        Ok(EntryWritten {
             number,
             grant: entry.answer.grant,
         })

@@ -3,7 +3,7 @@ use gp_ranging::Grant;
 
 /// What is asked of an entry behind its line.
 #[derive(Clone, Copy, PartialEq, Eq, Debug)]
-pub struct Told {
+pub struct EntryWritten {
     /// Which one it is among its port's entries.
     pub number: u64,
     /// The grant that was made in it, if one was.

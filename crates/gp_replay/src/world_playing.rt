@@ -4,7 +4,7 @@ ghost use Rattle.gp_fibre.specs.Schedule.{FramesRun, IsProperEntry, step_fault};
 ghost use Rattle.gp_script.specs.View.{NamesOneOf};
 ghost use Rattle.gp_stream.specs.Sink.{Gives};
 ghost use Rattle.gp_trace.specs.Text.{line_of, trace_text};
-ghost use Rattle.gp_replay.specs.Playing.{HasGrant, MakesGrant, Tells, count_of};
+ghost use Rattle.gp_replay.specs.Playing.{HasGrant, MakesGrant, TellsEntries, count_of};
 ghost use Rattle.gp_replay.specs.WorldPlay.{TakesStep, WorldTakes, receipt_with, receipts_from};
 ghost use Rattle.gp_replay.specs.WorldWriting.{HasFibreRoom, MayTakeStep, Numbered, TakesSomeFrames, WorldTakesPart, lost_by};
 ghost use Rattle.gp_replay.specs.Writing.{HandsIn, PlaysOn, Writes};
@@ -104,7 +104,7 @@ fn play_few_frames<L: Ledger, W: Write>(
         PlaysOn out.old.mask (Numbered (FramesRun lost.copies lost.bursts frames)) (Numbered (TakesSomeFrames lost frames))
         player.old player.new out.old.sink.now out.new.sink.now result }
     ensures told { let lost = lost_by losses.old in OnOk result
-        (Writes out.old.mask (Tells entries.new.items (Numbered (FramesRun lost.copies lost.bursts frames)))
+        (Writes out.old.mask (TellsEntries entries.new.items (Numbered (FramesRun lost.copies lost.bursts frames)))
         player.old player.new out.old.sink.now out.new.sink.now) }
     ensures losses { losses.new ≡ losses.old }
     ensures same { KeepsOut out.old out.new }

@@ -4,15 +4,15 @@ use Rattle.gp_script.specs.declared.fault.ScriptFault.{ScriptFault}
 use Rattle.gp_script.specs.declared.fault.ScriptFault.TheVariants as scripts
 use Rattle.gp_replay.specs.declared.fault.RunFault.{RunFault}
 use Rattle.gp_replay.specs.declared.fault.RunFault.TheVariants as runs
-use Rattle.gp_flow.specs.declared.fault.LineFault.{LineFault as UnansweredLine}
-use Rattle.gp_flow.specs.declared.fault.LineFault.TheVariants as unanswered
+use Rattle.gp_flow.specs.declared.fault.Unanswered.{Unanswered}
+use Rattle.gp_flow.specs.declared.fault.Unanswered.TheVariants as unanswered
 use Rattle.gp_flow.specs.declared.fault.LinesFault.TheVariants as reading
 use Rattle.gp_verify.specs.declared.outcome.VerifyFault.{VerifyFault}
 use Rattle.gp_verify.specs.declared.outcome.VerifyFault.TheVariants as verifies
 use Rattle.gp_verify.specs.declared.verdict.Verdict.{Verdict}
 use Rattle.gp_verify.specs.declared.verdict.Verdict.TheVariants as verdicts
-use Rattle.gp_decode.specs.declared.fault.LineFault.{LineFault}
-use Rattle.gp_decode.specs.declared.fault.LineFault.TheVariants as lines
+use Rattle.gp_decode.specs.declared.fault.DecodeFault.{DecodeFault}
+use Rattle.gp_decode.specs.declared.fault.DecodeFault.TheVariants as lines
 use Rattle.gp_report.specs.declared.status.TheConstants.{BAD_INPUT, DISAGREEMENT, JOURNAL_FULL, NOT_A_RUN, NOT_WRITTEN, OUT_OF_MEMORY}
 
 -- out of memory
@@ -55,7 +55,7 @@ run_status runs.JournalFull = JOURNAL_FULL
 run_status _ = BAD_INPUT
 
 -- a fault of a code that was to be said in words
-abbrev pub code_line : LineFault → List ℕ
+abbrev pub code_line : DecodeFault → List ℕ
 code_line lines.Length = codes "oltctl: decode length"
 code_line lines.Digit = codes "oltctl: decode digit"
 code_line lines.Crc = codes "oltctl: decode crc"
@@ -64,7 +64,7 @@ code_line lines.OutOfMemory = memory_line
 code_line lines.Write = write_line
 
 -- its exit status
-abbrev pub code_status : LineFault → ℕ
+abbrev pub code_status : DecodeFault → ℕ
 code_status lines.OutOfMemory = OUT_OF_MEMORY
 code_status lines.Write = NOT_WRITTEN
 code_status _ = BAD_INPUT
@@ -79,13 +79,13 @@ verdict_line verdicts.NotAStep = codes "oltctl: not a run"
 verdict_line verdicts.Follows = codes "oltctl: not a run"
 
 -- a line of a trace that was not judged
-abbrev pub unanswered_line : UnansweredLine → List ℕ
+abbrev pub unanswered_line : Unanswered → List ℕ
 unanswered_line unanswered.OutOfMemory = memory_line
 unanswered_line unanswered.Write = write_line
 unanswered_line unanswered.Full = codes "oltctl: too many lines"
 
 -- its exit status
-abbrev pub unanswered_status : UnansweredLine → ℕ
+abbrev pub unanswered_status : Unanswered → ℕ
 unanswered_status unanswered.OutOfMemory = OUT_OF_MEMORY
 unanswered_status unanswered.Write = NOT_WRITTEN
 unanswered_status unanswered.Full = BAD_INPUT

@@ -6,10 +6,10 @@ ghost use Rattle.gp_report.specs.Words.{explain_line, explain_status, input_line
 use crate::status::{
     BAD_ARGUMENTS, BAD_INPUT, DISAGREEMENT, JOURNAL_FULL, NOT_A_RUN, NOT_WRITTEN, OUT_OF_MEMORY,
 };
-use gp_decode::LineFault;
+use gp_decode::DecodeFault;
 use gp_encode::WordsFault;
 use gp_explain::{ExplainFault, NoLine};
-use gp_flow::{LineFault as UnansweredLine, LinesFault};
+use gp_flow::{LinesFault, Unanswered};
 use gp_lines::LineFault as PartFault;
 use gp_replay::RunFault;
 use gp_script::ScriptFault;
@@ -70,17 +70,17 @@ fn script_report_line(fault: ScriptFault) -> &'static str
 }
 
 /// Answers the line and the status of a code that was not said in words.
-pub fn line_report(fault: &LineFault) -> (&'static str, u8)
+pub fn line_report(fault: &DecodeFault) -> (&'static str, u8)
     ensures line { result.0.now ≡ code_line fault.now }
     ensures status { result.1 ≡ code_status fault.now }
 {
     match fault {
-        LineFault::Length => ("oltctl: decode length", BAD_INPUT),
-        LineFault::Digit => ("oltctl: decode digit", BAD_INPUT),
-        LineFault::Crc => ("oltctl: decode crc", BAD_INPUT),
-        LineFault::Direction => ("oltctl: decode direction", BAD_INPUT),
-        LineFault::OutOfMemory => memory_report(),
-        LineFault::Write => write_report(),
+        DecodeFault::Length => ("oltctl: decode length", BAD_INPUT),
+        DecodeFault::Digit => ("oltctl: decode digit", BAD_INPUT),
+        DecodeFault::Crc => ("oltctl: decode crc", BAD_INPUT),
+        DecodeFault::Direction => ("oltctl: decode direction", BAD_INPUT),
+        DecodeFault::OutOfMemory => memory_report(),
+        DecodeFault::Write => write_report(),
     }
 }
 
@@ -128,14 +128,14 @@ pub fn few_lines_report() -> (&'static str, u8)
 }
 
 /// Answers the line and the status where a line of a trace was not judged.
-fn unanswered_report(line: UnansweredLine) -> (&'static str, u8)
+fn unanswered_report(line: Unanswered) -> (&'static str, u8)
     ensures line { result.0.now ≡ unanswered_line line }
     ensures status { result.1 ≡ unanswered_status line }
 {
     match line {
-        UnansweredLine::OutOfMemory => memory_report(),
-        UnansweredLine::Write => write_report(),
-        UnansweredLine::Full => ("oltctl: too many lines", BAD_INPUT),
+        Unanswered::OutOfMemory => memory_report(),
+        Unanswered::Write => write_report(),
+        Unanswered::Full => ("oltctl: too many lines", BAD_INPUT),
     }
 }
 

@@ -1,7 +1,6 @@
 //! A serial number as a key of the map of the admission list.
 ghost use Rattle.std.specs.Prelude.{◌≡◌, refl};
 ghost use Rattle.std.specs.Cmp.{partial_equiv_from_equiv, partial_order_from_total};
-ghost use Rattle.std.specs.Int.{to_be_bytes, w64};
 ghost use Rattle.std.specs.Ordering.{as_partial_cmp, eq_by_cmp};
 ghost use Rattle.std.proofs.lemmas.Cmp.{eq_by_cmp_equiv};
 ghost use Rattle.gp_ploam.specs.Serials.{serial_cmp};
@@ -33,20 +32,13 @@ impl Model for SerialKey {
     ghost view = { λ a. serial_with (to_be_bytes w64 a.number) };
 }
 
-/// Gives the number that octets are, the first of them the highest.
-fn number_of(octets: &[u8; 8]) -> u64
-    ensures { to_be_bytes w64 result ≡ octets.now }
-{
-    u64::from_be_bytes(*octets)
-}
-
 impl SerialKey {
     /// Makes the key of a serial number.
     pub(crate) fn of(serial: Serial) -> SerialKey
         ensures { result ≡ serial }
     {
         SerialKey {
-            number: number_of(&serial.0),
+            number: serial.number(),
         }
     }
 }

@@ -8,6 +8,7 @@
 //! - `reading.rt`: `read_all`, which reads a source to its end, and the faults of reading.
 //! - `watched.rt`: a writer that remembers whether a write or a flush failed.
 //! - `sink.rt`: `Sink`, which gathers bytes, hands them on in large pieces and flushes behind each.
+//! - `taken.rt`: `Taken`, the octets that a writer took, which only proofs see.
 //!
 //! Where to make which change: the bounds of bytes and reads are numbers in `specs/Source.antt`, which `read_all` and
 //! `Source::new` are held to; `GATHERED_BYTES` stands in `sink.rt`. What counts as a failed read is decided in
@@ -19,8 +20,10 @@
 mod reading;
 mod sink;
 mod source;
+mod taken;
 mod watched;
 
 pub use reading::{MAX_BYTES, SourceFault, read_all};
 pub use sink::{GATHERED_BYTES, Sink, WriteStopped};
 pub use source::{MAX_READS, Source};
+pub use taken::Taken;

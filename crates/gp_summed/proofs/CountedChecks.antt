@@ -6,8 +6,8 @@ use Rattle.std.specs.declared.vec.Vec.{Vec}
 use Rattle.std.proofs.Common.{◌≡◌, inl, inr, ℕ, true, false, List, [], Option, None, Some, Result, Ok, Err, IfOk, ap, length, refl, subst, sym, ◌∙◌}
 use Rattle.gp_ploam.specs.declared.check.Mask.{Mask}
 use Rattle.gp_explain.specs.declared.form.Form.{Form}
-use Rattle.gp_flow.specs.declared.fault.LineFault.{LineFault}
-use Rattle.gp_flow.specs.declared.fault.LineFault.TheVariants as unanswered
+use Rattle.gp_flow.specs.declared.fault.Unanswered.{Unanswered}
+use Rattle.gp_flow.specs.declared.fault.Unanswered.TheVariants as unanswered
 use Rattle.gp_flow.specs.declared.fault.LinesFault.{LinesFault}
 use Rattle.gp_flow.specs.declared.fault.LinesFault.TheVariants.{Line}
 use Rattle.gp_stream.specs.declared.sink.WriteStopped.{WriteStopped}
@@ -24,7 +24,7 @@ use Rattle.gp_verify.specs.declared.outcome.VerifyFault.TheVariants.{Refused, Un
 use Rattle.gp_verify.specs.Checking.{ChecksTrace, opened_by}
 use Rattle.gp_verify.specs.Ending.{ChecksTold, Ends, after_writing, as_checked, was_read}
 use Rattle.gp_verify.specs.Outcome.{Writes}
-use Rattle.gp_summed.specs.Verifying.{AreUnits, SumsCheck, Tells, TellsPlay}
+use Rattle.gp_summed.specs.Verifying.{AreUnits, SumsCheck, TellsSums, TellsPlay}
 
 absurdly : {P : Type 0} → false ≡ true → P
 absurdly h = absurd (cc)
@@ -62,13 +62,13 @@ module _ {T : Type 0} (form : SummaryForm) (script : ScriptView) (from to : Sour
       → AreUnits form script from to found units
   no_units fault found units is none = record {
     there = λ read. absurdly (sym (ap was_read is) ∙ read);
-    tell = subst (λ (u : Option (Result (Vec ℕ Global) AllocError)). IfSome u (λ told. IfOk told (λ text. Tells form script from to found text.items))) (sym none) tt;
+    tell = subst (λ (u : Option (Result (Vec ℕ Global) AllocError)). IfSome u (λ told. IfOk told (λ text. TellsSums form script from to found text.items))) (sym none) tt;
   }
 
 -- ---- what was found
 
 -- of a trace that was not judged
-pub none_checked : {T W : Type 0} (form : Form) (script : ScriptView) (from to : SourceState T) (old new : SinkState W) (fault : LineFault) (found : Result ℕ VerifyFault)
+pub none_checked : {T W : Type 0} (form : Form) (script : ScriptView) (from to : SourceState T) (old new : SinkState W) (fault : Unanswered) (found : Result ℕ VerifyFault)
     → found ≡ Err (Lines (Line fault)) → (told : List ℕ) × ChecksTrace form from to told found script × Writes old new told found
 none_checked form script from to old new fault found is = (
   [],

@@ -7,7 +7,7 @@ use Rattle.gp_ploam.specs.declared.check.Mask.{Mask}
 use Rattle.gp_machine.specs.declared.entry.Receipt.{Receipt}
 use Rattle.gp_explain.specs.declared.form.Form.{Form}
 use Rattle.gp_explain.specs.declared.form.Form.TheVariants as forms
-use Rattle.gp_flow.specs.declared.fault.LineFault.TheVariants as unanswered
+use Rattle.gp_flow.specs.declared.fault.Unanswered.TheVariants as unanswered
 use Rattle.gp_flow.specs.declared.fault.LinesFault.TheVariants.{Line}
 use Rattle.gp_flow.specs.Lines.{Speech, WholeLines}
 use Rattle.gp_stream.specs.Source.{SourceState, ReadsWhole}
@@ -115,7 +115,7 @@ pub record TellsPlay (form : SummaryForm) (mask : Mask) (start : PlayState) (cou
   pub text_is : text ≡ reach_text form found ++ summary
 
 -- and of a run all its lines were counted: what was counted is the whole text
-pub record Tells {T : Type 0} (form : SummaryForm) (script : ScriptView) (from to : SourceState T)
+pub record TellsSums {T : Type 0} (form : SummaryForm) (script : ScriptView) (from to : SourceState T)
     (found : Result ℕ VerifyFault) (text : List ℕ) : Type 0 where
   pub taken : List ℕ
   pub play : TellsPlay form script.mask (opening_play script) (length script.ports) script.licences found taken text
@@ -125,7 +125,7 @@ pub record Tells {T : Type 0} (form : SummaryForm) (script : ScriptView) (from t
 pub record AreUnits {T : Type 0} (form : SummaryForm) (script : ScriptView) (from to : SourceState T)
     (found : Result ℕ VerifyFault) (units : Option (Result (Vec ℕ Global) AllocError)) : Type 0 where
   pub there : was_read found ≡ true → is_some units ≡ true
-  pub tell : IfSome units (λ told. IfOk told (λ text. Tells form script from to found text.items))
+  pub tell : IfSome units (λ told. IfOk told (λ text. TellsSums form script from to found text.items))
 
 -- the same where a script was read first: what was found is answered, but for a write that failed then
 pub record AreUnitsOf {R T : Type 0} (form : SummaryForm) (before after : SourceState R) (from to : SourceState T)

@@ -6,7 +6,7 @@ ghost use Rattle.gp_verify.specs.Verdicts.{Judges, ending};
 ghost use Rattle.gp_summed.specs.Verifying.{IsPlayed, said_by};
 
 use crate::opening::Opening;
-use gp_flow::{LineFault, LineWork};
+use gp_flow::{LineWork, Unanswered};
 use gp_replay::Player;
 use gp_stream::Sink;
 use gp_tally::Counter;
@@ -150,7 +150,7 @@ impl<B: Opening, L: Ledger> LineWork for Accounting<B, L> {
         self.verifier.ended().is_some()
     }
 
-    fn line<W: Write>(&mut self, text: &[u8], sink: &mut Sink<W>) -> Result<(), LineFault> {
+    fn line<W: Write>(&mut self, text: &[u8], sink: &mut Sink<W>) -> Result<(), Unanswered> {
         if self.verifier.ended().is_some() {
             return Ok(());
         }
@@ -164,7 +164,7 @@ impl<B: Opening, L: Ledger> LineWork for Accounting<B, L> {
         }
     }
 
-    fn long_line<W: Write>(&mut self, _sink: &mut Sink<W>) -> Result<(), LineFault> {
+    fn long_line<W: Write>(&mut self, _sink: &mut Sink<W>) -> Result<(), Unanswered> {
         if self.verifier.ended().is_some() {
             return Ok(());
         }

@@ -1,6 +1,6 @@
 //! A trace that is verified while its entries are counted.
 ghost use Rattle.std.specs.Prelude.{◌≡◌, ℕ, List, None, Ok, Err, [], IfOk, IfErr, IfSome, is_some, length, true};
-ghost use Rattle.gp_flow.specs.declared.fault.LineFault.TheVariants as unanswered;
+ghost use Rattle.gp_flow.specs.declared.fault.Unanswered.TheVariants as unanswered;
 ghost use Rattle.gp_flow.specs.declared.fault.LinesFault.TheVariants.{Line};
 ghost use Rattle.gp_stream.specs.Source.{ReadsWhole};
 ghost use Rattle.gp_script.specs.Playable.{IsPlayable};
@@ -90,7 +90,7 @@ fn units_of<B: Opening, L: Ledger>(
     Ok(text)
 }
 
-/// Tells whether a text was read as far as it counts, and each line judged.
+/// TellsSums whether a text was read as far as it counts, and each line judged.
 fn was_read(found: &Result<u64, VerifyFault>) -> bool
     ensures { result ≡ spec_was_read found.now }
 {
@@ -216,7 +216,7 @@ fn as_checked(told: Result<u64, VerifyFault>) -> Result<u64, CheckFault>
     }
 }
 
-/// Tells whether a text is the trace of some run on the chassis that a script opens, as `verify_told` does, and what
+/// TellsSums whether a text is the trace of some run on the chassis that a script opens, as `verify_told` does, and what
 /// became of each port and unit in it, by a line, or an object, each: what was counted of the entries, and how ports,
 /// units and licences stand behind the last one. Of a trace that is no run the entries are those of the lines before the
 /// first that can't be, and the machine's own in the place of that one, where it names an event and a port; a line

@@ -1,8 +1,6 @@
 -- What a search finds among places in order, and what an edit there does to the index.
 use Rattle.std.proofs.Common.{◌≡◌, ℕ, zero, suc, ◌+◌, ◌-◌, ◌/◌, ◌^◌, ◌<◌, ◌≤◌, true, false, cond, List, [], ◌∷◌, length, map, None, Some, inl, inr, refl, sym, ap, subst, ◌∙◌, get_or, arith, w64}
 use Rattle.std.proofs.lemmas.Bool.{cases_Bool, cases_eq, cases_lt}
-use Rattle.std.proofs.lemmas.Nat.{from_be_bytes-to_be_bytes_8, be_bytes_8}
-use Rattle.std.specs.Int.{from_be_bytes}
 use Rattle.std.proofs.Math.ListN.{set, length-set}
 use Rattle.std.proofs.lemmas.List.{map-set, get_or-set_same, get_or-set_other}
 use Rattle.std.specs.List.{insert}
@@ -10,24 +8,14 @@ use Rattle.std.proofs.lemmas.List.Edits.{length-insert, get_or-insert_below, get
 use Rattle.gp_ploam.specs.declared.message.Serial.{Serial}
 use Rattle.gp_table.specs.declared.admission_index.IndexPlace.{IndexPlace}
 use Rattle.std.specs.FinMap as fin
-use Rattle.gp_ploam.specs.Serials.{serial_cmp, same_serial}
-use Rattle.gp_ploam.proofs.Serials.{serials_total, serials_exact, same_serial-true}
+use Rattle.gp_ploam.specs.Serials.{serial_cmp, same_serial, serial_of}
+use Rattle.gp_ploam.proofs.Serials.{serials_total, serials_exact, same_serial-true, same_number}
 use Rattle.gp_table.specs.declared.admission_index.AdmittedSerial.{AdmittedSerial}
-use Rattle.gp_table.specs.Index.{serial_of, entry_of, admissions_of, blank_place, rank_at, enabled, enabled_place, changed, changed_at, IsRising, IsPlaceOf, IsGapFor}
+use Rattle.gp_table.specs.Index.{entry_of, admissions_of, blank_place, rank_at, enabled, enabled_place, changed, changed_at, IsRising, IsPlaceOf, IsGapFor}
 use Rattle.std.specs.Option.{option_map}
 use Rattle.gp_table.specs.Values.{map_values}
 use Rattle.gp_table.proofs.Values.{get-map_values}
 use Rattle.gp_table.proofs.Entries.{IsApart, find, find-cons, find-tail, find_at, from_entries-insert, from_entries-set}
-
--- different numbers make different serial numbers
-pub same_rank : (a b : ℕ) → a < 2 ^ 64 → b < 2 ^ 64 → serial_of a ≡ serial_of b → a ≡ b
-unfolding serial_of
-same_rank a b small few e =
-    sym (from_be_bytes-to_be_bytes_8 a small) ∙ ap (λ (s : Serial). from_be_bytes w64 s.0) e ∙ from_be_bytes-to_be_bytes_8 b few
-
-pub serial_of_rank : (s : Serial) (rank : ℕ) → length s.0 ≡ 8 → ((i : ℕ) → get_or s.0 i 0 < 256) → rank ≡ from_be_bytes w64 s.0 → serial_of rank ≡ s
-unfolding serial_of
-serial_of_rank s rank long octets is = ap (λ (xs : List ℕ). let t : Serial = record { 0 = xs } in t) (be_bytes_8 s.0 rank long octets is)
 
 -- ---- the entries of places in order
 
@@ -40,7 +28,7 @@ pub absent : (ps : List IndexPlace) (rank : ℕ) → rank < 2 ^ 64 → ((i : ℕ
 absent [] rank small fits none = refl
 absent (p ∷ ps) rank small fits none =
     elim (cases_Bool (same_serial (serial_of rank) (serial_of p.rank))) [
-      | inl t ↦ absurd (none 0 (omega arith) (sym (same_rank rank p.rank small (fits 0 (omega arith)) (same_serial-true (serial_of rank) (serial_of p.rank) t))))
+      | inl t ↦ absurd (none 0 (omega arith) (sym (same_number rank p.rank small (fits 0 (omega arith)) (same_serial-true (serial_of rank) (serial_of p.rank) t))))
       | inr f ↦ find-tail (serial_of rank) (entry_of p) (map entry_of ps) f ∙ absent ps rank small (λ i within. fits (suc i) (omega arith)) (λ i within. none (suc i) (omega arith))
     ]
 

@@ -1,11 +1,10 @@
 -- An index over the admitted serial numbers, kept in their order (this profile's own rule).
 -- Inside: no public contract cites this.
 use Rattle.std.specs.Prelude.{◌≡◌, ℕ, ◌^◌, ◌<◌, ◌≤◌, Bool, false, List, length, map, Option, None, Some, is_some, slice_index_or, if◌then◌else◌}
-use Rattle.std.specs.Int.{to_be_bytes, w64}
 use Rattle.std.specs.FinMap.{FinMap, from_entries, get, insert, keys, retain_keys}
 use Rattle.std.specs.FinSet as set
 use Rattle.gp_ploam.specs.declared.message.Serial.{Serial}
-use Rattle.gp_ploam.specs.Serials.{serial_cmp, is_among}
+use Rattle.gp_ploam.specs.Serials.{serial_cmp, is_among, serial_of}
 use Rattle.gp_table.specs.declared.admission_index.AdmittedSerial.{AdmittedSerial}
 use Rattle.gp_table.specs.declared.admission_index.IndexPlace.{IndexPlace}
 use Rattle.gp_table.specs.Values.{map_values}
@@ -81,10 +80,6 @@ abbrev pub enabled : AdmittedSerial → AdmittedSerial
 enabled admission = record admission { disabled = false }
 
 -- ---- how it is kept
-
--- the serial number whose eight octets make this number, the first octet the highest
-unfoldable pub serial_of : ℕ → Serial
-serial_of rank = record { 0 = to_be_bytes w64 rank }
 
 -- a serial number and what the index has for it
 abbrev pub entry_of : IndexPlace → Serial × AdmittedSerial

@@ -49,17 +49,12 @@ pub struct ActiveUnits {
 }
 
 impl Model for ActiveUnits {
-    ghost use Rattle.std.specs.FinMap as map;
-    ghost use Rattle.std.specs.FinSet as set;
-    ghost use Rattle.std.specs.Coded.{codes};
-    ghost use Rattle.gp_ploam.specs.Serials.{serial_cmp, coded_serial};
-    ghost use Rattle.gp_unit.specs.contracts.row.Row as row;
+    ghost use Rattle.gp_machine.specs.Codes.{port_codes};
     ghost use Rattle.gp_table.specs.Active.{ActiveState, AreTogether, active_of};
 
     ghost Value = { ActiveState };
 
-    ghost coded = { Prim.hlevel
-        (codes, map.code {R = serial_cmp} coded_serial row.the_row.coded, set.code {R = serial_cmp} coded_serial) };
+    ghost coded = { Prim.hlevel port_codes };
 
     ghost view = { λ a. active_of a.table a.onus a.allocs };
 

@@ -3,7 +3,7 @@
 ghost use Rattle.std.specs.Prelude.{◌≡◌, ◌^◌, ◌<◌, IfOk, IfErr, None, Some, false, length, map as list_map, true};
 ghost use Rattle.std.specs.FinMap as map;
 ghost use Rattle.gp_ploam.specs.Serials.{serial_cmp};
-ghost use Rattle.gp_table.specs.Index.{IsFresh, IsGapFor, IsPlaceOf, IsRising, admitting, changed, enabled, enabled_place, key_in, serial_of, with_disabled, with_key};
+ghost use Rattle.gp_table.specs.Index.{IsFresh, IsGapFor, IsPlaceOf, IsRising, admitting, changed, enabled, enabled_place, key_in, with_disabled, with_key};
 ghost use Rattle.gp_table.specs.Values.{map_values};
 
 use gp_ploam::Serial;
@@ -47,21 +47,6 @@ impl Model for AdmissionIndex {
     ghost view = { λ a. admissions_of a.places.items };
 
     ghost invariant = { λ a. IsRising a.places.items };
-}
-
-/// The number that eight octets make, the first the highest.
-fn number_of(octets: &[u8; 8]) -> u64
-    ensures { serial_of result ≡ record { 0 = octets.now } }
-{
-    u64::from_be_bytes(*octets)
-}
-
-/// The number that the octets of a serial number make.
-fn rank_of(serial: &Serial) -> u64
-    ensures serial { serial_of result ≡ serial.now }
-    ensures fits { result < 2 ^ 64 }
-{
-    number_of(&serial.0)
 }
 
 /// Where the place with this rank is, or where it would go.
@@ -125,7 +110,7 @@ impl AdmissionIndex {
     fn admit(&mut self, serial: &Serial) -> Result<(), AllocError>
         ensures { IfOk result (λ _. self.new ≡ admitting self.old serial.now) }
     {
-        let rank = rank_of(serial);
+        let rank = serial.number();
         let admission = AdmittedSerial {
             key: None,
             disabled: false,
@@ -141,7 +126,7 @@ impl AdmissionIndex {
         ensures { result ≡ map.get self.now serial.now }
     {
         let places = self.places.as_slice();
-        match search(places, rank_of(serial)) {
+        match search(places, serial.number()) {
             Ok(at) => Some(places[at].admission),
             Err(_) => None,
         }
@@ -151,7 +136,7 @@ impl AdmissionIndex {
     pub fn set_key(&mut self, serial: &Serial, key: usize)
         ensures { self.new ≡ changed self.old serial.now (with_key (Some key)) }
     {
-        if let Ok(at) = search(self.places.as_slice(), rank_of(serial)) {
+        if let Ok(at) = search(self.places.as_slice(), serial.number()) {
             self.places[at].admission.key = Some(key);
         }
     }
@@ -161,7 +146,7 @@ impl AdmissionIndex {
         ensures key { result ≡ key_in (map.get self.old serial.now) }
         ensures rest { self.new ≡ changed self.old serial.now (with_key None) }
     {
-        match search(self.places.as_slice(), rank_of(serial)) {
+        match search(self.places.as_slice(), serial.number()) {
             Ok(at) => {
                 let key = self.places[at].admission.key;
                 self.places[at].admission.key = None;
@@ -175,7 +160,7 @@ impl AdmissionIndex {
     pub fn set_disabled(&mut self, serial: &Serial, disabled: bool)
         ensures { self.new ≡ changed self.old serial.now (with_disabled disabled) }
     {
-        if let Ok(at) = search(self.places.as_slice(), rank_of(serial)) {
+        if let Ok(at) = search(self.places.as_slice(), serial.number()) {
             self.places[at].admission.disabled = disabled;
         }
     }

@@ -50,19 +50,14 @@ pub struct UnitTable {
 }
 
 impl Model for UnitTable {
-    ghost use Rattle.std.specs.FinMap as map;
-    ghost use Rattle.std.specs.FinSet as set;
-    ghost use Rattle.std.specs.Coded.{codes};
-    ghost use Rattle.gp_ploam.specs.Serials.{serial_cmp, coded_serial};
-    ghost use Rattle.gp_unit.specs.contracts.row.Row as row;
+    ghost use Rattle.gp_machine.specs.Codes.{port_codes};
     ghost use Rattle.gp_table.specs.Index.{keys_of};
     ghost use Rattle.gp_table.specs.Table.{IsKeptTable, units_of};
     ghost use Rattle.gp_table.specs.Units.{Units};
 
     ghost Value = { Units };
 
-    ghost coded = { Prim.hlevel
-        (codes, map.code {R = serial_cmp} coded_serial row.the_row.coded, set.code {R = serial_cmp} coded_serial) };
+    ghost coded = { Prim.hlevel port_codes };
 
     ghost view = { λ t. units_of t.records.slots t.admissions };
 

@@ -2,10 +2,9 @@
 use Rattle.std.specs.Prelude.{◌==◌, if◌then◌else◌}
 use Rattle.std.proofs.Common.{◌≡◌, ◌≤◌, ◌<◌, ℕ, true, false, List, [], ◌∷◌, ◌++◌, refl, sym, ap, subst, ◌∙◌, append_assoc, append-nil, length, length-append, arith, inl, inr}
 use Rattle.std.proofs.lemmas.Bool.{lt-leb, le-leb}
-use Rattle.gp_flow.specs.Lines.{ended_lines, onto_first}
+use Rattle.gp_flow.specs.Lines.{ended_lines, onto_first, longest_line}
 use Rattle.gp_flow.proofs.LineLemmas.{NoFeed}
-use Rattle.gp_explain.specs.Outcome.{longest_line}
-use Rattle.gp_explain.specs.Telling.{Manner, Tells}
+use Rattle.gp_explain.specs.Telling.{Manner, TellsOneLine}
 use Rattle.gp_tell.specs.Octets.{TellsLine, TellsLines, TellsOctets, onto_open, open_line, told_open}
 
 -- ---- a worked case
@@ -90,7 +89,7 @@ lines_more old (l ∷ lines) line said more between new h k =
 
 module _ (began : Manner) (octets said : List ℕ) (now : Manner) where
   -- a line that was kept ends
-  pub kept_fed : (more : List ℕ) (new : Manner) → TellsOctets began octets said now → length (open_line octets) ≤ longest_line → Tells now (open_line octets) more new
+  pub kept_fed : (more : List ℕ) (new : Manner) → TellsOctets began octets said now → length (open_line octets) ≤ longest_line → TellsOneLine now (open_line octets) more new
       → TellsOctets began (octets ++ 10 ∷ []) (said ++ more) new
   kept_fed more new h short tells =
       let before : said ≡ h.lines = h.all ∙ ap (λ (l : List ℕ). h.lines ++ l) (told_short (open_line octets) short) ∙ append-nil h.lines in

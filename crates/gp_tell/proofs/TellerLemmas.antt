@@ -7,14 +7,14 @@ use Rattle.std.proofs.lemmas.List.Elements.{recursion_from_All}
 use Rattle.std.proofs.Math.Seq.{take-append_seam}
 use Rattle.std.specs.Io.KnownBytes.{Appends}
 use Rattle.std.proofs.KnownBytes.{Appends-trans}
+use Rattle.gp_flow.specs.Lines.{longest_line}
 use Rattle.gp_stream.specs.Sink.{SinkState, Gives, Takes, TakesPrefix}
 use Rattle.gp_stream.specs.Sink as sink
 use Rattle.gp_stream.proofs.SinkLemmas.{gives_unstopped}
 use Rattle.gp_flow.proofs.LineLemmas.{NoFeed}
 use Rattle.gp_lines.specs.Trace.{is_feed}
 use Rattle.gp_stream.specs.declared.sink.WriteStopped.{WriteStopped}
-use Rattle.gp_explain.specs.Outcome.{longest_line}
-use Rattle.gp_explain.specs.Telling.{Manner, Tells}
+use Rattle.gp_explain.specs.Telling.{Manner, TellsOneLine}
 use Rattle.gp_tell.specs.declared.fault.TellFault.{TellFault}
 use Rattle.gp_tell.specs.declared.fault.TellFault.TheVariants.{Write, OutOfMemory}
 use Rattle.gp_tell.specs.Ending.{Ends, EndsLine}
@@ -163,7 +163,7 @@ module _ {W : Type 0} (began : Manner) (first : Option (List ℕ)) (taken : List
   -- what is told at a line feed
   ended_told : (long : Bool) (said : List ℕ) (next : Manner) → (h : Runs began first taken manner old long line) → Ends long line manner said next → TellsOctets began (taken ++ 10 ∷ []) (h.said ++ said) next
   ended_told false said next h ends =
-      kept_fed began taken h.said manner said next h.told (subst (λ (l : List ℕ). length l ≤ longest_line) h.kept.0 h.kept.1) (subst (λ (l : List ℕ). Tells manner l said next) h.kept.0 ends)
+      kept_fed began taken h.said manner said next h.told (subst (λ (l : List ℕ). length l ≤ longest_line) h.kept.0 h.kept.1) (subst (λ (l : List ℕ). TellsOneLine manner l said next) h.kept.0 ends)
   ended_told true said next h ends =
       subst (λ (l : List ℕ). TellsOctets began (taken ++ 10 ∷ []) (h.said ++ l) next) (sym ends.0)
       (subst (λ (m : Manner). TellsOctets began (taken ++ 10 ∷ []) (h.said ++ 10 ∷ []) m) (sym ends.1) (passed_fed began taken h.said manner h.told h.kept.1))

@@ -2,14 +2,14 @@
 -- Inside: no public contract cites this.
 use Rattle.std.specs.Prelude.{◌≡◌, ℕ, Bool, true, false, List, [], ◌∷◌, Result, Ok, Err}
 use Rattle.gp_stream.specs.Sink.{SinkState, Takes, TakesPrefix}
-use Rattle.gp_explain.specs.Telling.{Manner, Tells}
+use Rattle.gp_explain.specs.Telling.{Manner, TellsOneLine}
 use Rattle.gp_tell.specs.declared.fault.TellFault.{TellFault}
 use Rattle.gp_tell.specs.declared.fault.TellFault.TheVariants.{Write, OutOfMemory}
 
 -- what is told: of a line that was passed on, the line feed
 abbrev pub Ends : Bool → List ℕ → Manner → List ℕ → Manner → Type 0
 Ends true line old said new = (said ≡ 10 ∷ []) × (new ≡ old)
-Ends false line old said new = Tells old line said new
+Ends false line old said new = TellsOneLine old line said new
 
 -- it was handed on, or a prefix was written; without memory nothing changed
 abbrev pub EndsLine : {W : Type 0} → Bool → List ℕ → Manner → Manner → SinkState W → SinkState W

@@ -1,8 +1,7 @@
 -- What is told of octets that come in any pieces (this profile's own rule).
 use Rattle.std.specs.Prelude.{◌≡◌, ◌==◌, ◌<◌, ◌≤◌, ◌⊎◌, ℕ, nat_le, if◌then◌else◌, List, [], ◌∷◌, ◌++◌, length}
-use Rattle.gp_flow.specs.Lines.{ended_lines}
-use Rattle.gp_explain.specs.Outcome.{longest_line}
-use Rattle.gp_explain.specs.Telling.{Manner, Tells}
+use Rattle.gp_flow.specs.Lines.{ended_lines, longest_line}
+use Rattle.gp_explain.specs.Telling.{Manner, TellsOneLine}
 
 -- an octet before an open line, unless lines end before that one
 abbrev pub onto_open : ℕ → List (List ℕ) → List ℕ → List ℕ
@@ -17,7 +16,7 @@ open_line (b ∷ bytes) = if b == 10 then open_line bytes else onto_open b (ende
 -- what is told of a line: it stays as it is if it is too long to be looked at
 abbrev pub TellsLine : Manner → List ℕ → List ℕ → Manner → Type 0
 TellsLine old line said new =
-    ((length line ≤ longest_line) × Tells old line said new)
+    ((length line ≤ longest_line) × TellsOneLine old line said new)
     ⊎ ((longest_line < length line) × (said ≡ line ++ 10 ∷ []) × (new ≡ old))
 
 -- lines are told one after another

@@ -1,8 +1,8 @@
 -- A teller, and what the writer below it has (this profile's own rule).
 use Rattle.std.specs.Prelude.{◌≡◌, ◌<◌, ◌≤◌, ℕ, Bool, true, false, List, [], ◌++◌, length, take, Option, None, Some, Result, Err, OnOk, IfErr}
 use Rattle.std.specs.Io.KnownBytes.{Appends}
+use Rattle.gp_flow.specs.Lines.{longest_line}
 use Rattle.gp_stream.specs.Sink.{SinkState}
-use Rattle.gp_explain.specs.Outcome.{longest_line}
 use Rattle.gp_explain.specs.Telling.{Manner}
 use Rattle.gp_tell.specs.declared.fault.TellFault.{TellFault}
 use Rattle.gp_tell.specs.Octets.{TellsOctets, open_line}

@@ -4,7 +4,7 @@
 //!
 //! - `teller.rt`: `Teller`, a writer that is handed a trace and writes what is told of its lines to the writer below;
 //!   `writing.rt`: as a writer. `began.rt`: what it began with.
-//! - `taken.rt`: the octets that it took, which only proofs see. `fault.rt`: why it tells no more.
+//! - `fault.rt`: why it tells no more.
 //!
 //! Where to make which change: what is told of a line is `gp_explain`'s; of octets in any pieces, `specs/Octets.antt`;
 //! what the writer below has of it, `specs/Teller.antt`.
@@ -12,7 +12,6 @@
 
 mod began;
 mod fault;
-mod taken;
 mod teller;
 mod writing;
 

@@ -6,10 +6,9 @@ ghost use Rattle.gp_tell.specs.Teller.{Finishes};
 
 use crate::began::Began;
 use crate::fault::TellFault;
-use crate::taken::Taken;
 use gp_explain::Telling;
 use gp_flow::MAX_LINE_BYTES;
-use gp_stream::Sink;
+use gp_stream::{Sink, Taken};
 use std::alloc::{AllocError, Global};
 use std::io::Write;
 use std::marker::{Model, PhantomData};
@@ -38,7 +37,7 @@ pub struct Teller<B: Began, W: Write> {
 
 impl<B: Began, W: Write> Model for Teller<B, W> {
     ghost use Rattle.std.specs.Prelude.{◌≤◌, vec_capacity};
-    ghost use Rattle.gp_explain.specs.Outcome.{longest_line};
+    ghost use Rattle.gp_flow.specs.Lines.{longest_line};
     ghost use Rattle.gp_tell.specs.Teller.{IsTelling, TellerState};
 
     ghost Value = { TellerState W };

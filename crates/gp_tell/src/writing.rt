@@ -8,11 +8,10 @@ ghost use Rattle.gp_tell.specs.Ending.{EndsLine};
 
 use crate::began::Began;
 use crate::fault::TellFault;
-use crate::taken::Taken;
 use crate::teller::Teller;
 use gp_explain::Telling;
 use gp_flow::MAX_LINE_BYTES;
-use gp_stream::{Sink, WriteStopped};
+use gp_stream::{Sink, Taken, WriteStopped};
 use memchr::memchr;
 use std::io;
 use std::io::{ErrorKind, Write};

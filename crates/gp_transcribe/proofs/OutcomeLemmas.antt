@@ -3,12 +3,12 @@ use Rattle.std.specs.Prelude.{is_some}
 use Rattle.std.proofs.Common.{◌≡◌, ℕ, true, false, List, [], ◌∷◌, ◌++◌, Option, None, Some, Result, Ok, Err, IsErrAnd, inl, inr, length, take, map, refl, sym, ap, subst, ◌∙◌, append_assoc, arith}
 use Rattle.std.proofs.lemmas.List.{append-nil, take_all}
 use Rattle.std.specs.Io.KnownBytes.{Appends, Consumes}
-use Rattle.gp_flow.specs.declared.fault.LineFault.TheVariants.{OutOfMemory}
+use Rattle.gp_flow.specs.declared.fault.Unanswered.TheVariants.{OutOfMemory}
 use Rattle.gp_flow.specs.declared.lines.LinesEnd.{LinesEnd}
 use Rattle.gp_flow.specs.declared.lines.LinesEnd.TheVariants.{Whole, Open, Over}
 use Rattle.gp_flow.specs.declared.fault.LinesFault.{LinesFault}
 use Rattle.gp_flow.specs.declared.fault.LinesFault.TheVariants as faults
-use Rattle.gp_flow.specs.Lines.{DoesAll, GetsPrefix, Leaves, Serves, ServesTo, ended_lines, handed, lines_of}
+use Rattle.gp_flow.specs.Lines.{DoesAll, GetsPrefix, Leaves, Serves, ServesTo, ended_lines, handed, lines_of, longest_line}
 use Rattle.gp_flow.proofs.LineLemmas.{ended_first, handed_none, handed_whole}
 use Rattle.gp_stream.specs.Sink.{SinkState, KeepsNothing}
 use Rattle.gp_stream.specs.Source.{SourceState, ReadsWhole}
@@ -19,7 +19,6 @@ use Rattle.gp_transcribe.specs.Entries.{IsTraceRead}
 use Rattle.gp_flow.proofs.AnswerLemmas.{all_of_some}
 use Rattle.gp_transcribe.specs.Transcribing.{TranscribeState, Transcribing, Says, has_ended, no_frames, opened_state}
 use Rattle.gp_transcribe.specs.Outcome.{AreTranscribed, TranscribesTrace, IsBegun, IsNone, IsRefused, finding}
-use Rattle.gp_lines.specs.Turn.{longest_line}
 use Rattle.gp_transcribe.proofs.CourseLemmas.{Course, Fails, Halts, course, wholes}
 
 -- ---- lines that were handed on

@@ -1,7 +1,7 @@
 -- Lines that are handed to a transcriber.
 use Rattle.std.proofs.Common.{◌≡◌, ◌⊎◌, ℕ, List, [], Option, None, Some, Ok, Err, IsErrAnd, Result, inl, inr, refl, sym, ap, subst, ◌∙◌}
-use Rattle.gp_flow.specs.declared.fault.LineFault.{LineFault}
-use Rattle.gp_flow.specs.declared.fault.LineFault.TheVariants.{Write, OutOfMemory, Full}
+use Rattle.gp_flow.specs.declared.fault.Unanswered.{Unanswered}
+use Rattle.gp_flow.specs.declared.fault.Unanswered.TheVariants.{Write, OutOfMemory, Full}
 use Rattle.gp_flow.specs.Lines.{Answers}
 use Rattle.gp_flow.proofs.AnswerLemmas.{no_memory, no_room, put_stopped, silent_answers}
 use Rattle.gp_stream.specs.declared.sink.WriteStopped.{WriteStopped}
@@ -31,19 +31,19 @@ refused_line old new text before frames inside none other kept viewed same =
     (subst (λ (e : Option NoLine). SaysFrom e old (Some text) [] new) (sym none) (inr (other, refl, ended)))
 
 -- a line that can't be written
-pub unwritten_line : {W : Type 0} (line : Option (List ℕ)) (old new : TranscribeState) (before : SinkState W) (fault : LineFault) (r : Result (Unit {0}) LineFault)
+pub unwritten_line : {W : Type 0} (line : Option (List ℕ)) (old new : TranscribeState) (before : SinkState W) (fault : Unanswered) (r : Result (Unit {0}) Unanswered)
     → IsErrAnd r (λ f. f ≡ fault) → (fault ≡ OutOfMemory) ⊎ (fault ≡ Full) → Answers Transcribing line old new before before r
 unwritten_line line old new before fault (Ok x) told which = absurd told
 unwritten_line line old new before fault (Err f) told (inl memory) =
-    subst (λ (e : LineFault). Answers {T = Unit {0}} Transcribing line old new before before (Err e)) (sym (told ∙ memory)) (no_memory Transcribing line old new before)
+    subst (λ (e : Unanswered). Answers {T = Unit {0}} Transcribing line old new before before (Err e)) (sym (told ∙ memory)) (no_memory Transcribing line old new before)
 unwritten_line line old new before fault (Err f) told (inr full) =
-    subst (λ (e : LineFault). Answers {T = Unit {0}} Transcribing line old new before before (Err e)) (sym (told ∙ full)) (no_room Transcribing line old new before)
+    subst (λ (e : Unanswered). Answers {T = Unit {0}} Transcribing line old new before before (Err e)) (sym (told ∙ full)) (no_room Transcribing line old new before)
 
 -- a line of which the writer took a part
-pub stopped_line : {W T : Type 0} (old new next : TranscribeState) (frames text said : List ℕ) (before after : SinkState W) (e : WriteStopped) (r : Result (Unit {0}) LineFault)
+pub stopped_line : {W T : Type 0} (old new next : TranscribeState) (frames text said : List ℕ) (before after : SinkState W) (e : WriteStopped) (r : Result (Unit {0}) Unanswered)
     → old.ended ≡ None → Transcribes old.frames text said frames → next ≡ counted frames old → Puts {T = T} before after said (Err e) → IsErrAnd r (λ f. f ≡ Write)
     → Answers Transcribing (Some text) old new before after r
 stopped_line old new next frames text said before after e (Ok x) none writes same puts told = absurd told
 stopped_line old new next frames text said before after e (Err f) none writes same puts told =
-    subst (λ (fault : LineFault). Answers {T = Unit {0}} Transcribing (Some text) old new before after (Err fault)) (sym told)
+    subst (λ (fault : Unanswered). Answers {T = Unit {0}} Transcribing (Some text) old new before after (Err fault)) (sym told)
     (put_stopped Transcribing (Some text) old new next before after said e (written_line old next frames text said none writes same) puts)

@@ -2,7 +2,7 @@
 use crate::line::transcribe_line;
 use crate::transcriber::Transcriber;
 use gp_explain::NoLine;
-use gp_flow::{LineFault, LineWork};
+use gp_flow::{LineWork, Unanswered};
 use gp_stream::Sink;
 use std::io::Write;
 
@@ -17,12 +17,12 @@ impl LineWork for Transcriber {
         self.ended.is_some()
     }
 
-    fn line<W: Write>(&mut self, text: &[u8], sink: &mut Sink<W>) -> Result<(), LineFault> {
+    fn line<W: Write>(&mut self, text: &[u8], sink: &mut Sink<W>) -> Result<(), Unanswered> {
         if self.ended.is_some() {
             return Ok(());
         }
         if self.lines == u64::MAX {
-            return Err(LineFault::Full);
+            return Err(Unanswered::Full);
         }
         if !transcribe_line(&mut self.frames, text, &mut self.buffer)? {
             self.lines += 1;
@@ -34,12 +34,12 @@ impl LineWork for Transcriber {
         Ok(())
     }
 
-    fn long_line<W: Write>(&mut self, _sink: &mut Sink<W>) -> Result<(), LineFault> {
+    fn long_line<W: Write>(&mut self, _sink: &mut Sink<W>) -> Result<(), Unanswered> {
         if self.ended.is_some() {
             return Ok(());
         }
         if self.lines == u64::MAX {
-            return Err(LineFault::Full);
+            return Err(Unanswered::Full);
         }
         self.lines += 1;
         self.ended = Some(NoLine::TooLong);

@@ -2,8 +2,8 @@
 ghost use Rattle.std.specs.Prelude.{◌≡◌, IfOk};
 ghost use Rattle.gp_transcribe.specs.Transcribing.{opened_state};
 
-use crate::line::PORTS;
 use gp_explain::NoLine;
+use gp_lines::PORTS;
 use gp_log::MAX_ENTRY;
 use std::alloc::{AllocError, Global};
 use std::marker::Model;

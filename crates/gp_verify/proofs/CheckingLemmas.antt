@@ -1,6 +1,6 @@
 -- How the verification of a trace against a script ends, from how its parts end.
 use Rattle.std.proofs.Common.{◌≡◌, ℕ, List, [], Result, Ok, Err, IsErrAnd, refl, subst, sym}
-use Rattle.gp_flow.specs.declared.fault.LineFault.{LineFault}
+use Rattle.gp_flow.specs.declared.fault.Unanswered.{Unanswered}
 use Rattle.gp_flow.specs.declared.fault.LinesFault.TheVariants.{Line}
 use Rattle.gp_stream.specs.Sink.{SinkState}
 use Rattle.gp_stream.specs.Source.{SourceState}
@@ -17,7 +17,7 @@ use Rattle.gp_verify.specs.Outcome.{Verifies, Writes}
 use Rattle.gp_verify.specs.Verdicts.{VerifyState}
 
 -- no line was judged
-pub not_judged : {T W : Type 0} (opened : VerifyState) (from to : SourceState T) (old new : SinkState W) (line : LineFault) (r : Result ℕ VerifyFault)
+pub not_judged : {T W : Type 0} (opened : VerifyState) (from to : SourceState T) (old new : SinkState W) (line : Unanswered) (r : Result ℕ VerifyFault)
     → IsErrAnd r (λ fault. fault ≡ Lines (Line line)) → (told : List ℕ) × ((end : VerifyState) × Verifies opened end from to told r) × Writes old new told r
 not_judged opened from to old new line (Ok lines) same = absurd same
 not_judged {T = T} opened from to old new line (Err fault) same = (

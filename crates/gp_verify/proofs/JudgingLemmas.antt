@@ -28,7 +28,7 @@ use Rattle.gp_machine.specs.declared.config.PortConfig.{PortConfig}
 use Rattle.std.proofs.Common.{lit<}
 use Rattle.std.proofs.lemmas.List.{length-map}
 use Rattle.gp_replay.proofs.RoomLemmas.{leave_after_all, opening_room}
-use Rattle.gp_verify.specs.Tells.{Tells, TellsAlone, TellsNothing}
+use Rattle.gp_verify.specs.Tells.{TellsTurn, TellsAlone, TellsNothing}
 use Rattle.gp_verify.specs.Verdicts.{IsNoStep, MovesOn, NamesOtherNumber, PartsOf, SaysInstead}
 use Rattle.gp_verify.proofs.SmallLemmas.{run_small}
 
@@ -48,7 +48,7 @@ spelled_small parts events.Frame h = tt
 spelled_small parts (events.Burst at bytes) h = tt
 
 -- the line of a turn is cut into its parts
-pub turn_cut : (mask : Mask) (old new : PlayState) (text : List ℕ) (r : Receipt) → length old.next ≤ 16 → HasRoom 1 old → Tells mask old text r new
+pub turn_cut : (mask : Mask) (old new : PlayState) (text : List ℕ) (r : Receipt) → length old.next ≤ 16 → HasRoom 1 old → TellsTurn mask old text r new
     → SplitsLine text r.port r.number r.entry.event (answer_text mask r.entry.answer)
 turn_cut mask old new text r few room h =
     let there : slice_get old.next r.port ≡ Some r.number = h.taken.numbers.0 in
@@ -96,7 +96,7 @@ pub told_alone : (mask : Mask) (old new : PlayState) (text : List ℕ) (port num
     → ((n : ℕ) → (wished ≡ Some n) ↔ Picks answer n)
     → TakesTurns old (record { port = port; event = event } ∷ []) (r ∷ []) new
     → GrantsTurn old.world new.world port event wished r.entry
-    → (other : Receipt) (end : PlayState) → Tells mask old text other end → (other ≡ r) × (end ≡ new)
+    → (other : Receipt) (end : PlayState) → TellsTurn mask old text other end → (other ≡ r) × (end ≡ new)
 told_alone mask old new text port number event answer wished r few room sound split wish taken grants other end h =
     let same = one_cut text port number event answer other.port other.number other.entry.event (answer_text mask other.entry.answer) split (turn_cut mask old end text other few room h) in
     let at : other.port ≡ port = sym same.0 in
@@ -117,7 +117,7 @@ told_alone mask old new text port number event answer wished r few room sound sp
 
 -- so where its line is another, the text tells of none
 pub told_nothing : (mask : Mask) (old new : PlayState) (text : List ℕ) (r : Receipt)
-    → ((other : Receipt) (end : PlayState) → Tells mask old text other end → (other ≡ r) × (end ≡ new)) → (line_of mask r ≡ text ++ codes "\n" → ⊥) → TellsNothing mask old text
+    → ((other : Receipt) (end : PlayState) → TellsTurn mask old text other end → (other ≡ r) × (end ≡ new)) → (line_of mask r ≡ text ++ codes "\n" → ⊥) → TellsNothing mask old text
 told_nothing mask old new text r alone differs other end h = differs (ap (line_of mask) (sym (alone other end h).0) ∙ h.line)
 
 -- and where it is the text, the text tells of it alone
@@ -125,7 +125,7 @@ pub told_it : (mask : Mask) (old new : PlayState) (text : List ℕ) (port : ℕ)
     → TakesTurns old (record { port = port; event = event } ∷ []) (r ∷ []) new
     → IsTold event
     → line_of mask r ≡ text ++ codes "\n"
-    → ((other : Receipt) (end : PlayState) → Tells mask old text other end → (other ≡ r) × (end ≡ new))
+    → ((other : Receipt) (end : PlayState) → TellsTurn mask old text other end → (other ≡ r) × (end ≡ new))
     → TellsAlone mask old text new
 told_it mask old new text port event r taken is_told line alone =
     let turn : turn_of r ≡ record { port = port; event = event } = one_turn _ _ taken.told in

@@ -5,6 +5,7 @@ use Rattle.std.proofs.lemmas.List.{append-nil}
 use Rattle.std.proofs.lemmas.List.Elements.{All-append, All-cons, All-get_or, All-head, All-map, All-nil, All-set, All-tail}
 use Rattle.std.proofs.lemmas.Option.{get_or_from_slice_get, slice_get_within}
 use Rattle.std.specs.Prelude.{get_or}
+use Rattle.gp_flow.specs.Lines.{longest_line}
 use Rattle.gp_ploam.specs.declared.check.Mask.{Mask}
 use Rattle.gp_ploam.specs.declared.message.Down.{Down}
 use Rattle.gp_ploam.specs.Down.{IsProperDown}
@@ -36,7 +37,6 @@ use Rattle.gp_lines.proofs.ShortLemmas.{line_short}
 use Rattle.gp_replay.specs.declared.turn.Turn.{Turn}
 use Rattle.gp_replay.specs.Chassis.{PlayState, opened_play}
 use Rattle.gp_replay.specs.Play.{TakesTurns, moves_told}
-use Rattle.gp_verify.specs.Outcome.{longest_line}
 use Rattle.gp_verify.specs.Ports.{IsOrderlyPort}
 use Rattle.gp_verify.specs.Tells.{TellsNothing}
 use Rattle.gp_verify.proofs.ShortTables.{HasShortAlarm, answers_short, response_short}

@@ -9,7 +9,7 @@ use Rattle.gp_lines.specs.Told.{IsTold}
 use Rattle.gp_replay.specs.Chassis.{PlayState}
 use Rattle.gp_replay.specs.Play.{TakesTurns, all_moves, moves_told, turn_of}
 use Rattle.gp_replay.proofs.RunLemmas.{no_turns, turns_append}
-use Rattle.gp_verify.specs.Tells.{AreLinesOf, AreTrace, Tells, TellsAlone, TellsNothing}
+use Rattle.gp_verify.specs.Tells.{AreLinesOf, AreTrace, TellsTurn, TellsAlone, TellsNothing}
 use Rattle.gp_verify.specs.declared.verdict.Verdict.{Verdict}
 use Rattle.gp_verify.specs.declared.verdict.Verdict.TheVariants as verdict
 use Rattle.gp_verify.specs.Verdicts.{Judges}
@@ -22,7 +22,7 @@ abbrev pub TellAll : Mask → PlayState → List (List ℕ) → List Receipt →
 TellAll mask old [] [] new = new ≡ old
 TellAll mask old [] (r ∷ rs) new = ⊥
 TellAll mask old (t ∷ ts) [] new = ⊥
-TellAll mask old (t ∷ ts) (r ∷ rs) new = (mid : PlayState) × Tells mask old t r mid × TellAll mask mid ts rs new
+TellAll mask old (t ∷ ts) (r ∷ rs) new = (mid : PlayState) × TellsTurn mask old t r mid × TellAll mask mid ts rs new
 
 tell_append : (mask : Mask) (xs ys : List (List ℕ)) (rs ss : List Receipt) (a b c : PlayState) → TellAll mask a xs rs b → TellAll mask b ys ss c → TellAll mask a (xs ++ ys) (rs ++ ss) c
 tell_append mask [] ys [] ss a b c h k = subst (λ (x : PlayState). TellAll mask x ys ss c) h k

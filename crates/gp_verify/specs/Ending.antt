@@ -3,7 +3,7 @@
 use Rattle.std.specs.Prelude.{◌≡◌, ℕ, nat_lt, unwrap_or, if◌then◌else◌, Bool, true, false, MatchBool, List, [], ◌++◌, Option, None, Some, Result, Ok, Err, codes, decimal}
 use Rattle.gp_explain.specs.declared.form.Form.{Form}
 use Rattle.gp_explain.specs.declared.form.Form.TheVariants.{Plain, Words, Json}
-use Rattle.gp_flow.specs.declared.fault.LineFault.TheVariants as lines
+use Rattle.gp_flow.specs.declared.fault.Unanswered.TheVariants as lines
 use Rattle.gp_flow.specs.declared.fault.LinesFault.TheVariants.{Line}
 use Rattle.gp_stream.specs.declared.sink.WriteStopped.{WriteStopped}
 use Rattle.gp_stream.specs.Sink.{SinkState, WritesWhole}

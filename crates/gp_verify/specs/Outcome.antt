@@ -5,7 +5,7 @@ use Rattle.gp_flow.specs.declared.fault.LinesFault.{LinesFault}
 use Rattle.gp_flow.specs.declared.fault.LinesFault.TheVariants as faults
 use Rattle.gp_flow.specs.declared.lines.LinesEnd.{LinesEnd}
 use Rattle.gp_flow.specs.declared.lines.LinesEnd.TheVariants.{Whole, Open, Over}
-use Rattle.gp_flow.specs.Lines.{lines_of}
+use Rattle.gp_flow.specs.Lines.{lines_of, longest_line}
 use Rattle.gp_stream.specs.Sink.{SinkState, KeepsNothing}
 use Rattle.gp_stream.specs.Source.{SourceState, ReadsWhole}
 use Rattle.gp_ploam.specs.declared.check.Mask.{Mask}
@@ -18,10 +18,6 @@ use Rattle.gp_verify.specs.declared.verdict.Verdict.TheVariants.{TooLong}
 use Rattle.gp_verify.specs.Report.{Reports}
 use Rattle.gp_verify.specs.Tells.{AreLinesOf, IsTraceText}
 use Rattle.gp_verify.specs.Verdicts.{Judges, VerifyState}
-
--- the most octets of a line that is looked at
-abbrev pub longest_line : ℕ
-longest_line = 4096
 
 -- the whole text was read; it is the trace of some run, and has so many lines
 pub record IsRun {R : Type 0} (old : VerifyState) (from to : SourceState R) (lines : ℕ) : Type 0 where

@@ -7,7 +7,7 @@ use Rattle.gp_differ.specs.NoLine.{why_no_line}
 use Rattle.gp_differ.specs.Reasons.{IsReason}
 use Rattle.gp_explain.specs.declared.form.Form.{Form}
 use Rattle.gp_explain.specs.declared.form.Form.TheVariants.{Plain, Words, Json}
-use Rattle.gp_explain.specs.Telling.{Manner, Tells as TellsBy, no_frames}
+use Rattle.gp_explain.specs.Telling.{Manner, TellsOneLine as TellsBy, no_frames}
 use Rattle.gp_lines.specs.Parts.{parts_of}
 use Rattle.gp_lines.specs.Reading.{number_in}
 use Rattle.gp_lines.specs.Trace.{is_equals}

@@ -7,7 +7,7 @@ ghost use Rattle.gp_verify.specs.Ending.{Ends, TellsEnd};
 use super::outcome::VerifyFault;
 use super::verdict::Verdict;
 use gp_explain::Form;
-use gp_flow::{LineFault, LinesFault};
+use gp_flow::{LinesFault, Unanswered};
 use gp_stream::{Sink, WriteStopped};
 use itoa::Buffer;
 use std::io::Write;
@@ -173,7 +173,7 @@ fn tell_read<W: Write>(
 {
     match write_end(sink, form, at_least, &found) {
         Ok(()) => found,
-        Err(WriteStopped) => Err(VerifyFault::Lines(LinesFault::Line(LineFault::Write))),
+        Err(WriteStopped) => Err(VerifyFault::Lines(LinesFault::Line(Unanswered::Write))),
     }
 }
 

@@ -1,10 +1,10 @@
 //! Why a line was not judged: there is no memory, or there were more lines than can be counted.
 ghost use Rattle.std.specs.Prelude.{◌≡◌};
-ghost use Rattle.gp_flow.specs.declared.fault.LineFault.TheVariants as lines;
+ghost use Rattle.gp_flow.specs.declared.fault.Unanswered.TheVariants as lines;
 ghost use Rattle.gp_verify.specs.declared.fault.LineRefusal.TheVariants.{OutOfMemory, Full};
 ghost use Rattle.gp_verify.specs.Faults.{line_fault};
 
-use gp_flow::LineFault;
+use gp_flow::Unanswered;
 use std::alloc::AllocError;
 use thiserror::Error;
 
@@ -27,13 +27,13 @@ impl From<AllocError> for LineRefusal {
     }
 }
 
-impl From<LineRefusal> for LineFault {
+impl From<LineRefusal> for Unanswered {
     ghost from_gives = { λ refusal fault. fault ≡ line_fault refusal };
 
-    fn from(refusal: LineRefusal) -> LineFault {
+    fn from(refusal: LineRefusal) -> Unanswered {
         match refusal {
-            LineRefusal::OutOfMemory => LineFault::OutOfMemory,
-            LineRefusal::Full => LineFault::Full,
+            LineRefusal::OutOfMemory => Unanswered::OutOfMemory,
+            LineRefusal::Full => Unanswered::Full,
         }
     }
 }

@@ -1,7 +1,7 @@
 //! The verifier as what lines are handed to, one after another.
 use super::verdict::Verdict;
 use super::verifier::Verifier;
-use gp_flow::{LineFault, LineWork};
+use gp_flow::{LineWork, Unanswered};
 use gp_stream::Sink;
 use std::io::Write;
 use std::sync::ledger::Ledger;
@@ -17,7 +17,7 @@ impl<L: Ledger> LineWork for Verifier<L> {
         self.ended().is_some()
     }
 
-    fn line<W: Write>(&mut self, text: &[u8], sink: &mut Sink<W>) -> Result<(), LineFault> {
+    fn line<W: Write>(&mut self, text: &[u8], sink: &mut Sink<W>) -> Result<(), Unanswered> {
         if self.ended().is_some() {
             return Ok(());
         }
@@ -31,7 +31,7 @@ impl<L: Ledger> LineWork for Verifier<L> {
         }
     }
 
-    fn long_line<W: Write>(&mut self, _sink: &mut Sink<W>) -> Result<(), LineFault> {
+    fn long_line<W: Write>(&mut self, _sink: &mut Sink<W>) -> Result<(), Unanswered> {
         self.pass_long()?;
         Ok(())
     }

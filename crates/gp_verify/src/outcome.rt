@@ -1,6 +1,6 @@
 //! Why a text is no trace of a run, or none was judged.
 ghost use Rattle.std.specs.Prelude.{◌≡◌};
-ghost use Rattle.gp_flow.specs.declared.fault.LineFault.TheVariants as lines;
+ghost use Rattle.gp_flow.specs.declared.fault.Unanswered.TheVariants as lines;
 ghost use Rattle.gp_flow.specs.declared.fault.LinesFault.TheVariants.{Line};
 ghost use Rattle.gp_replay.specs.Fault.{fault_of_script, fault_of_source};
 ghost use Rattle.gp_replay.specs.declared.fault.RunFault.TheVariants as runs;
@@ -8,7 +8,7 @@ ghost use Rattle.gp_verify.specs.declared.outcome.CheckFault.TheVariants.{Script
 ghost use Rattle.gp_verify.specs.declared.outcome.VerifyFault.TheVariants.{Lines};
 
 use super::verdict::Verdict;
-use gp_flow::{LineFault, LinesFault};
+use gp_flow::{LinesFault, Unanswered};
 use gp_replay::RunFault;
 use gp_script::ScriptError;
 use gp_stream::SourceFault;
@@ -49,7 +49,7 @@ impl From<AllocError> for VerifyFault {
     ghost from_gives = { λ _ outcome. outcome ≡ Lines (Line lines.OutOfMemory) };
 
     fn from(_error: AllocError) -> VerifyFault {
-        VerifyFault::Lines(LinesFault::Line(LineFault::OutOfMemory))
+        VerifyFault::Lines(LinesFault::Line(Unanswered::OutOfMemory))
     }
 }
 

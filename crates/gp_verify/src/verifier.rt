@@ -44,22 +44,14 @@ pub struct Verifier<L: Ledger> {
 
 impl<L: Ledger> Model for Verifier<L> {
     ghost use Rattle.std.specs.Prelude.{◌≤◌, ◌-◌, All, length};
-    ghost use Rattle.std.specs.FinMap as map;
-    ghost use Rattle.std.specs.FinSet as set;
-    ghost use Rattle.std.specs.Coded.{codes};
-    ghost use Rattle.gp_ploam.specs.Serials.{serial_cmp, coded_serial};
-    ghost use Rattle.gp_unit.specs.contracts.row.Row as row;
+    ghost use Rattle.gp_machine.specs.Codes.{port_codes};
     ghost use Rattle.gp_replay.specs.Chassis.{HasRoom};
     ghost use Rattle.gp_verify.specs.Ports.{IsOrderlyPort};
     ghost use Rattle.gp_verify.specs.Verdicts.{VerifyState, most_lines};
 
     ghost Value = { VerifyState };
 
-    ghost coded = { Prim.hlevel (
-      codes,
-      map.code {R = serial_cmp} coded_serial row.the_row.coded,
-      set.code {R = serial_cmp} coded_serial,
-    ) };
+    ghost coded = { Prim.hlevel port_codes };
 
     ghost view = { λ v. record {
       mask = v.mask;

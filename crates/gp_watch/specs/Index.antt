@@ -1,11 +1,10 @@
 -- An index over the serial numbers that are followed, kept in their order (this profile's own rule).
 -- Inside: no public contract cites this.
 use Rattle.std.specs.Prelude.{◌≡◌, ℕ, ◌^◌, ◌<◌, ◌≤◌, Bool, false, List, length, map, Option, None, Some, slice_index_or}
-use Rattle.std.specs.Int.{to_be_bytes, w64}
 use Rattle.std.specs.FinMap.{FinMap, from_entries, get, insert, keys}
 use Rattle.std.specs.FinSet as set
 use Rattle.gp_ploam.specs.declared.message.Serial.{Serial}
-use Rattle.gp_ploam.specs.Serials.{serial_cmp}
+use Rattle.gp_ploam.specs.Serials.{serial_cmp, serial_of}
 use Rattle.gp_table.specs.Values.{map_values}
 use Rattle.gp_watch.specs.declared.index.Followed.{Followed}
 use Rattle.gp_watch.specs.declared.index.IndexPlace.{IndexPlace}
@@ -66,10 +65,6 @@ released index None = index
 released index (Some serial) = changed index serial (with_onu None)
 
 -- ---- how it is kept
-
--- the serial number whose eight octets make this number, the first octet the highest
-unfoldable pub serial_of : ℕ → Serial
-serial_of rank = record { 0 = to_be_bytes w64 rank }
 
 -- a serial number and what the index has for it
 abbrev pub entry_of : IndexPlace → Serial × Followed

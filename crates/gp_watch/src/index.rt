@@ -3,7 +3,7 @@ ghost use Rattle.std.specs.Prelude.{◌≡◌, ◌^◌, ◌<◌, IfOk, IfErr, On
 ghost use Rattle.std.specs.FinMap as map;
 ghost use Rattle.gp_ploam.specs.Serials.{serial_cmp};
 ghost use Rattle.gp_table.specs.Values.{map_values};
-ghost use Rattle.gp_watch.specs.Index.{IsGapFor, IsPlaceOf, IsRising, changed, enabled, enabled_place, newly_followed, serial_of, with_asks, with_disabled, with_onu};
+ghost use Rattle.gp_watch.specs.Index.{IsGapFor, IsPlaceOf, IsRising, changed, enabled, enabled_place, newly_followed, with_asks, with_disabled, with_onu};
 
 use gp_ploam::Serial;
 use std::alloc::{AllocError, Global};
@@ -47,21 +47,6 @@ impl Model for Index {
     ghost view = { λ a. index_of a.places.items };
 
     ghost invariant = { λ a. IsRising a.places.items };
-}
-
-/// The number that eight octets make, the first the highest.
-fn number_of(octets: &[u8; 8]) -> u64
-    ensures { serial_of result ≡ record { 0 = octets.now } }
-{
-    u64::from_be_bytes(*octets)
-}
-
-/// The number that the octets of a serial number make.
-fn rank_of(serial: &Serial) -> u64
-    ensures serial { serial_of result ≡ serial.now }
-    ensures fits { result < 2 ^ 64 }
-{
-    number_of(&serial.0)
 }
 
 /// Where the place with this rank is, or where it would go.
@@ -122,7 +107,7 @@ impl Index {
         ensures { result ≡ map.get self.now serial.now }
     {
         let places = self.places.as_slice();
-        match search(places, rank_of(serial)) {
+        match search(places, serial.number()) {
             Ok(at) => Some(places[at].followed),
             Err(_) => None,
         }
@@ -134,7 +119,7 @@ impl Index {
         ensures followed { IfOk result (λ _. self.new ≡ map.insert self.old serial.now (newly_followed asks)) }
         ensures same { OnErr result (self.new ≡ self.old) }
     {
-        let rank = rank_of(serial);
+        let rank = serial.number();
         let followed = Followed {
             asks,
             onu: None,
@@ -151,7 +136,7 @@ impl Index {
     pub(crate) fn set_asks(&mut self, serial: &Serial, asks: u64)
         ensures { self.new ≡ changed self.old serial.now (with_asks asks) }
     {
-        if let Ok(at) = search(self.places.as_slice(), rank_of(serial)) {
+        if let Ok(at) = search(self.places.as_slice(), serial.number()) {
             self.places[at].followed.asks = asks;
         }
     }
@@ -160,7 +145,7 @@ impl Index {
     pub(crate) fn set_onu(&mut self, serial: &Serial, onu: Option<u8>)
         ensures { self.new ≡ changed self.old serial.now (with_onu onu) }
     {
-        if let Ok(at) = search(self.places.as_slice(), rank_of(serial)) {
+        if let Ok(at) = search(self.places.as_slice(), serial.number()) {
             self.places[at].followed.onu = onu;
         }
     }
@@ -169,7 +154,7 @@ impl Index {
     pub(crate) fn set_disabled(&mut self, serial: &Serial, disabled: bool)
         ensures { self.new ≡ changed self.old serial.now (with_disabled disabled) }
     {
-        if let Ok(at) = search(self.places.as_slice(), rank_of(serial)) {
+        if let Ok(at) = search(self.places.as_slice(), serial.number()) {
             self.places[at].followed.disabled = disabled;
         }
     }

@@ -5,16 +5,15 @@ use Rattle.std.proofs.lemmas.List.{take-append-drop}
 use Rattle.std.proofs.KnownBytes.{Appends-trans}
 use Rattle.std.specs.List.{All}
 use Rattle.std.specs.Io.KnownBytes.{Appends, Consumes}
-use Rattle.gp_flow.specs.declared.fault.LineFault.{LineFault}
-use Rattle.gp_flow.specs.declared.fault.LineFault.TheVariants.{Write, OutOfMemory, Full}
+use Rattle.gp_flow.specs.declared.fault.Unanswered.{Unanswered}
+use Rattle.gp_flow.specs.declared.fault.Unanswered.TheVariants.{Write, OutOfMemory, Full}
 use Rattle.gp_flow.specs.declared.lines.LinesEnd.{LinesEnd}
 use Rattle.gp_flow.specs.declared.lines.LinesEnd.TheVariants.{Whole, Open, Over}
 use Rattle.gp_flow.specs.declared.fault.LinesFault.{LinesFault}
 use Rattle.gp_flow.specs.declared.fault.LinesFault.TheVariants as faults
-use Rattle.gp_flow.specs.Lines.{DoesAll, GetsAll, GetsPrefix, Leaves, Serves, ServesTo, ended_lines, handed, lines_of}
+use Rattle.gp_flow.specs.Lines.{DoesAll, GetsAll, GetsPrefix, Leaves, Serves, ServesTo, ended_lines, handed, lines_of, longest_line}
 use Rattle.gp_flow.proofs.AnswerLemmas.{all_of_some}
 use Rattle.gp_flow.proofs.LineLemmas.{ended_first, handed_none, handed_whole}
-use Rattle.gp_lines.specs.Turn.{longest_line}
 use Rattle.gp_stream.specs.declared.sink.WriteStopped.{WriteStopped}
 use Rattle.gp_stream.specs.Sink.{SinkState, KeepsNothing, WritesWhole}
 use Rattle.gp_stream.specs.Source.{SourceState, ReadsWhole}
@@ -349,7 +348,7 @@ module _ {R W : Type 0} (from to : SourceState R) (before after : SinkState W) w
       → GetsAll before after said → IsBegun from to before after
   all_begun old state bytes said o grown came g = begun_none from to before after after old state bytes said o grown came g.written refl
 
-  leaves_begun : (fault : LineFault) (old state : WavesState) (bytes said : List ℕ) → IsOpened old → Grows old.written said state.written
+  leaves_begun : (fault : Unanswered) (old state : WavesState) (bytes said : List ℕ) → IsOpened old → Grows old.written said state.written
       → Consumes from.remaining to.remaining bytes → Leaves fault before after said → IsBegun from to before after
   leaves_begun Write old state bytes said o grown came g = prefix_begun old state bytes said o grown came g
   leaves_begun OutOfMemory old state bytes said o grown came (inl g) = all_begun old state bytes said o grown came g
@@ -358,7 +357,7 @@ module _ {R W : Type 0} (from to : SourceState R) (before after : SinkState W) w
   leaves_begun Full old state bytes said o grown came (inr g) = prefix_begun old state bytes said o grown came g.0
 
   -- a line could not be dumped
-  pub line_fault : (fault : LineFault) (old state : WavesState) → IsOpened old → Serves Dumping has_ended longest_line from to old state before after (Err (faults.Line fault))
+  pub line_fault : (fault : Unanswered) (old state : WavesState) → IsOpened old → Serves Dumping has_ended longest_line from to old state before after (Err (faults.Line fault))
       → DumpsWaves from to before after (Err (Lines (faults.Line fault)))
   line_fault fault old state o s =
       let e = s.fault fault refl in
@@ -366,7 +365,7 @@ module _ {R W : Type 0} (from to : SourceState R) (before after : SinkState W) w
       let c = started old whole.0 e.begun e.said o whole.1 in
       inl (leaves_begun fault old whole.0 e.bytes e.said o (course_grows whole.0.ended e.begun e.said old whole.0 c) e.read e.written)
 
-  pub line_fault_at : (told : LinesFault) (fault : LineFault) (old state : WavesState) → told ≡ faults.Line fault → IsOpened old
+  pub line_fault_at : (told : LinesFault) (fault : Unanswered) (old state : WavesState) → told ≡ faults.Line fault → IsOpened old
       → Serves Dumping has_ended longest_line from to old state before after (Err told) → DumpsWaves from to before after (Err (Lines (faults.Line fault)))
   line_fault_at told fault old state is o s =
       line_fault fault old state o (subst (λ (f : LinesFault). Serves Dumping has_ended longest_line from to old state before after (Err f)) is s)

@@ -1,7 +1,7 @@
 -- Lines that are handed to a dumper.
 use Rattle.std.proofs.Common.{◌≡◌, ◌⊎◌, ℕ, List, [], Option, None, Some, Result, Ok, Err, IsErrAnd, inl, inr, refl, sym, ap, subst, ◌∙◌}
-use Rattle.gp_flow.specs.declared.fault.LineFault.{LineFault}
-use Rattle.gp_flow.specs.declared.fault.LineFault.TheVariants.{Write, OutOfMemory, Full}
+use Rattle.gp_flow.specs.declared.fault.Unanswered.{Unanswered}
+use Rattle.gp_flow.specs.declared.fault.Unanswered.TheVariants.{Write, OutOfMemory, Full}
 use Rattle.gp_flow.specs.Lines.{Answers}
 use Rattle.gp_flow.proofs.AnswerLemmas.{no_memory, no_room, put_answers, put_stopped, silent_answers}
 use Rattle.gp_stream.specs.declared.sink.WriteStopped.{WriteStopped}
@@ -33,22 +33,22 @@ read_line_says old new text said line written none reads grows same =
     subst (λ (e : Option NoLine). SaysFrom e old (Some text) said new) (sym none) (inl (line, reads, there, is))
 
 -- a line that can't be dumped
-pub undumped_line : {W : Type 0} (line : Option (List ℕ)) (old new : WavesState) (before : SinkState W) (fault : WavesFault) (r : Result (Unit {0}) LineFault)
+pub undumped_line : {W : Type 0} (line : Option (List ℕ)) (old new : WavesState) (before : SinkState W) (fault : WavesFault) (r : Result (Unit {0}) Unanswered)
     → IsErrAnd r (λ f. f ≡ undumped fault) → Answers Dumping line old new before before r
 undumped_line line old new before fault (Ok x) told = absurd told
 undumped_line line old new before waves.OutOfMemory (Err f) told =
-    subst (λ (e : LineFault). Answers {T = Unit {0}} Dumping line old new before before (Err e)) (sym told) (no_memory Dumping line old new before)
+    subst (λ (e : Unanswered). Answers {T = Unit {0}} Dumping line old new before before (Err e)) (sym told) (no_memory Dumping line old new before)
 undumped_line line old new before waves.Full (Err f) told =
-    subst (λ (e : LineFault). Answers {T = Unit {0}} Dumping line old new before before (Err e)) (sym told) (no_room Dumping line old new before)
+    subst (λ (e : Unanswered). Answers {T = Unit {0}} Dumping line old new before before (Err e)) (sym told) (no_room Dumping line old new before)
 
 -- a line with which the writer stopped
 pub stopped_line : {W T : Type 0} (old new : WavesState) (text said : List ℕ) (line : LogLine) (written : Written) (before after : SinkState W) (e : WriteStopped)
-    (r : Result (Unit {0}) LineFault) → old.ended ≡ None → Reads text (Ok line) → Grows old.written said written → Puts {T = T} before after said (Err e)
+    (r : Result (Unit {0}) Unanswered) → old.ended ≡ None → Reads text (Ok line) → Grows old.written said written → Puts {T = T} before after said (Err e)
     → IsErrAnd r (λ f. f ≡ Write) → Answers Dumping (Some text) old new before after r
 stopped_line old new text said line written before after e (Ok x) none reads grows puts told = absurd told
 stopped_line old new text said line written before after e (Err f) none reads grows puts told =
     let next : WavesState = counted line written old in
-    subst (λ (fault : LineFault). Answers {T = Unit {0}} Dumping (Some text) old new before after (Err fault)) (sym told)
+    subst (λ (fault : Unanswered). Answers {T = Unit {0}} Dumping (Some text) old new before after (Err fault)) (sym told)
     (put_stopped Dumping (Some text) old new next before after said e (read_line_says old next text said line written none reads grows refl) puts)
 
 -- by the result of reading it, a line is read

@@ -2,7 +2,7 @@
 ghost use Rattle.std.specs.Prelude.{◌≡◌};
 ghost use Rattle.gp_waves.specs.Faults.{of_watch, undumped};
 
-use gp_flow::LineFault;
+use gp_flow::Unanswered;
 use gp_watch::WatchFault;
 use std::alloc::AllocError;
 
@@ -36,13 +36,13 @@ impl From<WatchFault> for WavesFault {
     }
 }
 
-impl From<WavesFault> for LineFault {
+impl From<WavesFault> for Unanswered {
     ghost from_gives = { λ waves fault. fault ≡ undumped waves };
 
-    fn from(fault: WavesFault) -> LineFault {
+    fn from(fault: WavesFault) -> Unanswered {
         match fault {
-            WavesFault::OutOfMemory => LineFault::OutOfMemory,
-            WavesFault::Full => LineFault::Full,
+            WavesFault::OutOfMemory => Unanswered::OutOfMemory,
+            WavesFault::Full => Unanswered::Full,
         }
     }
 }

@@ -5,7 +5,7 @@ ghost use Rattle.gp_waves.specs.Outcome as spec;
 use crate::dumper::Dumper;
 use crate::options::WavesOptions;
 use gp_explain::ExplainFault;
-use gp_flow::{LineFault, LinesFault, run_lines};
+use gp_flow::{LinesFault, Unanswered, run_lines};
 use gp_stream::{Sink, Source};
 use std::alloc::Global;
 use std::io::{Read, Write};
@@ -63,12 +63,12 @@ fn write_rest<W: Write>(
     let text = match dumper.writing.rest(alloc, &mut dumper.waves) {
         Ok(text) => text,
         Err(fault) => {
-            return Err(ExplainFault::Lines(LinesFault::Line(LineFault::from(fault))));
+            return Err(ExplainFault::Lines(LinesFault::Line(Unanswered::from(fault))));
         }
     };
     match sink.write_whole(text.as_slice()) {
         Ok(()) => Ok(()),
-        Err(_) => Err(ExplainFault::Lines(LinesFault::Line(LineFault::Write))),
+        Err(_) => Err(ExplainFault::Lines(LinesFault::Line(Unanswered::Write))),
     }
 }
 

@@ -2,7 +2,7 @@
 //! that is none.
 use crate::dumper::Dumper;
 use gp_explain::NoLine;
-use gp_flow::{LineFault, LineWork};
+use gp_flow::{LineWork, Unanswered};
 use gp_log::read_line;
 use gp_stream::Sink;
 use std::io::Write;
@@ -18,12 +18,12 @@ impl LineWork for Dumper {
         self.ended.is_some()
     }
 
-    fn line<W: Write>(&mut self, text: &[u8], sink: &mut Sink<W>) -> Result<(), LineFault> {
+    fn line<W: Write>(&mut self, text: &[u8], sink: &mut Sink<W>) -> Result<(), Unanswered> {
         if self.ended.is_some() {
             return Ok(());
         }
         if self.lines == u64::MAX {
-            return Err(LineFault::Full);
+            return Err(Unanswered::Full);
         }
         let Ok(read) = read_line(text) else {
             self.lines += 1;
@@ -38,12 +38,12 @@ impl LineWork for Dumper {
         Ok(())
     }
 
-    fn long_line<W: Write>(&mut self, _sink: &mut Sink<W>) -> Result<(), LineFault> {
+    fn long_line<W: Write>(&mut self, _sink: &mut Sink<W>) -> Result<(), Unanswered> {
         if self.ended.is_some() {
             return Ok(());
         }
         if self.lines == u64::MAX {
-            return Err(LineFault::Full);
+            return Err(Unanswered::Full);
         }
         self.lines += 1;
         self.ended = Some(NoLine::TooLong);

@@ -3,7 +3,7 @@ use crate::dumped::{ALL, dumped, dumped_from, dumped_to};
 use crate::parsed::{Wanted, parse};
 use crate::run::RUN;
 use gp_explain::{ExplainFault, NoLine};
-use gp_flow::{LineFault, LinesFault};
+use gp_flow::{LinesFault, Unanswered};
 use std::alloc::Global;
 use std::io;
 use std::io::{ErrorKind, Read, Write};
@@ -126,7 +126,7 @@ fn a_write_that_fails(rt: HostRuntime) -> Result<(), ExplainFault> {
     for room in [0, 1, 100, length / 2, length.saturating_sub(1), length] {
         let taken = Vec::new(rt.alloc());
         let (outcome, writer) = dumped_to(rt.alloc(), RUN, ShortWriter { taken, room })?;
-        let stopped = ExplainFault::Lines(LinesFault::Line(LineFault::Write));
+        let stopped = ExplainFault::Lines(LinesFault::Line(Unanswered::Write));
         if room < length {
             assert!(rt; outcome.is_err_and(|fault| fault == stopped), "{room}");
         } else {
@@ -145,7 +145,7 @@ fn memory_short_or_ample(rt: HostRuntime) {
     let Ok(dump) = dumped(rt.alloc(), RUN, ALL) else {
         return;
     };
-    let refused = ExplainFault::Lines(LinesFault::Line(LineFault::OutOfMemory));
+    let refused = ExplainFault::Lines(LinesFault::Line(Unanswered::OutOfMemory));
     match dump.outcome {
         Ok(sum) => assert_eq!(rt; sum.lines, 11),
         Err(fault) => {

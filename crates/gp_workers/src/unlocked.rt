@@ -17,22 +17,13 @@ pub(crate) struct Unlocked<L: Ledger> {
 impl<L: Ledger> NeverDropped for Unlocked<L> {}
 
 impl<L: Ledger> Model for Unlocked<L> {
-    ghost use Rattle.std.specs.FinMap as map;
-    ghost use Rattle.std.specs.FinSet as set;
-    ghost use Rattle.std.specs.Coded.{codes};
-    ghost use Rattle.gp_ploam.specs.Serials.{serial_cmp, coded_serial};
-    ghost use Rattle.gp_unit.specs.contracts.row.Row as row;
+    ghost use Rattle.gp_machine.specs.Codes.{port_codes};
     ghost use Rattle.gp_machine.specs.contracts.entry.Entry as entry;
     ghost use Rattle.gp_chassis.specs.Desk.{DeskState};
 
     ghost Value = { DeskState };
 
-    ghost coded = { Prim.hlevel (
-      codes,
-      map.code {R = serial_cmp} coded_serial row.the_row.coded,
-      set.code {R = serial_cmp} coded_serial,
-      entry.the_row.coded,
-    ) };
+    ghost coded = { Prim.hlevel (port_codes, entry.the_row.coded) };
 
     ghost view = { λ u. u.desk };
 }

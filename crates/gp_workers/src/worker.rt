@@ -2,7 +2,7 @@
 //! its chassis, or hands its receipts out.
 ghost use Rattle.std.specs.Prelude.{◌≡◌, ◌<◌, ◌++◌, ◌∷◌, [], All, OnOk};
 
-use gp_accounts::Told;
+use gp_accounts::ReceiptList;
 use gp_linear::NeverDropped;
 use gp_machine::Receipt;
 use std::alloc::{AllocError, Global};
@@ -85,7 +85,7 @@ impl<L: Ledger> Worker<L> {
     }
 }
 
-impl<L: Ledger> Told for Worker<L> {
+impl<L: Ledger> ReceiptList for Worker<L> {
     ghost told = { λ worker. worker.receipts };
 
     fn receipts(&self) -> &[Receipt] {

@@ -1,5 +1,5 @@
 //! What an audit of an example's trace, or of a log, says.
-use gp_audit::{AuditForm, AuditOptions, Auditor, RuleSet, Told, audit_log};
+use gp_audit::{AuditForm, AuditOptions, Auditor, FindingChoice, RuleSet, audit_log};
 use gp_flow::LinesFault;
 use gp_ploam::Mask;
 use gp_script::Script;
@@ -19,7 +19,7 @@ fn plain_options() -> AuditOptions {
         teqd: [TEQD; 16],
         drift: 8,
         midway: false,
-        told: Told {
+        told: FindingChoice {
             terminal: true,
             units: true,
             rules: RuleSet::all(),

@@ -1,7 +1,7 @@
 //! Octets of each length, given to the decoders, to a port's burst and, as digits, to what tells a code in words.
 
 use crate::tally::Tally;
-use gp_decode::{LineFault, decode_line};
+use gp_decode::{DecodeFault, decode_line};
 use gp_machine::Event;
 use gp_ploam::{Down, Mask, PloamFault, Up, decode_down, decode_up};
 use gp_port::burst_of;
@@ -62,9 +62,9 @@ fn is_told(alloc: Global, length: usize, last: &str, upstream: bool) -> io::Resu
     let text = format!(in alloc; "{}{last}", "0".repeat(alloc, length)?)?;
     let wanted = match (text.len(), last.is_empty()) {
         (26, true) => Ok(()),
-        (length, _) if length % 2 == 1 => Err(LineFault::Length),
-        (_, false) => Err(LineFault::Digit),
-        _ => Err(LineFault::Length),
+        (length, _) if length % 2 == 1 => Err(DecodeFault::Length),
+        (_, false) => Err(DecodeFault::Digit),
+        _ => Err(DecodeFault::Length),
     };
     let mut sink = Sink::new(alloc, Vec::new(alloc))?;
     let outcome = decode_line(alloc, text.as_str(), upstream, Mask::Plain, &mut sink);

@@ -2,7 +2,7 @@
 //! the beginning of what should have been.
 
 use crate::tally::Tally;
-use gp_decode::{LineFault, decode_line};
+use gp_decode::{DecodeFault, decode_line};
 use gp_ploam::Mask;
 use gp_replay::{RunFault, run_replay};
 use gp_stream::{Sink, Source};
@@ -250,7 +250,7 @@ fn is_told_to(alloc: Global, room: usize, fails_at: usize) -> Result<bool, Alloc
     let outcome = decode_line(alloc, CODE, false, Mask::Plain, &mut sink);
     let again = decode_line(alloc, CODE, false, Mask::Plain, &mut sink);
     let wanted = if room < LINE.len() || fails_at == 1 {
-        Err(LineFault::Write)
+        Err(DecodeFault::Write)
     } else {
         Ok(())
     };

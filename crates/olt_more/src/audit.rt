@@ -5,7 +5,7 @@ use crate::codes::{acknowledged, garbled, nothing, searched, serial_number};
 use crate::digest::Digest;
 use crate::fault::JobFault;
 use crate::serials::serial_of;
-use gp_audit::{AuditForm, AuditOptions, Auditor, RuleSet, Told, audit_log};
+use gp_audit::{AuditForm, AuditOptions, Auditor, FindingChoice, RuleSet, audit_log};
 use gp_log::{Said, push_entry};
 use gp_ploam::{Down, Mask, encode_down};
 use gp_ranging::Grant;
@@ -196,7 +196,7 @@ fn options_of(mask: Mask, form: AuditForm) -> AuditOptions {
         teqd: [TEQD; 16],
         drift: 8,
         midway: false,
-        told: Told {
+        told: FindingChoice {
             terminal: true,
             units: true,
             rules: RuleSet::all(),

@@ -9,11 +9,11 @@ use Rattle.gp_replay.specs.declared.fault.RunFault.TheVariants as runs
 use Rattle.gp_replay.specs.Outcome.{OfScript, ReadsBy, RunAnswer, RunEnds}
 use Rattle.gp_check.specs.declared.fault.ScriptCheckFault.{ScriptCheckFault}
 use Rattle.gp_check.specs.declared.found.Found.TheVariants as founds
-use Rattle.gp_check.specs.declared.telling.CheckManner.{CheckManner}
-use Rattle.gp_check.specs.declared.telling.Told.{Told}
-use Rattle.gp_check.specs.declared.telling.Told.TheVariants as told
+use Rattle.gp_check.specs.declared.source.CheckManner.{CheckManner}
+use Rattle.gp_check.specs.declared.source.CheckedSource.{CheckedSource}
+use Rattle.gp_check.specs.declared.source.CheckedSource.TheVariants as told
 use Rattle.gp_check.specs.Check.{IsFound}
-use Rattle.gp_check.specs.Telling.{Tells}
+use Rattle.gp_check.specs.Telling.{TellsSource}
 use Rattle.gp_verify.specs.declared.outcome.CheckFault.{CheckFault}
 use Rattle.gp_verify.specs.declared.outcome.CheckFault.TheVariants.{Script, Trace}
 use Rattle.gp_verify.specs.declared.outcome.VerifyFault.{VerifyFault}
@@ -21,8 +21,8 @@ use Rattle.gp_verify.specs.declared.outcome.VerifyFault.TheVariants as verifies
 use Rattle.gp_verify.specs.Checking.{ChecksScript, ChecksTrace}
 use Rattle.gp_verify.specs.Ending.{ChecksTold, Ends, EndsCheck, TellsEnd, after_writing, as_checked}
 use Rattle.gp_explain.specs.declared.form.Form.{Form}
-use Rattle.gp_flow.specs.declared.fault.LineFault.{LineFault}
-use Rattle.gp_flow.specs.declared.fault.LineFault.TheVariants as lines
+use Rattle.gp_flow.specs.declared.fault.Unanswered.{Unanswered}
+use Rattle.gp_flow.specs.declared.fault.Unanswered.TheVariants as lines
 use Rattle.gp_flow.specs.declared.fault.LinesFault.TheVariants.{Line}
 use Rattle.gp_stream.specs.declared.sink.WriteStopped.{WriteStopped}
 use Rattle.gp_drive.specs.declared.driven.Driven.{Driven}
@@ -118,7 +118,7 @@ told_from form at_least script of_script trace of_trace before after from to old
 
 -- what more is written behind it changes nothing
 module _ {S T : Type 0} (form : Form) (script : S) (of_script : Option (List ℕ)) (trace : T) (of_trace : Option (List ℕ)) where
-  cut_off : (checked : Result ℕ VerifyFault) (fault : LineFault) → IsCheckedBy form script of_script trace of_trace (as_checked checked)
+  cut_off : (checked : Result ℕ VerifyFault) (fault : Unanswered) → IsCheckedBy form script of_script trace of_trace (as_checked checked)
       → IsCheckedBy form script of_script trace of_trace (Err (Trace (verifies.Lines (Line fault))))
   cut_off (Ok lines) fault h = (h.0, h.1, h.2, record { script = h.3.script; input = h.3.input; held = (h.3.held.0, tt) })
   cut_off (Err found) fault h = (h.0, h.1, h.2, record { script = h.3.script; input = h.3.input; held = (h.3.held.0, tt) })
@@ -190,7 +190,7 @@ drive_long {R = R} manner reader remaining before after from to old new r is (No
 
 -- what was told of a source of which nothing was read yet is told of its reader
 pub told_by : {R W : Type 0} (manner : CheckManner) (name : List ℕ) (reader : R) (remaining : Option (List ℕ)) (before after : SourceState R)
-    (old new : SinkState W) (r : Result Told ScriptCheckFault) → before ≡ unread reader remaining → Tells manner name before after old new r
+    (old new : SinkState W) (r : Result CheckedSource ScriptCheckFault) → before ≡ unread reader remaining → TellsSource manner name before after old new r
     → IfOk r (IsToldBy manner.purpose reader remaining)
 told_by {R = R} manner name reader remaining before after old new (Ok told.Script) is p = record {
   after = after;

@@ -2,15 +2,15 @@
 use Rattle.std.specs.Prelude.{◌≡◌, ◌⊎◌, ℕ, Bool, true, false, List, Option, Result, Ok, Err}
 use Rattle.gp_check.specs.declared.checking.Purpose.{Purpose}
 use Rattle.gp_check.specs.declared.found.Found.{Found}
-use Rattle.gp_check.specs.declared.telling.Told.{Told}
-use Rattle.gp_check.specs.declared.telling.Told.TheVariants as told
+use Rattle.gp_check.specs.declared.source.CheckedSource.{CheckedSource}
+use Rattle.gp_check.specs.declared.source.CheckedSource.TheVariants as told
 use Rattle.gp_check.specs.Check.{IsFound, is_script}
 use Rattle.gp_script.specs.declared.fault.ScriptFault.{ScriptFault}
 use Rattle.gp_script.specs.Script.{ScriptView}
 use Rattle.gp_stream.specs.Source.{SourceState, ReadsTooMuch, max_bytes, max_reads}
 use Rattle.gp_replay.specs.Outcome.{ReadsBy}
 use Rattle.gp_explain.specs.declared.form.Form.{Form}
-use Rattle.gp_flow.specs.declared.fault.LineFault.{LineFault}
+use Rattle.gp_flow.specs.declared.fault.Unanswered.{Unanswered}
 use Rattle.gp_flow.specs.declared.fault.LinesFault.TheVariants.{Line}
 use Rattle.gp_verify.specs.declared.outcome.CheckFault.{CheckFault}
 use Rattle.gp_verify.specs.declared.outcome.CheckFault.TheVariants.{Script, Trace}
@@ -50,19 +50,19 @@ IsCheckedBy {S = S} {T = T} form script of_script trace of_trace answer =
 abbrev pub IsWrittenBehind : Result ℕ CheckFault → Result ℕ CheckFault → Type 0
 IsWrittenBehind (Err (Script fault)) answer = answer ≡ Err (Script fault)
 IsWrittenBehind (Err (Trace found)) answer =
-    (answer ≡ Err (Trace found)) ⊎ ((fault : LineFault) × (answer ≡ Err (Trace (Lines (Line fault)))))
+    (answer ≡ Err (Trace found)) ⊎ ((fault : Unanswered) × (answer ≡ Err (Trace (Lines (Line fault)))))
 IsWrittenBehind (Ok lines) answer =
-    (answer ≡ Ok lines) ⊎ ((fault : LineFault) × (answer ≡ Err (Trace (Lines (Line fault)))))
+    (answer ≡ Ok lines) ⊎ ((fault : Unanswered) × (answer ≡ Err (Trace (Lines (Line fault)))))
 
 -- what was told of a file is that it is a script
-abbrev pub is_told_script : Told → Bool
+abbrev pub is_told_script : CheckedSource → Bool
 is_told_script told.Script = true
 is_told_script told.NoScript = false
 is_told_script (told.Wrong line) = false
 is_told_script told.Unread = false
 
 -- something was found in what a reader had to give, and what is told of it is whether that is a script for this
-pub record IsToldBy {R : Type 0} (purpose : Purpose) (reader : R) (remaining : Option (List ℕ)) (answer : Told) : Type 0 where
+pub record IsToldBy {R : Type 0} (purpose : Purpose) (reader : R) (remaining : Option (List ℕ)) (answer : CheckedSource) : Type 0 where
   pub after : SourceState R
   pub found : Found
   pub is : IsFound purpose (unread reader remaining) after found

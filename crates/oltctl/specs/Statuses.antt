@@ -7,14 +7,14 @@ use Rattle.clap.specs.declared.error.kind.ErrorKind.{ErrorKind}
 use Rattle.clap.specs.declared.error.kind.ErrorKind.TheVariants as error
 use Rattle.gp_ploam.specs.declared.check.Mask.{Mask}
 use Rattle.gp_decode.specs.declared.decoder.FaultAt.{FaultAt}
-use Rattle.gp_decode.specs.declared.fault.LineFault.{LineFault}
-use Rattle.gp_decode.specs.Line.{HasLineFault, IsOfText, SaysIn}
+use Rattle.gp_decode.specs.declared.fault.DecodeFault.{DecodeFault}
+use Rattle.gp_decode.specs.Line.{HasDecodeFault, IsOfText, SaysIn}
 use Rattle.gp_drive.specs.declared.driven.Driven.{Driven}
 use Rattle.gp_drive.specs.declared.fault.DriveFault.{DriveFault}
 use Rattle.gp_drive.specs.declared.fault.DriveFault.TheVariants as drives
 use Rattle.gp_encode.specs.declared.encoder.WordsFaultAt.{WordsFaultAt}
 use Rattle.gp_explain.specs.declared.fault.ExplainFault.{ExplainFault}
-use Rattle.gp_flow.specs.declared.fault.LineFault.{LineFault as Unanswered}
+use Rattle.gp_flow.specs.declared.fault.Unanswered.{Unanswered}
 use Rattle.gp_flow.specs.declared.fault.LinesFault.{LinesFault}
 use Rattle.gp_flow.specs.declared.fault.LinesFault.TheVariants.{Line}
 use Rattle.gp_replay.specs.declared.fault.RunFault.{RunFault}
@@ -102,27 +102,27 @@ IsSaid code upstream mask names status = (status ≡ SUCCESS) × ((line : List �
 -- it is the status of a fault, and the code has that fault, where it isn't one of memory or of the output
 abbrev pub IsFaulty : List ℕ → Mask → ℕ → Type 0
 IsFaulty code mask status =
-    (fault : LineFault) × (status ≡ code_status fault) × (IsOfText fault → HasLineFault mask code fault)
+    (fault : DecodeFault) × (status ≡ code_status fault) × (IsOfText fault → HasDecodeFault mask code fault)
 
 -- the status after a code was to be said in words
 pub record IsDecoded (code : List ℕ) (upstream : Bool) (mask : Mask) (names : Bool) (status : ℕ) : Type 0 where
   pub ended : IsSaid code upstream mask names status ⊎ IsFaulty code mask status
   -- memory aside, a code that has a fault has its status
-  pub faulty : status ≢ OUT_OF_MEMORY → (fault : LineFault) → IsOfText fault → HasLineFault mask code fault
+  pub faulty : status ≢ OUT_OF_MEMORY → (fault : DecodeFault) → IsOfText fault → HasDecodeFault mask code fault
       → status ≡ code_status fault
 
 -- the status after a code was to be said by an object
-abbrev pub shown_status : Result (Option LineFault) Unanswered → ℕ
+abbrev pub shown_status : Result (Option DecodeFault) Unanswered → ℕ
 shown_status (Ok None) = SUCCESS
 shown_status (Ok (Some fault)) = code_status fault
 shown_status (Err fault) = input_status (Line fault)
 
 -- that of an outcome that tells the fault which the code has, unless memory was refused or the output took no more
 pub record IsShown (code : List ℕ) (mask : Mask) (status : ℕ) : Type 0 where
-  pub outcome : Result (Option LineFault) Unanswered
+  pub outcome : Result (Option DecodeFault) Unanswered
   pub is : status ≡ shown_status outcome
-  pub fault : IfOk outcome (λ told. (fault : LineFault) → IsOfText fault
-      → (told ≡ Some fault) ↔ HasLineFault mask code fault)
+  pub fault : IfOk outcome (λ told. (fault : DecodeFault) → IsOfText fault
+      → (told ≡ Some fault) ↔ HasDecodeFault mask code fault)
 
 -- the status of a run of so many lines: of one that has too few it is that of no run
 abbrev pub IsRunStatus : ℕ → ℕ → ℕ → Type 0

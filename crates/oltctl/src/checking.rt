@@ -5,7 +5,7 @@ ghost use Rattle.oltctl.specs.Replays.{IsToldBy, is_told_script};
 
 use crate::observed::{Observed, Seen};
 use crate::reporting::unread_cause;
-use gp_check::{CheckManner, ScriptCheckFault, Told, tell_script, unread_object};
+use gp_check::{CheckManner, CheckedSource, ScriptCheckFault, tell_script, unread_object};
 use gp_stream::{Sink, Source};
 use std::io;
 use std::io::{Read, Write};
@@ -45,12 +45,12 @@ fn tell_unread<R: AllocGlobal + Eprint, W: Write>(
 }
 
 /// Tells whether what was told of is a script.
-fn is_told_script(told: &Told) -> bool
+fn is_told_script(told: &CheckedSource) -> bool
     ensures { result ≡ is_told_script told.now }
 {
     match told {
-        Told::Script => true,
-        Told::NoScript | Told::Wrong(_) | Told::Unread => false,
+        CheckedSource::Script => true,
+        CheckedSource::NoScript | CheckedSource::Wrong(_) | CheckedSource::Unread => false,
     }
 }
 
@@ -61,7 +61,7 @@ fn tell_from<R: AllocGlobal, T: Read + Drop, W: Write>(
     reader: T,
     manner: CheckManner,
     sink: &mut Sink<W>,
-) -> Result<Told, ScriptCheckFault>
+) -> Result<CheckedSource, ScriptCheckFault>
     ensures { IfOk result (IsToldBy manner.purpose reader (T.remaining reader)) }
 {
     let mut source = Source::new(reader);
@@ -79,11 +79,11 @@ fn check_reader<R: AllocGlobal + Eprint, T: Read + Drop, W: Write>(
     let mut seen = Seen::new(file_named(path));
     let told = tell_from(rt, path, Observed::new(reader, &mut seen), manner, sink)?;
     match &told {
-        Told::Script | Told::NoScript => {}
-        Told::Wrong(line) => {
+        CheckedSource::Script | CheckedSource::NoScript => {}
+        CheckedSource::Wrong(line) => {
             let _ = eprint!(rt; "{line}");
         }
-        Told::Unread => {
+        CheckedSource::Unread => {
             tell_unread(rt, path, "can't be read", seen.cause(), manner.json, sink)?;
         }
     }

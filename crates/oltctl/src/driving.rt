@@ -5,10 +5,10 @@ ghost use Rattle.gp_script.specs.View.{script_view};
 
 use crate::summing::summary_form;
 use crate::telling::{is_plain, script_from};
-use gp_command_line::Told;
+use gp_command_line::TraceForm;
 use gp_drive::{DriveFault, DriveManner, Driven};
 use gp_explain::Telling;
-use gp_flow::{LineFault, LinesFault};
+use gp_flow::{LinesFault, Unanswered};
 use gp_script::Script;
 use gp_stream::Source;
 use gp_summary::SummaryForm;
@@ -29,7 +29,7 @@ pub(crate) struct Drove {
 
 /// A drive that ended for want of memory, while lines were answered.
 fn out_of_memory() -> DriveFault {
-    DriveFault::Turns(LinesFault::Line(LineFault::OutOfMemory))
+    DriveFault::Turns(LinesFault::Line(Unanswered::OutOfMemory))
 }
 
 /// Drives a script, and counts what is answered as it is.
@@ -106,7 +106,7 @@ fn drive_so<T: Read, W: Write + Drop>(
     alloc: Global,
     manner: DriveManner,
     script: Script,
-    told: Told,
+    told: TraceForm,
     turns: &mut Source<T>,
     writer: W,
 ) -> Result<Drove, DriveFault>
@@ -143,7 +143,7 @@ pub(crate) fn drive_with_units<R: AllocGlobal + Print + Eprint, S: Read + Drop, 
     manner: DriveManner,
     script: S,
     turns: T,
-    told: Told,
+    told: TraceForm,
 ) -> Result<Driven, DriveFault> {
     let script = script_from(rt.alloc(), script)?;
     let mut turns = Source::endless(turns);

@@ -24,8 +24,8 @@ ghost use Rattle.std.specs.Prelude.{◌≡◌, ◌≢◌, ◌≤◌, ◌↔◌, 
 ghost use Rattle.std.specs.String.{string_bytes};
 ghost use Rattle.clap.specs.Values.{kind_of};
 ghost use Rattle.std.specs.IoError.{error_kind};
-ghost use Rattle.gp_decode.specs.declared.fault.LineFault.{LineFault as AnyFault};
-ghost use Rattle.gp_decode.specs.Line.{HasLineFault, IsOfText, SaysIn};
+ghost use Rattle.gp_decode.specs.declared.fault.DecodeFault.{DecodeFault as AnyFault};
+ghost use Rattle.gp_decode.specs.Line.{HasDecodeFault, IsOfText, SaysIn};
 ghost use Rattle.gp_script.specs.declared.fault.ScriptFault.{ScriptFault};
 ghost use Rattle.gp_script.specs.Script.{ScriptView, script_of, storm_script_of};
 ghost use Rattle.oltctl.specs.Replays.{IsReadBy, IsTooLong};
@@ -64,8 +64,8 @@ use explaining::explain;
 use generating::generate;
 use gp_check::{Purpose, ScriptCheckFault};
 use gp_code_objects::{decode_objects, encode_objects};
-use gp_command_line::{Play, Request, StormPlay, Told, parse, request_of};
-use gp_decode::{Direction, FaultAt, LineFault, decode_each_in, decode_line_in};
+use gp_command_line::{Play, Request, StormPlay, TraceForm, parse, request_of};
+use gp_decode::{DecodeFault, Direction, FaultAt, decode_each_in, decode_line_in};
 use gp_drive::{DriveFault, DriveManner, Driven, run_drive_in};
 use gp_encode::{EncodeFault, WordsFaultAt, encode_line, encode_lines};
 use gp_flow::LinesFault;
@@ -258,7 +258,7 @@ fn drive_from<R: AllocGlobal + Print, S: Read + Drop, T: Read + Drop>(
 /// What is wanted of a drive.
 #[derive(Clone, Copy)]
 struct DriveWanted {
-    told: Told,
+    told: TraceForm,
     manner: DriveManner,
     units: bool,
 }
@@ -459,10 +459,10 @@ fn decode<R: AllocGlobal + Print>(
     upstream: bool,
     mask: Mask,
     names: bool,
-) -> Result<(), LineFault>
+) -> Result<(), DecodeFault>
     ensures ok { OnOk result ((line : List ℕ) × SaysIn names upstream mask code.now line) }
-    ensures fault { result ≢ Err LineFault.OutOfMemory → (fault : AnyFault) → IsOfText fault
-        → (result ≡ Err fault) ↔ HasLineFault mask code.now fault }
+    ensures fault { result ≢ Err DecodeFault.OutOfMemory → (fault : AnyFault) → IsOfText fault
+        → (result ≡ Err fault) ↔ HasDecodeFault mask code.now fault }
 {
     let mut sink = Sink::new(rt.alloc(), io::writer(rt))?;
     decode_line_in(rt.alloc(), code, upstream, mask, names, &mut sink)

@@ -1,14 +1,14 @@
 //! One code, or the words of one message, as a JSON object on standard output; and how that ended.
 ghost use Rattle.std.specs.Prelude.{◌≡◌, ◌↔◌, IfOk, Some};
-ghost use Rattle.gp_decode.specs.declared.fault.LineFault.{LineFault as AnyFault};
-ghost use Rattle.gp_decode.specs.Line.{HasLineFault, IsOfText};
+ghost use Rattle.gp_decode.specs.declared.fault.DecodeFault.{DecodeFault as AnyFault};
+ghost use Rattle.gp_decode.specs.Line.{HasDecodeFault, IsOfText};
 ghost use Rattle.oltctl.specs.Statuses.{IsEncoded, IsShown, shown_status};
 
 use crate::reporting::report;
 use gp_code_objects::{decode_object, encode_object};
-use gp_decode::LineFault;
+use gp_decode::DecodeFault;
 use gp_encode::WordsFault;
-use gp_flow::{LineFault as Unanswered, LinesFault};
+use gp_flow::{LinesFault, Unanswered};
 use gp_ploam::Mask;
 use gp_report::{SUCCESS, encode_report, input_report, line_report};
 use gp_stream::Sink;
@@ -20,16 +20,16 @@ fn show_code<R: AllocGlobal + Print>(
     code: &str,
     upstream: bool,
     mask: Mask,
-) -> Result<Option<LineFault>, Unanswered>
+) -> Result<Option<DecodeFault>, Unanswered>
     ensures { IfOk result (λ told. (fault : AnyFault) → IsOfText fault
-        → (told ≡ Some fault) ↔ HasLineFault mask code.now fault) }
+        → (told ≡ Some fault) ↔ HasDecodeFault mask code.now fault) }
 {
     let mut sink = Sink::new(rt.alloc(), io::writer(rt))?;
     decode_object(rt.alloc(), code, upstream, mask, &mut sink)
 }
 
 /// Says on standard error which fault a code has, or why it was not said, and answers the exit status.
-fn end_shown<R: Eprint>(rt: &R, outcome: &Result<Option<LineFault>, Unanswered>) -> u8
+fn end_shown<R: Eprint>(rt: &R, outcome: &Result<Option<DecodeFault>, Unanswered>) -> u8
     ensures { result ≡ shown_status outcome.now }
 {
     match outcome {

@@ -5,7 +5,7 @@ ghost use Rattle.gp_summed.specs.Explaining.{trace_ports};
 use crate::summing::summary_form;
 use gp_command_line::Explanation;
 use gp_explain::{ExplainFault, Telling};
-use gp_flow::{LineFault, LinesFault};
+use gp_flow::{LinesFault, Unanswered};
 use gp_ploam::Mask;
 use gp_stream::{Sink, Source};
 use gp_summary::SummaryForm;
@@ -32,7 +32,7 @@ fn write_counted<W: Write + Drop>(
     match sink.write_whole(text.as_slice()) {
         Ok(()) => told,
         Err(_) => {
-            let fault = LinesFault::Line(LineFault::Write);
+            let fault = LinesFault::Line(Unanswered::Write);
             Err(ExplainFault::Lines(fault))
         }
     }

@@ -4,7 +4,7 @@ ghost use Rattle.std.specs.Prelude.{◌≡◌, [], Some, length};
 ghost use Rattle.gp_script.specs.Playable.{IsPlayable};
 ghost use Rattle.gp_script.specs.View.{script_view};
 
-use gp_command_line::Told;
+use gp_command_line::TraceForm;
 use gp_explain::{Form, Telling};
 use gp_replay::PlayFault;
 use gp_script::Script;
@@ -17,7 +17,7 @@ use std::io::Write;
 use std::marker::Brand;
 
 /// How a summary is told beside a trace that is written so.
-pub(crate) fn summary_form(told: Told) -> SummaryForm {
+pub(crate) fn summary_form(told: TraceForm) -> SummaryForm {
     match told.form {
         Form::Json => SummaryForm::Json,
         Form::Plain | Form::Words => SummaryForm::Text,
@@ -96,7 +96,7 @@ fn play_told<T: TellingBegan, W: Write + Drop>(
 pub(crate) fn play_with_units<W: Write + Drop>(
     alloc: Global,
     script: Script,
-    told: Told,
+    told: TraceForm,
     is_plain: bool,
     writer: W,
 ) -> Result<(), PlayFault>
@@ -131,7 +131,7 @@ fn play_unwritten<B: Began, T: Write + Drop, W: Write + Drop>(
 pub(crate) fn play_for_summary<T: Write + Drop, W: Write + Drop>(
     alloc: Global,
     script: Script,
-    told: Told,
+    told: TraceForm,
     trace: T,
     writer: W,
 ) -> Result<(), PlayFault>

@@ -5,10 +5,10 @@ ghost use Rattle.gp_script.specs.View.{script_view};
 
 use crate::progress::Counted;
 use crate::summing::{play_for_summary, play_with_units};
-use gp_command_line::{Play, Told};
+use gp_command_line::{Play, TraceForm};
 use gp_drive::{DriveFault, DriveManner, Driven, drive_script};
 use gp_explain::{Form, Telling};
-use gp_flow::{LineFault, LinesFault};
+use gp_flow::{LinesFault, Unanswered};
 use gp_replay::{PlayFault, play_script, play_with_lights};
 use gp_script::{Script, ScriptEvent, read_script};
 use gp_stream::{Sink, Source, read_all};
@@ -21,7 +21,7 @@ use std::marker::Brand;
 use std::rt::Clock;
 
 /// Tells whether lines are written as they are.
-pub(crate) fn is_plain(told: Told) -> bool
+pub(crate) fn is_plain(told: TraceForm) -> bool
     ensures { IsTrue result ↔ ((told.form ≡ Form.Plain) × (told.timed ≡ false)) }
 {
     told.form == Form::Plain && !told.timed
@@ -92,7 +92,7 @@ fn play_by<B: Began, W: Write + Drop>(
 fn play_told<W: Write + Drop>(
     alloc: Global,
     script: Script,
-    told: Told,
+    told: TraceForm,
     writer: W,
 ) -> Result<(), PlayFault>
     requires { IsPlayable (script_view script) }
@@ -143,7 +143,7 @@ fn drive_by<B: Began, T: Read, W: Write + Drop>(
     let driven = drive_script(alloc, manner, script, turns, &mut sink);
     match sink.into_inner().fault() {
         Some(TellFault::OutOfMemory) => {
-            let fault = LinesFault::Line(LineFault::OutOfMemory);
+            let fault = LinesFault::Line(Unanswered::OutOfMemory);
             Err(DriveFault::Turns(fault))
         }
         Some(TellFault::Write) | None => driven,
@@ -165,7 +165,7 @@ pub(crate) fn drive_told<R: AllocGlobal + Print, S: Read + Drop, T: Read + Drop>
     manner: DriveManner,
     script: S,
     turns: T,
-    told: Told,
+    told: TraceForm,
 ) -> Result<Driven, DriveFault> {
     let script = script_from(rt.alloc(), script)?;
     let telling = Telling::new(rt.alloc(), script.mask, told.form, told.timed);

@@ -9,7 +9,7 @@ use crate::observed::{Observed, Seen};
 use crate::progress::Counted;
 use crate::reporting::{report, report_at, report_count, tell_came};
 use gp_command_line::Verification;
-use gp_flow::{LineFault, LinesFault};
+use gp_flow::{LinesFault, Unanswered};
 use gp_replay::RunFault;
 use gp_report::{NOT_A_RUN, SUCCESS, few_lines_report, no_line_report, verify_report};
 use gp_stream::{Sink, Source};
@@ -56,10 +56,10 @@ fn write_units<W: Write>(
     }
     let fault = match units {
         None => return found,
-        Some(Err(AllocError)) => LineFault::OutOfMemory,
+        Some(Err(AllocError)) => Unanswered::OutOfMemory,
         Some(Ok(text)) => match sink.write_whole(text.as_slice()) {
             Ok(()) => return found,
-            Err(_) => LineFault::Write,
+            Err(_) => Unanswered::Write,
         },
     };
     Err(CheckFault::Trace(VerifyFault::Lines(LinesFault::Line(fault))))

@@ -127,7 +127,7 @@ fn serve<L: Ledger>(
     match way {
         Way::Receipt => entry_of(core.apply(port, event)),
         Way::Kept => {
-            let number = core.apply_kept(port, event, None)?;
+            let number = core.apply_in_place(port, event, None)?;
             kept(core, port, number)
         }
     }

@@ -1,12 +1,12 @@
 //! Many lines of codes, and the objects that answer them.
 use super::decoded;
 use crate::fields::{Plain, are_lines};
-use gp_decode::{Direction, FaultAt, LineFault};
+use gp_decode::{DecodeFault, Direction, FaultAt};
 use gp_ploam::Mask;
 use std::alloc::AllocError;
 
 /// A line, and its fault.
-type Fault = Option<(u64, LineFault)>;
+type Fault = Option<(u64, DecodeFault)>;
 
 /// Lines, the direction and the mask of their codes, the objects of those that have an answer, and the first fault.
 type Row = (
@@ -51,7 +51,7 @@ const INPUTS: [Row; 7] = [
                 Plain::Text("wanted", "63"),
             ],
         ],
-        Some((4, LineFault::Digit)),
+        Some((4, DecodeFault::Digit)),
     ),
     // Codes as people write them are told by their digits alone, in lower case.
     (
@@ -81,7 +81,7 @@ const INPUTS: [Row; 7] = [
             &[Plain::Number("line", 2), DOWN, POPUP_CODE, POPUP, ALL_UNITS],
             &[Plain::Number("line", 3), Plain::Text("error", "direction")],
         ],
-        Some((3, LineFault::Direction)),
+        Some((3, DecodeFault::Direction)),
     ),
     (
         b"ff03004142434400000001004e\nff03004142434400000001001b\n",
@@ -102,7 +102,7 @@ const INPUTS: [Row; 7] = [
                 Plain::Number("right_under_mask", 0),
             ],
         ],
-        Some((2, LineFault::Crc)),
+        Some((2, DecodeFault::Crc)),
     ),
     // Octets that are no UTF-8 are told by a fault, and not again.
     (
@@ -110,14 +110,14 @@ const INPUTS: [Row; 7] = [
         Direction::Down,
         Mask::Plain,
         &[&[Plain::Number("line", 1), Plain::Text("error", "length")]],
-        Some((1, LineFault::Length)),
+        Some((1, DecodeFault::Length)),
     ),
     (
         b"\xff\xfe\"\\\n",
         Direction::Up,
         Mask::Plain,
         &[&[Plain::Number("line", 1), Plain::Text("error", "digit")]],
-        Some((1, LineFault::Digit)),
+        Some((1, DecodeFault::Digit)),
     ),
 ];
 
@@ -144,7 +144,7 @@ fn long_lines(rt: HostRuntime) -> Result<(), AllocError> {
         let (outcome, said) = decoded(rt.alloc(), &input, Direction::Each, Mask::Plain)?;
         let first = FaultAt {
             line: 1,
-            fault: LineFault::Length,
+            fault: DecodeFault::Length,
         };
         if is_long {
             assert_eq!(rt; outcome, Ok(Some(first)));

@@ -1,7 +1,7 @@
 //! What is told of a trace in words, and where the output takes no more of what is told at the end.
 use super::{FOUND, RANGED, SCRIPT, SEARCH, told};
 use gp_explain::Form;
-use gp_flow::{LineFault, LinesFault};
+use gp_flow::{LinesFault, Unanswered};
 use gp_stream::{Sink, Source};
 use gp_verify::{CheckFault, VerifyFault, verify_told};
 use std::alloc::{AllocError, Global};
@@ -110,7 +110,7 @@ impl Write for ShortWriter {
 #[test]
 fn an_end_that_is_not_written(rt: HostRuntime) -> Result<(), AllocError> {
     let wanted = b"{\"run\":false,\"kind\":\"too few lines\",\"lines\":6,\"wanted\":7}\n";
-    let stopped = LinesFault::Line(LineFault::Write);
+    let stopped = LinesFault::Line(Unanswered::Write);
     for room in 0..wanted.len() + 1 {
         let mut script = Source::new(SCRIPT.as_bytes());
         let mut trace = Source::endless(SEARCH.as_bytes());

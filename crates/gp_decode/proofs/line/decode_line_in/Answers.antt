@@ -1,6 +1,6 @@
 use Rattle.std.proofs.Common.{rules}
 use Rattle.std.proofs.lemmas.Result.{err_from_is_err_and}
-use Rattle.gp_decode.specs.declared.fault.LineFault.TheVariants as fault
+use Rattle.gp_decode.specs.declared.fault.DecodeFault.TheVariants as fault
 use Rattle.gp_decode.proofs.Faults.{fault_without_line, no_fault_with_line, foreign_fault}
 use Rattle.gp_decode.proofs.line.decode_line_in.Goals as goal
 

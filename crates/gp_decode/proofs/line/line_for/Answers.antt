@@ -1,6 +1,6 @@
 use Rattle.std.proofs.Common.{◌≡◌, length, rules}
 use Rattle.std.proofs.lemmas.Result.{err_from_is_err_and}
-use Rattle.gp_decode.specs.declared.fault.LineFault.TheVariants as fault
+use Rattle.gp_decode.specs.declared.fault.DecodeFault.TheVariants as fault
 use Rattle.gp_decode.proofs.LineLemmas.{lacks_line, lacks_memory, lacks_words}
 use Rattle.gp_decode.proofs.line.line_for.Goals as goal
 

@@ -1,4 +1,4 @@
-use Rattle.gp_flow.specs.declared.fault.LineFault.TheVariants.{OutOfMemory}
+use Rattle.gp_flow.specs.declared.fault.Unanswered.TheVariants.{OutOfMemory}
 use Rattle.gp_script.specs.View.{script_view}
 use Rattle.gp_verify.specs.Checking.{opened_by}
 use Rattle.gp_verify.proofs.CheckingLemmas.{not_judged}

@@ -1,11 +1,11 @@
-use Rattle.gp_chassis.proofs.Desks.{kept_some, kept_serves, kept_grants}
+use Rattle.gp_chassis.proofs.Desks.{in_place_some, in_place_serves, in_place_grants}
 use Rattle.gp_chassis.proofs.desk.PortDesk.serve_wishing.Goals as goal
 
-pub receipt_kept-requires : goal.receipt_kept-requires
-receipt_kept-requires g c = kept_some _ _ _ _ _ _ _ c.in-Ok.ensures.ok
+pub last_receipt-requires : goal.last_receipt-requires
+last_receipt-requires g c = in_place_some _ _ _ _ _ _ _ c.in-Ok.ensures.ok
 
 pub returns-in-Ok-clause-ok : goal.returns-in-Ok-clause-ok
-returns-in-Ok-clause-ok g c = kept_serves _ _ _ _ _ _ _ _ _ c.in-Ok.ensures.ok c.receipt_kept.ensures.port c.receipt_kept.ensures.number c.receipt_kept.ensures.entry
+returns-in-Ok-clause-ok g c = in_place_serves _ _ _ _ _ _ _ _ _ c.in-Ok.ensures.ok c.last_receipt.ensures.port c.last_receipt.ensures.number c.last_receipt.ensures.entry
 
 pub returns-in-Ok-clause-wished : goal.returns-in-Ok-clause-wished
-returns-in-Ok-clause-wished g c = kept_grants _ _ _ _ _ _ _ _ c.in-Ok.ensures.ok c.receipt_kept.ensures.entry
+returns-in-Ok-clause-wished g c = in_place_grants _ _ _ _ _ _ _ _ c.in-Ok.ensures.ok c.last_receipt.ensures.entry

@@ -1,6 +1,6 @@
-use Rattle.std.proofs.Common.{ap}
-use Rattle.gp_serial.specs.Spelling.{serial_with}
+use Rattle.std.proofs.Common.{sym, ◌∙◌}
+use Rattle.gp_ploam.proofs.Serials.{octets_of_number}
 use Rattle.gp_serial.proofs.key.SerialKey.of.Goals as goal
 
 pub returns : goal.returns
-returns c = ap serial_with c.number_of.ensures
+returns c = sym (octets_of_number c.number.result) ∙ c.number.ensures.serial

@@ -8,12 +8,12 @@ pub returns-in_ok-insert : goal.returns-in_ok-insert
 returns-in_ok-insert c =
     let places = c.self.inside.places.items in
     let gap = rw c.as_slice.ensures.value at c.in-Err.ensures.absent in
-    rw (c.in_ok-insert.ensures.items, ← c.self.view_is, ← c.rank_of-rank.ensures.serial)
-    (admissions_of-insert places c.rank_of-rank.result c.in-Err.at fresh_admission c.rank_of-rank.ensures.fits c.self.invariant gap
-    ∙ admitting_new _ _ (found_none places c.rank_of-rank.result _ c.rank_of-rank.ensures.fits c.self.invariant gap))
+    rw (c.in_ok-insert.ensures.items, ← c.self.view_is, ← c.number-rank.ensures.serial)
+    (admissions_of-insert places c.number-rank.result c.in-Err.at fresh_admission c.number-rank.ensures.fits c.self.invariant gap
+    ∙ admitting_new _ _ (found_none places c.number-rank.result _ c.number-rank.ensures.fits c.self.invariant gap))
 
 pub returns-in_default : goal.returns-in_default
 returns-in_default c =
-    let at : IsPlaceOf c.self.inside.places.items c.rank_of-rank.result c.in_default.field-0 = rw c.as_slice.ensures.value at c.in_default.ensures.found in
-    rw (← c.self.view_is, ← c.rank_of-rank.ensures.serial)
-    (admitting_known _ _ _ (found_admission c.self.inside.places.items c.rank_of-rank.result c.in_default.field-0 c.self.invariant at))
+    let at : IsPlaceOf c.self.inside.places.items c.number-rank.result c.in_default.field-0 = rw c.as_slice.ensures.value at c.in_default.ensures.found in
+    rw (← c.self.view_is, ← c.number-rank.ensures.serial)
+    (admitting_known _ _ _ (found_admission c.self.inside.places.items c.number-rank.result c.in_default.field-0 c.self.invariant at))

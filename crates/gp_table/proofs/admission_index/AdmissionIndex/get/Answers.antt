@@ -4,10 +4,10 @@ use Rattle.gp_table.proofs.admission_index.AdmissionIndex.get.Goals as goal
 
 pub returns-in-Ok : goal.returns-in-Ok
 returns-in-Ok c =
-    rw (c.as_slice-places.ensures.value, ← c.self.view_is, ← c.rank_of.ensures.serial)
-    (sym (found_admission c.self.inside.places.items c.rank_of.result c.in-Ok.at c.self.invariant (rw c.as_slice-places.ensures.value at c.in-Ok.ensures.found)))
+    rw (c.as_slice-places.ensures.value, ← c.self.view_is, ← c.number.ensures.serial)
+    (sym (found_admission c.self.inside.places.items c.number.result c.in-Ok.at c.self.invariant (rw c.as_slice-places.ensures.value at c.in-Ok.ensures.found)))
 
 pub returns-in-Err : goal.returns-in-Err
 returns-in-Err c =
-    rw (← c.self.view_is, ← c.rank_of.ensures.serial)
-    (sym (found_none c.self.inside.places.items c.rank_of.result _ c.rank_of.ensures.fits c.self.invariant (rw c.as_slice-places.ensures.value at c.in-Err.ensures.absent)))
+    rw (← c.self.view_is, ← c.number.ensures.serial)
+    (sym (found_none c.self.inside.places.items c.number.result _ c.number.ensures.fits c.self.invariant (rw c.as_slice-places.ensures.value at c.in-Err.ensures.absent)))

@@ -7,12 +7,12 @@ use Rattle.gp_table.proofs.admission_index.AdmissionIndex.set_disabled.Goals as 
 
 pub returns-in-Ok : goal.returns-in-Ok
 returns-in-Ok c =
-    let at : IsPlaceOf c.self.inside.places.items c.rank_of.result c.in-Ok.at = rw c.as_slice.ensures.value at c.in-Ok.ensures.found in
+    let at : IsPlaceOf c.self.inside.places.items c.number.result c.in-Ok.at = rw c.as_slice.ensures.value at c.in-Ok.ensures.found in
     let read = c.index_mut.ensures.value ∙ get_or_default c.self.inside.places.items c.in-Ok.at c.index_mut.result.now blank_place at.within in
-    rw (← c.self.view_is, ← c.rank_of.ensures.serial)
-    (changed_found c.self.inside.places.items c.rank_of.result c.in-Ok.at c.index_mut.result.now (with_disabled c.args.disabled) c.self.invariant at read)
+    rw (← c.self.view_is, ← c.number.ensures.serial)
+    (changed_found c.self.inside.places.items c.number.result c.in-Ok.at c.index_mut.result.now (with_disabled c.args.disabled) c.self.invariant at read)
 
 pub returns-in_default : goal.returns-in_default
 returns-in_default c =
-    let none = found_none c.self.inside.places.items c.rank_of.result _ c.rank_of.ensures.fits c.self.invariant (rw c.as_slice.ensures.value at c.in_default.ensures.absent) in
-    rw (← c.self.view_is, ← c.rank_of.ensures.serial) (changed_absent _ _ (with_disabled c.args.disabled) none)
+    let none = found_none c.self.inside.places.items c.number.result _ c.number.ensures.fits c.self.invariant (rw c.as_slice.ensures.value at c.in_default.ensures.absent) in
+    rw (← c.self.view_is, ← c.number.ensures.serial) (changed_absent _ _ (with_disabled c.args.disabled) none)

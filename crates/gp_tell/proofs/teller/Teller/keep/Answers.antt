@@ -1,5 +1,5 @@
 use Rattle.std.proofs.Common.{◌≡◌, ◌<◌, ◌≤◌, ◌-◌, ◌++◌, ◌∙◌, false, None, ap, arith, length, length-append, rules}
-use Rattle.gp_explain.specs.Outcome.{longest_line}
+use Rattle.gp_flow.specs.Lines.{longest_line}
 use Rattle.gp_tell.proofs.TellerLemmas.{keeps_part, loses_part, passes_part}
 use Rattle.gp_tell.proofs.teller.Teller.keep.Goals as goal
 use Rattle.gp_tell.proofs.teller.Teller.keep.Goals.{else-not-self-via-then-not-self+else-part-len, else-not-self-via-else-not-self}

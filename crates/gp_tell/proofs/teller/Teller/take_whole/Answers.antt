@@ -1,6 +1,6 @@
 use Rattle.std.proofs.Common.{◌≡◌, ◌≤◌, ◌∙◌, [], false, None, ap, length, rules}
 use Rattle.std.proofs.lemmas.List.{nil_from_length}
-use Rattle.gp_explain.specs.Outcome.{longest_line}
+use Rattle.gp_flow.specs.Lines.{longest_line}
 use Rattle.gp_tell.proofs.TellerLemmas.{whole_lost, whole_told, whole_unsaid}
 use Rattle.gp_tell.proofs.teller.Teller.take_whole.Goals as goal
 

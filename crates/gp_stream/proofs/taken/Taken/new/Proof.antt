@@ -21,12 +21,12 @@ use denote.Triple.Entry.{on_entry}
 use denote.Triple.Spec.{Meets, triple_of}
 use denote.Triple.Table.{entered}
 use denote.Triple.Walked.{says, ends_at, walked, walk_Meets}
-use Rattle.gp_tell.specs.declared.taken.Taken.{Taken}
-use Rattle.gp_tell.specs.contracts.taken.Taken as T
-use Rattle.gp_tell.specs.contracts.taken.Taken.new.Key.{name as #it}
-use Rattle.gp_tell.specs.contracts.taken.Taken.new as it
-use Rattle.gp_tell.proofs.taken.Taken.new.Statement as stated
-use Rattle.gp_tell.proofs.taken.Taken.new.Code as code
+use Rattle.gp_stream.specs.declared.taken.Taken.{Taken}
+use Rattle.gp_stream.specs.contracts.taken.Taken as T
+use Rattle.gp_stream.specs.contracts.taken.Taken.new.Key.{name as #it}
+use Rattle.gp_stream.specs.contracts.taken.Taken.new as it
+use Rattle.gp_stream.proofs.taken.Taken.new.Statement as stated
+use Rattle.gp_stream.proofs.taken.Taken.new.Code as code
 
 abbrev v : Val
 v = vstruct (vcons (vstruct vnil) vnil)

@@ -1,7 +1,7 @@
 use Rattle.std.proofs.Common.{rules, ◌≤◌, ◌+◌, length, refl, sym, ap, subst, arith}
 use Rattle.gp_chassis.specs.Desk.{DeskState, DeskStands, HasRoom}
 use Rattle.gp_chassis.proofs.Desks.{stepped_desk, desk_recorded, one_more}
-use Rattle.gp_chassis.proofs.desk.PortDesk.serve_kept.Goals as goal
+use Rattle.gp_chassis.proofs.desk.PortDesk.serve_in_place.Goals as goal
 
 pub invariant_of-self-2 : goal.invariant_of-self-2
 invariant_of-self-2 g c =

@@ -1,5 +1,5 @@
 //! What is told of a source, and where: on the output, on standard error, or nowhere.
-ghost use Rattle.gp_check.specs.Telling.{Tells, TellsFound};
+ghost use Rattle.gp_check.specs.Telling.{TellsSource, TellsFound};
 
 use crate::checking::{Purpose, find_script};
 use crate::fault::ScriptCheckFault;
@@ -22,7 +22,7 @@ pub struct CheckManner {
 
 /// What a source was found to be, and what is left to tell of it.
 #[derive(Debug, Drop)]
-pub enum Told {
+pub enum CheckedSource {
     /// It is a script, and all is told.
     Script,
     /// It is none, and all is told.
@@ -40,28 +40,28 @@ fn tell_found<W: Write>(
     name: &str,
     found: &Found,
     sink: &mut Sink<W>,
-) -> Result<Told, ScriptCheckFault>
+) -> Result<CheckedSource, ScriptCheckFault>
     ensures { TellsFound manner name.now found.now sink.old sink.new result }
 {
     let is_script = found.is_script();
     if is_script && manner.quiet {
-        return Ok(Told::Script);
+        return Ok(CheckedSource::Script);
     }
     if manner.json {
         let object = found_object(alloc, name, found)?;
         sink.write_whole(object.as_slice())?;
         return Ok(if is_script {
-            Told::Script
+            CheckedSource::Script
         } else {
-            Told::NoScript
+            CheckedSource::NoScript
         });
     }
     let line = found_line(alloc, name, found)?;
     if !is_script {
-        return Ok(Told::Wrong(line));
+        return Ok(CheckedSource::Wrong(line));
     }
     sink.write_whole(line.as_bytes())?;
-    Ok(Told::Script)
+    Ok(CheckedSource::Script)
 }
 
 /// Reads a source to its end, and tells whether it is a script: a line of one that is goes to the sink, one of another
@@ -73,12 +73,12 @@ pub fn tell_script<R: Read, W: Write>(
     name: &str,
     source: &mut Source<R>,
     sink: &mut Sink<W>,
-) -> Result<Told, ScriptCheckFault>
-    ensures { Tells manner name.now source.old source.new sink.old sink.new result }
+) -> Result<CheckedSource, ScriptCheckFault>
+    ensures { TellsSource manner name.now source.old source.new sink.old sink.new result }
 {
     let found = find_script(alloc, manner.purpose, source)?;
     match &found {
-        Found::Unread => Ok(Told::Unread),
+        Found::Unread => Ok(CheckedSource::Unread),
         _ => tell_found(alloc, manner, name, &found, sink),
     }
 }

@@ -1,12 +1,12 @@
 use Rattle.std.proofs.Common.{rules, ◌<◌, length}
-use Rattle.gp_chassis.specs.Core.{CoreKeepsFrom, lent}
+use Rattle.gp_chassis.specs.Core.{CoreServesInPlace, lent}
 use Rattle.gp_chassis.proofs.Cores.{kept_applies, full_before}
-use Rattle.gp_chassis.proofs.chassis_core.ChassisCore.apply_kept.Goals as goal
+use Rattle.gp_chassis.proofs.chassis_core.ChassisCore.apply_in_place.Goals as goal
 
 pub returns-in-Ok-clause-ok : goal.returns-in-Ok-clause-ok
 returns-in-Ok-clause-ok g c =
     let actors : 0 < length c.args.self.now.hands = search rules in
-    let kept : CoreKeepsFrom (lent c.args.event c.args.self.now) c.keep_from.new.self 0 c.args.port c.args.event c.args.wished c.in-Ok.number = rw c.lend.ensures at c.in-Ok.ensures.ok in
+    let kept : CoreServesInPlace (lent c.args.event c.args.self.now) c.serve_from.new.self 0 c.args.port c.args.event c.args.wished c.in-Ok.number = rw c.lend.ensures at c.in-Ok.ensures.ok in
     kept_applies _ _ _ _ _ _ _ actors kept c.give_from.ensures
 
 pub returns-then-count-before-clause-full : goal.returns-then-count-before-clause-full

@@ -28,12 +28,12 @@ use denote.Triple.Entry.{on_entry}
 use denote.Triple.Spec.{Meets, triple_of}
 use denote.Triple.Table.{entered}
 use denote.Triple.Walked.{says, Stays, stay_ref, stay_none_slice, walk_of, AllGo, Goes-ref, Goes-none_slice, Walks, ends_at, walked, walk_Meets}
-use Rattle.gp_tell.specs.declared.taken.Taken.{Taken}
-use Rattle.gp_tell.specs.contracts.taken.Taken as T
-use Rattle.gp_tell.specs.contracts.taken.Taken.note.Key.{name as #it}
-use Rattle.gp_tell.specs.contracts.taken.Taken.note as it
-use Rattle.gp_tell.proofs.taken.Taken.note.Statement as stated
-use Rattle.gp_tell.proofs.taken.Taken.note.Code as code
+use Rattle.gp_stream.specs.declared.taken.Taken.{Taken}
+use Rattle.gp_stream.specs.contracts.taken.Taken as T
+use Rattle.gp_stream.specs.contracts.taken.Taken.note.Key.{name as #it}
+use Rattle.gp_stream.specs.contracts.taken.Taken.note as it
+use Rattle.gp_stream.proofs.taken.Taken.note.Statement as stated
+use Rattle.gp_stream.proofs.taken.Taken.note.Code as code
 
 abbrev Arg : Type 0
 Arg = MutBor Taken × (Bor (List ℕ) × Unit {0})

@@ -16,15 +16,15 @@ impl Model for Taken {
 }
 
 impl Taken {
-    /// Nothing was taken.
-    pub(crate) fn new() -> Taken
+    /// Makes one of no octets.
+    pub fn new() -> Taken
         ensures { result.octets ≡ [] }
     {
         Taken { of: PhantomData }
     }
 
-    /// These octets were taken too.
-    pub(crate) fn note(&mut self, _octets: &[u8])
+    /// Notes that these octets were taken too.
+    pub fn note(&mut self, _octets: &[u8])
         ensures { self.new.octets ≡ self.old.octets ++ _octets.now }
     {}
 }

@@ -1,8 +1,0 @@
-use Rattle.std.proofs.Common.{◌≡◌, length, rules}
-use Rattle.gp_table.proofs.Places.{serial_of_rank}
-use Rattle.gp_table.proofs.admission_index.number_of.Goals as goal
-
-pub returns : goal.returns
-returns c =
-    let long : length c.args.octets.now ≡ 8 = search rules in
-    serial_of_rank (record { 0 = c.args.octets.now }) c.from_be_bytes.result long c.fits-octets c.from_be_bytes.ensures
