@@ -9,8 +9,7 @@
 //! - `step.rt`: how much of what comes is as expected, or the first octet that isn't.
 //! - `ahead.rt`: `Ahead`, a source of which a block is read ahead. `place.rt`: how far two texts are the same, by line
 //!   and octet. `shown.rt`: what is shown of a line. `difference.rt`: the first octet that differs.
-//! - `taken.rt`: the octets that a writer took, and `expects.rt`: what it is to take, both in contracts alone.
-//!   `fault.rt`: why nothing was compared to its end.
+//! - `expects.rt`: what a writer is to take, in contracts alone. `fault.rt`: why nothing was compared to its end.
 //!
 //! Where to make which change: how much of a line is shown is a number in `shown.rt` and in `specs/Shown.antt`; what a
 //! difference is stands in `specs/Difference.antt`, what a writer knows in `specs/Comparer.antt`.
@@ -24,7 +23,6 @@ mod fault;
 mod place;
 mod shown;
 mod step;
-mod taken;
 mod texts;
 
 pub use comparer::Comparer;

@@ -7,9 +7,9 @@ ghost use Rattle.gp_tally.specs.Text.{AreTallies, IsOneLine};
 ghost use Rattle.gp_tally.specs.Counter.{Began};
 
 use crate::port_tally::PortTally;
-use crate::taken::Taken;
 use crate::tallies::Tallies;
 use gp_ploam::Mask;
+use gp_stream::Taken;
 use gp_trace::MAX_LINE;
 use memchr::memchr;
 use std::alloc::{AllocError, Global};

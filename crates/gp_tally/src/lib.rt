@@ -11,8 +11,8 @@
 //! - `port_tally.rt`: `PortTally`, a port with its units; `hearing.rt`: what a burst changes of the units.
 //!   `tallies.rt`: `Tallies`, several ports.
 //! - `counter.rt`: `Counter`, which counts the lines of a text that comes in any pieces. `counting.rt`: `Counting`, a
-//!   writer that passes on what it is handed and counts its lines. `taken.rt`: the octets that were handed in, which
-//!   only proofs see; `began.rt`: what that writer began with. `nowhere.rt`: `Nowhere`, a writer that keeps nothing.
+//!   writer that passes on what it is handed and counts its lines. `began.rt`: what that writer began with.
+//!   `nowhere.rt`: `Nowhere`, a writer that keeps nothing.
 //! - `laws.rt`: laws: the line of an entry tells the entry, so what is counted of a trace is counted of its entries.
 //!
 //! Where to make which change: a new count is a field of `PortCounts` or `UnitCounts` and a line of `specs/Tally.antt`;
@@ -30,7 +30,6 @@ mod laws;
 mod nowhere;
 mod port_tally;
 mod reading;
-mod taken;
 mod tallies;
 mod told;
 mod units;
@@ -42,7 +41,6 @@ pub use counts::{ALARM_KINDS, PortCounts, REFUSAL_NUMBERS, UnitCounts, kind_plac
 pub use laws::{entry_is_within_limits, lines_tell_entries, traces_count_entries};
 pub use nowhere::Nowhere;
 pub use port_tally::PortTally;
-pub use taken::Taken;
 pub use tallies::Tallies;
 pub use told::{Answered, Happened, Told};
 pub use units::Units;
