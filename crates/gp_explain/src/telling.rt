@@ -25,7 +25,7 @@ use std::marker::Model;
 /// The number of the only port where there are simulated units.
 const ONLY_PORT: usize = 0;
 
-/// TellsOneLine lines, one after another. Contracts see what the next line is told by.
+/// Tells lines, one after another. Contracts see what the next line is told by.
 #[derive(Drop)]
 pub struct Telling {
     alloc: Global,
@@ -68,8 +68,8 @@ fn shown(timed: bool, frames: u64) -> Option<u64>
     if timed { Some(frames) } else { None }
 }
 
-/// Writes a line that tells nothing of a trace in this form, into an empty buffer.
-fn push_other(form: Form, text: &[u8], out: &mut Vec<u8>) -> Result<(), AllocError>
+/// Writes a line that is neither of a trace nor of light in this form, into an empty buffer.
+fn push_unread(form: Form, text: &[u8], out: &mut Vec<u8>) -> Result<(), AllocError>
     requires { out.old.items ≡ [] }
     ensures { OnOk result (out.new.items ≡ other_of form text.now) }
 {
@@ -80,7 +80,7 @@ fn push_other(form: Form, text: &[u8], out: &mut Vec<u8>) -> Result<(), AllocErr
 }
 
 impl Telling {
-    /// TellsOneLine lines of traces in this form, with the port's time if that is wanted. The mask is that of
+    /// Tells lines of traces in this form, with the port's time if that is wanted. The mask is that of
     /// their codes. No port has had a frame.
     pub fn new(alloc: Global, mask: Mask, form: Form, timed: bool) -> Telling
         ensures { result ≡ record { mask = mask; form = form; timed = timed; frames = no_frames } }
@@ -157,7 +157,7 @@ impl Telling {
     {
         match light_in(text) {
             Some(light) => self.push_light(&light, text, out),
-            None => push_other(self.form, text, out),
+            None => push_unread(self.form, text, out),
         }
     }
 

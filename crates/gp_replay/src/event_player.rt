@@ -1,9 +1,6 @@
 //! What events of a script are played on, by one of two: the ports, or the fibre of one port.
-ghost use Rattle.std.specs.Prelude.{◌≡◌, ◌↔◌, ◌≤◌, ◌*◌, ◌^◌, All, Err, IsTrue, OnOk, Some, length};
-ghost use Rattle.gp_script.specs.View.{NamesOneOf};
-ghost use Rattle.gp_replay.specs.Playing.{HasRoomFor, Keeps, PlaysAll, PlaysSome, count_of};
-ghost use Rattle.gp_replay.specs.Writing.{PlaysOn};
-ghost use Rattle.gp_replay.specs.Out.{KeepsOut};
+ghost use Rattle.std.specs.Prelude.{◌≡◌, ◌↔◌, ◌≤◌, ◌^◌, IsTrue, Some};
+ghost use Rattle.gp_replay.specs.Playing.{count_of};
 
 use super::fault::PlayFault;
 use super::trace_out::TraceOut;
@@ -100,24 +97,3 @@ pub(crate) fn event_is_short(event: &ScriptEvent)
 fn count_is_short(count: u32)
     ensures { count ≤ 2 ^ 32 }
 {}
-
-/// Plays the events of a script, in their order, and writes the line of each entry.
-pub fn play_events<P: EventPlayer, W: Write>(
-    player: &mut P,
-    out: &mut TraceOut<'_, W>,
-    events: &[ScriptEvent],
-) -> Result<(), PlayFault>
-    requires named { All (NamesOneOf (P.playing.ports player.old) (P.playing.units player.old)) events.now }
-    requires room { HasRoomFor P.playing (length events.now * 2 ^ 32) player.old }
-    ensures plays { PlaysOn out.old.mask (PlaysAll P.playing events.now) (PlaysSome P.playing events.now)
-        player.old player.new out.old.sink.now out.new.sink.now result }
-    ensures keeps { OnOk result (Keeps P.playing (length events.now * 2 ^ 32) player.old player.new) }
-    ensures memory { result ≡ Err PlayFault.OutOfMemory → P.playing.refuses }
-    ensures same { KeepsOut out.old out.new }
-{
-    'events: for event in events {
-        event_is_short(event);
-        player.play_event(out, event)?;
-    }
-    Ok(())
-}

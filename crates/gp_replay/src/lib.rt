@@ -6,8 +6,8 @@
 //! - `replaying.rt`: `play_script`, from a script that was read to the bytes of its trace, `play_with_lights`, with the
 //!   light that comes and goes at simulated units between, and `run_replay`, from the bytes of a script.
 //! - `opening.rt`: `open_chassis` and `open_fibre`, which take a script apart and open what its events are played on.
-//! - `event_player.rt`: `EventPlayer`, what events are played on, and `play_events`, which plays the events of a script
-//!   on it; `lights.rt`: `tell_events`, which also tells when light comes or goes; `play_end.rt`: the end of a play.
+//! - `event_player.rt`: `EventPlayer`, what events are played on; `lights.rt`: `tell_events`, which plays the events of a
+//!   script on it, and tells when light comes or goes, where that is wanted; `play_end.rt`: the end of a play.
 //! - `player.rt`: `Player`, the ports of a script (`seat.rt`) with the book of their licences: it keeps no journal, and a
 //!   turn (`turn.rt`) takes no memory, of which only what is asked behind its line is told (`told.rt`). `playing.rt`:
 //!   plays an event on it, which is a turn or more, and writes the line of each.
@@ -41,7 +41,7 @@ mod turn;
 mod world_player;
 mod world_playing;
 
-pub use event_player::{EventPlayer, play_events};
+pub use event_player::EventPlayer;
 pub use fault::{PlayFault, RunFault};
 pub use fibre_player::FibrePlayer;
 pub use laws::{each_port_runs, licences_are_kept, lights_are_told};

@@ -90,7 +90,7 @@ fn units_of<B: Opening, L: Ledger>(
     Ok(text)
 }
 
-/// TellsSums whether a text was read as far as it counts, and each line judged.
+/// Tells whether a text was read as far as it counts, and each line judged.
 fn was_read(found: &Result<u64, VerifyFault>) -> bool
     ensures { result ≡ spec_was_read found.now }
 {
@@ -216,7 +216,7 @@ fn as_checked(told: Result<u64, VerifyFault>) -> Result<u64, CheckFault>
     }
 }
 
-/// TellsSums whether a text is the trace of some run on the chassis that a script opens, as `verify_told` does, and what
+/// Tells whether a text is the trace of some run on the chassis that a script opens, as `verify_told` does, and what
 /// became of each port and unit in it, by a line, or an object, each: what was counted of the entries, and how ports,
 /// units and licences stand behind the last one. Of a trace that is no run the entries are those of the lines before the
 /// first that can't be, and the machine's own in the place of that one, where it names an event and a port; a line

@@ -190,13 +190,6 @@ impl<L: Ledger> Verifier<L> {
         &self.player
     }
 
-    /// The mask of the codes.
-    pub fn mask(&self) -> Mask
-        ensures { result ≡ self.now.mask }
-    {
-        self.mask
-    }
-
     /// The line that the machine said last, with its line feed: after `WrongNumber` and `NotAStep` that in the line's
     /// place.
     pub fn said(&self) -> &[u8]
