@@ -27,6 +27,9 @@ Examples:
   oltctl replay --summary --format json script.toml
   oltctl replay --explain --progress script.toml
 
+With --words, --time or --format json a line of its own, unit I light or unit I dark,
+says where light comes or goes at a simulated unit; it is no line of the trace.
+
 Exit status:
   0  the whole trace was written
   1  the script is wrong, too long, or was not read
@@ -128,8 +131,8 @@ Examples:
 With --words the line that can't be and the machine's own are told with their
 codes in words; with --format json standard output is one object, whose field
 run says whether the trace is a run. With --units an object, or a line, for each port,
-each unit and the licences stands behind that. Where a line can't be they tell of the
-lines before it, and of the machine's own in its place.
+each unit and the licences stands behind that. Where a line can't be one before them
+says how far they go: the lines before it, and the machine's own in its place.
 
 Exit status:
   0  the trace is a run
@@ -166,6 +169,7 @@ word, number, range, serial, hex, space or long, or port or unit where it isn't 
 Frames that end without their grant are answered behind them by: error LINE never
 A unit is shown by: unit I STATE [onu N] [eqd EQD] [dark]
 With --done the answer to each line, also to an empty one, ends with: done LINE
+With --words, --time or --format json light that comes or goes is answered: unit I light
 
 Examples:
   oltctl drive script.toml

@@ -189,7 +189,10 @@ fn junit_of(
     let mut from = 0;
     for (folder, end) in folders.iter().zip(ends.iter()) {
         if let Some(part) = verdicts.get(from..*end) {
-            push_suite(alloc, &mut out, folder, part)?;
+            // one that was named before has its verdicts there
+            if !part.is_empty() {
+                push_suite(alloc, &mut out, folder, part)?;
+            }
         }
         from = *end;
     }
