@@ -1,5 +1,5 @@
 -- Drives whose entries are counted.
-use Rattle.std.proofs.Common.{◌≡◌, ℕ, ◌⊎◌, inl, inr, List, [], ◌∷◌, Option, Result, Ok, Err, IfOk, IfSome, length, subst, sym}
+use Rattle.std.proofs.Common.{◌≡◌, ◌<◌, ℕ, ◌⊎◌, inl, inr, List, [], ◌∷◌, Option, Result, Ok, Err, IfOk, IfSome, length, refl, subst, sym}
 use Rattle.std.specs.declared.alloc.AllocError.{AllocError}
 use Rattle.std.specs.declared.alloc.Global.{Global}
 use Rattle.std.specs.declared.vec.Vec.{Vec}
@@ -17,7 +17,7 @@ use Rattle.gp_summary.specs.Summary.{SaysCounted}
 use Rattle.gp_drive.specs.declared.driven.Driven.{Driven}
 use Rattle.gp_drive.specs.declared.fault.DriveFault.{DriveFault}
 use Rattle.gp_drive.specs.declared.manner.DriveManner.{DriveManner}
-use Rattle.gp_drive.specs.Outcome.{LeftByChassis, LeftByFibre}
+use Rattle.gp_drive.specs.Outcome.{LeftByChassis, LeftByFibre, told}
 use Rattle.gp_summed.specs.Driving.{DrivesSummed, SaysChassis, SaysFibre, summary_if}
 
 -- what is said of a counter is said of what it took
@@ -33,28 +33,28 @@ says_of form mask codes taken octets states count ports free licences summary ma
 -- what is told of a chassis, where all lines were answered
 pub chassis_told : {T W : Type 0} (form : SummaryForm) (manner : DriveManner) (script : ScriptView) (from to : SourceState T)
     (before after : SinkState (CountingState W)) (taken : List ℕ) (given : PlayState) (driven : Result Driven LinesFault)
-    (summary : Result (Vec ℕ Global) AllocError) → LeftByChassis manner script given driven from to before after
+    (summary : Result (Vec ℕ Global) AllocError) → script.units ≡ [] → LeftByChassis manner script given driven from to before after
     → IfOk summary (λ text. SaysCounted form script.mask taken given.world.ports (length script.ports) given.world.free script.licences text.items)
-    → IfSome (summary_if driven summary) (λ told. IfOk told (λ text. (lines : Driven)
+    → IfSome (summary_if driven summary) (λ answer. IfOk answer (λ text. (lines : Driven) × (told driven ≡ Ok lines)
     × (SaysChassis form manner script from to before after (Ok lines) taken text.items
     ⊎ SaysFibre form manner script from to before after (Ok lines) taken text.items)))
-chassis_told form manner script from to before after taken given (Ok lines) (Ok text) left says =
-    (lines, inl (record { given = given; left = left; says = says }))
-chassis_told form manner script from to before after taken given (Ok lines) (Err refused) left says = tt
-chassis_told form manner script from to before after taken given (Err fault) summary left says = tt
+chassis_told form manner script from to before after taken given (Ok lines) (Ok text) alone left says =
+    (lines, refl, inl (record { alone = alone; given = given; left = left; says = says }))
+chassis_told form manner script from to before after taken given (Ok lines) (Err refused) alone left says = tt
+chassis_told form manner script from to before after taken given (Err fault) summary alone left says = tt
 
 -- and of a fibre
 pub fibre_told : {T W : Type 0} (form : SummaryForm) (manner : DriveManner) (script : ScriptView) (from to : SourceState T)
     (before after : SinkState (CountingState W)) (taken : List ℕ) (given : LossyPlay) (driven : Result Driven LinesFault)
-    (summary : Result (Vec ℕ Global) AllocError) → LeftByFibre manner script given driven from to before after
+    (summary : Result (Vec ℕ Global) AllocError) → 0 < length script.units → LeftByFibre manner script given driven from to before after
     → IfOk summary (λ text. SaysCounted form script.mask taken (given.play.world.fibre.port ∷ []) (length script.ports) given.play.world.fibre.free script.licences text.items)
-    → IfSome (summary_if driven summary) (λ told. IfOk told (λ text. (lines : Driven)
+    → IfSome (summary_if driven summary) (λ answer. IfOk answer (λ text. (lines : Driven) × (told driven ≡ Ok lines)
     × (SaysChassis form manner script from to before after (Ok lines) taken text.items
     ⊎ SaysFibre form manner script from to before after (Ok lines) taken text.items)))
-fibre_told form manner script from to before after taken given (Ok lines) (Ok text) left says =
-    (lines, inr (record { given = given; left = left; says = says }))
-fibre_told form manner script from to before after taken given (Ok lines) (Err refused) left says = tt
-fibre_told form manner script from to before after taken given (Err fault) summary left says = tt
+fibre_told form manner script from to before after taken given (Ok lines) (Ok text) units left says =
+    (lines, refl, inr (record { units = units; given = given; left = left; says = says }))
+fibre_told form manner script from to before after taken given (Ok lines) (Err refused) units left says = tt
+fibre_told form manner script from to before after taken given (Err fault) summary units left says = tt
 
 -- what was answered so is answered
 pub answered_so : {T W : Type 0} (form : SummaryForm) (manner : DriveManner) (script : ScriptView) (from to : SourceState T)

@@ -1,5 +1,5 @@
 -- A drive whose entries are counted (this profile's own rule).
-use Rattle.std.specs.Prelude.{◌≡◌, ℕ, ◌⊎◌, List, [], ◌∷◌, Option, None, Some, Result, Ok, Err, IfOk, IfSome, length}
+use Rattle.std.specs.Prelude.{◌≡◌, ◌<◌, ℕ, ◌⊎◌, List, [], ◌∷◌, Option, None, Some, Result, Ok, Err, IfOk, IfSome, length}
 use Rattle.std.specs.declared.alloc.AllocError.{AllocError}
 use Rattle.std.specs.declared.alloc.Global.{Global}
 use Rattle.std.specs.declared.vec.Vec.{Vec}
@@ -17,19 +17,22 @@ use Rattle.gp_drive.specs.declared.fault.DriveFault.{DriveFault}
 use Rattle.gp_drive.specs.declared.manner.DriveManner.{DriveManner}
 use Rattle.gp_drive.specs.Outcome.{DrivesScriptIn, LeftByChassis, LeftByFibre}
 
--- the text tells what was counted of all that the writer took, and how a chassis as the drive left it stands
+-- of a script without simulated units: the text tells what was counted of all that the writer took, and how a chassis
+-- as the drive left it stands
 pub record SaysChassis {T W : Type 0} (form : SummaryForm) (manner : DriveManner) (script : ScriptView)
     (from to : SourceState T) (before after : SinkState (CountingState W)) (driven : Result Driven LinesFault)
     (taken text : List ℕ) : Type 0 where
+  pub alone : script.units ≡ []
   pub given : PlayState
   pub left : LeftByChassis manner script given driven from to before after
   pub says : SaysCounted form script.mask taken given.world.ports (length script.ports) given.world.free script.licences
       text
 
--- and a fibre
+-- and of one with simulated units: how a fibre stands
 pub record SaysFibre {T W : Type 0} (form : SummaryForm) (manner : DriveManner) (script : ScriptView)
     (from to : SourceState T) (before after : SinkState (CountingState W)) (driven : Result Driven LinesFault)
     (taken text : List ℕ) : Type 0 where
+  pub units : 0 < length script.units
   pub given : LossyPlay
   pub left : LeftByFibre manner script given driven from to before after
   pub says : SaysCounted form script.mask taken (given.play.world.fibre.port ∷ []) (length script.ports)
@@ -52,6 +55,6 @@ pub record DrivesSummed {T W : Type 0} (form : SummaryForm) (manner : DriveManne
   pub drives : DrivesScriptIn manner driven from to before after script
   pub writer : counting ≡ after.writer
   pub took : after.held ≡ Some counting.counter.taken
-  pub tells : IfSome summary (λ told. IfOk told (λ text. (lines : Driven)
+  pub tells : IfSome summary (λ told. IfOk told (λ text. (lines : Driven) × (driven ≡ Ok lines)
       × (SaysChassis form manner script from to before after (Ok lines) counting.counter.taken text.items
       ⊎ SaysFibre form manner script from to before after (Ok lines) counting.counter.taken text.items)))

@@ -121,10 +121,10 @@ pub record TellsSums {T : Type 0} (form : SummaryForm) (script : ScriptView) (fr
   pub play : TellsPlay form script.mask (opening_play script) (length script.ports) script.licences found taken text
   pub whole : (lines : ℕ) → found ≡ Ok lines → ReadsWhole from to taken
 
--- what became of ports and units in a trace that was judged so is told, unless it was not read
+-- what became of ports and units in a trace that was judged so is told, where it was read, and only there
 pub record AreUnits {T : Type 0} (form : SummaryForm) (script : ScriptView) (from to : SourceState T)
     (found : Result ℕ VerifyFault) (units : Option (Result (Vec ℕ Global) AllocError)) : Type 0 where
-  pub there : was_read found ≡ true → is_some units ≡ true
+  pub there : is_some units ≡ was_read found
   pub tell : IfSome units (λ told. IfOk told (λ text. TellsSums form script from to found text.items))
 
 -- the same where a script was read first: what was found is answered, but for a write that failed then

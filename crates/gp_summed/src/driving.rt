@@ -1,5 +1,5 @@
 //! A script that is driven while the lines of its entries are counted.
-ghost use Rattle.std.specs.Prelude.{◌≡◌, ◌<◌, [], IfOk, IfSome, IsOk, OnErr, is_some, length, true};
+ghost use Rattle.std.specs.Prelude.{◌≡◌, ◌<◌, ◌↔◌, [], IfOk, IfSome, IsOk, OnErr, is_some, length, true};
 ghost use Rattle.gp_script.specs.Playable.{IsPlayable};
 ghost use Rattle.gp_script.specs.View.{script_view};
 ghost use Rattle.gp_summary.specs.Summary.{IsFresh};
@@ -74,7 +74,7 @@ fn sum_chassis<B: Began, L: Ledger, T: Read, W: Write + Drop>(
     requires flushed { sink.flushed ≡ true }
     ensures drives { DrivesSummed form manner (script_view script) turns.old turns.new result.counting result.driven
         result.summary }
-    ensures there { IsOk result.driven → is_some result.summary ≡ true }
+    ensures there { IsOk result.driven ↔ (is_some result.summary ≡ true) }
 {
     let licences = script.licences;
     let mut sink = sink;
@@ -116,7 +116,7 @@ fn sum_fibre<B: Began, L: Ledger, T: Read, W: Write + Drop>(
     requires flushed { sink.flushed ≡ true }
     ensures drives { DrivesSummed form manner (script_view script) turns.old turns.new result.counting result.driven
         result.summary }
-    ensures there { IsOk result.driven → is_some result.summary ≡ true }
+    ensures there { IsOk result.driven ↔ (is_some result.summary ≡ true) }
 {
     let licences = script.licences;
     let mut sink = sink;
@@ -155,7 +155,7 @@ fn sum_on<B: Began, L: Ledger, T: Read, W: Write + Drop>(
     requires flushed { sink.flushed ≡ true }
     ensures drives { DrivesSummed form manner (script_view script) turns.old turns.new result.counting result.driven
         result.summary }
-    ensures there { IsOk result.driven → is_some result.summary ≡ true }
+    ensures there { IsOk result.driven ↔ (is_some result.summary ≡ true) }
 {
     if script.units.is_empty() {
         sum_chassis::<B, L, T, W>(alloc, manner, blank, script, form, turns, sink)
@@ -184,7 +184,7 @@ pub fn drive_summed<B: Began, T: Read, W: Write + Drop>(
     requires ports { B.ports ≡ length script.ports.items }
     ensures drives { IfOk result (λ summed. DrivesSummed form manner (script_view script) turns.old turns.new
         summed.counting summed.driven summed.summary) }
-    ensures there { IfOk result (λ summed. IsOk summed.driven → is_some summed.summary ≡ true) }
+    ensures there { IfOk result (λ summed. IsOk summed.driven ↔ (is_some summed.summary ≡ true)) }
     ensures idle { OnErr result (turns.new ≡ turns.old) }
 {
     let counter = Counter::new(alloc, script.mask, script.ports.len())?;

@@ -115,7 +115,7 @@ fn judge_on<B: Opening, L: Ledger, T: Read, W: Write>(
     requires flushed { sink.old.flushed ≡ true }
     ensures runs { (end : VerifyState)
         × RunsVerify accounting.verify end trace.old trace.new sink.old sink.new result.found }
-    ensures there { spec_was_read result.found ≡ true → is_some result.units ≡ true }
+    ensures there { is_some result.units ≡ spec_was_read result.found }
     ensures tells { IfSome result.units (λ told. IfOk told (λ text. (taken : List ℕ)
         × TellsPlay (summary_form form) B.mask B.start B.ports licences result.found taken text.items
         × IfOk result.found (λ _. ReadsWhole trace.old trace.new taken))) }

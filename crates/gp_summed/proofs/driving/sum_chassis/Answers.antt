@@ -25,7 +25,7 @@ returns-in-Ok-clause-drives g c =
       writer = c.into_inner-counting.ensures.writer;
       took = sym c.into_inner-counting.ensures.held;
       tells = chassis_told c.args.form c.args.manner script c.args.turns.now c.drive_chassis-drove.new.turns c.args.sink c.drive_chassis-drove.new.sink counting.counter.taken given driven summary
-          c.in-Ok.ensures.left says;
+          c.requires.no_units c.in-Ok.ensures.left says;
     })
 
 pub returns-in-Err-clause-drives : goal.returns-in-Err-clause-drives

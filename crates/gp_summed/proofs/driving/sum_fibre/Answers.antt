@@ -25,7 +25,7 @@ returns-in-Ok-clause-drives g c =
       writer = c.into_inner-counting.ensures.writer;
       took = sym c.into_inner-counting.ensures.held;
       tells = fibre_told c.args.form c.args.manner script c.args.turns.now c.drive_fibre-drove.new.turns c.args.sink c.drive_fibre-drove.new.sink counting.counter.taken given driven summary
-          c.in-Ok.ensures.left says;
+          c.requires.units c.in-Ok.ensures.left says;
     })
 
 pub returns-in-Err-clause-drives : goal.returns-in-Err-clause-drives
