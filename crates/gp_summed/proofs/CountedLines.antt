@@ -1,22 +1,19 @@
--- What a verifier that counts says to lines, and what was counted of a whole text.
-use Rattle.std.specs.Prelude.{is_some}
-use Rattle.std.proofs.Common.{◌≡◌, ℕ, ◌+◌, true, false, List, [], ◌∷◌, ◌++◌, Option, None, Some, Result, IfOk, codes, map, refl, sym, ap, ◌∙◌, subst, append_assoc}
+-- What a verifier that counts says to lines, and what was counted of lines.
+use Rattle.std.proofs.Common.{◌≡◌, ℕ, ◌+◌, ◌⊎◌, inl, inr, List, [], ◌∷◌, ◌++◌, Option, None, Some, codes, map, length, refl, sym, ap, ◌∙◌, subst, append_assoc, add-one, arith}
 use Rattle.std.proofs.lemmas.List.{append-nil}
 use Rattle.gp_stream.specs.Sink.{SinkState}
-use Rattle.gp_stream.specs.Source.{SourceState, ReadsWhole}
+use Rattle.gp_stream.specs.Source.{SourceState}
 use Rattle.gp_flow.specs.declared.lines.LinesEnd.{LinesEnd}
 use Rattle.gp_flow.specs.declared.lines.LinesEnd.TheVariants.{Whole, Open, Over}
 use Rattle.gp_flow.specs.Lines.{DoesAll, ServesTo, ended_lines, handed, lines_of, with_feeds}
 use Rattle.gp_flow.proofs.LineLemmas.{handed_whole}
-use Rattle.gp_verify.specs.declared.outcome.VerifyFault.{VerifyFault}
 use Rattle.gp_verify.specs.declared.verdict.Verdict.{Verdict}
 use Rattle.gp_verify.specs.declared.verdict.Verdict.TheVariants as verdict
-use Rattle.gp_verify.specs.Following.{Following, Follows, has_ended}
-use Rattle.gp_verify.specs.Outcome.{finding}
+use Rattle.gp_verify.specs.Following.{Following, Follows, JudgesLine, TakesFrom, has_ended}
 use Rattle.gp_verify.specs.Report.{Reports}
-use Rattle.gp_verify.specs.Verdicts.{Judges, ending}
+use Rattle.gp_verify.specs.Verdicts.{Judges, VerifyState, ending}
 use Rattle.gp_verify.proofs.FollowingLemmas.{told_line}
-use Rattle.gp_summed.specs.Verifying.{AccountState, Accounts, Counts, CountsIt, is_over, said_by}
+use Rattle.gp_summed.specs.Verifying.{AccountState, Accounts, Counts, CountsFrom, counted_of, is_over, said_by}
 
 -- ---- as a verifier that doesn't count
 
@@ -26,46 +23,140 @@ as_verified (l ∷ ls) old new said h = (h.0, h.1, h.2.verify, h.3.follows, as_v
 
 -- ---- what was counted
 
+-- behind its end nothing more is counted
+pub still : (ls : List (Option (List ℕ))) (old new : AccountState) (said : List ℕ) (why : Verdict) → old.verify.ended ≡ Some why → DoesAll Accounts old ls said new
+    → (new.verify ≡ old.verify) × (new.counter.taken ≡ old.counter.taken)
+still [] old new said why is h = (ap (λ (s : AccountState). s.verify) h.1, ap (λ (s : AccountState). s.counter.taken) h.1)
+still (l ∷ ls) old new said why is h =
+    let same : h.2.verify ≡ old.verify = subst (λ (e : Option Verdict). TakesFrom e old.verify l h.2.verify) is h.3.follows.1 in
+    let taken : h.2.counter.taken ≡ old.counter.taken = subst (λ (e : Option Verdict). CountsFrom e old l h.2) is h.3.counted in
+    let rest = still ls h.2 new h.1 why (ap (λ (s : VerifyState). s.ended) same ∙ is) h.4 in
+    (rest.0 ∙ same, rest.1 ∙ taken)
+
+-- a line was counted, and it goes on behind it
+pub record GoesOn (line : List ℕ) (old new : AccountState) : Type 0 where
+  pub ended : new.verify.ended ≡ None
+  pub lines : new.verify.lines ≡ old.verify.lines + 1
+  pub taken : new.counter.taken ≡ old.counter.taken ++ (line ++ codes "\n")
+
+-- or it ended there
+pub record EndsThere (old new : AccountState) : Type 0 where
+  pub why : Verdict
+  pub ended : new.verify.ended ≡ Some why
+  pub lines : new.verify.lines ≡ old.verify.lines + 1
+  pub taken : new.counter.taken ≡ old.counter.taken ++ said_by why new.verify.said
+
+line_judged : (line text told : List ℕ) (old new : AccountState) (found : Option Verdict) → new.verify.ended ≡ found → line ≡ text → JudgesLine old.verify text new.verify
+    → new.counter.taken ≡ old.counter.taken ++ counted_of new.verify.ended text new.verify.said → GoesOn line old new ⊎ EndsThere old new
+line_judged line text told old new None is same j taken = inl (record {
+  ended = is;
+  lines = j.lines;
+  taken = taken ∙ ap (λ (e : Option Verdict). old.counter.taken ++ counted_of e text new.verify.said) is ∙ ap (λ (t : List ℕ). old.counter.taken ++ (t ++ codes "\n")) (sym same);
+})
+line_judged line text told old new (Some why) is same j taken = inr (record {
+  why = why;
+  ended = is;
+  lines = j.lines;
+  taken = taken ∙ ap (λ (e : Option Verdict). old.counter.taken ++ counted_of e text new.verify.said) is;
+})
+
+line_taken : (limit : ℕ) (line told : List ℕ) (old new : AccountState) (handed_on : Option (List ℕ)) → handed limit line ≡ handed_on → TakesFrom None old.verify handed_on new.verify
+    → CountsFrom None old handed_on new → GoesOn line old new ⊎ EndsThere old new
+line_taken limit line told old new None is long same = inr (record {
+  why = verdict.TooLong;
+  ended = ap (λ (s : VerifyState). s.ended) long;
+  lines = ap (λ (s : VerifyState). s.lines) long;
+  taken = same ∙ sym (append-nil old.counter.taken);
+})
+line_taken limit line told old new (Some text) is j taken = line_judged line text told old new new.verify.ended refl (handed_whole limit line text is) j taken
+
+-- behind a line, where it had not ended before
+pub line_counted : (limit : ℕ) (line told : List ℕ) (old new : AccountState) → old.verify.ended ≡ None → Counts old (handed limit line) told new → GoesOn line old new ⊎ EndsThere old new
+line_counted limit line told old new none c =
+    line_taken limit line told old new (handed limit line) refl (subst (λ (e : Option Verdict). TakesFrom e old.verify (handed limit line) new.verify) none c.follows.1)
+    (subst (λ (e : Option Verdict). CountsFrom e old (handed limit line) new) none c.counted)
+
 some_none : {A : Type 0} {P : Type 0} (x : A) → Some x ≡ None → P
 some_none x h = absurd (cc)
 
-line_counted : (limit : ℕ) (l : List ℕ) (o : Option (List ℕ)) (a b : List ℕ) → handed limit l ≡ o → CountsIt o a b → b ≡ a ++ (l ++ codes "\n")
-line_counted limit l None a b is c = absurd c
-line_counted limit l (Some text) a b is c = c ∙ ap (λ (t : List ℕ). a ++ (t ++ codes "\n")) (sym (handed_whole limit l text is))
+same_verdict : (v w : Verdict) → Some v ≡ Some w → v ≡ w
+same_verdict v w h = cc
 
 -- where it goes on behind lines, each of them was counted
-pub lines_counted : (limit : ℕ) (ls : List (List ℕ)) (old new : AccountState) (said : List ℕ) → DoesAll Accounts old (map (handed limit) ls) said new → new.verify.ended ≡ None
-    → (old.verify.ended ≡ None) × (new.counter.taken ≡ old.counter.taken ++ with_feeds ls)
-lines_counted limit [] old new said h on = (
-  ap (λ (s : AccountState). s.verify.ended) (sym h.1) ∙ on,
-  ap (λ (s : AccountState). s.counter.taken) h.1 ∙ sym (append-nil old.counter.taken),
-)
-lines_counted limit (l ∷ ls) old new said h on =
-    let rest = lines_counted limit ls h.2 new h.1 h.4 on in
-    let first = h.3.on rest.0 in
-    let line = line_counted limit l (handed limit l) old.counter.taken h.2.counter.taken refl first.1 in (
-      first.0,
-      rest.1 ∙ ap (λ (t : List ℕ). t ++ with_feeds ls) line ∙ append_assoc old.counter.taken (l ++ codes "\n") (with_feeds ls),
-    )
+pub lines_counted : (limit : ℕ) (ls : List (List ℕ)) (old new : AccountState) (said : List ℕ) → old.verify.ended ≡ None → DoesAll Accounts old (map (handed limit) ls) said new
+    → new.verify.ended ≡ None → new.counter.taken ≡ old.counter.taken ++ with_feeds ls
+lines_counted limit [] old new said none h on = ap (λ (s : AccountState). s.counter.taken) h.1 ∙ sym (append-nil old.counter.taken)
+lines_counted limit (l ∷ ls) old new said none h on =
+    elim (line_counted limit l h.0 old h.2 none h.3) [
+      | inl first ↦ lines_counted limit ls h.2 new h.1 first.ended h.4 on ∙ ap (λ (t : List ℕ). t ++ with_feeds ls) first.taken ∙ append_assoc old.counter.taken (l ++ codes "\n") (with_feeds ls)
+      | inr last ↦
+          let same = still (map (handed limit) ls) h.2 new h.1 last.why last.ended h.4 in
+          some_none last.why (sym last.ended ∙ ap (λ (s : VerifyState). s.ended) (sym same.0) ∙ on)
+    ]
+
+-- the lines before the one that ended it, and what was counted of them and in its place
+pub record CountedTo (ls : List (List ℕ)) (old new : AccountState) (why : Verdict) : Type 0 where
+  pub before : List (List ℕ)
+  pub text : List ℕ
+  pub others : List (List ℕ)
+  pub parts : ls ≡ before ++ text ∷ others
+  pub lines : new.verify.lines ≡ old.verify.lines + (length before + 1)
+  pub taken : new.counter.taken ≡ old.counter.taken ++ (with_feeds before ++ said_by why new.verify.said)
+
+one_more : (a b n m k : ℕ) → a ≡ b + (n + 1) → b ≡ k + 1 → m ≡ n + 1 → a ≡ k + (m + 1)
+one_more a b n m k h i j = omega arith
+
+pub counted_to : (limit : ℕ) (ls : List (List ℕ)) (old new : AccountState) (said : List ℕ) (why : Verdict) → old.verify.ended ≡ None → new.verify.ended ≡ Some why
+    → DoesAll Accounts old (map (handed limit) ls) said new → CountedTo ls old new why
+counted_to limit [] old new said why none is h = some_none why (sym is ∙ ap (λ (s : AccountState). s.verify.ended) h.1 ∙ none)
+counted_to limit (l ∷ ls) old new said why none is h =
+    elim (line_counted limit l h.0 old h.2 none h.3) [
+      | inl first ↦
+          let rest = counted_to limit ls h.2 new h.1 why first.ended is h.4 in
+          let behind = with_feeds rest.before ++ said_by why new.verify.said in
+          record {
+            before = l ∷ rest.before;
+            text = rest.text;
+            others = rest.others;
+            parts = ap (λ (o : List (List ℕ)). l ∷ o) rest.parts;
+            lines = one_more new.verify.lines h.2.verify.lines (length rest.before) (length (l ∷ rest.before)) old.verify.lines rest.lines first.lines (sym (add-one (length rest.before)));
+            taken = rest.taken ∙ ap (λ (t : List ℕ). t ++ behind) first.taken ∙ append_assoc old.counter.taken (l ++ codes "\n") behind
+                ∙ ap (λ (t : List ℕ). old.counter.taken ++ t) (sym (append_assoc (l ++ codes "\n") (with_feeds rest.before) (said_by why new.verify.said)));
+          }
+      | inr last ↦
+          let same = still (map (handed limit) ls) h.2 new h.1 last.why last.ended h.4 in
+          let verdict_is : last.why ≡ why = same_verdict last.why why (sym last.ended ∙ ap (λ (s : VerifyState). s.ended) (sym same.0) ∙ is) in
+          record {
+            before = [];
+            text = l;
+            others = ls;
+            parts = refl;
+            lines = ap (λ (s : VerifyState). s.lines) same.0 ∙ last.lines;
+            taken = same.1 ∙ last.taken ∙ ap (λ (v : Verdict). old.counter.taken ++ said_by v h.2.verify.said) verdict_is
+                ∙ ap (λ (s : VerifyState). old.counter.taken ++ said_by why s.said) (sym same.0);
+          }
+    ]
 
 -- ---- a line
 
--- behind a line where it goes on, by what is said of it
-goes_on : (why : Verdict) (text before after said : List ℕ) → ending why ≡ None → after ≡ before ++ said_by why said → (why ≡ verdict.Follows → said ≡ text ++ codes "\n")
-    → after ≡ before ++ (text ++ codes "\n")
-goes_on verdict.Follows text before after said on taken line = taken ∙ ap (λ (t : List ℕ). before ++ t) (line refl)
-goes_on verdict.NotALine text before after said on taken line = some_none verdict.NotALine on
-goes_on verdict.NoPort text before after said on taken line = some_none verdict.NoPort on
-goes_on verdict.WrongNumber text before after said on taken line = some_none verdict.WrongNumber on
-goes_on verdict.NotAStep text before after said on taken line = some_none verdict.NotAStep on
-goes_on verdict.TooLong text before after said on taken line = some_none verdict.TooLong on
+-- what was counted of a line, by what is said of it
+counted_by : (why : Verdict) (text before after said : List ℕ) → after ≡ before ++ said_by why said → (why ≡ verdict.Follows → said ≡ text ++ codes "\n")
+    → after ≡ before ++ counted_of (ending why) text said
+counted_by verdict.Follows text before after said taken line = taken ∙ ap (λ (t : List ℕ). before ++ t) (line refl)
+counted_by verdict.NotALine text before after said taken line = taken
+counted_by verdict.NoPort text before after said taken line = taken
+counted_by verdict.WrongNumber text before after said taken line = taken
+counted_by verdict.NotAStep text before after said taken line = taken
+counted_by verdict.TooLong text before after said taken line = taken
 
 module _ (old new : AccountState) (text : List ℕ) where
   counts_line : (told : List ℕ) (why : Verdict) → Follows old.verify (Some text) told new.verify → old.verify.ended ≡ None → new.verify.ended ≡ ending why
       → new.counter.taken ≡ old.counter.taken ++ said_by why new.verify.said → (why ≡ verdict.Follows → new.verify.said ≡ text ++ codes "\n") → Counts old (Some text) told new
   counts_line told why follows none ends taken line = record {
     follows = follows;
-    on = λ on. (none, goes_on why text old.counter.taken new.counter.taken new.verify.said (sym ends ∙ on) taken line);
+    counted = subst (λ (e : Option Verdict). CountsFrom e old (Some text) new) (sym none)
+        (counted_by why text old.counter.taken new.counter.taken new.verify.said taken line
+        ∙ ap (λ (e : Option Verdict). old.counter.taken ++ counted_of e text new.verify.said) (sym ends));
   }
 
   -- a line that was judged, and its report
@@ -119,26 +210,3 @@ module _ {R W : Type 0} (from to : SourceState R) (old new : AccountState) (befo
     },
     s.1,
   )
-
-  -- of a text that was read to its end, and whose last line has its line feed, all was counted
-  pub whole_counted : ServesTo Accounts is_over limit Whole from to old new before after → new.verify.ended ≡ None → old.counter.taken ≡ [] → ReadsWhole from to new.counter.taken
-  whole_counted s on none =
-      let lines = lines_counted limit (lines_of s.bytes) old new s.said s.spoken on in
-      let all : new.counter.taken ≡ s.bytes = lines.1 ∙ ap (λ (t : List ℕ). t ++ with_feeds (lines_of s.bytes)) none ∙ sym (s.feeds.0 refl) in
-      subst (λ (t : List ℕ). ReadsWhole from to t) (sym all) s.read
-
-  never : {P : Type 0} → false ≡ true → P
-  never h = absurd (cc)
-
-  found_whole : (end : LinesEnd) (ended : Option Verdict) (line : ℕ) → new.verify.ended ≡ ended → old.counter.taken ≡ [] → ServesTo Accounts is_over limit end from to old new before after
-      → IfOk (finding end ended line) (λ lines. ReadsWhole from to new.counter.taken)
-  found_whole end (Some why) line is none s = tt
-  found_whole Open None line is none s = tt
-  found_whole Whole None line is none s = whole_counted s is none
-  found_whole Over None line is none s = never (ap is_some (sym is) ∙ s.1)
-
-  -- of a text that is a run all was counted
-  pub counted_as : (end : LinesEnd) (found : Option Verdict) (line : ℕ) (answer : Result ℕ VerifyFault) → found ≡ new.verify.ended → answer ≡ finding end found line
-      → old.counter.taken ≡ [] → ServesTo Accounts is_over limit end from to old new before after → IfOk answer (λ lines. ReadsWhole from to new.counter.taken)
-  counted_as end found line answer is same none s =
-      subst (λ (a : Result ℕ VerifyFault). IfOk a (λ lines. ReadsWhole from to new.counter.taken)) (sym same) (found_whole end found line (sym is) none s)

@@ -1,4 +1,5 @@
 pub mod Plays
 pub mod CountedLines
+pub mod CountedTexts
 pub mod Drives
 pub mod CountedChecks

@@ -9,8 +9,8 @@ use Rattle.gp_explain.specs.declared.form.Form.{Form}
 use Rattle.gp_explain.specs.declared.form.Form.TheVariants as forms
 use Rattle.gp_flow.specs.declared.fault.Unanswered.TheVariants as unanswered
 use Rattle.gp_flow.specs.declared.fault.LinesFault.TheVariants.{Line}
-use Rattle.gp_flow.specs.Lines.{Speech, WholeLines}
-use Rattle.gp_stream.specs.Source.{SourceState, ReadsWhole}
+use Rattle.gp_flow.specs.Lines.{Speech, WholeLines, with_feeds}
+use Rattle.gp_stream.specs.Source.{SourceState}
 use Rattle.gp_trace.specs.Text.{trace_text}
 use Rattle.gp_script.specs.Script.{ScriptView, script_of}
 use Rattle.gp_replay.specs.Chassis.{PlayState, opening_play}
@@ -23,7 +23,9 @@ use Rattle.gp_summary.specs.Summary.{SaysCounted}
 use Rattle.gp_summary.specs.Text.{number_field}
 use Rattle.gp_verify.specs.declared.outcome.CheckFault.{CheckFault}
 use Rattle.gp_verify.specs.declared.outcome.CheckFault.TheVariants.{Script, Trace}
+use Rattle.gp_verify.specs.Checking.{opened_by}
 use Rattle.gp_verify.specs.Ending.{as_checked, was_read}
+use Rattle.gp_verify.specs.Outcome.{IsRefused, IsRun, IsUnended}
 use Rattle.gp_verify.specs.declared.outcome.VerifyFault.{VerifyFault}
 use Rattle.gp_verify.specs.declared.outcome.VerifyFault.TheVariants.{Refused, Unended, Lines}
 use Rattle.gp_verify.specs.declared.verdict.Verdict.{Verdict}
@@ -54,16 +56,24 @@ said_by verdict.NotALine said = []
 said_by verdict.NoPort said = []
 said_by verdict.TooLong said = []
 
--- the line, with its line feed, was counted behind what was counted before
-abbrev pub CountsIt : Option (List ℕ) → List ℕ → List ℕ → Type 0
-CountsIt None old new = ⊥
-CountsIt (Some text) old new = new ≡ old ++ (text ++ codes "\n")
+-- what is counted of a line that is judged, by the verdict that ends the verification there, if one does: all of a line
+-- that follows; in the place of any other the line of the entry that is made
+abbrev pub counted_of : Option Verdict → List ℕ → List ℕ → List ℕ
+counted_of None text said = text ++ codes "\n"
+counted_of (Some why) text said = said_by why said
 
--- a line is judged and told of as it is without counting; where the verification goes on behind it, it was counted
+-- what was counted with a line, by what ended the verification before: nothing behind its end, nor of a line that is too
+-- long
+abbrev pub CountsFrom : Option Verdict → AccountState → Option (List ℕ) → AccountState → Type 0
+CountsFrom (Some why) old line new = new.counter.taken ≡ old.counter.taken
+CountsFrom None old None new = new.counter.taken ≡ old.counter.taken
+CountsFrom None old (Some text) new =
+    new.counter.taken ≡ old.counter.taken ++ counted_of new.verify.ended text new.verify.said
+
+-- a line is judged and told of as it is without counting, and that is counted of it
 pub record Counts (old : AccountState) (line : Option (List ℕ)) (told : List ℕ) (new : AccountState) : Type 0 where
   pub follows : following.Follows old.verify line told new.verify
-  pub on : new.verify.ended ≡ None
-      → (old.verify.ended ≡ None) × CountsIt line old.counter.taken new.counter.taken
+  pub counted : CountsFrom old.verify.ended old line new
 
 abbrev pub Accounts : Speech AccountState
 Accounts = WholeLines Counts
@@ -71,6 +81,18 @@ Accounts = WholeLines Counts
 -- it has ended
 abbrev pub is_over : AccountState → Bool
 is_over state = is_some state.verify.ended
+
+-- what was found of a text, and what was counted of it: of a run the whole text; of one without its last line feed the
+-- same with it; of one in which a line can't be the lines before that one, and then what is counted in its place
+abbrev pub CountsText : {R : Type 0} → VerifyState → VerifyState → SourceState R → SourceState R → Result ℕ VerifyFault
+    → List ℕ → Type 0
+CountsText old end from to (Ok lines) taken = (run : IsRun old from to lines) × (taken ≡ run.text)
+CountsText old end from to (Err (Unended line)) taken =
+    (unended : IsUnended old from to line) × (taken ≡ unended.text ++ codes "\n")
+CountsText old end from to (Err (Refused line why)) taken =
+    (told : List ℕ) × (refused : IsRefused old end from to line why told)
+    × (taken ≡ with_feeds refused.before ++ said_by why end.said)
+CountsText old end from to (Err (Lines fault)) taken = Unit {0}
 
 -- ---- what is told of it
 
@@ -104,31 +126,33 @@ reach_text form (Err (Refused line why)) = reach_refused form line why
 reach_text form (Err (Unended line)) = reach form line
 reach_text form (Err (Lines fault)) = []
 
--- a play from this start was counted, and the text tells how far the trace is a run, what was counted, and how so many
--- ports, their units and the licences stand behind its last entry
-pub record TellsPlay (form : SummaryForm) (mask : Mask) (start : PlayState) (count licences : ℕ)
+-- a play from this start to this end was counted, and the text tells how far the trace is a run, what was counted, and
+-- how so many ports, their units and the licences stand at the end
+pub record TellsPlay (form : SummaryForm) (mask : Mask) (start end : PlayState) (count licences : ℕ)
     (found : Result ℕ VerifyFault) (taken text : List ℕ) : Type 0 where
-  pub end : PlayState
   pub played : IsPlayed mask start end taken
   pub summary : List ℕ
   pub says : SaysCounted form mask taken end.world.ports count end.world.free licences summary
   pub text_is : text ≡ reach_text form found ++ summary
 
--- and of a run all its lines were counted: what was counted is the whole text
-pub record TellsSums {T : Type 0} (form : SummaryForm) (script : ScriptView) (from to : SourceState T)
+-- a trace was verified on the chassis that the script opens, its entries were counted, and the text tells of these and
+-- of the play where the verification ended
+pub record TellsSums {T : Type 0} (form : Form) (script : ScriptView) (from to : SourceState T)
     (found : Result ℕ VerifyFault) (text : List ℕ) : Type 0 where
+  pub end : VerifyState
   pub taken : List ℕ
-  pub play : TellsPlay form script.mask (opening_play script) (length script.ports) script.licences found taken text
-  pub whole : (lines : ℕ) → found ≡ Ok lines → ReadsWhole from to taken
+  pub counts : CountsText (opened_by form script) end from to found taken
+  pub play : TellsPlay (summary_form form) script.mask (opening_play script) end.play (length script.ports)
+      script.licences found taken text
 
 -- what became of ports and units in a trace that was judged so is told, where it was read, and only there
-pub record AreUnits {T : Type 0} (form : SummaryForm) (script : ScriptView) (from to : SourceState T)
+pub record AreUnits {T : Type 0} (form : Form) (script : ScriptView) (from to : SourceState T)
     (found : Result ℕ VerifyFault) (units : Option (Result (Vec ℕ Global) AllocError)) : Type 0 where
   pub there : is_some units ≡ was_read found
   pub tell : IfSome units (λ told. IfOk told (λ text. TellsSums form script from to found text.items))
 
 -- the same where a script was read first: what was found is answered, but for a write that failed then
-pub record AreUnitsOf {R T : Type 0} (form : SummaryForm) (before after : SourceState R) (from to : SourceState T)
+pub record AreUnitsOf {R T : Type 0} (form : Form) (before after : SourceState R) (from to : SourceState T)
     (answer : Result ℕ CheckFault) (units : Option (Result (Vec ℕ Global) AllocError)) : Type 0 where
   pub script : ScriptView
   pub read : ReadsBy script_of before after (Ok script)
@@ -137,7 +161,7 @@ pub record AreUnitsOf {R T : Type 0} (form : SummaryForm) (before after : Source
   pub units_are : AreUnits form script from to found units
 
 -- where no script was read nothing is told
-abbrev pub SumsCheck : {R T : Type 0} → SummaryForm → SourceState R → SourceState R → SourceState T → SourceState T
+abbrev pub SumsCheck : {R T : Type 0} → Form → SourceState R → SourceState R → SourceState T → SourceState T
     → Result ℕ CheckFault → Option (Result (Vec ℕ Global) AllocError) → Type 0
 SumsCheck form before after from to (Err (Script fault)) units = units ≡ None
 SumsCheck form before after from to (Err (Trace fault)) units =

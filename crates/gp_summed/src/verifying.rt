@@ -2,7 +2,6 @@
 ghost use Rattle.std.specs.Prelude.{◌≡◌, ℕ, List, None, Ok, Err, [], IfOk, IfErr, IfSome, is_some, length, true};
 ghost use Rattle.gp_flow.specs.declared.fault.Unanswered.TheVariants as unanswered;
 ghost use Rattle.gp_flow.specs.declared.fault.LinesFault.TheVariants.{Line};
-ghost use Rattle.gp_stream.specs.Source.{ReadsWhole};
 ghost use Rattle.gp_script.specs.Playable.{IsPlayable};
 ghost use Rattle.gp_script.specs.Script.{script_of};
 ghost use Rattle.gp_script.specs.View.{script_view};
@@ -10,10 +9,9 @@ ghost use Rattle.gp_replay.specs.Chassis.{opening_play};
 ghost use Rattle.gp_replay.specs.Outcome.{ReadsBy};
 ghost use Rattle.gp_verify.specs.declared.outcome.VerifyFault.TheVariants.{Lines};
 ghost use Rattle.gp_verify.specs.Checking.{ChecksTrace, IsNoScript};
-ghost use Rattle.gp_verify.specs.Ending.{ChecksTold, as_checked as spec_as_checked, was_read as spec_was_read};
+ghost use Rattle.gp_verify.specs.Ending.{ChecksTold, was_read as spec_was_read};
 ghost use Rattle.gp_verify.specs.Outcome.{RunsVerify, Writes};
-ghost use Rattle.gp_verify.specs.Verdicts.{VerifyState};
-ghost use Rattle.gp_summed.specs.Verifying.{AreUnits, SumsCheck, TellsPlay, summary_form};
+ghost use Rattle.gp_summed.specs.Verifying.{AccountState, AreUnits, CountsText, SumsCheck, TellsPlay, summary_form};
 
 use crate::accounting::Accounting;
 use crate::opening::Opening;
@@ -62,7 +60,8 @@ fn run_counted<B: Opening, L: Ledger, R: Read, W: Write>(
     requires flushed { sink.old.flushed ≡ true }
     ensures runs { RunsVerify accounting.old.verify accounting.new.verify source.old source.new sink.old sink.new
         result }
-    ensures whole { IfOk result (λ _. ReadsWhole source.old source.new accounting.new.counter.taken) }
+    ensures counts { CountsText accounting.old.verify accounting.new.verify source.old source.new result
+        accounting.new.counter.taken }
 {
     accounting.verifier().stands();
     let end = run_lines(alloc, source, sink, accounting)?;
@@ -78,8 +77,8 @@ fn units_of<B: Opening, L: Ledger>(
     found: &Result<u64, VerifyFault>,
     accounting: &Accounting<B, L>,
 ) -> Result<Vec<u8>, AllocError>
-    ensures { IfOk result (λ text. TellsPlay (summary_form form) B.mask B.start B.ports licences found.now
-        accounting.now.counter.taken text.items) }
+    ensures { IfOk result (λ text. TellsPlay (summary_form form) B.mask B.start accounting.now.verify.play B.ports
+        licences found.now accounting.now.counter.taken text.items) }
 {
     let form = summary_form(form);
     let mut text = Vec::new(alloc);
@@ -113,12 +112,12 @@ fn judge_on<B: Opening, L: Ledger, T: Read, W: Write>(
     requires first { accounting.verify.lines ≡ 0 }
     requires nothing { accounting.counter.taken ≡ [] }
     requires flushed { sink.old.flushed ≡ true }
-    ensures runs { (end : VerifyState)
-        × RunsVerify accounting.verify end trace.old trace.new sink.old sink.new result.found }
     ensures there { is_some result.units ≡ spec_was_read result.found }
-    ensures tells { IfSome result.units (λ told. IfOk told (λ text. (taken : List ℕ)
-        × TellsPlay (summary_form form) B.mask B.start B.ports licences result.found taken text.items
-        × IfOk result.found (λ _. ReadsWhole trace.old trace.new taken))) }
+    ensures ends { (end : AccountState)
+        × RunsVerify accounting.verify end.verify trace.old trace.new sink.old sink.new result.found
+        × CountsText accounting.verify end.verify trace.old trace.new result.found end.counter.taken
+        × IfSome result.units (λ told. IfOk told (λ text. TellsPlay (summary_form form) B.mask B.start end.verify.play
+        B.ports licences result.found end.counter.taken text.items)) }
 {
     let mut accounting = accounting;
     let found = run_counted(alloc, trace, sink, &mut accounting);
@@ -160,7 +159,7 @@ fn sum_on<B: Opening, L: Ledger, T: Read, W: Write>(
     requires flushed { sink.old.flushed ≡ true }
     ensures checks { (told : List ℕ) × ChecksTrace form trace.old trace.new told result.found (script_view script)
         × Writes sink.old sink.new told result.found }
-    ensures units { AreUnits (summary_form form) (script_view script) trace.old trace.new result.found result.units }
+    ensures units { AreUnits form (script_view script) trace.old trace.new result.found result.units }
 {
     let licences = script.licences;
     let Ok(counter) = Counter::new(alloc, script.mask, script.ports.len()) else {
@@ -190,7 +189,7 @@ fn sum_script<B: Opening, T: Read, W: Write>(
     requires flushed { sink.old.flushed ≡ true }
     ensures checks { (told : List ℕ) × ChecksTrace form trace.old trace.new told result.found (script_view script)
         × Writes sink.old sink.new told result.found }
-    ensures units { AreUnits (summary_form form) (script_view script) trace.old trace.new result.found result.units }
+    ensures units { AreUnits form (script_view script) trace.old trace.new result.found result.units }
 {
     let blank = Blank::new(u64::from(MAX_LICENCES));
     sum_on::<B, Brand, T, W>(alloc, form, blank, script, trace, sink)
@@ -204,16 +203,6 @@ fn script_in<R: Read>(alloc: Global, source: &mut Source<R>) -> Result<Script, R
 {
     let bytes = read_all(alloc, source)?;
     Ok(read_script(alloc, bytes.as_slice())?)
-}
-
-/// What was found of a trace, where a script was read first.
-fn as_checked(told: Result<u64, VerifyFault>) -> Result<u64, CheckFault>
-    ensures { result ≡ spec_as_checked told }
-{
-    match told {
-        Ok(lines) => Ok(lines),
-        Err(fault) => Err(CheckFault::Trace(fault)),
-    }
 }
 
 /// Tells whether a text is the trace of some run on the chassis that a script opens, as `verify_told` does, and what
@@ -234,14 +223,14 @@ pub fn verify_summed<R: Read, T: Read, W: Write>(
 ) -> Verified
     requires { sink.old.flushed ≡ true }
     ensures told { ChecksTold form at_least script.old script.new trace.old trace.new sink.old sink.new result.found }
-    ensures units { SumsCheck (summary_form form) script.old script.new trace.old trace.new result.found result.units }
+    ensures units { SumsCheck form script.old script.new trace.old trace.new result.found result.units }
 {
     match script_in(alloc, script) {
         Ok(read) => {
             let Judged { found, units } = sum_script::<Brand, T, W>(alloc, form, read, trace, sink);
             let told = tell_end(sink, form, at_least, found);
             Verified {
-                found: as_checked(told),
+                found: told.map_err(CheckFault::from),
                 units,
             }
         }

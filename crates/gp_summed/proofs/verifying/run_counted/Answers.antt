@@ -2,7 +2,8 @@ use Rattle.std.proofs.Common.{◌∙◌, All, ap, subst}
 use Rattle.gp_verify.specs.Ports.{IsOrderlyPort}
 use Rattle.gp_verify.specs.Verdicts.{VerifyState}
 use Rattle.gp_verify.proofs.OutcomeLemmas.{verified_as}
-use Rattle.gp_summed.proofs.CountedLines.{counted_as, served}
+use Rattle.gp_summed.proofs.CountedLines.{served}
+use Rattle.gp_summed.proofs.CountedTexts.{counted_as}
 use Rattle.gp_summed.proofs.verifying.run_counted.Goals as goal
 
 pub returns-clause-runs : goal.returns-clause-runs
@@ -13,8 +14,10 @@ returns-clause-runs g c =
     verified_as _ _ c.args.accounting.now.verify c.run_lines.new.work.verify _ _ c.in_ok-end.end c.ended-found.result c.lines.result c.finding.result ended lines c.finding.ensures ports
     c.requires.begins c.requires.first (served _ _ c.args.accounting.now c.run_lines.new.work _ _ 4096 c.in_ok-end.end c.in_ok-end.ensures.ok)
 
-pub returns-clause-whole : goal.returns-clause-whole
-returns-clause-whole g c =
+pub returns-clause-counts : goal.returns-clause-counts
+returns-clause-counts g c =
     let ended = c.ended-found.ensures ∙ ap (λ (s : VerifyState). s.ended) c.verifier-2.ensures in
-    counted_as c.args.source.now c.run_lines.new.source c.args.accounting.now c.run_lines.new.work c.args.sink.now c.run_lines.new.sink 4096 c.in_ok-end.end c.ended-found.result
-    c.lines.result c.finding.result ended c.finding.ensures c.requires.nothing c.in_ok-end.ensures.ok
+    let lines = c.lines.ensures ∙ ap (λ (s : VerifyState). s.lines) c.verifier-3.ensures in
+    let ports = subst (λ (s : VerifyState). All IsOrderlyPort s.play.world.ports) c.verifier.ensures c.stands.ensures in
+    counted_as c.args.source.now c.run_lines.new.source c.args.accounting.now c.run_lines.new.work c.args.sink.now c.run_lines.new.sink ports c.requires.begins c.requires.first c.requires.nothing
+    c.in_ok-end.end c.ended-found.result c.lines.result c.finding.result ended lines c.finding.ensures c.in_ok-end.ensures.ok
