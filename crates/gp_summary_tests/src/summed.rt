@@ -1,0 +1,497 @@
+//! Traces that are verified, scripts that are driven and light that is told, and the units of each.
+ghost use Rattle.std.specs.Prelude.{◌≡◌, length};
+ghost use Rattle.gp_script.specs.Playable.{IsPlayable};
+ghost use Rattle.gp_script.specs.View.{script_view};
+
+use gp_drive::{DriveFault, DriveManner, Driven};
+use gp_explain::Form;
+use gp_flow::{LinesFault, Unanswered};
+use gp_replay::RunFault;
+use gp_script::{Script, ScriptFault, read_script};
+use gp_stream::{Sink, Source};
+use gp_summary::{Ended, SummaryForm, Summed, play_summed, sum_with_lights};
+use gp_summed::{DriveSummed, Verified, drive_summed, verify_summed};
+use gp_tally::Began;
+use gp_verify::{CheckFault, Verdict, VerifyFault};
+use std::alloc::{AllocError, Global};
+use std::io;
+use std::io::{ErrorKind, Read, Write};
+use std::marker::Brand;
+
+/// A port that admits one unit and searches once.
+const PORT: &str = "licences = 1\n[[port]]\ncycles = 1\nadmit = [\"ABCD00000001\"]\n";
+
+/// The same with the unit on its fibre.
+const FIBRE: &str = "licences = 1\n[[port]]\ncycles = 1\nadmit = [\"ABCD00000001\"]\n\
+    [[unit]]\nserial = \"ABCD00000001\"\ndelay = 200000\n";
+
+/// A search, up to its window.
+const SEARCH: &str = "\
+0 0 search = searching
+0 1 frame = ok
+0 2 frame = ok sent ff010000000000000000000058
+0 3 frame = ok sent ff010000000000000000000058
+0 4 frame = ok sent ff010000000000000000000058
+0 5 frame = ok grant search
+";
+
+/// The unit's answer, without its line feed.
+const FOUND: &str = "0 6 burst 100000 ff01414243440000000100002c = found 0";
+
+/// The same, and the unit is ranged.
+const RANGED: &str = "\
+0 6 burst 100000 ff01414243440000000100002c = found 0
+0 7 frame = ok sent ff03004142434400000001001b
+0 8 frame = ok sent ff03004142434400000001001b
+0 9 frame = ok sent ff03004142434400000001001b
+0 10 frame = ok grant range 0
+0 11 burst 100000 0001414243440000000100006b = ranged 0 211040
+0 12 frame = ok sent 0004000003386000000000009c
+0 13 frame = ok sent 0004000003386000000000009c
+0 14 frame = ok sent 0004000003386000000000009c
+0 15 frame = ok
+";
+
+/// What is told behind the search.
+const SEARCH_UNITS: &str = "port 0: units 0, acquisition 0, frames 5, bursts 0, commands 1\n\
+    licences: free 1, in use 0\n";
+
+/// What is told behind the unit's answer.
+const FOUND_UNITS: &str = "port 0: units 1, acquisition 0, frames 5, bursts 1, commands 1\n\
+    unit ABCD00000001: ranging, onu 0, found 1, ranged 0, lost 0, last frame 5\n\
+    licences: free 0, in use 1\n";
+
+/// What is told at the end.
+const RANGED_UNITS: &str = "port 0: units 1, standby, frames 13, bursts 2, commands 1\n\
+    unit ABCD00000001: operating, onu 0, eqd 211040, found 1, ranged 1, lost 0, last frame 9, took frames 4\n\
+    licences: free 0, in use 1\n";
+
+/// Room for all that is written here, so that no write takes memory.
+const ROOM: usize = 4_096;
+
+/// Fails each read.
+#[derive(Drop)]
+struct BrokenReader;
+
+impl Read for BrokenReader {
+    fn read(&mut self, _buffer: &mut [u8]) -> io::Result<usize> {
+        Err(io::Error::from(ErrorKind::Other))
+    }
+}
+
+/// Tells whether the lines of ports and units are there, and are these, behind that line.
+fn are_units(units: &Option<Result<Vec<u8>, AllocError>>, first: &str, wanted: &str) -> bool {
+    match units {
+        Some(Ok(text)) => text
+            .strip_prefix(first.as_bytes())
+            .is_some_and(|rest| rest == wanted.as_bytes()),
+        Some(Err(_)) | None => false,
+    }
+}
+
+/// Verifies a trace, and gives what was written too.
+fn verified<T: Read + Drop>(
+    alloc: Global,
+    form: Form,
+    script: &str,
+    trace: T,
+) -> Result<(Verified, Vec<u8>), AllocError> {
+    let mut script = Source::new(script.as_bytes());
+    let mut trace = Source::endless(trace);
+    let mut sink = Sink::new(alloc, Vec::with_capacity(alloc, ROOM)?)?;
+    let verified = verify_summed(alloc, form, None, &mut script, &mut trace, &mut sink);
+    Ok((verified, sink.into_inner()))
+}
+
+/// A trace behind the search, what is found of it, what is told of it, and of its units: up to which line, and how they
+/// stand.
+#[derive(Clone, Copy)]
+struct Row {
+    behind: &'static str,
+    found: Result<u64, VerifyFault>,
+    told: &'static str,
+    reach: &'static str,
+    units: &'static str,
+}
+
+/// The seventh line can't be.
+const fn refused(verdict: Verdict) -> Result<u64, VerifyFault> {
+    Err(VerifyFault::Refused { line: 7, verdict })
+}
+
+/// A run, a last line without its line feed, and each way in which a line can't be, but that it is too long.
+fn rows() -> [Row; 7] {
+    [
+        Row {
+            behind: RANGED,
+            found: Ok(16),
+            told: "16 lines, a run\n",
+            reach: "",
+            units: RANGED_UNITS,
+        },
+        Row {
+            behind: "",
+            found: Ok(6),
+            told: "6 lines, a run\n",
+            reach: "",
+            units: SEARCH_UNITS,
+        },
+        Row {
+            behind: FOUND,
+            found: Err(VerifyFault::Unended { line: 7 }),
+            told: "",
+            reach: "up to line 7\n",
+            units: FOUND_UNITS,
+        },
+        Row {
+            behind: "0 6 burst 100000 ff01414243440000000100002c = refused 5 no-id\n0 7 frame = ok\n",
+            found: refused(Verdict::NotAStep),
+            told: "line 7: 0 6 burst 100000 ff01414243440000000100002c = refused 5 no-id\n\
+                machine: 0 6 burst 100000 ff01414243440000000100002c = found 0\n\
+                any free ONU-ID would do\n\
+                why: the reply: `found 0`, not `refused 5 no-id`\n",
+            reach: "up to line 6, then the machine's own\n",
+            units: FOUND_UNITS,
+        },
+        Row {
+            behind: "0 5 burst 100000 ff01414243440000000100002c = found 0\n",
+            found: refused(Verdict::WrongNumber),
+            told: "line 7: 0 5 burst 100000 ff01414243440000000100002c = found 0\n\
+                machine: 0 6 burst 100000 ff01414243440000000100002c = found 0\n\
+                any free ONU-ID would do\n\
+                why: the number: `6` is next, not `5`\n",
+            reach: "up to line 6, then the machine's own\n",
+            units: FOUND_UNITS,
+        },
+        Row {
+            behind: "found 7\n0 6 frame = ok\n",
+            found: refused(Verdict::NotALine),
+            told: "line 7: found 7\nwhy: the port: a line begins with one, 0 to 15\n",
+            reach: "up to line 6\n",
+            units: SEARCH_UNITS,
+        },
+        Row {
+            behind: "1 0 frame = ok\n",
+            found: refused(Verdict::NoPort),
+            told: "line 7: 1 0 frame = ok\nwhy: the port: the last of the script is 0\n",
+            reach: "up to line 6\n",
+            units: SEARCH_UNITS,
+        },
+    ]
+}
+
+#[test]
+fn traces_are_verified(rt: HostRuntime) -> Result<(), AllocError> {
+    for row in rows() {
+        let trace = SEARCH.as_bytes().chain(row.behind.as_bytes());
+        let (verified, told) = verified(rt.alloc(), Form::Plain, PORT, trace)?;
+        let found = row.found.map_err(CheckFault::Trace);
+        assert!(rt; verified.found == found, "{}", row.behind);
+        assert!(rt; told.as_slice() == row.told.as_bytes(), "{}", row.behind);
+        assert!(rt;
+            are_units(&verified.units, row.reach, row.units),
+            "{}",
+            row.behind
+        );
+    }
+    Ok(())
+}
+
+/// A line that is too long is not kept, and nothing is counted of it.
+#[test]
+fn a_line_is_too_long(rt: HostRuntime) -> Result<(), AllocError> {
+    let long = [b'0'; 4_097];
+    let trace = SEARCH.as_bytes().chain(long.as_slice());
+    let (verified, told) = verified(rt.alloc(), Form::Plain, PORT, trace)?;
+    let found = refused(Verdict::TooLong).map_err(CheckFault::Trace);
+    assert!(rt; verified.found == found);
+    assert!(rt; told.is_empty());
+    assert!(rt; are_units(&verified.units, "up to line 6\n", SEARCH_UNITS));
+    Ok(())
+}
+
+/// As JSON an object comes first that tells how far the trace is a run, where it is none.
+#[test]
+fn objects_tell_how_far(rt: HostRuntime) -> Result<(), AllocError> {
+    for (behind, first) in [
+        ("", "{\"port\":0,\"units\":0,"),
+        (
+            "0 6 frame = ok\r\n",
+            "{\"up_to\":6,\"machine\":true}\n{\"port\":0,\"units\":0,",
+        ),
+        (
+            "found 7\n",
+            "{\"up_to\":6,\"machine\":false}\n{\"port\":0,\"units\":0,",
+        ),
+        (
+            FOUND,
+            "{\"up_to\":7,\"machine\":false}\n{\"port\":0,\"units\":1,",
+        ),
+    ] {
+        let trace = SEARCH.as_bytes().chain(behind.as_bytes());
+        let (verified, _) = verified(rt.alloc(), Form::Json, PORT, trace)?;
+        match &verified.units {
+            Some(Ok(text)) => assert!(rt; text.starts_with(first.as_bytes()), "{behind}"),
+            Some(Err(_)) | None => assert!(rt; false, "{behind}"),
+        }
+    }
+    Ok(())
+}
+
+/// Of a script that is none, and of a trace that can't be read, nothing is told.
+#[test]
+fn nothing_was_read(rt: HostRuntime) -> Result<(), AllocError> {
+    let (of_script, told) = verified(rt.alloc(), Form::Plain, "ports = 1", SEARCH.as_bytes())?;
+    let fault = CheckFault::Script(RunFault::Script(ScriptFault::Shape));
+    assert!(rt; of_script.found == Err(fault));
+    assert!(rt; of_script.units.is_none() && told.is_empty());
+    let (of_trace, told) = verified(rt.alloc(), Form::Plain, PORT, BrokenReader)?;
+    let fault = CheckFault::Trace(VerifyFault::Lines(LinesFault::Read));
+    assert!(rt; of_trace.found == Err(fault));
+    assert!(rt; of_trace.units.is_none() && told.is_empty());
+    Ok(())
+}
+
+/// How a drive ended, the lines of its ports and units, and its writer.
+type Drive<W> = (
+    Result<Driven, DriveFault>,
+    Option<Result<Vec<u8>, AllocError>>,
+    W,
+);
+
+/// Drives a script with a writer.
+fn driven_by<B: Began, T: Read + Drop, W: Write + Drop>(
+    alloc: Global,
+    script: Script,
+    lines: T,
+    writer: W,
+) -> Result<Drive<W>, AllocError>
+    requires playable { IsPlayable (script_view script) }
+    requires held { W.contents writer ≡ B.held }
+    requires mask { B.mask ≡ script.mask }
+    requires ports { B.ports ≡ length script.ports.items }
+{
+    let manner = DriveManner {
+        done: false,
+        lights: false,
+    };
+    let mut turns = Source::endless(lines);
+    let form = SummaryForm::Text;
+    let DriveSummed {
+        driven,
+        summary,
+        counting,
+    } = drive_summed::<B, T, W>(alloc, manner, script, form, &mut turns, writer)?;
+    let (writer, _) = counting.into_parts();
+    Ok((driven, summary, writer))
+}
+
+/// Drives the script of a text with a writer.
+fn driven<T: Read + Drop, W: Write + Drop>(
+    alloc: Global,
+    text: &str,
+    lines: T,
+    writer: W,
+) -> Result<Drive<W>, AllocError> {
+    match read_script(alloc, text.as_bytes()) {
+        Ok(script) => driven_by::<Brand, T, W>(alloc, script, lines, writer),
+        Err(_) => Err(AllocError),
+    }
+}
+
+/// So many lines are answered, none of them by an error.
+const fn answered(lines: u64) -> Result<Driven, DriveFault> {
+    Ok(Driven { lines, errors: 0 })
+}
+
+#[test]
+fn a_chassis_is_driven(rt: HostRuntime) -> Result<(), AllocError> {
+    let lines: &[u8] = b"0 search\n0 until search\n0 burst 100000 ff01414243440000000100002c\n";
+    let writer = Vec::new(rt.alloc());
+    let (outcome, units, answers) = driven(rt.alloc(), PORT, lines, writer)?;
+    assert!(rt; outcome == answered(3));
+    let found = answers.strip_prefix(SEARCH.as_bytes());
+    assert!(rt; found.and_then(|rest| rest.strip_suffix(b"\n")) == Some(FOUND.as_bytes()));
+    assert!(rt; are_units(&units, "", FOUND_UNITS));
+    Ok(())
+}
+
+/// The unit answers one whole frame after each grant; the frames behind its range tell it its delay.
+#[test]
+fn a_fibre_is_driven(rt: HostRuntime) -> Result<(), AllocError> {
+    let lines: &[u8] = b"0 search\n0 until range 0\n0 frame 4\n";
+    let writer = Vec::new(rt.alloc());
+    let (outcome, units, answers) = driven(rt.alloc(), FIBRE, lines, writer)?;
+    assert!(rt; outcome == answered(3));
+    assert!(rt; answers.starts_with(SEARCH.as_bytes()));
+    let wanted = "port 0: units 1, standby, frames 14, bursts 2, commands 1\n\
+        unit ABCD00000001: operating, onu 0, eqd 111040, found 1, ranged 1, lost 0, last frame 11, took frames 5\n\
+        licences: free 0, in use 1\n";
+    assert!(rt; are_units(&units, "", wanted));
+    Ok(())
+}
+
+/// Where not all lines are answered nothing is told of units.
+#[test]
+fn a_drive_ends_early(rt: HostRuntime) -> Result<(), AllocError> {
+    let (outcome, units, _) = driven(rt.alloc(), PORT, BrokenReader, Vec::new(rt.alloc()))?;
+    assert!(rt; outcome == Err(DriveFault::Turns(LinesFault::Read)));
+    assert!(rt; units.is_none());
+    Ok(())
+}
+
+/// A unit is found and ranged; then its light goes, a frame passes, its light comes again, and a frame passes.
+const LIGHTS: &str = r#"
+licences = 1
+[[port]]
+cycles = 1
+admit = ["ABCD00000001"]
+[[unit]]
+serial = "ABCD00000001"
+delay = 0
+[[event]]
+port = 0
+command = "search"
+[[event]]
+port = 0
+frames = 10
+[[event]]
+unit = 0
+light = false
+[[event]]
+port = 0
+frames = 1
+[[event]]
+unit = 0
+light = true
+[[event]]
+port = 0
+frames = 1
+"#;
+
+/// Its trace up to where the light goes, between that and where it comes, and behind.
+const LIGHTS_TRACE: [&str; 3] = [
+    "0 0 search = searching
+0 1 frame = ok
+0 2 frame = ok sent ff010000000000000000000058
+0 3 frame = ok sent ff010000000000000000000058
+0 4 frame = ok sent ff010000000000000000000058
+0 5 frame = ok grant search
+0 6 burst 0 ff01414243440000000100002c = found 0
+0 7 frame = ok sent ff03004142434400000001001b
+0 8 frame = ok sent ff03004142434400000001001b
+0 9 frame = ok sent ff03004142434400000001001b
+0 10 frame = ok grant range 0
+0 11 burst 0 0001414243440000000100006b = ranged 0 311040
+",
+    "0 12 frame = ok sent 0004000004bf00000000000031\n",
+    "0 13 frame = ok sent 0004000004bf00000000000031\n",
+];
+
+/// What is told of it, with lines of light and without.
+const LIGHTS_UNITS: &str = "port 0: units 1, standby, frames 12, bursts 2, commands 1\n\
+    unit ABCD00000001: operating, onu 0, eqd 311040, found 1, ranged 1, lost 0, last frame 9, took frames 4\n\
+    licences: free 0, in use 1\n";
+
+/// Plays a script with a writer, with lines of light or without.
+fn played_by<B: Began, W: Write + Drop>(
+    alloc: Global,
+    script: Script,
+    lights: bool,
+    writer: W,
+) -> Result<(Ended, W), AllocError>
+    requires playable { IsPlayable (script_view script) }
+    requires held { W.contents writer ≡ B.held }
+    requires mask { B.mask ≡ script.mask }
+    requires ports { B.ports ≡ length script.ports.items }
+{
+    let form = SummaryForm::Text;
+    let Summed { ended, counting } = if lights {
+        sum_with_lights::<B, W>(alloc, script, form, writer)?
+    } else {
+        play_summed::<B, W>(alloc, script, form, writer)?
+    };
+    let (writer, _) = counting.into_parts();
+    Ok((ended, writer))
+}
+
+/// Plays the script of a text with a writer, with lines of light or without.
+fn played<W: Write + Drop>(
+    alloc: Global,
+    text: &str,
+    lights: bool,
+    writer: W,
+) -> Result<(Ended, W), AllocError> {
+    match read_script(alloc, text.as_bytes()) {
+        Ok(script) => played_by::<Brand, W>(alloc, script, lights, writer),
+        Err(_) => Err(AllocError),
+    }
+}
+
+/// Lines of light stand between those of the trace, and count for nothing.
+#[test]
+fn light_is_not_counted(rt: HostRuntime) -> Result<(), AllocError> {
+    for (lights, dark, light) in [(false, "", ""), (true, "unit 0 dark\n", "unit 0 light\n")] {
+        let (ended, trace) = played(rt.alloc(), LIGHTS, lights, Vec::new(rt.alloc()))?;
+        assert!(rt; ended.played == Ok(()));
+        assert!(rt;
+            ended.summary?.as_slice() == LIGHTS_UNITS.as_bytes(),
+            "{lights}"
+        );
+        let mut wanted = String::new(rt.alloc());
+        for part in [
+            LIGHTS_TRACE[0],
+            dark,
+            LIGHTS_TRACE[1],
+            light,
+            LIGHTS_TRACE[2],
+        ] {
+            wanted.push_str(part)?;
+        }
+        assert!(rt; trace.as_slice() == wanted.as_bytes(), "{lights}");
+    }
+    Ok(())
+}
+
+/// Tells whether the lines of ports and units are these, or memory for them was refused.
+fn are_units_or_refused(units: &Option<Result<Vec<u8>, AllocError>>, wanted: &str) -> bool {
+    matches!(units, Some(Err(_))) || are_units(units, "", wanted)
+}
+
+/// Where a request for memory is refused a trace is not judged; or it is, and nothing or all is told of units.
+#[test]
+fn a_trace_with_memory_short_or_ample(rt: HostRuntime) {
+    let trace = SEARCH.as_bytes().chain(RANGED.as_bytes());
+    let Ok((verified, _)) = verified(rt.alloc(), Form::Plain, PORT, trace) else {
+        return;
+    };
+    let of_script = CheckFault::Script(RunFault::OutOfMemory);
+    let fault = LinesFault::Line(Unanswered::OutOfMemory);
+    let of_trace = CheckFault::Trace(VerifyFault::Lines(fault));
+    if verified.found == Err(of_script) || verified.found == Err(of_trace) {
+        assert!(rt; verified.units.is_none());
+        return;
+    }
+    assert!(rt; verified.found == Ok(16));
+    assert!(rt; are_units_or_refused(&verified.units, RANGED_UNITS));
+}
+
+/// Where a request for memory is refused nothing is driven, or not all; or all is, and nothing or all is told of units.
+#[test]
+fn a_drive_with_memory_short_or_ample(rt: HostRuntime) {
+    let lines: &[u8] = b"0 search\n0 until search\n0 burst 100000 ff01414243440000000100002c\n";
+    let Ok(writer) = Vec::with_capacity(rt.alloc(), ROOM) else {
+        return;
+    };
+    let Ok((outcome, units, _)) = driven(rt.alloc(), PORT, lines, writer) else {
+        return;
+    };
+    if outcome == answered(3) {
+        assert!(rt; are_units_or_refused(&units, FOUND_UNITS));
+        return;
+    }
+    let of_line = DriveFault::Turns(LinesFault::Line(Unanswered::OutOfMemory));
+    let of_script = DriveFault::Script(RunFault::OutOfMemory);
+    assert!(rt; outcome == Err(of_line) || outcome == Err(of_script));
+    assert!(rt; units.is_none());
+}
