@@ -319,12 +319,12 @@ fn a_chassis_is_driven(rt: HostRuntime) -> Result<(), AllocError> {
 /// The unit answers one whole frame after each grant; the frames behind its range tell it its delay.
 #[test]
 fn a_fibre_is_driven(rt: HostRuntime) -> Result<(), AllocError> {
-    let lines: &[u8] = b"0 search\n0 until range 0\n0 frame 4\n";
+    let lines: &[u8] = b"0 search\n0 until range 0\n0 frame 5\n";
     let writer = Vec::new(rt.alloc());
     let (outcome, units, answers) = driven(rt.alloc(), FIBRE, lines, writer)?;
     assert!(rt; outcome == answered(3));
     assert!(rt; answers.starts_with(SEARCH.as_bytes()));
-    let wanted = "port 0: units 1, standby, frames 14, bursts 2, commands 1\n\
+    let wanted = "port 0: units 1, standby, frames 15, bursts 2, commands 1\n\
         unit ABCD00000001: operating, onu 0, eqd 111040, found 1, ranged 1, lost 0, last frame 11, took frames 5\n\
         licences: free 0, in use 1\n";
     assert!(rt; are_units(&units, "", wanted));
@@ -383,13 +383,14 @@ const LIGHTS_TRACE: [&str; 3] = [
 0 9 frame = ok sent ff03004142434400000001001b
 0 10 frame = ok grant range 0
 0 11 burst 0 0001414243440000000100006b = ranged 0 311040
+0 12 frame = ok sent 0004000004bf00000000000031
 ",
-    "0 12 frame = ok sent 0004000004bf00000000000031\n",
     "0 13 frame = ok sent 0004000004bf00000000000031\n",
+    "0 14 frame = ok sent 0004000004bf00000000000031\n",
 ];
 
 /// What is told of it, with lines of light and without.
-const LIGHTS_UNITS: &str = "port 0: units 1, standby, frames 12, bursts 2, commands 1\n\
+const LIGHTS_UNITS: &str = "port 0: units 1, measuring, frames 12, bursts 2, commands 1\n\
     unit ABCD00000001: operating, onu 0, eqd 311040, found 1, ranged 1, lost 0, last frame 9, took frames 4\n\
     licences: free 0, in use 1\n";
 
