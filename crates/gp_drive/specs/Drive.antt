@@ -189,6 +189,6 @@ abbrev pub begun : {S : Type 0} → S → Mask → DriveState S
 begun player mask = begun_in untold player mask
 
 -- why a line was not answered, where a turn was not played
-abbrev pub line_fault : PlayFault → unanswered.LineFault
+abbrev pub line_fault : PlayFault → unanswered.Unanswered
 line_fault plays.OutOfMemory = unanswered_by.OutOfMemory
 line_fault plays.Write = unanswered_by.Write
