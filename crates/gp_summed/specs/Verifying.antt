@@ -1,5 +1,5 @@
 -- A verification whose entries are counted (this profile's own rule).
-use Rattle.std.specs.Prelude.{◌≡◌, ℕ, ◌-◌, ◌⊎◌, Bool, true, is_some, List, [], ◌++◌, Option, None, Some, Result, Ok, Err, IfOk, IfSome, codes, length, map}
+use Rattle.std.specs.Prelude.{◌≡◌, ℕ, ◌-◌, ◌⊎◌, Bool, is_some, List, [], ◌++◌, Option, None, Some, Result, Ok, Err, IfOk, IfSome, codes, length, map}
 use Rattle.std.specs.declared.alloc.AllocError.{AllocError}
 use Rattle.std.specs.declared.alloc.Global.{Global}
 use Rattle.std.specs.declared.vec.Vec.{Vec}
