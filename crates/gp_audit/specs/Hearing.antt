@@ -58,6 +58,15 @@ abbrev pub census_after : Bool → PortState → Heard → Census
 census_after false port heard = port.census
 census_after true port heard = noted port.census port.watch heard port.time
 
+-- what is known of the units then
+abbrev pub port_noted : AuditOptions → PortState → Heard → PortState
+port_noted options port heard =
+    record port {
+      watch = watch_after port.watch heard;
+      heard = one_more port.heard;
+      census = census_after options.units port heard;
+    }
+
 -- what is known then
 abbrev pub port_after : AuditOptions → PortState → Heard → PortState
 port_after options port heard =

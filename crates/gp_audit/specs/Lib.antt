@@ -11,5 +11,6 @@ pub mod Book
 pub mod Places
 pub mod Again
 pub mod Audit
+pub mod Listening
 pub mod Ending
 pub mod Outcome

@@ -11,14 +11,15 @@
 //! - `book.rt`: what is said of the line at hand, and the counts. `again.rt`: a line told again, in words.
 //! - `auditor.rt`: `Auditor`, which is given lines one after another; `serving.rt`: as what serves lines.
 //!   `fault.rt`: why nothing is said of a line.
+//! - `listener.rt`: `Listener`, which hears lines and tells nothing of them.
 //! - `running.rt`: `audit_log`, from the bytes of a log to its findings and the sum.
 //!
 //! Where to make which change: which rules there are stands in `gp_observer`, how they are told in `gp_finding`, how a
 //! line is read in `gp_log`. Which rules lists of names tell stands in `specs/Chosen.antt`, which delays texts give in
 //! `specs/Delays.antt`. What is told of something heard stands in `specs/Hearing.antt`, which of it is told in
 //! `specs/RuleSet.antt`, what is said to a line in `specs/Audit.antt`, how it is told again in `specs/Again.antt`,
-//! what is told at the end in `specs/Ending.antt`, and how it may end in `specs/Outcome.antt`. What is counted of units
-//! stands in `gp_census`.
+//! what is told at the end in `specs/Ending.antt`, what a listener hears in `specs/Listening.antt`, and how it may end in
+//! `specs/Outcome.antt`. What is counted of units stands in `gp_census`.
 #![tactic(auto)]
 
 mod again;
@@ -26,6 +27,7 @@ mod auditor;
 mod book;
 mod delays;
 mod fault;
+mod listener;
 mod options;
 mod port;
 mod ports;
@@ -37,6 +39,7 @@ mod serving;
 pub use auditor::Auditor;
 pub use delays::equalized_delays;
 pub use gp_lines::PORTS;
+pub use listener::Listener;
 pub use options::{AuditForm, AuditOptions, FindingChoice};
 pub use rule_names::rules_told;
 pub use rule_set::RuleSet;

@@ -1,9 +1,9 @@
-//! What is known of one port, and what is told of something that is heard there.
+//! What is known of one port, and what is told of something that is heard there; or nothing is told, and it is noted alone.
 ghost use Rattle.std.specs.Prelude.{◌≡◌, ◌<◌, ◌||◌, [], ◌∷◌, ◌++◌, if◌then◌else◌, IfOk, OnOk};
 ghost use Rattle.gp_watch.specs.Heard.{followed_down, followed_up, heard_of, IsFitting};
 ghost use Rattle.gp_audit.specs.Book.{TellsNotices};
 ghost use Rattle.gp_audit.specs.Ending.{units_of};
-ghost use Rattle.gp_audit.specs.Hearing.{census_after, findings_of, followed_in, full_told, heard_told, log_told, maybe_told, overfills, port_after, port_behind, port_logged, port_maybe, port_ticked, port_traced, said_told, told_rules, trace_told};
+ghost use Rattle.gp_audit.specs.Hearing.{census_after, findings_of, followed_in, full_told, heard_told, log_told, maybe_told, overfills, port_after, port_behind, port_logged, port_maybe, port_noted, port_ticked, port_traced, said_told, told_rules, trace_told};
 ghost use Rattle.gp_audit.specs.Port.{is_silent, port_begun, time_after};
 ghost use Rattle.gp_audit.specs.RuleSet.{is_told};
 
@@ -15,7 +15,7 @@ use gp_finding::{LineError, Place, heard_in};
 use gp_log::Said;
 use gp_observer::Rule;
 use gp_ploam::{BROADCAST_ONU, Down, Serial, Up};
-use gp_watch::{Heard, PortWatch};
+use gp_watch::{Heard, PortWatch, WatchFault};
 use std::alloc::{AllocError, Global};
 use std::marker::Model;
 
@@ -170,7 +170,7 @@ impl Port {
     }
 
     /// Counts what is heard, where that is told at the end.
-    fn count(&mut self, options: &AuditOptions, heard: &Heard) -> Result<(), AuditFault>
+    fn count(&mut self, options: &AuditOptions, heard: &Heard) -> Result<(), AllocError>
         ensures { OnOk result (self.new ≡ record self.old {
           census = census_after options.now.units self.old (heard_of heard.now);
         }) }
@@ -196,6 +196,17 @@ impl Port {
         push_census(out, options.census_form(), port, &self.watch, &self.census)
     }
 
+    /// Notes what is heard.
+    fn note(&mut self, options: &AuditOptions, heard: &Heard) -> Result<(), WatchFault>
+        requires { IsFitting heard.now }
+        ensures { OnOk result (self.new ≡ port_noted options.now self.old (heard_of heard.now)) }
+    {
+        self.count(options, heard)?;
+        self.watch.hear(heard)?;
+        self.heard = self.heard.saturating_add(1);
+        Ok(())
+    }
+
     /// Judges what is heard by what is known before it, and notes it.
     fn hear(
         &mut self,
@@ -214,9 +225,7 @@ impl Port {
         self.tell_broken(book, options, place, said, heard)?;
         let overfills = self.overfills(heard);
         self.tell_full(book, options, place.line, overfills)?;
-        self.count(options, heard)?;
-        self.watch.hear(heard)?;
-        self.heard = self.heard.saturating_add(1);
+        self.note(options, heard)?;
         Ok(())
     }
 
@@ -305,5 +314,82 @@ impl Port {
         self.tick(is_frame);
         self.hear_maybe(book, options, place, first)?;
         self.hear_maybe(book, options, place, second)
+    }
+
+    /// Notes what is heard, of which nothing is told.
+    fn listen(&mut self, options: &AuditOptions, heard: &Heard) -> Result<(), WatchFault>
+        requires { IsFitting heard.now }
+        ensures { OnOk result (self.new ≡ port_after options.now self.old (heard_of heard.now)) }
+    {
+        self.full |= self.overfills(heard);
+        self.note(options, heard)
+    }
+
+    /// Notes what is said.
+    fn listen_said(&mut self, options: &AuditOptions, said: &Said) -> Result<(), WatchFault>
+        ensures { OnOk result (self.new ≡ port_behind options.now self.old said.now) }
+    {
+        let heard = heard_in(options.mask, said);
+        self.listen(options, &heard)
+    }
+
+    /// Notes what is said, if something is.
+    fn listen_maybe(
+        &mut self,
+        options: &AuditOptions,
+        said: &Option<Said>,
+    ) -> Result<(), WatchFault>
+        ensures { OnOk result (self.new ≡ port_maybe options.now self.old said.now) }
+    {
+        match said {
+            Some(said) => self.listen_said(options, said),
+            None => Ok(()),
+        }
+    }
+
+    /// Notes a line of a log, unless its time is before the port's.
+    pub(crate) fn listen_log(
+        &mut self,
+        options: &AuditOptions,
+        time: u64,
+        said: &Said,
+    ) -> Result<(), WatchFault>
+        ensures { OnOk result (self.new ≡ port_logged options.now self.old time said.now) }
+    {
+        if self.time > time {
+            return Ok(());
+        }
+        self.time = time;
+        self.listen_said(options, said)
+    }
+
+    /// Notes a line of a trace: what it says, one behind the other.
+    pub(crate) fn listen_trace(
+        &mut self,
+        options: &AuditOptions,
+        is_frame: bool,
+        first: &Option<Said>,
+        second: &Option<Said>,
+    ) -> Result<(), WatchFault>
+        ensures { OnOk result (self.new
+            ≡ port_traced options.now (port_ticked self.old is_frame) first.now second.now) }
+    {
+        self.tick(is_frame);
+        self.listen_maybe(options, first)?;
+        self.listen_maybe(options, second)
+    }
+
+    /// Gives what its messages told.
+    pub(crate) fn watch(&self) -> &PortWatch
+        ensures { result.now ≡ self.now.watch }
+    {
+        &self.watch
+    }
+
+    /// Gives what was counted of its units.
+    pub(crate) fn census(&self) -> &Census
+        ensures { result.now ≡ self.now.census }
+    {
+        &self.census
     }
 }

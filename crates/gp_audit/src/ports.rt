@@ -1,4 +1,4 @@
-//! What is known of each of sixteen ports, and a line heard on its own.
+//! What is known of each of sixteen ports, and a line heard on its own: judged, or noted alone.
 ghost use Rattle.std.specs.Prelude.{◌≡◌, ◌<◌, ◌++◌, IfOk, OnOk, replicate, length, slice_set};
 ghost use Rattle.gp_audit.specs.Book.{TellsNotices};
 ghost use Rattle.gp_audit.specs.Audit.{most_ports};
@@ -6,15 +6,18 @@ ghost use Rattle.gp_audit.specs.Ending.{first_units};
 ghost use Rattle.gp_audit.specs.Hearing.{log_told, port_at, port_logged, port_ticked, port_traced, ports_after, told_of, trace_told};
 ghost use Rattle.gp_audit.specs.Port.{is_silent, port_begun};
 ghost use Rattle.std.specs.List.{list_all};
+ghost use Rattle.gp_audit.specs.Listening.{port_of};
 ghost use Rattle.gp_audit.specs.Places.{IsNear};
 
 use crate::book::Book;
 use crate::fault::AuditFault;
 use crate::options::AuditOptions;
 use crate::port::Port;
+use gp_census::Census;
 use gp_finding::{LineError, Place};
 use gp_lines::PORTS;
 use gp_log::{LogFault, LogLine, Said};
+use gp_watch::{PortWatch, WatchFault};
 use std::alloc::{AllocError, Global};
 use std::marker::Model;
 
@@ -153,5 +156,77 @@ impl Ports {
             }
             Err(fault) => book.tell_error(options, line, LineError::Log(*fault)),
         }
+    }
+
+    /// Notes a line of a log on its port, unless its time is before the port's.
+    fn listen_log(
+        &mut self,
+        options: &AuditOptions,
+        port: u8,
+        time: u64,
+        said: &Said,
+    ) -> Result<(), WatchFault>
+        requires { port < 16 }
+        ensures { OnOk result (self.new ≡ slice_set self.old port
+            (port_logged options.now (port_at options.now self.old port) time said.now)) }
+    {
+        let port = &mut self.ports[usize::from(port)];
+        port.listen_log(options, time, said)
+    }
+
+    /// Notes a line of a trace on its port: what it says, one behind the other.
+    fn listen_trace(
+        &mut self,
+        options: &AuditOptions,
+        port: u8,
+        is_frame: bool,
+        first: &Option<Said>,
+        second: &Option<Said>,
+    ) -> Result<(), WatchFault>
+        requires { port < 16 }
+        ensures { OnOk result (self.new ≡ slice_set self.old port (port_traced options.now
+            (port_ticked (port_at options.now self.old port) is_frame) first.now second.now)) }
+    {
+        let port = &mut self.ports[usize::from(port)];
+        port.listen_trace(options, is_frame, first, second)
+    }
+
+    /// Notes a line, by what was read of it: it is heard, and nothing is told.
+    pub(crate) fn listen(
+        &mut self,
+        options: &AuditOptions,
+        read: &Result<LogLine, LogFault>,
+    ) -> Result<(), WatchFault>
+        requires { IsNear read.now }
+        ensures { OnOk result (self.new ≡ ports_after options.now self.old read.now) }
+    {
+        match read {
+            Ok(LogLine::Log { port, time, said }) => self.listen_log(options, *port, *time, said),
+            Ok(
+                LogLine::Trace {
+                    port,
+                    is_frame,
+                    first,
+                    second,
+                },
+            ) => self.listen_trace(options, *port, *is_frame, first, second),
+            Ok(LogLine::Remark) | Err(_) => Ok(()),
+        }
+    }
+
+    /// Gives what the messages on a port told.
+    pub(crate) fn watch(&self, port: u8) -> &PortWatch
+        requires { port < 16 }
+        ensures { result.now ≡ (port_of self.now port).watch }
+    {
+        self.ports[usize::from(port)].watch()
+    }
+
+    /// Gives what was counted of the units of a port.
+    pub(crate) fn census(&self, port: u8) -> &Census
+        requires { port < 16 }
+        ensures { result.now ≡ (port_of self.now port).census }
+    {
+        self.ports[usize::from(port)].census()
     }
 }

@@ -148,6 +148,11 @@ unit_object port watch serial unit = object_front port watch serial unit ++ obje
 
 -- ---- both
 
+-- a unit, and what is known of it
+abbrev pub front_line : CensusForm → ℕ → Watch → Serial × Sighting → List ℕ
+front_line Text port watch (serial, unit) = unit_front watch serial unit
+front_line Json port watch (serial, unit) = object_front port watch serial unit
+
 abbrev pub port_line : CensusForm → ℕ → Census → List ℕ
 port_line Text port census = port_text port census
 port_line Json port census = port_object port census

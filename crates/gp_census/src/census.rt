@@ -4,11 +4,11 @@ ghost use Rattle.std.specs.FinMap as map;
 ghost use Rattle.gp_observer.specs.Watch.{passes_over, tells};
 ghost use Rattle.gp_watch.specs.Heard.{heard_of};
 ghost use Rattle.gp_census.specs.Counts.{one_more};
-ghost use Rattle.gp_census.specs.Census.{IsNewTo, census_begun, copy_noted, counted_by, counted_by_down, counted_by_message, down_noted, message_noted, noted, port_heard};
+ghost use Rattle.gp_census.specs.Census.{IsNewTo, census_begun, copy_noted, counted_by, counted_by_down, counted_by_message, down_noted, message_noted, noted, port_heard, sighting_of};
 
-use crate::sighting::{PortCounts, one_more};
+use crate::sighting::{PortCounts, Sighting, one_more};
 use crate::units::Units;
-use gp_ploam::{Down, Up};
+use gp_ploam::{Down, Serial, Up};
 use gp_watch::{Heard, PortWatch};
 use std::alloc::{AllocError, Global};
 use std::marker::Model;
@@ -54,6 +54,13 @@ impl Census {
             units: Units::new(alloc),
             port: PortCounts::none(),
         }
+    }
+
+    /// Gives what was counted of a unit; of one of which nothing was, that.
+    pub fn sighting(&self, serial: &Serial) -> Sighting
+        ensures { result ≡ sighting_of (map.get self.now.units serial.now) }
+    {
+        self.units.get(serial).unwrap_or(Sighting::none())
     }
 
     /// Gives what was counted of the port.

@@ -78,7 +78,7 @@ fn push_held(
 }
 
 /// Appends what is known of a unit.
-fn push_front(
+pub(crate) fn push_front(
     out: &mut Vec<u8>,
     port: u8,
     watch: &PortWatch,

@@ -1,5 +1,5 @@
 //! `push_census`: a line of a port, and one of each unit in the order of their serial numbers. Where memory is refused,
-//! nothing is appended.
+//! nothing is appended. `push_front`: what is known of one unit, for lines that go on with other counts.
 ghost use Rattle.std.specs.Prelude.{◌≡◌, ◌++◌, OnOk, OnErr};
 ghost use Rattle.std.specs.List.{flat_map};
 ghost use Rattle.std.specs.FinMap as map;
@@ -33,6 +33,25 @@ fn push_port(
     match form {
         CensusForm::Text => text::push_port(out, port, census),
         CensusForm::Json => json::push_port(out, port, census),
+    }
+}
+
+/// Appends a unit and what is known of it, without what was counted: as text up to its Alloc-IDs, as JSON an object that
+/// isn't closed. Where memory is refused, a part of it may be appended.
+pub fn push_front(
+    out: &mut Vec<u8>,
+    form: CensusForm,
+    port: u8,
+    watch: &PortWatch,
+    serial: &Serial,
+    unit: &Sighting,
+) -> Result<(), AllocError>
+    ensures { OnOk result (out.new.items ≡ out.old.items
+        ++ spec.front_line form port watch.now (serial.now, unit.now)) }
+{
+    match form {
+        CensusForm::Text => text::push_front(out, watch, serial, unit),
+        CensusForm::Json => json::push_front(out, port, watch, serial, unit),
     }
 }
 

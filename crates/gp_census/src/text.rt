@@ -45,7 +45,7 @@ pub(crate) fn push_port(out: &mut Vec<u8>, port: u8, census: &Census) -> Result<
 }
 
 /// Appends what is known of a unit.
-fn push_front(
+pub(crate) fn push_front(
     out: &mut Vec<u8>,
     watch: &PortWatch,
     serial: &Serial,

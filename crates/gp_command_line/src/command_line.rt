@@ -360,7 +360,7 @@ fn explain<'a>(
     let units = flag(
         alloc,
         "units",
-        "Tells at the end what was counted of each port and of each unit, in a line each",
+        "Tells at the end what became of each port and of each unit, as it was heard, in a line each",
     );
     let counts_alone = flag(
         alloc,

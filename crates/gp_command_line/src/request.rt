@@ -91,7 +91,7 @@ pub struct Explanation<'a> {
     pub told: TraceForm,
     /// As a log, whatever else is wanted.
     pub as_log: bool,
-    /// At the end, what was counted of each port and unit is told behind it.
+    /// At the end, what became of each port and unit, as it was heard, is told behind it.
     pub units: bool,
     /// That alone is told, in place of the trace.
     pub summary: bool,

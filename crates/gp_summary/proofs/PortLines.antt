@@ -7,7 +7,9 @@ use Rattle.gp_machine.specs.State.{PortState}
 use Rattle.gp_tally.specs.Tally.{PortTally}
 use Rattle.gp_summary.specs.declared.form.SummaryForm.{SummaryForm}
 use Rattle.gp_tally.specs.Text.{AreTallies}
-use Rattle.gp_summary.specs.Counted.{CountedText, counted_lines}
+use Rattle.gp_audit.specs.Listening.{port_of}
+use Rattle.gp_audit.specs.Port as audit
+use Rattle.gp_summary.specs.Heard.{HeardText, heard_lines}
 use Rattle.gp_summary.specs.Summary.{SaysCounted}
 use Rattle.gp_summary.specs.Text.{PortsText, licences_line, port_lines}
 
@@ -44,16 +46,18 @@ one_port form mask taken ports tallies state d tally free licences none mid text
       };
     }
 
--- the lines of counts alone
-pub counted_next : (form : SummaryForm) (n : ℕ) (tallies : List PortTally) (d tally : PortTally) (start out next : List ℕ)
+-- the lines of a trace alone
+pub heard_next : (form : SummaryForm) (n : ℕ) (ports : List audit.PortState) (tallies : List PortTally) (d tally : PortTally) (start out next : List ℕ)
     → n < length tallies → tally ≡ get_or tallies n d
-    → (text : List ℕ) × CountedText form n tallies text × (out ≡ start ++ text) → next ≡ out ++ counted_lines form n tally
-    → (text : List ℕ) × CountedText form (n + 1) tallies text × (next ≡ start ++ text)
-counted_next form n tallies d tally start out next within read had is =
+    → (text : List ℕ) × HeardText form n ports tallies text × (out ≡ start ++ text)
+    → next ≡ out ++ heard_lines form n (port_of ports n).watch (port_of ports n).census tally
+    → (text : List ℕ) × HeardText form (n + 1) ports tallies text × (next ≡ start ++ text)
+heard_next form n ports tallies d tally start out next within read had is =
     let here : slice_get tallies n ≡ Some tally = slice_get-get_or tallies n d within ∙ ap (λ (c : PortTally). Some c) (sym read) in
-    let text : List ℕ = had.0 ++ counted_lines form n tally in
-    let said : CountedText form (suc n) tallies text = (had.0, tally, here, had.1, refl) in (
+    let lines = heard_lines form n (port_of ports n).watch (port_of ports n).census tally in
+    let text : List ℕ = had.0 ++ lines in
+    let said : HeardText form (suc n) ports tallies text = (had.0, tally, here, had.1, refl) in (
       text,
-      subst (λ (m : ℕ). CountedText form m tallies text) (suc-eq-add-one n) said,
-      is ∙ ap (λ (l : List ℕ). l ++ counted_lines form n tally) had.2 ∙ append_assoc start had.0 (counted_lines form n tally),
+      subst (λ (m : ℕ). HeardText form m ports tallies text) (suc-eq-add-one n) said,
+      is ∙ ap (λ (l : List ℕ). l ++ lines) had.2 ∙ append_assoc start had.0 lines,
     )

@@ -1,5 +1,5 @@
 pub mod Standing
 pub mod Text
-pub mod Counted
+pub mod Heard
 pub mod Summary
 pub mod Told

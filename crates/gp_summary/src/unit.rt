@@ -158,7 +158,7 @@ fn push_held(out: &mut Vec<u8>, form: SummaryForm, unit: &Standing) -> Result<()
 }
 
 /// Appends how often a unit was found, ranged and lost.
-fn push_counted(
+pub(crate) fn push_counted(
     out: &mut Vec<u8>,
     form: SummaryForm,
     unit: &UnitCounts,

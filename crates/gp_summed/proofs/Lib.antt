@@ -2,4 +2,5 @@ pub mod Plays
 pub mod CountedLines
 pub mod CountedTexts
 pub mod Drives
+pub mod HeardLines
 pub mod CountedChecks

@@ -1,3 +1,4 @@
+pub mod Hearing
 pub mod Explaining
 pub mod Verifying
 pub mod Driving

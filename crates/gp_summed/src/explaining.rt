@@ -1,11 +1,16 @@
-//! A trace that is told again while its lines are counted.
-ghost use Rattle.std.specs.Prelude.{◌≡◌, IfOk, OnErr};
+//! A trace that is told again while its lines are counted and heard.
+ghost use Rattle.std.specs.Prelude.{◌≡◌, ◌≤◌, List, IfOk, OnErr, length};
+ghost use Rattle.gp_audit.specs.Port.{PortState};
+ghost use Rattle.gp_summary.specs.Heard.{TellsHeard};
 ghost use Rattle.gp_summed.specs.Explaining.{ExplainsSummed};
+ghost use Rattle.gp_summed.specs.Hearing.{AreHeard};
 
+use crate::hearer::Hearer;
+use crate::hearing::Hearing;
 use gp_explain::{ExplainFault, Form, Telling, explain_trace};
 use gp_ploam::Mask;
 use gp_stream::{Sink, Source};
-use gp_summary::{SummaryForm, counted_summary};
+use gp_summary::{SummaryForm, heard_summary};
 use gp_tally::{Began, Counter, Counting};
 use std::alloc::{AllocError, Global};
 use std::io::{Read, Write};
@@ -18,18 +23,34 @@ pub const TRACE_PORTS: usize = 16;
 pub struct Explained<B: Began, W: Write> {
     /// How many lines there are, or why not all were told.
     pub told: Result<u64, ExplainFault>,
-    /// The lines of what was counted of those that were told, or an error where memory was refused.
+    /// The lines of what was counted and heard of those that were told, or an error where memory was refused.
     pub summary: Result<Vec<u8>, AllocError>,
     /// The writer, with its counter.
     pub counting: Counting<B, W>,
 }
 
+/// Gives the lines of what was counted and heard, unless memory was refused for either.
+fn summary_of(
+    alloc: Global,
+    form: SummaryForm,
+    counter: &Counter,
+    hearer: &Hearer,
+) -> Result<Vec<u8>, AllocError>
+    requires { length counter.now.ports ≤ 16 }
+    ensures { IfOk result (λ text. (ports : List PortState) × AreHeard hearer.now.mask hearer.now.taken ports
+        × TellsHeard form counter.now.mask counter.now.taken (length counter.now.ports) ports text.items) }
+{
+    let listener = hearer.listener()?;
+    heard_summary(alloc, form, counter, listener)
+}
+
 /// Writes the lines of a trace again as they are, up to the first that is none of a trace, to a writer that passes them
-/// on, and tells what was counted of them: of each port of which one tells, and of its units. How these stand at the end
-/// isn't known by a trace alone. Memory is flat in the length of the trace.
+/// on, and tells what was counted of them, of each port of which one tells and of its units, and how the units stand by
+/// what was heard on the fibre. Memory is flat in the length of the trace.
 ///
-/// Memory for the counts and for the sink is taken first; then only where a unit is heard for the first time. Where that
-/// is refused, the lines are still written, and there is no summary. An error is answered where nothing was read.
+/// Memory for the counts, for what is heard and for the sink is taken first; then only where a unit is heard for the
+/// first time, and where a line comes in two pieces. Where that is refused, the lines are still written, and there is no
+/// summary. An error is answered where nothing was read.
 pub fn explain_summed<B: Began, R: Read, W: Write + Drop>(
     alloc: Global,
     mask: Mask,
@@ -45,11 +66,13 @@ pub fn explain_summed<B: Began, R: Read, W: Write + Drop>(
     ensures unread { OnErr result (source.new ≡ source.old) }
 {
     let counter = Counter::new(alloc, mask, TRACE_PORTS)?;
-    let mut sink = Sink::new(alloc, Counting::<B, W>::new(counter, writer))?;
+    let hearer = Hearer::new(alloc, mask)?;
+    let hearing = Hearing::new(Counting::<B, W>::new(counter, writer), hearer);
+    let mut sink = Sink::new(alloc, hearing)?;
     let telling = Telling::new(alloc, mask, Form::Plain, false);
     let told = explain_trace(alloc, telling, source, &mut sink);
-    let counting = sink.into_inner();
-    let summary = counted_summary(alloc, form, counting.counter());
+    let (counting, hearer) = sink.into_inner().into_parts();
+    let summary = summary_of(alloc, form, counting.counter(), &hearer);
     Ok(Explained {
         told,
         summary,

@@ -3,7 +3,8 @@
 //! Promise: what is read and written is as without it, and what is told at the end is what was counted of the lines of
 //! the trace, and, where there are ports, how they stand then (`explain_summed`, `verify_summed`, `drive_summed`).
 //!
-//! - `explaining.rt`: `explain_summed`, a trace that is told again while its lines are counted.
+//! - `explaining.rt`: `explain_summed`, a trace that is told again while its lines are counted and heard; `hearing.rt`:
+//!   the writer that counts and hears, `hearer.rt`: lines that are heard, in whatever pieces they come.
 //! - `verifying.rt`: `verify_summed`, a trace that is verified while its entries are counted; `accounting.rt`: the
 //!   verifier that counts, `opening.rt` what it began with. `reach.rt`: up to which line a trace is told of.
 //! - `driving.rt`: `drive_summed`, a script that is driven while the lines of its entries are counted.
@@ -15,6 +16,8 @@
 mod accounting;
 mod driving;
 mod explaining;
+mod hearer;
+mod hearing;
 mod opening;
 mod reach;
 mod verifying;

@@ -84,7 +84,7 @@ complete -c oltctl -n '__fish_seen_subcommand_from explain' -l mask -x -a '0 85 
 complete -c oltctl -n '__fish_seen_subcommand_from explain' -l time -d 'Puts its port\'s time before each line, in frames and milliseconds'
 complete -c oltctl -n '__fish_seen_subcommand_from explain' -l format -x -a 'text json' -d 'How each line is written; json: one object a line [default: text]'
 complete -c oltctl -n '__fish_seen_subcommand_from explain' -l log -d 'Writes it as a log of messages instead, as audit reads; other options then change nothing'
-complete -c oltctl -n '__fish_seen_subcommand_from explain' -l units -d 'Tells at the end what was counted of each port and of each unit, in a line each'
+complete -c oltctl -n '__fish_seen_subcommand_from explain' -l units -d 'Tells at the end what became of each port and of each unit, as it was heard, in a line each'
 complete -c oltctl -n '__fish_seen_subcommand_from explain' -l summary -d 'Writes what --units tells, in place of the trace; --time then changes nothing'
 complete -c oltctl -n '__fish_seen_subcommand_from explain' -s h -l help -d 'Print help'
 complete -c oltctl -n __fish_use_subcommand -a decode -d 'Says in words which messages codes are'
