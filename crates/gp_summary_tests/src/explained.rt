@@ -168,7 +168,9 @@ fn a_line_that_is_none_ends_it(rt: HostRuntime) -> Result<(), AllocError> {
 /// Where a request for memory is refused, nothing is read; or all of it is, and there is no summary.
 #[test]
 fn memory_short_or_ample(rt: HostRuntime) -> Result<(), AllocError> {
-    let trace = trace_of(rt.alloc(), 3)?;
+    let Ok(trace) = trace_of(rt.alloc(), 3) else {
+        return Ok(());
+    };
     let Ok((found, _, text)) = told(rt.alloc(), SummaryForm::Text, &trace, Nowhere) else {
         return Ok(());
     };
