@@ -1,5 +1,5 @@
--- What is told when a log has ended: what was counted of its units, where that is wanted, and the sum (this profile's own
--- rule).
+-- What is told when a log has ended: what was counted of its units, where that is wanted, and the sum (this profile's
+-- own rule).
 use Rattle.std.specs.Prelude.{ℕ, zero, suc, Bool, true, false, List, [], ◌++◌, if◌then◌else◌}
 use Rattle.gp_census.specs.declared.pushing.CensusForm.{CensusForm}
 use Rattle.gp_census.specs.declared.pushing.CensusForm.TheVariants as censuses

@@ -1,8 +1,8 @@
 //! Judges the lines of a log, or of a trace, by the rules that don't depend on a schedule, as they come.
 //!
-//! Promise: for any input, what is written is what each line breaks, by the definitions, in order, then what was counted
-//! of the units, where that is wanted, and the sum; each line's findings are out before more is waited for (`audit_log`,
-//! `Auditor`).
+//! Promise: for any input, what is written is what each line breaks, by the definitions, in order, then what was
+//! counted of the units, where that is wanted, and the sum; each line's findings are out before more is waited for
+//! (`audit_log`, `Auditor`).
 //!
 //! - `options.rt`: `AuditOptions`, what it judges by and tells; `rule_set.rt`: `RuleSet`, some of the rules.
 //! - `rule_names.rt`: `rules_told`, which rules are told, by lists of their names; `delays.rt`: `equalized_delays`, the
@@ -18,8 +18,8 @@
 //! line is read in `gp_log`. Which rules lists of names tell stands in `specs/Chosen.antt`, which delays texts give in
 //! `specs/Delays.antt`. What is told of something heard stands in `specs/Hearing.antt`, which of it is told in
 //! `specs/RuleSet.antt`, what is said to a line in `specs/Audit.antt`, how it is told again in `specs/Again.antt`,
-//! what is told at the end in `specs/Ending.antt`, what a listener hears in `specs/Listening.antt`, and how it may end in
-//! `specs/Outcome.antt`. What is counted of units stands in `gp_census`.
+//! what is told at the end in `specs/Ending.antt`, what a listener hears in `specs/Listening.antt`, and how it may end
+//! in `specs/Outcome.antt`. What is counted of units stands in `gp_census`.
 #![tactic(auto)]
 
 mod again;

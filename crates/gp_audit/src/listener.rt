@@ -1,5 +1,5 @@
-//! `Listener`, which is given the lines of a log or of a trace, and tells nothing of them: what they let one know of each
-//! port stands in it.
+//! `Listener`, which is given the lines of a log or of a trace, and tells nothing of them: what they let one know of
+//! each port stands in it.
 ghost use Rattle.std.specs.Prelude.{◌≡◌, ◌<◌, IfOk, OnOk};
 ghost use Rattle.gp_audit.specs.Listening.{HearsLine, listening, none_heard, port_of};
 

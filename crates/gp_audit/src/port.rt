@@ -1,4 +1,5 @@
-//! What is known of one port, and what is told of something that is heard there; or nothing is told, and it is noted alone.
+//! What is known of one port, and what is told of something that is heard there; or nothing is told, and it is noted
+//! alone.
 ghost use Rattle.std.specs.Prelude.{◌≡◌, ◌<◌, ◌||◌, [], ◌∷◌, ◌++◌, if◌then◌else◌, IfOk, OnOk};
 ghost use Rattle.gp_watch.specs.Heard.{followed_down, followed_up, heard_of, IsFitting};
 ghost use Rattle.gp_audit.specs.Book.{TellsNotices};

@@ -1,5 +1,6 @@
 //! The tests of `gp_finding`, `gp_audit`, `gp_census` and `gp_transcribe`: they try what no clause says, and what a
-//! contract says once more, on logs that are written by hand. They stand here, since a crate with tests is proved twice.
+//! contract says once more, on logs that are written by hand. They stand here, since a crate with tests is proved
+//! twice.
 //!
 //! - `words.rt`: logs in words, and what an audit says of one.
 //! - `rules.rt`: each rule broken alone, and not broken by what is nearest to that.

@@ -1,4 +1,5 @@
--- What is counted of a port and of its units, by what is heard and by what is known before it (this profile's own rule).
+-- What is counted of a port and of its units, by what is heard and by what is known before it (this profile's own
+-- rule).
 use Rattle.std.specs.Prelude.{◌≡◌, ℕ, zero, suc, ◌==◌, true, not, if◌then◌else◌, Option, None, Some}
 use Rattle.std.specs.FinMap.{FinMap, empty, get, insert}
 use Rattle.gp_ploam.specs.declared.message.Serial.{Serial}

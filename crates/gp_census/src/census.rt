@@ -132,8 +132,8 @@ impl Census {
         Ok(())
     }
 
-    /// Counts what is heard at this time, in nanoseconds, by what is known before it. Fails only where a unit is new, and
-    /// there is no memory; nothing is counted then.
+    /// Counts what is heard at this time, in nanoseconds, by what is known before it. Fails only where a unit is new,
+    /// and there is no memory; nothing is counted then.
     pub fn note(&mut self, watch: &PortWatch, heard: &Heard, time: u64) -> Result<(), AllocError>
         ensures ok { OnOk result (self.new ≡ noted self.old watch.now (heard_of heard.now) time) }
         ensures same { OnErr result (self.new ≡ self.old) }

@@ -3,15 +3,15 @@
 //! Promise: what is counted is exactly what `specs/Census.antt` says of what was heard, and the lines that are told are
 //! those of `specs/Text.antt` (`Census::note`, `push_census`).
 //!
-//! - `sighting.rt`: `Sighting` and `PortCounts`, what is counted of a unit and of the port, and `UnitEvent`, what happens
-//!   to a unit. `units.rt`: the map from serial numbers to sightings.
+//! - `sighting.rt`: `Sighting` and `PortCounts`, what is counted of a unit and of the port, and `UnitEvent`, what
+//!   happens to a unit. `units.rt`: the map from serial numbers to sightings.
 //! - `noting.rt`: what a message changes in this map. `census.rt`: `Census`, and what is counted of what is heard.
-//! - `told.rt`: what is told of a unit besides its counts: its state, its ONU-ID, its delay. `pieces.rt`: names, numbers,
-//!   times and lists. `text.rt`, `json.rt`: the lines in each form. `pushing.rt`: `push_census`, and `push_front`, what is
-//!   known of one unit.
+//! - `told.rt`: what is told of a unit besides its counts: its state, its ONU-ID, its delay. `pieces.rt`: names,
+//!   numbers, times and lists. `text.rt`, `json.rt`: the lines in each form. `pushing.rt`: `push_census`, and
+//!   `push_front`, what is known of one unit.
 //!
-//! Where to make which change: a new count is a field of `Sighting`, an event or a line of one in `specs/Census.antt`, and
-//! a piece of both forms in `specs/Text.antt`.
+//! Where to make which change: a new count is a field of `Sighting`, an event or a line of one in `specs/Census.antt`,
+//! and a piece of both forms in `specs/Text.antt`.
 #![tactic(auto)]
 
 mod census;

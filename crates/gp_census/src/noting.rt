@@ -19,8 +19,8 @@ impl Units {
         self.change_of(watch.holder(onu), event);
     }
 
-    /// Notes to which unit a message down is told. Fails only where nothing was counted of the unit that gets an ONU-ID,
-    /// and there is no memory; nothing changes then.
+    /// Notes to which unit a message down is told. Fails only where nothing was counted of the unit that gets an
+    /// ONU-ID, and there is no memory; nothing changes then.
     pub(crate) fn tell(
         &mut self,
         watch: &PortWatch,
@@ -109,8 +109,8 @@ impl Units {
         Ok(())
     }
 
-    /// Notes a code up. Fails only where nothing was counted of a unit that asks, and there is no memory; nothing changes
-    /// then.
+    /// Notes a code up. Fails only where nothing was counted of a unit that asks, and there is no memory; nothing
+    /// changes then.
     pub(crate) fn hear(
         &mut self,
         watch: &PortWatch,

@@ -36,8 +36,8 @@ fn push_port(
     }
 }
 
-/// Appends a unit and what is known of it, without what was counted: as text up to its Alloc-IDs, as JSON an object that
-/// isn't closed. Where memory is refused, a part of it may be appended.
+/// Appends a unit and what is known of it, without what was counted: as text up to its Alloc-IDs, as JSON an object
+/// that isn't closed. Where memory is refused, a part of it may be appended.
 pub fn push_front(
     out: &mut Vec<u8>,
     form: CensusForm,
@@ -91,7 +91,8 @@ fn push_units(
 }
 
 /// Appends a line of the port, and a line of each unit of which something was counted, in the order of their serial
-/// numbers: its counts, and what is known of it now. Times are told in milliseconds as text, and in nanoseconds as JSON.
+/// numbers: its counts, and what is known of it now. Times are told in milliseconds as text, and in nanoseconds as
+/// JSON.
 ///
 /// The lines are gathered first. Where memory is refused, nothing is appended.
 #[tactic(auto, unfolding(crate::specs::Text::told_census))]

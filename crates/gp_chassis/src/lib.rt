@@ -4,7 +4,8 @@
 //! (`ChassisCore::apply`, `take`, `step`, `give`, `cut`, `close`).
 //!
 //! - `chassis_core.rt`: `ChassisCore`, the ports, the book of the licences and the hands of 64 actors: take, step and
-//!   give, `apply` for all three, and `cut`. `apply_in_place` leaves the entry in the journal, where `last_entry` lends it.
+//!   give, `apply` for all three, and `cut`. `apply_in_place` leaves the entry in the journal, where `last_entry` lends
+//!   it.
 //! - `desk.rt`: `PortDesk`, a port with its journal: `serve` is the one change that a port makes, here and under a
 //!   port's lock.
 //! - `config.rt`: `ChassisConfig` and its limits; `admitted_once.rt`, private, whether a serial number is admitted

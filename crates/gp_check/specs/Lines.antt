@@ -141,8 +141,8 @@ key_of table (unmet spot want) = key_of_spot table spot
 abbrev pub has_odd_header : List ℕ → Bool
 has_odd_header text = list_any is_odd_header (lines text)
 
--- the line of a table, or of a key of it, in a text whose lines tell it: no text in it goes over several of them, and no
--- header is odd, which matters where headers are counted
+-- the line of a table, or of a key of it, in a text whose lines tell it: no text in it goes over several of them, and
+-- no header is odd, which matters where headers are counted
 abbrev pub line_in_text : TablePlace → Option (List ℕ) → List ℕ → Option ℕ
 line_in_text table key text =
     if has_long_text text || (not (is_top table) && has_odd_header text) then None

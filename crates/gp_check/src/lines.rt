@@ -302,9 +302,9 @@ fn line_in_bytes(
 ///
 /// Of a key of the top that stands in no line of its own it is the first header with its name, as `[[events]]`.
 ///
-/// `None` where no line is known: of a mistake of the top whose key stands nowhere, of a table that has no header of its
-/// own, as one in a list in one line, of any mistake in a text that has `"""` or `'''` anywhere, and of one in a table
-/// in a text with a header of a list that is written in another way than `[[port]]`, `[[unit]]`, `[[lose]]` and
+/// `None` where no line is known: of a mistake of the top whose key stands nowhere, of a table that has no header of
+/// its own, as one in a list in one line, of any mistake in a text that has `"""` or `'''` anywhere, and of one in a
+/// table in a text with a header of a list that is written in another way than `[[port]]`, `[[unit]]`, `[[lose]]` and
 /// `[[event]]`. A syntax mistake has its line already.
 pub fn line_of_mistake(
     alloc: Global,

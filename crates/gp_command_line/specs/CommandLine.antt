@@ -1,5 +1,5 @@
--- The command line (this profile's own rule), where FORM is `[--words] [--time] [--format text|json]`, of `explain` without
--- `--words`, MASK is `0`, `85` or `0x55`, and JUDGED `[--teqd T].. [--drift D] [--midway] [--mask MASK]`:
+-- The command line (this profile's own rule), where FORM is `[--words] [--time] [--format text|json]`, of `explain`
+-- without `--words`, MASK is `0`, `85` or `0x55`, and JUDGED `[--teqd T].. [--drift D] [--midway] [--mask MASK]`:
 -- `oltctl replay [--explain] [--progress] [--units] [--summary] [FORM] [FILE]`
 -- `oltctl storm [--explain] [--progress] [--format text|json] [FILE]`
 -- `oltctl drive [--explain] [--done] [--units] [FORM] FILE`

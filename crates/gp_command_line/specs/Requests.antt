@@ -202,8 +202,8 @@ pub record AsksForDirection (rows : List Row) (direction : Direction) : Type 0 w
   pub several : both ≡ false → code_named (all_of (codes "code") rows) ≡ None
 
 -- the rows of `decode` ask for the words of one HEX, or of each of several or of standard input, as upstream messages
--- with `--up`, under the mask of `--mask`; with `--both` each says itself whose message it is, and with `--names` names of
--- the standard are told too; by lines or as JSON
+-- with `--up`, under the mask of `--mask`; with `--both` each says itself whose message it is, and with `--names` names
+-- of the standard are told too; by lines or as JSON
 abbrev pub AsksToDecode : List Row → Request → Type 0
 AsksToDecode rows (Decode code upstream mask names json) =
     (all_of (codes "code") rows ≡ Some (code.now ∷ [])) × IsFlag rows (codes "up") upstream
@@ -215,8 +215,8 @@ AsksToDecode rows (DecodeLines many direction mask names json) =
     × (json ≡ is_json (first_of (codes "format") rows))
 AsksToDecode rows _ = ⊥
 
--- the rows of `encode` ask for the code of WORDS, or where there are none or `-` alone of those of each line of standard
--- input, of upstream messages with `--up`, under the mask of `--mask`; as a line or as JSON
+-- the rows of `encode` ask for the code of WORDS, or where there are none or `-` alone of those of each line of
+-- standard input, of upstream messages with `--up`, under the mask of `--mask`; as a line or as JSON
 abbrev pub AsksToEncode : List Row → Request → Type 0
 AsksToEncode rows (Encode words upstream mask json) =
     (words_named (all_of (codes "words") rows) ≡ Some (texts words)) × IsFlag rows (codes "up") upstream
@@ -227,7 +227,8 @@ AsksToEncode rows (EncodeLines upstream mask json) =
 AsksToEncode rows _ = ⊥
 
 -- the rows of `explain` ask for TRACE in words, or for standard input where it is left out, under the mask of `--mask`;
--- with `--log` they ask for it as a log, with `--units` for what is counted behind it, and with `--summary` for that alone
+-- with `--log` they ask for it as a log, with `--units` for what is counted behind it, and with `--summary` for that
+-- alone
 pub record AsksForExplanation (rows : List Row) (wanted : Explanation) : Type 0 where
   pub trace : name_in wanted.trace ≡ file_named (first_of (codes "trace") rows)
   pub mask : wanted.mask ≡ mask_named (first_of (codes "mask") rows)

@@ -1,7 +1,7 @@
 //! In what a line of a trace differs from the one that the machine says in its place.
 //!
-//! Promise: the first part that differs is named, with what is owed there (`difference_of`, `push_reason`), and of a text
-//! that is no line of a trace the first part that isn't one (`why_no_line`).
+//! Promise: the first part that differs is named, with what is owed there (`difference_of`, `push_reason`), and of a
+//! text that is no line of a trace the first part that isn't one (`why_no_line`).
 //!
 //! - `difference.rt`: `Difference`, the parts that lines differ in.
 //! - `parts.rt`: a line cut into its parts, and the first that differs. `word.rt`: a text cut at a word.

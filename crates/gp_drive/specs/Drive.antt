@@ -19,9 +19,9 @@ use Rattle.gp_drive.specs.declared.manner.DriveManner.{DriveManner}
 use Rattle.gp_drive.specs.Shown.{shown_of}
 use Rattle.gp_drive.specs.Turns.{PlaysTo, PlaysTurnPart, cost_of, missing_in}
 
--- where a drive stands: its player, the mask of the codes, whether it tells that a line is done, and when light comes or
--- goes, how many lines were answered, how many of them by an error, and for how many more frames and other events there
--- is room
+-- where a drive stands: its player, the mask of the codes, whether it tells that a line is done, and when light comes
+-- or goes, how many lines were answered, how many of them by an error, and for how many more frames and other events
+-- there is room
 pub record DriveState (S : Type 0) : Type 0 where
   pub player : S
   pub mask : Mask
@@ -70,8 +70,8 @@ abbrev pub done_if : Bool → ℕ → List ℕ
 done_if false line = []
 done_if true line = done_line line
 
--- what ends the answer to the line with this number: an error where there is one, and then, if it is told, that the line
--- is done
+-- what ends the answer to the line with this number: an error where there is one, and then, if it is told, that the
+-- line is done
 abbrev pub ending : Bool → ℕ → Option TurnFault → List ℕ
 ending done line fault = error_if line fault ++ done_if done line
 

@@ -32,8 +32,8 @@ abbrev pub unit_line_if : ℕ → Option UnitStatus → List ℕ
 unit_line_if unit None = []
 unit_line_if unit (Some status) = unit_line unit status
 
--- what is told of the unit that a line asks to be shown, and, where that is wanted, of the light that comes or goes with
--- it
+-- what is told of the unit that a line asks to be shown, and, where that is wanted, of the light that comes or goes
+-- with it
 abbrev pub shown_of : {S : Type 0} → Bool → Playing S → Asked → S → List ℕ
 shown_of lights playing asked.Nothing state = []
 shown_of lights playing (asked.Event port event) state = []

@@ -6,8 +6,8 @@ use gp_flow::LinesFault;
 pub struct Driven {
     /// All lines of its input, remarks and empty ones among them.
     pub lines: u64,
-    /// Those that were answered by an error line: they were no turns, or the grant up to which they asked for frames was
-    /// made in none of these.
+    /// Those that were answered by an error line: they were no turns, or the grant up to which they asked for frames
+    /// was made in none of these.
     pub errors: u64,
 }
 

@@ -63,8 +63,8 @@ fn told(driven: Result<Driven, LinesFault>) -> Result<Driven, DriveFault>
     }
 }
 
-/// Drives a script without simulated units on a chassis of its own, whose ledger is the blank, as `drive_script` does, and
-/// gives the ports as they stand at the end. An error is answered where no line was read.
+/// Drives a script without simulated units on a chassis of its own, whose ledger is the blank, as `drive_script` does,
+/// and gives the ports as they stand at the end. An error is answered where no line was read.
 pub fn drive_chassis<L: Ledger, T: Read, W: Write>(
     alloc: Global,
     manner: DriveManner,
@@ -106,8 +106,8 @@ pub fn drive_chassis<L: Ledger, T: Read, W: Write>(
     Ok(Drove { player, driven })
 }
 
-/// Drives a script with simulated units on a fibre of its own, whose ledger is the blank, as `drive_script` does, and gives
-/// the fibre as it stands at the end. An error is answered where no line was read.
+/// Drives a script with simulated units on a fibre of its own, whose ledger is the blank, as `drive_script` does, and
+/// gives the fibre as it stands at the end. An error is answered where no line was read.
 pub fn drive_fibre<L: Ledger, T: Read, W: Write>(
     alloc: Global,
     manner: DriveManner,
@@ -213,8 +213,8 @@ pub fn drive_script<T: Read, W: Write>(
     drive_on::<Brand, T, W>(alloc, manner, blank, script, turns, sink)
 }
 
-/// Reads a script to the end of its source, at most 1,048,576 bytes, and drives it as `drive_script` does. It isn't told
-/// that lines are done, nor when light comes or goes.
+/// Reads a script to the end of its source, at most 1,048,576 bytes, and drives it as `drive_script` does. It isn't
+/// told that lines are done, nor when light comes or goes.
 pub fn run_drive<R: Read, T: Read, W: Write>(
     alloc: Global,
     script: &mut Source<R>,

@@ -8,8 +8,8 @@
 //!   from the bytes of a script; `drive_chassis`, `drive_fibre`, which give what was driven on too.
 //! - `driver.rt`: `Driver`, which answers one line after another on a player, as what serves lines.
 //!   `driven.rt`: how many lines there were. `manner.rt`: in what manner they are answered.
-//! - `turn.rt`: plays what a line asks for. `shown.rt`: what is told of a simulated unit and of light that comes or goes
-//!   there. `ending.rt`: what ends an answer.
+//! - `turn.rt`: plays what a line asks for. `shown.rt`: what is told of a simulated unit and of light that comes or
+//!   goes there. `ending.rt`: what ends an answer.
 //! - `fault.rt`: why a line is answered by an error, and why a drive ends early. `laws.rt`: what every drive comes to.
 //!
 //! Where to make which change: which lines there are is `gp_lines`'; what is played of them stands in

@@ -1,4 +1,5 @@
-//! In what manner lines are answered: as they are, with a line behind each answer that ends it, or with what light does.
+//! In what manner lines are answered: as they are, with a line behind each answer that ends it, or with what light
+//! does.
 
 /// In what manner lines are answered.
 #[derive(Clone, Copy, Debug, PartialEq, Eq)]

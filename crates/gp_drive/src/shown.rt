@@ -132,8 +132,8 @@ fn put_shown<P: EventPlayer, W: Write>(
 }
 
 /// Puts what stands behind the lines of the entries of what a line asks for: what is told of the unit that it asks to
-/// be shown, or of the light that comes or goes with it, and what ends the answer to the line with this number. Takes no
-/// memory.
+/// be shown, or of the light that comes or goes with it, and what ends the answer to the line with this number. Takes
+/// no memory.
 pub(crate) fn put_behind<P: EventPlayer, W: Write>(
     sink: &mut Sink<W>,
     player: &P,

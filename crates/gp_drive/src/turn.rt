@@ -64,8 +64,8 @@ pub(crate) fn cost_of(asked: Asked) -> u64
     }
 }
 
-/// Plays frames of a port up to the first one that makes this grant, at most so many. Where none of these makes it, that
-/// is told.
+/// Plays frames of a port up to the first one that makes this grant, at most so many. Where none of these makes it,
+/// that is told.
 fn play_until<P: EventPlayer, W: Write>(
     player: &mut P,
     out: &mut TraceOut<'_, W>,
@@ -89,8 +89,8 @@ fn play_until<P: EventPlayer, W: Write>(
     Ok(Some(TurnFault::Never))
 }
 
-/// Plays what a line asks for, writes its lines, and tells what is then wrong with it. Of a line that asks for a unit to
-/// be shown, nothing is played.
+/// Plays what a line asks for, writes its lines, and tells what is then wrong with it. Of a line that asks for a unit
+/// to be shown, nothing is played.
 pub(crate) fn play_turn<P: EventPlayer, W: Write>(
     player: &mut P,
     out: &mut TraceOut<'_, W>,

@@ -3,8 +3,8 @@
 //! Promise: words give the code that is told in these words, and what `decode` says comes back (`encode_words`,
 //! `encode_lines`, `words_come_back`).
 //!
-//! - `line.rt`: `encode_line`, which writes the code in hexadecimal digits; `encoding.rt`: `encode_words`, from words to
-//!   thirteen octets.
+//! - `line.rt`: `encode_line`, which writes the code in hexadecimal digits; `encoding.rt`: `encode_words`, from words
+//!   to thirteen octets.
 //! - `lines.rt`: `encode_lines`, which does so of each line of an input; `encoder.rt`: `Encoder`, what serves the
 //!   lines; `answer.rt`: what is said to one.
 //! - `down.rt`, `up.rt`: the message that words say, of each direction; `fields.rt`: its fields.

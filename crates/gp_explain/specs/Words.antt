@@ -23,8 +23,8 @@ place_after Word part = place_after_word part
 place_after UnitCode part = place_after_word part
 place_after TerminalCode part = place_after_word part
 
--- the octets of a code between brackets: in the words that `decode` has for them, or, where the check octet is wrong, as
--- the line spells them
+-- the octets of a code between brackets: in the words that `decode` has for them, or, where the check octet is wrong,
+-- as the line spells them
 abbrev pub TellsOctets : Bool → Mask → List ℕ → List ℕ → List ℕ → Type 0
 TellsOctets upstream mask part octets told =
     ((words : List ℕ) × HasWords upstream mask octets words × (told ≡ codes "[" ++ words ++ codes "]"))

@@ -10,8 +10,8 @@ use std::marker::Model;
 /// How much room the buffer of a line has at first.
 const LINE_ROOM: usize = 512;
 
-/// Tells the lines of a trace, one after another. The first line that is none of a trace ends it. Contracts see what the
-/// next line is told by, how many lines came, and what ended it.
+/// Tells the lines of a trace, one after another. The first line that is none of a trace ends it. Contracts see what
+/// the next line is told by, how many lines came, and what ended it.
 #[derive(Drop)]
 pub struct Explainer {
     pub(crate) telling: Telling,

@@ -19,8 +19,8 @@ const WORDS: usize = 17;
 /// How many values the octet of an ONU-ID has.
 const ONU_IDS: usize = 256;
 
-/// Which units each grant asks, as sets of their places, so that a grant need not go through all units. The place behind
-/// the last unit stands in each set, so that no look-up goes further. After `begin` it takes no memory.
+/// Which units each grant asks, as sets of their places, so that a grant need not go through all units. The place
+/// behind the last unit stands in each set, so that no look-up goes further. After `begin` it takes no memory.
 #[derive(Drop)]
 pub struct AskedUnits {
     /// The units in O3, which serial number requests ask.

@@ -6,8 +6,8 @@
 //!
 //! - `world.rt`: `World`, with its steps (`world_step.rt`), its faults (`fault.rt`) and what it begins with
 //!   (`unit_plan.rt`).
-//! - `running.rt`: the parts of a frame of `World::run` and `run_into`, which may lose copies and bursts: `loss_plan.rt`
-//!   lists them, `losses.rt` and `lost_numbers.rt` look them up, in order where that saves time.
+//! - `running.rt`: the parts of a frame of `World::run` and `run_into`, which may lose copies and bursts:
+//!   `loss_plan.rt` lists them, `losses.rt` and `lost_numbers.rt` look them up, in order where that saves time.
 //! - `fibre.rt`: the port, the book of its licences, the units, and all that was sent (`sent_burst.rt`) and not
 //!   forgotten (`sent.rt`).
 //! - `unit_store.rt`, `stored_unit.rt`: the units, each brought up to date only where it has to be.

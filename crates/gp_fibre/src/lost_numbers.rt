@@ -11,9 +11,9 @@ use std::marker::Model;
 use std::mem;
 use std::snapshot::Snapshot;
 
-/// Numbers that are lost, of copies or of bursts. A look-up walks over them, until all look-ups took as long as it takes
-/// to put them in order. Then they are put in order once, where they stand, and a number is looked up by halvings; in a
-/// step or two, where neither it nor the one before is lost, and none that is lost lies between them.
+/// Numbers that are lost, of copies or of bursts. A look-up walks over them, until all look-ups took as long as it
+/// takes to put them in order. Then they are put in order once, where they stand, and a number is looked up by
+/// halvings; in a step or two, where neither it nor the one before is lost, and none that is lost lies between them.
 ///
 /// Contracts see them as a list, as they were given.
 #[derive(Drop)]

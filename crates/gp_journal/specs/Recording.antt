@@ -9,8 +9,8 @@ use Rattle.gp_machine.specs.Sound.{IsSound}
 use Rattle.gp_machine.specs.Run.{IsStep, entry_outcome}
 use Rattle.gp_port.specs.Numbers.{GrantsWish}
 
--- the port makes one step with these licences, which leaves so many of them, and the entries have its entry behind them;
--- it hands out the wished number where that is free
+-- the port makes one step with these licences, which leaves so many of them, and the entries have its entry behind
+-- them; it hands out the wished number where that is free
 pub record Records
     (before after : List Entry) (old new : PortState) (purse : ℕ) (event : Event) (wished : Option ℕ) (rest : ℕ)
     : Type 0 where

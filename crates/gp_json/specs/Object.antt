@@ -1,4 +1,5 @@
--- A line as a JSON object (this profile's own rule). The line comes without its line feed, and the object ends with one.
+-- A line as a JSON object (this profile's own rule). The line comes without its line feed, and the object ends with
+-- one.
 use Rattle.std.specs.Prelude.{◌≡◌, ◌⊎◌, ◌&&◌, ℕ, List, [], ◌∷◌, ◌++◌, Option, None, Some, if◌then◌else◌, codes, decimal}
 use Rattle.std.specs.Option.{option_map}
 use Rattle.std.specs.Str.{bytes_eq}

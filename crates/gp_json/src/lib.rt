@@ -4,16 +4,17 @@
 //! `write_light`).
 //!
 //! - `object.rt`: `write_object`, a line as an object; `other.rt`: `write_other`, one that is none of a trace, with
-//!   `unit.rt`, what is told of a simulated unit. `light.rt`: `light_in` and `write_light`, that light came or went there.
+//!   `unit.rt`, what is told of a simulated unit. `light.rt`: `light_in` and `write_light`, that light came or went
+//!   there.
 //! - `slot.rt`: what stands where in a line, and which field it makes; `field.rt`: that field.
 //! - `message.rt`: a message as an object; `words.rt`: in words; `allocs.rt`: Alloc-IDs as a list of objects.
 //! - `writer.rt`: `ObjectWriter`, which gathers the pieces of an object.
-//! - `text.rt`: `push_quoted`, a text of any octets, and numbers, as JSON spells them; `quoted.rt`: `quoted_text`, a text
-//!   in UTF-8.
+//! - `text.rt`: `push_quoted`, a text of any octets, and numbers, as JSON spells them; `quoted.rt`: `quoted_text`, a
+//!   text in UTF-8.
 //!
-//! Where to make which change: which field a part makes, and what stands behind it, in `specs/Slots.antt` and `slot.rt`;
-//! how a field is spelled in `specs/Fields.antt` and `field.rt`; the fields of a message in `specs/Message.antt` and
-//! `message.rt`.
+//! Where to make which change: which field a part makes, and what stands behind it, in `specs/Slots.antt` and
+//! `slot.rt`; how a field is spelled in `specs/Fields.antt` and `field.rt`; the fields of a message in
+//! `specs/Message.antt` and `message.rt`.
 #![tactic(auto)]
 
 mod allocs;

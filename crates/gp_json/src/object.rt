@@ -89,9 +89,9 @@ fn object_in(
     }
 }
 
-/// Writes a line as a JSON object, with a line feed behind it, in the place of what the buffer holds: the fields of a line
-/// of a trace, as `gp_trace` spells it, behind how many frames its port has had, if that is told; any other line as one
-/// field. The line comes without its line feed. Codes are those under the mask.
+/// Writes a line as a JSON object, with a line feed behind it, in the place of what the buffer holds: the fields of a
+/// line of a trace, as `gp_trace` spells it, behind how many frames its port has had, if that is told; any other line
+/// as one field. The line comes without its line feed. Codes are those under the mask.
 ///
 /// Memory is taken only where the buffer has no room. Where it is refused, the buffer may hold a part of the object.
 pub fn write_object(

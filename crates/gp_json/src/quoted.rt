@@ -28,7 +28,8 @@ fn push_utf8(out: &mut Vec<u8>, text: &[u8]) -> Result<(), AllocError>
 }
 
 /// Gives a text between quotation marks, as JSON spells it: a quotation mark and a backslash behind a backslash, octets
-/// that aren't printable by their numbers, and all else, also what is no ASCII, as it is. Fails where memory was refused.
+/// that aren't printable by their numbers, and all else, also what is no ASCII, as it is. Fails where memory was
+/// refused.
 pub fn quoted_text(alloc: Global, text: &str) -> Result<Vec<u8>, AllocError>
     ensures { IfOk result (λ quoted. quoted.items ≡ spec.quoted_utf8 text.now) }
 {

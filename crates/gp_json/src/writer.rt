@@ -12,8 +12,8 @@ use std::marker::Model;
 /// How many octets are gathered before they are appended.
 const ROOM: usize = 512;
 
-/// What is written of an object. Pieces are gathered in a place of their own, so that a small one costs no look for room
-/// in the buffer. Contracts see the octets of both.
+/// What is written of an object. Pieces are gathered in a place of their own, so that a small one costs no look for
+/// room in the buffer. Contracts see the octets of both.
 ///
 /// Where memory is refused, a part of what was gathered may be lost.
 #[derive(Drop)]

@@ -25,8 +25,8 @@ pub fn same_messages_are_equal()
     ensures { SameMessagesAreEqual }
 {}
 
-/// States that an observer of the fibre, with room for so much only (`specs/Watch.antt`), knows the units too, once what is
-/// owed is heard: all of them, where it follows all serial numbers that it heard; and one that begins in the
+/// States that an observer of the fibre, with room for so much only (`specs/Watch.antt`), knows the units too, once
+/// what is owed is heard: all of them, where it follows all serial numbers that it heard; and one that begins in the
 /// middle those of which it judges.
 pub fn watchers_know_units()
     ensures whole { WatchersKnowUnits }

@@ -1,6 +1,6 @@
 //! What an observer of the messages on a port's fibre knows of its units, and which rules a message breaks by what is
-//! known before it (G.984.3, clauses 9 and 10; what is judged is this profile's own rule): definitions that compute, and
-//! laws of them. Nothing runs here; `gp_watch` keeps what is known.
+//! known before it (G.984.3, clauses 9 and 10; what is judged is this profile's own rule): definitions that compute,
+//! and laws of them. Nothing runs here; `gp_watch` keeps what is known.
 //!
 //! Promise: along each run of the machine the messages tell the unit table, and the terminal breaks no rule, whatever
 //! bursts come (`messages_tell_units`, `watchers_know_units`, `terminal_breaks_no_rule`, `sent_codes_are_heard`).
@@ -14,8 +14,8 @@
 //! - `specs/Knows.antt`, `Sent.antt`, `Watches.antt`: what it is to know the units, and the laws that say so.
 //!   `specs/Fibre.antt`: what a run says on the fibre, and the law that no rule is broken in it.
 //!
-//! Where to make which change: what a message changes stands in `specs/Observer.antt` or `Watch.antt`, and a rule in the
-//! file of its side; a new one has its name in `rule.rt`, its place in `specs/Heard.antt` and its lemma in
+//! Where to make which change: what a message changes stands in `specs/Observer.antt` or `Watch.antt`, and a rule in
+//! the file of its side; a new one has its name in `rule.rt`, its place in `specs/Heard.antt` and its lemma in
 //! `proofs/Judging.antt`. `proofs/Cases.antt` has worked cases of each. A changed table line of `gp_machine` is met in
 //! `proofs/Telling.antt` (what its messages tell), `Causing.antt` (by what they are caused), and their twins of frames;
 //! a new message in `proofs/Agreeing.antt`, `Low.antt` and `Noting.antt` too.

@@ -7,8 +7,8 @@ use crate::judged::{delays_of, drift_of, frames_of};
 use gp_command_line::Drawing;
 use gp_picture::{Frames, PictureOptions};
 
-/// Gives what of a log is drawn and what it is judged by, or the first option that can't be: frames that end before they
-/// begin, then the delays. A drift of 2^32 bit times or more counts as the greatest below. Takes no memory.
+/// Gives what of a log is drawn and what it is judged by, or the first option that can't be: frames that end before
+/// they begin, then the delays. A drift of 2^32 bit times or more counts as the greatest below. Takes no memory.
 pub fn picture_options<'m, 'a>(wanted: &Drawing<'m, 'a>) -> Result<PictureOptions, BadOption<'a>>
     ensures { MatchResult result (DrawsAs wanted.now) (IsBadPicture wanted.now) }
 {

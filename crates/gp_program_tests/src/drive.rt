@@ -194,8 +194,8 @@ fn what_a_unit_is(rt: HostRuntime) {
     assert!(rt; drives_and_tells(rt.alloc(), FIBRE, lines, expected, (3, 0)));
 }
 
-/// Tells whether this is written of a script and lines, so many of which are answered, so many of them by errors, in this
-/// manner.
+/// Tells whether this is written of a script and lines, so many of which are answered, so many of them by errors, in
+/// this manner.
 fn drives_in(
     alloc: Global,
     manner: DriveManner,

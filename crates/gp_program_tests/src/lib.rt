@@ -9,7 +9,8 @@
 //! - `check.rt`: where a script is wrong, and what is wanted there; `check/rows.rt` has the scripts; `check/objects.rt`
 //!   reads its objects as JSON.
 //! - `decode.rt`, `trace.rt`: lines as they are printed; a code is decoded also where memory is refused.
-//! - `encode.rt`, `explain.rt`: codes of messages in words; traces in words. `tell.rt`: the same while a trace is written.
+//! - `encode.rt`, `explain.rt`: codes of messages in words; traces in words. `tell.rt`: the same while a trace is
+//!   written.
 //! - `fields.rt`: the objects of messages and of Alloc-IDs, read as JSON.
 //! - `lines.rt`: events and turns that are read, the first fault of each text that is refused, and lines of a trace.
 //! - `log.rt`: lines of a log and of a trace: what each says on the fibre, its first fault, and lines that are written.
@@ -17,8 +18,8 @@
 //!   that is refused; `storm/plans.rt` storms plans.
 //! - `turns.rt`: turns that a player tells, beside turns that a chassis serves.
 //! - `drive.rt`: lines that ask for something, and what is said to each.
-//! - `verify.rt`: traces that are told to be runs, and the first line of each that is not; `verify/objects.rt` reads what
-//!   is told as JSON, `verify/words.rt` has it in words.
+//! - `verify.rt`: traces that are told to be runs, and the first line of each that is not; `verify/objects.rt` reads
+//!   what is told as JSON, `verify/words.rt` has it in words.
 //! - `report.rt`: fault texts and statuses.
 #![tactic(auto)]
 

@@ -25,8 +25,8 @@ pub fn licences_are_kept()
     gp_fibre::keeps_licences();
 }
 
-/// States that events that are told with their lights are played, and that their text is the trace with one line for each
-/// time that light comes or goes, in their order; and that without lights it is the trace.
+/// States that events that are told with their lights are played, and that their text is the trace with one line for
+/// each time that light comes or goes, in their order; and that without lights it is the trace.
 pub fn lights_are_told()
     ensures chassis { LightsAreTold chassis_playing }
     ensures fibre { LightsAreTold fibre_playing }

@@ -6,10 +6,10 @@
 //! - `replaying.rt`: `play_script`, from a script that was read to the bytes of its trace, `play_with_lights`, with the
 //!   light that comes and goes at simulated units between, and `run_replay`, from the bytes of a script.
 //! - `opening.rt`: `open_chassis` and `open_fibre`, which take a script apart and open what its events are played on.
-//! - `event_player.rt`: `EventPlayer`, what events are played on; `lights.rt`: `tell_events`, which plays the events of a
-//!   script on it, and tells when light comes or goes, where that is wanted; `play_end.rt`: the end of a play.
-//! - `player.rt`: `Player`, the ports of a script (`seat.rt`) with the book of their licences: it keeps no journal, and a
-//!   turn (`turn.rt`) takes no memory, of which only what is asked behind its line is told (`told.rt`). `playing.rt`:
+//! - `event_player.rt`: `EventPlayer`, what events are played on; `lights.rt`: `tell_events`, which plays the events of
+//!   a script on it, and tells when light comes or goes, where that is wanted; `play_end.rt`: the end of a play.
+//! - `player.rt`: `Player`, the ports of a script (`seat.rt`) with the book of their licences: it keeps no journal, and
+//!   a turn (`turn.rt`) takes no memory, of which only what is asked behind its line is told (`told.rt`). `playing.rt`:
 //!   plays an event on it, which is a turn or more, and writes the line of each.
 //! - `fibre_player.rt`: `FibrePlayer`, the fibre of one port with its simulated units, by `world_player.rt`;
 //!   `world_playing.rt`: plays an event on it, and writes the lines of what its port does.
@@ -19,8 +19,8 @@
 //! Where to make which change: what playing means stands in `specs/ScriptPlay.antt`, by `specs/Play.antt` on a
 //! chassis and by `specs/WorldPlay.antt` on a fibre, and what the two have in common in `specs/Playing.antt`; what is
 //! written of it in `specs/Writing.antt`, `specs/WorldWriting.antt` and, of light, `specs/Lights.antt`, and how a
-//! replay may end in `specs/Outcome.antt`. A new form of event is a case of `turns_of` and `WorldTakes` there, and of `play_event` and
-//! `play_world_event` here.
+//! replay may end in `specs/Outcome.antt`. A new form of event is a case of `turns_of` and `WorldTakes` there, and of
+//! `play_event` and `play_world_event` here.
 #![tactic(auto)]
 
 mod event_player;

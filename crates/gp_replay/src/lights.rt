@@ -1,5 +1,5 @@
-//! The events of a script told while they are played: the line of each entry, and behind an event with which light comes
-//! or goes at a simulated unit a line that says so.
+//! The events of a script told while they are played: the line of each entry, and behind an event with which light
+//! comes or goes at a simulated unit a line that says so.
 ghost use Rattle.std.specs.Prelude.{◌≡◌, ◌++◌, ◌*◌, ◌^◌, All, Err, OnOk, codes, decimal, length};
 ghost use Rattle.gp_script.specs.View.{NamesOneOf};
 ghost use Rattle.gp_replay.specs.Lights as spec;
@@ -93,9 +93,9 @@ fn tell_event<P: EventPlayer, W: Write>(
     Ok(())
 }
 
-/// Plays the events of a script, in their order, and writes the line of each entry. Where lights are told, `unit I light`
-/// or `unit I dark` stands behind the lines of an event with which light comes or goes at a simulated unit, on a line of
-/// its own. It is no line of the trace, and takes no memory.
+/// Plays the events of a script, in their order, and writes the line of each entry. Where lights are told,
+/// `unit I light` or `unit I dark` stands behind the lines of an event with which light comes or goes at a simulated
+/// unit, on a line of its own. It is no line of the trace, and takes no memory.
 pub fn tell_events<P: EventPlayer, W: Write>(
     player: &mut P,
     out: &mut TraceOut<'_, W>,

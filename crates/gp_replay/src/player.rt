@@ -48,7 +48,8 @@ impl<L: Ledger> Model for Player<L> {
 }
 
 impl<L: Ledger> Player<L> {
-    /// Opens the chassis, before its first event. It keeps no entries, so how many a journal may keep means nothing here.
+    /// Opens the chassis, before its first event. It keeps no entries, so how many a journal may keep means nothing
+    /// here.
     pub fn begin(
         alloc: Global,
         blank: Blank,
@@ -64,10 +65,10 @@ impl<L: Ledger> Player<L> {
         Ok(Player { seats, book })
     }
 
-    /// Takes one event to its port, builds the line of the entry, and gives of it only what is asked for behind that: the
-    /// answer is not copied. A burst takes one licence where one is free, and gives back what it does not use. The wished
-    /// number is handed out where it is free and one is handed out. The mask is that of the port's codes. It takes no
-    /// memory, and never fails.
+    /// Takes one event to its port, builds the line of the entry, and gives of it only what is asked for behind that:
+    /// the answer is not copied. A burst takes one licence where one is free, and gives back what it does not use. The
+    /// wished number is handed out where it is free and one is handed out. The mask is that of the port's codes. It
+    /// takes no memory, and never fails.
     pub fn tell_turn(
         &mut self,
         turn: Turn,
@@ -112,7 +113,8 @@ impl<L: Ledger> Player<L> {
         self.book.free()
     }
 
-    /// Tells how many copies of messages a port still has to send, one with each frame; none where there is no such port.
+    /// Tells how many copies of messages a port still has to send, one with each frame; none where there is no such
+    /// port.
     pub fn owed(&self, port: u8) -> usize
         ensures { result ≡ copies_owed self.now port }
     {

@@ -105,9 +105,9 @@ fn play_on<L: Ledger, W: Write>(
     }
 }
 
-/// Plays a script that was read, and writes its trace, all of it or up to the first fault. Memory for its ports is taken
-/// before the first event is played. No entry is kept longer than its line takes; with simulated units those of 256
-/// frames are kept at most, for which memory is taken too, so there `OutOfMemory` can also come while the script is
+/// Plays a script that was read, and writes its trace, all of it or up to the first fault. Memory for its ports is
+/// taken before the first event is played. No entry is kept longer than its line takes; with simulated units those of
+/// 256 frames are kept at most, for which memory is taken too, so there `OutOfMemory` can also come while the script is
 /// played. The lines of all entries up to there are written out then, and `OutOfMemory` is told even where that write
 /// fails. The script's `journal_limit` means nothing here.
 ///
@@ -143,8 +143,8 @@ pub fn play_with_lights<W: Write>(
 /// Reads a script to the end of the source, and plays it as `play_script` does. Memory for the script is taken before
 /// that for its ports.
 ///
-/// Of a source with a failed read nothing is read, and `Read` is answered. To a sink that has stopped nothing is written;
-/// a fault of reading, of the script or of memory still comes first, and else `Write` is answered.
+/// Of a source with a failed read nothing is read, and `Read` is answered. To a sink that has stopped nothing is
+/// written; a fault of reading, of the script or of memory still comes first, and else `Write` is answered.
 pub fn run_replay<R: Read, W: Write>(
     alloc: Global,
     source: &mut Source<R>,

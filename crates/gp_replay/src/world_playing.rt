@@ -26,8 +26,8 @@ use std::sync::ledger::Ledger;
 /// many frames an event has.
 const FRAMES_AT_ONCE: u32 = 256;
 
-/// For how many entries room is kept from a few frames of an event to the next ones: for some more than 1,024 units want
-/// that are all at rest.
+/// For how many entries room is kept from a few frames of an event to the next ones: for some more than 1,024 units
+/// want that are all at rest.
 const MAX_SPARE: usize = 8192;
 
 /// The number of the only port.

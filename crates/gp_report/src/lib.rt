@@ -6,8 +6,8 @@
 //! - `status.rt`: the statuses.
 //!
 //! Where to make which change: a line stands in `report.rt` and `specs/Report.antt` or `specs/Words.antt`, a status in
-//! `status.rt`. Which faults there are is decided where they arise: `gp_replay` for a replay or a storm, `gp_verify` for
-//! a verification, `gp_decode` for a code, `gp_explain` for a trace in words, `gp_encode` for words.
+//! `status.rt`. Which faults there are is decided where they arise: `gp_replay` for a replay or a storm, `gp_verify`
+//! for a verification, `gp_decode` for a code, `gp_explain` for a trace in words, `gp_encode` for words.
 #![tactic(auto)]
 
 mod report;

@@ -3,8 +3,8 @@
 //! Promise: a script is what its text says, or its first fault is told, with the table and the key (`read_script`,
 //! `read_script_at`).
 //!
-//! - `reading.rt`: `read_script_at`, and for a storm `read_storm_script_at`; without the place of a mistake `read_script`,
-//!   `read_storm_script`.
+//! - `reading.rt`: `read_script_at`, and for a storm `read_storm_script_at`; without the place of a mistake
+//!   `read_script`, `read_storm_script`.
 //! - `script.rt`: a script that was read. `fault.rt`: the kind of a mistake. `mistake.rt`: a mistake and its place;
 //!   `place.rt` the tables and keys, and what may be wanted there.
 //! - `tables.rt`: the keys that a table may have. `top.rt`: the keys of the top.

@@ -58,8 +58,8 @@ impl Index {
         self.admissions.get(&SerialKey::of(*serial)).copied()
     }
 
-    /// Adds a serial number, which counts on its port, and says whether it was added: by one search where it is. One that
-    /// is there already stays as it is.
+    /// Adds a serial number, which counts on its port, and says whether it was added: by one search where it is. One
+    /// that is there already stays as it is.
     pub(crate) fn insert(
         &mut self,
         serial: Serial,

@@ -4,8 +4,8 @@
 //! Promise: what is written are the exact totals of its journals, each a run of its port, with all frames and
 //! commands of the script (`run_storm`).
 //!
-//! - `storming.rt`: `run_storm`, from the bytes of a script to those of its totals; `run_storm_in`, which writes them in
-//!   a form, `form.rt`.
+//! - `storming.rt`: `run_storm`, from the bytes of a script to those of its totals; `run_storm_in`, which writes them
+//!   in a form, `form.rt`.
 //! - `plan.rt`: `Plan`, what a storm does, and `plan_of` a script. `fault.rt`: `StormFault`, why it has no totals.
 //! - `feeder.rt`: what puts a port's bursts into its ring.
 //! - `task.rt`: what one thread has: its worker, its end of a ring, and how its loop ended.

@@ -1,5 +1,5 @@
--- The lines of a trace alone: what was counted of its ports and units, and how the units stand as they were heard on the
--- fibre (this profile's own rule).
+-- The lines of a trace alone: what was counted of its ports and units, and how the units stand as they were heard on
+-- the fibre (this profile's own rule).
 use Rattle.std.specs.Prelude.{◌≡◌, ℕ, zero, suc, ◌==◌, ◌&&◌, if◌then◌else◌, Bool, List, [], ◌++◌, Some, codes, filter, is_some, length, slice_get}
 use Rattle.std.specs.FinMap.{entries, get}
 use Rattle.std.specs.List.{flat_map}

@@ -20,8 +20,8 @@ use Rattle.gp_tally.specs.Counting.{CountingState}
 use Rattle.gp_summary.specs.declared.form.SummaryForm.{SummaryForm}
 use Rattle.gp_summary.specs.Summary.{IsFresh, SaysCounted, free_after}
 
--- the script was played and told, the writer took all that is told and nothing else, and the text tells what was counted
--- of that, how each port and its units stand at the end, and the licences
+-- the script was played and told, the writer took all that is told and nothing else, and the text tells what was
+-- counted of that, how each port and its units stand at the end, and the licences
 pub record IsSummaryOfTold {W : Type 0} (lights : Bool) (form : SummaryForm) (script : ScriptView)
     (after : SinkState (CountingState W)) (text : List ℕ) : Type 0 where
   pub receipts : List Receipt

@@ -7,9 +7,9 @@
 //! - `form.rt`: `SummaryForm`, text or JSON. `pieces.rt`: numbers behind their names, and counts by a name each.
 //! - `standing.rt`: how a unit stands. `port.rt`, `unit.rt`: the line of a port and of a unit. `lines.rt`: a port with
 //!   its units, and the licences. `ports.rt`: the ports that a script was played on.
-//! - `playing.rt`: `play_summed`, a script that is played and summed, and `sum_with_lights`, with the light that comes and
-//!   goes between the lines of its trace. `heard.rt`: what was counted of a trace alone, and how its units stand as they
-//!   were heard on the fibre (`heard_summary`).
+//! - `playing.rt`: `play_summed`, a script that is played and summed, and `sum_with_lights`, with the light that comes
+//!   and goes between the lines of its trace. `heard.rt`: what was counted of a trace alone, and how its units stand as
+//!   they were heard on the fibre (`heard_summary`).
 //!
 //! Where to make which change: what a line says stands in `specs/Text.antt`, of a trace alone in `specs/Heard.antt`;
 //! what is counted, in `gp_tally`; what is heard, in `gp_observer`, and what is known of a unit by it, in `gp_census`.

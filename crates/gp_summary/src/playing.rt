@@ -200,8 +200,9 @@ pub fn play_summed<B: Began, W: Write + Drop>(
     sum_on::<B, Brand, W>(alloc, blank, script, form, false, sink)
 }
 
-/// Plays a script and sums it as `play_summed` does, and writes its trace with a line of its own for each event with which
-/// light comes or goes at a simulated unit, as `gp_replay::play_with_lights` does. Of these lines nothing is counted.
+/// Plays a script and sums it as `play_summed` does, and writes its trace with a line of its own for each event with
+/// which light comes or goes at a simulated unit, as `gp_replay::play_with_lights` does. Of these lines nothing is
+/// counted.
 pub fn sum_with_lights<B: Began, W: Write + Drop>(
     alloc: Global,
     script: Script,

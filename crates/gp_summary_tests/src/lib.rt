@@ -1,5 +1,5 @@
-//! The tests of `gp_tally`, `gp_summary` and `gp_summed`: what is counted of lines and told at the end, by sums that were
-//! made by hand.
+//! The tests of `gp_tally`, `gp_summary` and `gp_summed`: what is counted of lines and told at the end, by sums that
+//! were made by hand.
 //!
 //! - `summary.rt`: scripts that are played and summed, as text and as JSON; a writer that fails.
 //! - `lines.rt`: lines that are counted, whole and in pieces.

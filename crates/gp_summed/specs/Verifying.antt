@@ -62,8 +62,8 @@ abbrev pub counted_of : Option Verdict → List ℕ → List ℕ → List ℕ
 counted_of None text said = text ++ codes "\n"
 counted_of (Some why) text said = said_by why said
 
--- what was counted with a line, by what ended the verification before: nothing behind its end, nor of a line that is too
--- long
+-- what was counted with a line, by what ended the verification before: nothing behind its end, nor of a line that is
+-- too long
 abbrev pub CountsFrom : Option Verdict → AccountState → Option (List ℕ) → AccountState → Type 0
 CountsFrom (Some why) old line new = new.counter.taken ≡ old.counter.taken
 CountsFrom None old None new = new.counter.taken ≡ old.counter.taken
@@ -101,8 +101,8 @@ summary_form forms.Json = Json
 summary_form forms.Plain = Text
 summary_form forms.Words = Text
 
--- up to which line a trace is told of that is no run, and whether the machine's own line in the place of the next one is
--- told of too
+-- up to which line a trace is told of that is no run, and whether the machine's own line in the place of the next one
+-- is told of too
 abbrev pub reach : SummaryForm → ℕ → List ℕ
 reach Text line = number_field (codes "up to line ") line ++ codes "\n"
 reach Json line = number_field (codes "{\"up_to\":") line ++ codes ",\"machine\":false}\n"

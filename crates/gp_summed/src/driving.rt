@@ -164,12 +164,12 @@ fn sum_on<B: Began, L: Ledger, T: Read, W: Write + Drop>(
     }
 }
 
-/// Drives a script as `drive_script` does, by a writer that passes the answers on, and tells at the end what was counted
-/// of the lines of its entries, how each port and its units stand, and how many licences are free. Memory is flat in the
-/// length of the drive.
+/// Drives a script as `drive_script` does, by a writer that passes the answers on, and tells at the end what was
+/// counted of the lines of its entries, how each port and its units stand, and how many licences are free. Memory is
+/// flat in the length of the drive.
 ///
-/// Memory for the counts and for the sink is taken first, then only where a unit is heard for the first time. Where that
-/// is refused, the lines are still answered, and there is no summary. An error is answered where nothing was done.
+/// Memory for the counts and for the sink is taken first, then only where a unit is heard for the first time. Where
+/// that is refused, the lines are still answered, and there is no summary. An error is answered where nothing was done.
 pub fn drive_summed<B: Began, T: Read, W: Write + Drop>(
     alloc: Global,
     manner: DriveManner,

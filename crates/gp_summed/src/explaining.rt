@@ -49,8 +49,8 @@ fn summary_of(
 /// what was heard on the fibre. Memory is flat in the length of the trace.
 ///
 /// Memory for the counts, for what is heard and for the sink is taken first; then only where a unit is heard for the
-/// first time, and where a line comes in two pieces. Where that is refused, the lines are still written, and there is no
-/// summary. An error is answered where nothing was read.
+/// first time, and where a line comes in two pieces. Where that is refused, the lines are still written, and there is
+/// no summary. An error is answered where nothing was read.
 pub fn explain_summed<B: Began, R: Read, W: Write + Drop>(
     alloc: Global,
     mask: Mask,

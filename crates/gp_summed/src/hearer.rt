@@ -1,5 +1,5 @@
-//! `Hearer`, which hears the lines of a text that comes in any pieces: a line that stands whole in a piece is heard where
-//! it stands, and only one that goes on in the next piece is copied.
+//! `Hearer`, which hears the lines of a text that comes in any pieces: a line that stands whole in a piece is heard
+//! where it stands, and only one that goes on in the next piece is copied.
 ghost use Rattle.std.specs.Prelude.{◌≡◌, ◌++◌, ◌∷◌, [], true, IfOk, OnErr, OnOk};
 ghost use Rattle.gp_audit.specs.Listening.{HearsLine};
 ghost use Rattle.gp_tally.specs.Text.{IsOneLine};

@@ -7,8 +7,8 @@ use std::io;
 use std::io::Write;
 use std::marker::Model;
 
-/// A writer that counts and hears what it passes on: that is what the writer below took. Where memory for it is refused,
-/// it goes on to write. Contracts see the writer that counts, and the hearer.
+/// A writer that counts and hears what it passes on: that is what the writer below took. Where memory for it is
+/// refused, it goes on to write. Contracts see the writer that counts, and the hearer.
 #[derive(Drop)]
 pub(crate) struct Hearing<B: Began, W: Write> {
     counting: Counting<B, W>,

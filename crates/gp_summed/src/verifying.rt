@@ -207,8 +207,8 @@ fn script_in<R: Read>(alloc: Global, source: &mut Source<R>) -> Result<Script, R
 
 /// Tells whether a text is the trace of some run on the chassis that a script opens, as `verify_told` does, and what
 /// became of each port and unit in it, by a line, or an object, each: what was counted of the entries, and how ports,
-/// units and licences stand behind the last one. Of a trace that is no run the entries are those of the lines before the
-/// first that can't be, and the machine's own in the place of that one, where it names an event and a port; a line
+/// units and licences stand behind the last one. Of a trace that is no run the entries are those of the lines before
+/// the first that can't be, and the machine's own in the place of that one, where it names an event and a port; a line
 /// before the others says so.
 ///
 /// Memory for the counts is taken before the first line, and then only where a unit is heard for the first time. Where

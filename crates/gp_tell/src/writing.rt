@@ -88,9 +88,9 @@ impl<B: Began, W: Write> Teller<B, W> {
         }
     }
 
-    /// Takes a line that stands whole, and its line feed, if nothing of it was taken before and it is not too long: it is
-    /// told where it stands. Tells whether it did. Where there is no memory for what is told of it, it is not taken, and
-    /// what was told before is written out.
+    /// Takes a line that stands whole, and its line feed, if nothing of it was taken before and it is not too long: it
+    /// is told where it stands. Tells whether it did. Where there is no memory for what is told of it, it is not taken,
+    /// and what was told before is written out.
     fn take_whole(&mut self, line: &[u8]) -> Result<bool, TellFault>
         requires running { self.old.fault ≡ None }
         requires line { All (λ octet. is_feed octet ≡ false) line.now }

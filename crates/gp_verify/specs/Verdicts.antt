@@ -70,8 +70,8 @@ pub record MovesOn (mask : Mask) (old new : PlayState) (said : List ℕ) : Type 
   pub taken : TakesTurns old (turn_of receipt ∷ []) (receipt ∷ []) new
   pub line : said ≡ line_of mask receipt
 
--- what a line does to the play, by what is said of it: one that follows is the line of the entry by which it goes on; in
--- the place of another that names an event and a port the machine's own entry stands; any other changes nothing
+-- what a line does to the play, by what is said of it: one that follows is the line of the entry by which it goes on;
+-- in the place of another that names an event and a port the machine's own entry stands; any other changes nothing
 abbrev pub Moves : Verdict → Mask → List ℕ → PlayState → PlayState → List ℕ → Type 0
 Moves verdict.Follows mask text old new said = MovesOn mask old new said × (said ≡ text ++ codes "\n")
 Moves verdict.WrongNumber mask text old new said = MovesOn mask old new said

@@ -21,8 +21,8 @@ use std::io::{Read, Write};
 use std::marker::Brand;
 use std::sync::ledger::{Blank, Ledger};
 
-/// Opens the chassis of a script that was read, before the first line, where the line that can't be is to be told in this
-/// form. `blank` is a new ledger of `MAX_LICENCES` parts, made by `Blank::new`, and `L` its name.
+/// Opens the chassis of a script that was read, before the first line, where the line that can't be is to be told in
+/// this form. `blank` is a new ledger of `MAX_LICENCES` parts, made by `Blank::new`, and `L` its name.
 pub fn open_verify<L: Ledger>(
     alloc: Global,
     form: Form,

@@ -14,8 +14,8 @@
 //! - `report.rt`: what is told of the line that can't be, as lines; `object.rt`: the same as a JSON object.
 //! - `ending.rt`: what is told when it has ended.
 //! - `typed.rt`: what the types of a configuration say of its fields.
-//! - `verdict.rt`: what is said of a line. `fault.rt`: why a line was not judged. `outcome.rt`: why a text was not found
-//!   to be a trace of a run.
+//! - `verdict.rt`: what is said of a line. `fault.rt`: why a line was not judged. `outcome.rt`: why a text was not
+//!   found to be a trace of a run.
 //!
 //! Where to make which change: what it means that a text is a trace stands in `specs/Tells.antt`, what a verdict means
 //! in `specs/Verdicts.antt`, how a verification may end in `specs/Outcome.antt`, and what is told of the line that

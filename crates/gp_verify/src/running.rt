@@ -33,8 +33,8 @@ pub fn run_verify<L: Ledger, R: Read, W: Write>(
     finding(end, found, verifier.lines())
 }
 
-/// What was found by the verdict that ended a verification, if one did, where the text was read so far and so many lines
-/// were judged.
+/// What was found by the verdict that ended a verification, if one did, where the text was read so far and so many
+/// lines were judged.
 pub fn finding(end: LinesEnd, found: Option<Verdict>, line: u64) -> Result<u64, VerifyFault>
     ensures { result ≡ finding end found line }
 {

@@ -2,14 +2,14 @@
 //! unit does, over time.
 //!
 //! Promise: any input is read to its end or to its first line that is none, and what is written is one dump, whole or
-//! up to where the writer stopped: its changes are of variables that are declared, and its times only rise. How it ended
-//! is told exactly (`dump_waves`). Which changes stand there is tested.
+//! up to where the writer stopped: its changes are of variables that are declared, and its times only rise. How it
+//! ended is told exactly (`dump_waves`). Which changes stand there is tested.
 //!
 //! - `options.rt`: `WavesOptions`, the frames that are dumped, and how codes are read.
 //! - `held.rt`: the changes that are held back, so that those of all ports come in the order of their times.
 //! - `alarm.rt`: the alarm of a line. `touched.rt`: which units a message touches. `lanes.rt`: the units of a port.
-//! - `pulses.rt`: what stands on a port for a frame, or while a window is open. `port.rt`: what is kept of one port, and
-//!   which changes something that is heard makes.
+//! - `pulses.rt`: what stands on a port for a frame, or while a window is open. `port.rt`: what is kept of one port,
+//!   and which changes something that is heard makes.
 //! - `fault.rt`: why a line can't be dumped.
 //! - `dumper.rt`: `Dumper`, which is given lines one after another; `hearing.rt`: what it hears of them; `writing.rt`:
 //!   what it writes; `serving.rt`: as what serves lines. `running.rt`: `dump_waves`, from the bytes of a trace or a log

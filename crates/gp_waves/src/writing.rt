@@ -116,8 +116,8 @@ impl Writing {
         Ok(())
     }
 
-    /// Writes the changes that can't be held back any more into the buffer, in the place of what it held. Since it isn't
-    /// known what comes, all that there can be is declared then.
+    /// Writes the changes that can't be held back any more into the buffer, in the place of what it held. Since it
+    /// isn't known what comes, all that there can be is declared then.
     pub(crate) fn spill(&mut self, out: &mut Vec<u8>, waves: &mut Waves) -> Result<(), WavesFault>
         ensures { OnOk result (Grows self.old out.new.items self.new) }
     {

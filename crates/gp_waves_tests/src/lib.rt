@@ -2,8 +2,8 @@
 //! that a line says, and that none is left out.
 //!
 //! - `parsed.rt`: a parser of value change dumps. `dumped.rt`: dumps of texts. `texts.rt`: a trace and a log.
-//! - `run.rt`: a short run, change by change, and some of its frames. `counts.rt`: changes, counted against the input, and
-//!   their values and times. `ports.rt`: ports that are not in step. `lanes.rt`: more units than lanes.
+//! - `run.rt`: a short run, change by change, and some of its frames. `counts.rt`: changes, counted against the input,
+//!   and their values and times. `ports.rt`: ports that are not in step. `lanes.rt`: more units than lanes.
 //! - `hostile.rt`: lines that are none, times that fall, readers and writers that fail, memory that is refused.
 #![tactic(auto)]
 

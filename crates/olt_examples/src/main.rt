@@ -2,8 +2,8 @@
 //! writes with that trace; audits each trace, and each log there, and compares what the audit writes with the findings
 //! that stand beside it. It ends with status 1 where one is not as it stands.
 //!
-//! It reads the folder where it runs, so that a new example takes four things: NAME.toml, NAME.trace, NAME.findings, and
-//! its lines in the crate's file `stdout`; a new log takes NAME.log, NAME.findings and its line.
+//! It reads the folder where it runs, so that a new example takes four things: NAME.toml, NAME.trace, NAME.findings,
+//! and its lines in the crate's file `stdout`; a new log takes NAME.log, NAME.findings and its line.
 //!
 //! - `auditing.rt`: what an audit says.
 #![tactic(auto)]
@@ -104,8 +104,8 @@ fn verdict_of_audit(
     }
 }
 
-/// Audits a log, or a trace, compares what the audit writes with the findings beside it, prints a line on that, and tells
-/// whether it is as they stand.
+/// Audits a log, or a trace, compares what the audit writes with the findings beside it, prints a line on that, and
+/// tells whether it is as they stand.
 fn check_audit<R: AllocGlobal + Files + Print + Clone + Drop>(
     rt: &R,
     name: &str,

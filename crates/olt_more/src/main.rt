@@ -2,8 +2,8 @@
 //! itself, and prints a digest of every octet that was written and of every field that was answered. Each seed gives
 //! other inputs of the same kinds and sizes, and the same digest on every run.
 //!
-//! Jobs: `ports`, `storm`, `codes`, `told`, `audit`. Each has PARTS parts, one after the other, of kinds that take turns. `each`
-//! does the first part of each job, then the second of each, and so on.
+//! Jobs: `ports`, `storm`, `codes`, `told`, `audit`. Each has PARTS parts, one after the other, of kinds that take
+//! turns. `each` does the first part of each job, then the second of each, and so on.
 //!
 //! - `ports.rt`: sixteen ports in a program of its own, all of whose pieces and images are read.
 //! - `storm.rt`: storms of one to sixteen ports, by threads.

@@ -1,5 +1,5 @@
-//! Whether files are scripts: of each a line, on standard output where it is one, and else on standard error; or of each
-//! an object on standard output.
+//! Whether files are scripts: of each a line, on standard output where it is one, and else on standard error; or of
+//! each an object on standard output.
 ghost use Rattle.std.specs.Prelude.{◌≡◌, IfOk};
 ghost use Rattle.oltctl.specs.Replays.{IsToldBy, is_told_script};
 
@@ -90,7 +90,8 @@ fn check_reader<R: AllocGlobal + Eprint, T: Read + Drop, W: Write>(
     Ok(is_told_script(&told))
 }
 
-/// Says of a file that it is a script, or where it is wrong, and tells whether it is one. `-` stands for standard input.
+/// Says of a file that it is a script, or where it is wrong, and tells whether it is one. `-` stands for standard
+/// input.
 fn check_file<R: AllocGlobal + Files + Eprint + Input, W: Write>(
     rt: &R,
     path: &str,

@@ -136,8 +136,8 @@ fn tell_units<R: Eprint>(rt: &R, drove: Drove) -> Result<Driven, DriveFault> {
     }
 }
 
-/// Plays the script that a reader gives, answers the lines that another gives, on standard output, and tells at the end,
-/// on standard error, what became of each port and unit.
+/// Plays the script that a reader gives, answers the lines that another gives, on standard output, and tells at the
+/// end, on standard error, what became of each port and unit.
 pub(crate) fn drive_with_units<R: AllocGlobal + Print + Eprint, S: Read + Drop, T: Read + Drop>(
     rt: &R,
     manner: DriveManner,

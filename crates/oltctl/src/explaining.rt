@@ -1,5 +1,5 @@
-//! The command `explain`: a trace is written again, with its codes in words, as JSON, or as a log, and what was counted of
-//! its ports and units.
+//! The command `explain`: a trace is written again, with its codes in words, as JSON, or as a log, and what was counted
+//! of its ports and units.
 ghost use Rattle.std.specs.Prelude.{◌≡◌};
 ghost use Rattle.oltctl.specs.Statuses.{IsExplained, told_status};
 

@@ -1,19 +1,19 @@
-//! `oltctl`: plays a script and writes its trace, answers lines that ask for something, runs a script's events at once by
-//! threads and writes the totals, plays the scripts of folders and compares each with its trace, writes a script by
-//! chance, tells whether a trace is one of a correct line terminal, names each rule that a message of a log breaks, draws
-//! a log as a picture or as waves, writes a trace again with its codes in words or as a log, says in words which message a
-//! code is, and gives the code of a message in words.
+//! `oltctl`: plays a script and writes its trace, answers lines that ask for something, runs a script's events at once
+//! by threads and writes the totals, plays the scripts of folders and compares each with its trace, writes a script by
+//! chance, tells whether a trace is one of a correct line terminal, names each rule that a message of a log breaks,
+//! draws a log as a picture or as waves, writes a trace again with its codes in words or as a log, says in words which
+//! message a code is, and gives the code of a message in words.
 //!
-//! Promise: what the words of a command line ask for is done, and each ending has its status (`main`). How they are read
-//! is `gp_command_line`'s.
+//! Promise: what the words of a command line ask for is done, and each ending has its status (`main`). How they are
+//! read is `gp_command_line`'s.
 //!
 //! - `verifying.rt`, `auditing.rt`, `picturing.rt`, `waving.rt`, `explaining.rt`, `checking.rt`, `generating.rt`: one
 //!   command each, from its inputs to how it ended. The others stand here; `telling.rt` has what is told while it is
 //!   played or driven, `summing.rt` what is told at its end, `recounting.rt` what is counted of a trace that is
 //!   told again, `driving.rt` a drive with what is told at its end.
 //! - `objects.rt`: one code, or the words of one message, as an object.
-//! - `testing.rt`: scripts of folders, several at once, and what is told of them. `scripts.rt`: which files of a folder are
-//!   scripts, and what stands beside them; `judging.rt`: one of them, from its files to what became of it.
+//! - `testing.rt`: scripts of folders, several at once, and what is told of them. `scripts.rt`: which files of a folder
+//!   are scripts, and what stands beside them; `judging.rt`: one of them, from its files to what became of it.
 //! - `observed.rt`: an input, and what is remembered of it. `joined.rt`: words as one text, as they are decoded or
 //!   encoded. `descriptors.rt`: what is held where a standard stream is closed.
 //! - `reporting.rt`: what goes to standard error, with the exit status. `progress.rt`: lines that went by, told once a
@@ -124,7 +124,8 @@ fn end_replay<R: Eprint>(rt: &R, outcome: &Result<(), RunFault>) -> u8
     end_run(rt, outcome)
 }
 
-/// Says on standard error why a script was not read, where that is wanted by its cause too, and answers the exit status.
+/// Says on standard error why a script was not read, where that is wanted by its cause too, and answers the exit
+/// status.
 fn end_unread<R: AllocGlobal + Eprint>(
     rt: &R,
     fault: SourceFault,
@@ -522,8 +523,8 @@ fn word_of(direction: Direction) -> &'static str
     }
 }
 
-/// Says so of these codes, each as a line that says whose it is, so that an empty one is not passed over; or of each line
-/// of standard input.
+/// Says so of these codes, each as a line that says whose it is, so that an empty one is not passed over; or of each
+/// line of standard input.
 fn decode_all<R: AllocGlobal + Print + Input>(
     rt: &R,
     codes: Option<&[&str]>,

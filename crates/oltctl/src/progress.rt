@@ -19,8 +19,8 @@ struct Ticker<'r, R> {
 }
 
 impl<R: Eprint + Clock> Ticker<'_, R> {
-    /// Counts the line feeds of octets that went by, and tells how many lines there were, if it is time. Where nothing is
-    /// to be told, nothing is counted.
+    /// Counts the line feeds of octets that went by, and tells how many lines there were, if it is time. Where nothing
+    /// is to be told, nothing is counted.
     fn note(&mut self, octets: &[u8]) {
         if self.told.is_none() {
             return;
@@ -44,8 +44,8 @@ impl<R: Eprint + Clock> Ticker<'_, R> {
         }
     }
 
-    /// Tells how many lines there were, and of how many, where that is known. Where standard error takes nothing, nothing
-    /// is told.
+    /// Tells how many lines there were, and of how many, where that is known. Where standard error takes nothing,
+    /// nothing is told.
     fn tell(&self) {
         let lines = self.lines;
         let _ = match self.expected {

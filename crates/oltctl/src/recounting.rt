@@ -16,8 +16,8 @@ use std::alloc::{AllocError, Global};
 use std::io::{Read, Write};
 use std::marker::Brand;
 
-/// Writes what was counted of the lines that were told, also where one was none of a trace; where they were not read, or
-/// not told, nothing.
+/// Writes what was counted of the lines that were told, also where one was none of a trace; where they were not read,
+/// or not told, nothing.
 fn write_counted<W: Write + Drop>(
     alloc: Global,
     told: Result<u64, ExplainFault>,

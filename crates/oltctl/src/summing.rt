@@ -1,5 +1,5 @@
-//! Traces whose lines are counted while a script is played, or while they are told again, with what is told of each port
-//! and unit at the end.
+//! Traces whose lines are counted while a script is played, or while they are told again, with what is told of each
+//! port and unit at the end.
 ghost use Rattle.std.specs.Prelude.{◌≡◌, [], Some, length};
 ghost use Rattle.gp_script.specs.Playable.{IsPlayable};
 ghost use Rattle.gp_script.specs.View.{script_view};

@@ -1,5 +1,5 @@
-//! Scripts of folders are played beside what they have to write, several at once, and what became of each is told: a line
-//! for each that failed, or an object for each, and the sum; also as JUnit's XML.
+//! Scripts of folders are played beside what they have to write, several at once, and what became of each is told: a
+//! line for each that failed, or an object for each, and the sum; also as JUnit's XML.
 ghost use Rattle.std.specs.Prelude.{◌≡◌, ◌⊎◌, IfErr, if◌then◌else◌, map};
 ghost use Rattle.std.specs.List.{list_any};
 ghost use Rattle.gp_report.specs.declared.status.TheConstants.{OUT_OF_MEMORY};
@@ -80,8 +80,8 @@ fn settle(slots: &mut [Slot], outcomes: Vec<(usize, Outcome)>) {
     }
 }
 
-/// Judges scripts, so many at once. The threads open files by `host`, since a generic runtime's files are known in its own
-/// thread alone.
+/// Judges scripts, so many at once. The threads open files by `host`, since a generic runtime's files are known in its
+/// own thread alone.
 fn judge_all<R: Threads + Wait + Sync>(
     rt: &R,
     host: &HostRuntime,

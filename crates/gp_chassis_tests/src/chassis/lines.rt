@@ -43,8 +43,8 @@ pub(super) enum Way {
 /// A call, so many times, and what is answered each time, with the next ONU-ID each further time where a unit is found.
 pub(super) type Line = (u8, Call, Answer);
 
-/// Plays lines, each event in this way, each call with so many tries at most where memory is refused, and gives the place
-/// of the first line that is answered otherwise.
+/// Plays lines, each event in this way, each call with so many tries at most where memory is refused, and gives the
+/// place of the first line that is answered otherwise.
 pub(super) fn play<L: Ledger>(
     alloc: Global,
     core: &mut ChassisCore<L>,

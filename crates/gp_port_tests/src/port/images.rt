@@ -147,7 +147,8 @@ fn row_of_b() -> RowView {
     }
 }
 
-/// Tells of each part of the image whether it is read as the rules have it, once a garbled burst was seen and a search is wanted.
+/// Tells of each part of the image whether it is read as the rules have it, once a garbled burst was seen and a search
+/// is wanted.
 fn readings(image: &PortImage) -> [bool; 12] {
     let unit_with = |onu| image
         .unit_with(onu)
