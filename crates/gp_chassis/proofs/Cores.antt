@@ -30,7 +30,7 @@ use Rattle.gp_journal.specs.declared.piece.Piece.{Piece}
 use Rattle.gp_journal.proofs.Runs.{Replays-opened}
 use Rattle.gp_chassis.specs.Desk.{DeskState, DeskStands, HasRoom, opened, Serves, ServesInPlace, Cuts, IsProperEntry, last_kept}
 use Rattle.gp_chassis.specs.World.{ChassisWorld, Port, PortMoves, hand, taken, given, ChassisStep, ChassisRun, IsBalanced, HoldsApart, units_of, world_opened}
-use Rattle.gp_chassis.specs.Core.{CoreState, Stands, CoreServes, CoreCuts, CoreApplies, CoreAppliesInPlace, CoreServesInPlace, GrantsFrom, GrantsTurn, IsBurst, world_of, with_licences, lent, last_kept_at, moves_of, core_opened, IsFullAt, JoinsAt}
+use Rattle.gp_chassis.specs.Core.{CoreState, Stands, CoreServes, CoreCuts, CoreApplies, AppliesWishing, CoreAppliesInPlace, CoreServesInPlace, GrantsFrom, GrantsTurn, IsBurst, world_of, with_licences, lent, last_kept_at, moves_of, core_opened, IsFullAt, JoinsAt}
 use Rattle.gp_chassis.proofs.Desks.{served_last, receipt_is}
 use Rattle.gp_chassis.proofs.Worlds.{move_keeps, taken_ports, set_same, apart_reached}
 
@@ -358,11 +358,13 @@ kept_applies old between new p event wished number l k given_is =
     let applies : CoreApplies old new p event k.receipt = record { between = between; serves = k.serves; given_is = given_is } in
     record {
       receipt = k.receipt;
-      applies = applies;
-      run = applied_run old new p event k.receipt l applies;
-      purse = burst_served old between p event k.receipt l k.serves;
-      proper = k.proper;
-      grants = turn_granted old between new p event wished k.receipt l k.serves k.grants given_is;
+      makes = record {
+        applies = applies;
+        run = applied_run old new p event k.receipt l applies;
+        purse = burst_served old between p event k.receipt l k.serves;
+        proper = k.proper;
+        grants = turn_granted old between new p event wished k.receipt l k.serves k.grants given_is;
+      };
       is_port = k.is_port;
       is_number = k.is_number;
       kept = ap (λ (s : CoreState). last_kept_at s p) given_is ∙ k.kept;
@@ -376,6 +378,6 @@ served_in_place old new a p event wished number r k h1 h2 h3 =
 
 -- and the one that was applied
 pub applied_in_place : (old new : CoreState) (p : ℕ) (event : Event) (wished : Option ℕ) (number : ℕ) (r : Receipt) → CoreAppliesInPlace old new p event wished number
-    → r.port ≡ p → r.number ≡ number → last_kept_at new p ≡ Some r.entry → CoreApplies old new p event r
+    → r.port ≡ p → r.number ≡ number → last_kept_at new p ≡ Some r.entry → AppliesWishing old new p event wished r
 applied_in_place old new p event wished number r k h1 h2 h3 =
-    subst (λ (x : Receipt). CoreApplies old new p event x) (receipt_is k.receipt r (k.is_port ∙ sym h1) (k.is_number ∙ sym h2) (sym k.kept ∙ h3)) k.applies
+    subst (λ (x : Receipt). AppliesWishing old new p event wished x) (receipt_is k.receipt r (k.is_port ∙ sym h1) (k.is_number ∙ sym h2) (sym k.kept ∙ h3)) k.makes

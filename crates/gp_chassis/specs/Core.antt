@@ -1,5 +1,5 @@
 -- A chassis on one thread (this profile's own rule).
-use Rattle.std.specs.Prelude.{ℕ, ◌≡◌, ◌+◌, List, [], ◌∷◌, Option, Some, All, map, length, slice_set, slice_get, replicate}
+use Rattle.std.specs.Prelude.{ℕ, ◌≡◌, ◌+◌, ◌<◌, ◌≤◌, ◌↔◌, List, [], ◌∷◌, Option, Some, All, IfSome, OnSome, map, length, slice_set, slice_get, replicate}
 use Rattle.std.specs.Option.{ForSome, option_and_then}
 use Rattle.gp_ploam.specs.Down.{IsProperDown}
 use Rattle.gp_machine.specs.declared.config.PortConfig.{PortConfig}
@@ -10,6 +10,8 @@ use Rattle.gp_machine.specs.declared.entry.Receipt.{Receipt}
 use Rattle.gp_machine.specs.Run.{entry_outcome}
 use Rattle.gp_port.specs.Numbers.{GrantsWish, HandsOut}
 use Rattle.gp_journal.specs.declared.piece.Piece.{Piece}
+use Rattle.gp_chassis.specs.declared.fault.CoreFault.{CoreFault}
+use Rattle.gp_chassis.specs.declared.fault.CoreFault.TheVariants.{NoActor, NoPort, JournalFull}
 use Rattle.gp_chassis.specs.Desk.{DeskState, DeskStands, HasRoom, opened, Serves, Cuts, last_kept}
 use Rattle.gp_chassis.specs.World.{ChassisWorld, ChassisRun, Move, Take, Port, Give, hand, taken, given, IsBalanced, actors}
 
@@ -102,6 +104,27 @@ GrantsTurn world after port event wished entry =
     → HandsOut wished other.answer.reply
     → (entry ≡ other) × (after ≡ end)
 
+-- actor 0 takes for a burst, has the event served with this wish, and gives: this is the receipt
+pub record AppliesWishing (old new : CoreState) (port : ℕ) (event : Event) (wished : Option ℕ) (receipt : Receipt)
+    : Type 0 where
+  pub applies : CoreApplies old new port event receipt
+  pub run : ChassisRun (moves_of event port receipt.entry) (world_of old) (world_of new)
+  -- a burst is handed no licence only where none is free
+  pub purse : IsBurst event → receipt.entry.purse_in ≡ 0 → old.free ≡ 0
+  -- what is sent can be encoded
+  pub proper : ForSome receipt.entry.answer.sent IsProperDown
+  pub grants : GrantsTurn (world_of old) (world_of new) port event wished receipt.entry
+
+-- the fault of a call that has an event served at this port, if it has one: which it is, and that nothing changes then
+pub record FailsAt (old new : CoreState) (port : ℕ) (fault : Option CoreFault) : Type 0 where
+  pub same : OnSome fault (new ≡ old)
+  -- there is no such port
+  pub no_port : (fault ≡ Some NoPort) ↔ (length old.desks ≤ port)
+  -- there is, and its journal may keep no entry more
+  pub full : port < length old.desks → IfSome fault (λ told. (told ≡ JournalFull) ↔ IsFullAt old port)
+  -- actor 0 is there
+  pub some_actor : fault ≡ Some NoActor → ⊥
+
 -- ---- what stands in the journal
 
 -- the last entry that the port's journal keeps, if there is this port and it keeps one
@@ -110,15 +133,10 @@ last_kept_at core port = option_and_then last_kept (slice_get core.desks port)
 
 -- actor 0 takes for a burst, has the event served with this wish, and gives; the entry has this number, and is the last
 -- that the port's journal keeps
-pub record CoreAppliesInPlace (old new : CoreState) (port : ℕ) (event : Event) (wished : Option ℕ) (number : ℕ) : Type 0 where
+pub record CoreAppliesInPlace
+    (old new : CoreState) (port : ℕ) (event : Event) (wished : Option ℕ) (number : ℕ) : Type 0 where
   pub receipt : Receipt
-  pub applies : CoreApplies old new port event receipt
-  pub run : ChassisRun (moves_of event port receipt.entry) (world_of old) (world_of new)
-  -- a burst is handed no licence only where none is free
-  pub purse : IsBurst event → receipt.entry.purse_in ≡ 0 → old.free ≡ 0
-  -- what is sent can be encoded
-  pub proper : ForSome receipt.entry.answer.sent IsProperDown
-  pub grants : GrantsTurn (world_of old) (world_of new) port event wished receipt.entry
+  pub makes : AppliesWishing old new port event wished receipt
   pub is_port : receipt.port ≡ port
   pub is_number : receipt.number ≡ number
   pub kept : last_kept_at new port ≡ Some receipt.entry

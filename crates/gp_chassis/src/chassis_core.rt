@@ -2,11 +2,15 @@
 //! do is a move of `specs/World.antt`; a call that is refused changes nothing.
 ghost use Rattle.std.specs.Prelude.{ℕ, ◌≡◌, ◌+◌, ◌<◌, ◌≤◌, ◌↔◌, length, map, slice_get, slice_index, slice_set, None, Some, Err, IfOk, IfErr, OnOk, OnErr, MatchOption, sum_by, All};
 ghost use Rattle.std.specs.Option.{ForSome};
+ghost use Rattle.std.specs.Result.{result_err};
 ghost use Rattle.gp_ploam.specs.Down.{IsProperDown};
 ghost use Rattle.gp_chassis.specs.Desk.{opened};
 ghost use Rattle.gp_chassis.specs.Limits.{IsWithin};
-ghost use Rattle.gp_chassis.specs.World.{Take, Port, Give, ChassisStep, ChassisRun, HoldsApart, hand, taken, given, units_of, actors, world_opened};
-ghost use Rattle.gp_chassis.specs.Core.{Stands, CoreServes, CoreCuts, CoreApplies, CoreAppliesInPlace, CoreServesInPlace, JoinsAt, IsBurst, world_of, core_opened, with_licences, lent, last_kept_at, IsFullAt, moves_of, GrantsTurn};
+ghost use Rattle.gp_chassis.specs.World.{Take, Port, Give, ChassisStep, HoldsApart, hand, taken, given, units_of};
+ghost use Rattle.gp_chassis.specs.World.{actors, world_opened};
+ghost use Rattle.gp_chassis.specs.Core.{Stands, CoreServes, CoreCuts, AppliesWishing, CoreAppliesInPlace, FailsAt};
+ghost use Rattle.gp_chassis.specs.Core.{CoreServesInPlace, JoinsAt, IsFullAt, world_of, core_opened, with_licences};
+ghost use Rattle.gp_chassis.specs.Core.{lent, last_kept_at};
 
 use crate::config::ChassisConfig;
 use crate::desk::PortDesk;
@@ -183,16 +187,8 @@ impl<L: Ledger> ChassisCore<L> {
     /// Serves an event as actor 0: takes a licence for a burst, makes the port's step, and gives back what it leaves.
     /// A burst is handed no licence only where none is free.
     pub fn apply(&mut self, port: u8, event: Event) -> Result<Receipt, CoreFault>
-        ensures ok { IfOk result (λ receipt. CoreApplies self.old self.new port event receipt) }
-        ensures run { IfOk result
-            (λ receipt. ChassisRun (moves_of event port receipt.entry) (world_of self.old) (world_of self.new)) }
-        ensures purse { IfOk result (λ receipt. IsBurst event → receipt.entry.purse_in ≡ 0 → self.old.free ≡ 0) }
-        ensures proper { IfOk result (λ receipt. ForSome receipt.entry.answer.sent IsProperDown) }
-        ensures err { OnErr result (self.new ≡ self.old) }
-        ensures no_port { (result ≡ Err CoreFault.NoPort) ↔ (length self.old.desks ≤ port) }
-        ensures full { port < length self.old.desks
-            → IfErr result (λ fault. (fault ≡ CoreFault.JournalFull) ↔ IsFullAt self.old port) }
-        ensures some_actor { result ≡ Err CoreFault.NoActor → ⊥ }
+        ensures ok { IfOk result (λ receipt. AppliesWishing self.old self.new port event None receipt) }
+        ensures fault { FailsAt self.old self.new port (result_err result) }
     {
         let number = self.apply_in_place(port, event, None)?;
         Ok(self.last_receipt(port, number))
@@ -205,18 +201,8 @@ impl<L: Ledger> ChassisCore<L> {
         event: Event,
         wished: Option<u16>,
     ) -> Result<Receipt, CoreFault>
-        ensures ok { IfOk result (λ receipt. CoreApplies self.old self.new port event receipt) }
-        ensures run { IfOk result
-            (λ receipt. ChassisRun (moves_of event port receipt.entry) (world_of self.old) (world_of self.new)) }
-        ensures purse { IfOk result (λ receipt. IsBurst event → receipt.entry.purse_in ≡ 0 → self.old.free ≡ 0) }
-        ensures proper { IfOk result (λ receipt. ForSome receipt.entry.answer.sent IsProperDown) }
-        ensures err { OnErr result (self.new ≡ self.old) }
-        ensures no_port { (result ≡ Err CoreFault.NoPort) ↔ (length self.old.desks ≤ port) }
-        ensures full { port < length self.old.desks
-            → IfErr result (λ fault. (fault ≡ CoreFault.JournalFull) ↔ IsFullAt self.old port) }
-        ensures some_actor { result ≡ Err CoreFault.NoActor → ⊥ }
-        ensures wished { IfOk result
-            (λ receipt. GrantsTurn (world_of self.old) (world_of self.new) port event wished receipt.entry) }
+        ensures ok { IfOk result (λ receipt. AppliesWishing self.old self.new port event wished receipt) }
+        ensures fault { FailsAt self.old self.new port (result_err result) }
     {
         let number = self.apply_in_place(port, event, wished)?;
         Ok(self.last_receipt(port, number))
@@ -230,11 +216,7 @@ impl<L: Ledger> ChassisCore<L> {
         wished: Option<u16>,
     ) -> Result<u64, CoreFault>
         ensures ok { IfOk result (λ number. CoreAppliesInPlace self.old self.new port event wished number) }
-        ensures err { OnErr result (self.new ≡ self.old) }
-        ensures no_port { (result ≡ Err CoreFault.NoPort) ↔ (length self.old.desks ≤ port) }
-        ensures full { port < length self.old.desks
-            → IfErr result (λ fault. (fault ≡ CoreFault.JournalFull) ↔ IsFullAt self.old port) }
-        ensures some_actor { result ≡ Err CoreFault.NoActor → ⊥ }
+        ensures fault { FailsAt self.old self.new port (result_err result) }
     {
         if usize::from(port) >= self.desks.len() {
             return Err(CoreFault::NoPort);

@@ -5,24 +5,12 @@ use Rattle.gp_ploam.specs.declared.message.Serial.{Serial}
 use Rattle.gp_serial.specs.Spelling.{text_of_serial}
 use Rattle.gp_machine.specs.declared.event.Command.{Command}
 use Rattle.gp_machine.specs.declared.event.Command.TheVariants as commands
+use Rattle.gp_machine.specs.Words.{command_word}
 use Rattle.gp_generate.specs.declared.event.Event.{Event}
 use Rattle.gp_generate.specs.declared.event.Event.TheVariants as events
 use Rattle.gp_generate.specs.declared.event.Said.{Said}
 use Rattle.gp_generate.specs.declared.event.Said.TheVariants as says
 use Rattle.gp_generate.specs.Fields.{Field, number, text, truth, line_of, lines_of}
-
--- the word of a command
-abbrev pub command_word : Command → List ℕ
-command_word commands.Search = codes "search"
-command_word commands.EnableAll = codes "enable-all"
-command_word commands.PopupAll = codes "popup-all"
-command_word (commands.Alloc serial) = codes "alloc"
-command_word (commands.Dealloc serial alloc) = codes "dealloc"
-command_word (commands.Deactivate serial) = codes "deactivate"
-command_word (commands.Disable serial) = codes "disable"
-command_word (commands.Enable serial) = codes "enable"
-command_word (commands.Popup serial) = codes "popup"
-command_word (commands.Show serial) = codes "show"
 
 abbrev pub serial_field : Serial → Field
 serial_field serial = text (codes "serial") (text_of_serial serial)

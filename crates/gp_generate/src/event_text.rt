@@ -12,24 +12,6 @@ use gp_machine::Command;
 use gp_ploam::Serial;
 use std::alloc::AllocError;
 
-/// Gives the word of a command.
-fn command_word(command: &Command) -> &'static str
-    ensures { result.now ≡ spec.command_word command.now }
-{
-    match command {
-        Command::Search => "search",
-        Command::EnableAll => "enable-all",
-        Command::PopupAll => "popup-all",
-        Command::Alloc(_) => "alloc",
-        Command::Dealloc { .. } => "dealloc",
-        Command::Deactivate(_) => "deactivate",
-        Command::Disable(_) => "disable",
-        Command::Enable(_) => "enable",
-        Command::Popup(_) => "popup",
-        Command::Show(_) => "show",
-    }
-}
-
 /// Appends the key of a unit's serial number, and the end of the table.
 fn push_about_unit(out: &mut Vec<u8>, serial: &Serial) -> Result<(), AllocError>
     ensures { OnOk result (out.new.items ≡ out.old.items ++ lines_of (spec.about_unit serial.now)) }
@@ -145,7 +127,7 @@ fn push_command(out: &mut Vec<u8>, port: u8, command: &Command) -> Result<(), Al
     ensures { OnOk result (out.new.items ≡ out.old.items ++ spec.event_text (events.Command port command.now)) }
 {
     push_at_port(out, port)?;
-    push_word(out, "command", command_word(command))?;
+    push_word(out, "command", command.word())?;
     push_about(out, command)
 }
 

@@ -1,4 +1,5 @@
 pub mod Refusals
+pub mod Words
 pub mod Config
 pub mod State
 pub mod Changes

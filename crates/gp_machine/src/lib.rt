@@ -13,7 +13,7 @@
 //!
 //! Where to make which change, in `specs/`:
 //! - limits of a configuration, of how many ports there may be and of what their journals keep: `Config`; a refusal's
-//!   number and name: `Refusals`, and `src/refusal.rt`.
+//!   number and name: `Refusals`, and `src/refusal.rt`; a command's word: `Words`, and `src/event.rt`.
 //! - what a port knows, and which numbers are free: `State`; what holds in every state: `Sound`.
 //! - what may change in one go, and what each change does: `Changes`; what a line of a table says: `Responses`.
 //! - the tables: `Frame`, with `Closes` for the end of a window; `Burst`, with `SearchWindow`, `RangeWindow` and

@@ -1,25 +1,17 @@
 //! `PortCore`, a port as others use it: each step is one of the machine, keeps it sound, and leaves a licence with each
 //! active unit, so that none is made or lost.
-ghost use Rattle.std.specs.Prelude.{◌≡◌, ◌+◌, ◌≤◌, ◌++◌, List, false, true, length, IfOk, IsErrOf, IsTrue, ◌↔◌};
+ghost use Rattle.std.specs.Prelude.{◌≡◌, ◌+◌, ◌≤◌, None, false, length, IfOk, IsErrOf, IsTrue, ◌↔◌};
 ghost use Rattle.std.specs.FinMap as map;
 ghost use Rattle.std.specs.FinSet as set;
-ghost use Rattle.std.specs.Option.{ForSome, option_map, option_to_list};
-ghost use Rattle.gp_ploam.specs.declared.message.Down.{Down};
+ghost use Rattle.std.specs.Option.{option_map};
 ghost use Rattle.gp_volley.specs.Copies.{max_copies};
-ghost use Rattle.gp_ploam.specs.Down.{IsProperDown};
-ghost use Rattle.gp_machine.specs.declared.refusal.Refusal.{Refusal};
-ghost use Rattle.gp_machine.specs.declared.reply.Reply.TheVariants.{Refused};
 ghost use Rattle.gp_unit.specs.Records.{view_of};
 ghost use Rattle.gp_machine.specs.Config.{is_within_limits};
 ghost use Rattle.gp_machine.specs.State.{opening_of, rows_of};
 ghost use Rattle.gp_machine.specs.Sound.{IsSound};
 ghost use Rattle.gp_machine.specs.Changes.{step_result_of};
 ghost use Rattle.gp_machine.specs.Run.{IsStep, entry_outcome};
-ghost use Rattle.gp_machine.specs.Responses.{bare_answer};
-ghost use Rattle.gp_machine.specs.Step.{Step, StepOwing};
-ghost use Rattle.gp_machine.specs.OneStep.{state_refused};
-ghost use Rattle.gp_machine.specs.Messages.{three_times};
-ghost use Rattle.gp_port.specs.Numbers.{GrantsWish};
+ghost use Rattle.gp_port.specs.Steps.{MakesStep};
 
 use super::image::{ImageFault, PortImage};
 use super::open::OpenFault;
@@ -79,16 +71,7 @@ impl<L: Ledger> PortCore<L> {
     // Inlined, so that the answer is copied to where the caller wants it.
     #[inline(always)]
     pub fn step(&mut self, purse: Licences<L>, event: Event) -> (Answer, Licences<L>)
-        ensures step { Step purse self.old event (step_result_of result self.new) }
-        ensures sound { IsSound self.new }
-        ensures licences { result.1 + rows_of self.new ≡ purse + rows_of self.old }
-        ensures sends { (messages : List Down)
-            × StepOwing purse self.old event (step_result_of result self.new) messages
-            × (option_to_list result.0.sent ++ self.new.owed ≡ self.old.owed ++ three_times messages) }
-        ensures refused { (refusal : Refusal) → result.0.reply ≡ Refused refusal
-            → step_result_of result self.new
-            ≡ record { answer = bare_answer (Refused refusal); purse = purse; state = state_refused self.old event } }
-        ensures proper { ForSome result.0.sent IsProperDown }
+        ensures { MakesStep purse self.old event None (step_result_of result self.new) }
     {
         self.step_wishing(purse, event, None)
     }
@@ -101,17 +84,7 @@ impl<L: Ledger> PortCore<L> {
         event: Event,
         wished: Option<u16>,
     ) -> (Answer, Licences<L>)
-        ensures step { Step purse self.old event (step_result_of result self.new) }
-        ensures sound { IsSound self.new }
-        ensures licences { result.1 + rows_of self.new ≡ purse + rows_of self.old }
-        ensures sends { (messages : List Down)
-            × StepOwing purse self.old event (step_result_of result self.new) messages
-            × (option_to_list result.0.sent ++ self.new.owed ≡ self.old.owed ++ three_times messages) }
-        ensures refused { (refusal : Refusal) → result.0.reply ≡ Refused refusal
-            → step_result_of result self.new
-            ≡ record { answer = bare_answer (Refused refusal); purse = purse; state = state_refused self.old event } }
-        ensures proper { ForSome result.0.sent IsProperDown }
-        ensures wished { GrantsWish purse self.old event wished (step_result_of result self.new) }
+        ensures { MakesStep purse self.old event wished (step_result_of result self.new) }
     {
         let mut answer = Answer::from(Reply::Ticked);
         let rest = self.step_into(purse, event, wished, &mut answer);
@@ -131,16 +104,7 @@ impl<L: Ledger> PortCore<L> {
         ensures event { entry.new.event ≡ event }
         ensures purse_out { entry.new.purse_out ≡ result }
         ensures step { IsStep self.old entry.new self.new }
-        ensures sound { IsSound self.new }
-        ensures licences { result + rows_of self.new ≡ purse + rows_of self.old }
-        ensures sends { (messages : List Down)
-            × StepOwing purse self.old event (entry_outcome entry.new self.new) messages
-            × (option_to_list entry.new.answer.sent ++ self.new.owed ≡ self.old.owed ++ three_times messages) }
-        ensures refused { (refusal : Refusal) → entry.new.answer.reply ≡ Refused refusal
-            → entry_outcome entry.new self.new
-            ≡ record { answer = bare_answer (Refused refusal); purse = purse; state = state_refused self.old event } }
-        ensures proper { ForSome entry.new.answer.sent IsProperDown }
-        ensures wished { GrantsWish purse self.old event wished (entry_outcome entry.new self.new) }
+        ensures makes { MakesStep purse self.old event wished (entry_outcome entry.new self.new) }
     {
         entry.purse_in = purse.count();
         entry.event = event;
@@ -158,17 +122,7 @@ impl<L: Ledger> PortCore<L> {
         wished: Option<u16>,
         answer: &mut Answer,
     ) -> Licences<L>
-        ensures step { Step purse self.old event (step_result_of (answer.new, result) self.new) }
-        ensures sound { IsSound self.new }
-        ensures licences { result + rows_of self.new ≡ purse + rows_of self.old }
-        ensures sends { (messages : List Down)
-            × StepOwing purse self.old event (step_result_of (answer.new, result) self.new) messages
-            × (option_to_list answer.new.sent ++ self.new.owed ≡ self.old.owed ++ three_times messages) }
-        ensures refused { (refusal : Refusal) → answer.new.reply ≡ Refused refusal
-            → step_result_of (answer.new, result) self.new
-            ≡ record { answer = bare_answer (Refused refusal); purse = purse; state = state_refused self.old event } }
-        ensures proper { ForSome answer.new.sent IsProperDown }
-        ensures wished { GrantsWish purse self.old event wished (step_result_of (answer.new, result) self.new) }
+        ensures { MakesStep purse self.old event wished (step_result_of (answer.new, result) self.new) }
     {
         sound_step();
         step_keeps_licences();

@@ -14,6 +14,7 @@ use Rattle.gp_alarms.specs.declared.alarm.Alarm.{Alarm}
 use Rattle.gp_alarms.specs.Alarm.{alarm_name}
 use Rattle.gp_machine.specs.declared.event.Command.{Command}
 use Rattle.gp_machine.specs.declared.event.Command.TheVariants as commands
+use Rattle.gp_machine.specs.Words.{command_word}
 use Rattle.gp_machine.specs.declared.event.Event.{Event}
 use Rattle.gp_machine.specs.declared.event.Event.TheVariants as events
 use Rattle.gp_machine.specs.declared.answer.Answer.{Answer}
@@ -26,16 +27,17 @@ of_unit word serial = word ++ codes " " ++ text_of_serial serial
 
 -- what the operator asked for
 abbrev pub command_text : Command → List ℕ
-command_text commands.Search = codes "search"
-command_text (commands.Alloc serial) = of_unit (codes "alloc") serial
-command_text (commands.Dealloc serial alloc) = of_unit (codes "dealloc") serial ++ codes " " ++ decimal alloc
-command_text (commands.Deactivate serial) = of_unit (codes "deactivate") serial
-command_text (commands.Disable serial) = of_unit (codes "disable") serial
-command_text (commands.Enable serial) = of_unit (codes "enable") serial
-command_text commands.EnableAll = codes "enable-all"
-command_text (commands.Popup serial) = of_unit (codes "popup") serial
-command_text commands.PopupAll = codes "popup-all"
-command_text (commands.Show serial) = of_unit (codes "show") serial
+command_text commands.Search = command_word commands.Search
+command_text (commands.Alloc serial) = of_unit (command_word (commands.Alloc serial)) serial
+command_text (commands.Dealloc serial alloc) =
+    of_unit (command_word (commands.Dealloc serial alloc)) serial ++ codes " " ++ decimal alloc
+command_text (commands.Deactivate serial) = of_unit (command_word (commands.Deactivate serial)) serial
+command_text (commands.Disable serial) = of_unit (command_word (commands.Disable serial)) serial
+command_text (commands.Enable serial) = of_unit (command_word (commands.Enable serial)) serial
+command_text commands.EnableAll = command_word commands.EnableAll
+command_text (commands.Popup serial) = of_unit (command_word (commands.Popup serial)) serial
+command_text commands.PopupAll = command_word commands.PopupAll
+command_text (commands.Show serial) = of_unit (command_word (commands.Show serial)) serial
 
 -- what happened at the port; a burst with its round-trip delay in bit times and its octets
 abbrev pub event_text : Event → List ℕ

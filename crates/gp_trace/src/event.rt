@@ -25,17 +25,16 @@ fn write_command(line: &mut [u8], end: usize, command: &Command) -> usize
     requires within { end ≤ length line.old }
     ensures { Writes 30 (command_text command.now) line.old end line.new result }
 {
+    let word = command.word();
     match command {
-        Command::Search => write_text(line, end, "search"),
-        Command::Alloc(serial) => write_of_unit(line, end, "alloc", serial),
+        Command::Search | Command::EnableAll | Command::PopupAll => write_text(line, end, word),
         Command::Dealloc { serial, alloc } => write_dealloc(line, end, serial, *alloc),
-        Command::Deactivate(serial) => write_of_unit(line, end, "deactivate", serial),
-        Command::Disable(serial) => write_of_unit(line, end, "disable", serial),
-        Command::Enable(serial) => write_of_unit(line, end, "enable", serial),
-        Command::EnableAll => write_text(line, end, "enable-all"),
-        Command::Popup(serial) => write_of_unit(line, end, "popup", serial),
-        Command::PopupAll => write_text(line, end, "popup-all"),
-        Command::Show(serial) => write_of_unit(line, end, "show", serial),
+        Command::Alloc(serial)
+        | Command::Deactivate(serial)
+        | Command::Disable(serial)
+        | Command::Enable(serial)
+        | Command::Popup(serial)
+        | Command::Show(serial) => write_of_unit(line, end, word, serial),
     }
 }
 

@@ -14,8 +14,8 @@ returns-clause-records g c =
       event_is = told.event;
       purse_out = told.purse_out;
       step = told.step;
-      sound = told.sound;
-      proper = told.proper;
-      grants = told.wished;
+      sound = told.makes.sound;
+      proper = told.makes.proper;
+      grants = told.makes.grants;
       after_is = written_last before c.push_within.new.items.items c.blank.result entry c.len-place.result c.push_within.ensures.items place;
     }

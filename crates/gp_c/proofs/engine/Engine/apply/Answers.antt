@@ -1,4 +1,4 @@
-use Rattle.std.proofs.Common.{◌≡◌, ap, sym, ◌∙◌, ℕ, Option, Result, Ok, Err, unwrap_or}
+use Rattle.std.proofs.Common.{◌≡◌, ap, sym, ◌∙◌, ℕ, Option, None, Some, unwrap_or}
 use Rattle.gp_machine.specs.declared.entry.Entry.{Entry}
 use Rattle.gp_chassis.specs.declared.fault.CoreFault.{CoreFault}
 use Rattle.gp_chassis.specs.declared.fault.CoreFault.TheVariants.{NoActor}
@@ -6,16 +6,16 @@ use Rattle.gp_ploam.specs.Mask.{mask_value}
 use Rattle.gp_c.specs.Answers.{answer_numbers}
 use Rattle.gp_c.proofs.engine.Engine.apply.Goals as goal
 
--- the fault of an answer, if it has one
-abbrev fault_in : Result ℕ CoreFault → CoreFault
-fault_in (Ok number) = NoActor
-fault_in (Err fault) = fault
+-- the fault that there is
+abbrev fault_in : Option CoreFault → CoreFault
+fault_in None = NoActor
+fault_in (Some fault) = fault
 
 pub returns-in-Err-clause-refuses : goal.returns-in-Err-clause-refuses
 returns-in-Err-clause-refuses g c =
-    let told = c.in-Err.ensures in let same = c.fault_of.ensures in
+    let told = c.in-Err.ensures.fault in let same = c.fault_of.ensures in
     rw (← c.self.view_is) (record {
-      no_port = ((λ h. told.no_port.0 (ap Err (same.no_port.0 h))), (λ h. same.no_port.1 (ap fault_in (told.no_port.1 h))));
+      no_port = ((λ h. told.no_port.0 (ap Some (same.no_port.0 h))), (λ h. same.no_port.1 (ap fault_in (told.no_port.1 h))));
       full = λ within. let full = told.full within in ((λ h. full.0 (same.full.0 h)), (λ h. same.full.1 (full.1 h)));
       only = same.only;
     })
@@ -28,7 +28,7 @@ returns-clause-ok g c =
       desk = c.in-Some.desk.now;
       is = c.in-Some.ensures;
       receipt = kept.receipt;
-      applies = kept.applies;
+      applies = kept.makes.applies;
       told =
           (rw c.config.ensures at c.answer_of.ensures)
           ∙ ap (λ (e : Entry). answer_numbers (mask_value c.in-Some.desk.now.state.config.mask) c.in-Ok.number e.answer) same

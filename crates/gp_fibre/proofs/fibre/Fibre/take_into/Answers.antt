@@ -12,8 +12,8 @@ invariant_of-self g c =
     let was = c.self.invariant in
     let copies = was.2 in
     let grants = was.3 in (
-      holds_more IsProperDown i.copies.items.items c.add.new.self.items.items _ c.add.ensures.items was.0 c.step_entry-rest.ensures.proper,
-      omega (arith, c.give.ensures.free, c.give.ensures.total, c.take_purse-purse.ensures.free, c.take_purse-purse.ensures.total, c.step_entry-rest.ensures.licences, was.1),
+      holds_more IsProperDown i.copies.items.items c.add.new.self.items.items _ c.add.ensures.items was.0 c.step_entry-rest.ensures.makes.proper,
+      omega (arith, c.give.ensures.free, c.give.ensures.total, c.take_purse-purse.ensures.free, c.take_purse-purse.ensures.total, c.step_entry-rest.ensures.makes.licences, was.1),
       omega (arith, c.add.ensures.forgotten),
       omega (arith, c.add-2.ensures.forgotten),
       was.4,

@@ -31,31 +31,23 @@ invariant_of-self g c =
     (c.step_keeps_licences.ensures c.from.result c.self.inside.machine c.args.event o c.self.invariant.sound step)
     (shared c.share_out.new.held c.share_out.result c.args.purse c.self.inside.held c.step_into-left.result c.from.result c.share_out.ensures.held c.share_out.ensures.left (c.from.ensures ∙ c.count.ensures.count))
 
-pub returns-clause-sound : goal.returns-clause-sound
-returns-clause-sound g c =
-    c.sound_step.ensures c.from.result c.self.inside.machine c.args.event (step_result_of (c.step_into-left.new.answer, c.step_into-left.result) c.step_into-left.new.self) c.self.invariant.sound c.step_into-left.ensures.step
-
-pub returns-clause-licences : goal.returns-clause-licences
-returns-clause-licences g c =
-    let o = step_result_of (c.step_into-left.new.answer, c.step_into-left.result) c.step_into-left.new.self in
+pub returns : goal.returns
+returns g c =
+    let made = step_result_of (c.step_into-left.new.answer, c.share_out.result) c.step_into-left.new.self in
+    let here = c.step_into-left.ensures in
+    let counted = c.from.ensures ∙ c.count.ensures.count in
     let sums : c.step_into-left.result + rows_of c.step_into-left.new.self ≡ c.from.result + rows_of c.self.inside.machine =
-    c.step_keeps_licences.ensures c.from.result c.self.inside.machine c.args.event o c.self.invariant.sound c.step_into-left.ensures.step in
-    rw (← c.self.view_is) (omega (arith, c.share_out.ensures.left, c.from.ensures, c.count.ensures.count))
-
-pub returns-clause-sends : goal.returns-clause-sends
-returns-clause-sends g c =
-    let step = moved c.from.result c.args.purse c.step_into-left.result c.share_out.result c.self.inside.machine c.step_into-left.new.self c.args.event c.step_into-left.new.answer (c.from.ensures ∙ c.count.ensures.count) c.share_out.ensures.left c.step_into-left.ensures.step in
+    c.step_keeps_licences.ensures c.from.result c.self.inside.machine c.args.event (step_result_of (c.step_into-left.new.answer, c.step_into-left.result) c.step_into-left.new.self) c.self.invariant.sound here.step in
+    let step = moved c.from.result c.args.purse c.step_into-left.result c.share_out.result c.self.inside.machine c.step_into-left.new.self c.args.event c.step_into-left.new.answer counted c.share_out.ensures.left here.step in
     rw (← c.self.view_is)
-    (step.0, step.1, c.step_sends_in_order.ensures c.args.purse c.self.inside.machine c.args.event (step_result_of (c.step_into-left.new.answer, c.share_out.result) c.step_into-left.new.self) step.0 step.1)
-
-pub returns-clause-refused : goal.returns-clause-refused
-returns-clause-refused g c =
-    let step = moved c.from.result c.args.purse c.step_into-left.result c.share_out.result c.self.inside.machine c.step_into-left.new.self c.args.event c.step_into-left.new.answer (c.from.ensures ∙ c.count.ensures.count) c.share_out.ensures.left c.step_into-left.ensures.step in
-    rw (← c.self.view_is)
-    (λ refusal is.
-    c.refusals_change_nothing.ensures c.args.purse c.self.inside.machine c.args.event (step_result_of (c.step_into-left.new.answer, c.share_out.result) c.step_into-left.new.self) refusal c.self.invariant.sound step is)
-
-pub returns-clause-wished : goal.returns-clause-wished
-returns-clause-wished g c =
-    rw (← c.self.view_is)
-    (moved_wish c.from.result c.args.purse c.step_into-left.result c.share_out.result c.self.inside.machine c.step_into-left.new.self c.args.event c.args.wished c.step_into-left.new.answer (c.from.ensures ∙ c.count.ensures.count) c.share_out.ensures.left c.step_into-left.ensures.wished)
+    (record {
+      step = step;
+      sound = c.sound_step.ensures c.args.purse c.self.inside.machine c.args.event made c.self.invariant.sound step;
+      licences = omega (arith, c.share_out.ensures.left, c.from.ensures, c.count.ensures.count);
+      sends = (step.0, step.1, c.step_sends_in_order.ensures c.args.purse c.self.inside.machine c.args.event made step.0 step.1);
+      refused = λ refusal is. c.refusals_change_nothing.ensures c.args.purse c.self.inside.machine c.args.event made refusal c.self.invariant.sound step is;
+      proper = here.proper;
+      grants =
+          moved_wish c.from.result c.args.purse c.step_into-left.result c.share_out.result c.self.inside.machine c.step_into-left.new.self c.args.event c.args.wished c.step_into-left.new.answer counted
+          c.share_out.ensures.left here.wished;
+    })

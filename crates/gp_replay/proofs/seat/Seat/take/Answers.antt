@@ -11,10 +11,10 @@ returns g c =
       purse_out = told.purse_out;
       step = told.step;
       stands = record {
-        sound = told.sound;
+        sound = told.makes.sound;
         within = rw c.config.ensures.config at c.config.ensures.limits;
       };
-      proper = told.proper;
-      grants = told.wished;
+      proper = told.makes.proper;
+      grants = told.makes.grants;
       next_is = refl;
     })
