@@ -14,6 +14,7 @@
 //! - `objects.rt`: one code, or the words of one message, as an object.
 //! - `testing.rt`: scripts of folders, several at once, and what is told of them. `scripts.rt`: which files of a folder
 //!   are scripts, and what stands beside them; `judging.rt`: one of them, from its files to what became of it.
+//!   `replacing.rt`: JUnit's file.
 //! - `observed.rt`: an input, and what is remembered of it. `joined.rt`: words as one text, as they are decoded or
 //!   encoded. `descriptors.rt`: what is held where a standard stream is closed.
 //! - `reporting.rt`: what goes to standard error, with the exit status. `progress.rt`: lines that went by, told once a
@@ -45,6 +46,7 @@ mod observed;
 mod picturing;
 mod progress;
 mod recounting;
+mod replacing;
 mod reporting;
 mod scripts;
 mod summing;

@@ -7,6 +7,7 @@ ghost use Rattle.oltctl.specs.Statuses.{IsTested, IsToldTest};
 ghost use Rattle.oltctl.specs.Tested.{has_failed_in, outcome_in};
 
 use crate::judging::outcome_of;
+use crate::replacing::write_over;
 use crate::reporting::{cause_text, report};
 use crate::scripts::{Slot, list_folder};
 use gp_command_line::Testing;
@@ -17,11 +18,11 @@ use gp_outcome::{
 use gp_report::{NOT_WRITTEN, SUCCESS, TEST_FAILED, memory_report, write_report};
 use gp_stream::{Sink, WriteStopped};
 use std::alloc::{AllocError, Global};
-use std::io::{Read, Write};
+use std::io::Write;
 use std::rt::Files;
 use std::sync::{Mutex, Wait};
 use std::thread::Threads;
-use std::{fs, io, thread};
+use std::{io, thread};
 
 /// Why what became of scripts was not told to its end.
 enum TestFault {
@@ -200,49 +201,6 @@ fn junit_of(
     Ok(out)
 }
 
-/// How a file of XML begins.
-static XML_BEGUN: [u8; 5] = *b"<?xml";
-
-/// Tells whether a reader gives what XML begins with.
-fn gives_xml<F: Read>(file: &mut F) -> io::Result<bool> {
-    for wanted in &XML_BEGUN {
-        let mut octet = [0];
-        if file.read(&mut octet)? == 0 || octet[0] != *wanted {
-            return Ok(false);
-        }
-    }
-    Ok(true)
-}
-
-/// Tells whether a file has something that isn't XML, and would be lost.
-fn would_lose<R: Files>(rt: &R, path: &str) -> io::Result<bool> {
-    let about = match fs::metadata(rt, path) {
-        Ok(about) => about,
-        Err(_) => return Ok(false),
-    };
-    if !about.is_file() || about.len() == 0 {
-        return Ok(false);
-    }
-    let mut file = fs::open(rt, path)?;
-    Ok(!gives_xml(&mut file)?)
-}
-
-/// Writes octets to a file.
-fn write_octets<R: AllocGlobal + Files>(rt: &R, path: &str, octets: &[u8]) -> io::Result<()> {
-    let mut file = fs::create(rt, path)?;
-    file.write_all(octets)?;
-    file.flush()
-}
-
-/// Writes octets to a file, unless it has something that isn't XML, and tells whether it was written.
-fn write_over<R: AllocGlobal + Files>(rt: &R, path: &str, octets: &[u8]) -> io::Result<bool> {
-    if would_lose(rt, path)? {
-        return Ok(false);
-    }
-    write_octets(rt, path, octets)?;
-    Ok(true)
-}
-
 /// Writes JUnit's XML; where it was not written, it says so, and answers the exit status.
 fn write_junit<R: AllocGlobal + Files + Eprint>(
     rt: &R,
@@ -262,6 +220,10 @@ fn write_junit<R: AllocGlobal + Files + Eprint>(
             let _ = eprintln!(rt; "oltctl: {path}: has something that is no XML, and stays");
             Err(NOT_WRITTEN)
         }
+        Err(error) if error.kind() == io::ErrorKind::OutOfMemory => Err(report(
+            rt,
+            memory_report(),
+        )),
         Err(error) => {
             tell_unwritten(rt, path, &error);
             Err(NOT_WRITTEN)
