@@ -1,5 +1,5 @@
 -- When a script passes (this profile's own rule).
-use Rattle.std.specs.Prelude.{◌≡◌, ℕ, List, [], ◌∷◌, ◌++◌, Option, Some, Ok, codes, string_bytes}
+use Rattle.std.specs.Prelude.{◌≡◌, ◌≢◌, ℕ, List, [], ◌∷◌, ◌++◌, Option, Some, Ok, codes, string_bytes}
 use Rattle.gp_script.specs.Script.{ScriptView}
 use Rattle.gp_check.specs.Check.{Places, said_by}
 use Rattle.gp_check.specs.declared.checking.Purpose.TheVariants as purposes
@@ -21,9 +21,10 @@ IsUnread part (outcomes.Failed (failures.Unread unread cause)) =
 IsUnread part outcome = ⊥
 
 -- what becomes of a script that is played beside this trace: it passes only where what it wrote is all of the trace, to
--- the last octet
+-- the last octet, and has a line; of one whose play writes no line nothing was compared
 abbrev pub IsJudgedPlay : ScriptView → Option (List ℕ) → Outcome → Type 0
-IsJudgedPlay script trace (outcomes.Passed lines) = PlaysAs script trace lines
+IsJudgedPlay script trace (outcomes.Passed lines) = PlaysAs script trace lines × (lines ≢ 0)
+IsJudgedPlay script trace (outcomes.Failed failures.NothingPlayed) = PlaysAs script trace 0
 IsJudgedPlay script trace (outcomes.Failed (failures.OtherTrace difference)) = PlaysOther script trace difference
 IsJudgedPlay script trace (outcomes.Failed failures.Stopped) = PlaysStopped script
 IsJudgedPlay script trace outcome = IsUnread parts.Trace outcome

@@ -48,6 +48,8 @@ plain_text failures.NothingBeside =
     codes "nothing beside it to compare with, neither .trace nor .faults; --bless writes its .trace"
 plain_text failures.BothBeside = codes ".trace and .faults stand beside it, of which one can't be right"
 plain_text failures.Right = codes "it is a script, but its .faults says that it is wrong"
+plain_text failures.NothingPlayed =
+    codes "a play of it writes no line, so nothing was compared; give it an [[event]] that does, as frames = 1"
 plain_text failures.Stopped = codes "it was not played to its end"
 plain_text failures.OutOfMemory = codes "out of memory"
 plain_text (failures.Unwritten cause) = codes "its .trace was not written: "

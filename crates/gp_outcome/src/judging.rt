@@ -54,6 +54,7 @@ fn judge_play<R: Read + Drop>(
     ensures { IfOk result (IsJudgedPlay (script_view script) trace.remaining) }
 {
     match compare_play(alloc, script, trace) {
+        Ok(Compared::Same { lines: 0 }) => Ok(Outcome::Failed(Failure::NothingPlayed)),
         Ok(Compared::Same { lines }) => Ok(Outcome::Passed { lines }),
         Ok(Compared::Differs(difference)) => {
             Ok(Outcome::Failed(Failure::OtherTrace(difference)))
@@ -109,8 +110,8 @@ fn judge_wrong<R: Read + Drop>(
     }
 }
 
-/// Judges a script by its octets, and by what is expected of it. It passes where its trace is as expected to the last
-/// octet, or where it is wrong, and what is told of that, as `oltctl check` tells it behind the file's name, is what is
+/// Judges a script by its octets, and by what is expected of it. It passes where its trace has a line and is as expected
+/// to the last octet, or where it is wrong, and what is told of that, as `oltctl check` tells it behind the file's name, is what is
 /// expected, with a line feed behind it.
 ///
 /// Fails where memory was refused.

@@ -28,6 +28,8 @@ pub enum Failure {
     OtherFault(Difference),
     /// Its trace is not as expected.
     OtherTrace(Difference),
+    /// A play of it writes no line, so that nothing is compared.
+    NothingPlayed,
     /// It was not played to its end.
     Stopped,
     /// Its trace was not written, for this cause.

@@ -95,6 +95,9 @@ fn plain_text(failure: &Failure) -> &'static str
         }
         Failure::BothBeside => ".trace and .faults stand beside it, of which one can't be right",
         Failure::Right => "it is a script, but its .faults says that it is wrong",
+        Failure::NothingPlayed => {
+            "a play of it writes no line, so nothing was compared; give it an [[event]] that does, as frames = 1"
+        }
         Failure::Stopped => "it was not played to its end",
         Failure::OutOfMemory => "out of memory",
         Failure::Unwritten { .. } => "its .trace was not written: ",
@@ -122,6 +125,7 @@ fn push_cause(out: &mut Vec<u8>, failure: &Failure) -> Result<(), AllocError>
         | Failure::NothingBeside
         | Failure::BothBeside
         | Failure::Right
+        | Failure::NothingPlayed
         | Failure::Stopped
         | Failure::OutOfMemory => Ok(()),
     }

@@ -11,6 +11,14 @@ const SCRIPT: &str = "licences = 1\n[[port]]\nadmit = []\n[[event]]\nport = 0\nf
 
 const TRACE: &str = "0 0 frame = ok\n0 1 frame = ok\n0 2 frame = ok\n";
 
+const NO_EVENTS: &str = "licences = 1\n[[port]]\nadmit = []\n";
+
+const LIGHT_ALONE: &str =
+    "licences = 1\n[[port]]\ncycles = 1\nadmit = [\"ABCD00000001\"]\n[[unit]]\nserial = \"ABCD00000001\"\ndelay = 100000\n[[event]]\nunit = 0\nlight = false\n";
+
+const NO_LINE: &str =
+    "d/x.toml: a play of it writes no line, so nothing was compared; give it an [[event]] that does, as frames = 1\n";
+
 const NO_SCRIPT: &str = "licences = 1\n[[port]]\nadmit = []\n[[event]]\nport = 7\nframes = 3\n";
 
 /// A script, the trace or the faults that stand beside it, and what is told of it.
@@ -22,7 +30,7 @@ struct Case {
     told: &'static str,
 }
 
-const CASES: [Case; 9] = [
+const CASES: [Case; 12] = [
     Case {
         script: SCRIPT,
         trace: Some(TRACE),
@@ -58,6 +66,24 @@ const CASES: [Case; 9] = [
         trace: None,
         faults: None,
         told: "d/x.toml: nothing beside it to compare with, neither .trace nor .faults; --bless writes its .trace\n",
+    },
+    Case {
+        script: NO_EVENTS,
+        trace: Some(""),
+        faults: None,
+        told: NO_LINE,
+    },
+    Case {
+        script: LIGHT_ALONE,
+        trace: Some(""),
+        faults: None,
+        told: NO_LINE,
+    },
+    Case {
+        script: NO_EVENTS,
+        trace: Some("0 0 frame = ok\n"),
+        faults: None,
+        told: "d/x.toml: line 1 of its .trace, octet 1: expected \"0 0 frame = ok\", got the end\n",
     },
     Case {
         script: NO_SCRIPT,

@@ -242,18 +242,31 @@ fn write_trace<R: AllocGlobal + Files>(
     }
 }
 
+/// Writes the trace of a script to this path, if it has a line: beside an empty trace a script fails either where its
+/// play writes one, or since it writes none.
+fn bless<R: AllocGlobal + Files>(rt: &R, octets: &[u8], path: &str) -> Result<Outcome, AllocError>
+    ensures { IfOk result (λ outcome. is_passed outcome ≡ false) }
+{
+    let empty: &[u8] = &[];
+    let outcome = judge(rt.alloc(), octets, Expected::Trace(Source::endless(empty)))?;
+    match outcome {
+        Outcome::Failed(Failure::NothingPlayed) => Ok(outcome),
+        _ => write_trace(rt, octets, path),
+    }
+}
+
 /// Judges a script with nothing beside it, of which a trace may be written to this path.
 #[tactic(auto, using(crate::proofs::TestedLemmas::nothing_passes))]
 fn judge_alone<R: AllocGlobal + Files>(
     rt: &R,
     octets: &[u8],
     path: &str,
-    bless: bool,
+    is_blessed: bool,
 ) -> Result<Outcome, AllocError>
     ensures { IfOk result (λ outcome. is_passed outcome ≡ false) }
 {
     match judge::<&[u8]>(rt.alloc(), octets, Expected::Nothing)? {
-        Outcome::Failed(Failure::NothingBeside) if bless => write_trace(rt, octets, path),
+        Outcome::Failed(Failure::NothingBeside) if is_blessed => bless(rt, octets, path),
         outcome => Ok(outcome),
     }
 }
