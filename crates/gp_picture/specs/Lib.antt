@@ -1,3 +1,4 @@
 pub mod Faults
 pub mod Drawing
 pub mod Outcome
+pub mod Outside

@@ -1,8 +1,10 @@
 //! All that is drawn, kept until the input has ended: where it is more than there is room for, columns become wider.
+ghost use Rattle.std.specs.Prelude.{IfSome};
+ghost use Rattle.gp_picture.specs.Outside.{IsOutside};
 
 use crate::fault::PictureFault;
 use crate::moment::LineText;
-use crate::options::{PORTS, PictureOptions};
+use crate::options::{Frames, Outside, PORTS, PictureOptions};
 use crate::port::Port;
 use crate::room::Room;
 use gp_log::LogLine;
@@ -100,8 +102,8 @@ impl Picture {
         Ok(())
     }
 
-    /// The first frame of which a line tells, or that is drawn, whichever is later.
-    pub(crate) fn first_frame(&self) -> u64 {
+    /// The first frame of which a line tells, if one does of any.
+    fn first_heard(&self) -> Option<u64> {
         let mut first: Option<u64> = None;
         for port in self.ports.as_slice() {
             first = match (first, port.first) {
@@ -110,15 +112,41 @@ impl Picture {
                 (first, None) => first,
             };
         }
-        self.options.frames.from.max(first.unwrap_or(0))
+        first
     }
 
-    /// The last frame that is drawn.
-    pub(crate) fn last_frame(&self) -> u64 {
+    /// The last frame of any port.
+    fn last_heard(&self) -> u64 {
         let mut last = 0u64;
         for port in self.ports.as_slice() {
             last = last.max(port.frame());
         }
-        last.min(self.options.frames.to)
+        last
+    }
+
+    /// Gives where all that was heard is, if it is in none of these frames.
+    pub(crate) fn outside(&self, frames: &Frames) -> Option<Outside>
+        ensures { IfSome result (IsOutside frames.now) }
+    {
+        let first = self.first_heard()?;
+        let last = self.last_heard();
+        if last < frames.from {
+            Some(Outside::Before { last })
+        } else if frames.to < first {
+            Some(Outside::Behind { first })
+        } else {
+            None
+        }
+    }
+
+    /// The first frame of which a line tells, or that is drawn, whichever is later.
+    pub(crate) fn first_frame(&self) -> u64 {
+        let first = self.first_heard().unwrap_or(0);
+        self.options.frames.from.max(first)
+    }
+
+    /// The last frame that is drawn.
+    pub(crate) fn last_frame(&self) -> u64 {
+        self.last_heard().min(self.options.frames.to)
     }
 }

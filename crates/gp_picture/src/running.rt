@@ -1,10 +1,11 @@
 //! From the bytes of a trace or a log to its picture: nothing is written before all of it was read, and none where a
 //! line can't be.
-ghost use Rattle.std.specs.Prelude.{◌≡◌, true};
+ghost use Rattle.std.specs.Prelude.{◌≡◌, true, IfOk, IfSome};
 ghost use Rattle.gp_picture.specs.Outcome as spec;
+ghost use Rattle.gp_picture.specs.Outside.{IsOutside};
 
 use crate::drawer::Drawer;
-use crate::options::PictureOptions;
+use crate::options::{Outside, PictureOptions};
 use crate::picture::Picture;
 use crate::whole::picture_text;
 use gp_explain::ExplainFault;
@@ -20,6 +21,8 @@ pub struct PictureSum {
     pub lines: u64,
     /// Whether one of them says anything: not all are empty or remarks.
     pub heard: bool,
+    /// Where all that was heard is, if it is in none of the frames that are drawn.
+    pub outside: Option<Outside>,
 }
 
 /// Reads a trace or a log to its end, writes its picture, and answers what was drawn. Nothing is written before all of
@@ -34,20 +37,23 @@ pub fn draw_trace<R: Read, W: Write>(
     sink: &mut Sink<W>,
 ) -> Result<PictureSum, ExplainFault>
     requires { sink.old.flushed ≡ true }
-    ensures { spec.DrawsTrace source.old source.new sink.old sink.new result }
+    ensures drawn { spec.DrawsTrace source.old source.new sink.old sink.new result }
+    ensures outside { IfOk result (λ sum. IfSome sum.outside (IsOutside options.now.frames)) }
 {
     let mut drawer = Drawer::begin(alloc, options)?;
     run_lines(alloc, source, sink, &mut drawer)?;
-    finish(alloc, &drawer, sink)
+    finish(alloc, options, &drawer, sink)
 }
 
 /// Writes the picture of all lines, unless one ended it.
 fn finish<W: Write>(
     alloc: Global,
+    options: &PictureOptions,
     drawer: &Drawer,
     sink: &mut Sink<W>,
 ) -> Result<PictureSum, ExplainFault>
-    ensures { spec.Ends drawer.now sink.old sink.new result }
+    ensures ends { spec.Ends drawer.now sink.old sink.new result }
+    ensures outside { IfOk result (λ sum. IfSome sum.outside (IsOutside options.now.frames)) }
 {
     match drawer.ended {
         Some(why) => Err(ExplainFault::Refused {
@@ -59,6 +65,7 @@ fn finish<W: Write>(
             Ok(PictureSum {
                 lines: drawer.lines,
                 heard: drawer.heard,
+                outside: drawer.picture.outside(&options.frames),
             })
         }
     }

@@ -2,3 +2,4 @@ pub mod Faults
 pub mod Writing
 pub mod Dumping
 pub mod Outcome
+pub mod Outside

@@ -1,8 +1,10 @@
 //! What is heard of all ports, and the changes that are held back.
+ghost use Rattle.std.specs.Prelude.{IfSome};
+ghost use Rattle.gp_waves.specs.Outside.{IsOutside};
 
 use crate::fault::WavesFault;
 use crate::held::{Due, Held};
-use crate::options::WavesOptions;
+use crate::options::{Frames, Outside, WavesOptions};
 use crate::port::{Port, Scope};
 use gp_dump::PORTS;
 use gp_log::LogLine;
@@ -100,6 +102,43 @@ impl Waves {
             number = number.saturating_add(1);
         }
         declared
+    }
+
+    /// The first frame of which a line tells, if one does of any.
+    fn first_heard(&self) -> Option<u64> {
+        let mut first: Option<u64> = None;
+        for port in self.ports.as_slice() {
+            first = match (first, port.first) {
+                (Some(first), Some(frame)) => Some(first.min(frame)),
+                (None, frame) => frame,
+                (first, None) => first,
+            };
+        }
+        first
+    }
+
+    /// The last frame of any port.
+    fn last_heard(&self) -> u64 {
+        let mut last = 0u64;
+        for port in self.ports.as_slice() {
+            last = last.max(port.frame());
+        }
+        last
+    }
+
+    /// Gives where all that was heard is, if it is in none of these frames.
+    pub(crate) fn outside(&self, frames: &Frames) -> Option<Outside>
+        ensures { IfSome result (IsOutside frames.now) }
+    {
+        let first = self.first_heard()?;
+        let last = self.last_heard();
+        if last < frames.from {
+            Some(Outside::Before { last })
+        } else if frames.to < first {
+            Some(Outside::Behind { first })
+        } else {
+            None
+        }
     }
 
     /// Tells whether more changes are held back than may be.

@@ -5,7 +5,8 @@
 //! up to where the writer stopped: its changes are of variables that are declared, and its times only rise. How it
 //! ended is told exactly (`dump_waves`). Which changes stand there is tested.
 //!
-//! - `options.rt`: `WavesOptions`, the frames that are dumped, and how codes are read.
+//! - `options.rt`: `WavesOptions`, the frames that are dumped, and how codes are read; `Outside`, where all is that was
+//!   heard, if nothing is dumped.
 //! - `held.rt`: the changes that are held back, so that those of all ports come in the order of their times.
 //! - `alarm.rt`: the alarm of a line. `touched.rt`: which units a message touches. `lanes.rt`: the units of a port.
 //! - `pulses.rt`: what stands on a port for a frame, or while a window is open. `port.rt`: what is kept of one port,
@@ -34,5 +35,5 @@ mod touched;
 mod writing;
 
 pub use dumper::Dumper;
-pub use options::{Frames, WavesOptions};
+pub use options::{Frames, Outside, WavesOptions};
 pub use running::{WavesSum, dump_waves};

@@ -12,6 +12,15 @@ pub struct Frames {
     pub to: u64,
 }
 
+/// Where all that was heard is, where none of it is in a frame that is dumped.
+#[derive(Clone, Copy, Debug, PartialEq, Eq)]
+pub enum Outside {
+    /// Before the first of them: the last frame of which a line told.
+    Before { last: u64 },
+    /// Behind the last of them: the first frame of which a line told.
+    Behind { first: u64 },
+}
+
 /// The frames that are dumped, and how codes are read.
 #[derive(Clone, Copy, Debug, PartialEq, Eq)]
 pub struct WavesOptions {

@@ -36,8 +36,8 @@ pub(crate) struct Port {
     time: u64,
     /// The level of its frames.
     level: bool,
-    /// Whether a line told of it.
-    is_heard: bool,
+    /// The frame of the first line that told of it.
+    pub(crate) first: Option<u64>,
     /// Whether what is known of its units is dumped.
     are_shown: bool,
     /// Whom the window asks that was opened last, unless it asks all.
@@ -120,7 +120,7 @@ impl Port {
             pulses: Pulses::none(),
             time: 0,
             level: false,
-            is_heard: false,
+            first: None,
             are_shown: frames.have_begun(0),
             asked: None,
         })
@@ -128,10 +128,18 @@ impl Port {
 
     /// How many lanes it has, if a line told of it.
     pub(crate) fn declared(&self) -> Option<u16> {
-        if self.is_heard {
-            Some(self.lanes.count())
-        } else {
-            None
+        self.first.map(|_| self.lanes.count())
+    }
+
+    /// How many frames it has had.
+    pub(crate) fn frame(&self) -> u64 {
+        self.time / FRAME_NANOSECONDS
+    }
+
+    /// Notes that a line tells of it.
+    fn note_line(&mut self) {
+        if self.first.is_none() {
+            self.first = Some(self.frame());
         }
     }
 
@@ -161,7 +169,7 @@ impl Port {
 
     /// Comes to the time of a line that tells of it.
     fn advance(&mut self, held: &mut Held, scope: &Scope) -> Result<(), AllocError> {
-        self.is_heard = true;
+        self.note_line();
         self.show_lanes(held, scope)?;
         self.end_pulses(held, scope, self.time)
     }
@@ -334,7 +342,7 @@ impl Port {
         said: &Said,
     ) -> Result<bool, WavesFault> {
         if time < self.time {
-            self.is_heard = true;
+            self.note_line();
             return Ok(true);
         }
         self.time = time;

@@ -1,9 +1,10 @@
 //! From the bytes of a trace or a log to its value change dump, and what was dumped of it. Memory is flat.
-ghost use Rattle.std.specs.Prelude.{◌≡◌, true};
+ghost use Rattle.std.specs.Prelude.{◌≡◌, true, IfOk, IfSome};
 ghost use Rattle.gp_waves.specs.Outcome as spec;
+ghost use Rattle.gp_waves.specs.Outside.{IsOutside};
 
 use crate::dumper::Dumper;
-use crate::options::WavesOptions;
+use crate::options::{Outside, WavesOptions};
 use gp_explain::ExplainFault;
 use gp_flow::{LinesFault, Unanswered, run_lines};
 use gp_stream::{Sink, Source};
@@ -21,6 +22,8 @@ pub struct WavesSum {
     pub fallen: u64,
     /// How many changes stand at a later time than theirs, since their port was too far behind the others.
     pub late: u64,
+    /// Where all that was heard is, if it is in none of the frames that are dumped.
+    pub outside: Option<Outside>,
 }
 
 /// Reads a trace or a log to its end and writes it as a value change dump. The changes of all ports stand in the order
@@ -37,13 +40,14 @@ pub fn dump_waves<R: Read, W: Write>(
     sink: &mut Sink<W>,
 ) -> Result<WavesSum, ExplainFault>
     requires { sink.old.flushed ≡ true }
-    ensures { spec.DumpsWaves source.old source.new sink.old sink.new result }
+    ensures dumped { spec.DumpsWaves source.old source.new sink.old sink.new result }
+    ensures outside { IfOk result (λ sum. IfSome sum.outside (IsOutside options.now.frames)) }
 {
     let mut dumper = Dumper::begin(alloc, options)?;
     match run_lines(alloc, source, sink, &mut dumper) {
         Ok(_) => {
             write_rest(alloc, &mut dumper, sink)?;
-            finding(&dumper)
+            finding(options, &dumper)
         }
         Err(LinesFault::Read) => {
             write_rest(alloc, &mut dumper, sink)?;
@@ -74,8 +78,9 @@ fn write_rest<W: Write>(
 }
 
 /// What was found.
-fn finding(dumper: &Dumper) -> Result<WavesSum, ExplainFault>
-    ensures { spec.IsFound dumper.now result }
+fn finding(options: &WavesOptions, dumper: &Dumper) -> Result<WavesSum, ExplainFault>
+    ensures found { spec.IsFound dumper.now result }
+    ensures outside { IfOk result (λ sum. IfSome sum.outside (IsOutside options.now.frames)) }
 {
     match dumper.ended {
         Some(why) => Err(ExplainFault::Refused {
@@ -87,6 +92,7 @@ fn finding(dumper: &Dumper) -> Result<WavesSum, ExplainFault>
             heard: dumper.heard,
             fallen: dumper.waves.fallen,
             late: dumper.writing.late,
+            outside: dumper.waves.outside(&options.frames),
         }),
     }
 }

@@ -192,13 +192,15 @@ told_status (Err fault) = explain_status fault
 abbrev pub IsExplained : ℕ → Type 0
 IsExplained status = (outcome : Result ℕ ExplainFault) × (status ≡ told_status outcome)
 
--- the status after a log was drawn or dumped, by whether one of its lines says anything
-abbrev pub heard_status : Bool → ℕ
-heard_status heard = if heard then SUCCESS else BAD_INPUT
+-- the status after a log was drawn or dumped, by whether one of its lines says anything, and by where all that was heard
+-- is, if it is in none of the frames that are wanted
+abbrev pub heard_status : {T : Type 0} → Bool → Option T → ℕ
+heard_status heard None = if heard then SUCCESS else BAD_INPUT
+heard_status heard (Some outside) = BAD_INPUT
 
 -- the status after a log was drawn
 abbrev pub drawn_status : Result PictureSum ExplainFault → ℕ
-drawn_status (Ok sum) = heard_status sum.heard
+drawn_status (Ok sum) = heard_status sum.heard sum.outside
 drawn_status (Err fault) = explain_status fault
 
 -- the status after a log was to be drawn: an option can't be read; or it is drawn as is asked for, likewise
@@ -210,7 +212,7 @@ IsPictured wanted status =
 
 -- the status after a log was dumped, likewise
 abbrev pub waves_status : Result WavesSum ExplainFault → ℕ
-waves_status (Ok sum) = heard_status sum.heard
+waves_status (Ok sum) = heard_status sum.heard sum.outside
 waves_status (Err fault) = explain_status fault
 
 -- the status after a log was to be dumped: an option can't be; or it is dumped as is asked for, likewise

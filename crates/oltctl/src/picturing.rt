@@ -1,15 +1,17 @@
 //! The command `picture`: a log or a trace is drawn, to standard output.
 ghost use Rattle.std.specs.Prelude.{◌≡◌};
-ghost use Rattle.oltctl.specs.Statuses.{IsPictured, drawn_status};
+ghost use Rattle.oltctl.specs.Statuses.{IsPictured, drawn_status, heard_status};
 
 use crate::observed::{Observed, Seen};
-use crate::reporting::{heard_status, refuse_option, report, report_at};
+use crate::reporting::{
+    refuse_option, report, report_at, report_before, report_behind, report_silence,
+};
 use gp_command_line::Drawing;
 use gp_explain::{ExplainFault, NoLine};
 use gp_flow::LinesFault;
 use gp_options::picture_options;
-use gp_picture::{PictureOptions, PictureSum, draw_trace};
-use gp_report::{BAD_INPUT, explain_report};
+use gp_picture::{Outside, PictureOptions, PictureSum, draw_trace};
+use gp_report::{BAD_INPUT, SUCCESS, explain_report};
 use gp_stream::{Sink, Source};
 use std::io;
 use std::io::Read;
@@ -45,16 +47,29 @@ fn draw_file<R: AllocGlobal + Files + Print + Input>(
     }
 }
 
+/// Says that nothing was heard, or nothing in the frames that are drawn, and answers the exit status.
+fn end_drawn<R: Eprint>(rt: &R, options: &PictureOptions, sum: &PictureSum) -> u8
+    ensures { result ≡ heard_status sum.now.heard sum.now.outside }
+{
+    match sum.outside {
+        Some(Outside::Before { last }) => report_before(rt, options.frames.from, last),
+        Some(Outside::Behind { first }) => report_behind(rt, options.frames.to, first),
+        None if sum.heard => SUCCESS,
+        None => report_silence(rt),
+    }
+}
+
 /// Says how drawing a log ended, with the number of the line that is none, and answers the exit status.
 fn end_picture<R: AllocGlobal + Eprint>(
     rt: &R,
+    options: &PictureOptions,
     outcome: &Result<PictureSum, ExplainFault>,
     seen: &Seen<'_>,
 ) -> u8
     ensures { result ≡ drawn_status outcome.now }
 {
     match outcome {
-        Ok(sum) => heard_status(rt, sum.heard),
+        Ok(sum) => end_drawn(rt, options, sum),
         Err(fault) => match fault {
             ExplainFault::Refused {
                 line,
@@ -88,7 +103,7 @@ pub(crate) fn picture<R: AllocGlobal + Files + Print + Eprint + Input>(
         Ok(options) => {
             let mut seen = Seen::new(wanted.log);
             let outcome = draw_file(rt, wanted.log, &options, &mut seen);
-            end_picture(rt, &outcome, &seen)
+            end_picture(rt, &options, &outcome, &seen)
         }
     }
 }

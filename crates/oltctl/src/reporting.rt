@@ -1,10 +1,9 @@
 //! What is said on standard error, and the exit status that goes with it.
 ghost use Rattle.std.specs.Prelude.{◌≡◌};
-ghost use Rattle.oltctl.specs.Statuses.{heard_status as spec_heard_status};
 
 use gp_check::{Purpose, placed_line};
 use gp_options::BadOption;
-use gp_report::{BAD_ARGUMENTS, BAD_INPUT, SUCCESS};
+use gp_report::{BAD_ARGUMENTS, BAD_INPUT};
 use std::alloc::{AllocError, Global};
 use std::io;
 use std::io::ErrorKind;
@@ -37,16 +36,27 @@ pub(crate) fn report_count<R: Eprint>(rt: &R, told: (&'static str, u8), count: u
     status
 }
 
-/// Answers the exit status after a log that was read to its end, and says on standard error where no line of it says
-/// anything.
-pub(crate) fn heard_status<R: Eprint>(rt: &R, heard: bool) -> u8
-    ensures { result ≡ spec_heard_status heard }
+/// Says on standard error that no line of a log says anything, and answers the exit status.
+pub(crate) fn report_silence<R: Eprint>(rt: &R) -> u8
+    ensures { result ≡ BAD_INPUT }
 {
-    if heard {
-        SUCCESS
-    } else {
-        report(rt, ("oltctl: nothing was heard", BAD_INPUT))
-    }
+    report(rt, ("oltctl: nothing was heard", BAD_INPUT))
+}
+
+/// Says on standard error that all that was heard is before the frames that are wanted, and answers the exit status.
+pub(crate) fn report_before<R: Eprint>(rt: &R, from: u64, last: u64) -> u8
+    ensures { result ≡ BAD_INPUT }
+{
+    let _ = eprintln!(rt; "oltctl: nothing was heard from frame {from} on: the last is {last}");
+    BAD_INPUT
+}
+
+/// Says on standard error that all that was heard is behind the frames that are wanted, and answers the exit status.
+pub(crate) fn report_behind<R: Eprint>(rt: &R, to: u64, first: u64) -> u8
+    ensures { result ≡ BAD_INPUT }
+{
+    let _ = eprintln!(rt; "oltctl: nothing was heard up to frame {to}: the first is {first}");
+    BAD_INPUT
 }
 
 /// Says on standard error which option can't be read, and answers the exit status.

@@ -1,16 +1,18 @@
 //! The command `waves`: a log or a trace is written as a value change dump, to standard output.
 ghost use Rattle.std.specs.Prelude.{◌≡◌};
-ghost use Rattle.oltctl.specs.Statuses.{IsDumped, waves_status};
+ghost use Rattle.oltctl.specs.Statuses.{IsDumped, heard_status, waves_status};
 
 use crate::observed::{Observed, Seen};
-use crate::reporting::{heard_status, refuse_option, report, report_at};
+use crate::reporting::{
+    refuse_option, report, report_at, report_before, report_behind, report_silence,
+};
 use gp_command_line::Dumping;
 use gp_explain::{ExplainFault, NoLine};
 use gp_flow::LinesFault;
 use gp_options::waves_options;
-use gp_report::{BAD_INPUT, explain_report};
+use gp_report::{BAD_INPUT, SUCCESS, explain_report};
 use gp_stream::{Sink, Source};
-use gp_waves::{WavesOptions, WavesSum, dump_waves};
+use gp_waves::{Outside, WavesOptions, WavesSum, dump_waves};
 use std::io;
 use std::io::Read;
 use std::rt::Files;
@@ -58,9 +60,22 @@ fn tell_sum<R: Eprint>(rt: &R, sum: &WavesSum) {
     }
 }
 
+/// Says that nothing was heard, or nothing in the frames that are dumped, and answers the exit status.
+fn end_dumped<R: Eprint>(rt: &R, options: &WavesOptions, sum: &WavesSum) -> u8
+    ensures { result ≡ heard_status sum.now.heard sum.now.outside }
+{
+    match sum.outside {
+        Some(Outside::Before { last }) => report_before(rt, options.frames.from, last),
+        Some(Outside::Behind { first }) => report_behind(rt, options.frames.to, first),
+        None if sum.heard => SUCCESS,
+        None => report_silence(rt),
+    }
+}
+
 /// Says how dumping a log ended, with the number of the line that is none, and answers the exit status.
 fn end_waves<R: AllocGlobal + Eprint>(
     rt: &R,
+    options: &WavesOptions,
     outcome: &Result<WavesSum, ExplainFault>,
     seen: &Seen<'_>,
 ) -> u8
@@ -69,7 +84,7 @@ fn end_waves<R: AllocGlobal + Eprint>(
     match outcome {
         Ok(sum) => {
             tell_sum(rt, sum);
-            heard_status(rt, sum.heard)
+            end_dumped(rt, options, sum)
         }
         Err(fault) => match fault {
             ExplainFault::Refused {
@@ -104,7 +119,7 @@ pub(crate) fn waves<R: AllocGlobal + Files + Print + Eprint + Input>(
         Ok(options) => {
             let mut seen = Seen::new(wanted.log);
             let outcome = dump_file(rt, wanted.log, &options, &mut seen);
-            end_waves(rt, &outcome, &seen)
+            end_waves(rt, &options, &outcome, &seen)
         }
     }
 }
