@@ -64,7 +64,7 @@ impl Census {
     }
 
     /// Gives what was counted of the port.
-    pub(crate) fn port(&self) -> PortCounts
+    pub fn port(&self) -> PortCounts
         ensures { result ≡ self.now.port }
     {
         self.port

@@ -7,7 +7,7 @@ use gp_explain::{ExplainFault, NoLine};
 use gp_ploam::Mask;
 use gp_stream::Source;
 use gp_summary::SummaryForm;
-use gp_summed::{Explained, explain_summed};
+use gp_summed::{Explained, HeardCodes, explain_summed};
 use gp_tally::{Began, Nowhere};
 use serde_json::Value;
 use std::alloc::{AllocError, Global};
@@ -87,8 +87,13 @@ impl Write for SlowWriter {
     }
 }
 
-/// What came of a trace: how many lines there are, what was written, and the summary.
-type Told<W> = (Result<u64, ExplainFault>, W, Result<Vec<u8>, AllocError>);
+/// What came of a trace: how many lines there are, what was written, the summary, and the codes that were heard.
+type Told<W> = (
+    Result<u64, ExplainFault>,
+    W,
+    Result<Vec<u8>, AllocError>,
+    Result<HeardCodes, AllocError>,
+);
 
 /// Tells a trace to a writer, which held something.
 fn told_by<B: Began, W: Write + Drop>(
@@ -105,10 +110,11 @@ fn told_by<B: Began, W: Write + Drop>(
     let Explained {
         told,
         summary,
+        codes,
         counting,
     } = explain_summed::<B, &[u8], W>(alloc, Mask::Plain, form, &mut source, writer)?;
     let (writer, _) = counting.into_parts();
-    Ok((told, writer, summary))
+    Ok((told, writer, summary, codes))
 }
 
 /// Tells a trace to a writer.
@@ -141,7 +147,7 @@ fn a_unit_stands_as_it_was_heard(rt: HostRuntime) -> Result<(), AllocError> {
         let writer = SlowWriter {
             taken: Vec::new(rt.alloc()),
         };
-        let (found, writer, text) = told(rt.alloc(), SummaryForm::Text, &trace, writer)?;
+        let (found, writer, text, _) = told(rt.alloc(), SummaryForm::Text, &trace, writer)?;
         assert!(rt; found.is_ok(), "{place}");
         assert!(rt; writer.taken.as_slice() == trace.as_bytes(), "{place}");
         assert!(rt; text?.as_slice() == TOLD[place].as_bytes(), "{place}");
@@ -157,7 +163,7 @@ fn a_line_that_is_none_ends_it(rt: HostRuntime) -> Result<(), AllocError> {
     let writer = SlowWriter {
         taken: Vec::new(rt.alloc()),
     };
-    let (found, writer, text) = told(rt.alloc(), SummaryForm::Text, &trace, writer)?;
+    let (found, writer, text, _) = told(rt.alloc(), SummaryForm::Text, &trace, writer)?;
     let why = NoLine::NotALine;
     assert!(rt; found == Err(ExplainFault::Refused { line: 12, why }));
     assert!(rt; writer.taken.as_slice() == trace_of(rt.alloc(), 2)?.as_bytes());
@@ -171,7 +177,7 @@ fn memory_short_or_ample(rt: HostRuntime) -> Result<(), AllocError> {
     let Ok(trace) = trace_of(rt.alloc(), 3) else {
         return Ok(());
     };
-    let Ok((found, _, text)) = told(rt.alloc(), SummaryForm::Text, &trace, Nowhere) else {
+    let Ok((found, _, text, _)) = told(rt.alloc(), SummaryForm::Text, &trace, Nowhere) else {
         return Ok(());
     };
     if let (Ok(lines), Ok(text)) = (found, &text) {
@@ -197,7 +203,7 @@ fn has(object: &Value, key: &str, number: u64) -> bool {
 #[test]
 fn a_unit_is_read_as_json(rt: HostRuntime) -> Result<(), AllocError> {
     let trace = trace_of(rt.alloc(), 4)?;
-    let (_, _, text) = told(rt.alloc(), SummaryForm::Json, &trace, Nowhere)?;
+    let (_, _, text, _) = told(rt.alloc(), SummaryForm::Json, &trace, Nowhere)?;
     let mut objects = Vec::new(rt.alloc());
     for line in text?.split(|octet| *octet == b'\n') {
         if !line.is_empty() {
@@ -234,5 +240,42 @@ fn a_unit_is_read_as_json(rt: HostRuntime) -> Result<(), AllocError> {
     let allocs = objects[1].get("allocs").unwrap_or(&Value::Null);
     assert!(rt; allocs.get(0).and_then(Value::as_u64) == Some(300));
     assert!(rt; allocs.get(1).and_then(Value::as_u64) == Some(301));
+    Ok(())
+}
+
+/// A burst, and a message on the last port, whose check octets are wrong.
+const GARBLED_UP: &str = "0 0 burst 5 ff01414243440000000100002d = refused 2 garbled\n";
+
+const GARBLED_DOWN: &str = "15 0 frame = ok sent ff03004142434400000001001c\n";
+
+/// A trace, how many of its codes can't be read, and whether one can.
+const CODES: [(&str, u64, bool); 6] = [
+    ("", 0, false),
+    ("0 0 frame = ok\n", 0, false),
+    (GARBLED_UP, 1, false),
+    (GARBLED_DOWN, 1, false),
+    (FOUND, 0, true),
+    (ASSIGNED, 0, true),
+];
+
+/// Codes with a wrong check octet are counted, up and down, each by itself and all together.
+#[test]
+fn garbled_codes_are_counted(rt: HostRuntime) -> Result<(), AllocError> {
+    let mut all = String::new(rt.alloc());
+    let mut wrong = 0;
+    for (trace, garbled, is_read) in CODES {
+        let (_, _, _, codes) = told(rt.alloc(), SummaryForm::Text, trace, Nowhere)?;
+        assert_eq!(rt; codes?, HeardCodes { garbled, is_read });
+        all.push_str(trace)?;
+        wrong += garbled;
+    }
+    let (_, _, _, codes) = told(rt.alloc(), SummaryForm::Text, &all, Nowhere)?;
+    assert_eq!(rt;
+        codes?,
+        HeardCodes {
+            garbled: wrong,
+            is_read: true
+        }
+    );
     Ok(())
 }

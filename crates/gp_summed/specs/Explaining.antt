@@ -15,6 +15,8 @@ use Rattle.gp_summary.specs.declared.form.SummaryForm.{SummaryForm}
 use Rattle.gp_summary.specs.Summary.{IsFresh}
 use Rattle.gp_summary.specs.Heard.{TellsHeard}
 use Rattle.gp_audit.specs.Port.{PortState}
+use Rattle.gp_summed.specs.declared.codes.HeardCodes.{HeardCodes}
+use Rattle.gp_summed.specs.Codes.{codes_of}
 use Rattle.gp_summed.specs.Hearing.{AreHeard, HearingState}
 
 -- how many ports a trace may tell of
@@ -38,3 +40,8 @@ pub record ExplainsSummed {R W : Type 0} (form : SummaryForm) (mask : Mask) (fro
   pub took : after.held ≡ Some counting.counter.taken
   pub tells : IfOk summary (λ text. (ports : List PortState) × AreHeard mask counting.counter.taken ports
       × TellsHeard form mask counting.counter.taken trace_ports ports text.items)
+
+-- what is told of the codes is what was heard of these octets
+abbrev pub HasCodes : Mask → List ℕ → Result HeardCodes AllocError → Type 0
+HasCodes mask taken codes =
+    IfOk codes (λ heard. (ports : List PortState) × AreHeard mask taken ports × (heard ≡ codes_of ports trace_ports))

@@ -2,9 +2,11 @@
 ghost use Rattle.std.specs.Prelude.{◌≡◌, ◌≤◌, List, IfOk, OnErr, length};
 ghost use Rattle.gp_audit.specs.Port.{PortState};
 ghost use Rattle.gp_summary.specs.Heard.{TellsHeard};
-ghost use Rattle.gp_summed.specs.Explaining.{ExplainsSummed};
+ghost use Rattle.gp_summed.specs.Codes.{codes_of};
+ghost use Rattle.gp_summed.specs.Explaining.{ExplainsSummed, HasCodes};
 ghost use Rattle.gp_summed.specs.Hearing.{AreHeard};
 
+use crate::codes::{HeardCodes, codes_of};
 use crate::hearer::Hearer;
 use crate::hearing::Hearing;
 use gp_explain::{ExplainFault, Form, Telling, explain_trace};
@@ -25,6 +27,8 @@ pub struct Explained<B: Began, W: Write> {
     pub told: Result<u64, ExplainFault>,
     /// The lines of what was counted and heard of those that were told, or an error where memory was refused.
     pub summary: Result<Vec<u8>, AllocError>,
+    /// How many of their codes can't be read, or an error where memory for what was heard was refused.
+    pub codes: Result<HeardCodes, AllocError>,
     /// The writer, with its counter.
     pub counting: Counting<B, W>,
 }
@@ -42,6 +46,14 @@ fn summary_of(
 {
     let listener = hearer.listener()?;
     heard_summary(alloc, form, counter, listener)
+}
+
+/// Gives how many codes can't be read, unless memory was refused for what was heard.
+fn heard_codes(hearer: &Hearer) -> Result<HeardCodes, AllocError>
+    ensures { IfOk result (λ codes. (ports : List PortState) × AreHeard hearer.now.mask hearer.now.taken ports
+        × (codes ≡ codes_of ports 16)) }
+{
+    Ok(codes_of(hearer.listener()?))
 }
 
 /// Writes the lines of a trace again as they are, up to the first that is none of a trace, to a writer that passes them
@@ -63,6 +75,7 @@ pub fn explain_summed<B: Began, R: Read, W: Write + Drop>(
     requires ports { B.ports ≡ TRACE_PORTS }
     ensures explained { IfOk result (λ explained.
         ExplainsSummed form mask source.old source.new explained.counting explained.told explained.summary) }
+    ensures codes { IfOk result (λ explained. HasCodes mask explained.counting.counter.taken explained.codes) }
     ensures unread { OnErr result (source.new ≡ source.old) }
 {
     let counter = Counter::new(alloc, mask, TRACE_PORTS)?;
@@ -76,6 +89,7 @@ pub fn explain_summed<B: Began, R: Read, W: Write + Drop>(
     Ok(Explained {
         told,
         summary,
+        codes: heard_codes(&hearer),
         counting,
     })
 }

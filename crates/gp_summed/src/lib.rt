@@ -4,7 +4,8 @@
 //! the trace, and, where there are ports, how they stand then (`explain_summed`, `verify_summed`, `drive_summed`).
 //!
 //! - `explaining.rt`: `explain_summed`, a trace that is told again while its lines are counted and heard; `hearing.rt`:
-//!   the writer that counts and hears, `hearer.rt`: lines that are heard, in whatever pieces they come.
+//!   the writer that counts and hears, `hearer.rt`: lines that are heard, in whatever pieces they come; `codes.rt`:
+//!   `HeardCodes`, how many codes can't be read.
 //! - `verifying.rt`: `verify_summed`, a trace that is verified while its entries are counted; `accounting.rt`: the
 //!   verifier that counts, `opening.rt` what it began with. `reach.rt`: up to which line a trace is told of.
 //! - `driving.rt`: `drive_summed`, a script that is driven while the lines of its entries are counted.
@@ -14,6 +15,7 @@
 #![tactic(auto)]
 
 mod accounting;
+mod codes;
 mod driving;
 mod explaining;
 mod hearer;
@@ -22,6 +24,7 @@ mod opening;
 mod reach;
 mod verifying;
 
+pub use codes::HeardCodes;
 pub use driving::{DriveSummed, drive_summed};
 pub use explaining::{Explained, TRACE_PORTS, explain_summed};
 pub use verifying::{Verified, verify_summed};

@@ -1,5 +1,5 @@
 -- The exit statuses of the program (this profile's own rule).
-use Rattle.std.specs.Prelude.{◌≡◌, ◌≢◌, ◌<◌, ◌≤◌, ◌==◌, ◌↔◌, not, if◌then◌else◌, ℕ, Bool, true, false, List, ◌⊎◌, Option, None, Some, Result, Ok, Err, IfOk}
+use Rattle.std.specs.Prelude.{◌≡◌, ◌≢◌, ◌<◌, ◌≤◌, ◌==◌, ◌↔◌, ◌&&◌, ◌||◌, not, if◌then◌else◌, ℕ, Bool, true, false, List, ◌⊎◌, Option, None, Some, IsSome, Result, Ok, Err, IfOk, OnOk}
 use Rattle.std.specs.List.{list_any}
 use Rattle.std.specs.declared.io.ErrorKind.{ErrorKind as IoErrorKind}
 use Rattle.std.specs.declared.io.ErrorKind.TheVariants as io_error
@@ -49,6 +49,9 @@ use Rattle.gp_command_line.specs.declared.request.Audit.{Audit as WantedAudit}
 use Rattle.gp_command_line.specs.declared.request.Drawing.{Drawing}
 use Rattle.gp_command_line.specs.declared.request.Dumping.{Dumping}
 use Rattle.oltctl.specs.declared.auditing.Audited.{Audited}
+use Rattle.oltctl.specs.declared.recounting.ToldTrace.{ToldTrace}
+use Rattle.gp_summed.specs.declared.codes.HeardCodes.{HeardCodes}
+use Rattle.gp_command_line.specs.declared.request.Explanation.{Explanation}
 use Rattle.gp_command_line.specs.declared.request.Request.{Request}
 use Rattle.gp_command_line.specs.declared.request.Request.TheVariants.{Replay, Drive, Storm, Check, Generate, Test, Verify, Audit, Picture, Waves, Decode, DecodeLines, Encode, EncodeLines, Explain}
 
@@ -183,14 +186,37 @@ encoded_status (Err fault) = input_status fault
 abbrev pub AreEncoded : ℕ → Type 0
 AreEncoded status = (outcome : Result (Option WordsFaultAt) LinesFault) × (status ≡ encoded_status outcome)
 
--- the status after a trace was told in words
-abbrev pub told_status : Result ℕ ExplainFault → ℕ
-told_status (Ok lines) = SUCCESS
-told_status (Err fault) = explain_status fault
+-- what became of each port and unit is told of a trace
+abbrev pub is_counted : Explanation → Bool
+is_counted wanted = not wanted.as_log && (wanted.units || wanted.summary)
+
+-- codes came, and none of them could be read
+abbrev pub are_unread : HeardCodes → Bool
+are_unread codes = not (codes.garbled == 0) && not codes.is_read
+
+-- the status after all lines of a trace were told; where it is told what became of each port and unit, something has to
+-- have been heard
+abbrev pub lines_told_status : Option HeardCodes → ℕ → ℕ
+lines_told_status None lines = SUCCESS
+lines_told_status (Some codes) lines = if (lines == 0) || are_unread codes then BAD_INPUT else SUCCESS
+
+-- the status after a trace was told
+abbrev pub told_by_status : Option HeardCodes → Result ℕ ExplainFault → ℕ
+told_by_status codes (Ok lines) = lines_told_status codes lines
+told_by_status codes (Err fault) = explain_status fault
+
+abbrev pub told_status : ToldTrace → ℕ
+told_status told = told_by_status told.codes told.lines
+
+-- a trace that was told as is wanted: codes are heard where it is told what became of each port and unit, and nowhere
+-- else
+pub record IsToldAs (wanted : Explanation) (told : ToldTrace) : Type 0 where
+  pub counted : is_counted wanted ≡ true → OnOk told.lines (IsSome told.codes)
+  pub alone : is_counted wanted ≡ false → told.codes ≡ None
 
 -- what a file or standard input holds no contract can tell, so it is that of some trace
-abbrev pub IsExplained : ℕ → Type 0
-IsExplained status = (outcome : Result ℕ ExplainFault) × (status ≡ told_status outcome)
+abbrev pub IsExplained : Explanation → ℕ → Type 0
+IsExplained wanted status = (told : ToldTrace) × IsToldAs wanted told × (status ≡ told_status told)
 
 -- the status after a log was drawn or dumped, by whether one of its lines says anything, and by where all that was heard
 -- is, if it is in none of the frames that are wanted
@@ -276,7 +302,7 @@ IsServed (Decode code upstream mask names false) status = IsDecoded code.now ups
 IsServed (DecodeLines many direction mask names json) status = AreDecoded status
 IsServed (EncodeLines upstream mask json) status = AreEncoded status
 IsServed (Encode words upstream mask json) status = IsEncoded status
-IsServed (Explain wanted) status = IsExplained status
+IsServed (Explain wanted) status = IsExplained wanted status
 
 -- how a run over the words of a command line may end, with this status
 pub data IsRun (words : List Text) (status : ℕ) : Type 0 where

@@ -1,5 +1,5 @@
 //! A trace that is told again, and what was counted of its ports and units behind it or in its place.
-ghost use Rattle.std.specs.Prelude.{◌≡◌, [], Some};
+ghost use Rattle.std.specs.Prelude.{◌≡◌, [], IfOk, IsSome, OnOk, Some};
 ghost use Rattle.gp_summed.specs.Explaining.{trace_ports};
 
 use crate::summing::summary_form;
@@ -9,12 +9,41 @@ use gp_flow::{LinesFault, Unanswered};
 use gp_ploam::Mask;
 use gp_stream::{Sink, Source};
 use gp_summary::SummaryForm;
-use gp_summed::{Explained, explain_summed};
+use gp_summed::{Explained, HeardCodes, explain_summed};
 use gp_tally::{Began, Nowhere};
 use gp_tell::{Began as TellingBegan, TellFault, Teller};
 use std::alloc::{AllocError, Global};
 use std::io::{Read, Write};
 use std::marker::Brand;
+
+/// A trace that was told.
+#[derive(Drop)]
+pub(crate) struct ToldTrace {
+    /// How many lines there are, or why not all were told.
+    pub(crate) lines: Result<u64, ExplainFault>,
+    /// The codes that were heard of those that were told, where it is told what became of each port and unit.
+    pub(crate) codes: Option<HeardCodes>,
+}
+
+/// A trace that was told as this says, of which codes were heard, unless memory was refused for that.
+fn told_with(lines: Result<u64, ExplainFault>, codes: Result<HeardCodes, AllocError>) -> ToldTrace
+    ensures { OnOk result.lines (IsSome result.codes) }
+{
+    match (lines, codes) {
+        (Err(ExplainFault::Lines(fault)), _) => ToldTrace {
+            lines: Err(ExplainFault::Lines(fault)),
+            codes: None,
+        },
+        (lines, Ok(codes)) => ToldTrace {
+            lines,
+            codes: Some(codes),
+        },
+        (_, Err(AllocError)) => ToldTrace {
+            lines: Err(ExplainFault::from(AllocError)),
+            codes: None,
+        },
+    }
+}
 
 /// Writes what was counted of the lines that were told, also where one was none of a trace; where they were not read,
 /// or not told, nothing.
@@ -46,24 +75,27 @@ fn explain_by<B: Began, T: TellingBegan, S: Read, W: Write + Drop>(
     telling: Telling,
     source: &mut Source<S>,
     writer: W,
-) -> Result<u64, ExplainFault>
+) -> Result<ToldTrace, AllocError>
     requires held { B.held ≡ Some [] }
     requires mask { B.mask ≡ mask }
     requires ports { B.ports ≡ trace_ports }
     requires manner { telling ≡ T.manner }
     requires below { W.contents writer ≡ T.held }
+    ensures { IfOk result (λ told. OnOk told.lines (IsSome told.codes)) }
 {
     let teller = Teller::<T, W>::new(alloc, telling, writer)?;
     let Explained {
         told,
         summary,
+        codes,
         counting,
     } = explain_summed::<B, S, Teller<T, W>>(alloc, mask, form, source, teller)?;
     let (teller, _) = counting.into_parts();
     if let Some(TellFault::OutOfMemory) = teller.fault() {
-        return Err(ExplainFault::from(AllocError));
+        return Err(AllocError);
     }
-    write_counted(alloc, told, summary, teller.into_inner())
+    let told = write_counted(alloc, told, summary, teller.into_inner());
+    Ok(told_with(told, codes))
 }
 
 /// Does so by a teller that tells as this says.
@@ -74,9 +106,10 @@ fn explain_told<T: TellingBegan, S: Read, W: Write + Drop>(
     telling: Telling,
     source: &mut Source<S>,
     writer: W,
-) -> Result<u64, ExplainFault>
+) -> Result<ToldTrace, AllocError>
     requires manner { telling ≡ T.manner }
     requires below { W.contents writer ≡ T.held }
+    ensures { IfOk result (λ told. OnOk told.lines (IsSome told.codes)) }
 {
     explain_by::<Brand, T, S, W>(alloc, mask, form, telling, source, writer)
 }
@@ -87,7 +120,9 @@ pub(crate) fn explain_with_units<S: Read, W: Write + Drop>(
     wanted: &Explanation<'_>,
     source: &mut Source<S>,
     writer: W,
-) -> Result<u64, ExplainFault> {
+) -> Result<ToldTrace, AllocError>
+    ensures { IfOk result (λ told. OnOk told.lines (IsSome told.codes)) }
+{
     let told = wanted.told;
     let telling = Telling::new(alloc, wanted.mask, told.form, told.timed);
     let form = summary_form(told);
@@ -102,17 +137,20 @@ fn explain_unwritten<B: Began, S: Read, T: Write + Drop, W: Write + Drop>(
     source: &mut Source<S>,
     lines: T,
     writer: W,
-) -> Result<u64, ExplainFault>
+) -> Result<ToldTrace, AllocError>
     requires held { T.contents lines ≡ B.held }
     requires mask { B.mask ≡ mask }
     requires ports { B.ports ≡ trace_ports }
+    ensures { IfOk result (λ told. OnOk told.lines (IsSome told.codes)) }
 {
     let Explained {
         told,
         summary,
+        codes,
         counting: _,
     } = explain_summed::<B, S, T>(alloc, mask, form, source, lines)?;
-    write_counted(alloc, told, summary, writer)
+    let told = write_counted(alloc, told, summary, writer);
+    Ok(told_with(told, codes))
 }
 
 /// Counts the lines of a trace, which go through a writer that keeps none of them, and writes what was counted alone.
@@ -123,7 +161,9 @@ fn explain_counted<S: Read, T: Write + Drop, W: Write + Drop>(
     source: &mut Source<S>,
     lines: T,
     writer: W,
-) -> Result<u64, ExplainFault> {
+) -> Result<ToldTrace, AllocError>
+    ensures { IfOk result (λ told. OnOk told.lines (IsSome told.codes)) }
+{
     explain_unwritten::<Brand, S, T, W>(alloc, mask, form, source, lines, writer)
 }
 
@@ -133,7 +173,9 @@ pub(crate) fn explain_for_summary<S: Read, W: Write + Drop>(
     wanted: &Explanation<'_>,
     source: &mut Source<S>,
     writer: W,
-) -> Result<u64, ExplainFault> {
+) -> Result<ToldTrace, AllocError>
+    ensures { IfOk result (λ told. OnOk told.lines (IsSome told.codes)) }
+{
     let form = summary_form(wanted.told);
     explain_counted(alloc, wanted.mask, form, source, Nowhere, writer)
 }
