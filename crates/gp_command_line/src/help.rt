@@ -68,13 +68,15 @@ Of each NAME.toml in a folder:
                           name has to be this, and a line feed
   neither                 it fails; with --bless its NAME.trace is written
   both                    it fails
+A script whose play writes no line fails: nothing can be compared.
 What fails has a line on standard output: where it differs the first time, what was
 expected there and what came. A folder without a script fails too, and so does a
 NAME.trace or NAME.faults without NAME.toml, and what is no regular file. Other files
 are passed over. A folder that is named twice counts once.
 
 The FILE of --junit is written where there is none, or where it is empty or begins with
-<?xml; over anything else it is not written.
+<?xml; over anything else it is not written. It is written beside it, as FILE.new1, and
+gets the name when it is whole, so the old one stays where writing fails.
 
 Exit status:
   0  all passed, or a trace was written
@@ -194,11 +196,13 @@ Examples:
 
 With --log each line of the trace that says something on the fibre is written as lines
 of a log: PORT TIME down CODE, PORT TIME up CODE DELAY, PORT TIME grant GRANT, TIME in
-frames.
+frames. With --units or --summary standard error says how many codes have a wrong check
+octet under the mask, if any have.
 
 Exit status:
   0  all lines were told
-  1  a line is none of a trace, or the trace was not read
+  1  a line is none of a trace, or the trace was not read; with --units or --summary
+     also where no line came, or no code is right under the mask
   2  the command line is wrong
   3  out of memory
   4  the output takes no more";
@@ -211,7 +215,12 @@ Lines of LOG, which may be mixed with those of a trace:
                                 unit's equalization delay
   [PORT] TIME grant search      a window; or: grant range N, grant poll N
 TIME is a number of frames, or has a unit: 12.125ms, us or s. Codes may have colons,
-hyphens, spaces and 0x, fields spaces, tabs, commas and semicolons between them.
+hyphens, spaces and 0x, fields spaces, tabs, commas and semicolons between them; so
+12,125ms is no time. Empty lines and those that begin with # are passed over.
+
+Any other line, as the heading of a table, is answered by: error N KIND, N its number,
+KIND word, number, code, time or long; so is one whose time is before that of its port
+(time). Nothing of it is heard. error N full: more than 4096 serial numbers on a port.
 
 Rules of the terminal: garbled copies range barred unasked taken renumbered nobody
 unranged delay early shared not-held grant; of units: garbled disabled anew number
@@ -244,7 +253,8 @@ Examples:
 
 Exit status:
   0  the picture was written
-  1  a line is neither one of a log nor of a trace, nothing was heard, or LOG was not read
+  1  a line is neither one of a log nor of a trace, nothing was heard, or nothing in the
+     frames that are drawn, or LOG was not read
   2  the command line is wrong
   3  out of memory
   4  the output takes no more";
@@ -262,7 +272,8 @@ Examples:
 
 Exit status:
   0  the dump was written
-  1  a line is neither one of a log nor of a trace, nothing was heard, or LOG was not read
+  1  a line is neither one of a log nor of a trace, nothing was heard, or nothing in the
+     frames that are dumped, or LOG was not read
   2  the command line is wrong
   3  out of memory
   4  the output takes no more";
