@@ -12,7 +12,7 @@ use gp_replay::{PlayFault, play_script};
 use gp_script::{Script, ScriptError, read_script};
 use gp_stream::{Sink, Source, SourceFault, read_all};
 use std::alloc::{AllocError, Global};
-use std::fs::File;
+use std::fs::{File, OpenFile};
 use std::io::Write;
 use std::rt::Files;
 use std::{fs, io};
@@ -161,8 +161,9 @@ fn judge_by<R: AllocGlobal + Files>(
     }
 }
 
-/// Plays a script into a file.
-fn play_into<F: Write + Drop>(
+/// Plays a script into a file, and has the system keep what was written: an error that it would tell only when the file
+/// is closed comes here.
+fn play_into<F: Write + OpenFile + Drop>(
     alloc: Global,
     script: Script,
     file: F,
@@ -178,9 +179,12 @@ fn play_into<F: Write + Drop>(
         return Err(Some(io::Error::from(io::ErrorKind::OutOfMemory)));
     };
     let played = play_script(alloc, script, &mut sink);
-    drop(sink);
+    let Blamed {
+        inner: file,
+        error: _,
+    } = sink.into_inner();
     match played {
-        Ok(()) => Ok(()),
+        Ok(()) => file.sync_all().map_err(Some),
         Err(PlayFault::Write) => Err(error),
         Err(PlayFault::OutOfMemory) => Err(Some(io::Error::from(io::ErrorKind::OutOfMemory))),
     }

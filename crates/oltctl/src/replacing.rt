@@ -90,10 +90,15 @@ fn make_aside<R: AllocGlobal + Files>(rt: &R, path: &str) -> io::Result<Aside<R:
     Err(io::Error::from(ErrorKind::AlreadyExists))
 }
 
-/// Writes octets to a file that was opened.
+/// Writes octets to a file that was opened. A regular one is synced: an error that the system would tell only when the
+/// file is closed comes here.
 fn fill<F: Write + OpenFile + Drop>(mut file: F, octets: &[u8]) -> io::Result<()> {
     file.write_all(octets)?;
-    file.flush()
+    file.flush()?;
+    if file.metadata()?.is_file() {
+        file.sync_all()?;
+    }
+    Ok(())
 }
 
 /// Gives the mode of a file that may be written to; None where there is none.
