@@ -13,7 +13,7 @@
 //! - `telling.rt` has what is told while a script is played or driven, `summing.rt` what is told at its end, `driving.rt`
 //!   a drive with what is told at its end, `recounting.rt` what is counted of a trace that is told again.
 //! - `objects.rt`: one code, or the words of one message, as an object.
-//! - Of `testing.rt`: scripts of folders, several at once, and what is told of them. `scripts.rt`: which files of a folder
+//! - `testing.rt`: scripts of folders, several at once, and what is told of them. `scripts.rt`: which files of a folder
 //!   are scripts, and what stands beside them; `judging.rt`: one of them, from its files to what became of it.
 //! - `observed.rt`: an input, and what is remembered of it. `joined.rt`: words as one text, as they are decoded or
 //!   encoded. `descriptors.rt`: what is held where a standard stream is closed.
