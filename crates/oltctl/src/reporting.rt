@@ -1,9 +1,11 @@
 //! What is said on standard error, and the exit status that goes with it.
 ghost use Rattle.std.specs.Prelude.{◌≡◌};
+ghost use Rattle.oltctl.specs.Statuses.{end_status};
 
 use gp_check::{Purpose, placed_line};
 use gp_options::BadOption;
-use gp_report::{BAD_ARGUMENTS, BAD_INPUT};
+use gp_replay::RunFault;
+use gp_report::{BAD_ARGUMENTS, BAD_INPUT, SUCCESS, run_report};
 use std::alloc::{AllocError, Global};
 use std::io;
 use std::io::ErrorKind;
@@ -34,6 +36,16 @@ pub(crate) fn report_count<R: Eprint>(rt: &R, told: (&'static str, u8), count: u
     let (line, status) = told;
     let _ = eprintln!(rt; "{line}, {count}");
     status
+}
+
+/// Says on standard error what went wrong with a replay or a storm, if anything did, and answers the exit status.
+pub(crate) fn end_run<R: Eprint>(rt: &R, outcome: &Result<(), RunFault>) -> u8
+    ensures { result ≡ end_status outcome.now }
+{
+    match outcome {
+        Ok(()) => SUCCESS,
+        Err(fault) => report(rt, run_report(fault)),
+    }
 }
 
 /// Says on standard error that no line of a log says anything, and answers the exit status.
