@@ -86,10 +86,11 @@ pub fn explain_summed<B: Began, R: Read, W: Write + Drop>(
     let told = explain_trace(alloc, telling, source, &mut sink);
     let (counting, hearer) = sink.into_inner().into_parts();
     let summary = summary_of(alloc, form, counting.counter(), &hearer);
+    let codes = heard_codes(&hearer);
     Ok(Explained {
         told,
         summary,
-        codes: heard_codes(&hearer),
+        codes,
         counting,
     })
 }

@@ -1,7 +1,7 @@
 //! The command `explain`: a trace is written again, with its codes in words, as JSON, or as a log, and what was counted
 //! of its ports and units.
 ghost use Rattle.std.specs.Prelude.{◌≡◌, IfOk, IsSome, None, OnOk};
-ghost use Rattle.oltctl.specs.Statuses.{IsExplained, IsToldAs, lines_told_status, told_status};
+ghost use Rattle.oltctl.specs.Statuses.{IsExplained, IsToldAs, is_counted, lines_told_status, told_status};
 
 use crate::observed::{Observed, Seen};
 use crate::recounting::{ToldTrace, explain_for_summary, explain_with_units};
@@ -18,6 +18,13 @@ use std::alloc::{AllocError, Global};
 use std::io;
 use std::io::{Read, Write};
 use std::rt::Files;
+
+/// Tells whether it is wanted what became of each port and unit.
+fn is_counted(wanted: &Explanation<'_>) -> bool
+    ensures { result ≡ is_counted wanted.now }
+{
+    !wanted.as_log && (wanted.units || wanted.summary)
+}
 
 /// A trace of which only how many lines there are is known, or why not all were told.
 fn told_alone(lines: Result<u64, ExplainFault>) -> ToldTrace
@@ -64,7 +71,7 @@ fn explain_from<R: AllocGlobal + Print, T: Read + Drop>(
 {
     let mut source = Source::endless(trace);
     let out = io::writer(rt);
-    if wanted.as_log || !(wanted.units || wanted.summary) {
+    if !is_counted(wanted) {
         return told_alone(tell_lines(rt.alloc(), &mut source, wanted, out));
     }
     if wanted.summary {
