@@ -2,10 +2,12 @@
 //! each an object on standard output.
 ghost use Rattle.std.specs.Prelude.{◌≡◌, IfOk};
 ghost use Rattle.oltctl.specs.Replays.{IsToldBy, is_told_script};
+ghost use Rattle.oltctl.specs.Statuses.{check_status};
 
 use crate::observed::{Observed, Seen};
-use crate::reporting::unread_cause;
+use crate::reporting::{report, unread_cause};
 use gp_check::{CheckManner, CheckedSource, ScriptCheckFault, tell_script, unread_object};
+use gp_report::{BAD_INPUT, SUCCESS, memory_report, write_report};
 use gp_stream::{Sink, Source};
 use std::io;
 use std::io::{Read, Write};
@@ -123,4 +125,16 @@ pub(crate) fn check_files<R: AllocGlobal + Files + Print + Eprint + Input>(
         are_scripts = are_scripts && is_script;
     }
     Ok(are_scripts)
+}
+
+/// Says why files were not all checked, if they weren't, and answers the exit status.
+pub(crate) fn end_check<R: Eprint>(rt: &R, outcome: &Result<bool, ScriptCheckFault>) -> u8
+    ensures { result ≡ check_status outcome.now }
+{
+    match outcome {
+        Ok(true) => SUCCESS,
+        Ok(false) => BAD_INPUT,
+        Err(ScriptCheckFault::OutOfMemory) => report(rt, memory_report()),
+        Err(ScriptCheckFault::Write) => report(rt, write_report()),
+    }
 }

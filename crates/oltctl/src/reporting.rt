@@ -1,10 +1,11 @@
 //! What is said on standard error, and the exit status that goes with it.
 ghost use Rattle.std.specs.Prelude.{◌≡◌};
-ghost use Rattle.oltctl.specs.Statuses.{heard_status as spec_heard_status};
+ghost use Rattle.oltctl.specs.Statuses.{end_status, heard_status as spec_heard_status};
 
 use gp_check::{Purpose, placed_line};
 use gp_options::BadOption;
-use gp_report::{BAD_ARGUMENTS, BAD_INPUT, SUCCESS};
+use gp_replay::RunFault;
+use gp_report::{BAD_ARGUMENTS, BAD_INPUT, SUCCESS, run_report};
 use std::alloc::{AllocError, Global};
 use std::io;
 use std::io::ErrorKind;
@@ -35,6 +36,16 @@ pub(crate) fn report_count<R: Eprint>(rt: &R, told: (&'static str, u8), count: u
     let (line, status) = told;
     let _ = eprintln!(rt; "{line}, {count}");
     status
+}
+
+/// Says on standard error what went wrong with a replay or a storm, if anything did, and answers the exit status.
+pub(crate) fn end_run<R: Eprint>(rt: &R, outcome: &Result<(), RunFault>) -> u8
+    ensures { result ≡ end_status outcome.now }
+{
+    match outcome {
+        Ok(()) => SUCCESS,
+        Err(fault) => report(rt, run_report(fault)),
+    }
 }
 
 /// Answers the exit status after a log that was read to its end, and says on standard error where no line of it says

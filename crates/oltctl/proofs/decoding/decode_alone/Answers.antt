@@ -1,6 +1,6 @@
 use Rattle.std.proofs.Common.{◌∙◌}
 use Rattle.oltctl.proofs.Decoded.{decoded_fault}
-use Rattle.oltctl.proofs.decode_alone.Goals as goal
+use Rattle.oltctl.proofs.decoding.decode_alone.Goals as goal
 
 pub returns-in-Err : goal.returns-in-Err
 returns-in-Err g c =

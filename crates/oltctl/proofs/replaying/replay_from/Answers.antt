@@ -1,7 +1,7 @@
 use Rattle.gp_script.specs.Script.{script_of}
 use Rattle.gp_replay.specs.Outcome.{LeavesReplay}
 use Rattle.oltctl.proofs.Runs.{found_fault, found_long, found_script}
-use Rattle.oltctl.proofs.replay_from.Goals as goal
+use Rattle.oltctl.proofs.replaying.replay_from.Goals as goal
 
 pub returns-clause-ok : goal.returns-clause-ok
 returns-clause-ok g c =

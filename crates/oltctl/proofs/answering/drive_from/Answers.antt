@@ -1,5 +1,5 @@
 use Rattle.oltctl.proofs.Runs.{drive_found, drive_fault, drive_long}
-use Rattle.oltctl.proofs.drive_from.Goals as goal
+use Rattle.oltctl.proofs.answering.drive_from.Goals as goal
 
 pub returns-clause-ok : goal.returns-clause-ok
 returns-clause-ok g c = drive_found _ c.args.script _ _ _ _ _ _ _ c.run_drive_in.result c.new-script.ensures c.run_drive_in.ensures

@@ -1,7 +1,7 @@
 use Rattle.gp_script.specs.Script.{storm_script_of}
 use Rattle.gp_storm.specs.Outcome.{LeavesStormIn}
 use Rattle.oltctl.proofs.Runs.{found_fault, found_long, found_script}
-use Rattle.oltctl.proofs.storm_from.Goals as goal
+use Rattle.oltctl.proofs.storming.storm_from.Goals as goal
 
 pub returns-clause-ok : goal.returns-clause-ok
 returns-clause-ok g c =
