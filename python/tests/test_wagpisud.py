@@ -1,14 +1,28 @@
 """Tests of the module: python3 -m unittest discover python/tests, with PYTHONPATH=python and WAGPISUD_LIBRARY."""
+import _ctypes
+import array
+import contextlib
+import copy
+import os
 import pickle
+import resource
+import subprocess
+import sys
+import tempfile
 import threading
 import unittest
+import warnings
 
 import wagpisud
-from wagpisud import Alarm, Chassis, Command, EventKind, Grant, Port, Refusal, Reply, Status, Turn
+from wagpisud import Alarm, Chassis, Command, Event, EventKind, Grant, Port, Refusal, Reply, Status, Turn
 
 SERIAL = "ABCD00000001"
 ASKS = bytes.fromhex("ff01414243440000000100002c")
 RANGES = bytes.fromhex("0001414243440000000100006b")
+
+
+def opened_with(**port):
+    return Chassis([Port(**port)], licences=1)
 
 
 def opened(journal_limit=4096, **port):
@@ -119,10 +133,9 @@ class Refusals(unittest.TestCase):
                 chassis.burst(0, ASKS[:12])
             with self.assertRaises(ValueError):
                 chassis.command(10)
-            for event in (wagpisud.Event(EventKind.COMMAND), wagpisud.Event(EventKind.BURST, at=5),
-                          wagpisud.Event(EventKind.BURST, at=-1, octets=ASKS), wagpisud.Event(256),
-                          wagpisud.Event(EventKind.COMMAND, command=259),
-                          wagpisud.Event(EventKind.COMMAND, command=Command.DEALLOC, serial=SERIAL, alloc=65_836)):
+            for event in (Event(EventKind.COMMAND), Event(EventKind.BURST, at=5),
+                          Event(EventKind.BURST, at=-1, octets=ASKS), Event(256), Event(EventKind.COMMAND, command=259),
+                          Event(EventKind.COMMAND, command=Command.DEALLOC, serial=SERIAL, alloc=65_836)):
                 with self.assertRaises(ValueError):
                     chassis.apply(event)
             with self.assertRaises(ValueError):
@@ -146,6 +159,240 @@ class Refusals(unittest.TestCase):
             thread.join()
             self.assertEqual(told, ["a chassis is used on the thread that opened it"])
             self.assertEqual(chassis.counts().entries, 0)
+
+
+class Number:
+    """An integer that is no int, as those of numpy are."""
+
+    def __init__(self, value):
+        self.value = value
+
+    def __index__(self):
+        return self.value
+
+
+class Arguments(unittest.TestCase):
+    def assert_refused(self, wrong, message, call, *arguments, **named):
+        """The call raises what is wrong, and the message says so from its front."""
+        with self.assertRaises(wrong) as caught:
+            call(*arguments, **named)
+        self.assertEqual(type(caught.exception), wrong)
+        self.assertRegex(str(caught.exception), rf"\A{message}")
+
+    def test_what_is_no_integer(self):
+        with opened() as chassis:
+            for wrong in (None, "1", b"1", 1.0, 1.5, float("nan"), float("inf"), 1j, [], object()):
+                told = f" is an integer, and not {type(wrong).__name__}"
+                for name, call, *arguments in (
+                        ("port", chassis.frame, wrong), ("port", chassis.cut, wrong), ("port", chassis.counts, wrong),
+                        ("port", chassis.line, 0, wrong), ("port", chassis.search, wrong), ("number", chassis.entry, wrong),
+                        ("number", chassis.line, wrong), ("at", chassis.burst, wrong, ASKS),
+                        ("port", chassis.burst, 0, ASKS, wrong), ("alloc", chassis.command, Command.DEALLOC, SERIAL, wrong),
+                        ("port", chassis.show, SERIAL, wrong), ("port", chassis.apply, Event(EventKind.FRAME), wrong),
+                        ("at", chassis.apply, Event(EventKind.BURST, at=wrong, octets=ASKS)),
+                        ("licences", Chassis, [Port()], wrong), ("journal_limit", Chassis, [Port()], 1, wrong)):
+                    self.assert_refused(TypeError, name + told, call, *arguments)
+                for name in ("teqd", "search_period", "alloc_last", "quarantine", "max_units", "cycles"):
+                    self.assert_refused(TypeError, name + told, opened_with, **{name: wrong})
+            self.assertEqual(chassis.counts().entries, 0)
+
+    def test_what_does_not_fit(self):
+        with opened() as chassis:
+            for octets, name, call in ((1, "port", chassis.frame), (8, "number", chassis.entry),
+                                       (4, "at", lambda number: chassis.burst(number, ASKS)),
+                                       (2, "alloc", lambda number: chassis.command(Command.DEALLOC, SERIAL, number)),
+                                       (4, "licences", lambda number: Chassis([Port()], number)),
+                                       (4, "teqd", lambda number: opened_with(teqd=number)),
+                                       (2, "quarantine", lambda number: opened_with(quarantine=number)),
+                                       (1, "cycles", lambda number: opened_with(cycles=number))):
+                for number in (-1, 1 << 8 * octets, Number(1 << 8 * octets), -1 << 64, 1 << 100_000):
+                    self.assert_refused(ValueError, f"{name} is .*, and not between 0 and {(1 << 8 * octets) - 1}", call, number)
+            self.assertEqual(chassis.counts().entries, 0)
+
+    def test_integers_of_other_types(self):
+        with Chassis([Port(admit=[SERIAL], cycles=Number(1))], licences=Number(1)) as chassis:
+            self.assertEqual(chassis.frame(Number(0)).number, 0)
+            self.assertEqual(chassis.burst(Number(100_000), ASKS).refusal, Refusal.STRAY)
+            self.assertEqual(chassis.line(Number(1)), f"0 1 burst 100000 {ASKS.hex()} = refused 1 stray")
+
+    def test_octets_of_every_form(self):
+        with opened() as chassis:
+            forms = (ASKS, bytearray(ASKS), memoryview(ASKS), list(ASKS), tuple(ASKS), iter(ASKS), array.array("H", list(ASKS)),
+                     [Number(octet) for octet in ASKS])
+            for number, form in enumerate(forms):
+                chassis.burst(100_000, form)
+                self.assertEqual(chassis.entry(number).event.octets, ASKS)
+
+    def test_what_are_no_octets(self):
+        with opened() as chassis:
+            square = memoryview(ASKS).cast("B", (13, 1))
+            for wrong in (None, 13, Number(13), ASKS.hex(), "0" * 13, [1.0] * 13, [None] * 13, square):
+                self.assert_refused(TypeError, "a burst has 13 octets: ", chassis.burst, 0, wrong)
+                self.assert_refused(TypeError, "overhead has 10 octets: ", opened_with, overhead=wrong)
+            for wrong in ([-1] * 13, [256] * 13, array.array("I", [256] * 13), iter(lambda: 0, 1), ASKS[:12], ASKS + b"0", []):
+                self.assert_refused(ValueError, "a burst has 13 octets", chassis.burst, 0, wrong)
+                self.assert_refused(ValueError, "overhead has 10 octets", opened_with, overhead=wrong)
+            self.assertEqual(chassis.counts().entries, 0)
+
+    def test_serial_numbers(self):
+        with opened() as chassis:
+            for wrong in (None, 5, 1.0, [SERIAL]):
+                told = "a serial number has 8 octets: "
+                self.assert_refused(TypeError, told, chassis.show, wrong)
+                self.assert_refused(TypeError, told, opened_with, admit=[wrong])
+                self.assert_refused(TypeError, told, wagpisud.serial_text, wrong)
+            self.assert_refused(TypeError, "a serial number has 8 octets: ", wagpisud.serial_text, SERIAL)
+            for wrong in (b"", b"ABCD", bytes(9), memoryview(bytes(7)), [256] * 8):
+                told = "a serial number has 8 octets"
+                self.assert_refused(ValueError, told, wagpisud.serial_text, wrong)
+                self.assert_refused(ValueError, told, chassis.command, Command.ENABLE, wrong)
+            for form in (b"ABCD\0\0\0\1", bytearray(b"ABCD\0\0\0\1"), memoryview(b"ABCD\0\0\0\1"), list(b"ABCD\0\0\0\1")):
+                self.assertEqual(chassis.command(Command.DISABLE, form).reply, Reply.DISABLED)
+                self.assertEqual(chassis.entry(chassis.counts().entries - 1).event.serial, SERIAL)
+
+    def test_a_command_for_one_unit_names_it(self):
+        with opened() as chassis:
+            for command in Command:
+                if command in (Command.SEARCH, Command.ENABLE_ALL, Command.POPUP_ALL):
+                    self.assertIsNot(chassis.command(command).reply, Reply.TICKED)
+                    continue
+                entries = chassis.counts().entries
+                for call in (lambda: chassis.command(command),
+                             lambda: chassis.apply(Event(EventKind.COMMAND, command=command))):
+                    self.assert_refused(ValueError, f"{command.name} is for one unit", call)
+                self.assertEqual(chassis.counts().entries, entries)
+
+    def test_other_things_in_their_place(self):
+        with opened() as chassis:
+            for wrong in (None, 5, "frame", chassis, EventKind.FRAME):
+                self.assert_refused(TypeError, "an Event is applied, and not ", chassis.apply, wrong)
+            for wrong in (None, 5, b"0 search"):
+                self.assert_refused(TypeError, "a line is a text, and not ", wagpisud.read_turn, wrong)
+            for wrong in ([None], [5], "ABCD", [[Port()]]):
+                self.assert_refused(TypeError, "a chassis is opened with Ports, and not with ", Chassis, wrong, 1)
+            for wrong in (SERIAL, b"ABCD\0\0\0\1"):
+                self.assert_refused(TypeError, "admit is a list of serial numbers, and not ", opened_with, admit=wrong)
+            for wrong in (None, "SEARCH", -1, 10, 256):
+                self.assert_refused(ValueError, ".* is not a valid Command", chassis.command, wrong)
+            self.assertEqual(chassis.counts().entries, 0)
+
+
+class Handles(unittest.TestCase):
+    def test_a_thread_with_the_number_of_one_that_ended(self):
+        told, made = [], []
+
+        def make():
+            made[:] = opened(), threading.get_ident()
+
+        def use(chassis, number):
+            try:
+                chassis.frame()
+                told.append("used")
+            except RuntimeError:
+                told.append("refused, same number" if number == threading.get_ident() else "refused")
+
+        with warnings.catch_warnings():
+            warnings.simplefilter("ignore", ResourceWarning)
+            for _ in range(100):
+                for call, arguments in ((make, ()), (use, made)):
+                    thread = threading.Thread(target=call, args=arguments)
+                    thread.start()
+                    thread.join()
+                if told[-1] != "refused":
+                    break
+            made.clear()
+        self.assertNotIn("used", told)
+
+    def test_no_other_thread_comes_between(self):
+        with opened() as chassis:
+            told = []
+
+            def use():
+                for _ in range(2000):
+                    try:
+                        told.append(chassis.frame())
+                    except RuntimeError:
+                        pass
+
+            threads = [threading.Thread(target=use) for _ in range(2)]
+            for thread in threads:
+                thread.start()
+            numbers = [chassis.frame().number for _ in range(2000)]
+            for thread in threads:
+                thread.join()
+            self.assertEqual((told, numbers), ([], [*range(2000)]))
+
+    @unittest.skipUnless(hasattr(os, "fork"), "there is no fork here")
+    def test_a_fork_has_its_own(self):
+        with opened() as chassis:
+            chassis.frame()
+            child = os.fork()
+            if child == 0:
+                numbers = [chassis.frame().number, chassis.frame().number]
+                chassis.close()
+                os._exit(numbers != [1, 2])
+            self.assertEqual(os.waitpid(child, 0)[1], 0)
+            self.assertEqual(chassis.frame().number, 1)
+
+    def test_no_copy_is_made(self):
+        with opened() as chassis:
+            for call in (copy.copy, copy.deepcopy, pickle.dumps):
+                with self.assertRaisesRegex(TypeError, "a chassis is neither copied nor pickled"):
+                    call(chassis)
+
+    def test_one_that_is_let_go(self):
+        chassis = opened()
+        handle = chassis._handle
+        with self.assertWarnsRegex(ResourceWarning, "a chassis was let go open"):
+            del chassis
+        self.assertFalse(handle.is_open)
+
+    def test_one_that_is_let_go_on_another_thread(self):
+        kept = [opened()]
+        handle = kept[0]._handle
+        with self.assertWarnsRegex(ResourceWarning, "a chassis was let go open"):
+            thread = threading.Thread(target=kept.clear)
+            thread.start()
+            thread.join()
+        self.assertTrue(handle.is_open)
+
+    def test_one_that_was_closed_is_let_go_in_silence(self):
+        with warnings.catch_warnings():
+            warnings.simplefilter("error")
+            for make in (opened, lambda: opened(max_units=0), lambda: Chassis(None, 1), lambda: Chassis.__new__(Chassis)):
+                with contextlib.suppress(ValueError, TypeError, AttributeError), make():
+                    pass
+
+    def test_memory_stays_flat(self):
+        def reached(rounds):
+            for _ in range(rounds):
+                with opened() as chassis:
+                    ranged(chassis)
+            return resource.getrusage(resource.RUSAGE_SELF).ru_maxrss  # in KiB, on macOS in octets
+
+        early = reached(500)
+        self.assertLess(reached(4500), early * 1.1)
+
+    def test_the_interpreter_ends(self):
+        for text in ("kept = chassis", "kept = [chassis]; kept.append(kept); del chassis", "Chassis.kept = chassis",
+                     "import builtins; builtins.kept = chassis", "import atexit; atexit.register(chassis.close)",
+                     "del chassis", "chassis.close()"):
+            text = f"from wagpisud import Chassis, Port\nchassis = Chassis([Port()], licences=1)\n{text}"
+            ran = subprocess.run([sys.executable, "-B", "-c", text], capture_output=True, text=True, check=False)
+            self.assertEqual((ran.returncode, ran.stdout, ran.stderr), (0, "", ""), text)
+
+
+class Library(unittest.TestCase):
+    def test_what_is_named_is_no_such_library(self):
+        with tempfile.TemporaryDirectory() as folder:
+            text = os.path.join(folder, "text.so")
+            with open(text, "w", encoding="ascii") as file:
+                file.write("no library\n" * 100)
+            for named in (os.path.join(folder, "nowhere.so"), folder, text, _ctypes.__file__):
+                ran = subprocess.run([sys.executable, "-B", "-c", "import wagpisud; wagpisud.Chassis([], licences=1)"],
+                                     env=os.environ | {"WAGPISUD_LIBRARY": named}, capture_output=True, text=True, check=False)
+                self.assertEqual(ran.returncode, 1)
+                self.assertIn(f"wagpisud._library.LibraryMissing: {named}", ran.stderr.splitlines()[-1])
 
 
 class Journal(unittest.TestCase):
@@ -177,11 +424,18 @@ class Lines(unittest.TestCase):
 
     def test_faults_are_told_with_their_line(self):
         for line, status in (("0 serch", Status.LINE_WORD), ("0 frame 1000001", Status.LINE_RANGE),
-                             ("0  search", Status.LINE_SPACE), ("0 burst 0 zz", Status.LINE_HEX)):
+                             ("0  search", Status.LINE_SPACE), ("0 burst 0 zz", Status.LINE_HEX),
+                             ("0 sea\0rch", Status.LINE_WORD), ("0 sea\udcffrch", Status.LINE_WORD)):
             with self.assertRaises(wagpisud.LineFault) as caught:
                 wagpisud.read_turn(line)
             self.assertEqual(caught.exception.status, status)
             self.assertIn(repr(line), str(caught.exception))
+
+    def test_a_long_line_is_told_in_part(self):
+        with self.assertRaises(wagpisud.LineFault) as caught:
+            wagpisud.read_turn("x" * 4097)
+        self.assertEqual(caught.exception.status, Status.LINE_LONG)
+        self.assertRegex(str(caught.exception), r": 'x{200}'\.\.\Z")
 
 
 class Serials(unittest.TestCase):

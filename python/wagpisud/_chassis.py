@@ -2,15 +2,16 @@
 import ctypes as c
 import dataclasses
 import threading
+import warnings
 
 from wagpisud._faults import must
 from wagpisud._library import (AnswerNumbers, CountNumbers, EventNumbers, Handle, PortSettings, SerialOctets, Settings,
                                UnitNumbers, library)
-from wagpisud._values import (Command, Counts, Entry, answer_of, event_numbers, event_of, fits, octets_of, serial_struct,
-                              unit_of)
+from wagpisud._values import (Command, Counts, Entry, answer_of, burst_octets, command_serial, event_numbers, event_of, fits,
+                              octets_of, serial_struct, unit_of)
 
-_NO_SERIAL = bytes(8)
 _LONGEST_LINE = 256
+_threads = threading.local()
 
 
 @dataclasses.dataclass
@@ -27,22 +28,38 @@ class Port:
     overhead: bytes = bytes(10)  # the octets of Upstream_Overhead, which are passed on unread
 
 
-def _port_settings(port):
-    if len(port.overhead) != 10:
-        raise ValueError(f"overhead has 10 octets, and not {len(port.overhead)}")
+def _this_thread():
+    """What stands for this thread and never for another: the system gives its number again once it has ended."""
+    if not hasattr(_threads, "mark"):
+        _threads.mark = object()
+    return _threads.mark
+
+
+def _admitted(port):
+    """The serial numbers that a port admits."""
+    if not isinstance(port, Port):
+        raise TypeError(f"a chassis is opened with Ports, and not with {type(port).__name__}")
+    if isinstance(port.admit, (str, bytes, bytearray, memoryview)):
+        raise TypeError(f"admit is a list of serial numbers, and not {type(port.admit).__name__}")
+    return [serial_struct(serial) for serial in port.admit]
+
+
+def _port_settings(port, admitted):
     return PortSettings(teqd=fits("teqd", port.teqd, 4), search_period=fits("search_period", port.search_period, 4),
-                        admitted=len(port.admit), alloc_last=fits("alloc_last", port.alloc_last, 2),
+                        admitted=admitted, alloc_last=fits("alloc_last", port.alloc_last, 2),
                         quarantine=fits("quarantine", port.quarantine, 2), is_masked=bool(port.is_masked),
                         max_units=fits("max_units", port.max_units, 1), cycles=fits("cycles", port.cycles, 1),
-                        overhead=(c.c_uint8 * 10)(*bytes(port.overhead)))
+                        overhead=(c.c_uint8 * 10)(*octets_of("overhead", port.overhead, 10)))
 
 
 class Chassis:
-    """A chassis of 1 to 16 ports. It is closed by `close`, or at the end of its `with`.
+    """A chassis of 1 to 16 ports. It is closed by `close`, or at the end of its `with`. One that is let go open is closed
+    where that happens on its thread, with a ResourceWarning. It is neither copied nor pickled; behind os.fork each process has
+    one of its own.
 
-    Each call raises RuntimeError on another thread than the one that opened it, ValueError where a number doesn't fit its
-    type in wagpisud.h, ChassisClosed behind `close`, and NoPort where the chassis has no such port; what else it may raise is
-    said there. Nothing is changed by a call that raises."""
+    Each call raises RuntimeError on another thread than the one that opened it, TypeError where a number is no integer,
+    ValueError where it doesn't fit its type in wagpisud.h, ChassisClosed behind `close`, and NoPort where the chassis has no
+    such port; what else it may raise is said there. Nothing is changed by a call that raises."""
 
     def __init__(self, ports, licences, journal_limit=4096):
         """Opens it, each port without units. `licences`, at most 4064, are the active units that it may have on all ports
@@ -50,12 +67,14 @@ class Chassis:
         serial number or a number doesn't fit; LimitFault, which is a ValueError too, where a number is outside its range or a
         serial number is admitted twice. NoMemory."""
         ports = list(ports)
-        serials = [serial_struct(serial) for port in ports for serial in port.admit]
+        admitted = [_admitted(port) for port in ports]
+        serials = [serial for some in admitted for serial in some]
+        each = [_port_settings(port, len(some)) for port, some in zip(ports, admitted)]
         settings = Settings(fits("licences", licences, 4), fits("journal_limit", journal_limit, 4))
         self._library = library()
+        self._thread = _this_thread()
         self._handle = Handle()
-        self._thread = threading.get_ident()
-        must(self._library.wp_open(self._handle, settings, (PortSettings * len(ports))(*map(_port_settings, ports)), len(ports),
+        must(self._library.wp_open(self._handle, settings, (PortSettings * len(each))(*each), len(each),
                                    (SerialOctets * len(serials))(*serials), len(serials)))
 
     def __enter__(self):
@@ -65,8 +84,17 @@ class Chassis:
         if self._handle.is_open:
             self.close()
 
+    def __del__(self):
+        if getattr(self, "_handle", None) and self._handle.is_open:
+            if _this_thread() is self._thread:
+                self.close()
+            warnings.warn("a chassis was let go open", ResourceWarning, source=self)
+
+    def __reduce__(self):
+        raise TypeError("a chassis is neither copied nor pickled")
+
     def _call(self, name, *arguments):
-        if threading.get_ident() != self._thread:
+        if _this_thread() is not self._thread:
             raise RuntimeError("a chassis is used on the thread that opened it")
         must(getattr(self._library, name)(self._handle, *arguments))
 
@@ -82,12 +110,14 @@ class Chassis:
     def burst(self, at, octets, port=0):
         """Thirteen octets arrive from a unit, `at` bit times after their grant: the whole measured round-trip delay, without
         the unit's equalization delay. JournalFull, NoMemory; ValueError where they aren't thirteen, or `at` doesn't fit."""
-        return self._answer("wp_burst", fits("port", port, 1), fits("at", at, 4), octets_of(octets))
+        return self._answer("wp_burst", fits("port", port, 1), fits("at", at, 4), burst_octets(octets))
 
-    def command(self, command, serial=_NO_SERIAL, alloc=0, port=0):
+    def command(self, command, serial=None, alloc=0, port=0):
         """The operator asks for something. SEARCH, ENABLE_ALL and POPUP_ALL look at no serial number, and DEALLOC alone at
-        an Alloc-ID. JournalFull, NoMemory; ValueError where the serial number or the kind isn't one."""
-        return self._answer("wp_command", fits("port", port, 1), Command(command), serial_struct(serial),
+        an Alloc-ID. JournalFull, NoMemory; ValueError where the serial number or the kind isn't one, or another command
+        has no serial number."""
+        command = Command(command)
+        return self._answer("wp_command", fits("port", port, 1), command, command_serial(command, serial),
                             fits("alloc", alloc, 2))
 
     def search(self, port=0):

@@ -60,7 +60,7 @@ def _places():
         yield named
         return
     for folder in pathlib.Path(__file__).resolve().parents:
-        if (folder / NAME).is_file():
+        if os.path.isfile(folder / NAME):  # False, and no fault, where the folder can't be looked into
             yield str(folder / NAME)
     found = ctypes.util.find_library("wagpisud")
     if found:
@@ -77,8 +77,10 @@ def library():
                 call = getattr(loaded, name)
                 call.argtypes = arguments
                 call.restype = c.c_size_t if name == "wp_text" else c.c_uint32
-        except (OSError, AttributeError) as error:
+        except (OSError, UnicodeError) as error:  # the second where its name is no text, and it isn't there
             raise LibraryMissing(str(error)) from error
+        except AttributeError as error:
+            raise LibraryMissing(f"{place} is another library, or another version of this one: {error}") from error
         return loaded
     raise LibraryMissing(f"{NAME} was not found: tools/install PREFIX puts it into PREFIX/lib; WAGPISUD_LIBRARY names another"
                          " file")

@@ -8,6 +8,9 @@ from wagpisud._library import AskedNumbers, library
 from wagpisud._values import Event, Grant, event_of
 
 
+_SHOWN = 200  # so many characters of a line are told with its fault
+
+
 class Turn(enum.IntEnum):
     """The kinds of turns (wp_turn_kind)."""
     NOTHING = 0
@@ -33,8 +36,10 @@ class Asked:
 
 def read_turn(line):
     """Reads a line, without its line feed. LineFault tells its first fault."""
-    text, asked = line.encode("utf-8"), AskedNumbers()
-    must(library().wp_turn(text, len(text), c.byref(asked)), f": {line!r}")
+    if not isinstance(line, str):
+        raise TypeError(f"a line is a text, and not {type(line).__name__}")
+    text, asked = line.encode("utf-8", "surrogatepass"), AskedNumbers()
+    must(library().wp_turn(text, len(text), c.byref(asked)), f": {line[:_SHOWN]!r}{'..' if len(line) > _SHOWN else ''}")
     kind = Turn(asked.kind)
     return Asked(kind, port=asked.port, event=event_of(asked.event) if kind is Turn.EVENT else None, count=asked.count,
                  grant=Grant(asked.grant), grant_onu=asked.grant_onu, unit=asked.unit, is_lit=bool(asked.is_lit))

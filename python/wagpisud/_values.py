@@ -2,6 +2,8 @@
 import ctypes as c
 import dataclasses
 import enum
+import itertools
+import operator
 import re
 
 from wagpisud._library import EventNumbers, SerialOctets
@@ -97,19 +99,36 @@ _VENDOR = b"ABCDEFGHIJKLMNOPQRSTUVWXYZ0123456789"
 
 
 def fits(name, number, octets):
-    """The number, if so many octets hold it. ValueError where they don't."""
-    if not 0 <= number < 1 << 8 * octets:
-        raise ValueError(f"{name} is {number}, and not between 0 and {(1 << 8 * octets) - 1}")
-    return number
+    """The number as an int, if so many octets hold it. TypeError where it is no integer, ValueError where they don't."""
+    try:
+        whole = operator.index(number)
+    except TypeError:
+        raise TypeError(f"{name} is an integer, and not {type(number).__name__}") from None
+    if not 0 <= whole < 1 << 8 * octets:
+        told = whole if whole.bit_length() <= 64 else f"a number of {whole.bit_length()} bits"
+        raise ValueError(f"{name} is {told}, and not between 0 and {(1 << 8 * octets) - 1}")
+    return whole
+
+
+def octets_of(name, octets, count):
+    """So many octets, of bytes or of integers. TypeError where they aren't any, ValueError where they are more or fewer, or
+    one is outside 0 to 255."""
+    try:
+        taken = bytes(itertools.islice(octets, count + 1))
+    except (TypeError, NotImplementedError) as error:  # the second of a memoryview of more than one dimension
+        raise TypeError(f"{name} has {count} octets: {error}") from None
+    except ValueError as error:
+        raise ValueError(f"{name} has {count} octets: {error}") from None
+    if len(taken) != count:
+        raise ValueError(f"{name} has {count} octets, and not {'more' if len(taken) > count else len(taken)}")
+    return taken
 
 
 def serial_octets(serial):
     """The eight octets of a serial number: of "ABCD00000001", of sixteen hexadecimal digits, or of eight octets.
-    ValueError for any other text or number of octets."""
-    if isinstance(serial, (bytes, bytearray)):
-        if len(serial) != 8:
-            raise ValueError(f"a serial number has 8 octets, and not {len(serial)}")
-        return bytes(serial)
+    ValueError for any other text or number of octets, TypeError for what is neither."""
+    if not isinstance(serial, str):
+        return octets_of("a serial number", serial, 8)
     if not _SERIAL.fullmatch(serial):
         raise ValueError(f"{serial!r} is no serial number: four of A to Z or 0 to 9 and eight hexadecimal digits, or sixteen"
                          " hexadecimal digits")
@@ -118,8 +137,8 @@ def serial_octets(serial):
 
 def serial_text(octets):
     """A serial number as traces write it: its vendor and eight digits where the vendor is four of A to Z or 0 to 9, else
-    sixteen digits."""
-    octets = bytes(octets)
+    sixteen digits. ValueError where they aren't eight."""
+    octets = octets_of("a serial number", octets, 8)
     vendor, number = octets[:4], octets[4:]
     if all(octet in _VENDOR for octet in vendor):
         return vendor.decode("ascii") + number.hex().upper()
@@ -220,25 +239,31 @@ def event_of(numbers):
                  alloc=numbers.alloc)
 
 
-def octets_of(octets):
-    """Thirteen octets as ctypes has them. ValueError where they are more or fewer."""
-    if len(octets) != 13:
-        raise ValueError(f"a burst has 13 octets, and not {len(octets)}")
-    return (c.c_uint8 * 13)(*bytes(octets))
+def burst_octets(octets):
+    """Thirteen octets as ctypes has them."""
+    return (c.c_uint8 * 13)(*octets_of("a burst", octets, 13))
+
+
+def command_serial(command, serial):
+    """The serial number of a command as ctypes has it. ValueError where the command is for a unit and none is given."""
+    if serial is None and command in _WITH_SERIAL:
+        raise ValueError(f"{command.name} is for one unit, and no serial number is given")
+    return serial_struct(bytes(8) if serial is None else serial)
 
 
 def event_numbers(event):
+    if not isinstance(event, Event):
+        raise TypeError(f"an Event is applied, and not {type(event).__name__}")
     kind = EventKind(event.kind)
     if kind is EventKind.BURST and event.octets is None:
         raise ValueError("a burst has 13 octets, and not none")
     if kind is EventKind.COMMAND and event.command is None:
         raise ValueError("an event of a command has a command")
-    numbers = EventNumbers(at=fits("at", event.at, 4), alloc=fits("alloc", event.alloc, 2), kind=kind,
-                           command=0 if event.command is None else Command(event.command))
+    command = None if event.command is None else Command(event.command)
+    numbers = EventNumbers(at=fits("at", event.at, 4), alloc=fits("alloc", event.alloc, 2), kind=kind, command=command or 0,
+                           serial=command_serial(command, event.serial).octets)
     if event.octets is not None:
-        numbers.octets = octets_of(event.octets)
-    if event.serial is not None:
-        numbers.serial = (c.c_uint8 * 8)(*serial_octets(event.serial))
+        numbers.octets = burst_octets(event.octets)
     return numbers
 
 
