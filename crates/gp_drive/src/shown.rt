@@ -43,7 +43,7 @@ fn put_dark_if<W: Write>(sink: &mut Sink<W>, is_lit: bool) -> Result<(), WriteSt
 }
 
 /// Puts whether a unit is dark, which ends its line.
-fn put_light<W: Write>(sink: &mut Sink<W>, is_lit: bool) -> Result<(), WriteStopped>
+fn put_whether_dark<W: Write>(sink: &mut Sink<W>, is_lit: bool) -> Result<(), WriteStopped>
     ensures { HandsIn sink.old sink.new (dark_if is_lit ++ codes "\n") result }
 {
     put_dark_if(sink, is_lit)?;
@@ -55,7 +55,7 @@ fn put_eqd<W: Write>(sink: &mut Sink<W>, eqd: Option<u32>, is_lit: bool) -> Resu
     ensures { HandsIn sink.old sink.new (number_if (codes " eqd ") eqd ++ (dark_if is_lit ++ codes "\n")) result }
 {
     put_number_if(sink, b" eqd ", eqd)?;
-    put_light(sink, is_lit)
+    put_whether_dark(sink, is_lit)
 }
 
 /// The same number in a wider type, where there is one.

@@ -277,13 +277,11 @@ fn driven_by<B: Began, T: Read + Drop, W: Write + Drop>(
     };
     let mut turns = Source::endless(lines);
     let form = SummaryForm::Text;
-    let DriveSummed {
-        driven,
-        summary,
-        counting,
-    } = drive_summed::<B, T, W>(alloc, manner, script, form, &mut turns, writer)?;
+    let DriveSummed { ended, counting } = drive_summed::<B, T, W>(
+        alloc, manner, script, form, &mut turns, writer,
+    )?;
     let (writer, _) = counting.into_parts();
-    Ok((driven, summary, writer))
+    Ok((ended.driven, ended.summary, writer))
 }
 
 /// Drives the script of a text with a writer.

@@ -13,20 +13,20 @@ use Rattle.gp_verify.specs.Following.{Following, Follows, JudgesLine, TakesFrom,
 use Rattle.gp_verify.specs.Report.{Reports}
 use Rattle.gp_verify.specs.Verdicts.{Judges, VerifyState, ending}
 use Rattle.gp_verify.proofs.FollowingLemmas.{told_line}
-use Rattle.gp_summed.specs.Verifying.{AccountState, Accounts, Counts, CountsFrom, counted_of, is_over, said_by}
+use Rattle.gp_summed.specs.Verifying.{CountingVerifyState, JudgesCounting, Counts, CountsFrom, counted_of, is_over, said_by}
 
 -- ---- as a verifier that doesn't count
 
-pub as_verified : (ls : List (Option (List ℕ))) (old new : AccountState) (said : List ℕ) → DoesAll Accounts old ls said new → DoesAll Following old.verify ls said new.verify
-as_verified [] old new said h = (h.0, ap (λ (s : AccountState). s.verify) h.1)
+pub as_verified : (ls : List (Option (List ℕ))) (old new : CountingVerifyState) (said : List ℕ) → DoesAll JudgesCounting old ls said new → DoesAll Following old.verify ls said new.verify
+as_verified [] old new said h = (h.0, ap (λ (s : CountingVerifyState). s.verify) h.1)
 as_verified (l ∷ ls) old new said h = (h.0, h.1, h.2.verify, h.3.follows, as_verified ls h.2 new h.1 h.4, h.5)
 
 -- ---- what was counted
 
 -- behind its end nothing more is counted
-pub still : (ls : List (Option (List ℕ))) (old new : AccountState) (said : List ℕ) (why : Verdict) → old.verify.ended ≡ Some why → DoesAll Accounts old ls said new
+pub still : (ls : List (Option (List ℕ))) (old new : CountingVerifyState) (said : List ℕ) (why : Verdict) → old.verify.ended ≡ Some why → DoesAll JudgesCounting old ls said new
     → (new.verify ≡ old.verify) × (new.counter.taken ≡ old.counter.taken)
-still [] old new said why is h = (ap (λ (s : AccountState). s.verify) h.1, ap (λ (s : AccountState). s.counter.taken) h.1)
+still [] old new said why is h = (ap (λ (s : CountingVerifyState). s.verify) h.1, ap (λ (s : CountingVerifyState). s.counter.taken) h.1)
 still (l ∷ ls) old new said why is h =
     let same : h.2.verify ≡ old.verify = subst (λ (e : Option Verdict). TakesFrom e old.verify l h.2.verify) is h.3.follows.1 in
     let taken : h.2.counter.taken ≡ old.counter.taken = subst (λ (e : Option Verdict). CountsFrom e old l h.2) is h.3.counted in
@@ -34,19 +34,19 @@ still (l ∷ ls) old new said why is h =
     (rest.0 ∙ same, rest.1 ∙ taken)
 
 -- a line was counted, and it goes on behind it
-pub record GoesOn (line : List ℕ) (old new : AccountState) : Type 0 where
+pub record GoesOn (line : List ℕ) (old new : CountingVerifyState) : Type 0 where
   pub ended : new.verify.ended ≡ None
   pub lines : new.verify.lines ≡ old.verify.lines + 1
   pub taken : new.counter.taken ≡ old.counter.taken ++ (line ++ codes "\n")
 
 -- or it ended there
-pub record EndsThere (old new : AccountState) : Type 0 where
+pub record EndsThere (old new : CountingVerifyState) : Type 0 where
   pub why : Verdict
   pub ended : new.verify.ended ≡ Some why
   pub lines : new.verify.lines ≡ old.verify.lines + 1
   pub taken : new.counter.taken ≡ old.counter.taken ++ said_by why new.verify.said
 
-line_judged : (line text told : List ℕ) (old new : AccountState) (found : Option Verdict) → new.verify.ended ≡ found → line ≡ text → JudgesLine old.verify text new.verify
+line_judged : (line text told : List ℕ) (old new : CountingVerifyState) (found : Option Verdict) → new.verify.ended ≡ found → line ≡ text → JudgesLine old.verify text new.verify
     → new.counter.taken ≡ old.counter.taken ++ counted_of new.verify.ended text new.verify.said → GoesOn line old new ⊎ EndsThere old new
 line_judged line text told old new None is same j taken = inl (record {
   ended = is;
@@ -60,7 +60,7 @@ line_judged line text told old new (Some why) is same j taken = inr (record {
   taken = taken ∙ ap (λ (e : Option Verdict). old.counter.taken ++ counted_of e text new.verify.said) is;
 })
 
-line_taken : (limit : ℕ) (line told : List ℕ) (old new : AccountState) (handed_on : Option (List ℕ)) → handed limit line ≡ handed_on → TakesFrom None old.verify handed_on new.verify
+line_taken : (limit : ℕ) (line told : List ℕ) (old new : CountingVerifyState) (handed_on : Option (List ℕ)) → handed limit line ≡ handed_on → TakesFrom None old.verify handed_on new.verify
     → CountsFrom None old handed_on new → GoesOn line old new ⊎ EndsThere old new
 line_taken limit line told old new None is long same = inr (record {
   why = verdict.TooLong;
@@ -71,7 +71,7 @@ line_taken limit line told old new None is long same = inr (record {
 line_taken limit line told old new (Some text) is j taken = line_judged line text told old new new.verify.ended refl (handed_whole limit line text is) j taken
 
 -- behind a line, where it had not ended before
-pub line_counted : (limit : ℕ) (line told : List ℕ) (old new : AccountState) → old.verify.ended ≡ None → Counts old (handed limit line) told new → GoesOn line old new ⊎ EndsThere old new
+pub line_counted : (limit : ℕ) (line told : List ℕ) (old new : CountingVerifyState) → old.verify.ended ≡ None → Counts old (handed limit line) told new → GoesOn line old new ⊎ EndsThere old new
 line_counted limit line told old new none c =
     line_taken limit line told old new (handed limit line) refl (subst (λ (e : Option Verdict). TakesFrom e old.verify (handed limit line) new.verify) none c.follows.1)
     (subst (λ (e : Option Verdict). CountsFrom e old (handed limit line) new) none c.counted)
@@ -83,9 +83,9 @@ same_verdict : (v w : Verdict) → Some v ≡ Some w → v ≡ w
 same_verdict v w h = cc
 
 -- where it goes on behind lines, each of them was counted
-pub lines_counted : (limit : ℕ) (ls : List (List ℕ)) (old new : AccountState) (said : List ℕ) → old.verify.ended ≡ None → DoesAll Accounts old (map (handed limit) ls) said new
+pub lines_counted : (limit : ℕ) (ls : List (List ℕ)) (old new : CountingVerifyState) (said : List ℕ) → old.verify.ended ≡ None → DoesAll JudgesCounting old (map (handed limit) ls) said new
     → new.verify.ended ≡ None → new.counter.taken ≡ old.counter.taken ++ with_feeds ls
-lines_counted limit [] old new said none h on = ap (λ (s : AccountState). s.counter.taken) h.1 ∙ sym (append-nil old.counter.taken)
+lines_counted limit [] old new said none h on = ap (λ (s : CountingVerifyState). s.counter.taken) h.1 ∙ sym (append-nil old.counter.taken)
 lines_counted limit (l ∷ ls) old new said none h on =
     elim (line_counted limit l h.0 old h.2 none h.3) [
       | inl first ↦ lines_counted limit ls h.2 new h.1 first.ended h.4 on ∙ ap (λ (t : List ℕ). t ++ with_feeds ls) first.taken ∙ append_assoc old.counter.taken (l ++ codes "\n") (with_feeds ls)
@@ -95,7 +95,7 @@ lines_counted limit (l ∷ ls) old new said none h on =
     ]
 
 -- the lines before the one that ended it, and what was counted of them and in its place
-pub record CountedTo (ls : List (List ℕ)) (old new : AccountState) (why : Verdict) : Type 0 where
+pub record CountedTo (ls : List (List ℕ)) (old new : CountingVerifyState) (why : Verdict) : Type 0 where
   pub before : List (List ℕ)
   pub text : List ℕ
   pub others : List (List ℕ)
@@ -106,9 +106,9 @@ pub record CountedTo (ls : List (List ℕ)) (old new : AccountState) (why : Verd
 one_more : (a b n m k : ℕ) → a ≡ b + (n + 1) → b ≡ k + 1 → m ≡ n + 1 → a ≡ k + (m + 1)
 one_more a b n m k h i j = omega arith
 
-pub counted_to : (limit : ℕ) (ls : List (List ℕ)) (old new : AccountState) (said : List ℕ) (why : Verdict) → old.verify.ended ≡ None → new.verify.ended ≡ Some why
-    → DoesAll Accounts old (map (handed limit) ls) said new → CountedTo ls old new why
-counted_to limit [] old new said why none is h = some_none why (sym is ∙ ap (λ (s : AccountState). s.verify.ended) h.1 ∙ none)
+pub counted_to : (limit : ℕ) (ls : List (List ℕ)) (old new : CountingVerifyState) (said : List ℕ) (why : Verdict) → old.verify.ended ≡ None → new.verify.ended ≡ Some why
+    → DoesAll JudgesCounting old (map (handed limit) ls) said new → CountedTo ls old new why
+counted_to limit [] old new said why none is h = some_none why (sym is ∙ ap (λ (s : CountingVerifyState). s.verify.ended) h.1 ∙ none)
 counted_to limit (l ∷ ls) old new said why none is h =
     elim (line_counted limit l h.0 old h.2 none h.3) [
       | inl first ↦
@@ -149,7 +149,7 @@ counted_by verdict.WrongNumber text before after said taken line = taken
 counted_by verdict.NotAStep text before after said taken line = taken
 counted_by verdict.TooLong text before after said taken line = taken
 
-module _ (old new : AccountState) (text : List ℕ) where
+module _ (old new : CountingVerifyState) (text : List ℕ) where
   counts_line : (told : List ℕ) (why : Verdict) → Follows old.verify (Some text) told new.verify → old.verify.ended ≡ None → new.verify.ended ≡ ending why
       → new.counter.taken ≡ old.counter.taken ++ said_by why new.verify.said → (why ≡ verdict.Follows → new.verify.said ≡ text ++ codes "\n") → Counts old (Some text) told new
   counts_line told why follows none ends taken line = record {
@@ -178,8 +178,8 @@ module _ (old new : AccountState) (text : List ℕ) where
 
 -- ---- a text
 
-module _ {R W : Type 0} (from to : SourceState R) (old new : AccountState) (before after : SinkState W) (limit : ℕ) where
-  pub served : (end : LinesEnd) → ServesTo Accounts is_over limit end from to old new before after
+module _ {R W : Type 0} (from to : SourceState R) (old new : CountingVerifyState) (before after : SinkState W) (limit : ℕ) where
+  pub served : (end : LinesEnd) → ServesTo JudgesCounting is_over limit end from to old new before after
       → ServesTo Following has_ended limit end from to old.verify new.verify before after
   served Whole s = record {
     bytes = s.bytes;

@@ -17,7 +17,7 @@ use Rattle.gp_verify.specs.Ports.{IsOrderlyPort}
 use Rattle.gp_verify.specs.Tells.{IsTraceText}
 use Rattle.gp_verify.specs.Verdicts.{VerifyState}
 use Rattle.gp_verify.proofs.OutcomeLemmas.{verified_as}
-use Rattle.gp_summed.specs.Verifying.{AccountState, Accounts, CountsText, is_over, said_by}
+use Rattle.gp_summed.specs.Verifying.{CountingVerifyState, JudgesCounting, CountsText, is_over, said_by}
 use Rattle.gp_summed.proofs.CountedLines.{CountedTo, counted_to, lines_counted, served}
 
 -- ---- lists
@@ -179,7 +179,7 @@ same_number a b line lines was h i j k = omega arith
 never : {P : Type 0} → false ≡ true → P
 never h = absurd (cc)
 
-module _ {R W : Type 0} (from to : SourceState R) (old new : AccountState) (before after : SinkState W) (ports : All IsOrderlyPort old.verify.play.world.ports) (none : old.verify.ended ≡ None)
+module _ {R W : Type 0} (from to : SourceState R) (old new : CountingVerifyState) (before after : SinkState W) (ports : All IsOrderlyPort old.verify.play.world.ports) (none : old.verify.ended ≡ None)
     (first : old.verify.lines ≡ 0) (nothing : old.counter.taken ≡ []) where
   abbrev told_from : List ℕ → SourceState R
   told_from bytes = telling from (bytes ++ rest_of to.remaining)
@@ -208,39 +208,39 @@ module _ {R W : Type 0} (from to : SourceState R) (old new : AccountState) (befo
         from_nothing (with_feeds c.before ++ said_by why new.verify.said) c.taken ∙ ap (λ (b : List (List ℕ)). with_feeds b ++ said_by why new.verify.said) lines,
       )
 
-  all_counted : (bytes said : List ℕ) → new.verify.ended ≡ None → DoesAll Accounts old (map (handed longest_line) (lines_of bytes)) said new → new.counter.taken ≡ with_feeds (lines_of bytes)
+  all_counted : (bytes said : List ℕ) → new.verify.ended ≡ None → DoesAll JudgesCounting old (map (handed longest_line) (lines_of bytes)) said new → new.counter.taken ≡ with_feeds (lines_of bytes)
   all_counted bytes said on spoken = from_nothing (with_feeds (lines_of bytes)) (lines_counted longest_line (lines_of bytes) old new said none spoken on)
 
-  text_counts : (end : LinesEnd) (ended : Option Verdict) → new.verify.ended ≡ ended → ServesTo Accounts is_over longest_line end from to old new before after
+  text_counts : (end : LinesEnd) (ended : Option Verdict) → new.verify.ended ≡ ended → ServesTo JudgesCounting is_over longest_line end from to old new before after
       → CountsText old.verify new.verify from to (finding end ended new.verify.lines) new.counter.taken
   text_counts Whole None is s =
       let r = verified_as (told_from s.bytes) told_to old.verify new.verify before after Whole None new.verify.lines (finding Whole None new.verify.lines) (sym is) refl refl ports none first
-      (served (told_from s.bytes) told_to old new before after longest_line Whole (told_all Accounts longest_line from to old new before after true s)) in
+      (served (told_from s.bytes) told_to old new before after longest_line Whole (told_all JudgesCounting longest_line from to old new before after true s)) in
       run_of from to old.verify new.verify s.bytes new.counter.taken s.read.consumed new.verify.lines s.read (all_counted s.bytes s.said is s.spoken ∙ sym (s.feeds.0 refl)) r.verified.0
   text_counts Whole (Some why) is s =
       refused_counts why s.bytes (lines_of s.bytes) [] is s.read.consumed (sym (append-nil (lines_of s.bytes))) (counted_to longest_line (lines_of s.bytes) old new s.said why none is s.spoken)
       (verified_as (told_from s.bytes) told_to old.verify new.verify before after Whole (Some why) new.verify.lines (finding Whole (Some why) new.verify.lines) (sym is) refl refl ports none first
-      (served (told_from s.bytes) told_to old new before after longest_line Whole (told_all Accounts longest_line from to old new before after true s)))
+      (served (told_from s.bytes) told_to old new before after longest_line Whole (told_all JudgesCounting longest_line from to old new before after true s)))
   text_counts Open None is s =
       let r = verified_as (told_from s.bytes) told_to old.verify new.verify before after Open None new.verify.lines (finding Open None new.verify.lines) (sym is) refl refl ports none first
-      (served (told_from s.bytes) told_to old new before after longest_line Open (told_all Accounts longest_line from to old new before after false s)) in
+      (served (told_from s.bytes) told_to old new before after longest_line Open (told_all JudgesCounting longest_line from to old new before after false s)) in
       unended_of from to old.verify new.verify s.bytes new.counter.taken s.read.consumed new.verify.lines s.read
       (all_counted s.bytes s.said is s.spoken ∙ open_text s.bytes (λ e. never (s.feeds.1 e))) r.verified.0
   text_counts Open (Some why) is s =
       refused_counts why s.bytes (lines_of s.bytes) [] is s.read.consumed (sym (append-nil (lines_of s.bytes))) (counted_to longest_line (lines_of s.bytes) old new s.said why none is s.spoken)
       (verified_as (told_from s.bytes) told_to old.verify new.verify before after Open (Some why) new.verify.lines (finding Open (Some why) new.verify.lines) (sym is) refl refl ports none first
-      (served (told_from s.bytes) told_to old new before after longest_line Open (told_all Accounts longest_line from to old new before after false s)))
+      (served (told_from s.bytes) told_to old new before after longest_line Open (told_all JudgesCounting longest_line from to old new before after false s)))
   text_counts Over None is s = never (ap is_some (sym is) ∙ s.1)
   text_counts Over (Some why) is s =
       let e = ended_first s.0.bytes [] in
       refused_counts why s.0.bytes (ended_lines s.0.bytes) e.0 is s.0.read (ap lines_of (sym (append-nil s.0.bytes)) ∙ e.1)
       (counted_to longest_line (ended_lines s.0.bytes) old new s.0.said why none is s.0.spoken)
       (verified_as (told_from s.0.bytes) told_to old.verify new.verify before after Over (Some why) new.verify.lines (finding Over (Some why) new.verify.lines) (sym is) refl refl ports none first
-      (served (told_from s.0.bytes) told_to old new before after longest_line Over (told_ended Accounts longest_line from to old new before after s.0, s.1)))
+      (served (told_from s.0.bytes) told_to old new before after longest_line Over (told_ended JudgesCounting longest_line from to old new before after s.0, s.1)))
 
   -- what was counted of a text, by what was found of it
   pub counted_as : (end : LinesEnd) (found : Option Verdict) (line : ℕ) (answer : Result ℕ VerifyFault) → found ≡ new.verify.ended → line ≡ new.verify.lines → answer ≡ finding end found line
-      → ServesTo Accounts is_over longest_line end from to old new before after → CountsText old.verify new.verify from to answer new.counter.taken
+      → ServesTo JudgesCounting is_over longest_line end from to old new before after → CountsText old.verify new.verify from to answer new.counter.taken
   counted_as end found line answer is many same s =
       let told : answer ≡ finding end new.verify.ended new.verify.lines = same ∙ ap (λ (f : Option Verdict). finding end f line) is ∙ ap (λ (n : ℕ). finding end new.verify.ended n) many in
       subst (λ (a : Result ℕ VerifyFault). CountsText old.verify new.verify from to a new.counter.taken) (sym told) (text_counts end new.verify.ended refl s)

@@ -36,7 +36,7 @@ use Rattle.gp_verify.specs.Verdicts.{VerifyState}
 -- ---- what is counted
 
 -- where it stands: the verifier, and the counter of its entries
-pub record AccountState : Type 0 where
+pub record CountingVerifyState : Type 0 where
   pub verify : VerifyState
   pub counter : CounterState
 
@@ -64,22 +64,22 @@ counted_of (Some why) text said = said_by why said
 
 -- what was counted with a line, by what ended the verification before: nothing behind its end, nor of a line that is
 -- too long
-abbrev pub CountsFrom : Option Verdict → AccountState → Option (List ℕ) → AccountState → Type 0
+abbrev pub CountsFrom : Option Verdict → CountingVerifyState → Option (List ℕ) → CountingVerifyState → Type 0
 CountsFrom (Some why) old line new = new.counter.taken ≡ old.counter.taken
 CountsFrom None old None new = new.counter.taken ≡ old.counter.taken
 CountsFrom None old (Some text) new =
     new.counter.taken ≡ old.counter.taken ++ counted_of new.verify.ended text new.verify.said
 
 -- a line is judged and told of as it is without counting, and that is counted of it
-pub record Counts (old : AccountState) (line : Option (List ℕ)) (told : List ℕ) (new : AccountState) : Type 0 where
+pub record Counts (old : CountingVerifyState) (line : Option (List ℕ)) (told : List ℕ) (new : CountingVerifyState) : Type 0 where
   pub follows : following.Follows old.verify line told new.verify
   pub counted : CountsFrom old.verify.ended old line new
 
-abbrev pub Accounts : Speech AccountState
-Accounts = WholeLines Counts
+abbrev pub JudgesCounting : Speech CountingVerifyState
+JudgesCounting = WholeLines Counts
 
 -- it has ended
-abbrev pub is_over : AccountState → Bool
+abbrev pub is_over : CountingVerifyState → Bool
 is_over state = is_some state.verify.ended
 
 -- what was found of a text, and what was counted of it: of a run the whole text; of one without its last line feed the

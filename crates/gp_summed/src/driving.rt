@@ -18,14 +18,21 @@ use std::io::{Read, Write};
 use std::marker::Brand;
 use std::sync::ledger::{Blank, Ledger};
 
-/// A drive that ended, and the writer that its answers went to.
+/// How a drive ended, and its summary.
 #[derive(Drop)]
-pub struct DriveSummed<B: Began, W: Write> {
+pub struct DriveEnded {
     /// How many lines there were, or why not all were answered.
     pub driven: Result<Driven, DriveFault>,
     /// The lines that tell of ports and units, an error where memory was refused for them; nothing where not all lines
     /// were answered.
     pub summary: Option<Result<Vec<u8>, AllocError>>,
+}
+
+/// A drive that ended, and the writer that its answers went to.
+#[derive(Drop)]
+pub struct DriveSummed<B: Began, W: Write> {
+    /// How it ended.
+    pub ended: DriveEnded,
     /// The writer, with its counter.
     pub counting: Counting<B, W>,
 }
@@ -36,19 +43,23 @@ fn summed<B: Began, W: Write>(
     summary: Result<Vec<u8>, AllocError>,
     counting: Counting<B, W>,
 ) -> DriveSummed<B, W>
-    ensures driven { result.driven ≡ told driven }
-    ensures summary { result.summary ≡ summary_if driven summary }
+    ensures driven { result.ended.driven ≡ told driven }
+    ensures summary { result.ended.summary ≡ summary_if driven summary }
     ensures counting { result.counting ≡ counting }
 {
     match driven {
         Ok(driven) => DriveSummed {
-            driven: Ok(driven),
-            summary: Some(summary),
+            ended: DriveEnded {
+                driven: Ok(driven),
+                summary: Some(summary),
+            },
             counting,
         },
         Err(fault) => DriveSummed {
-            driven: Err(DriveFault::Turns(fault)),
-            summary: None,
+            ended: DriveEnded {
+                driven: Err(DriveFault::Turns(fault)),
+                summary: None,
+            },
             counting,
         },
     }
@@ -72,9 +83,9 @@ fn sum_chassis<B: Began, L: Ledger, T: Read, W: Write + Drop>(
     requires ports { B.ports ≡ length script.ports.items }
     requires fresh { IsFresh sink }
     requires flushed { sink.flushed ≡ true }
-    ensures drives { DrivesSummed form manner (script_view script) turns.old turns.new result.counting result.driven
-        result.summary }
-    ensures there { IsOk result.driven ↔ (is_some result.summary ≡ true) }
+    ensures drives { DrivesSummed form manner (script_view script) turns.old turns.new result.counting
+        result.ended.driven result.ended.summary }
+    ensures there { IsOk result.ended.driven ↔ (is_some result.ended.summary ≡ true) }
 {
     let licences = script.licences;
     let mut sink = sink;
@@ -89,8 +100,10 @@ fn sum_chassis<B: Began, L: Ledger, T: Read, W: Write + Drop>(
             summed(driven, summary, counting)
         }
         Err(fault) => DriveSummed {
-            driven: Err(fault),
-            summary: None,
+            ended: DriveEnded {
+                driven: Err(fault),
+                summary: None,
+            },
             counting,
         },
     }
@@ -114,9 +127,9 @@ fn sum_fibre<B: Began, L: Ledger, T: Read, W: Write + Drop>(
     requires ports { B.ports ≡ length script.ports.items }
     requires fresh { IsFresh sink }
     requires flushed { sink.flushed ≡ true }
-    ensures drives { DrivesSummed form manner (script_view script) turns.old turns.new result.counting result.driven
-        result.summary }
-    ensures there { IsOk result.driven ↔ (is_some result.summary ≡ true) }
+    ensures drives { DrivesSummed form manner (script_view script) turns.old turns.new result.counting
+        result.ended.driven result.ended.summary }
+    ensures there { IsOk result.ended.driven ↔ (is_some result.ended.summary ≡ true) }
 {
     let licences = script.licences;
     let mut sink = sink;
@@ -129,8 +142,10 @@ fn sum_fibre<B: Began, L: Ledger, T: Read, W: Write + Drop>(
             summed(driven, summary, counting)
         }
         Err(fault) => DriveSummed {
-            driven: Err(fault),
-            summary: None,
+            ended: DriveEnded {
+                driven: Err(fault),
+                summary: None,
+            },
             counting,
         },
     }
@@ -153,9 +168,9 @@ fn sum_on<B: Began, L: Ledger, T: Read, W: Write + Drop>(
     requires ports { B.ports ≡ length script.ports.items }
     requires fresh { IsFresh sink }
     requires flushed { sink.flushed ≡ true }
-    ensures drives { DrivesSummed form manner (script_view script) turns.old turns.new result.counting result.driven
-        result.summary }
-    ensures there { IsOk result.driven ↔ (is_some result.summary ≡ true) }
+    ensures drives { DrivesSummed form manner (script_view script) turns.old turns.new result.counting
+        result.ended.driven result.ended.summary }
+    ensures there { IsOk result.ended.driven ↔ (is_some result.ended.summary ≡ true) }
 {
     if script.units.is_empty() {
         sum_chassis::<B, L, T, W>(alloc, manner, blank, script, form, turns, sink)
@@ -183,8 +198,8 @@ pub fn drive_summed<B: Began, T: Read, W: Write + Drop>(
     requires mask { B.mask ≡ script.mask }
     requires ports { B.ports ≡ length script.ports.items }
     ensures drives { IfOk result (λ summed. DrivesSummed form manner (script_view script) turns.old turns.new
-        summed.counting summed.driven summed.summary) }
-    ensures there { IfOk result (λ summed. IsOk summed.driven ↔ (is_some summed.summary ≡ true)) }
+        summed.counting summed.ended.driven summed.ended.summary) }
+    ensures there { IfOk result (λ summed. IsOk summed.ended.driven ↔ (is_some summed.ended.summary ≡ true)) }
     ensures idle { OnErr result (turns.new ≡ turns.old) }
 {
     let counter = Counter::new(alloc, script.mask, script.ports.len())?;

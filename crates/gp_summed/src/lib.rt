@@ -6,16 +6,17 @@
 //! - `explaining.rt`: `explain_summed`, a trace that is told again while its lines are counted and heard; `hearing.rt`:
 //!   the writer that counts and hears, `hearer.rt`: lines that are heard, in whatever pieces they come; `codes.rt`:
 //!   `HeardCodes`, how many codes can't be read.
-//! - `verifying.rt`: `verify_summed`, a trace that is verified while its entries are counted; `accounting.rt`: the
-//!   verifier that counts, `opening.rt` what it began with. `reach.rt`: up to which line a trace is told of.
+//! - `verifying.rt`: `verify_summed`, a trace that is verified while its entries are counted; `counting_verifier.rt`:
+//!   the verifier that counts, `opening.rt` what it began with. `reach.rt`: up to which line a trace is told of, and in
+//!   which form a summary is told beside it.
 //! - `driving.rt`: `drive_summed`, a script that is driven while the lines of its entries are counted.
 //!
 //! Where to make which change: the lines that are told of ports and units are `gp_summary`'s, what is counted is
 //! `gp_tally`'s; what is said before them of a trace that is no run stands in `specs/Verifying.antt`.
 #![tactic(auto)]
 
-mod accounting;
 mod codes;
+mod counting_verifier;
 mod driving;
 mod explaining;
 mod hearer;
@@ -25,6 +26,7 @@ mod reach;
 mod verifying;
 
 pub use codes::HeardCodes;
-pub use driving::{DriveSummed, drive_summed};
+pub use driving::{DriveEnded, DriveSummed, drive_summed};
 pub use explaining::{Explained, TRACE_PORTS, explain_summed};
+pub use reach::summary_form;
 pub use verifying::{Verified, verify_summed};

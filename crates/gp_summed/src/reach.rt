@@ -9,7 +9,7 @@ use itoa::Buffer;
 use std::alloc::AllocError;
 
 /// How a summary is told beside what is found in this form.
-pub(crate) fn summary_form(form: Form) -> SummaryForm
+pub fn summary_form(form: Form) -> SummaryForm
     ensures { result ≡ spec.summary_form form }
 {
     match form {

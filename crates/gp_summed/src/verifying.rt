@@ -11,9 +11,9 @@ ghost use Rattle.gp_verify.specs.declared.outcome.VerifyFault.TheVariants.{Lines
 ghost use Rattle.gp_verify.specs.Checking.{ChecksTrace, IsNoScript};
 ghost use Rattle.gp_verify.specs.Ending.{ChecksTold, was_read as spec_was_read};
 ghost use Rattle.gp_verify.specs.Outcome.{RunsVerify, Writes};
-ghost use Rattle.gp_summed.specs.Verifying.{AccountState, AreUnits, CountsText, SumsCheck, TellsPlay, summary_form};
+ghost use Rattle.gp_summed.specs.Verifying.{CountingVerifyState, AreUnits, CountsText, SumsCheck, TellsPlay, summary_form};
 
-use crate::accounting::Accounting;
+use crate::counting_verifier::CountingVerifier;
 use crate::opening::Opening;
 use crate::reach::{push_reach, summary_form};
 use gp_explain::Form;
@@ -24,7 +24,7 @@ use gp_script::{Script, read_script};
 use gp_stream::{Sink, Source, read_all};
 use gp_summary::chassis_summary;
 use gp_tally::Counter;
-use gp_verify::{CheckFault, VerifyFault, finding, open_verify, tell_end};
+use gp_verify::{CheckFault, VerifyFault, finding, open_verify, tell_end, was_read};
 use std::alloc::{AllocError, Global};
 use std::io::{Read, Write};
 use std::marker::Brand;
@@ -42,7 +42,7 @@ pub struct Verified {
 
 /// The same before anything is told at the end.
 #[derive(Drop)]
-struct Judged {
+struct JudgedTrace {
     found: Result<u64, VerifyFault>,
     units: Option<Result<Vec<u8>, AllocError>>,
 }
@@ -52,21 +52,21 @@ fn run_counted<B: Opening, L: Ledger, R: Read, W: Write>(
     alloc: Global,
     source: &mut Source<R>,
     sink: &mut Sink<W>,
-    accounting: &mut Accounting<B, L>,
+    counting: &mut CountingVerifier<B, L>,
 ) -> Result<u64, VerifyFault>
-    requires begins { accounting.old.verify.ended ≡ None }
-    requires first { accounting.old.verify.lines ≡ 0 }
-    requires nothing { accounting.old.counter.taken ≡ [] }
+    requires begins { counting.old.verify.ended ≡ None }
+    requires first { counting.old.verify.lines ≡ 0 }
+    requires nothing { counting.old.counter.taken ≡ [] }
     requires flushed { sink.old.flushed ≡ true }
-    ensures runs { RunsVerify accounting.old.verify accounting.new.verify source.old source.new sink.old sink.new
+    ensures runs { RunsVerify counting.old.verify counting.new.verify source.old source.new sink.old sink.new
         result }
-    ensures counts { CountsText accounting.old.verify accounting.new.verify source.old source.new result
-        accounting.new.counter.taken }
+    ensures counts { CountsText counting.old.verify counting.new.verify source.old source.new result
+        counting.new.counter.taken }
 {
-    accounting.verifier().stands();
-    let end = run_lines(alloc, source, sink, accounting)?;
-    let found = accounting.verifier().ended();
-    finding(end, found, accounting.verifier().lines())
+    counting.verifier().stands();
+    let end = run_lines(alloc, source, sink, counting)?;
+    let found = counting.verifier().ended();
+    finding(end, found, counting.verifier().lines())
 }
 
 /// Gives what became of each port and unit by then.
@@ -75,28 +75,18 @@ fn units_of<B: Opening, L: Ledger>(
     form: Form,
     licences: u32,
     found: &Result<u64, VerifyFault>,
-    accounting: &Accounting<B, L>,
+    counting: &CountingVerifier<B, L>,
 ) -> Result<Vec<u8>, AllocError>
-    ensures { IfOk result (λ text. TellsPlay (summary_form form) B.mask B.start accounting.now.verify.play B.ports
-        licences found.now accounting.now.counter.taken text.items) }
+    ensures { IfOk result (λ text. TellsPlay (summary_form form) B.mask B.start counting.now.verify.play B.ports
+        licences found.now counting.now.counter.taken text.items) }
 {
     let form = summary_form(form);
     let mut text = Vec::new(alloc);
     push_reach(&mut text, form, found)?;
-    let counter = accounting.counter();
-    let summary = chassis_summary(alloc, form, accounting.player(), counter, licences)?;
+    let counter = counting.counter();
+    let summary = chassis_summary(alloc, form, counting.player(), counter, licences)?;
     text.extend_from_slice(summary.as_slice())?;
     Ok(text)
-}
-
-/// Tells whether a text was read as far as it counts, and each line judged.
-fn was_read(found: &Result<u64, VerifyFault>) -> bool
-    ensures { result ≡ spec_was_read found.now }
-{
-    match found {
-        Ok(_) | Err(VerifyFault::Refused { .. } | VerifyFault::Unended { .. }) => true,
-        Err(VerifyFault::Lines(_)) => false,
-    }
 }
 
 /// Judges a text on the chassis of a script, which was opened.
@@ -104,38 +94,38 @@ fn judge_on<B: Opening, L: Ledger, T: Read, W: Write>(
     alloc: Global,
     form: Form,
     licences: u32,
-    accounting: Accounting<B, L>,
+    counting: CountingVerifier<B, L>,
     trace: &mut Source<T>,
     sink: &mut Sink<W>,
-) -> Judged
-    requires begins { accounting.verify.ended ≡ None }
-    requires first { accounting.verify.lines ≡ 0 }
-    requires nothing { accounting.counter.taken ≡ [] }
+) -> JudgedTrace
+    requires begins { counting.verify.ended ≡ None }
+    requires first { counting.verify.lines ≡ 0 }
+    requires nothing { counting.counter.taken ≡ [] }
     requires flushed { sink.old.flushed ≡ true }
     ensures there { is_some result.units ≡ spec_was_read result.found }
-    ensures ends { (end : AccountState)
-        × RunsVerify accounting.verify end.verify trace.old trace.new sink.old sink.new result.found
-        × CountsText accounting.verify end.verify trace.old trace.new result.found end.counter.taken
+    ensures ends { (end : CountingVerifyState)
+        × RunsVerify counting.verify end.verify trace.old trace.new sink.old sink.new result.found
+        × CountsText counting.verify end.verify trace.old trace.new result.found end.counter.taken
         × IfSome result.units (λ told. IfOk told (λ text. TellsPlay (summary_form form) B.mask B.start end.verify.play
         B.ports licences result.found end.counter.taken text.items)) }
 {
-    let mut accounting = accounting;
-    let found = run_counted(alloc, trace, sink, &mut accounting);
+    let mut counting = counting;
+    let found = run_counted(alloc, trace, sink, &mut counting);
     let units = if was_read(&found) {
-        Some(units_of(alloc, form, licences, &found, &accounting))
+        Some(units_of(alloc, form, licences, &found, &counting))
     } else {
         None
     };
-    accounting.close();
-    Judged { found, units }
+    counting.close();
+    JudgedTrace { found, units }
 }
 
 /// A text that was not judged for want of memory.
-fn unjudged() -> Judged
+fn unjudged() -> JudgedTrace
     ensures found { result.found ≡ Err (Lines (Line unanswered.OutOfMemory)) }
     ensures units { result.units ≡ None }
 {
-    Judged {
+    JudgedTrace {
         found: Err(VerifyFault::from(AllocError)),
         units: None,
     }
@@ -149,7 +139,7 @@ fn sum_on<B: Opening, L: Ledger, T: Read, W: Write>(
     script: Script,
     trace: &mut Source<T>,
     sink: &mut Sink<W>,
-) -> Judged
+) -> JudgedTrace
     requires name { blank.name ≡ L.name }
     requires parts { (blank.parts ≡ L.parts) × (L.parts ≡ MAX_LICENCES) }
     requires playable { IsPlayable (script_view script) }
@@ -167,8 +157,8 @@ fn sum_on<B: Opening, L: Ledger, T: Read, W: Write>(
     };
     match open_verify::<L>(alloc, form, blank, script) {
         Ok(verifier) => {
-            let accounting = Accounting::<B, L>::new(verifier, counter);
-            judge_on(alloc, form, licences, accounting, trace, sink)
+            let counting = CountingVerifier::<B, L>::new(verifier, counter);
+            judge_on(alloc, form, licences, counting, trace, sink)
         }
         Err(AllocError) => unjudged(),
     }
@@ -181,7 +171,7 @@ fn sum_script<B: Opening, T: Read, W: Write>(
     script: Script,
     trace: &mut Source<T>,
     sink: &mut Sink<W>,
-) -> Judged
+) -> JudgedTrace
     requires playable { IsPlayable (script_view script) }
     requires start { B.start ≡ opening_play (script_view script) }
     requires mask { B.mask ≡ script.mask }
@@ -227,7 +217,9 @@ pub fn verify_summed<R: Read, T: Read, W: Write>(
 {
     match script_in(alloc, script) {
         Ok(read) => {
-            let Judged { found, units } = sum_script::<Brand, T, W>(alloc, form, read, trace, sink);
+            let JudgedTrace { found, units } = sum_script::<Brand, T, W>(
+                alloc, form, read, trace, sink,
+            );
             let told = tell_end(sink, form, at_least, found);
             Verified {
                 found: told.map_err(CheckFault::from),

@@ -153,7 +153,7 @@ fn write_end<W: Write>(
 }
 
 /// Tells whether a text was read as far as it counts, and each line judged.
-fn was_read(found: &Result<u64, VerifyFault>) -> bool
+pub fn was_read(found: &Result<u64, VerifyFault>) -> bool
     ensures { result ≡ spec.was_read found.now }
 {
     match found {

@@ -38,7 +38,7 @@ mod verdict;
 mod verifier;
 
 pub use checking::{open_verify, verify_script, verify_told};
-pub use ending::{tell_end, wanted_lines};
+pub use ending::{tell_end, wanted_lines, was_read};
 pub use fault::LineRefusal;
 pub use laws::traces_are_lines;
 pub use outcome::{CheckFault, VerifyFault};

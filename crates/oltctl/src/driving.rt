@@ -3,7 +3,6 @@ ghost use Rattle.std.specs.Prelude.{◌≡◌, [], Some, length};
 ghost use Rattle.gp_script.specs.Playable.{IsPlayable};
 ghost use Rattle.gp_script.specs.View.{script_view};
 
-use crate::summing::summary_form;
 use crate::telling::{is_plain, script_from};
 use gp_command_line::TraceForm;
 use gp_drive::{DriveFault, DriveManner, Driven};
@@ -12,20 +11,13 @@ use gp_flow::{LinesFault, Unanswered};
 use gp_script::Script;
 use gp_stream::Source;
 use gp_summary::SummaryForm;
-use gp_summed::{DriveSummed, drive_summed};
+use gp_summed::{DriveEnded, DriveSummed, drive_summed, summary_form};
 use gp_tally::Began;
 use gp_tell::{Began as TellingBegan, TellFault, Teller};
 use std::alloc::{AllocError, Global};
 use std::io;
 use std::io::{Read, Write};
 use std::marker::Brand;
-
-/// How a drive ended, and the lines that tell of ports and units, where all lines were answered.
-#[derive(Drop)]
-pub(crate) struct Drove {
-    driven: Result<Driven, DriveFault>,
-    summary: Option<Result<Vec<u8>, AllocError>>,
-}
 
 /// A drive that ended for want of memory, while lines were answered.
 fn out_of_memory() -> DriveFault {
@@ -40,18 +32,15 @@ fn drive_plain<B: Began, T: Read, W: Write + Drop>(
     form: SummaryForm,
     turns: &mut Source<T>,
     writer: W,
-) -> Result<Drove, DriveFault>
+) -> Result<DriveEnded, DriveFault>
     requires playable { IsPlayable (script_view script) }
     requires held { W.contents writer ≡ B.held }
     requires mask { B.mask ≡ script.mask }
     requires ports { B.ports ≡ length script.ports.items }
 {
-    let DriveSummed {
-        driven,
-        summary,
-        counting: _,
-    } = drive_summed::<B, T, W>(alloc, manner, script, form, turns, writer)?;
-    Ok(Drove { driven, summary })
+    let DriveSummed { ended, counting: _ } =
+        drive_summed::<B, T, W>(alloc, manner, script, form, turns, writer)?;
+    Ok(ended)
 }
 
 /// Drives a script, counts what is answered, and writes it as a teller tells it.
@@ -63,7 +52,7 @@ fn drive_by<B: Began, S: TellingBegan, T: Read, W: Write + Drop>(
     turns: &mut Source<T>,
     telling: Telling,
     writer: W,
-) -> Result<Drove, DriveFault>
+) -> Result<DriveEnded, DriveFault>
     requires playable { IsPlayable (script_view script) }
     requires held { B.held ≡ Some [] }
     requires mask { B.mask ≡ script.mask }
@@ -72,16 +61,13 @@ fn drive_by<B: Began, S: TellingBegan, T: Read, W: Write + Drop>(
     requires below { W.contents writer ≡ S.held }
 {
     let teller = Teller::<S, W>::new(alloc, telling, writer)?;
-    let DriveSummed {
-        driven,
-        summary,
-        counting,
-    } = drive_summed::<B, T, Teller<S, W>>(alloc, manner, script, form, turns, teller)?;
+    let DriveSummed { ended, counting } =
+        drive_summed::<B, T, Teller<S, W>>(alloc, manner, script, form, turns, teller)?;
     let (teller, _) = counting.into_parts();
     if let Some(TellFault::OutOfMemory) = teller.fault() {
         return Err(out_of_memory());
     }
-    Ok(Drove { driven, summary })
+    Ok(ended)
 }
 
 /// Drives a script, and writes what is answered as this teller tells it.
@@ -93,7 +79,7 @@ fn drive_told<S: TellingBegan, T: Read, W: Write + Drop>(
     turns: &mut Source<T>,
     telling: Telling,
     writer: W,
-) -> Result<Drove, DriveFault>
+) -> Result<DriveEnded, DriveFault>
     requires playable { IsPlayable (script_view script) }
     requires manner { telling ≡ S.manner }
     requires below { W.contents writer ≡ S.held }
@@ -109,10 +95,10 @@ fn drive_so<T: Read, W: Write + Drop>(
     told: TraceForm,
     turns: &mut Source<T>,
     writer: W,
-) -> Result<Drove, DriveFault>
+) -> Result<DriveEnded, DriveFault>
     requires { IsPlayable (script_view script) }
 {
-    let form = summary_form(told);
+    let form = summary_form(told.form);
     if is_plain(told) {
         return drive_plain::<Brand, T, W>(alloc, manner, script, form, turns, writer);
     }
@@ -122,8 +108,8 @@ fn drive_so<T: Read, W: Write + Drop>(
 
 /// Writes what became of ports and units to standard error, where all lines were answered. Where it takes nothing,
 /// nothing is told.
-fn tell_units<R: Eprint>(rt: &R, drove: Drove) -> Result<Driven, DriveFault> {
-    let Drove { driven, summary } = drove;
+fn tell_units<R: Eprint>(rt: &R, ended: DriveEnded) -> Result<Driven, DriveFault> {
+    let DriveEnded { driven, summary } = ended;
     match summary {
         Some(Ok(text)) => {
             if let Ok(lines) = std::str::from_utf8(text.as_slice()) {
@@ -147,6 +133,6 @@ pub(crate) fn drive_with_units<R: AllocGlobal + Print + Eprint, S: Read + Drop, 
 ) -> Result<Driven, DriveFault> {
     let script = script_from(rt.alloc(), script)?;
     let mut turns = Source::endless(turns);
-    let drove = drive_so(rt.alloc(), manner, script, told, &mut turns, io::writer(rt))?;
-    tell_units(rt, drove)
+    let ended = drive_so(rt.alloc(), manner, script, told, &mut turns, io::writer(rt))?;
+    tell_units(rt, ended)
 }

@@ -2,14 +2,13 @@
 ghost use Rattle.std.specs.Prelude.{◌≡◌, [], IfOk, IsSome, OnOk, Some};
 ghost use Rattle.gp_summed.specs.Explaining.{trace_ports};
 
-use crate::summing::summary_form;
 use gp_command_line::Explanation;
 use gp_explain::{ExplainFault, Telling};
 use gp_flow::{LinesFault, Unanswered};
 use gp_ploam::Mask;
 use gp_stream::{Sink, Source};
 use gp_summary::SummaryForm;
-use gp_summed::{Explained, HeardCodes, explain_summed};
+use gp_summed::{Explained, HeardCodes, explain_summed, summary_form};
 use gp_tally::{Began, Nowhere};
 use gp_tell::{Began as TellingBegan, TellFault, Teller};
 use std::alloc::{AllocError, Global};
@@ -125,7 +124,7 @@ pub(crate) fn explain_with_units<S: Read, W: Write + Drop>(
 {
     let told = wanted.told;
     let telling = Telling::new(alloc, wanted.mask, told.form, told.timed);
-    let form = summary_form(told);
+    let form = summary_form(told.form);
     explain_told::<Brand, S, W>(alloc, wanted.mask, form, telling, source, writer)
 }
 
@@ -176,6 +175,6 @@ pub(crate) fn explain_for_summary<S: Read, W: Write + Drop>(
 ) -> Result<ToldTrace, AllocError>
     ensures { IfOk result (λ told. OnOk told.lines (IsSome told.codes)) }
 {
-    let form = summary_form(wanted.told);
+    let form = summary_form(wanted.told.form);
     explain_counted(alloc, wanted.mask, form, source, Nowhere, writer)
 }

@@ -5,24 +5,17 @@ ghost use Rattle.gp_script.specs.Playable.{IsPlayable};
 ghost use Rattle.gp_script.specs.View.{script_view};
 
 use gp_command_line::TraceForm;
-use gp_explain::{Form, Telling};
+use gp_explain::Telling;
 use gp_replay::PlayFault;
 use gp_script::Script;
 use gp_stream::Sink;
 use gp_summary::{Ended, SummaryForm, Summed, play_summed, sum_with_lights};
+use gp_summed::summary_form;
 use gp_tally::Began;
 use gp_tell::{Began as TellingBegan, TellFault, Teller};
 use std::alloc::Global;
 use std::io::Write;
 use std::marker::Brand;
-
-/// How a summary is told beside a trace that is written so.
-pub(crate) fn summary_form(told: TraceForm) -> SummaryForm {
-    match told.form {
-        Form::Json => SummaryForm::Json,
-        Form::Plain | Form::Words => SummaryForm::Text,
-    }
-}
 
 /// Writes the summary of a play that came to its end.
 fn write_summary<W: Write + Drop>(alloc: Global, ended: Ended, writer: W) -> Result<(), PlayFault> {
@@ -102,7 +95,7 @@ pub(crate) fn play_with_units<W: Write + Drop>(
 ) -> Result<(), PlayFault>
     requires { IsPlayable (script_view script) }
 {
-    let form = summary_form(told);
+    let form = summary_form(told.form);
     if is_plain {
         return play_plain::<Brand, W>(alloc, script, form, writer);
     }
@@ -137,5 +130,5 @@ pub(crate) fn play_for_summary<T: Write + Drop, W: Write + Drop>(
 ) -> Result<(), PlayFault>
     requires { IsPlayable (script_view script) }
 {
-    play_unwritten::<Brand, T, W>(alloc, script, summary_form(told), trace, writer)
+    play_unwritten::<Brand, T, W>(alloc, script, summary_form(told.form), trace, writer)
 }

@@ -15,8 +15,8 @@ returns-in-Ok-clause-drives g c =
     let says = says_of c.args.form _ script.mask _ counting.counter.taken given.world.ports _ _ given.world.free script.licences summary
     (c.counter.ensures.mask ∙ c.requires.mask) (ap (λ s. s.taken) c.counter.ensures.counter) (c.counter.ensures.ports ∙ c.requires.ports)
     c.chassis_summary-summary.ensures in
-    answered_so c.args.form c.args.manner script c.args.turns.now c.drive_chassis-drove.new.turns counting c.summed.result.counting (told driven) c.summed.result.driven
-    (summary_if driven summary) c.summed.result.summary c.summed.ensures.counting c.summed.ensures.driven c.summed.ensures.summary
+    answered_so c.args.form c.args.manner script c.args.turns.now c.drive_chassis-drove.new.turns counting c.summed.result.counting (told driven) c.summed.result.ended.driven
+    (summary_if driven summary) c.summed.result.ended.summary c.summed.ensures.counting c.summed.ensures.driven c.summed.ensures.summary
     (record {
       before = c.args.sink;
       after = c.drive_chassis-drove.new.sink;

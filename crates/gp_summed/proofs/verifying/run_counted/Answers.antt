@@ -11,13 +11,13 @@ returns-clause-runs g c =
     let ended = c.ended-found.ensures ∙ ap (λ (s : VerifyState). s.ended) c.verifier-2.ensures in
     let lines = c.lines.ensures ∙ ap (λ (s : VerifyState). s.lines) c.verifier-3.ensures in
     let ports = subst (λ (s : VerifyState). All IsOrderlyPort s.play.world.ports) c.verifier.ensures c.stands.ensures in
-    verified_as _ _ c.args.accounting.now.verify c.run_lines.new.work.verify _ _ c.in_ok-end.end c.ended-found.result c.lines.result c.finding.result ended lines c.finding.ensures ports
-    c.requires.begins c.requires.first (served _ _ c.args.accounting.now c.run_lines.new.work _ _ 4096 c.in_ok-end.end c.in_ok-end.ensures.ok)
+    verified_as _ _ c.args.counting.now.verify c.run_lines.new.work.verify _ _ c.in_ok-end.end c.ended-found.result c.lines.result c.finding.result ended lines c.finding.ensures ports
+    c.requires.begins c.requires.first (served _ _ c.args.counting.now c.run_lines.new.work _ _ 4096 c.in_ok-end.end c.in_ok-end.ensures.ok)
 
 pub returns-clause-counts : goal.returns-clause-counts
 returns-clause-counts g c =
     let ended = c.ended-found.ensures ∙ ap (λ (s : VerifyState). s.ended) c.verifier-2.ensures in
     let lines = c.lines.ensures ∙ ap (λ (s : VerifyState). s.lines) c.verifier-3.ensures in
     let ports = subst (λ (s : VerifyState). All IsOrderlyPort s.play.world.ports) c.verifier.ensures c.stands.ensures in
-    counted_as c.args.source.now c.run_lines.new.source c.args.accounting.now c.run_lines.new.work c.args.sink.now c.run_lines.new.sink ports c.requires.begins c.requires.first c.requires.nothing
+    counted_as c.args.source.now c.run_lines.new.source c.args.counting.now c.run_lines.new.work c.args.sink.now c.run_lines.new.sink ports c.requires.begins c.requires.first c.requires.nothing
     c.in_ok-end.end c.ended-found.result c.lines.result c.finding.result ended lines c.finding.ensures c.in_ok-end.ensures.ok

@@ -3,7 +3,7 @@ use Rattle.gp_ploam.specs.declared.check.Mask.{Mask}
 use Rattle.gp_verify.specs.Verdicts.{Moves}
 use Rattle.gp_summed.specs.Verifying.{said_by}
 use Rattle.gp_summed.proofs.Plays.{moved_to}
-use Rattle.gp_summed.proofs.accounting.Accounting.judge.Goals as goal
+use Rattle.gp_summed.proofs.counting_verifier.CountingVerifier.judge.Goals as goal
 
 pub invariant_of-self-2 : goal.invariant_of-self-2
 invariant_of-self-2 g c =

@@ -1,4 +1,4 @@
-//! `Accounting`, a verifier whose entries are counted.
+//! `CountingVerifier`, a verifier whose entries are counted.
 ghost use Rattle.std.specs.Prelude.{◌≡◌, ◌+◌, ◌++◌, [], None, IfOk, OnErr, codes, length};
 ghost use Rattle.gp_chassis.specs.World.{IsBalanced};
 ghost use Rattle.gp_verify.specs.declared.verdict.Verdict.TheVariants.{Follows};
@@ -19,13 +19,13 @@ use std::sync::ledger::Ledger;
 /// the place of the one that ended it. Contracts see the verifier and the counter.
 ///
 /// It has no `Drop`: its licences are gathered by `close`.
-pub(crate) struct Accounting<B: Opening, L: Ledger> {
+pub(crate) struct CountingVerifier<B: Opening, L: Ledger> {
     verifier: Verifier<L>,
     counter: Counter,
     of: PhantomData<B>,
 }
 
-impl<B: Opening, L: Ledger> Model for Accounting<B, L> {
+impl<B: Opening, L: Ledger> Model for CountingVerifier<B, L> {
     ghost use Rattle.std.specs.Prelude.{◌≡◌, length};
     ghost use Rattle.std.specs.FinMap as map;
     ghost use Rattle.std.specs.FinSet as set;
@@ -34,9 +34,9 @@ impl<B: Opening, L: Ledger> Model for Accounting<B, L> {
     ghost use Rattle.gp_unit.specs.contracts.row.Row as row;
     ghost use Rattle.gp_tally.specs.contracts.counts.PortCounts as port;
     ghost use Rattle.gp_tally.specs.contracts.counts.UnitCounts as unit;
-    ghost use Rattle.gp_summed.specs.Verifying.{AccountState, IsPlayed};
+    ghost use Rattle.gp_summed.specs.Verifying.{CountingVerifyState, IsPlayed};
 
-    ghost Value = { AccountState };
+    ghost Value = { CountingVerifyState };
 
     ghost coded = { Prim.hlevel (
       codes,
@@ -65,7 +65,7 @@ fn count(counter: &mut Counter, verdict: Verdict, said: &[u8])
     }
 }
 
-impl<B: Opening, L: Ledger> Accounting<B, L> {
+impl<B: Opening, L: Ledger> CountingVerifier<B, L> {
     /// Begins before the first line, with a counter that was handed nothing yet.
     pub(crate) fn new(verifier: Verifier<L>, counter: Counter) -> Self
         requires start { verifier.play ≡ B.start }
@@ -75,7 +75,7 @@ impl<B: Opening, L: Ledger> Accounting<B, L> {
         requires ports { length counter.ports ≡ B.ports }
         ensures { result ≡ record { verify = verifier; counter = counter } }
     {
-        Accounting {
+        CountingVerifier {
             verifier,
             counter,
             of: PhantomData,
@@ -130,7 +130,7 @@ impl<B: Opening, L: Ledger> Accounting<B, L> {
     pub(crate) fn close(self) -> u32
         ensures { IsBalanced result self.verify.play.world }
     {
-        let Accounting {
+        let CountingVerifier {
             verifier,
             counter: _,
             of: _,
@@ -139,10 +139,10 @@ impl<B: Opening, L: Ledger> Accounting<B, L> {
     }
 }
 
-impl<B: Opening, L: Ledger> LineWork for Accounting<B, L> {
-    ghost use Rattle.gp_summed.specs.Verifying.{Accounts, is_over};
+impl<B: Opening, L: Ledger> LineWork for CountingVerifier<B, L> {
+    ghost use Rattle.gp_summed.specs.Verifying.{JudgesCounting, is_over};
 
-    ghost speech = { Accounts };
+    ghost speech = { JudgesCounting };
 
     ghost over = { is_over };
 
