@@ -4,3 +4,4 @@ pub mod CountedTexts
 pub mod Drives
 pub mod HeardLines
 pub mod CountedChecks
+pub mod LightLines

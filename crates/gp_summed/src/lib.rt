@@ -10,6 +10,7 @@
 //!   the verifier that counts, `opening.rt` what it began with. `reach.rt`: up to which line a trace is told of, and in
 //!   which form a summary is told beside it.
 //! - `driving.rt`: `drive_summed`, a script that is driven while the lines of its entries are counted.
+//! - `laws.rt`: lines of light count for nothing.
 //!
 //! Where to make which change: the lines that are told of ports and units are `gp_summary`'s, what is counted is
 //! `gp_tally`'s; what is said before them of a trace that is no run stands in `specs/Verifying.antt`.
@@ -21,6 +22,7 @@ mod driving;
 mod explaining;
 mod hearer;
 mod hearing;
+mod laws;
 mod opening;
 mod reach;
 mod verifying;
@@ -28,5 +30,6 @@ mod verifying;
 pub use codes::HeardCodes;
 pub use driving::{DriveEnded, DriveSummed, drive_summed};
 pub use explaining::{Explained, TRACE_PORTS, explain_summed};
+pub use laws::lights_count_for_nothing;
 pub use reach::summary_form;
 pub use verifying::{Verified, verify_summed};

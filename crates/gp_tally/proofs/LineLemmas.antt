@@ -64,7 +64,7 @@ one_tail : (octet : ℕ) (octets : List ℕ) → IsOneLine (octet ∷ octets) �
 one_tail octet octets one = All-tail (λ (o : ℕ). is_feed o ≡ false) octet octets one
 
 -- a text is cut in one way at its first line feed
-cut_once : (one other rest others : List ℕ) → IsOneLine one → IsOneLine other → one ++ 10 ∷ rest ≡ other ++ 10 ∷ others → (one ≡ other) × (rest ≡ others)
+pub cut_once : (one other rest others : List ℕ) → IsOneLine one → IsOneLine other → one ++ 10 ∷ rest ≡ other ++ 10 ∷ others → (one ≡ other) × (rest ≡ others)
 cut_once [] [] rest others first second is = (refl, cc is)
 cut_once [] (octet ∷ other) rest others first second is =
     let feed : 10 ≡ octet = cc is in
@@ -81,13 +81,13 @@ cut_once (octet ∷ one) (next ∷ other) rest others first second is =
     (ap (λ (o : ℕ). o ∷ one) same ∙ ap (λ (t : List ℕ). next ∷ t) cut.0, cut.1)
 
 -- no line feed is in one line
-no_feed : (line rest last : List ℕ) → IsOneLine last → line ++ 10 ∷ rest ≡ last → ⊥
+pub no_feed : (line rest last : List ℕ) → IsOneLine last → line ++ 10 ∷ rest ≡ last → ⊥
 no_feed [] rest last one is =
     let no : is_feed 10 ≡ false = one_head 10 rest (subst IsOneLine (sym is) one) in
     cc no
 no_feed (octet ∷ line) rest last one is = no_feed line rest (line ++ 10 ∷ rest) (one_tail octet (line ++ 10 ∷ rest) (subst IsOneLine (sym is) one)) refl
 
-fed_shape : (line rest : List ℕ) → fed line ++ rest ≡ line ++ 10 ∷ rest
+pub fed_shape : (line rest : List ℕ) → fed line ++ rest ≡ line ++ 10 ∷ rest
 fed_shape line rest = append_assoc line (10 ∷ []) rest
 
 -- the lines of a trace are those of its entries
