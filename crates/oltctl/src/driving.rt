@@ -38,8 +38,9 @@ fn drive_plain<B: Began, T: Read, W: Write + Drop>(
     requires mask { B.mask ≡ script.mask }
     requires ports { B.ports ≡ length script.ports.items }
 {
-    let DriveSummed { ended, counting: _ } =
-        drive_summed::<B, T, W>(alloc, manner, script, form, turns, writer)?;
+    let DriveSummed { ended, counting: _ } = drive_summed::<B, T, W>(
+        alloc, manner, script, form, turns, writer,
+    )?;
     Ok(ended)
 }
 
@@ -61,8 +62,9 @@ fn drive_by<B: Began, S: TellingBegan, T: Read, W: Write + Drop>(
     requires below { W.contents writer ≡ S.held }
 {
     let teller = Teller::<S, W>::new(alloc, telling, writer)?;
-    let DriveSummed { ended, counting } =
-        drive_summed::<B, T, Teller<S, W>>(alloc, manner, script, form, turns, teller)?;
+    let DriveSummed { ended, counting } = drive_summed::<B, T, Teller<S, W>>(
+        alloc, manner, script, form, turns, teller,
+    )?;
     let (teller, _) = counting.into_parts();
     if let Some(TellFault::OutOfMemory) = teller.fault() {
         return Err(out_of_memory());
