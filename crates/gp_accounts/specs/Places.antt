@@ -30,7 +30,8 @@ abbrev pub GrowBy : List History → List Receipt → List ℕ → List ℕ → 
 GrowBy histories receipts before after =
     (port place : ℕ) (history : History) → slice_get histories port ≡ Some history → place < length history.entries
     → slice_index after (entries_before histories port + place)
-    ≡ slice_index before (entries_before histories port + place) + count_by (names port (history.first + place)) receipts
+    ≡ slice_index before (entries_before histories port + place)
+    + count_by (names port (history.first + place)) receipts
 
 -- by its mark and the receipts, some entry is named more than once
 pub record IsNamedAgain (histories : List History) (receipts : List Receipt) (marks : List ℕ) : Type 0 where

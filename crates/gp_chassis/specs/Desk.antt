@@ -78,7 +78,8 @@ last_kept desk = slice_get desk.entries (length desk.entries - 1)
 
 -- the desk serves, whatever its port's number, and hands out the wished number where it can; the entry with this number
 -- is the last that its journal keeps. Inside: no public contract cites this
-pub record ServesInPlace (old new : DeskState) (purse : ℕ) (event : Event) (wished : Option ℕ) (number rest : ℕ) : Type 0 where
+pub record ServesInPlace (old new : DeskState) (purse : ℕ) (event : Event) (wished : Option ℕ) (number rest : ℕ)
+    : Type 0 where
   pub entry : Entry
   pub serves : (port : ℕ)
       → Serves old new port purse event (record { port = port; number = number; entry = entry }) rest

@@ -45,8 +45,8 @@ fn admit_all(alloc: Global, ports: &[PortConfig]) -> Result<(), AdmitFault>
 fn admit_on(list: &mut AdmissionList, port: u8, serials: &[Serial]) -> Result<(), AdmitFault>
     ensures ok { (before : List SerialNumber) → OnOk result (Lists list.old before → IsTrue (is_distinct before)
         → Lists list.new (before ++ serials.now) × IsTrue (is_distinct (before ++ serials.now))) }
-    ensures duplicate { (before : List SerialNumber) → result ≡ Err AdmitFault.Duplicate → Lists list.old before → IsTrue (is_distinct before)
-        → is_distinct (before ++ serials.now) ≡ false }
+    ensures duplicate { (before : List SerialNumber) → result ≡ Err AdmitFault.Duplicate → Lists list.old before
+        → IsTrue (is_distinct before) → is_distinct (before ++ serials.now) ≡ false }
 {
     for serial in serials {
         match list.admit(port, *serial) {

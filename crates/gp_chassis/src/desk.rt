@@ -48,7 +48,13 @@ impl<L: Ledger> Model for PortDesk<L> {
       state = d.core;
     } };
 
-    ghost invariant = { λ d. DeskStands (record { limit = d.limit; first = d.journal.first; base = d.journal.base; entries = d.journal.entries; state = d.core })
+    ghost invariant = { λ d. DeskStands (record {
+      limit = d.limit;
+      first = d.journal.first;
+      base = d.journal.base;
+      entries = d.journal.entries;
+      state = d.core;
+    })
         × (length d.journal.entries ≤ d.limit)
         × (d.limit ≤ max_journal_limit) };
 }

@@ -31,7 +31,8 @@ RefusesUnchanged purse port event made =
     → made ≡ record { answer = bare_answer (Refused refusal); purse = purse; state = state_refused port event }
 
 -- with these licences at hand the port makes a step with this event, and comes to this
-pub record MakesStep (purse : ℕ) (port : PortState) (event : Event) (wished : Option ℕ) (made : StepResult) : Type 0 where
+pub record MakesStep (purse : ℕ) (port : PortState) (event : Event) (wished : Option ℕ) (made : StepResult)
+    : Type 0 where
   -- the machine may make it
   pub step : Step purse port event made
   pub sound : IsSound made.state

@@ -44,7 +44,8 @@ impl PortMachine {
         requires sound { IsSound self.old }
         requires last { self.old.config.alloc_last ≤ last_alloc_id }
         requires has { HasRow self.old.rows serial row }
-        ensures wished { PicksWished self.old (alloc_response self.old serial row) wished (number_handed_out result.0.reply) }
+        ensures wished { PicksWished self.old (alloc_response self.old serial row) wished
+            (number_handed_out result.0.reply) }
         ensures outcome { AnswersCommand purse self.old (alloc_response self.old serial row) result self.new }
     {
         if row.phase.is_ranging() {

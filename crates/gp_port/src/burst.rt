@@ -36,7 +36,8 @@ impl PortMachine {
         requires units { self.old.config.max_units ≤ onu_ids }
         requires purse { purse < 2 ^ 32 }
         ensures step { Step purse self.old (event.Burst at bytes.now) (step_result_of (answer.new, result) self.new) }
-        ensures wished { GrantsWish purse self.old (event.Burst at bytes.now) wished (step_result_of (answer.new, result) self.new) }
+        ensures wished { GrantsWish purse self.old (event.Burst at bytes.now) wished
+            (step_result_of (answer.new, result) self.new) }
     {
         one_outcome();
         let heard = decode_up(bytes, self.config.mask).ok();

@@ -30,7 +30,8 @@ impl PortMachine {
         requires units { self.old.config.max_units ≤ onu_ids }
         requires last { self.old.config.alloc_last ≤ last_alloc_id }
         requires purse { purse < 2 ^ 32 }
-        ensures wished { PicksWished self.old (command_response self.old command) wished (number_handed_out result.0.reply) }
+        ensures wished { PicksWished self.old (command_response self.old command) wished
+            (number_handed_out result.0.reply) }
         ensures outcome { AnswersCommand purse self.old (command_response self.old command) result self.new }
     {
         match command {

@@ -94,7 +94,8 @@ impl Wheel {
     pub fn due(&mut self, frame: u64) -> Option<u16>
         ensures none { IsNone result ↔ NoneIsDue self.old.frames frame }
         ensures first { IfSome result (IsFirstDue self.old.frames frame) }
-        ensures taken { IfSome result (λ name. self.new ≡ record self.old { frames = map.remove self.old.frames name }) }
+        ensures taken { IfSome result (λ name. self.new
+            ≡ record self.old { frames = map.remove self.old.frames name }) }
         ensures kept { IfNone result (self.new ≡ self.old) }
     {
         self.queue.advance(frame);
