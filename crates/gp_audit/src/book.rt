@@ -43,7 +43,8 @@ impl Book {
         rule: Rule,
     ) -> Result<(), AuditFault>
         requires { place.now.port < 16 }
-        ensures { OnOk result (TellsNotices options.now (Finding watch.now place.now said.now rule ∷ []) self.old self.new) }
+        ensures { OnOk result (TellsNotices options.now
+            (Finding watch.now place.now said.now rule ∷ []) self.old self.new) }
     {
         if self.sum.findings == u64::MAX {
             return Err(AuditFault::Full);

@@ -160,7 +160,8 @@ impl Port {
         line: u64,
         overfills: bool,
     ) -> Result<(), AuditFault>
-        ensures told { OnOk result (TellsNotices options.now (full_told line self.old.full overfills) book.old book.new) }
+        ensures told { OnOk result (TellsNotices options.now
+            (full_told line self.old.full overfills) book.old book.new) }
         ensures full { OnOk result (self.new ≡ record self.old { full = self.old.full || overfills }) }
     {
         if overfills && !self.full {

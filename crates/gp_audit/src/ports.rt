@@ -134,7 +134,8 @@ impl Ports {
         read: &Result<LogLine, LogFault>,
     ) -> Result<(), AuditFault>
         requires { IsNear read.now }
-        ensures told { OnOk result (TellsNotices options.now (told_of options.now self.old line read.now) book.old book.new) }
+        ensures told { OnOk result (TellsNotices options.now
+            (told_of options.now self.old line read.now) book.old book.new) }
         ensures noted { OnOk result (self.new ≡ ports_after options.now self.old read.now) }
     {
         match read {

@@ -83,7 +83,8 @@ pub fn rules_told<'t>(
     only: Option<&[&'t str]>,
     without: Option<&[&'t str]>,
 ) -> Result<RuleSet, &'t str>
-    ensures known { IfOk result (λ rules. unknown_name (option_map texts only.entry) (option_map texts without.entry) ≡ None) }
+    ensures known { IfOk result (λ rules.
+        unknown_name (option_map texts only.entry) (option_map texts without.entry) ≡ None) }
     ensures told { IfOk result (λ rules. (rule : AnyRule)
         → contains rules rule ≡ is_chosen (option_map texts only.entry) (option_map texts without.entry) rule) }
     ensures unknown { IfErr result (λ name.

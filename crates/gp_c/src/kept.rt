@@ -32,7 +32,8 @@ impl KeptEntry {
     /// Tells by numbers what the port gave for it.
     pub(crate) fn answer(&self) -> AnswerNumbers
         requires { ForSome self.now.receipt.entry.answer.sent IsProperDown }
-        ensures { result ≡ answer_numbers (mask_value self.now.mask) self.now.receipt.number self.now.receipt.entry.answer }
+        ensures { result ≡ answer_numbers (mask_value self.now.mask)
+            self.now.receipt.number self.now.receipt.entry.answer }
     {
         answer_of(self.mask, self.receipt.number, &self.receipt.entry.answer)
     }

@@ -21,7 +21,8 @@ is_near_here [] [] = false
 is_near_here [] (_ ∷ name) = bytes_eq [] name
 is_near_here (_ ∷ given) [] = bytes_eq given []
 is_near_here (a ∷ given) (b ∷ name) =
-    bytes_eq given name || (bytes_eq given (b ∷ name) || (bytes_eq (a ∷ given) name || is_swapped (a ∷ given) (b ∷ name)))
+    bytes_eq given name || (bytes_eq given (b ∷ name)
+    || (bytes_eq (a ∷ given) name || is_swapped (a ∷ given) (b ∷ name)))
 
 -- two texts differ by one octet, which stands in one of them alone or is another one, or by two that are exchanged
 abbrev pub is_near : List ℕ → List ℕ → Bool

@@ -69,7 +69,8 @@ has_long_text (octet ∷ text) = begins_long_text (octet ∷ text) || has_long_t
 abbrev pub header_line : List ℕ → ℕ → ℕ → List (List ℕ) → Option ℕ
 header_line header place number [] = None
 header_line header place number (line ∷ below) =
-    if is_header header line then (if place == 0 then Some number else header_line header (place - 1) (number + 1) below)
+    if is_header header line
+    then (if place == 0 then Some number else header_line header (place - 1) (number + 1) below)
     else header_line header place (number + 1) below
 
 -- the number of the first line with this key, before the first that begins a table, in lines of which the first has

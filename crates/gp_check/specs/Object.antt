@@ -50,7 +50,8 @@ table_index (places.Lose place) = Some place
 table_index (places.Event place) = Some place
 
 abbrev pub table_fields : TablePlace → List ℕ
-table_fields table = text_field (codes "table") (table_word table) ++ number_field_if (codes "index") (table_index table)
+table_fields table =
+    text_field (codes "table") (table_word table) ++ number_field_if (codes "index") (table_index table)
 
 -- a spot of a table
 abbrev pub spot_fields : Spot → List ℕ
@@ -84,7 +85,8 @@ kind_of_mistake table (inner.Unmet spot want) = kind_fields (fault_of_wanted wan
 -- what is wrong in a table: the table, the spot, the line where it stands, if one is known, and the fault
 abbrev pub table_mistake_fields : TablePlace → TableMistake → Option ℕ → List ℕ
 table_mistake_fields table mistake line =
-    table_fields table ++ spot_of_mistake mistake ++ number_field_if (codes "line") line ++ kind_of_mistake table mistake
+    table_fields table ++ spot_of_mistake mistake ++ number_field_if (codes "line") line
+    ++ kind_of_mistake table mistake
 
 -- why a text is no TOML, and where
 abbrev pub syntax_fields : SyntaxMistake → List ℕ

@@ -47,7 +47,8 @@ pub record TellsRead {R W : Type 0} (manner : CheckManner) (name : List ℕ) (be
   pub tells : TellsFound manner name found old new answer
 
 -- how a source is told of, by the answer: where memory ran out nothing was written
-abbrev pub TellsSource : {R W : Type 0} → CheckManner → List ℕ → SourceState R → SourceState R → SinkState W → SinkState W
+abbrev pub TellsSource : {R W : Type 0} → CheckManner → List ℕ → SourceState R → SourceState R
+    → SinkState W → SinkState W
     → Result CheckedSource ScriptCheckFault → Type 0
 TellsSource manner name before after old new (Ok told.Unread) =
     IsFound manner.purpose before after founds.Unread × (new ≡ old)

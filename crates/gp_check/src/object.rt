@@ -99,7 +99,8 @@ impl Fields {
 
     /// Appends what is wrong there.
     fn kind_of(&mut self, table: TablePlace, mistake: &TableMistake) -> Result<(), AllocError>
-        ensures { OnOk result (self.new.octets.items ≡ self.old.octets.items ++ spec.kind_of_mistake table mistake.now) }
+        ensures { OnOk result (self.new.octets.items
+            ≡ self.old.octets.items ++ spec.kind_of_mistake table mistake.now) }
     {
         match mistake {
             TableMistake::UnknownKey(key) => {

@@ -26,7 +26,8 @@ use Rattle.gp_code_objects.specs.Object.{code_field, direction_word, error_field
 -- how the object of a line with a code begins: whose it is, the code, and the name of its message
 abbrev pub code_begun : ℕ → List ℕ → List ℕ → List ℕ → List ℕ
 code_begun line direction code name =
-    object_begun line ++ text_field (codes "direction") direction ++ code_field code ++ text_field (codes "message") name
+    object_begun line ++ text_field (codes "direction") direction ++ code_field code
+    ++ text_field (codes "message") name
 
 -- the whole, with the fields of the message
 abbrev pub code_object : ℕ → Bool → List ℕ → List ℕ → List ℕ → List ℕ

@@ -112,7 +112,8 @@ command name rules = with_rules (new_app name) rules
 abbrev pub replay_rules : Names → List Rule
 replay_rules formats =
     flag_rule (codes "explain") ∷ flag_rule (codes "progress") ∷ flag_rule (codes "words") ∷ flag_rule (codes "time")
-    ∷ flag_rule (codes "units") ∷ flag_rule (codes "summary") ∷ format_rule formats ∷ positional_rule (codes "file") ∷ []
+    ∷ flag_rule (codes "units") ∷ flag_rule (codes "summary") ∷ format_rule formats
+    ∷ positional_rule (codes "file") ∷ []
 
 abbrev pub storm_rules : Names → List Rule
 storm_rules formats =
@@ -134,8 +135,8 @@ test_rules formats =
 
 abbrev pub generate_rules : List Rule
 generate_rules =
-    number_rule (codes "seed") ∷ number_rule (codes "ports") ∷ number_rule (codes "units") ∷ number_rule (codes "events")
-    ∷ number_rule (codes "mistakes") ∷ []
+    number_rule (codes "seed") ∷ number_rule (codes "ports") ∷ number_rule (codes "units")
+    ∷ number_rule (codes "events") ∷ number_rule (codes "mistakes") ∷ []
 
 abbrev pub verify_rules : Names → List Rule
 verify_rules formats =

@@ -64,7 +64,8 @@ pub record AsksForPlay (rows : List Row) (play : Play) : Type 0 where
   pub progress : IsFlag rows (codes "progress") play.progress
 
 abbrev pub AsksToReplay : List Row → Request → Type 0
-AsksToReplay rows (Replay file play) = (name_in file ≡ file_named (first_of (codes "file") rows)) × AsksForPlay rows play
+AsksToReplay rows (Replay file play) =
+    (name_in file ≡ file_named (first_of (codes "file") rows)) × AsksForPlay rows play
 AsksToReplay rows _ = ⊥
 
 -- the rows of `drive` ask to drive the script of FILE, with `--done` by answers that tell where they end, and with

@@ -247,7 +247,8 @@ pub fn push_words_of(
         × (out.new.items ≡ out.old.items ++ words)) }
     ensures fault { IfErr result (LacksWords upstream mask code.now) }
     ensures kept { IfErr result (λ fault. fault ≢ DecodeFault.OutOfMemory → out.new.items ≡ out.old.items) }
-    ensures part { result ≡ Err DecodeFault.OutOfMemory → (part rest : List ℕ) × HasWords upstream mask code.now (part ++ rest)
+    ensures part { result ≡ Err DecodeFault.OutOfMemory → (part rest : List ℕ)
+        × HasWords upstream mask code.now (part ++ rest)
         × (out.new.items ≡ out.old.items ++ part) }
     ensures room { result ≡ Err DecodeFault.OutOfMemory → (words : List ℕ) × HasWords upstream mask code.now words
         × (vec_capacity out.old < vec_len out.old + length words) }
@@ -274,7 +275,8 @@ pub(crate) fn push_words_in(
     ensures kept { IfErr result (λ fault. fault ≢ DecodeFault.OutOfMemory → out.new.items ≡ out.old.items) }
     ensures part { result ≡ Err DecodeFault.OutOfMemory → (part rest : List ℕ)
         × HasWordsIn names upstream mask code.now (part ++ rest) × (out.new.items ≡ out.old.items ++ part) }
-    ensures room { result ≡ Err DecodeFault.OutOfMemory → (words : List ℕ) × HasWordsIn names upstream mask code.now words
+    ensures room { result ≡ Err DecodeFault.OutOfMemory → (words : List ℕ)
+        × HasWordsIn names upstream mask code.now words
         × (vec_capacity out.old < vec_len out.old + length words) }
     ensures capacity { vec_capacity out.old ≤ vec_capacity out.new }
 {

@@ -10,7 +10,8 @@ use Rattle.gp_differ.specs.Parts.{Spelled, spelled}
 abbrev pub no_event : LineFault → List ℕ
 no_event fault.Word = codes "the event: `frame`, `burst AT CODE` or a command stands behind the number"
 no_event fault.Number = codes "the event: a number has decimal digits alone"
-no_event fault.Serial = codes "the event: a serial number has 12 characters, as `ABCD00000001`, or 16 hexadecimal digits"
+no_event fault.Serial =
+    codes "the event: a serial number has 12 characters, as `ABCD00000001`, or 16 hexadecimal digits"
 no_event fault.Hex = codes "the event: a code has 26 hexadecimal digits"
 no_event fault.Range = codes "the event: a delay is 4294967295 at most, and an Alloc-ID 4095"
 no_event fault.Long = codes "the event: `frame`, `burst AT CODE` or a command stands behind the number"

@@ -26,7 +26,8 @@ use Rattle.gp_drive.specs.declared.manner.DriveManner.{DriveManner}
 use Rattle.gp_drive.specs.Drive.{DriveState, begun_in, driving, untold}
 
 -- the events were played; then the whole input was read, and each of its lines was answered
-pub record DrivesAll {S T W : Type 0} (manner : DriveManner) (playing : Playing S) (start : S) (mask : Mask) (events : List ScriptEvent)
+pub record DrivesAll {S T W : Type 0} (manner : DriveManner) (playing : Playing S) (start : S) (mask : Mask)
+    (events : List ScriptEvent)
     (driven : Driven) (from to : SourceState T) (before after : SinkState W) : Type 0 where
   -- the entries of the events, and what is told of them
   pub receipts : List Receipt
@@ -39,14 +40,16 @@ pub record DrivesAll {S T W : Type 0} (manner : DriveManner) (playing : Playing 
   -- what is said to its lines
   pub said : List ℕ
   pub end : DriveState S
-  pub spoken : DoesAll (driving playing) (begun_in manner mid mask) (map (handed longest_line) (lines_of bytes)) said end
+  pub spoken : DoesAll (driving playing) (begun_in manner mid mask) (map (handed longest_line) (lines_of bytes))
+      said end
   pub counted : driven ≡ record { lines = end.lines; errors = end.errors }
   -- the writer got all of it, and keeps nothing back
   pub written : Appends before.held after.held (before.gathered ++ text ++ said)
   pub kept : KeepsNothing after
 
 -- the events were played; then a read failed, and each line was answered that a line feed ended before
-pub record DrivesEnded {S T W : Type 0} (manner : DriveManner) (playing : Playing S) (start : S) (mask : Mask) (events : List ScriptEvent)
+pub record DrivesEnded {S T W : Type 0} (manner : DriveManner) (playing : Playing S) (start : S) (mask : Mask)
+    (events : List ScriptEvent)
     (from to : SourceState T) (before after : SinkState W) : Type 0 where
   pub receipts : List Receipt
   pub text : List ℕ
@@ -56,14 +59,16 @@ pub record DrivesEnded {S T W : Type 0} (manner : DriveManner) (playing : Playin
   pub read : Consumes from.remaining to.remaining bytes
   pub said : List ℕ
   pub end : DriveState S
-  pub spoken : DoesAll (driving playing) (begun_in manner mid mask) (map (handed longest_line) (ended_lines bytes)) said end
+  pub spoken : DoesAll (driving playing) (begun_in manner mid mask) (map (handed longest_line) (ended_lines bytes))
+      said end
   -- the writer got all of it, and keeps nothing back
   pub written : Appends before.held after.held (before.gathered ++ text ++ said)
   pub kept : KeepsNothing after
 
 -- the events were played; then the first of the lines that came were answered, the last of these maybe in part, when
 -- this fault came
-pub record DrivesSome {S T W : Type 0} (manner : DriveManner) (playing : Playing S) (start : S) (mask : Mask) (events : List ScriptEvent)
+pub record DrivesSome {S T W : Type 0} (manner : DriveManner) (playing : Playing S) (start : S) (mask : Mask)
+    (events : List ScriptEvent)
     (fault : Unanswered) (from to : SourceState T) (before after : SinkState W) : Type 0 where
   pub receipts : List Receipt
   pub text : List ℕ
@@ -87,7 +92,8 @@ ServesTurns manner playing player mask (Ok driven) from to before after =
     (whole : Bool) × (end : DriveState _) × (driven ≡ record { lines = end.lines; errors = end.errors })
     × ServesAll (driving playing) longest_line whole from to (begun_in manner player mask) end before after
 ServesTurns manner playing player mask (Err lines.Read) from to before after =
-    ((end : DriveState _) × ServesEnded (driving playing) longest_line from to (begun_in manner player mask) end before after)
+    ((end : DriveState _)
+    × ServesEnded (driving playing) longest_line from to (begun_in manner player mask) end before after)
     × ((to.failed ≡ true) ⊎ (to.left ≡ 0))
 ServesTurns manner playing player mask (Err (lines.Line fault)) from to before after =
     ServesSome (Leaves fault) (driving playing) longest_line from to (begun_in manner player mask) before after
@@ -115,7 +121,8 @@ LeftBy manner playing start mask events given (Ok driven) from to before after =
 LeftBy manner playing start mask events given (Err fault) from to before after = Unit {0}
 
 -- how the lines ended, by the answer
-abbrev pub DrivesTo : {S T W : Type 0} → DriveManner → Playing S → S → Mask → List ScriptEvent → Result Driven LinesFault
+abbrev pub DrivesTo : {S T W : Type 0} → DriveManner → Playing S → S → Mask → List ScriptEvent
+    → Result Driven LinesFault
     → SourceState T → SourceState T → SinkState W → SinkState W → Type 0
 DrivesTo manner playing start mask events (Ok driven) from to before after =
     DrivesAll manner playing start mask events driven from to before after
@@ -126,7 +133,8 @@ DrivesTo manner playing start mask events (Err (lines.Line fault)) from to befor
     DrivesSome manner playing start mask events fault from to before after
 
 -- the lines were driven on what the script opens: a chassis, or, where it has simulated units, a fibre
-pub data Drives {T W : Type 0} (manner : DriveManner) (script : ScriptView) (answer : Result Driven LinesFault) (from to : SourceState T)
+pub data Drives {T W : Type 0} (manner : DriveManner) (script : ScriptView) (answer : Result Driven LinesFault)
+    (from to : SourceState T)
     (before after : SinkState W) : Type 0 where
   OnChassis : script.units ≡ []
       → DrivesTo manner chassis_playing (opening_play script) script.mask script.events answer from to before after

@@ -21,7 +21,8 @@ AreTold manner (text ∷ texts) said =
     × (said ≡ line ++ rest)
 
 -- the whole trace was read, and the writer got what is told of each of its lines
-pub record IsExplained {R W : Type 0} (manner : Manner) (from to : SourceState R) (before after : SinkState W) (lines : ℕ)
+pub record IsExplained {R W : Type 0} (manner : Manner) (from to : SourceState R)
+    (before after : SinkState W) (lines : ℕ)
     : Type 0 where
   pub text : List ℕ
   pub read : ReadsWhole from to text

@@ -49,7 +49,8 @@ pub record AuditsAs (wanted : Audit) (options : AuditOptions) : Type 0 where
   pub units : options.told.units ≡ tells_side wanted.side (codes "units")
   pub known : unknown_rule wanted ≡ None
   pub rules : (rule : Rule)
-      → contains options.told.rules rule ≡ is_chosen (option_map texts wanted.only) (option_map texts wanted.without) rule
+      → contains options.told.rules rule
+      ≡ is_chosen (option_map texts wanted.only) (option_map texts wanted.without) rule
   pub form : options.form ≡ form_of wanted.words wanted.json
   pub census : options.units ≡ wanted.units
 

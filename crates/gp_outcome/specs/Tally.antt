@@ -36,5 +36,6 @@ line_of tally =
 -- the sum, as a JSON object
 abbrev pub object_of : Tally → List ℕ
 object_of tally =
-    codes "{\"passed\":" ++ decimal tally.passed ++ codes ",\"written\":" ++ decimal tally.written ++ codes ",\"failed\":"
+    codes "{\"passed\":" ++ decimal tally.passed ++ codes ",\"written\":" ++ decimal tally.written
+    ++ codes ",\"failed\":"
     ++ decimal tally.failed ++ codes "}\n"

@@ -111,8 +111,8 @@ fn judge_wrong<R: Read + Drop>(
 }
 
 /// Judges a script by its octets, and by what is expected of it. It passes where its trace has a line and is as expected
-/// to the last octet, or where it is wrong, and what is told of that, as `oltctl check` tells it behind the file's name, is what is
-/// expected, with a line feed behind it.
+/// to the last octet, or where it is wrong, and what is told of that, as `oltctl check` tells it behind the file's
+/// name, is what is expected, with a line feed behind it.
 ///
 /// Fails where memory was refused.
 #[tactic(auto, using(crate::proofs::JudgingLemmas::right_judged, crate::proofs::JudgingLemmas::wrong_judged, crate::proofs::JudgingLemmas::mistake_told))]

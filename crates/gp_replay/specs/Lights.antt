@@ -171,7 +171,8 @@ pub record LeavesToldLines {W : Type 0} (lights : Bool) (script : ScriptView) (b
 -- it could not be written
 abbrev pub LeavesToldPart : {W : Type 0} → Bool → ScriptView → SinkState W → SinkState W → Type 0
 LeavesToldPart lights script before after =
-    (0 < length script.units) × (LeavesToldLines lights script before after ⊎ LeavesToldPrefix lights script before after)
+    (0 < length script.units)
+    × (LeavesToldLines lights script before after ⊎ LeavesToldPrefix lights script before after)
 
 -- what a fault leaves of a script: where memory was refused nothing or a part, and else a write failed
 abbrev pub LeavesTold : {W : Type 0} → PlayFault → Bool → ScriptView → SinkState W → SinkState W → Type 0

@@ -65,7 +65,8 @@ PlaysSome playing (event ∷ more) old receipts new =
 
 -- this happens, and these are its entries
 abbrev pub TellsEntries : {S : Type 0} → List Entry → Happening S → Happening S
-TellsEntries entries happens old receipts new = happens old receipts new × (map (λ receipt. receipt.entry) receipts ≡ entries)
+TellsEntries entries happens old receipts new =
+    happens old receipts new × (map (λ receipt. receipt.entry) receipts ≡ entries)
 
 -- one of these entries makes the grant
 abbrev pub HasGrant : Grant → List Entry → Type 0

@@ -18,7 +18,8 @@ use Rattle.gp_replay.specs.Writing.{Writes}
 -- the turn is taken, with the wished number where it is free and one is handed out; what it sends has a code; the line
 -- is that of its receipt, and what is told is the receipt's
 pub record TellsTurn
-    (mask : Mask) (old : PlayState) (turn : Turn) (wished : Option ℕ) (told : EntryWritten) (line : List ℕ) (new : PlayState) : Type 0 where
+    (mask : Mask) (old : PlayState) (turn : Turn) (wished : Option ℕ) (told : EntryWritten) (line : List ℕ)
+    (new : PlayState) : Type 0 where
   pub receipt : Receipt
   pub taken : TakesTurns old (turn ∷ []) (receipt ∷ []) new
   pub proper : ForSome receipt.entry.answer.sent IsProperDown

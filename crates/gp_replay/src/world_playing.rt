@@ -101,7 +101,8 @@ fn play_few_frames<L: Ledger, W: Write>(
 ) -> Result<(), PlayFault>
     requires room { HasFibreRoom frames player.old }
     ensures plays { let lost = lost_by losses.old in
-        PlaysOn out.old.mask (Numbered (FramesRun lost.copies lost.bursts frames)) (Numbered (TakesSomeFrames lost frames))
+        PlaysOn out.old.mask (Numbered (FramesRun lost.copies lost.bursts frames))
+        (Numbered (TakesSomeFrames lost frames))
         player.old player.new out.old.sink.now out.new.sink.now result }
     ensures told { let lost = lost_by losses.old in OnOk result
         (Writes out.old.mask (TellsEntries entries.new.items (Numbered (FramesRun lost.copies lost.bursts frames)))
@@ -158,7 +159,8 @@ fn play_frames<L: Ledger, W: Write>(
 ) -> Result<(), PlayFault>
     requires room { HasFibreRoom frames player.old }
     ensures plays { let lost = lost_by losses.old in
-        PlaysOn out.old.mask (Numbered (FramesRun lost.copies lost.bursts frames)) (Numbered (TakesSomeFrames lost frames))
+        PlaysOn out.old.mask (Numbered (FramesRun lost.copies lost.bursts frames))
+        (Numbered (TakesSomeFrames lost frames))
         player.old player.new out.old.sink.now out.new.sink.now result }
     ensures losses { losses.new ≡ losses.old }
     ensures same { KeepsOut out.old out.new }

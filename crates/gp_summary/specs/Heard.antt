@@ -39,7 +39,8 @@ heard_front Json number units = number_field (codes "{\"port\":") number ++ numb
 
 abbrev pub heard_port_line : SummaryForm → ℕ → ℕ → PortCounts → List ℕ
 heard_port_line form number units counts =
-    heard_front form number units ++ events_told form counts ++ flat_map (refusal_told form counts.refusals) all_refusals
+    heard_front form number units ++ events_told form counts
+    ++ flat_map (refusal_told form counts.refusals) all_refusals
     ++ flat_map (alarm_told form counts.alarms) all_kinds ++ end_told form
 
 -- ---- a unit

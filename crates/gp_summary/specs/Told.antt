@@ -39,7 +39,8 @@ pub record TellsToEnd {S W : Type 0} (lights : Bool) (playing : Playing S) (mask
     (old new : S) (before after : SinkState W) (answer : Result (Unit {0}) PlayFault) : Type 0 where
   pub told : Result (Unit {0}) PlayFault
   pub mid : SinkState W
-  pub tells : TellsOn (TellsAll lights mask playing events) (TellsSome lights mask playing events) old new before mid told
+  pub tells : TellsOn (TellsAll lights mask playing events) (TellsSome lights mask playing events)
+      old new before mid told
   pub ends : EndsPlay mid after told answer
   pub memory : told ≡ Err faults.OutOfMemory → playing.refuses
 

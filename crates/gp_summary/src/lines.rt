@@ -24,7 +24,8 @@ fn push_unit<L: Ledger>(
     serial: &Serial,
     unit: &UnitCounts,
 ) -> Result<(), AllocError>
-    ensures { OnOk result (out.new.items ≡ out.old.items ++ spec.unit_line form number core.now (serial.now, unit.now)) }
+    ensures { OnOk result (out.new.items
+        ≡ out.old.items ++ spec.unit_line form number core.now (serial.now, unit.now)) }
 {
     let standing = Standing::of(core, serial, unit.found);
     push_unit_line(out, form, number, serial, &standing, unit)

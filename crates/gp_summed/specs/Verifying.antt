@@ -71,7 +71,8 @@ CountsFrom None old (Some text) new =
     new.counter.taken ≡ old.counter.taken ++ counted_of new.verify.ended text new.verify.said
 
 -- a line is judged and told of as it is without counting, and that is counted of it
-pub record Counts (old : CountingVerifyState) (line : Option (List ℕ)) (told : List ℕ) (new : CountingVerifyState) : Type 0 where
+pub record Counts (old : CountingVerifyState) (line : Option (List ℕ)) (told : List ℕ)
+    (new : CountingVerifyState) : Type 0 where
   pub follows : following.Follows old.verify line told new.verify
   pub counted : CountsFrom old.verify.ended old line new
 

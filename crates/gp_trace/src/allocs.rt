@@ -41,7 +41,8 @@ fn write_separator(line: &mut [u8], end: usize, is_last: bool) -> usize
 fn write_before(line: &mut [u8], end: usize, alloc: u16, leaving: bool, is_last: bool) -> usize
     requires room { 7 ≤ end }
     requires within { end ≤ length line.old }
-    ensures { Writes 7 (alloc_text (alloc, leaving) ++ (if is_last then [] else codes ",")) line.old end line.new result }
+    ensures { Writes 7 (alloc_text (alloc, leaving) ++ (if is_last then [] else codes ","))
+        line.old end line.new result }
 {
     let at = write_separator(line, end, is_last);
     write_alloc(line, at, alloc, leaving)

@@ -20,7 +20,8 @@ abbrev pub opened_by : Form → ScriptView → VerifyState
 opened_by form script = opened_in form script.mask script.ports script.licences
 
 -- the trace was verified against the chassis that the script opens, with this answer, and this is told of it
-abbrev pub ChecksTrace : {T : Type 0} → Form → SourceState T → SourceState T → List ℕ → Result ℕ VerifyFault → ScriptView
+abbrev pub ChecksTrace : {T : Type 0} → Form → SourceState T → SourceState T → List ℕ → Result ℕ VerifyFault
+    → ScriptView
     → Type 0
 ChecksTrace form from to told answer script =
     (end : VerifyState) × Verifies (opened_by form script) end from to told answer

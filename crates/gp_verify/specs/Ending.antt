@@ -74,7 +74,8 @@ after_writing found (Err stopped) = Err (verifies.Lines (Line lines.Write))
 abbrev pub TellsEnd : {W : Type 0} → List ℕ → Result ℕ VerifyFault → SinkState W → SinkState W → Result ℕ VerifyFault
     → Type 0
 TellsEnd text found mid new answer =
-    (written : Result (Unit {0}) WriteStopped) × WritesWhole mid new text written × (answer ≡ after_writing found written)
+    (written : Result (Unit {0}) WriteStopped) × WritesWhole mid new text written
+    × (answer ≡ after_writing found written)
 
 -- the text was read as far as it counts, and each line judged
 abbrev pub was_read : Result ℕ VerifyFault → Bool

@@ -80,7 +80,8 @@ impl PortWatch {
 
     /// Tells whether an ONU-ID was ranged, and this delay isn't near the one that it was ranged with.
     fn has_drifted(&self, settings: &Settings, onu: u8, delay: u32) -> bool
-        ensures { result ≡ some_passes (rules.drifts (settings_of settings.now) delay) (map.get self.now.seen.delay onu) }
+        ensures { result ≡ some_passes (rules.drifts (settings_of settings.now) delay)
+            (map.get self.now.seen.delay onu) }
     {
         match self.delay(onu) {
             Some(eqd) => drifts(settings, delay, eqd),

@@ -296,7 +296,8 @@ impl PortWatch {
 
     /// Notes that a serial number asks.
     pub(crate) fn note_ask(&mut self, serial: &Serial) -> Result<(), WatchFault>
-        ensures ok { OnOk result (self.new ≡ record self.old { asks = asks_with self.old serial.now (λ asks. suc asks) }) }
+        ensures ok { OnOk result (self.new
+            ≡ record self.old { asks = asks_with self.old serial.now (λ asks. suc asks) }) }
         ensures same { OnErr result (self.new ≡ self.old) }
         ensures fails { IfErr result (FailsBy self.old (Some serial.now)) }
     {
@@ -317,7 +318,8 @@ impl PortWatch {
     /// Takes an ask from a serial number, which is followed from now on where it can be, and tells whether it is.
     pub(crate) fn take_ask(&mut self, serial: &Serial) -> Result<bool, AllocError>
         ensures followed { IfOk result (λ followed. followed ≡ can_follow self.old serial.now) }
-        ensures asks { OnOk result (self.new ≡ record self.old { asks = asks_with self.old serial.now (λ asks. asks - 1) }) }
+        ensures asks { OnOk result (self.new
+            ≡ record self.old { asks = asks_with self.old serial.now (λ asks. asks - 1) }) }
         ensures same { OnErr result (self.new ≡ self.old) }
         ensures new { OnErr result (map.get self.old.asks serial.now ≡ None) }
     {
@@ -335,7 +337,8 @@ impl PortWatch {
         ensures followed { IfOk result (λ followed. followed ≡ can_follow self.old serial.now) }
         ensures none { IfOk result (λ followed. followed ≡ false → (onu : ℕ)
             → is_of self.old.seen serial.now onu ≡ false) }
-        ensures asks { OnOk result (self.new ≡ record self.old { asks = asks_with self.old serial.now (λ asks. asks) }) }
+        ensures asks { OnOk result (self.new
+            ≡ record self.old { asks = asks_with self.old serial.now (λ asks. asks) }) }
         ensures same { OnErr result (self.new ≡ self.old) }
         ensures new { OnErr result (map.get self.old.asks serial.now ≡ None) }
     {

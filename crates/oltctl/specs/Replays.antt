@@ -62,7 +62,8 @@ is_told_script (told.Wrong line) = false
 is_told_script told.Unread = false
 
 -- something was found in what a reader had to give, and what is told of it is whether that is a script for this
-pub record IsToldBy {R : Type 0} (purpose : Purpose) (reader : R) (remaining : Option (List ℕ)) (answer : CheckedSource) : Type 0 where
+pub record IsToldBy {R : Type 0} (purpose : Purpose) (reader : R) (remaining : Option (List ℕ)) (answer : CheckedSource)
+    : Type 0 where
   pub after : SourceState R
   pub found : Found
   pub is : IsFound purpose (unread reader remaining) after found

@@ -218,8 +218,8 @@ pub record IsToldAs (wanted : Explanation) (told : ToldTrace) : Type 0 where
 abbrev pub IsExplained : Explanation → ℕ → Type 0
 IsExplained wanted status = (told : ToldTrace) × IsToldAs wanted told × (status ≡ told_status told)
 
--- the status after a log was drawn or dumped, by whether one of its lines says anything, and by where all that was heard
--- is, if it is in none of the frames that are wanted
+-- the status after a log was drawn or dumped, by whether one of its lines says anything, and by where all that was
+-- heard is, if it is in none of the frames that are wanted
 abbrev pub heard_status : {T : Type 0} → Bool → Option T → ℕ
 heard_status heard None = if heard then SUCCESS else BAD_INPUT
 heard_status heard (Some outside) = BAD_INPUT

@@ -1,5 +1,5 @@
-//! The command `decode`: which message a code is, and each code of a list or of the lines of standard input. One code as
-//! an object stands in `objects.rt`.
+//! The command `decode`: which message a code is, and each code of a list or of the lines of standard input. One code
+//! as an object stands in `objects.rt`.
 ghost use Rattle.std.specs.Prelude.{◌≡◌, ◌≢◌, ◌↔◌, ℕ, List, Err, OnOk};
 ghost use Rattle.gp_decode.specs.declared.fault.DecodeFault.{DecodeFault as AnyFault};
 ghost use Rattle.gp_decode.specs.Line.{HasDecodeFault, IsOfText, SaysIn};

@@ -1,5 +1,5 @@
-//! The command `storm`: a script's bursts, frames and commands happen at once, by threads, and the totals go to standard
-//! output.
+//! The command `storm`: a script's bursts, frames and commands happen at once, by threads, and the totals go to
+//! standard output.
 ghost use Rattle.std.specs.Prelude.{◌≡◌, Ok, Err, OnOk};
 ghost use Rattle.gp_script.specs.declared.fault.ScriptFault.{ScriptFault};
 ghost use Rattle.gp_script.specs.Script.{ScriptView, storm_script_of};
