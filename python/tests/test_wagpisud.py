@@ -340,6 +340,18 @@ class Handles(unittest.TestCase):
                 with self.assertRaisesRegex(TypeError, "a chassis is neither copied nor pickled"):
                     call(chassis)
 
+    def test_it_is_opened_once(self):
+        with opened() as chassis:
+            handle = chassis._handle.at
+            chassis.frame()
+            with self.assertRaisesRegex(RuntimeError, "a chassis is opened once"):
+                chassis.__init__([], licences=1)
+            self.assertEqual(chassis._handle.at, handle)
+            self.assertEqual(chassis.frame().number, 1)
+            chassis.close()
+            chassis.__init__([Port()], licences=1)
+            self.assertEqual(chassis.frame().number, 0)
+
     def test_one_that_is_let_go(self):
         chassis = opened()
         handle = chassis._handle
@@ -393,6 +405,14 @@ class Library(unittest.TestCase):
                                      env=os.environ | {"WAGPISUD_LIBRARY": named}, capture_output=True, text=True, check=False)
                 self.assertEqual(ran.returncode, 1)
                 self.assertIn(f"wagpisud._library.LibraryMissing: {named}", ran.stderr.splitlines()[-1])
+
+    def test_a_fault_is_read_where_the_library_is_not(self):
+        with opened() as chassis, self.assertRaises(wagpisud.NoPort) as caught:
+            chassis.frame(1)
+        text = "import pickle, sys; it = pickle.load(sys.stdin.buffer); print(type(it).__name__, it.status.name, it)"
+        ran = subprocess.run([sys.executable, "-B", "-c", text], input=pickle.dumps(caught.exception), stdout=subprocess.PIPE,
+                             env=os.environ | {"WAGPISUD_LIBRARY": "/nowhere.so"}, check=True)
+        self.assertEqual(ran.stdout.decode(), f"NoPort NO_PORT {caught.exception}\n")
 
 
 class Journal(unittest.TestCase):

@@ -65,7 +65,9 @@ class Chassis:
         """Opens it, each port without units. `licences`, at most 4064, are the active units that it may have on all ports
         together; `journal_limit`, 1 to 1,000,000, the entries that each port's journal keeps. ValueError where a text is no
         serial number or a number doesn't fit; LimitFault, which is a ValueError too, where a number is outside its range or a
-        serial number is admitted twice. NoMemory."""
+        serial number is admitted twice. NoMemory. RuntimeError where it is open already."""
+        if getattr(self, "_handle", None) and self._handle.is_open:
+            raise RuntimeError("a chassis is opened once")
         ports = list(ports)
         admitted = [_admitted(port) for port in ports]
         serials = [serial for some in admitted for serial in some]

@@ -31,12 +31,13 @@ class Status(enum.IntEnum):
 class Fault(Exception):
     """A call was refused, and changed nothing. `status` says why, and the text says it in words."""
 
-    def __init__(self, status, about=""):
-        self.status, self._about = Status(status), about
-        super().__init__(f"{_text(status)}{about}")
+    def __init__(self, status, about="", text=None):
+        """`about` stands behind the library's words for the status; where `text` is given, that is all of it."""
+        self.status = Status(status)
+        super().__init__(f"{_text(status)}{about}" if text is None else text)
 
     def __reduce__(self):
-        return type(self), (self.status, self._about)
+        return type(self), (self.status, "", str(self))  # so that it can be read where the library isn't
 
 
 class ChassisClosed(Fault):
