@@ -8,7 +8,10 @@ use Rattle.gp_explain.specs.declared.fault.NoLine.{NoLine}
 use Rattle.gp_explain.specs.declared.fault.NoLine.TheVariants.{NotALine, TooLong}
 use Rattle.gp_log.specs.Line.{Reads, says_nothing}
 use Rattle.gp_log.specs.declared.line.LogLine.{LogLine}
-use Rattle.gp_picture.specs.Drawing.{AreRead, DrawState, Drawing, DrawsFrom, DrawsText, IsRead, IsUnread, ended_by}
+use Rattle.gp_times.specs.declared.times.PortTime.{PortTime}
+use Rattle.gp_times.specs.Lines.{AreRead, IsRead, IsUnread, Lead}
+use Rattle.gp_times.specs.Times.{times_after}
+use Rattle.gp_picture.specs.Drawing.{DrawState, Drawing, DrawsFrom, DrawsText, ended_by}
 
 -- lines that are handed on whole
 abbrev pub wholes : List (List ℕ) → List (Option (List ℕ))
@@ -23,6 +26,7 @@ pub record Runs (all : List (Option (List ℕ))) (said : List ℕ) (from to : Dr
   pub silent : said ≡ []
   pub lines : to.lines ≡ from.lines + length texts
   pub heard : to.heard ≡ (from.heard || told)
+  pub lead : Lead texts from.times to.times
 
 -- why a line ends it
 abbrev pub Fails : NoLine → Option (List ℕ) → Type 0
@@ -71,9 +75,10 @@ halted line ls state next new said first rest why nothing is fails parts h =
 
 -- one line more at the head
 onto : (ended : Option NoLine) (text : List ℕ) (ls : List (Option (List ℕ))) (said first rest : List ℕ) (from next to : DrawState) (line : LogLine)
-    → Reads text (Ok line) → next.lines ≡ from.lines + 1 → next.heard ≡ (from.heard || not (says_nothing line)) → first ≡ [] → said ≡ first ++ rest
+    → Reads text (Ok line) → next.lines ≡ from.lines + 1 → next.heard ≡ (from.heard || not (says_nothing line))
+    → next.times ≡ times_after line from.times → first ≡ [] → said ≡ first ++ rest
     → Course ended ls rest next to → Course ended (Some text ∷ ls) said from to
-onto None text ls said first rest from next to line reads one heard nothing parts c = record {
+onto None text ls said first rest from next to line reads one heard timed nothing parts c = record {
   texts = text ∷ c.texts;
   told = not (says_nothing line) || c.told;
   all_is = ap (λ (l : List (Option (List ℕ))). Some text ∷ l) c.all_is;
@@ -81,8 +86,9 @@ onto None text ls said first rest from next to line reads one heard nothing part
   silent = both_silent said first rest parts nothing c.silent;
   lines = let many = c.lines in omega (arith, many, one);
   heard = c.heard ∙ ap (λ (b : Bool). b || c.told) heard ∙ or_assoc from.heard (not (says_nothing line)) c.told;
+  lead = (line, reads, subst (λ (t : List PortTime). Lead c.texts t to.times) timed c.lead);
 }
-onto (Some why) text ls said first rest from next to line reads one heard nothing parts c = record {
+onto (Some why) text ls said first rest from next to line reads one heard timed nothing parts c = record {
   before = text ∷ c.before;
   line = c.line;
   rest = c.rest;
@@ -102,7 +108,8 @@ text_course : (text : List ℕ) (ls : List (Option (List ℕ))) (old next new : 
 text_course text ls old next new said first rest none nothing (inl drawn) parts h more =
     let is = drawn.2 in
     let before : Course new.ended ls rest next new = more (ap (λ (s : DrawState). s.ended) is ∙ none) in
-    onto new.ended text ls said first rest old next new drawn.0 drawn.1 (ap (λ (s : DrawState). s.lines) is) (ap (λ (s : DrawState). s.heard) is) nothing parts before
+    onto new.ended text ls said first rest old next new drawn.0 drawn.1 (ap (λ (s : DrawState). s.lines) is) (ap (λ (s : DrawState). s.heard) is)
+    (ap (λ (s : DrawState). s.times) is) nothing parts before
 text_course text ls old next new said first rest none nothing (inr unread) parts h more =
     halted (Some text) ls old next new said first rest NotALine nothing unread.1 (refl, unread.0) parts h
 
@@ -110,7 +117,7 @@ pub course : (ls : List (Option (List ℕ))) (old new : DrawState) (said : List 
     → Course new.ended ls said old new
 course [] old new said none h =
     let there : Course None [] said old old =
-    record { texts = []; told = false; all_is = refl; read = refl; silent = h.0; lines = none_done old.lines; heard = sym (or-false old.heard) } in
+    record { texts = []; told = false; all_is = refl; read = refl; silent = h.0; lines = none_done old.lines; heard = sym (or-false old.heard); lead = refl } in
     let here : Course old.ended [] said old old = subst (λ (e : Option NoLine). Course e [] said old old) (sym none) there in
     subst (λ (s : DrawState). Course s.ended [] said old s) (sym h.1) here
 course (None ∷ ls) old new said none h =

@@ -1,6 +1,6 @@
 -- How drawing an input ends.
 use Rattle.std.specs.Prelude.{is_some}
-use Rattle.std.proofs.Common.{◌≡◌, ◌⊎◌, inl, inr, ℕ, Bool, true, false, List, [], ◌∷◌, ◌++◌, Option, None, Some, Result, Ok, Err, IsErrAnd, length, take, drop, map, refl, sym, ap, subst, ◌∙◌, append_assoc, arith}
+use Rattle.std.proofs.Common.{◌≡◌, ◌⊎◌, inl, inr, ℕ, Bool, true, false, List, [], ◌∷◌, ◌++◌, Option, None, Some, Result, Ok, Err, IfOk, IsErrAnd, length, take, drop, map, refl, sym, ap, subst, ◌∙◌, append_assoc, arith}
 use Rattle.std.proofs.lemmas.List.{append-nil, take-append-drop}
 use Rattle.std.proofs.KnownBytes.{Appends-trans}
 use Rattle.std.specs.List.{All}
@@ -20,7 +20,11 @@ use Rattle.gp_explain.specs.declared.fault.ExplainFault.{ExplainFault}
 use Rattle.gp_explain.specs.declared.fault.ExplainFault.TheVariants.{Refused, Lines}
 use Rattle.gp_explain.specs.declared.fault.NoLine.{NoLine}
 use Rattle.gp_picture.specs.declared.running.PictureSum.{PictureSum}
-use Rattle.gp_picture.specs.Drawing.{AreRead, DrawState, Drawing, IsRead, IsUnread, has_ended, opened}
+use Rattle.gp_times.specs.declared.frames.Frames.{Frames}
+use Rattle.gp_times.specs.declared.frames.Outside.{Outside}
+use Rattle.gp_times.specs.Lines.{AreRead, IsRead, IsUnread, IsWhere, Lead}
+use Rattle.gp_times.specs.Times.{outside_of, times_begun}
+use Rattle.gp_picture.specs.Drawing.{DrawState, Drawing, has_ended, opened}
 use Rattle.gp_picture.specs.Outcome.{DrawsTrace, EndsAs, Ends, IsBegun, IsNone, IsRefused, WritesPicture}
 use Rattle.gp_picture.proofs.CourseLemmas.{Course, Fails, Halts, Runs, course, wholes}
 
@@ -192,6 +196,50 @@ module _ {R W : Type 0} (from to : SourceState R) (before mid after : SinkState 
   pub drawn_as : (end : LinesEnd) (old new : DrawState) (answer : Result PictureSum ExplainFault) → old ≡ opened
       → ServesTo Drawing has_ended longest_line end from to old new before mid → Ends new mid after answer → DrawsTrace from to before after answer
   drawn_as end old new answer opens s ends = drawn end new answer (subst (λ (o : DrawState). ServesTo Drawing has_ended longest_line end from to o new before mid) opens s) ends
+
+-- ---- where all that was heard is
+
+ok_err : (sum : PictureSum) (fault : ExplainFault) → Ok sum ≡ Err fault → ⊥
+ok_err sum fault h = cc
+
+module _ {R W : Type 0} (frames : Frames) (from to : SourceState R) (before mid after : SinkState W) where
+  where_runs : (new : DrawState) (text said : List ℕ) (outside : Option Outside) → ReadsWhole from to text
+      → Runs (map (handed longest_line) (lines_of text)) said opened new → outside ≡ outside_of frames new.times → IsWhere frames from to outside
+  where_runs new text said outside read runs is =
+      let same : lines_of text ≡ runs.texts = handed_all longest_line (lines_of text) runs.texts runs.all_is in
+      record {
+        text = text;
+        read = read;
+        times = new.times;
+        lead = subst (λ (ls : List (List ℕ)). Lead ls times_begun new.times) (sym same) runs.lead;
+        is = is;
+      }
+
+  where_course : (ended : Option NoLine) (new : DrawState) (text said : List ℕ) (sum : PictureSum) → ReadsWhole from to text
+      → Course ended (map (handed longest_line) (lines_of text)) said opened new → EndsAs ended new mid after (Ok sum)
+      → sum.outside ≡ outside_of frames new.times → IsWhere frames from to sum.outside
+  where_course None new text said sum read c ends is = where_runs new text said sum.outside read c is
+  where_course (Some why) new text said sum read c ends is = absurd (ok_err sum _ ends.0)
+
+  where_over : (ended : Option NoLine) (new : DrawState) (sum : PictureSum) → is_some ended ≡ true → EndsAs ended new mid after (Ok sum)
+      → IsWhere frames from to sum.outside
+  where_over None new sum some ends = absurd (never some)
+  where_over (Some why) new sum some ends = absurd (ok_err sum _ ends.0)
+
+  where_served : (end : LinesEnd) (new : DrawState) (sum : PictureSum) → ServesTo Drawing has_ended longest_line end from to opened new before mid
+      → Ends new mid after (Ok sum) → sum.outside ≡ outside_of frames new.times → IsWhere frames from to sum.outside
+  where_served Whole new sum s ends is =
+      where_course new.ended new s.bytes s.said sum s.read (started new (map (handed longest_line) (lines_of s.bytes)) s.said s.spoken) ends is
+  where_served Open new sum s ends is =
+      where_course new.ended new s.bytes s.said sum s.read (started new (map (handed longest_line) (lines_of s.bytes)) s.said s.spoken) ends is
+  where_served Over new sum s ends is = where_over new.ended new sum s.1 ends
+
+  pub where_as : (end : LinesEnd) (old new : DrawState) (answer : Result PictureSum ExplainFault) → old ≡ opened
+      → ServesTo Drawing has_ended longest_line end from to old new before mid → Ends new mid after answer
+      → IfOk answer (λ sum. sum.outside ≡ outside_of frames new.times) → IfOk answer (λ sum. IsWhere frames from to sum.outside)
+  where_as end old new (Ok sum) opens s ends is =
+      where_served end new sum (subst (λ (o : DrawState). ServesTo Drawing has_ended longest_line end from to o new before mid) opens s) ends is
+  where_as end old new (Err fault) opens s ends is = is
 
 -- ---- where it was not read, or a line not drawn
 

@@ -8,7 +8,8 @@ use Rattle.gp_explain.specs.declared.fault.NoLine.TheVariants.{NotALine}
 use Rattle.gp_log.specs.declared.fault.LogFault.{LogFault}
 use Rattle.gp_log.specs.declared.line.LogLine.{LogLine}
 use Rattle.gp_log.specs.Line.{Reads}
-use Rattle.gp_picture.specs.Drawing.{DrawState, Drawing, DrawsFrom, IsUnread, counted, ended_by}
+use Rattle.gp_times.specs.Lines.{IsUnread}
+use Rattle.gp_picture.specs.Drawing.{DrawState, Drawing, DrawsFrom, counted, ended_by}
 
 -- a line that is none ends it
 pub refused_line : {W : Type 0} (old new : DrawState) (text : List ℕ) (before : SinkState W) → old.ended ≡ None → IsUnread text → new ≡ ended_by NotALine old

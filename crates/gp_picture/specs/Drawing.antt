@@ -1,40 +1,32 @@
 -- How far an input was read (this profile's own rule). What is drawn of a line is tested, and not said here.
+-- Inside: no public contract cites this.
 use Rattle.std.specs.Prelude.{◌≡◌, ℕ, ◌+◌, ◌⊎◌, ◌||◌, not, Bool, false, List, [], Option, None, Some, is_some, Ok, Err, ◌∷◌}
 use Rattle.gp_flow.specs.Lines.{Speech, WholeLines}
 use Rattle.gp_explain.specs.declared.fault.NoLine.{NoLine}
 use Rattle.gp_explain.specs.declared.fault.NoLine.TheVariants.{NotALine, TooLong}
-use Rattle.gp_log.specs.declared.fault.LogFault.{LogFault}
 use Rattle.gp_log.specs.declared.line.LogLine.{LogLine}
 use Rattle.gp_log.specs.Line.{Reads, says_nothing}
+use Rattle.gp_times.specs.declared.times.PortTime.{PortTime}
+use Rattle.gp_times.specs.Times.{times_after, times_begun}
+use Rattle.gp_times.specs.Lines.{IsUnread}
 
--- a line of a trace or a log, an empty one, or a remark
-abbrev pub IsRead : List ℕ → Type 0
-IsRead text = (line : LogLine) × Reads text (Ok line)
-
--- each of these lines is read, and whether one of them says anything
-abbrev pub AreRead : List (List ℕ) → Bool → Type 0
-AreRead [] heard = heard ≡ false
-AreRead (text ∷ texts) heard =
-    (said : LogLine) × (rest : Bool) × Reads text (Ok said) × AreRead texts rest
-    × (heard ≡ (not (says_nothing said) || rest))
-
--- any other line, and what is wrong with it
-abbrev pub IsUnread : List ℕ → Type 0
-IsUnread text = (fault : LogFault) × Reads text (Err fault)
-
--- how many lines came, whether one of them says anything, and why the last of them ended it, if it did
+-- how many lines came, whether one of them says anything, why the last of them ended it, if it did, and the times of
+-- the ports
 pub record DrawState : Type 0 where
   pub lines : ℕ
   pub heard : Bool
   pub ended : Option NoLine
+  pub times : List PortTime
 
 -- before the first line
 abbrev pub opened : DrawState
-opened = record { lines = 0; heard = false; ended = None }
+opened = record { lines = 0; heard = false; ended = None; times = times_begun }
 
 -- one line more came, which says this
 abbrev pub counted : LogLine → DrawState → DrawState
-counted line state = record state { lines = state.lines + 1; heard = state.heard || not (says_nothing line) }
+counted line state =
+    record state
+    { lines = state.lines + 1; heard = state.heard || not (says_nothing line); times = times_after line state.times }
 
 -- one line more came, and ended it
 abbrev pub ended_by : NoLine → DrawState → DrawState

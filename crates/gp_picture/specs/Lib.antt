@@ -1,4 +1,3 @@
 pub mod Faults
 pub mod Drawing
 pub mod Outcome
-pub mod Outside

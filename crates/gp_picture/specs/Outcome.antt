@@ -13,7 +13,8 @@ use Rattle.gp_explain.specs.declared.fault.ExplainFault.TheVariants.{Refused, Li
 use Rattle.gp_explain.specs.declared.fault.NoLine.{NoLine}
 use Rattle.gp_explain.specs.declared.fault.NoLine.TheVariants.{NotALine, TooLong}
 use Rattle.gp_picture.specs.declared.running.PictureSum.{PictureSum}
-use Rattle.gp_picture.specs.Drawing.{AreRead, DrawState, IsRead, IsUnread}
+use Rattle.gp_times.specs.Lines.{AreRead, IsRead, IsUnread}
+use Rattle.gp_picture.specs.Drawing.{DrawState}
 
 -- a whole SVG document (W3C, Scalable Vector Graphics 1.1). What stands in it is tested, and not said here.
 abbrev pub IsSvg : List ℕ → Type 0

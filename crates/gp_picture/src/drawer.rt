@@ -5,14 +5,16 @@ ghost use Rattle.gp_picture.specs.Drawing.{opened};
 use crate::options::PictureOptions;
 use crate::picture::Picture;
 use gp_explain::NoLine;
+use gp_times::PortTimes;
 use std::alloc::{AllocError, Global};
 use std::marker::Model;
 
 /// Is given the lines of a trace or a log, one after another. The first line that is none ends it. Contracts see how
-/// many lines came, whether one of them says anything, and what ended it.
+/// many lines came, whether one of them says anything, what ended it, and the times of the ports.
 #[derive(Drop)]
 pub(crate) struct Drawer {
     pub(crate) picture: Picture,
+    pub(crate) times: PortTimes,
     pub(crate) lines: u64,
     pub(crate) heard: bool,
     pub(crate) ended: Option<NoLine>,
@@ -23,7 +25,7 @@ impl Model for Drawer {
 
     ghost Value = { DrawState };
 
-    ghost view = { λ s. record { lines = s.lines; heard = s.heard; ended = s.ended } };
+    ghost view = { λ s. record { lines = s.lines; heard = s.heard; ended = s.ended; times = s.times } };
 }
 
 impl Drawer {
@@ -33,6 +35,7 @@ impl Drawer {
     {
         Ok(Drawer {
             picture: Picture::begin(alloc, options)?,
+            times: PortTimes::begin(),
             lines: 0,
             heard: false,
             ended: None,

@@ -2,10 +2,11 @@
 //! fibre.
 //!
 //! Promise: any input is read to its end or to its first line that is none, nothing else is written than one picture,
-//! and how it ended is told exactly (`draw_trace`). What is drawn is tested.
+//! and how it ended and whether all that was heard is outside of it is told exactly (`draw_trace`). What is drawn is
+//! tested.
 //!
-//! - `options.rt`: `PictureOptions`, the frames that are drawn, and what is heard is judged by; `Outside`, where all is
-//!   that was heard, if nothing is drawn. `moment.rt`: a line and its frame.
+//! - `options.rt`: `PictureOptions`, the frames that are drawn, and what is heard is judged by. `moment.rt`: a line and
+//!   its frame.
 //! - `state.rt`: what a unit does. `touched.rt`: which units a message touches. `lane.rt`: a unit's changes.
 //! - `mark.rt`: marks and their rows. `windows.rt`: the windows that are open. `alarm.rt`: the alarm of a line.
 //!   `room.rt`: how much is kept, and which frames as one.
@@ -43,5 +44,6 @@ mod touched;
 mod whole;
 mod windows;
 
-pub use options::{Frames, Outside, PORTS, PictureOptions};
+pub use gp_times::{Frames, Outside};
+pub use options::{PORTS, PictureOptions};
 pub use running::{PictureSum, draw_trace};

@@ -32,6 +32,17 @@ pub(crate) struct Moment {
     length: usize,
 }
 
+impl<'a> LineText<'a> {
+    /// Gives where it is heard, at this frame of its port.
+    pub(crate) fn at(&self, frame: u64) -> Place<'a> {
+        Place {
+            frame,
+            line: self.number,
+            text: self.text,
+        }
+    }
+}
+
 impl Place<'_> {
     /// Keeps it.
     pub(crate) fn moment(&self) -> Moment {

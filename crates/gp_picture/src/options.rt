@@ -1,28 +1,11 @@
 //! Which frames are drawn, and what is heard is judged by.
 
 use gp_ploam::Mask;
+use gp_times::Frames;
 use gp_watch::Settings;
 
 /// How many ports an input may tell of.
 pub const PORTS: usize = 16;
-
-/// The frames that are drawn, both ends too. Frames are counted from the first of a port; one lasts 125 microseconds.
-#[derive(Clone, Copy, Debug, PartialEq, Eq)]
-pub struct Frames {
-    /// From this one on.
-    pub from: u64,
-    /// Up to this one.
-    pub to: u64,
-}
-
-/// Where all that was heard is, where none of it is in a frame that is drawn.
-#[derive(Clone, Copy, Debug, PartialEq, Eq)]
-pub enum Outside {
-    /// Before the first of them: the last frame of which a line told.
-    Before { last: u64 },
-    /// Behind the last of them: the first frame of which a line told.
-    Behind { first: u64 },
-}
 
 /// Which frames are drawn, and what is heard is judged by.
 #[derive(Clone, Copy, Debug, PartialEq, Eq)]

@@ -4,14 +4,14 @@ use crate::alarm::alarm_in;
 use crate::fault::PictureFault;
 use crate::lane::Lane;
 use crate::mark::{Mark, MarkKind, Row};
-use crate::moment::{LineText, Place};
+use crate::moment::Place;
 use crate::options::PictureOptions;
 use crate::room::Room;
 use crate::state::{Cause, UnitState};
 use crate::touched::{Touched, units_touched};
 use crate::windows::{MOST_OPEN, Window, Windows};
 use gp_finding::heard_in;
-use gp_log::{FRAME_NANOSECONDS, Said};
+use gp_log::Said;
 use gp_ploam::Serial;
 use gp_watch::{Heard, PortWatch, Settings};
 use std::alloc::{AllocError, Global};
@@ -21,10 +21,6 @@ use std::collections::BTreeMap;
 #[derive(Drop)]
 pub(crate) struct Port {
     watch: PortWatch,
-    /// Its time in nanoseconds.
-    time: u64,
-    /// The frame of the first line that told of it.
-    pub(crate) first: Option<u64>,
     windows: Windows,
     pub(crate) unanswered: Row,
     pub(crate) alarms: Row,
@@ -50,8 +46,6 @@ impl Port {
     pub(crate) fn begin(alloc: Global, midway: bool) -> Result<Port, AllocError> {
         Ok(Port {
             watch: PortWatch::begin(alloc, midway)?,
-            time: 0,
-            first: None,
             windows: Windows::new(),
             unanswered: Row::new(alloc),
             alarms: Row::new(alloc),
@@ -59,18 +53,6 @@ impl Port {
             lanes: Vec::new(alloc),
             places: BTreeMap::new(alloc),
         })
-    }
-
-    /// How many frames it has had.
-    pub(crate) fn frame(&self) -> u64 {
-        self.time / FRAME_NANOSECONDS
-    }
-
-    /// Notes that a line tells of it.
-    fn note_line(&mut self) {
-        if self.first.is_none() {
-            self.first = Some(self.frame());
-        }
     }
 
     /// Marks a window that closed without an answer, unless it did so behind the last frame that is drawn.
@@ -92,13 +74,13 @@ impl Port {
         self.unanswered.keep(room, mark)
     }
 
-    /// Marks the windows that closed by now without an answer.
+    /// Marks the windows that closed by this frame without an answer.
     fn close_windows(
         &mut self,
         options: &PictureOptions,
         room: &mut Room,
+        now: u64,
     ) -> Result<(), AllocError> {
-        let now = self.frame();
         for _ in 0..MOST_OPEN {
             let Some(window) = self.windows.take_past(now) else {
                 return Ok(());
@@ -271,15 +253,6 @@ impl Port {
         }
     }
 
-    /// Gives where a line stands.
-    fn place<'a>(&self, line: u64, text: &'a [u8]) -> Place<'a> {
-        Place {
-            frame: self.frame(),
-            line,
-            text,
-        }
-    }
-
     /// Hears a line of a log. One whose time is before the port's is only marked. Behind the last frame that is drawn
     /// only time is counted.
     pub(crate) fn hear_log(
@@ -287,23 +260,19 @@ impl Port {
         options: &PictureOptions,
         room: &mut Room,
         number: usize,
-        line: &LineText<'_>,
-        time: u64,
+        place: &Place<'_>,
+        falls: bool,
         said: &Said,
     ) -> Result<(), PictureFault> {
-        let falls = time < self.time;
-        self.time = self.time.max(time);
-        self.note_line();
-        self.close_windows(options, room)?;
-        let place = self.place(line.number, line.text);
+        self.close_windows(options, room, place.frame)?;
         if place.frame > options.frames.to {
             return Ok(());
         }
         if falls {
-            self.findings.keep(room, mark_at(MarkKind::Time, &place))?;
+            self.findings.keep(room, mark_at(MarkKind::Time, place))?;
             return Ok(());
         }
-        self.hear(options, room, number, &place, said)
+        self.hear(options, room, number, place, said)
     }
 
     /// Marks the alarm that the line of a frame tells, if it tells one.
@@ -328,23 +297,18 @@ impl Port {
         options: &PictureOptions,
         room: &mut Room,
         number: usize,
-        line: &LineText<'_>,
+        place: &Place<'_>,
         is_frame: bool,
         first: &Option<Said>,
         second: &Option<Said>,
     ) -> Result<(), PictureFault> {
-        if is_frame {
-            self.time = self.time.saturating_add(FRAME_NANOSECONDS);
-        }
-        self.note_line();
-        self.close_windows(options, room)?;
-        let place = self.place(line.number, line.text);
+        self.close_windows(options, room, place.frame)?;
         if place.frame > options.frames.to {
             return Ok(());
         }
-        self.hear_maybe(options, room, number, &place, first)?;
-        self.hear_maybe(options, room, number, &place, second)?;
-        self.mark_alarm(room, &place, is_frame)?;
+        self.hear_maybe(options, room, number, place, first)?;
+        self.hear_maybe(options, room, number, place, second)?;
+        self.mark_alarm(room, place, is_frame)?;
         Ok(())
     }
 

@@ -78,15 +78,16 @@ fn push_mark_rows(
     push_mark_row(out, alloc, style, port.findings.marks.as_slice())
 }
 
-/// Appends the lanes of a port, one below the other from here on, and gives where they end.
+/// Appends the lanes of a port that has had so many frames, one below the other from here on, and gives where they end.
 fn push_lanes(
     out: &mut String,
     alloc: Global,
     scale: Scale,
     top: u64,
     port: &Port,
+    frame: u64,
 ) -> Result<u64, AllocError> {
-    let end = scale.place(port.frame().min(scale.to).saturating_add(1));
+    let end = scale.place(frame.min(scale.to).saturating_add(1));
     let mut y = top;
     for lane in port.lanes.as_slice() {
         y = push_lane(out, alloc, scale, y, lane, end)?;
@@ -94,18 +95,19 @@ fn push_lanes(
     Ok(y)
 }
 
-/// Appends a port, which begins here, and gives where the next one does.
+/// Appends a port that has had so many frames, which begins here, and gives where the next one does.
 pub(crate) fn push_port(
     out: &mut String,
     alloc: Global,
     scale: Scale,
-    number: usize,
+    number: u8,
     port: &Port,
+    frame: u64,
     top: u64,
 ) -> Result<u64, AllocError> {
     let mut rows = String::new(alloc);
     let lanes_top = push_mark_rows(&mut rows, alloc, scale, port)?;
-    let end = push_lanes(&mut rows, alloc, scale, lanes_top, port)?;
+    let end = push_lanes(&mut rows, alloc, scale, lanes_top, port, frame)?;
     write!(out, "<g transform=\"translate(220 {top})\">\n")?;
     write!(
         out,

@@ -1,6 +1,6 @@
 //! How much is kept: no more than can be drawn, whatever the length of the input.
 
-use crate::options::Frames;
+use gp_times::Frames;
 use std::alloc::Global;
 
 /// How many marks and changes are kept at most.

@@ -1,16 +1,18 @@
 //! From the bytes of a trace or a log to its picture: nothing is written before all of it was read, and none where a
 //! line can't be.
-ghost use Rattle.std.specs.Prelude.{◌≡◌, true, IfOk, IfSome};
+ghost use Rattle.std.specs.Prelude.{◌≡◌, true, IfOk};
 ghost use Rattle.gp_picture.specs.Outcome as spec;
-ghost use Rattle.gp_picture.specs.Outside.{IsOutside};
+ghost use Rattle.gp_times.specs.Lines.{IsWhere};
+ghost use Rattle.gp_times.specs.Times.{outside_of};
 
 use crate::drawer::Drawer;
-use crate::options::{Outside, PictureOptions};
+use crate::options::PictureOptions;
 use crate::picture::Picture;
 use crate::whole::picture_text;
 use gp_explain::ExplainFault;
 use gp_flow::{LinesFault, Unanswered, run_lines};
 use gp_stream::{Sink, Source};
+use gp_times::{Outside, PortTimes};
 use std::alloc::Global;
 use std::io::{Read, Write};
 
@@ -38,7 +40,7 @@ pub fn draw_trace<R: Read, W: Write>(
 ) -> Result<PictureSum, ExplainFault>
     requires { sink.old.flushed ≡ true }
     ensures drawn { spec.DrawsTrace source.old source.new sink.old sink.new result }
-    ensures outside { IfOk result (λ sum. IfSome sum.outside (IsOutside options.now.frames)) }
+    ensures outside { IfOk result (λ sum. IsWhere options.now.frames source.old source.new sum.outside) }
 {
     let mut drawer = Drawer::begin(alloc, options)?;
     run_lines(alloc, source, sink, &mut drawer)?;
@@ -53,7 +55,7 @@ fn finish<W: Write>(
     sink: &mut Sink<W>,
 ) -> Result<PictureSum, ExplainFault>
     ensures ends { spec.Ends drawer.now sink.old sink.new result }
-    ensures outside { IfOk result (λ sum. IfSome sum.outside (IsOutside options.now.frames)) }
+    ensures outside { IfOk result (λ sum. sum.outside ≡ outside_of options.now.frames drawer.now.times) }
 {
     match drawer.ended {
         Some(why) => Err(ExplainFault::Refused {
@@ -61,25 +63,26 @@ fn finish<W: Write>(
             why,
         }),
         None => {
-            write_picture(alloc, &drawer.picture, sink)?;
+            write_picture(alloc, &drawer.picture, &drawer.times, sink)?;
             Ok(PictureSum {
                 lines: drawer.lines,
                 heard: drawer.heard,
-                outside: drawer.picture.outside(&options.frames),
+                outside: drawer.times.outside(&options.frames),
             })
         }
     }
 }
 
-/// Writes a picture as SVG.
+/// Writes a picture of ports at these times as SVG.
 fn write_picture<W: Write>(
     alloc: Global,
     picture: &Picture,
+    times: &PortTimes,
     sink: &mut Sink<W>,
 ) -> Result<(), ExplainFault>
     ensures { spec.WritesPicture sink.old sink.new result }
 {
-    let text = picture_text(alloc, picture)?;
+    let text = picture_text(alloc, picture, times)?;
     match sink.write_whole(text.as_bytes()) {
         Ok(()) => Ok(()),
         Err(_) => Err(ExplainFault::Lines(LinesFault::Line(Unanswered::Write))),

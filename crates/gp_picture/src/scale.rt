@@ -1,7 +1,7 @@
 //! Where a frame stands in the picture, in units from the left.
 ghost use Rattle.std.specs.Prelude.{◌≤◌};
 
-use crate::picture::Picture;
+use gp_times::{Frames, PortTimes};
 
 /// How many units of width all frames that are drawn have.
 const WIDTH: u128 = 1_000;
@@ -16,12 +16,12 @@ pub(crate) struct Scale {
 }
 
 impl Scale {
-    /// Gives that of a picture: from the first frame of which a line tells, or that is drawn.
-    pub(crate) fn of(picture: &Picture) -> Scale {
-        let from = picture.first_frame();
+    /// Gives that of a picture: from the first frame of which a line tells, or that is drawn, whichever is later.
+    pub(crate) fn of(frames: &Frames, times: &PortTimes) -> Scale {
+        let from = times.first().unwrap_or(0).max(frames.from);
         Scale {
             from,
-            to: picture.last_frame().max(from),
+            to: times.last().min(frames.to).max(from),
         }
     }
 

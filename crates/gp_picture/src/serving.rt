@@ -31,7 +31,9 @@ impl LineWork for Drawer {
             return Ok(());
         };
         let number = self.lines + 1;
-        self.picture.line(&LineText { number, text }, &read)?;
+        let falls = self.times.hear(&read);
+        let line = LineText { number, text };
+        self.picture.line(&line, &read, &self.times, falls)?;
         self.lines = number;
         self.heard = self.heard || !read.says_nothing();
         Ok(())

@@ -1,6 +1,6 @@
 -- How dumping an input ends.
 use Rattle.std.specs.Prelude.{is_some}
-use Rattle.std.proofs.Common.{◌≡◌, ◌⊎◌, ◌||◌, inl, inr, ℕ, Bool, true, false, List, [], ◌∷◌, ◌++◌, Option, None, Some, Result, Ok, Err, IsErrAnd, length, take, drop, map, refl, sym, ap, subst, ◌∙◌, append_assoc, append-nil, arith}
+use Rattle.std.proofs.Common.{◌≡◌, ◌⊎◌, ◌||◌, inl, inr, ℕ, Bool, true, false, List, [], ◌∷◌, ◌++◌, Option, None, Some, Result, Ok, Err, IfOk, IsErrAnd, length, take, drop, map, refl, sym, ap, subst, ◌∙◌, append_assoc, append-nil, arith}
 use Rattle.std.proofs.lemmas.List.{take-append-drop}
 use Rattle.std.proofs.KnownBytes.{Appends-trans}
 use Rattle.std.specs.List.{All}
@@ -26,7 +26,12 @@ use Rattle.gp_dump.specs.Dump.{Continues, DumpState, IsDumpTo}
 use Rattle.gp_dump.specs.Head.{head_text}
 use Rattle.gp_dump.proofs.PartLemmas.{continues_none}
 use Rattle.gp_waves.specs.declared.running.WavesSum.{WavesSum}
-use Rattle.gp_waves.specs.Dumping.{AreRead, Dumping, IsRead, IsUnread, Says, WavesState, has_ended}
+use Rattle.gp_times.specs.declared.frames.Frames.{Frames}
+use Rattle.gp_times.specs.declared.frames.Outside.{Outside}
+use Rattle.gp_times.specs.declared.times.PortTime.{PortTime}
+use Rattle.gp_times.specs.Lines.{AreRead, IsRead, IsUnread, IsWhere, Lead}
+use Rattle.gp_times.specs.Times.{outside_of, times_begun}
+use Rattle.gp_waves.specs.Dumping.{Dumping, Says, WavesState, has_ended}
 use Rattle.gp_waves.specs.Writing.{Grows, GrowsAs, Written}
 use Rattle.gp_waves.specs.Outcome.{DumpsWaves, GetsDump, IsBegun, IsDump, IsFound, IsFoundBy, IsNone, IsRefused, IsRest, IsUnfinished, WritesRest}
 use Rattle.gp_waves.proofs.CourseLemmas.{Course, Fails, Halts, Runs, course, wholes}
@@ -112,6 +117,7 @@ pub record IsOpened (state : WavesState) : Type 0 where
   pub lines : state.lines ≡ 0
   pub heard : state.heard ≡ false
   pub ended : state.ended ≡ None
+  pub times : state.times ≡ times_begun
   pub begun : state.written.begun ≡ false
 
 started : (old new : WavesState) (ls : List (Option (List ℕ))) (said : List ℕ) → IsOpened old → DoesAll Dumping old ls said new
@@ -324,6 +330,56 @@ module _ {R W : Type 0} (from to : SourceState R) (before mid after : SinkState 
       → IsErrAnd answer (λ told. told ≡ fault) → DumpsWaves from to before after answer
   unwritten_at served old state last fault answer is o s w told =
       unread_unwritten old state last fault answer o (subst (λ (f : LinesFault). Serves Dumping has_ended longest_line from to old state before mid (Err f)) is s) w told
+
+-- ---- where all that was heard is
+
+ok_err : (sum : WavesSum) (fault : ExplainFault) → Ok sum ≡ Err fault → ⊥
+ok_err sum fault h = cc
+
+module _ {R W : Type 0} (frames : Frames) (from to : SourceState R) (before mid after : SinkState W) where
+  where_runs : (old state : WavesState) (text said : List ℕ) (outside : Option Outside) → IsOpened old → ReadsWhole from to text
+      → Runs (map (handed longest_line) (lines_of text)) said old state → outside ≡ outside_of frames state.times → IsWhere frames from to outside
+  where_runs old state text said outside o read runs is =
+      let same : lines_of text ≡ runs.texts = handed_all longest_line (lines_of text) runs.texts runs.all_is in
+      let lead : Lead (lines_of text) old.times state.times = subst (λ (ls : List (List ℕ)). Lead ls old.times state.times) (sym same) runs.lead in
+      record {
+        text = text;
+        read = read;
+        times = state.times;
+        lead = subst (λ (t : List PortTime). Lead (lines_of text) t state.times) o.times lead;
+        is = is;
+      }
+
+  where_course : (ended same : Option NoLine) (old state last : WavesState) (text said : List ℕ) (sum : WavesSum) → IsOpened old → ReadsWhole from to text
+      → Course same (map (handed longest_line) (lines_of text)) said old state → ended ≡ same → IsFoundBy ended last (Ok sum)
+      → sum.outside ≡ outside_of frames state.times → IsWhere frames from to sum.outside
+  where_course ended None old state last text said sum o read c same found is = where_runs old state text said sum.outside o read c is
+  where_course ended (Some why) old state last text said sum o read c same found is =
+      absurd (ok_err sum _ (subst (λ (e : Option NoLine). IsFoundBy e last (Ok sum)) same found))
+
+  where_over : (ended same : Option NoLine) (last : WavesState) (sum : WavesSum) → is_some same ≡ true → ended ≡ same → IsFoundBy ended last (Ok sum)
+      → IsWhere frames from to sum.outside
+  where_over ended None last sum some same found = absurd (never some)
+  where_over ended (Some why) last sum some same found = absurd (ok_err sum _ (subst (λ (e : Option NoLine). IsFoundBy e last (Ok sum)) same found))
+
+  where_sum : (end : LinesEnd) (old state last : WavesState) (sum : WavesSum) → IsOpened old
+      → ServesTo Dumping has_ended longest_line end from to old state before mid → WritesRest state last mid after (Ok (tt {0})) → IsFound last (Ok sum)
+      → sum.outside ≡ outside_of frames last.times → IsWhere frames from to sum.outside
+  where_sum Whole old state last sum o s w found is =
+      let c = started old state (map (handed longest_line) (lines_of s.bytes)) s.said o s.spoken in
+      where_course last.ended state.ended old state last s.bytes s.said sum o s.read c w.1.ended found
+      (subst (λ (t : List PortTime). sum.outside ≡ outside_of frames t) w.1.times is)
+  where_sum Open old state last sum o s w found is =
+      let c = started old state (map (handed longest_line) (lines_of s.bytes)) s.said o s.spoken in
+      where_course last.ended state.ended old state last s.bytes s.said sum o s.read c w.1.ended found
+      (subst (λ (t : List PortTime). sum.outside ≡ outside_of frames t) w.1.times is)
+  where_sum Over old state last sum o s w found is = where_over last.ended state.ended last sum s.1 w.1.ended found
+
+  pub where_as : (end : LinesEnd) (old state last : WavesState) (answer : Result WavesSum ExplainFault) → IsOpened old
+      → ServesTo Dumping has_ended longest_line end from to old state before mid → WritesRest state last mid after (Ok (tt {0})) → IsFound last answer
+      → IfOk answer (λ sum. sum.outside ≡ outside_of frames last.times) → IfOk answer (λ sum. IsWhere frames from to sum.outside)
+  where_as end old state last (Ok sum) o s w found is = where_sum end old state last sum o s w found is
+  where_as end old state last (Err fault) o s w found is = is
 
 module _ {R W : Type 0} (from to : SourceState R) (before after : SinkState W) where
   -- a prefix of what was gathered and of what was said

@@ -15,7 +15,8 @@ use Rattle.gp_waves.specs.declared.fault.WavesFault.{WavesFault}
 use Rattle.gp_waves.specs.declared.fault.WavesFault.TheVariants as waves
 use Rattle.gp_waves.specs.Faults.{undumped}
 use Rattle.gp_waves.specs.Writing.{Grows, Written}
-use Rattle.gp_waves.specs.Dumping.{Dumping, IsUnread, Says, SaysFrom, WavesState, counted, ended_by}
+use Rattle.gp_times.specs.Lines.{IsUnread}
+use Rattle.gp_waves.specs.Dumping.{Dumping, Says, SaysFrom, WavesState, counted, ended_by}
 
 -- a line that is none ends it
 pub refused_line : {W : Type 0} (old new : WavesState) (text : List ℕ) (before : SinkState W) → old.ended ≡ None → IsUnread text

@@ -2,4 +2,3 @@ pub mod Faults
 pub mod Writing
 pub mod Dumping
 pub mod Outcome
-pub mod Outside

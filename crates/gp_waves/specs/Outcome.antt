@@ -14,7 +14,8 @@ use Rattle.gp_explain.specs.declared.fault.NoLine.{NoLine}
 use Rattle.gp_explain.specs.declared.fault.NoLine.TheVariants.{NotALine, TooLong}
 use Rattle.gp_dump.specs.Dump.{IsDumpTo}
 use Rattle.gp_waves.specs.declared.running.WavesSum.{WavesSum}
-use Rattle.gp_waves.specs.Dumping.{AreRead, IsRead, IsUnread, WavesState}
+use Rattle.gp_times.specs.Lines.{AreRead, IsRead, IsUnread}
+use Rattle.gp_waves.specs.Dumping.{WavesState}
 use Rattle.gp_waves.specs.Writing.{Grows}
 
 -- a whole dump, of some ports and up to some time
@@ -92,6 +93,7 @@ pub record IsRest (old new : WavesState) (text : List ℕ) : Type 0 where
   pub lines : new.lines ≡ old.lines
   pub heard : new.heard ≡ old.heard
   pub ended : new.ended ≡ old.ended
+  pub times : new.times ≡ old.times
 
 -- how the rest is written, if it is
 abbrev pub WritesRest : {W : Type 0} → WavesState → WavesState → SinkState W → SinkState W

@@ -1,18 +1,22 @@
 //! The lines of a trace or a log, one after another.
 ghost use Rattle.std.specs.Prelude.{◌≡◌, IfOk, None, false};
+ghost use Rattle.gp_times.specs.Times.{times_begun};
 
 use crate::hearing::Waves;
 use crate::options::WavesOptions;
 use crate::writing::Writing;
 use gp_explain::NoLine;
+use gp_times::PortTimes;
 use std::alloc::{AllocError, Global};
 use std::marker::Model;
 
 /// Is given the lines of a trace or a log, one after another. The first line that is none ends it. Contracts see how
-/// many lines came, whether one of them says anything, what ended it, and what is written of the dump.
+/// many lines came, whether one of them says anything, what ended it, the times of the ports, and what is written of
+/// the dump.
 #[derive(Drop)]
 pub struct Dumper {
     pub(crate) waves: Waves,
+    pub(crate) times: PortTimes,
     pub(crate) writing: Writing,
     pub(crate) buffer: Vec<u8>,
     pub(crate) lines: u64,
@@ -25,7 +29,13 @@ impl Model for Dumper {
 
     ghost Value = { WavesState };
 
-    ghost view = { λ s. record { lines = s.lines; heard = s.heard; ended = s.ended; written = s.writing } };
+    ghost view = { λ s. record {
+      lines = s.lines;
+      heard = s.heard;
+      ended = s.ended;
+      times = s.times;
+      written = s.writing;
+    } };
 }
 
 impl Dumper {
@@ -34,10 +44,12 @@ impl Dumper {
         ensures lines { IfOk result (λ dumper. dumper.lines ≡ 0) }
         ensures heard { IfOk result (λ dumper. dumper.heard ≡ false) }
         ensures ended { IfOk result (λ dumper. dumper.ended ≡ None) }
+        ensures times { IfOk result (λ dumper. dumper.times ≡ times_begun) }
         ensures written { IfOk result (λ dumper. dumper.written.begun ≡ false) }
     {
         Ok(Dumper {
             waves: Waves::begin(alloc, options)?,
+            times: PortTimes::begin(),
             writing: Writing::new(),
             buffer: Vec::new(alloc),
             lines: 0,

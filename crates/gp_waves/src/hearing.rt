@@ -1,13 +1,12 @@
 //! What is heard of all ports, and the changes that are held back.
-ghost use Rattle.std.specs.Prelude.{IfSome};
-ghost use Rattle.gp_waves.specs.Outside.{IsOutside};
 
 use crate::fault::WavesFault;
 use crate::held::{Due, Held};
-use crate::options::{Frames, Outside, WavesOptions};
+use crate::options::WavesOptions;
 use crate::port::{Port, Scope};
 use gp_dump::PORTS;
-use gp_log::LogLine;
+use gp_log::{LogLine, Said};
+use gp_times::PortTimes;
 use std::alloc::{AllocError, Global};
 
 /// What is heard of all ports.
@@ -50,20 +49,39 @@ impl Waves {
         })
     }
 
-    /// Hears a line at its port. Where memory is refused, a part of it may have been heard.
-    pub(crate) fn hear(&mut self, text: &[u8], read: &LogLine) -> Result<(), WavesFault> {
-        let held = &mut self.held;
+    /// Hears a line of a log at its port, which comes to this time with it, unless it falls behind that.
+    fn hear_log(
+        &mut self,
+        number: u8,
+        time: u64,
+        falls: bool,
+        said: &Said,
+    ) -> Result<(), WavesFault> {
+        let scope = scope_of(&self.options, number);
+        let Some(port) = self.ports.get_mut(usize::from(number)) else {
+            return Ok(());
+        };
+        if falls {
+            self.fallen = self.fallen.saturating_add(1);
+            port.pass_over();
+            return Ok(());
+        }
+        port.hear_log(&mut self.held, &scope, time, said)
+    }
+
+    /// Hears a line, which these times have heard, at its port. Where memory is refused, a part of it may have been
+    /// heard.
+    pub(crate) fn hear(
+        &mut self,
+        text: &[u8],
+        read: &LogLine,
+        times: &PortTimes,
+        falls: bool,
+    ) -> Result<(), WavesFault> {
         match read {
             LogLine::Remark => Ok(()),
-            LogLine::Log { port, time, said } => {
-                let scope = scope_of(&self.options, *port);
-                let Some(port) = self.ports.get_mut(usize::from(*port)) else {
-                    return Ok(());
-                };
-                if port.hear_log(held, &scope, *time, said)? {
-                    self.fallen = self.fallen.saturating_add(1);
-                }
-                Ok(())
+            LogLine::Log { port, said, .. } => {
+                self.hear_log(*port, times.of(*port).time, falls, said)
             }
             LogLine::Trace {
                 port,
@@ -72,8 +90,12 @@ impl Waves {
                 second,
             } => {
                 let scope = scope_of(&self.options, *port);
+                let time = times.of(*port).time;
+                let held = &mut self.held;
                 match self.ports.get_mut(usize::from(*port)) {
-                    Some(port) => port.hear_trace(held, &scope, text, *is_frame, first, second),
+                    Some(port) => {
+                        port.hear_trace(held, &scope, time, text, *is_frame, first, second)
+                    }
                     None => Ok(()),
                 }
             }
@@ -102,43 +124,6 @@ impl Waves {
             number = number.saturating_add(1);
         }
         declared
-    }
-
-    /// The first frame of which a line tells, if one does of any.
-    fn first_heard(&self) -> Option<u64> {
-        let mut first: Option<u64> = None;
-        for port in self.ports.as_slice() {
-            first = match (first, port.first) {
-                (Some(first), Some(frame)) => Some(first.min(frame)),
-                (None, frame) => frame,
-                (first, None) => first,
-            };
-        }
-        first
-    }
-
-    /// The last frame of any port.
-    fn last_heard(&self) -> u64 {
-        let mut last = 0u64;
-        for port in self.ports.as_slice() {
-            last = last.max(port.frame());
-        }
-        last
-    }
-
-    /// Gives where all that was heard is, if it is in none of these frames.
-    pub(crate) fn outside(&self, frames: &Frames) -> Option<Outside>
-        ensures { IfSome result (IsOutside frames.now) }
-    {
-        let first = self.first_heard()?;
-        let last = self.last_heard();
-        if last < frames.from {
-            Some(Outside::Before { last })
-        } else if frames.to < first {
-            Some(Outside::Behind { first })
-        } else {
-            None
-        }
     }
 
     /// Tells whether more changes are held back than may be.

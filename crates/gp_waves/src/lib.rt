@@ -3,10 +3,10 @@
 //!
 //! Promise: any input is read to its end or to its first line that is none, and what is written is one dump, whole or
 //! up to where the writer stopped: its changes are of variables that are declared, and its times only rise. How it
-//! ended is told exactly (`dump_waves`). Which changes stand there is tested.
+//! ended, and whether all that was heard is outside of it, is told exactly (`dump_waves`). Which changes stand there is
+//! tested.
 //!
-//! - `options.rt`: `WavesOptions`, the frames that are dumped, and how codes are read; `Outside`, where all is that was
-//!   heard, if nothing is dumped.
+//! - `options.rt`: `WavesOptions`, the frames that are dumped, and how codes are read.
 //! - `held.rt`: the changes that are held back, so that those of all ports come in the order of their times.
 //! - `alarm.rt`: the alarm of a line. `touched.rt`: which units a message touches. `lanes.rt`: the units of a port.
 //! - `pulses.rt`: what stands on a port for a frame, or while a window is open. `port.rt`: what is kept of one port,
@@ -35,5 +35,6 @@ mod touched;
 mod writing;
 
 pub use dumper::Dumper;
-pub use options::{Frames, Outside, WavesOptions};
+pub use gp_times::{Frames, Outside};
+pub use options::WavesOptions;
 pub use running::{WavesSum, dump_waves};

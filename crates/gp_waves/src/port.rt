@@ -4,14 +4,14 @@ use crate::alarm::alarm_in;
 use crate::fault::WavesFault;
 use crate::held::Held;
 use crate::lanes::{LaneChanges, Lanes};
-use crate::options::Frames;
 use crate::pulses::{Pulse, Pulses};
 use crate::touched::{Touched, units_touched};
 use gp_dump::{PortChange, UnitChange, WindowKind};
 use gp_finding::heard_in;
-use gp_log::{FRAME_NANOSECONDS, Said};
+use gp_log::Said;
 use gp_ploam::{Mask, Serial};
 use gp_ranging::Grant;
+use gp_times::Frames;
 use gp_watch::{Heard, PortWatch};
 use std::alloc::{AllocError, Global};
 
@@ -32,12 +32,12 @@ pub(crate) struct Port {
     watch: PortWatch,
     lanes: Lanes,
     pulses: Pulses,
-    /// Its time in nanoseconds.
+    /// Its time in nanoseconds, at the line that told of it last.
     time: u64,
     /// The level of its frames.
     level: bool,
-    /// The frame of the first line that told of it.
-    pub(crate) first: Option<u64>,
+    /// Whether a line told of it.
+    is_told: bool,
     /// Whether what is known of its units is dumped.
     are_shown: bool,
     /// Whom the window asks that was opened last, unless it asks all.
@@ -120,7 +120,7 @@ impl Port {
             pulses: Pulses::none(),
             time: 0,
             level: false,
-            first: None,
+            is_told: false,
             are_shown: frames.have_begun(0),
             asked: None,
         })
@@ -128,18 +128,10 @@ impl Port {
 
     /// How many lanes it has, if a line told of it.
     pub(crate) fn declared(&self) -> Option<u16> {
-        self.first.map(|_| self.lanes.count())
-    }
-
-    /// How many frames it has had.
-    pub(crate) fn frame(&self) -> u64 {
-        self.time / FRAME_NANOSECONDS
-    }
-
-    /// Notes that a line tells of it.
-    fn note_line(&mut self) {
-        if self.first.is_none() {
-            self.first = Some(self.frame());
+        if self.is_told {
+            Some(self.lanes.count())
+        } else {
+            None
         }
     }
 
@@ -168,8 +160,9 @@ impl Port {
     }
 
     /// Comes to the time of a line that tells of it.
-    fn advance(&mut self, held: &mut Held, scope: &Scope) -> Result<(), AllocError> {
-        self.note_line();
+    fn advance(&mut self, held: &mut Held, scope: &Scope, time: u64) -> Result<(), AllocError> {
+        self.is_told = true;
+        self.time = time;
         self.show_lanes(held, scope)?;
         self.end_pulses(held, scope, self.time)
     }
@@ -332,25 +325,25 @@ impl Port {
         }
     }
 
-    /// Hears a line of a log, and tells whether its time is before that of the port: then nothing of it is heard.
-    /// Behind the last frame that is dumped only time is counted.
+    /// Notes that a line tells of it whose time is before that of the port: nothing of it is heard.
+    pub(crate) fn pass_over(&mut self) {
+        self.is_told = true;
+    }
+
+    /// Hears a line of a log, with which the port comes to this time. Behind the last frame that is dumped only time is
+    /// counted.
     pub(crate) fn hear_log(
         &mut self,
         held: &mut Held,
         scope: &Scope,
         time: u64,
         said: &Said,
-    ) -> Result<bool, WavesFault> {
-        if time < self.time {
-            self.note_line();
-            return Ok(true);
-        }
-        self.time = time;
-        self.advance(held, scope)?;
+    ) -> Result<(), WavesFault> {
+        self.advance(held, scope, time)?;
         if !scope.frames.are_past(self.time) {
             self.hear(held, scope, said)?;
         }
-        Ok(false)
+        Ok(())
     }
 
     /// Tells that a frame begins, and its alarm, if its line tells one.
@@ -371,21 +364,19 @@ impl Port {
         }
     }
 
-    /// Hears a line of a trace: what it says, one behind the other. Behind the last frame that is dumped only frames
-    /// are counted.
+    /// Hears a line of a trace, with which the port comes to this time: what it says, one behind the other. Behind the
+    /// last frame that is dumped only frames are counted.
     pub(crate) fn hear_trace(
         &mut self,
         held: &mut Held,
         scope: &Scope,
+        time: u64,
         text: &[u8],
         is_frame: bool,
         first: &Option<Said>,
         second: &Option<Said>,
     ) -> Result<(), WavesFault> {
-        if is_frame {
-            self.time = self.time.saturating_add(FRAME_NANOSECONDS);
-        }
-        self.advance(held, scope)?;
+        self.advance(held, scope, time)?;
         if scope.frames.are_past(self.time) {
             return Ok(());
         }

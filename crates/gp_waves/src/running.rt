@@ -1,13 +1,15 @@
 //! From the bytes of a trace or a log to its value change dump, and what was dumped of it. Memory is flat.
-ghost use Rattle.std.specs.Prelude.{◌≡◌, true, IfOk, IfSome};
+ghost use Rattle.std.specs.Prelude.{◌≡◌, true, IfOk};
+ghost use Rattle.gp_times.specs.Lines.{IsWhere};
+ghost use Rattle.gp_times.specs.Times.{outside_of};
 ghost use Rattle.gp_waves.specs.Outcome as spec;
-ghost use Rattle.gp_waves.specs.Outside.{IsOutside};
 
 use crate::dumper::Dumper;
-use crate::options::{Outside, WavesOptions};
+use crate::options::WavesOptions;
 use gp_explain::ExplainFault;
 use gp_flow::{LinesFault, Unanswered, run_lines};
 use gp_stream::{Sink, Source};
+use gp_times::Outside;
 use std::alloc::Global;
 use std::io::{Read, Write};
 
@@ -41,7 +43,7 @@ pub fn dump_waves<R: Read, W: Write>(
 ) -> Result<WavesSum, ExplainFault>
     requires { sink.old.flushed ≡ true }
     ensures dumped { spec.DumpsWaves source.old source.new sink.old sink.new result }
-    ensures outside { IfOk result (λ sum. IfSome sum.outside (IsOutside options.now.frames)) }
+    ensures outside { IfOk result (λ sum. IsWhere options.now.frames source.old source.new sum.outside) }
 {
     let mut dumper = Dumper::begin(alloc, options)?;
     match run_lines(alloc, source, sink, &mut dumper) {
@@ -80,7 +82,7 @@ fn write_rest<W: Write>(
 /// What was found.
 fn finding(options: &WavesOptions, dumper: &Dumper) -> Result<WavesSum, ExplainFault>
     ensures found { spec.IsFound dumper.now result }
-    ensures outside { IfOk result (λ sum. IfSome sum.outside (IsOutside options.now.frames)) }
+    ensures outside { IfOk result (λ sum. sum.outside ≡ outside_of options.now.frames dumper.now.times) }
 {
     match dumper.ended {
         Some(why) => Err(ExplainFault::Refused {
@@ -92,7 +94,7 @@ fn finding(options: &WavesOptions, dumper: &Dumper) -> Result<WavesSum, ExplainF
             heard: dumper.heard,
             fallen: dumper.waves.fallen,
             late: dumper.writing.late,
-            outside: dumper.waves.outside(&options.frames),
+            outside: dumper.times.outside(&options.frames),
         }),
     }
 }

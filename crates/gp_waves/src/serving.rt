@@ -30,7 +30,8 @@ impl LineWork for Dumper {
             self.ended = Some(NoLine::NotALine);
             return Ok(());
         };
-        self.waves.hear(text, &read)?;
+        let falls = self.times.hear(&read);
+        self.waves.hear(text, &read, &self.times, falls)?;
         self.writing.spill(&mut self.buffer, &mut self.waves)?;
         sink.put(self.buffer.as_slice())?;
         self.lines += 1;

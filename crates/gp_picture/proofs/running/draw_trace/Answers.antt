@@ -1,4 +1,4 @@
-use Rattle.gp_picture.proofs.OutcomeLemmas.{drawn_as, unbegun, unread_as}
+use Rattle.gp_picture.proofs.OutcomeLemmas.{drawn_as, unbegun, unread_as, where_as}
 use Rattle.gp_picture.proofs.running.draw_trace.Goals as goal
 
 pub returns-in_err-drawer-clause-drawn : goal.returns-in_err-drawer-clause-drawn
@@ -11,3 +11,7 @@ returns-in_err-run_lines-clause-drawn g c =
 pub returns-clause-drawn : goal.returns-clause-drawn
 returns-clause-drawn g c =
     drawn_as _ _ _ _ _ _ c.in_ok-drawer.drawer c.run_lines.new.work _ c.in_ok-drawer.ensures c.in_ok-run_lines.ensures.ok c.finish.ensures.ends
+
+pub returns-clause-outside : goal.returns-clause-outside
+returns-clause-outside g c =
+    where_as _ _ _ _ _ _ _ c.in_ok-drawer.drawer c.run_lines.new.work _ c.in_ok-drawer.ensures c.in_ok-run_lines.ensures.ok c.finish.ensures.ends c.finish.ensures.outside

@@ -1,0 +1,40 @@
+-- Which lines of an input are read, whether one of them says anything, and the times of the ports behind them (this
+-- profile's own rule).
+use Rattle.std.specs.Prelude.{◌≡◌, ◌||◌, not, ℕ, Bool, false, List, [], ◌∷◌, Option, Result, Ok, Err}
+use Rattle.gp_flow.specs.Lines.{lines_of}
+use Rattle.gp_stream.specs.Source.{SourceState, ReadsWhole}
+use Rattle.gp_log.specs.declared.fault.LogFault.{LogFault}
+use Rattle.gp_log.specs.declared.line.LogLine.{LogLine}
+use Rattle.gp_log.specs.Line.{Reads, says_nothing}
+use Rattle.gp_times.specs.declared.frames.Frames.{Frames}
+use Rattle.gp_times.specs.declared.frames.Outside.{Outside}
+use Rattle.gp_times.specs.declared.times.PortTime.{PortTime}
+use Rattle.gp_times.specs.Times.{outside_of, times_after, times_begun}
+
+-- a line of a trace or a log, an empty one, or a remark
+abbrev pub IsRead : List ℕ → Type 0
+IsRead text = (line : LogLine) × Reads text (Ok line)
+
+-- each of these lines is read, and whether one of them says anything
+abbrev pub AreRead : List (List ℕ) → Bool → Type 0
+AreRead [] heard = heard ≡ false
+AreRead (text ∷ texts) heard =
+    (said : LogLine) × (rest : Bool) × Reads text (Ok said) × AreRead texts rest
+    × (heard ≡ (not (says_nothing said) || rest))
+
+-- any other line, and what is wrong with it
+abbrev pub IsUnread : List ℕ → Type 0
+IsUnread text = (fault : LogFault) × Reads text (Err fault)
+
+-- each of these lines is read, and leads from some times of the ports to others
+abbrev pub Lead : List (List ℕ) → List PortTime → List PortTime → Type 0
+Lead [] from to = to ≡ from
+Lead (text ∷ texts) from to = (line : LogLine) × Reads text (Ok line) × Lead texts (times_after line from) to
+
+-- the whole input was read, and where all that was heard in it is, if it is in none of the wanted frames
+pub record IsWhere {R : Type 0} (frames : Frames) (from to : SourceState R) (outside : Option Outside) : Type 0 where
+  pub text : List ℕ
+  pub read : ReadsWhole from to text
+  pub times : List PortTime
+  pub lead : Lead (lines_of text) times_begun times
+  pub is : outside ≡ outside_of frames times
