@@ -9,3 +9,4 @@ pub mod TableLemmas
 pub mod TextLemmas
 pub mod UnitsLemmas
 pub mod LoseLemmas
+pub mod WalkLemmas
