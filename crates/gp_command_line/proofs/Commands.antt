@@ -1,6 +1,7 @@
 -- What arguments make of a command, and commands of the program.
-use Rattle.std.proofs.Common.{◌≡◌, ◌≢◌, ◌∷◌, ◌||◌, true, List, [], Result, Ok, Err, IfOk, IfErr, ap, subst, ◌∙◌, inl, inr}
-use Rattle.clap.specs.Words.{AddsArg, AddsInTurn, AddsSubcommand, App, FailsBy, IsAmong, Rule, Text, fault_of, is_simple_and_free, kind_of, rule_of, shape_of, with_rule, with_subcommand}
+use Rattle.std.proofs.Common.{◌≡◌, ◌≢◌, ◌∷◌, ◌||◌, true, false, List, [], Some, Result, Ok, Err, IfOk, IfErr, ap, subst, ◌∙◌, inl, inr}
+use Rattle.std.specs.Borrow.{Bor}
+use Rattle.clap.specs.Words.{AddsArg, AddsInTurn, AddsSubcommand, App, FailsBy, IsAmong, Rule, Text, app_of, fault_of, is_simple_and_free, kind_of, rule_of, shape_of, with_rule, with_subcommand}
 use Rattle.clap.specs.declared.builder.arg.Arg.{Arg}
 use Rattle.clap.specs.declared.builder.command.Command.{Command}
 use Rattle.clap.specs.declared.builder.command.Command.TheViews.{out-Command as fields_of}
@@ -8,6 +9,11 @@ use Rattle.clap.specs.declared.error.Error.{Error}
 use Rattle.clap.specs.declared.error.kind.ErrorKind.TheVariants as kinds
 use Rattle.clap.specs.declared.parser.matches.ArgMatches.{ArgMatches}
 use Rattle.gp_command_line.specs.CommandLine.{AreChoices, Choices, HasRule, IsFaultOf, ReadsAs, oltctl_command, with_rules}
+
+-- a command that was begun: its name, what it is about and its help
+pub begun : (new told helped : Command) (app : App) (about help : Bor Text) → app_of new ≡ app → (fields_of new).has_globals ≡ false
+    → fields_of told ≡ record (fields_of new) { about = Some about } → fields_of helped ≡ record (fields_of told) { after_help = Some help } → ReadsAs app helped
+begun new told helped app about help is local tells helps = record { is = rw (helps, tells) is; local = rw (helps, tells) local }
 
 -- each argument has the rule of its place
 abbrev pub HaveRules : List Rule → List Arg → Type 0

@@ -1,13 +1,13 @@
-use Rattle.std.proofs.Common.{◌≡◌, ◌∷◌, [], codes, rules}
+use Rattle.std.proofs.Common.{◌≡◌, ◌∷◌, [], codes}
 use Rattle.clap.specs.Words.{new_app}
 use Rattle.gp_command_line.specs.CommandLine.{ReadsAs, command, decode_rules}
-use Rattle.gp_command_line.proofs.Commands.{ruled_by}
+use Rattle.gp_command_line.proofs.Commands.{begun, ruled_by}
 use Rattle.gp_command_line.proofs.command_line.decode.Goals as goal
 
 pub returns : goal.returns
 unfolding command
 returns c =
-    let start : ReadsAs (new_app (codes "decode")) c.after_help.result = record { is = search rules; local = search rules } in
-    let same : c.in_ok-args.args.items ≡ c.up.result ∷ c.flag-both.result ∷ c.flag-names.result ∷ c.mask.result ∷ c.format-format.result ∷ c.several-code.result ∷ [] = search rules in
+    let start : ReadsAs (new_app (codes "decode")) c.after_help.result = begun _ _ _ _ _ _ c.new.ensures.app c.new.ensures.local c.about.ensures c.after_help.ensures in
+    let same : c.in_ok-args.args.items ≡ c.up.result ∷ c.flag-both.result ∷ c.flag-names.result ∷ c.mask.result ∷ c.format-format.result ∷ c.several-code.result ∷ [] = c.in_ok-args.ensures.items in
     ruled_by c.args-2.result (decode_rules c.args.masks c.args.formats) _ _ _ _ start same
-    (c.up.ensures, (search rules, (search rules, (c.mask.ensures, (c.format-format.ensures, (search rules, tt)))))) c.args-2.ensures
+    (c.up.ensures, (c.flag-both.ensures, (c.flag-names.ensures, (c.mask.ensures, (c.format-format.ensures, (c.several-code.ensures, tt)))))) c.args-2.ensures
