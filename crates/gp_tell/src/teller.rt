@@ -108,9 +108,11 @@ impl<B: Began, W: Write> Teller<B, W> {
         }
     }
 
-    /// Returns the writer below. What was told and is not yet written is lost: call [`Teller::finish`] first.
+    /// Returns the writer below, which holds what the teller says that it holds. What was told and is not yet written is
+    /// lost: call [`Teller::finish`] first.
     pub fn into_inner(self) -> W
-        ensures { result ≡ self.below.writer }
+        ensures writer { result ≡ self.below.writer }
+        ensures held { W.contents result ≡ self.below.held }
     {
         let Teller { below, .. } = self;
         below.into_inner()
