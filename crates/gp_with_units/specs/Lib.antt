@@ -1,0 +1,5 @@
+pub mod Behind
+pub mod Playing
+pub mod Explaining
+pub mod Driving
+pub mod Verifying
