@@ -1,5 +1,5 @@
 -- What a run found in its input, from how it ended.
-use Rattle.std.proofs.Common.{◌≡◌, ℕ, List, [], Option, Result, Ok, Err, OnOk, IfOk, IsErrAnd, inl, inr, subst, sym, refl, ap, ◌∙◌}
+use Rattle.std.proofs.Common.{◌≡◌, ℕ, List, [], Option, None, Some, Result, Ok, Err, OnOk, IfOk, IsErrAnd, inl, inr, subst, sym, refl, ap, ◌∙◌}
 use Rattle.gp_script.specs.declared.fault.ScriptFault.{ScriptFault}
 use Rattle.gp_script.specs.Script.{ScriptView, script_of}
 use Rattle.gp_stream.specs.Source.{SourceState, ReadsTooMuch, max_bytes}
@@ -14,6 +14,9 @@ use Rattle.gp_check.specs.declared.source.CheckedSource.{CheckedSource}
 use Rattle.gp_check.specs.declared.source.CheckedSource.TheVariants as told
 use Rattle.gp_check.specs.Check.{IsFound}
 use Rattle.gp_check.specs.Telling.{TellsSource}
+use Rattle.std.specs.declared.alloc.AllocError.{AllocError}
+use Rattle.std.specs.declared.alloc.Global.{Global}
+use Rattle.std.specs.declared.vec.Vec.{Vec}
 use Rattle.gp_verify.specs.declared.outcome.CheckFault.{CheckFault}
 use Rattle.gp_verify.specs.declared.outcome.CheckFault.TheVariants.{Script, Trace}
 use Rattle.gp_verify.specs.declared.outcome.VerifyFault.{VerifyFault}
@@ -25,13 +28,15 @@ use Rattle.gp_flow.specs.declared.fault.Unanswered.{Unanswered}
 use Rattle.gp_flow.specs.declared.fault.Unanswered.TheVariants as lines
 use Rattle.gp_flow.specs.declared.fault.LinesFault.TheVariants.{Line}
 use Rattle.gp_stream.specs.declared.sink.WriteStopped.{WriteStopped}
+use Rattle.gp_summed.specs.Verifying.{SumsCheck}
+use Rattle.gp_with_units.specs.Verifying.{VerifiesWithUnits, WritesUnits, found_behind}
 use Rattle.gp_drive.specs.declared.driven.Driven.{Driven}
 use Rattle.gp_drive.specs.declared.fault.DriveFault.{DriveFault}
 use Rattle.gp_drive.specs.declared.fault.DriveFault.TheVariants as drives
 use Rattle.gp_drive.specs.declared.manner.DriveManner.{DriveManner}
 use Rattle.gp_drive.specs.Outcome.{DrivesInputIn, DrivesScriptIn, IsNoScript}
 use Rattle.gp_drive.specs.Outcome.DrivesInputIn.{NotRead, Read}
-use Rattle.oltctl.specs.Replays.{IsCheckedBy, IsReadBy, IsToldBy, IsTooLong, IsWrittenBehind, unread, unread_endless}
+use Rattle.oltctl.specs.Replays.{IsCheckedBy, IsReadBy, IsToldBy, IsTooLong, unread, unread_endless}
 
 pub found_script : {R W : Type 0} (says_of : List ℕ → Result ScriptView ScriptFault) (leaves : RunAnswer → ScriptView → Type 0) (reader : R)
     (remaining : Option (List ℕ)) (before after : SourceState R) (old new : SinkState W) (r : RunAnswer) → before ≡ unread reader remaining
@@ -118,21 +123,40 @@ told_from form at_least script of_script trace of_trace before after from to old
 
 -- what more is written behind it changes nothing
 module _ {S T : Type 0} (form : Form) (script : S) (of_script : Option (List ℕ)) (trace : T) (of_trace : Option (List ℕ)) where
-  cut_off : (checked : Result ℕ VerifyFault) (fault : Unanswered) → IsCheckedBy form script of_script trace of_trace (as_checked checked)
+  cut_short : (checked : Result ℕ VerifyFault) (fault : Unanswered) → IsCheckedBy form script of_script trace of_trace (as_checked checked)
       → IsCheckedBy form script of_script trace of_trace (Err (Trace (verifies.Lines (Line fault))))
-  cut_off (Ok lines) fault h = (h.0, h.1, h.2, record { script = h.3.script; input = h.3.input; held = (h.3.held.0, tt) })
-  cut_off (Err found) fault h = (h.0, h.1, h.2, record { script = h.3.script; input = h.3.input; held = (h.3.held.0, tt) })
+  cut_short (Ok lines) fault h = (h.0, h.1, h.2, record { script = h.3.script; input = h.3.input; held = (h.3.held.0, tt) })
+  cut_short (Err found) fault h = (h.0, h.1, h.2, record { script = h.3.script; input = h.3.input; held = (h.3.held.0, tt) })
 
   by_answer : (found answer : Result ℕ CheckFault) → answer ≡ found → IsCheckedBy form script of_script trace of_trace found → IsCheckedBy form script of_script trace of_trace answer
   by_answer found answer is h = subst (λ (a : Result ℕ CheckFault). IsCheckedBy form script of_script trace of_trace a) (sym is) h
 
-  pub behind : (found answer : Result ℕ CheckFault) → IsCheckedBy form script of_script trace of_trace found → IsWrittenBehind found answer
+  by_written : (checked : Result ℕ VerifyFault) (written : Result (Unit {0}) WriteStopped) (answer : Result ℕ CheckFault) → answer ≡ found_behind (as_checked checked) written
+      → IsCheckedBy form script of_script trace of_trace (as_checked checked) → IsCheckedBy form script of_script trace of_trace answer
+  by_written checked (Ok done) answer is h = by_answer (as_checked checked) answer is h
+  by_written checked (Err stopped) answer is h = by_answer _ answer is (cut_short checked lines.Write h)
+
+  by_units : {W : Type 0} (checked : Result ℕ VerifyFault) (units : Result (Vec ℕ Global) AllocError) (mid new : SinkState W) (answer : Result ℕ CheckFault)
+      → WritesUnits (Some units) (as_checked checked) mid new answer → IsCheckedBy form script of_script trace of_trace (as_checked checked)
       → IsCheckedBy form script of_script trace of_trace answer
-  behind (Err (Script fault)) answer h is = by_answer (Err (Script fault)) answer is h
-  behind (Err (Trace fault)) answer h (inl is) = by_answer (Err (Trace fault)) answer is h
-  behind (Err (Trace fault)) answer h (inr cut) = by_answer _ answer cut.1 (cut_off (Err fault) cut.0 h)
-  behind (Ok lines) answer h (inl is) = by_answer (Ok lines) answer is h
-  behind (Ok lines) answer h (inr cut) = by_answer _ answer cut.1 (cut_off (Ok lines) cut.0 h)
+  by_units checked (Ok text) mid new answer w h = by_written checked w.0 answer w.2 h
+  by_units checked (Err memory) mid new answer w h = by_answer _ answer w.1 (cut_short checked lines.OutOfMemory h)
+
+  behind : {W : Type 0} (before after : SourceState S) (from to : SourceState T) (found : Result ℕ CheckFault) (units : Option (Result (Vec ℕ Global) AllocError))
+      (mid new : SinkState W) (answer : Result ℕ CheckFault) → SumsCheck form before after from to found units → WritesUnits units found mid new answer
+      → IsCheckedBy form script of_script trace of_trace found → IsCheckedBy form script of_script trace of_trace answer
+  behind before after from to found None mid new answer sums w h = by_answer found answer w.1 h
+  behind before after from to (Err (Script fault)) (Some units) mid new answer sums w h = absurd (cc)
+  behind before after from to (Err (Trace fault)) (Some units) mid new answer sums w h = by_units (Err fault) units mid new answer w h
+  behind before after from to (Ok lines) (Some units) mid new answer sums w h = by_units (Ok lines) units mid new answer w h
+
+-- the same, with what became of ports and units behind what was found
+pub units_from : {S T W : Type 0} (form : Form) (at_least : Option ℕ) (script : S) (of_script : Option (List ℕ)) (trace : T) (of_trace : Option (List ℕ))
+    (before after : SourceState S) (from to : SourceState T) (old new : SinkState W) (r : Result ℕ CheckFault) → before ≡ unread script of_script
+    → from ≡ unread_endless trace of_trace → VerifiesWithUnits form at_least before after from to old new r → IsCheckedBy form script of_script trace of_trace r
+units_from form at_least script of_script trace of_trace before after from to old new r is also all =
+    behind form script of_script trace of_trace before after from to all.found all.units all.mid new r all.sums all.writes
+    (told_from form at_least script of_script trace of_trace before after from to old all.mid all.found is also all.told)
 
 -- ---- a drive
 

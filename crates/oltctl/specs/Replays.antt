@@ -1,5 +1,5 @@
 -- What a replay or a storm found in its input (this profile's own rule).
-use Rattle.std.specs.Prelude.{◌≡◌, ◌⊎◌, ℕ, Bool, true, false, List, Option, Result, Ok, Err}
+use Rattle.std.specs.Prelude.{◌≡◌, ℕ, Bool, true, false, List, Option, Result, Ok, Err}
 use Rattle.gp_check.specs.declared.checking.Purpose.{Purpose}
 use Rattle.gp_check.specs.declared.found.Found.{Found}
 use Rattle.gp_check.specs.declared.source.CheckedSource.{CheckedSource}
@@ -10,11 +10,7 @@ use Rattle.gp_script.specs.Script.{ScriptView}
 use Rattle.gp_stream.specs.Source.{SourceState, ReadsTooMuch, max_bytes, max_reads}
 use Rattle.gp_replay.specs.Outcome.{ReadsBy}
 use Rattle.gp_explain.specs.declared.form.Form.{Form}
-use Rattle.gp_flow.specs.declared.fault.Unanswered.{Unanswered}
-use Rattle.gp_flow.specs.declared.fault.LinesFault.TheVariants.{Line}
 use Rattle.gp_verify.specs.declared.outcome.CheckFault.{CheckFault}
-use Rattle.gp_verify.specs.declared.outcome.CheckFault.TheVariants.{Script, Trace}
-use Rattle.gp_verify.specs.declared.outcome.VerifyFault.TheVariants.{Lines}
 use Rattle.gp_verify.specs.Checking.{ChecksScript}
 
 -- where a source over a reader stands, from which nothing was read yet
@@ -44,15 +40,6 @@ abbrev pub IsCheckedBy : {S T : Type 0} → Form → S → Option (List ℕ) →
 IsCheckedBy {S = S} {T = T} form script of_script trace of_trace answer =
     (after : SourceState S) × (to : SourceState T) × (told : List ℕ)
     × ChecksScript form (unread script of_script) after (unread_endless trace of_trace) to told answer
-
--- more was written behind what was found, or not for want of memory or since the output took no more; behind a script
--- that was not read nothing is
-abbrev pub IsWrittenBehind : Result ℕ CheckFault → Result ℕ CheckFault → Type 0
-IsWrittenBehind (Err (Script fault)) answer = answer ≡ Err (Script fault)
-IsWrittenBehind (Err (Trace found)) answer =
-    (answer ≡ Err (Trace found)) ⊎ ((fault : Unanswered) × (answer ≡ Err (Trace (Lines (Line fault)))))
-IsWrittenBehind (Ok lines) answer =
-    (answer ≡ Ok lines) ⊎ ((fault : Unanswered) × (answer ≡ Err (Trace (Lines (Line fault)))))
 
 -- what was told of a file is that it is a script
 abbrev pub is_told_script : CheckedSource → Bool

@@ -49,7 +49,7 @@ use Rattle.gp_command_line.specs.declared.request.Audit.{Audit as WantedAudit}
 use Rattle.gp_command_line.specs.declared.request.Drawing.{Drawing}
 use Rattle.gp_command_line.specs.declared.request.Dumping.{Dumping}
 use Rattle.oltctl.specs.declared.auditing.Audited.{Audited}
-use Rattle.oltctl.specs.declared.recounting.ToldTrace.{ToldTrace}
+use Rattle.gp_with_units.specs.declared.explaining.ToldTrace.{ToldTrace}
 use Rattle.gp_summed.specs.declared.codes.HeardCodes.{HeardCodes}
 use Rattle.gp_command_line.specs.declared.request.Explanation.{Explanation}
 use Rattle.gp_command_line.specs.declared.request.Request.{Request}

@@ -2,19 +2,22 @@
 ghost use Rattle.std.specs.Prelude.{◌≡◌, Ok, Err, OnOk};
 ghost use Rattle.gp_script.specs.declared.fault.ScriptFault.{ScriptFault};
 ghost use Rattle.gp_script.specs.Script.{ScriptView, script_of};
+ghost use Rattle.gp_with_units.specs.Driving.{drive_answer};
 ghost use Rattle.oltctl.specs.Replays.{IsReadBy, IsTooLong};
 ghost use Rattle.oltctl.specs.Statuses.{IsDriven, drive_status};
 
-use crate::driving::drive_with_units;
 use crate::observed::{Observed, Seen};
 use crate::reporting::report;
-use crate::telling::{drive_told, is_plain};
+use crate::telling::{drive_told, is_plain, script_from};
 use gp_command_line::TraceForm;
 use gp_drive::{DriveFault, DriveManner, Driven, run_drive_in};
-use gp_flow::LinesFault;
+use gp_flow::{LinesFault, Unanswered};
 use gp_replay::RunFault;
 use gp_report::{BAD_INPUT, SUCCESS, input_report};
 use gp_stream::{Sink, Source};
+use gp_summed::DriveEnded;
+use gp_with_units::{DriveWritten, drive_with_units};
+use std::alloc::AllocError;
 use std::io;
 use std::io::Read;
 use std::rt::Files;
@@ -35,6 +38,51 @@ fn drive_from<R: AllocGlobal + Print, S: Read + Drop, T: Read + Drop>(
     let mut turns = Source::endless(turns);
     let mut sink = Sink::new(rt.alloc(), io::writer(rt))?;
     run_drive_in(rt.alloc(), manner, &mut script, &mut turns, &mut sink)
+}
+
+/// Writes what became of ports and units to standard error, where all lines were answered, and answers how the drive
+/// ended. Where standard error takes nothing, nothing is told.
+fn tell_units<R: Eprint>(rt: &R, ended: DriveEnded) -> Result<Driven, DriveFault>
+    ensures { result ≡ drive_answer ended.driven ended.summary }
+{
+    let DriveEnded { driven, summary } = ended;
+    match summary {
+        Some(Ok(text)) => {
+            if let Ok(lines) = std::str::from_utf8(text.as_slice()) {
+                let _ = eprint!(rt; "{lines}");
+            }
+            driven
+        }
+        Some(Err(AllocError)) => {
+            let fault = LinesFault::Line(Unanswered::OutOfMemory);
+            Err(DriveFault::Turns(fault))
+        }
+        None => driven,
+    }
+}
+
+/// Does so as is wanted, and tells at the end, on standard error, what became of each port and unit.
+fn drive_counted<R: AllocGlobal + Print + Eprint, S: Read + Drop, T: Read + Drop>(
+    rt: &R,
+    manner: DriveManner,
+    script: S,
+    turns: T,
+    told: TraceForm,
+) -> Result<Driven, DriveFault> {
+    let script = script_from(rt.alloc(), script)?;
+    let mut turns = Source::endless(turns);
+    let TraceForm { form, timed } = told;
+    let out = io::writer(rt);
+    let DriveWritten { ended, writer: _ } = drive_with_units(
+        rt.alloc(),
+        manner,
+        script,
+        form,
+        timed,
+        &mut turns,
+        out,
+    )?;
+    tell_units(rt, ended)
 }
 
 /// What is wanted of a drive.
@@ -67,7 +115,7 @@ fn drive_file<R: AllocGlobal + Files + Print + Eprint + Input>(
         units,
     } = wanted;
     if units {
-        drive_with_units(rt, manner, script, turns, told)
+        drive_counted(rt, manner, script, turns, told)
     } else if is_plain(told) {
         drive_from(rt, manner, script, turns)
     } else {

@@ -1,12 +1,11 @@
 //! The command `explain`: a trace is written again, with its codes in words, as JSON, or as a log, and what was counted
 //! of its ports and units.
-ghost use Rattle.std.specs.Prelude.{◌≡◌, IfOk, IsSome, None, OnOk};
+ghost use Rattle.std.specs.Prelude.{◌≡◌, IsSome, None, OnOk};
 ghost use Rattle.oltctl.specs.Statuses.{IsExplained, IsToldAs, is_counted, lines_told_status, told_status};
 
 use crate::observed::{Observed, Seen};
-use crate::recounting::{ToldTrace, explain_for_summary, explain_with_units};
 use crate::reporting::{report, report_at, report_silence};
-use gp_command_line::Explanation;
+use gp_command_line::{Explanation, TraceForm};
 use gp_explain::{ExplainFault, Telling, explain_trace};
 use gp_flow::LinesFault;
 use gp_ploam::Mask;
@@ -14,6 +13,7 @@ use gp_report::{BAD_INPUT, SUCCESS, explain_report};
 use gp_stream::{Sink, Source};
 use gp_summed::HeardCodes;
 use gp_transcribe::transcribe_trace;
+use gp_with_units::{ToldTrace, TraceWritten, explain_for_summary, explain_with_units};
 use std::alloc::{AllocError, Global};
 use std::io;
 use std::io::{Read, Write};
@@ -34,13 +34,22 @@ fn told_alone(lines: Result<u64, ExplainFault>) -> ToldTrace
     ToldTrace { lines, codes: None }
 }
 
-/// A trace that was told and counted, if there was memory to begin with it.
-fn told_counted(told: Result<ToldTrace, AllocError>) -> ToldTrace
-    requires { IfOk told (λ told. OnOk told.lines (IsSome told.codes)) }
+/// Writes the trace that a source gives again, and behind it what was counted of its ports and units, or that alone.
+fn tell_counted<T: Read, W: Write + Drop>(
+    alloc: Global,
+    source: &mut Source<T>,
+    wanted: &Explanation<'_>,
+    writer: W,
+) -> ToldTrace
     ensures { OnOk result.lines (IsSome result.codes) }
 {
-    match told {
-        Ok(told) => told,
+    let TraceForm { form, timed } = wanted.told;
+    if wanted.summary {
+        let mut writer = writer;
+        return explain_for_summary(alloc, wanted.mask, form, source, &mut writer);
+    }
+    match explain_with_units(alloc, wanted.mask, form, timed, source, writer) {
+        Ok(TraceWritten { told, writer: _ }) => told,
         Err(AllocError) => told_alone(Err(ExplainFault::from(AllocError))),
     }
 }
@@ -74,11 +83,7 @@ fn explain_from<R: AllocGlobal + Print, T: Read + Drop>(
     if !is_counted(wanted) {
         return told_alone(tell_lines(rt.alloc(), &mut source, wanted, out));
     }
-    if wanted.summary {
-        told_counted(explain_for_summary(rt.alloc(), wanted, &mut source, out))
-    } else {
-        told_counted(explain_with_units(rt.alloc(), wanted, &mut source, out))
-    }
+    tell_counted(rt.alloc(), &mut source, wanted, out)
 }
 
 /// Does so of the trace of a file, or of standard input.

@@ -10,8 +10,8 @@
 //! - `replaying.rt`, `answering.rt` (`drive`), `storming.rt`, `checking.rt`, `testing.rt`, `generating.rt`,
 //!   `verifying.rt`, `auditing.rt`, `picturing.rt`, `waving.rt`, `explaining.rt`, `decoding.rt`, `encoding.rt`: one
 //!   command each, from its inputs to how it ended. Which one is wanted is looked up here.
-//! - `telling.rt` has what is told while a script is played or driven, `summing.rt` what is told at its end,
-//!   `driving.rt` a drive with what is told at its end, `recounting.rt` what is counted of a trace that is told again.
+//! - `telling.rt` has what is told while a script is played or driven; what is told of ports and units is
+//!   `gp_with_units`'.
 //! - `objects.rt`: one code, or the words of one message, as an object.
 //! - `testing.rt`: scripts of folders, several at once, and what is told of them. `scripts.rt`: which files of a folder
 //!   are scripts, and what stands beside them; `judging.rt`: one of them, from its files to what became of it.
@@ -33,7 +33,6 @@ mod auditing;
 mod checking;
 mod decoding;
 mod descriptors;
-mod driving;
 mod encoding;
 mod explaining;
 mod generating;
@@ -43,13 +42,11 @@ mod objects;
 mod observed;
 mod picturing;
 mod progress;
-mod recounting;
 mod replacing;
 mod replaying;
 mod reporting;
 mod scripts;
 mod storming;
-mod summing;
 mod telling;
 mod testing;
 mod ticking;

@@ -1,11 +1,14 @@
 //! An input and what is remembered of it: why it was not read, and its octets.
 ghost use Rattle.std.specs.Prelude.{◌≡◌};
 ghost use Rattle.gp_report.specs.Report.{run_status};
+ghost use Rattle.gp_report.specs.Words.{explain_status};
 
-use crate::reporting::{report, tell_cause, tell_mistake};
+use crate::reporting::{report, report_at, tell_cause, tell_mistake};
 use gp_check::Purpose;
+use gp_explain::{ExplainFault, NoLine};
+use gp_flow::LinesFault;
 use gp_replay::RunFault;
-use gp_report::{BAD_INPUT, run_report};
+use gp_report::{BAD_INPUT, explain_report, run_report};
 use std::alloc::Global;
 use std::io;
 use std::io::Read;
@@ -88,6 +91,31 @@ impl<'a> Seen<'a> {
             self.tell_place(rt, Purpose::Replay);
         }
         status
+    }
+
+    /// Says on standard error why a log was not heard to its end, with the number of the line that is none, and answers
+    /// the exit status.
+    pub(crate) fn end_log<R: AllocGlobal + Eprint>(&self, rt: &R, fault: &ExplainFault) -> u8
+        ensures { result ≡ explain_status fault.now }
+    {
+        match fault {
+            ExplainFault::Refused {
+                line,
+                why: NoLine::NotALine,
+            } => {
+                report_at(
+                    rt,
+                    ("oltctl: no line of a log or a trace", BAD_INPUT),
+                    *line,
+                )
+            }
+            ExplainFault::Refused {
+                line,
+                why: NoLine::TooLong,
+            } => { report_at(rt, explain_report(fault), *line) }
+            ExplainFault::Lines(LinesFault::Read) => self.tell_unread(rt),
+            ExplainFault::Lines(_) => report(rt, explain_report(fault)),
+        }
     }
 
     /// Says on standard error where these octets, which came from it, are no script for this, if they are none.

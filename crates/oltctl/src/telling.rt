@@ -1,19 +1,20 @@
 //! Traces as they are wanted while a script is played or driven: as they are, in words, or as JSON.
-ghost use Rattle.std.specs.Prelude.{◌≡◌, ◌↔◌, IfOk, IsTrue, false};
+ghost use Rattle.std.specs.Prelude.{◌≡◌, IfOk};
 ghost use Rattle.gp_script.specs.Playable.{IsPlayable};
 ghost use Rattle.gp_script.specs.View.{script_view};
+ghost use Rattle.gp_with_units.specs.Behind as spec;
 
 use crate::progress::Counted;
-use crate::summing::{play_for_summary, play_with_units};
 use gp_command_line::{Play, TraceForm};
 use gp_drive::{DriveFault, DriveManner, Driven, drive_script};
-use gp_explain::{Form, Telling};
+use gp_explain::Telling;
 use gp_flow::{LinesFault, Unanswered};
 use gp_replay::{PlayFault, play_script, play_with_lights};
 use gp_script::{Script, ScriptEvent, read_script};
 use gp_stream::{Sink, Source, read_all};
 use gp_tally::Nowhere;
 use gp_tell::{Began, TellFault, Teller};
+use gp_with_units::{PlayWritten, play_for_summary, play_with_units};
 use std::alloc::Global;
 use std::io;
 use std::io::{Read, Write};
@@ -22,9 +23,9 @@ use std::rt::Clock;
 
 /// Tells whether lines are written as they are.
 pub(crate) fn is_plain(told: TraceForm) -> bool
-    ensures { IsTrue result ↔ ((told.form ≡ Form.Plain) × (told.timed ≡ false)) }
+    ensures { result ≡ spec.is_plain told.form told.timed }
 {
-    told.form == Form::Plain && !told.timed
+    gp_with_units::is_plain(told.form, told.timed)
 }
 
 /// How many lines an event of a script without simulated units makes.
@@ -109,14 +110,22 @@ pub(crate) fn play_so<R: AllocGlobal + Print + Eprint + Clock>(
 ) -> Result<(), PlayFault>
     requires { IsPlayable (script_view script) }
 {
+    let TraceForm { form, timed } = play.told;
     if play.summary {
         let trace = counted(rt, &script, play.progress, Nowhere);
-        return play_for_summary(rt.alloc(), script, play.told, trace, io::writer(rt));
+        let mut out = io::writer(rt);
+        return play_for_summary(rt.alloc(), script, form, trace, &mut out);
     }
     let writer = counted(rt, &script, play.progress, io::writer(rt));
     if play.units {
-        let plain = is_plain(play.told);
-        return play_with_units(rt.alloc(), script, play.told, plain, writer);
+        let PlayWritten { played, writer: _ } = play_with_units(
+            rt.alloc(),
+            script,
+            form,
+            timed,
+            writer,
+        )?;
+        return played;
     }
     if !is_plain(play.told) {
         return play_told(rt.alloc(), script, play.told, writer);

@@ -1,7 +1,7 @@
 //! The command `verify`: whether a trace is one that a correct line terminal could have written.
 ghost use Rattle.std.specs.Prelude.{◌≡◌};
 ghost use Rattle.gp_report.specs.Report.{verify_status};
-ghost use Rattle.oltctl.specs.Replays.{IsCheckedBy, IsWrittenBehind};
+ghost use Rattle.oltctl.specs.Replays.{IsCheckedBy};
 ghost use Rattle.oltctl.specs.Statuses.{IsRunStatus, IsVerified, IsVerifyStatus};
 ghost use Rattle.gp_verify.specs.Ending.{wanted_lines};
 
@@ -9,15 +9,14 @@ use crate::observed::{Observed, Seen};
 use crate::progress::Counted;
 use crate::reporting::{report, report_at, report_count, tell_came};
 use gp_command_line::Verification;
-use gp_flow::{LinesFault, Unanswered};
+use gp_flow::LinesFault;
 use gp_replay::RunFault;
 use gp_report::{NOT_A_RUN, SUCCESS, few_lines_report, no_line_report, verify_report};
 use gp_stream::{Sink, Source};
-use gp_summed::{Verified, verify_summed};
 use gp_verify::{CheckFault, VerifyFault, verify_told, wanted_lines};
-use std::alloc::AllocError;
+use gp_with_units::verify_with_units;
 use std::io;
-use std::io::{Read, Write};
+use std::io::Read;
 use std::rt::{Clock, Files};
 
 /// Verifies the trace that a reader gives against the script that another gives. What is found goes to standard output:
@@ -43,28 +42,6 @@ fn verify_from<R: AllocGlobal + Print, S: Read + Drop, T: Read + Drop>(
     )
 }
 
-/// Writes what became of ports and units behind what was found of a trace, where it was judged.
-fn write_units<W: Write>(
-    sink: &mut Sink<W>,
-    found: Result<u64, CheckFault>,
-    units: Option<Result<Vec<u8>, AllocError>>,
-) -> Result<u64, CheckFault>
-    ensures { IsWrittenBehind found result }
-{
-    if let Err(CheckFault::Script(_)) = found {
-        return found;
-    }
-    let fault = match units {
-        None => return found,
-        Some(Err(AllocError)) => Unanswered::OutOfMemory,
-        Some(Ok(text)) => match sink.write_whole(text.as_slice()) {
-            Ok(()) => return found,
-            Err(_) => Unanswered::Write,
-        },
-    };
-    Err(CheckFault::Trace(VerifyFault::Lines(LinesFault::Line(fault))))
-}
-
 /// Does so, and writes behind what was found what became of each port and unit.
 fn verify_units_from<R: AllocGlobal + Print, S: Read + Drop, T: Read + Drop>(
     rt: &R,
@@ -77,15 +54,14 @@ fn verify_units_from<R: AllocGlobal + Print, S: Read + Drop, T: Read + Drop>(
     let mut script = Source::new(script);
     let mut trace = Source::endless(trace);
     let mut sink = Sink::new(rt.alloc(), io::writer(rt))?;
-    let Verified { found, units } = verify_summed(
+    verify_with_units(
         rt.alloc(),
         wanted.form,
         wanted.at_least,
         &mut script,
         &mut trace,
         &mut sink,
-    );
-    write_units(&mut sink, found, units)
+    )
 }
 
 /// Does so as is wanted.

@@ -3,14 +3,12 @@ ghost use Rattle.std.specs.Prelude.{◌≡◌};
 ghost use Rattle.oltctl.specs.Statuses.{IsDumped, heard_status, waves_status};
 
 use crate::observed::{Observed, Seen};
-use crate::reporting::{
-    refuse_option, report, report_at, report_before, report_behind, report_silence,
-};
+use crate::reporting::{refuse_option, report_before, report_behind, report_silence};
 use gp_command_line::Dumping;
-use gp_explain::{ExplainFault, NoLine};
+use gp_explain::ExplainFault;
 use gp_flow::LinesFault;
 use gp_options::waves_options;
-use gp_report::{BAD_INPUT, SUCCESS, explain_report};
+use gp_report::SUCCESS;
 use gp_stream::{Sink, Source};
 use gp_waves::{Outside, WavesOptions, WavesSum, dump_waves};
 use std::io;
@@ -86,24 +84,7 @@ fn end_waves<R: AllocGlobal + Eprint>(
             tell_sum(rt, sum);
             end_dumped(rt, options, sum)
         }
-        Err(fault) => match fault {
-            ExplainFault::Refused {
-                line,
-                why: NoLine::NotALine,
-            } => {
-                report_at(
-                    rt,
-                    ("oltctl: no line of a log or a trace", BAD_INPUT),
-                    *line,
-                )
-            }
-            ExplainFault::Refused {
-                line,
-                why: NoLine::TooLong,
-            } => { report_at(rt, explain_report(fault), *line) }
-            ExplainFault::Lines(LinesFault::Read) => seen.tell_unread(rt),
-            ExplainFault::Lines(_) => report(rt, explain_report(fault)),
-        },
+        Err(fault) => seen.end_log(rt, fault),
     }
 }
 
