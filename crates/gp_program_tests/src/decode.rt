@@ -3,6 +3,7 @@ use gp_decode::{
     DecodeFault, Direction, FaultAt, decode_each_in, decode_line, decode_line_in, decode_lines,
     other_name, push_words_of, words_of,
 };
+use gp_flow::LinesFault;
 use gp_ploam::Mask;
 use gp_stream::{Sink, Source};
 use std::alloc::{AllocError, Global};
@@ -11,8 +12,10 @@ const DOWN: bool = false;
 
 const UP: bool = true;
 
-/// Texts, the direction and the mask of each, and what is written of it.
-const LINES: [(&'static str, bool, Mask, &'static str); 14] = [
+/// A text, its direction and its mask, and what is written of it.
+type Line = (&'static str, bool, Mask, &'static str);
+
+const LINES: [Line; 14] = [
     (
         "ff010000000000000000000058",
         DOWN,
@@ -108,80 +111,99 @@ const FAULTS: [(&'static str, DecodeFault); 5] = [
     ("00050000000000000000000062", DecodeFault::Crc),
 ];
 
+/// How a text is decoded, and what the vector holds then.
+fn decoded_onto(
+    alloc: Global,
+    taken: Vec<u8>,
+    text: &str,
+    upstream: bool,
+    mask: Mask,
+) -> Result<(Result<(), DecodeFault>, Vec<u8>), AllocError> {
+    let mut sink = Sink::new(alloc, taken)?;
+    let outcome = decode_line(alloc, text, upstream, mask, &mut sink);
+    Ok((outcome, sink.into_inner()))
+}
+
+/// Tells whether a text is decoded so, with this written.
+fn is_decoded(
+    alloc: Global,
+    row: &Line,
+    wanted: Result<(), DecodeFault>,
+) -> Result<bool, AllocError> {
+    let (text, upstream, mask, line) = *row;
+    let (outcome, written) = decoded_onto(alloc, Vec::new(alloc), text, upstream, mask)?;
+    Ok(outcome == wanted && written.as_slice() == line.as_bytes())
+}
+
 #[test]
 fn lines(rt: HostRuntime) -> Result<(), AllocError> {
-    for (text, upstream, mask, line) in LINES {
-        let mut sink = Sink::new(rt.alloc(), Vec::new(rt.alloc()))?;
-        let outcome = decode_line(rt.alloc(), text, upstream, mask, &mut sink);
-        let written = sink.into_inner();
-        assert!(rt;
-            outcome.is_ok() && written.as_slice() == line.as_bytes(),
-            "{text}"
-        );
+    for row in &LINES {
+        assert!(rt; is_decoded(rt.alloc(), row, Ok(()))?, "{}", row.0);
     }
     Ok(())
 }
 
 #[test]
 fn faults_in_their_order(rt: HostRuntime) -> Result<(), AllocError> {
-    for (text, fault) in FAULTS {
-        let mut sink = Sink::new(rt.alloc(), Vec::new(rt.alloc()))?;
-        let outcome = decode_line(rt.alloc(), text, DOWN, Mask::Plain, &mut sink);
-        let count = sink.into_inner().len();
-        assert_eq!(rt; (outcome, count), (Err(fault), 0), "{text}");
+    for (text, fault) in &FAULTS {
+        let row = (*text, DOWN, Mask::Plain, "");
+        assert!(rt; is_decoded(rt.alloc(), &row, Err(*fault))?, "{text}");
     }
     Ok(())
 }
 
-// A slice takes as many bytes as it has room for, and then none.
+/// Tells whether a slice with so much room has the first bytes of a line, and where it has too little that is told: it
+/// takes as many bytes as it has room for, and then none.
+fn is_cut_at(alloc: Global, room: usize) -> Result<bool, AllocError> {
+    let line = b"POPUP 255\n";
+    let mut taken = vec![in alloc; 0; room]?;
+    let mut sink = Sink::new(alloc, &mut taken[..])?;
+    let text = "ff0c00000000000000000000c3";
+    let outcome = decode_line(alloc, text, DOWN, Mask::Plain, &mut sink);
+    drop(sink);
+    let wanted = if room < line.len() {
+        Err(DecodeFault::Write)
+    } else {
+        Ok(())
+    };
+    Ok(outcome == wanted && line.starts_with(&taken))
+}
+
 #[test]
-fn a_writer_that_stops(rt: HostRuntime) -> Result<(), AllocError> {
-    let line = *b"POPUP 255\n";
-    for room in 0..=line.len() {
-        let mut taken = [0; 10];
-        let mut sink = Sink::new(rt.alloc(), &mut taken[..room])?;
-        let text = "ff0c00000000000000000000c3";
-        let outcome = decode_line(rt.alloc(), text, DOWN, Mask::Plain, &mut sink);
-        drop(sink);
-        let wanted = if room < line.len() {
-            Err(DecodeFault::Write)
-        } else {
-            Ok(())
-        };
-        assert_eq!(rt; (outcome, &taken[..room]), (wanted, &line[..room]));
+fn a_writer_that_stops(rt: HostRuntime) {
+    for room in 0..=10 {
+        assert!(rt; is_cut_at(rt.alloc(), room) == Ok(true), "{room}");
     }
-    Ok(())
 }
 
 /// Room for each of these lines, so that no write takes memory.
 const ROOM: usize = 64;
 
-/// How a text is decoded, and what is written.
-fn decoded(
-    alloc: Global,
-    text: &str,
-    upstream: bool,
-    mask: Mask,
-) -> Result<(Result<(), DecodeFault>, Vec<u8>), AllocError> {
-    let mut sink = Sink::new(alloc, Vec::with_capacity(alloc, ROOM)?)?;
-    let outcome = decode_line(alloc, text, upstream, mask, &mut sink);
-    Ok((outcome, sink.into_inner()))
+/// Tells whether a decoding has this line; None where an allocation was refused and nothing is written.
+fn is_line(outcome: Result<(), DecodeFault>, written: &[u8], line: &str) -> Option<bool> {
+    if outcome == Err(DecodeFault::OutOfMemory) && written.is_empty() {
+        return None;
+    }
+    Some(outcome.is_ok() && written == line.as_bytes())
+}
+
+/// Tells the same of a text that is decoded where memory may be refused; None too where the test itself has none.
+fn is_decoded_if_ample(alloc: Global, row: &Line) -> Option<bool> {
+    let (text, upstream, mask, line) = *row;
+    let taken = Vec::with_capacity(alloc, ROOM).ok()?;
+    let (outcome, written) = decoded_onto(alloc, taken, text, upstream, mask).ok()?;
+    is_line(outcome, &written, line)
 }
 
 /// Where an allocation was made to fail it is told, and nothing is written; else each line is as it should be. What
 /// the test takes for itself may be refused too, and then nothing was decoded.
 #[test]
 fn memory_short_or_ample(rt: HostRuntime) {
-    for (text, upstream, mask, line) in LINES {
-        let Ok((outcome, written)) = decoded(rt.alloc(), text, upstream, mask) else {
+    for row in &LINES {
+        let Some(right) = is_decoded_if_ample(rt.alloc(), row) else {
             return;
         };
-        if outcome == Err(DecodeFault::OutOfMemory) {
-            assert!(rt; written.is_empty(), "{text}");
-            return;
-        }
-        assert_eq!(rt; outcome, Ok(()), "{text}");
-        assert!(rt; written.as_slice() == line.as_bytes(), "{text}");
+        assert!(rt; right, "{}", row.0);
     }
 }
 
@@ -256,6 +278,34 @@ const INPUTS: [(&'static str, &'static str, Fault); 15] = [
     ),
 ];
 
+/// The fault of a line.
+fn fault_at(fault: Fault) -> Option<FaultAt> {
+    let (line, fault) = fault?;
+    Some(FaultAt { line, fault })
+}
+
+/// How an input ended, and what is said to it.
+type Said = (Result<Option<FaultAt>, LinesFault>, Vec<u8>);
+
+/// Decodes an input in a direction, under a mask, with names or without.
+fn said_in(
+    alloc: Global,
+    input: &str,
+    direction: Direction,
+    mask: Mask,
+    names: bool,
+) -> Result<Said, AllocError> {
+    let mut source = Source::endless(input.as_bytes());
+    let mut sink = Sink::new(alloc, Vec::new(alloc))?;
+    let outcome = decode_each_in(alloc, &mut source, &mut sink, direction, mask, names);
+    Ok((outcome, sink.into_inner()))
+}
+
+/// Tells whether this is said, and this the first fault.
+fn is_said(said: &Said, wanted: &str, first: Fault) -> bool {
+    said.0 == Ok(fault_at(first)) && said.1.as_slice() == wanted.as_bytes()
+}
+
 /// Decodes an input in a direction, under a mask, and tells whether this is said and answered.
 fn says(
     alloc: Global,
@@ -264,24 +314,23 @@ fn says(
     mask: Mask,
     wanted: (&str, Fault),
 ) -> Result<bool, AllocError> {
+    let said = said_in(alloc, input, direction, mask, false)?;
+    Ok(is_said(&said, wanted.0, wanted.1))
+}
+
+/// Decodes an input of codes downstream.
+fn said_down(alloc: Global, input: &str) -> Result<Said, AllocError> {
     let mut source = Source::endless(input.as_bytes());
     let mut sink = Sink::new(alloc, Vec::new(alloc))?;
-    let outcome = decode_each_in(alloc, &mut source, &mut sink, direction, mask, false);
-    let written = sink.into_inner();
-    let first = wanted.1.map(|(line, fault)| FaultAt { line, fault });
-    Ok(outcome == Ok(first) && written.as_slice() == wanted.0.as_bytes())
+    let outcome = decode_lines(alloc, &mut source, &mut sink, DOWN, Mask::Plain);
+    Ok((outcome, sink.into_inner()))
 }
 
 #[test]
 fn lines_of_an_input(rt: HostRuntime) -> Result<(), AllocError> {
-    for (input, said, first) in INPUTS {
-        let mut source = Source::endless(input.as_bytes());
-        let mut sink = Sink::new(rt.alloc(), Vec::new(rt.alloc()))?;
-        let outcome = decode_lines(rt.alloc(), &mut source, &mut sink, DOWN, Mask::Plain);
-        let written = sink.into_inner();
-        let first = first.map(|(line, fault)| FaultAt { line, fault });
-        assert_eq!(rt; outcome, Ok(first), "{input}");
-        assert!(rt; written.as_slice() == said.as_bytes(), "{input}");
+    for (input, wanted, first) in &INPUTS {
+        let said = said_down(rt.alloc(), input)?;
+        assert!(rt; is_said(&said, wanted, *first), "{input}");
     }
     Ok(())
 }
@@ -335,37 +384,31 @@ const DIRECTED: [(&'static str, Direction, Mask, &'static str, Fault); 6] = [
 
 #[test]
 fn lines_that_say_their_direction(rt: HostRuntime) -> Result<(), AllocError> {
-    for (input, direction, mask, said, first) in DIRECTED {
-        let right = says(rt.alloc(), input, direction, mask, (said, first))?;
+    for (input, direction, mask, said, first) in &DIRECTED {
+        let right = says(rt.alloc(), input, *direction, *mask, (said, *first))?;
         assert!(rt; right, "{input}");
     }
     Ok(())
 }
 
+/// A remark of so many octets.
+fn remark_of(alloc: Global, count: usize) -> Result<String, AllocError> {
+    let mut remark = String::from_str(alloc, "#")?;
+    for _ in 1..count {
+        remark.push(' ')?;
+    }
+    Ok(remark)
+}
+
 /// A line of 4,096 octets is looked at, and a longer one isn't, though it be a remark.
 #[test]
 fn long_lines(rt: HostRuntime) -> Result<(), AllocError> {
-    let none: Fault = None;
-    for (count, first) in [(4095, none), (4096, Some((1, DecodeFault::Length)))] {
-        let mut input = String::new(rt.alloc());
-        input.push('#')?;
-        for _ in 0..count {
-            input.push(' ')?;
-        }
-        let said = if first.is_some() {
-            "error 1 length\n"
-        } else {
-            ""
-        };
-        let right = says(
-            rt.alloc(),
-            input.as_str(),
-            Direction::Each,
-            Mask::Plain,
-            (said, first),
-        )?;
-        assert!(rt; right, "{count}");
-    }
+    let longest = remark_of(rt.alloc(), 4_096)?;
+    let each = Direction::Each;
+    assert!(rt; says(rt.alloc(), &longest, each, Mask::Plain, ("", None))?);
+    let longer = remark_of(rt.alloc(), 4_097)?;
+    let long = ("error 1 length\n", Some((1, DecodeFault::Length)));
+    assert!(rt; says(rt.alloc(), &longer, each, Mask::Plain, long)?);
     Ok(())
 }
 
@@ -388,9 +431,10 @@ fn octets_of(text: &str) -> [u8; 13] {
 fn appended(
     alloc: Global,
     room: usize,
-    row: (&'static str, bool, Mask),
+    text: &str,
+    upstream: bool,
+    mask: Mask,
 ) -> Result<(Result<(), DecodeFault>, Vec<u8>), AllocError> {
-    let (text, upstream, mask) = row;
     let mut out = Vec::with_capacity(alloc, FRONT.len().saturating_add(room))?;
     out.extend_from_slice(FRONT.as_bytes())?;
     let outcome = push_words_of(&mut out, &octets_of(text), upstream, mask);
@@ -403,49 +447,76 @@ fn holds(out: &[u8], line: &str) -> bool {
     out.strip_prefix(FRONT.as_bytes()) == Some(words)
 }
 
+/// Tells whether a buffer with so much room has the words of a line behind what stood in it; None where an allocation
+/// was refused for want of room, and it has at most the first part of them.
+fn has_words(
+    outcome: Result<(), DecodeFault>,
+    out: &[u8],
+    room: usize,
+    line: &str,
+) -> Option<bool> {
+    let begun = out.strip_prefix(FRONT.as_bytes()).unwrap_or(b"\n");
+    let is_begun = room < 64 && line.as_bytes().starts_with(begun);
+    if outcome == Err(DecodeFault::OutOfMemory) && is_begun {
+        return None;
+    }
+    Some(outcome.is_ok() && holds(out, line))
+}
+
+/// Tells the same of a text that is decoded; None too where the test itself has no memory.
+fn is_appended(alloc: Global, room: usize, row: &Line) -> Option<bool> {
+    let (text, upstream, mask, line) = *row;
+    let (outcome, out) = appended(alloc, room, text, upstream, mask).ok()?;
+    has_words(outcome, &out, room, line)
+}
+
 /// Where an allocation was made to fail it is told, and what stood in the buffer stands there with at most the first
 /// part of the words behind it; else the words stand there, however much room there was.
 #[test]
 fn words_behind_what_stands(rt: HostRuntime) {
-    for (text, upstream, mask, line) in LINES {
+    for row in &LINES {
         for room in [0, 1, 18, 64] {
-            let Ok((outcome, out)) = appended(rt.alloc(), room, (text, upstream, mask)) else {
+            let Some(right) = is_appended(rt.alloc(), room, row) else {
                 return;
             };
-            if outcome == Err(DecodeFault::OutOfMemory) {
-                let begun = out.strip_prefix(FRONT.as_bytes()).unwrap_or(b"\n");
-                assert!(rt; room < 64 && line.as_bytes().starts_with(begun), "{text}");
-                return;
-            }
-            assert!(rt; outcome == Ok(()) && holds(&out, line), "{text}");
+            assert!(rt; right, "{}", row.0);
         }
+    }
+}
+
+/// Tells whether the words of a text are those of its line; None where an allocation was refused.
+fn is_text(alloc: Global, row: &Line) -> Option<bool> {
+    let (text, upstream, mask, line) = *row;
+    match words_of(alloc, &octets_of(text), upstream, mask) {
+        Ok(words) => Some(words.as_str() == line.trim_end_matches('\n')),
+        Err(DecodeFault::OutOfMemory) => None,
+        Err(_) => Some(false),
     }
 }
 
 /// Where an allocation was made to fail it is told; else the words are a text of their own.
 #[test]
 fn words_as_a_text(rt: HostRuntime) {
-    for (text, upstream, mask, line) in LINES {
-        match words_of(rt.alloc(), &octets_of(text), upstream, mask) {
-            Ok(words) => assert!(rt; words.as_str() == line.trim_end_matches('\n'), "{text}"),
-            Err(fault) => {
-                assert_eq!(rt; fault, DecodeFault::OutOfMemory, "{text}");
-                return;
-            }
-        }
+    for row in &LINES {
+        let Some(right) = is_text(rt.alloc(), row) else {
+            return;
+        };
+        assert!(rt; right, "{}", row.0);
     }
+}
+
+/// Tells whether a code whose check octet is wrong is refused, and leaves a buffer as it was.
+fn is_left(alloc: Global, upstream: bool) -> Result<bool, AllocError> {
+    let text = "00050000000000000000000062";
+    let (outcome, out) = appended(alloc, 0, text, upstream, Mask::Plain)?;
+    Ok(outcome == Err(DecodeFault::Crc) && holds(&out, ""))
 }
 
 /// A code whose check octet is wrong leaves a buffer as it was.
 #[test]
-fn no_words_of_a_wrong_code(rt: HostRuntime) -> Result<(), AllocError> {
-    for upstream in [DOWN, UP] {
-        let row = ("00050000000000000000000062", upstream, Mask::Plain);
-        let (outcome, out) = appended(rt.alloc(), 0, row)?;
-        assert_eq!(rt; outcome, Err(DecodeFault::Crc));
-        assert!(rt; holds(&out, ""));
-    }
-    Ok(())
+fn no_words_of_a_wrong_code(rt: HostRuntime) {
+    assert!(rt; is_left(rt.alloc(), DOWN) == Ok(true));
+    assert!(rt; is_left(rt.alloc(), UP) == Ok(true));
 }
 
 /// Messages that have a name and no row: upstream or downstream, the identifier (G.984.3, clause 9.2), the name.
@@ -470,17 +541,22 @@ const NAMES: [(bool, u8, &'static str); 18] = [
     (UP, 0x08, "REI"),
 ];
 
+/// The name in these rows.
+fn name_among(rows: &[(bool, u8, &'static str)], upstream: bool, id: u8) -> Option<&'static str> {
+    for (way, own, name) in rows {
+        if *way == upstream && *own == id {
+            return Some(*name);
+        }
+    }
+    None
+}
+
 #[test]
 fn names_of_messages_without_a_row(rt: HostRuntime) {
     for upstream in [DOWN, UP] {
         for id in 0..=255 {
-            let mut wanted = None;
-            for (way, own, name) in NAMES {
-                if way == upstream && own == id {
-                    wanted = Some(name);
-                }
-            }
-            assert_eq!(rt; other_name(upstream, id), wanted, "{id}");
+            let wanted = name_among(&NAMES, upstream, id);
+            assert!(rt; other_name(upstream, id) == wanted, "{id}");
         }
     }
 }
@@ -545,28 +621,45 @@ const NAMED: [(&'static str, bool, &'static str, &'static str); 9] = [
     ),
 ];
 
-/// One code, a line of an input, and words behind what stands in a buffer.
+/// Tells whether this is written of a code, with names or without.
+fn is_named(
+    alloc: Global,
+    text: &str,
+    upstream: bool,
+    names: bool,
+    wanted: &str,
+) -> Result<bool, AllocError> {
+    let mut sink = Sink::new(alloc, Vec::new(alloc))?;
+    let outcome = decode_line_in(alloc, text, upstream, Mask::Plain, names, &mut sink);
+    let written = sink.into_inner();
+    Ok(outcome.is_ok() && written.as_slice() == wanted.as_bytes())
+}
+
+/// Tells whether the same is said to a line of an input.
+fn is_named_in(
+    alloc: Global,
+    text: &str,
+    upstream: bool,
+    names: bool,
+    wanted: &str,
+) -> Result<bool, AllocError> {
+    let said = said_in(alloc, text, Direction::of(upstream), Mask::Plain, names)?;
+    Ok(is_said(&said, wanted, None))
+}
+
+/// One code, and a line of an input.
 #[test]
 fn names_of_the_standard(rt: HostRuntime) -> Result<(), AllocError> {
-    for (text, upstream, named, plain) in NAMED {
-        for (names, wanted) in [(true, named), (false, plain)] {
-            let mut sink = Sink::new(rt.alloc(), Vec::new(rt.alloc()))?;
-            let outcome = decode_line_in(rt.alloc(), text, upstream, Mask::Plain, names, &mut sink);
-            assert_eq!(rt; outcome, Ok(()), "{text}");
-            assert!(rt; sink.into_inner().as_slice() == wanted.as_bytes(), "{text}");
-            let mut source = Source::endless(text.as_bytes());
-            let mut sink = Sink::new(rt.alloc(), Vec::new(rt.alloc()))?;
-            let direction = Direction::of(upstream);
-            let first = decode_each_in(
-                rt.alloc(),
-                &mut source,
-                &mut sink,
-                direction,
-                Mask::Plain,
-                names,
+    for (text, upstream, named, plain) in &NAMED {
+        for (names, wanted) in [(true, *named), (false, *plain)] {
+            assert!(rt;
+                is_named(rt.alloc(), text, *upstream, names, wanted)?,
+                "{text}"
             );
-            assert_eq!(rt; first, Ok(None), "{text}");
-            assert!(rt; sink.into_inner().as_slice() == wanted.as_bytes(), "{text}");
+            assert!(rt;
+                is_named_in(rt.alloc(), text, *upstream, names, wanted)?,
+                "{text}"
+            );
         }
     }
     Ok(())
