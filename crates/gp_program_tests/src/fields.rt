@@ -1,17 +1,10 @@
 //! The messages and the Alloc-IDs of a trace as objects, read as JSON: each field, and no other.
-use gp_explain::{Form, Telling, explain_trace};
+use crate::json::{Field, is_object, value_of_line};
+use gp_explain::{ExplainFault, Form, Telling, explain_trace};
 use gp_ploam::Mask;
 use gp_stream::{Sink, Source};
 use serde_json::Value;
 use std::alloc::{AllocError, Global};
-
-/// A field of an object.
-#[derive(Clone, Copy)]
-enum Field {
-    Text(&'static str, &'static str),
-    Number(&'static str, u64),
-    Truth(&'static str, bool),
-}
 
 /// A line of a trace up to a code, what stands behind that, and the names of its words and of its object.
 type Way = (&'static str, &'static str, &'static str, &'static str);
@@ -195,20 +188,25 @@ const UP_ROWS: [Row; 6] = [
     ),
 ];
 
-/// What is written of a line of a trace, as JSON. None where it is none.
-fn object_of(alloc: Global, line: &str) -> Result<Option<Value>, AllocError> {
+/// What is written of a line of a trace, as JSON.
+fn written_of(
+    alloc: Global,
+    line: &str,
+) -> Result<(Result<u64, ExplainFault>, Vec<u8>), AllocError> {
     let mut source = Source::endless(line.as_bytes());
     let mut sink = Sink::new(alloc, Vec::new(alloc))?;
     let telling = Telling::new(alloc, Mask::Plain, Form::Json, false);
     let outcome = explain_trace(alloc, telling, &mut source, &mut sink);
-    let written = sink.into_inner();
-    let Ok(text) = str::from_utf8(written.as_slice()) else {
-        return Ok(None);
-    };
-    if outcome != Ok(1) || !text.ends_with('\n') {
-        return Ok(None);
+    Ok((outcome, sink.into_inner()))
+}
+
+/// The same as a value, which is null where it is no line of JSON.
+fn object_of(alloc: Global, line: &str) -> Result<Value, AllocError> {
+    let (outcome, written) = written_of(alloc, line)?;
+    if outcome != Ok(1) {
+        return Ok(Value::Null);
     }
-    Ok(Value::from_str(alloc, text).ok())
+    Ok(value_of_line(alloc, &written).unwrap_or(Value::Null))
 }
 
 /// A line of a trace with a code.
@@ -219,21 +217,6 @@ fn line_with(alloc: Global, way: Way, code: &str) -> Result<String, AllocError> 
     Ok(line)
 }
 
-/// Tells whether an object has this field.
-fn has_field(object: &Value, field: Field) -> bool {
-    match field {
-        Field::Text(name, text) => object.get(name).and_then(Value::as_str) == Some(text),
-        Field::Number(name, number) => object.get(name).and_then(Value::as_u64) == Some(number),
-        Field::Truth(name, truth) => object.get(name).and_then(Value::as_bool) == Some(truth),
-    }
-}
-
-/// Tells whether a value is an object with these fields and no other.
-fn is_object(value: &Value, fields: &[Field]) -> bool {
-    value.as_object().map(|all| all.len()) == Some(fields.len())
-        && fields.iter().all(|field| has_field(value, *field))
-}
-
 /// Tells whether a line's message has these words and these fields.
 fn is_told(line: &Value, way: Way, words: &str, fields: &[Field]) -> bool {
     let Some(object) = line.get(way.3) else {
@@ -242,28 +225,48 @@ fn is_told(line: &Value, way: Way, words: &str, fields: &[Field]) -> bool {
     line.get(way.2).and_then(Value::as_str) == Some(words) && is_object(object, fields)
 }
 
+/// Tells whether a row's message is told so.
+fn is_row(alloc: Global, row: &Row) -> Result<bool, AllocError> {
+    let (way, code, words, fields) = *row;
+    let line = line_with(alloc, way, code)?;
+    let object = object_of(alloc, &line)?;
+    Ok(is_told(&object, way, words, fields))
+}
+
 #[test]
-fn messages(rt: HostRuntime) -> Result<(), AllocError> {
-    for (way, code, words, fields) in DOWN_ROWS.iter().chain(UP_ROWS.iter()) {
-        let line = line_with(rt.alloc(), *way, code)?;
-        let object = object_of(rt.alloc(), line.as_str())?.unwrap_or(Value::Null);
-        assert!(rt; is_told(&object, *way, words, fields), "{line}");
+fn messages_down(rt: HostRuntime) {
+    for row in &DOWN_ROWS {
+        assert!(rt; is_row(rt.alloc(), row) == Ok(true), "{}", row.2);
     }
-    Ok(())
+}
+
+#[test]
+fn messages_up(rt: HostRuntime) {
+    for row in &UP_ROWS {
+        assert!(rt; is_row(rt.alloc(), row) == Ok(true), "{}", row.2);
+    }
+}
+
+/// Tells whether an object has a field that is null.
+fn is_null(object: &Value, name: &str) -> bool {
+    match object.get(name) {
+        Some(value) => value.is_null(),
+        None => false,
+    }
+}
+
+/// Tells whether neither the words nor the object of a garbled message is told.
+fn is_untold(alloc: Global, way: Way) -> Result<bool, AllocError> {
+    let line = line_with(alloc, way, "030300000000000000000000c7")?;
+    let object = object_of(alloc, &line)?;
+    Ok(is_null(&object, way.2) && is_null(&object, way.3))
 }
 
 /// Of a code whose check octet is wrong neither is told.
 #[test]
-fn garbled_messages(rt: HostRuntime) -> Result<(), AllocError> {
-    for way in [DOWN, UP] {
-        let line = line_with(rt.alloc(), way, "030300000000000000000000c7")?;
-        let object = object_of(rt.alloc(), line.as_str())?.unwrap_or(Value::Null);
-        for name in [way.2, way.3] {
-            let is_null = object.get(name).map(Value::is_null) == Some(true);
-            assert!(rt; is_null, "{name}");
-        }
-    }
-    Ok(())
+fn garbled_messages(rt: HostRuntime) {
+    assert!(rt; is_untold(rt.alloc(), DOWN) == Ok(true));
+    assert!(rt; is_untold(rt.alloc(), UP) == Ok(true));
 }
 
 /// The Alloc-IDs of a unit, and which of them are leaving. None of a text that is no list.
@@ -287,6 +290,15 @@ const ALLOCS: [(&'static str, Allocs); 12] = [
     ("256;300", None),
 ];
 
+/// Tells whether a value is this Alloc-ID, which is leaving or not.
+fn is_alloc(value: &Value, alloc: u64, leaving: bool) -> bool {
+    let fields = [
+        Field::Number("alloc", alloc),
+        Field::Truth("leaving", leaving),
+    ];
+    is_object(value, fields.as_slice())
+}
+
 /// Tells whether a value is a list of these Alloc-IDs, or null.
 fn are_allocs(value: &Value, wanted: Allocs) -> bool {
     let Some(wanted) = wanted else {
@@ -296,32 +308,38 @@ fn are_allocs(value: &Value, wanted: Allocs) -> bool {
         return false;
     };
     told.len() == wanted.len()
-        && told.iter().zip(wanted.iter()).all(|(one, alloc)| {
-            let fields = [
-                Field::Number("alloc", alloc.0),
-                Field::Truth("leaving", alloc.1),
-            ];
-            is_object(one, fields.as_slice())
-        })
+        && told
+            .iter()
+            .zip(wanted.iter())
+            .all(|(one, alloc)| is_alloc(one, alloc.0, alloc.1))
+}
+
+/// The line of a unit with this text for its Alloc-IDs.
+fn unit_with(alloc: Global, text: &str) -> Result<String, AllocError> {
+    let mut line = String::from_str(
+        alloc,
+        "0 22 show ABCD00000001 = unit 0 operating 211040 allocs ",
+    )?;
+    line.push_str(text)?;
+    line.push('\n')?;
+    Ok(line)
+}
+
+/// Tells whether a unit's object has the text of its Alloc-IDs, and a list of these.
+fn has_allocs(object: &Value, text: &str, wanted: Allocs) -> bool {
+    let is_text = object.get("allocs").and_then(Value::as_str) == Some(text);
+    match object.get("alloc_list") {
+        Some(list) => is_text && are_allocs(list, wanted),
+        None => false,
+    }
 }
 
 #[test]
 fn alloc_ids(rt: HostRuntime) -> Result<(), AllocError> {
-    for (text, wanted) in ALLOCS {
-        let mut line = String::from_str(
-            rt.alloc(),
-            "0 22 show ABCD00000001 = unit 0 operating 211040 allocs ",
-        )?;
-        line.push_str(text)?;
-        line.push('\n')?;
-        let object = object_of(rt.alloc(), line.as_str())?.unwrap_or(Value::Null);
-        let is_text = object.get("allocs").and_then(Value::as_str) == Some(text);
-        assert!(rt; is_text, "{text}");
-        let is_list = object
-            .get("alloc_list")
-            .map(|list| are_allocs(list, wanted))
-            == Some(true);
-        assert!(rt; is_list, "{text}");
+    for (text, wanted) in &ALLOCS {
+        let line = unit_with(rt.alloc(), text)?;
+        let object = object_of(rt.alloc(), &line)?;
+        assert!(rt; has_allocs(&object, text, *wanted), "{text}");
     }
     Ok(())
 }

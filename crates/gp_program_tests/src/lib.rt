@@ -21,6 +21,7 @@
 //! - `verify.rt`: traces that are told to be runs, and the first line of each that is not; `verify/objects.rt` reads
 //!   what is told as JSON, `verify/words.rt` has it in words.
 //! - `report.rt`: fault texts and statuses.
+//! - `json.rt`, `samples.rt`: fields of JSON objects, and what is printed, for several of these.
 #![tactic(auto)]
 
 #[cfg(test)]
@@ -36,6 +37,8 @@ mod explain;
 #[cfg(test)]
 mod fields;
 #[cfg(test)]
+mod json;
+#[cfg(test)]
 mod lines;
 #[cfg(test)]
 mod log;
@@ -43,6 +46,8 @@ mod log;
 mod replay;
 #[cfg(test)]
 mod report;
+#[cfg(test)]
+mod samples;
 #[cfg(test)]
 mod script;
 #[cfg(test)]

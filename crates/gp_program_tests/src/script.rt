@@ -2,12 +2,13 @@
 mod faults;
 mod ranges;
 
-use gp_machine::Command;
+use crate::samples::is_printed;
+use gp_machine::{Command, PortConfig};
 use gp_ploam::{Mask, Serial};
 use gp_script::{
     Script, ScriptError, ScriptEvent, ScriptFault, ScriptUnit, read_script, read_storm_script,
 };
-use std::alloc::{AllocError, Global};
+use std::alloc::Global;
 
 const SYNTAX: Option<ScriptFault> = Some(ScriptFault::Syntax);
 
@@ -290,70 +291,78 @@ fn read(alloc: Global, is_storm: bool, bytes: &[u8]) -> Result<Script, ScriptErr
     }
 }
 
+/// Tells whether a script says this of itself and of its ports.
+fn has_settings(script: &Script, said: &Said) -> bool {
+    script.licences == said.licences
+        && script.mask == said.mask
+        && script.journal_limit == said.journal_limit
+        && script.ports.len() == said.ports
+}
+
+/// Tells whether a script has these units, losses and events.
+fn has_events(script: &Script, said: &Said) -> bool {
+    script.units.as_slice() == said.units
+        && script.losses.copies.as_slice() == said.copies
+        && script.losses.bursts.as_slice() == said.bursts
+        && script.events.as_slice() == said.events
+}
+
+/// Reads what a script says.
+fn read_said(alloc: Global, said: &Said) -> Result<Script, ScriptError> {
+    let text = format!(in alloc; "{}{}", said.before, said.text)?;
+    read(alloc, said.is_storm, text.as_bytes())
+}
+
 #[test]
 fn scripts(rt: HostRuntime) -> Result<(), ScriptError> {
     for said in &SCRIPTS {
-        let text = format!(in rt.alloc(); "{}{}", said.before, said.text)?;
-        let script = read(rt.alloc(), said.is_storm, text.as_bytes())?;
-        assert_eq!(rt;
-            (
-                script.licences,
-                script.mask,
-                script.journal_limit,
-                script.ports.len(),
-                script.units.as_slice(),
-                script.losses.copies.as_slice(),
-                script.losses.bursts.as_slice(),
-                script.events.as_slice(),
-            ),
-            (
-                said.licences,
-                said.mask,
-                said.journal_limit,
-                said.ports,
-                said.units,
-                said.copies,
-                said.bursts,
-                said.events,
-            )
-        );
+        let script = read_said(rt.alloc(), said)?;
+        assert!(rt; has_settings(&script, said), "{}", said.text);
+        assert!(rt; has_events(&script, said), "{}", said.text);
     }
     Ok(())
+}
+
+/// Tells whether a port has these, and all else as it is where a script says nothing of it.
+fn is_port(
+    port: &PortConfig,
+    mask: Mask,
+    overhead: [u8; 10],
+    cycles: u8,
+    admitted: &[Serial],
+) -> bool {
+    port.mask == mask
+        && port.overhead == overhead
+        && port.cycles == cycles
+        && port.admitted.as_slice() == admitted
+        && port.teqd == 311_040
+        && port.max_units == 254
+        && port.alloc_last == 4095
+        && port.search_period == 0
+        && port.quarantine == 800
+}
+
+/// Tells whether the one port of a script is so.
+fn has_port(
+    alloc: Global,
+    said: &Said,
+    overhead: [u8; 10],
+    cycles: u8,
+    admitted: &[Serial],
+) -> Result<bool, ScriptError> {
+    let script = read_said(alloc, said)?;
+    Ok(match script.ports.as_slice() {
+        [port] => is_port(port, said.mask, overhead, cycles, admitted),
+        _ => false,
+    })
 }
 
 /// The port of a script with one, where it says little of it and where it says more.
 #[test]
 fn ports(rt: HostRuntime) -> Result<(), ScriptError> {
+    assert!(rt; has_port(rt.alloc(), &ONE_UNIT, [0; 10], 1, &[A])?);
     let overhead = [1, 2, 3, 4, 5, 6, 7, 8, 9, 10];
-    let admitted: [Serial; 1] = [A];
-    let rows = [
-        (&ONE_UNIT, [0; 10], 1, &admitted[..]),
-        (&OTHER_FORMS, overhead, 3, &admitted[..0]),
-    ];
-    for (said, overhead, cycles, admitted) in rows {
-        let script = read_script(rt.alloc(), said.text.as_bytes())?;
-        for port in &script.ports {
-            assert_eq!(rt;
-                (
-                    port.mask,
-                    port.overhead,
-                    port.cycles,
-                    port.admitted.as_slice()
-                ),
-                (said.mask, overhead, cycles, admitted)
-            );
-            assert_eq!(rt;
-                (
-                    port.teqd,
-                    port.max_units,
-                    port.alloc_last,
-                    port.search_period,
-                    port.quarantine
-                ),
-                (311_040, 254, 4095, 0, 800)
-            );
-        }
-    }
+    assert!(rt; has_port(rt.alloc(), &OTHER_FORMS, overhead, 3, &[])?);
     Ok(())
 }
 
@@ -384,43 +393,45 @@ fn first_other(alloc: Global, tables: &[Table]) -> Result<Option<&'static str>, 
 }
 
 #[test]
-fn faults_of_scripts(rt: HostRuntime) -> Result<(), ScriptError> {
-    assert_eq!(rt; first_other(rt.alloc(), &faults::TABLES)?, None);
-    Ok(())
+fn faults_of_scripts(rt: HostRuntime) {
+    assert!(rt; first_other(rt.alloc(), &faults::TABLES) == Ok(None));
 }
 
 #[test]
-fn ends_of_ranges(rt: HostRuntime) -> Result<(), ScriptError> {
-    assert_eq!(rt; first_other(rt.alloc(), &ranges::TABLES)?, None);
-    Ok(())
+fn ends_of_ranges(rt: HostRuntime) {
+    assert!(rt; first_other(rt.alloc(), &ranges::TABLES) == Ok(None));
+}
+
+/// The fault of as many spaces as a script may be long.
+fn fault_of_spaces(alloc: Global) -> Result<Option<ScriptFault>, ScriptError> {
+    let spaces = vec![in alloc; b' '; 1_048_576]?;
+    fault_of(alloc, false, &spaces)
 }
 
 #[test]
-fn bytes_that_are_no_script(rt: HostRuntime) -> Result<(), ScriptError> {
-    let spaces = vec![in rt.alloc(); b' '; 1_048_576]?;
-    let found = [
-        fault_of(rt.alloc(), false, &spaces)?,
-        fault_of(rt.alloc(), false, b"\xff")?,
-    ];
-    assert_eq!(rt; found, [SHAPE, SYNTAX]);
-    Ok(())
+fn bytes_that_are_no_script(rt: HostRuntime) {
+    assert!(rt; fault_of_spaces(rt.alloc()) == Ok(SHAPE));
+    assert!(rt; fault_of(rt.alloc(), false, b"\xff") == Ok(SYNTAX));
 }
 
+/// Faults, and the text of each.
+const TEXTS: [(ScriptFault, &'static str); 6] = [
+    (ScriptFault::Syntax, "1 syntax"),
+    (ScriptFault::Shape, "2 shape"),
+    (ScriptFault::Range, "3 range"),
+    (ScriptFault::Serial, "4 serial"),
+    (ScriptFault::Hex, "5 hex"),
+    (ScriptFault::Duplicate, "6 duplicate"),
+];
+
 #[test]
-fn texts_of_faults(rt: HostRuntime) -> Result<(), AllocError> {
-    let text = format!(in rt.alloc();
-        "{}, {}, {}, {}, {}, {}, {}",
-        ScriptFault::Syntax,
-        ScriptFault::Shape,
-        ScriptFault::Range,
-        ScriptFault::Serial,
-        ScriptFault::Hex,
-        ScriptError::Fault(ScriptFault::Duplicate),
-        ScriptError::OutOfMemory
-    )?;
-    assert_eq!(rt;
-        text.as_str(),
-        "1 syntax, 2 shape, 3 range, 4 serial, 5 hex, 6 duplicate, out of memory"
-    );
-    Ok(())
+fn texts_of_faults(rt: HostRuntime) {
+    for (fault, text) in &TEXTS {
+        assert!(rt; is_printed(rt.alloc(), fault, text), "{text}");
+        assert!(rt;
+            is_printed(rt.alloc(), &ScriptError::Fault(*fault), text),
+            "{text}"
+        );
+    }
+    assert!(rt; is_printed(rt.alloc(), &ScriptError::OutOfMemory, "out of memory"));
 }

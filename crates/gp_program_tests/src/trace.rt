@@ -161,13 +161,20 @@ fn line(alloc: Global, mask: Mask, event: Event, answer: Answer) -> Result<Vec<u
     Ok(out)
 }
 
+/// Tells whether an answer that sends no message is written so.
+fn is_line(alloc: Global, event: Event, reply: Reply, text: &str) -> Result<bool, AllocError> {
+    let found = line(alloc, Mask::Plain, event, Answer::from(reply))?;
+    Ok(found.as_slice() == text.as_bytes())
+}
+
 #[test]
-fn events_and_replies(rt: HostRuntime) -> Result<(), AllocError> {
-    for (event, reply, text) in LINES {
-        let found = line(rt.alloc(), Mask::Plain, event, Answer::from(reply))?;
-        assert!(rt; found.as_slice() == text.as_bytes(), "{text}");
+fn events_and_replies(rt: HostRuntime) {
+    for (event, reply, text) in &LINES {
+        assert!(rt;
+            is_line(rt.alloc(), *event, *reply, text) == Ok(true),
+            "{text}"
+        );
     }
-    Ok(())
 }
 
 #[test]
@@ -196,47 +203,51 @@ fn with_alloc(mut allocs: Allocs, alloc: u16, leaving: bool) -> Allocs {
     allocs
 }
 
-#[test]
-fn shown_units(rt: HostRuntime) -> Result<(), AllocError> {
-    let phase = Phase::Operating {
-        eqd: 211_040,
-        dark: 1,
-        garbled: 2,
-    };
+/// Tells whether the unit 3, operating or ranging, with these Alloc-IDs, is shown so.
+fn is_shown(
+    alloc: Global,
+    is_operating: bool,
+    allocs: Allocs,
+    text: &str,
+) -> Result<bool, AllocError> {
     let ranging = Row::ranging(3);
-    let operating = Row { phase, ..ranging };
-    let held = with_alloc(Allocs::new(), 300, false);
-    let one = Row {
-        allocs: held,
-        ..operating
+    let phase = if is_operating {
+        Phase::Operating {
+            eqd: 211_040,
+            dark: 1,
+            garbled: 2,
+        }
+    } else {
+        ranging.phase
     };
-    let three = Row {
-        allocs: with_alloc(with_alloc(held, 4095, false), 256, true),
+    let row = Row {
+        phase,
+        allocs,
         ..ranging
     };
-    let rows = [
-        (
-            ranging,
-            "1 7 show ABCD00000001 = unit 3 ranging 0 allocs -\n",
-        ),
-        (
-            operating,
-            "1 7 show ABCD00000001 = unit 3 operating 211040 allocs -\n",
-        ),
-        (
-            one,
-            "1 7 show ABCD00000001 = unit 3 operating 211040 allocs 300\n",
-        ),
-        (
-            three,
-            "1 7 show ABCD00000001 = unit 3 ranging 0 allocs 256!,300,4095\n",
-        ),
-    ];
-    for (row, text) in rows {
-        let command = Event::Command(Command::Show(A));
-        let answer = Answer::from(Reply::Shown(row));
-        let found = line(rt.alloc(), Mask::Plain, command, answer)?;
-        assert!(rt; found.as_slice() == text.as_bytes(), "{text}");
-    }
-    Ok(())
+    is_line(
+        alloc,
+        Event::Command(Command::Show(A)),
+        Reply::Shown(row),
+        text,
+    )
+}
+
+#[test]
+fn shown_units(rt: HostRuntime) {
+    let none = Allocs::new();
+    let text = "1 7 show ABCD00000001 = unit 3 ranging 0 allocs -\n";
+    assert!(rt; is_shown(rt.alloc(), false, none, text) == Ok(true));
+    let text = "1 7 show ABCD00000001 = unit 3 operating 211040 allocs -\n";
+    assert!(rt; is_shown(rt.alloc(), true, none, text) == Ok(true));
+}
+
+#[test]
+fn shown_alloc_ids(rt: HostRuntime) {
+    let one = with_alloc(Allocs::new(), 300, false);
+    let text = "1 7 show ABCD00000001 = unit 3 operating 211040 allocs 300\n";
+    assert!(rt; is_shown(rt.alloc(), true, one, text) == Ok(true));
+    let three = with_alloc(with_alloc(one, 4095, false), 256, true);
+    let text = "1 7 show ABCD00000001 = unit 3 ranging 0 allocs 256!,300,4095\n";
+    assert!(rt; is_shown(rt.alloc(), false, three, text) == Ok(true));
 }

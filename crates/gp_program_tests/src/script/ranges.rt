@@ -338,14 +338,19 @@ fn text_of(alloc: Global, row: &Repeated) -> Result<String, AllocError> {
     Ok(text)
 }
 
+/// The fault of a row's script, if it has one.
+fn fault_of_row(alloc: Global, row: &Repeated) -> Result<Option<ScriptFault>, ScriptError> {
+    let text = text_of(alloc, row)?;
+    fault_of(alloc, false, text.as_bytes())
+}
+
 /// Gives the place of the first row whose script has another fault, and that.
 fn first_wrong(
     alloc: Global,
     rows: &[Repeated],
 ) -> Result<Option<(usize, Option<ScriptFault>)>, ScriptError> {
     for (place, row) in rows.iter().enumerate() {
-        let text = text_of(alloc, row)?;
-        let found = fault_of(alloc, false, text.as_bytes())?;
+        let found = fault_of_row(alloc, row)?;
         if found != row.fault {
             return Ok(Some((place, found)));
         }
@@ -354,19 +359,16 @@ fn first_wrong(
 }
 
 #[test]
-fn most_serial_numbers(rt: HostRuntime) -> Result<(), ScriptError> {
-    assert_eq!(rt; first_wrong(rt.alloc(), &SERIALS)?, None);
-    Ok(())
+fn most_serial_numbers(rt: HostRuntime) {
+    assert!(rt; first_wrong(rt.alloc(), &SERIALS) == Ok(None));
 }
 
 #[test]
-fn most_ports(rt: HostRuntime) -> Result<(), ScriptError> {
-    assert_eq!(rt; first_wrong(rt.alloc(), &PORT_TABLES)?, None);
-    Ok(())
+fn most_ports(rt: HostRuntime) {
+    assert!(rt; first_wrong(rt.alloc(), &PORT_TABLES) == Ok(None));
 }
 
 #[test]
-fn most_units(rt: HostRuntime) -> Result<(), ScriptError> {
-    assert_eq!(rt; first_wrong(rt.alloc(), &UNIT_TABLES)?, None);
-    Ok(())
+fn most_units(rt: HostRuntime) {
+    assert!(rt; first_wrong(rt.alloc(), &UNIT_TABLES) == Ok(None));
 }
