@@ -112,43 +112,59 @@ const FAULTS: [(&'static str, WordsFault); 12] = [
     ("Other 12 0 00000000000000000000", WordsFault::Named),
 ];
 
-#[test]
-fn codes(rt: HostRuntime) -> Result<(), AllocError> {
-    for (words, upstream, mask, code) in CODES {
-        let mut sink = Sink::new(rt.alloc(), Vec::new(rt.alloc()))?;
-        let outcome = encode_line(words.as_bytes(), upstream, mask, &mut sink);
-        let written = sink.into_inner();
-        assert_eq!(rt; outcome, Ok(()), "{words}");
-        assert!(rt; written.as_slice() == code.as_bytes(), "{words}");
-    }
-    Ok(())
+/// Tells whether words are encoded so, with this written.
+fn is_encoded(
+    alloc: Global,
+    words: &str,
+    upstream: bool,
+    mask: Mask,
+    wanted: (Result<(), EncodeFault>, &str),
+) -> Result<bool, AllocError> {
+    let mut sink = Sink::new(alloc, Vec::new(alloc))?;
+    let outcome = encode_line(words.as_bytes(), upstream, mask, &mut sink);
+    let written = sink.into_inner();
+    Ok(outcome == wanted.0 && written.as_slice() == wanted.1.as_bytes())
 }
 
 #[test]
-fn first_faults(rt: HostRuntime) -> Result<(), AllocError> {
-    for (words, fault) in FAULTS {
-        let mut sink = Sink::new(rt.alloc(), Vec::new(rt.alloc()))?;
-        let outcome = encode_line(words.as_bytes(), DOWN, Mask::Plain, &mut sink);
-        let count = sink.into_inner().len();
-        assert_eq!(rt;
-            (outcome, count),
-            (Err(EncodeFault::Words(fault)), 0),
+fn codes(rt: HostRuntime) -> Result<(), AllocError> {
+    for (words, upstream, mask, code) in &CODES {
+        let wanted = (Ok(()), *code);
+        assert!(rt;
+            is_encoded(rt.alloc(), words, *upstream, *mask, wanted)?,
             "{words}"
         );
     }
     Ok(())
 }
 
-// A slice takes as many bytes as it has room for, and then none.
 #[test]
-fn a_writer_that_stops(rt: HostRuntime) -> Result<(), AllocError> {
-    for room in 0..27 {
-        let mut taken = [0; 27];
-        let mut sink = Sink::new(rt.alloc(), &mut taken[..room])?;
-        let outcome = encode_line(b"POPUP 255", DOWN, Mask::Plain, &mut sink);
-        assert_eq!(rt; outcome, Err(EncodeFault::Write));
+fn first_faults(rt: HostRuntime) -> Result<(), AllocError> {
+    for (words, fault) in &FAULTS {
+        let wanted = (Err(EncodeFault::Words(*fault)), "");
+        assert!(rt;
+            is_encoded(rt.alloc(), words, DOWN, Mask::Plain, wanted)?,
+            "{words}"
+        );
     }
     Ok(())
+}
+
+/// How words are encoded to a slice with so much room: it takes as many bytes as it has room for, and then none.
+fn encoded_to(alloc: Global, room: usize) -> Result<Result<(), EncodeFault>, AllocError> {
+    let mut taken = vec![in alloc; 0; room]?;
+    let mut sink = Sink::new(alloc, &mut taken[..])?;
+    Ok(encode_line(b"POPUP 255", DOWN, Mask::Plain, &mut sink))
+}
+
+#[test]
+fn a_writer_that_stops(rt: HostRuntime) {
+    for room in 0..27 {
+        assert!(rt;
+            encoded_to(rt.alloc(), room) == Ok(Err(EncodeFault::Write)),
+            "{room}"
+        );
+    }
 }
 
 /// A line, and its fault.
@@ -204,88 +220,121 @@ const INPUTS: [(&'static str, bool, Mask, &'static str, Fault); 7] = [
     ),
 ];
 
-/// How an input is encoded, and what is written.
-fn encoded(
-    alloc: Global,
-    input: &[u8],
-    upstream: bool,
-    mask: Mask,
-) -> Result<(Result<Option<WordsFaultAt>, LinesFault>, Vec<u8>), AllocError> {
+/// How an input ended, and what is written.
+type Encoded = (Result<Option<WordsFaultAt>, LinesFault>, Vec<u8>);
+
+/// Encodes an input.
+fn encoded(alloc: Global, input: &[u8], upstream: bool, mask: Mask) -> Result<Encoded, AllocError> {
     let mut source = Source::endless(input);
     let mut sink = Sink::new(alloc, Vec::new(alloc))?;
     let outcome = encode_lines(alloc, &mut source, &mut sink, upstream, mask);
     Ok((outcome, sink.into_inner()))
 }
 
+/// The fault of a line.
+fn fault_at(fault: Fault) -> Option<WordsFaultAt> {
+    let (line, fault) = fault?;
+    Some(WordsFaultAt { line, fault })
+}
+
+/// Tells whether this is said, and this the first fault.
+fn is_said(encoded: &Encoded, said: &str, first: Fault) -> bool {
+    encoded.0 == Ok(fault_at(first)) && encoded.1.as_slice() == said.as_bytes()
+}
+
 #[test]
 fn lines_of_an_input(rt: HostRuntime) -> Result<(), AllocError> {
-    for (input, upstream, mask, said, first) in INPUTS {
-        let (outcome, written) = encoded(rt.alloc(), input.as_bytes(), upstream, mask)?;
-        let first = first.map(|(line, fault)| WordsFaultAt { line, fault });
-        assert_eq!(rt; outcome, Ok(first), "{input}");
-        assert!(rt; written.as_slice() == said.as_bytes(), "{input}");
+    for (input, upstream, mask, said, first) in &INPUTS {
+        let told = encoded(rt.alloc(), input.as_bytes(), *upstream, *mask)?;
+        assert!(rt; is_said(&told, said, *first), "{input}");
     }
     Ok(())
+}
+
+/// A line of words, a remark of so many octets behind its sign, and the line again.
+fn with_remark(alloc: Global, count: usize) -> Result<String, AllocError> {
+    let mut input = String::from_str(alloc, "POPUP 255\n#")?;
+    for _ in 0..count {
+        input.push(' ')?;
+    }
+    input.push_str("\nPOPUP 255")?;
+    Ok(input)
 }
 
 /// A line of 4,096 octets is looked at, and a longer one isn't, though it be a remark.
 #[test]
 fn long_lines(rt: HostRuntime) -> Result<(), AllocError> {
+    let input = with_remark(rt.alloc(), 4_095)?;
+    let told = encoded(rt.alloc(), input.as_bytes(), DOWN, Mask::Plain)?;
+    let said = "ff0c00000000000000000000c3\nff0c00000000000000000000c3\n";
+    assert!(rt; is_said(&told, said, None));
+    let input = with_remark(rt.alloc(), 4_096)?;
+    let told = encoded(rt.alloc(), input.as_bytes(), DOWN, Mask::Plain)?;
+    let said = "ff0c00000000000000000000c3\nerror 2 long\nff0c00000000000000000000c3\n";
     let long = WordsFault::Part(LineFault::Long);
-    let none: Fault = None;
-    for (count, first) in [(4095, none), (4096, Some((2, long)))] {
-        let mut input = String::from_str(rt.alloc(), "POPUP 255\n#")?;
-        for _ in 0..count {
-            input.push(' ')?;
-        }
-        input.push_str("\nPOPUP 255")?;
-        let (outcome, written) = encoded(rt.alloc(), input.as_bytes(), DOWN, Mask::Plain)?;
-        let said = if first.is_some() {
-            "ff0c00000000000000000000c3\nerror 2 long\nff0c00000000000000000000c3\n"
-        } else {
-            "ff0c00000000000000000000c3\nff0c00000000000000000000c3\n"
-        };
-        let first = first.map(|(line, fault)| WordsFaultAt { line, fault });
-        assert_eq!(rt; outcome, Ok(first), "{count}");
-        assert!(rt; written.as_slice() == said.as_bytes(), "{count}");
-    }
+    assert!(rt; is_said(&told, said, Some((2, long))));
     Ok(())
+}
+
+/// What is decoded of codes, and None where one of them isn't right.
+fn decoded(
+    alloc: Global,
+    codes: &[u8],
+    upstream: bool,
+    mask: Mask,
+) -> Result<Option<Vec<u8>>, AllocError> {
+    let mut source = Source::endless(codes);
+    let mut sink = Sink::new(alloc, Vec::new(alloc))?;
+    let outcome = decode_lines(alloc, &mut source, &mut sink, upstream, mask);
+    let words = sink.into_inner();
+    Ok(if outcome == Ok(None) {
+        Some(words)
+    } else {
+        None
+    })
+}
+
+/// Tells whether the codes of words are decoded to words that have these codes.
+fn come_back(alloc: Global, words: &str, upstream: bool, mask: Mask) -> Result<bool, AllocError> {
+    let (_, codes) = encoded(alloc, words.as_bytes(), upstream, mask)?;
+    let Some(told) = decoded(alloc, &codes, upstream, mask)? else {
+        return Ok(false);
+    };
+    let (_, again) = encoded(alloc, &told, upstream, mask)?;
+    Ok(again.as_slice() == codes.as_slice())
 }
 
 /// What is decoded of the codes of words are these words.
 #[test]
 fn words_come_back(rt: HostRuntime) -> Result<(), AllocError> {
-    for (words, upstream, mask, _) in CODES {
-        let (_, codes) = encoded(rt.alloc(), words.as_bytes(), upstream, mask)?;
-        let mut source = Source::endless(codes.as_slice());
-        let mut sink = Sink::new(rt.alloc(), Vec::new(rt.alloc()))?;
-        let decoded = decode_lines(rt.alloc(), &mut source, &mut sink, upstream, mask);
-        let told = sink.into_inner();
-        assert_eq!(rt; decoded, Ok(None), "{words}");
-        let (_, again) = encoded(rt.alloc(), told.as_slice(), upstream, mask)?;
-        assert!(rt; again.as_slice() == codes.as_slice(), "{words}");
+    for (words, upstream, mask, _) in &CODES {
+        assert!(rt; come_back(rt.alloc(), words, *upstream, *mask)?, "{words}");
     }
     Ok(())
+}
+
+/// Tells whether this is said, with ample memory. None where memory was refused, and each line before was answered.
+fn is_said_if_ample(encoded: &Encoded, said: &str) -> Option<bool> {
+    let (outcome, written) = encoded;
+    let is_begun = said.as_bytes().starts_with(written);
+    match outcome {
+        Err(LinesFault::Line(Unanswered::OutOfMemory)) if is_begun => None,
+        Err(LinesFault::Line(Unanswered::Write)) => None,
+        _ => Some(outcome.is_ok() && written.as_slice() == said.as_bytes()),
+    }
 }
 
 /// Where an allocation was made to fail it is told; else each line is answered. What the test takes for itself may be
 /// refused too, and then nothing was encoded.
 #[test]
 fn memory_short_or_ample(rt: HostRuntime) {
-    for (input, upstream, mask, said, _) in INPUTS {
-        let Ok((outcome, written)) = encoded(rt.alloc(), input.as_bytes(), upstream, mask) else {
+    for (input, upstream, mask, said, _) in &INPUTS {
+        let Ok(told) = encoded(rt.alloc(), input.as_bytes(), *upstream, *mask) else {
             return;
         };
-        if outcome == Err(LinesFault::Line(Unanswered::OutOfMemory)) {
-            assert!(rt; said.as_bytes().starts_with(written.as_slice()), "{input}");
+        let Some(right) = is_said_if_ample(&told, said) else {
             return;
-        }
-        if outcome == Err(LinesFault::Line(Unanswered::Write)) {
-            return;
-        }
-        assert!(rt;
-            outcome.is_ok() && written.as_slice() == said.as_bytes(),
-            "{input}"
-        );
+        };
+        assert!(rt; right, "{input}");
     }
 }

@@ -21,7 +21,8 @@
 //! - `verify.rt`: traces that are told to be runs, and the first line of each that is not; `verify/objects.rt` reads
 //!   what is told as JSON, `verify/words.rt` has it in words.
 //! - `report.rt`: fault texts and statuses.
-//! - `json.rt`, `samples.rt`: fields of JSON objects, and what is printed, for several of these.
+//! - `streams.rt`, `json.rt`, `samples.rt`: readers and writers that fail, fields of JSON objects, and what is printed,
+//!   for several of these.
 #![tactic(auto)]
 
 #[cfg(test)]
@@ -54,6 +55,8 @@ mod script;
 mod storm;
 #[cfg(test)]
 mod stream;
+#[cfg(test)]
+mod streams;
 #[cfg(test)]
 mod tell;
 #[cfg(test)]

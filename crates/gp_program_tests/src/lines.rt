@@ -1,9 +1,9 @@
 //! Lines that tell events and lines that ask for something: what each says, and its first fault.
+use crate::samples::is_printed;
 use gp_lines::{Asked, LONGEST_LINE, LineFault, parse_event, parse_turn, picked, split_line};
 use gp_machine::{Command, Event};
 use gp_ploam::{Mask, Serial};
 use gp_ranging::Grant;
-use std::test::Fail;
 
 const A: Serial = Serial(*b"ABCD\x00\x00\x00\x01");
 
@@ -386,39 +386,47 @@ const WORDS: [(LineFault, &'static str); 7] = [
 
 #[test]
 fn events_of_a_trace(rt: HostRuntime) {
-    for (text, event) in EVENTS {
-        assert_eq!(rt; parse_event(text.as_bytes()), Ok(event), "{text}");
+    for (text, event) in &EVENTS {
+        assert!(rt; parse_event(text.as_bytes()) == Ok(*event), "{text}");
     }
-    for (text, fault) in EVENT_FAULTS {
-        assert_eq!(rt; parse_event(text.as_bytes()), Err(fault), "{text}");
+}
+
+#[test]
+fn no_events(rt: HostRuntime) {
+    for (text, fault) in &EVENT_FAULTS {
+        assert!(rt; parse_event(text.as_bytes()) == Err(*fault), "{text}");
     }
-    assert_eq!(rt; parse_event(b"alloc \xff"), Err(LineFault::Serial));
+    assert!(rt; parse_event(b"alloc \xff") == Err(LineFault::Serial));
+}
+
+/// Tells whether a line asks for this under a mask, or has this fault.
+fn is_turn(text: &str, mask: Mask, wanted: Result<Asked, LineFault>) -> bool {
+    parse_turn(mask, text.as_bytes()) == wanted
 }
 
 #[test]
 fn turns(rt: HostRuntime) {
-    for (text, asked) in TURNS {
-        assert_eq!(rt;
-            parse_turn(Mask::Plain, text.as_bytes()),
-            Ok(asked),
-            "{text}"
-        );
+    for (text, asked) in &TURNS {
+        assert!(rt; is_turn(text, Mask::Plain, Ok(*asked)), "{text}");
     }
-    for (text, fault) in TURN_FAULTS {
-        assert_eq!(rt;
-            parse_turn(Mask::Plain, text.as_bytes()),
-            Err(fault),
-            "{text}"
-        );
+}
+
+#[test]
+fn no_turns(rt: HostRuntime) {
+    for (text, fault) in &TURN_FAULTS {
+        assert!(rt; is_turn(text, Mask::Plain, Err(*fault)), "{text}");
     }
 }
 
 #[test]
 fn what_units_say(rt: HostRuntime) {
-    for (text, mask, port, at, bytes) in SAID {
-        let event = Event::Burst { at, bytes };
-        let asked = Asked::Event { port, event };
-        assert_eq!(rt; parse_turn(mask, text.as_bytes()), Ok(asked), "{text}");
+    for (text, mask, port, at, bytes) in &SAID {
+        let event = Event::Burst {
+            at: *at,
+            bytes: *bytes,
+        };
+        let asked = Asked::Event { port: *port, event };
+        assert!(rt; is_turn(text, *mask, Ok(asked)), "{text}");
     }
 }
 
@@ -426,58 +434,76 @@ fn what_units_say(rt: HostRuntime) {
 fn long_lines(rt: HostRuntime) {
     let mut line = [b' '; LONGEST_LINE + 1];
     line[0] = b'#';
-    assert_eq!(rt;
-        parse_turn(Mask::Plain, &line[..LONGEST_LINE]),
-        Ok(Asked::Nothing)
-    );
-    assert_eq!(rt; parse_turn(Mask::Plain, &line), Err(LineFault::Long));
+    assert!(rt; parse_turn(Mask::Plain, &line[..LONGEST_LINE]) == Ok(Asked::Nothing));
+    assert!(rt; parse_turn(Mask::Plain, &line) == Err(LineFault::Long));
 }
 
 #[test]
-fn words_of_faults(rt: HostRuntime) -> Result<(), Fail> {
-    for (fault, word) in WORDS {
-        let text = format!(in rt.alloc(); "{fault}")?;
-        assert_eq!(rt; text.as_str(), word);
+fn words_of_faults(rt: HostRuntime) {
+    for (fault, word) in &WORDS {
+        assert!(rt; is_printed(rt.alloc(), fault, word), "{word}");
     }
-    Ok(())
+}
+
+/// Tells whether a line is one of a trace, with these parts.
+fn is_line(text: &[u8], port: u8, number: u64, event: Event, answer: &[u8]) -> bool {
+    match split_line(text) {
+        Some(line) => {
+            line.port == port
+                && line.number == number
+                && line.event == event
+                && line.answer == answer
+        }
+        None => false,
+    }
 }
 
 #[test]
-fn lines_of_a_trace(rt: HostRuntime) -> Result<(), Fail> {
+fn lines_of_a_trace(rt: HostRuntime) {
     let text =
         b"0 18446744073709551615 burst 100000 ff01414243440000000100002c = found 7 alarm = x";
-    let line = split_line(text).ok_or("no line")?;
-    assert_eq!(rt; (line.port, line.number), (0, u64::MAX));
-    assert_eq!(rt; line.answer, b"found 7 alarm = x".as_slice());
-    assert_eq!(rt; picked(line.answer), Some(7));
-    assert_eq!(rt; picked(b"allocated 256"), Some(256));
-    for other in [b"again 7".as_slice(), b"found", b"found 65536", b"found x"] {
-        assert_eq!(rt; picked(other), None);
-    }
-    let line = split_line(b"15 0 show ABCD00000001 = ").ok_or("no line")?;
-    assert_eq!(rt;
-        (line.port, line.number, line.event),
-        (15, 0, Event::Command(Command::Show(A)))
-    );
-    assert!(rt; line.answer.is_empty());
-    Ok(())
+    let event = Event::Burst {
+        at: 100_000,
+        bytes: [255, 1, 65, 66, 67, 68, 0, 0, 0, 1, 0, 0, 44],
+    };
+    assert!(rt; is_line(text, 0, u64::MAX, event, b"found 7 alarm = x"));
+    let shown = Event::Command(Command::Show(A));
+    assert!(rt; is_line(b"15 0 show ABCD00000001 = ", 15, 0, shown, b""));
 }
+
+/// Answers, and the number that each picks.
+const PICKED: [(&'static str, Option<u16>); 6] = [
+    ("found 7 alarm = x", Some(7)),
+    ("allocated 256", Some(256)),
+    ("again 7", None),
+    ("found", None),
+    ("found 65536", None),
+    ("found x", None),
+];
+
+#[test]
+fn numbers_that_are_picked(rt: HostRuntime) {
+    for (answer, number) in &PICKED {
+        assert!(rt; picked(answer.as_bytes()) == *number, "{answer}");
+    }
+}
+
+const NO_LINES: [&'static str; 10] = [
+    "",
+    "0 6 frame",
+    "0 6 frame= ok",
+    "0 6 frame =ok",
+    "0 6 frame  = ok",
+    "16 6 frame = ok",
+    "0 18446744073709551616 frame = ok",
+    "0 frame = ok",
+    "0 x frame = ok",
+    "0 6 frames = ok",
+];
 
 #[test]
 fn no_lines_of_a_trace(rt: HostRuntime) {
-    let texts = [
-        "",
-        "0 6 frame",
-        "0 6 frame= ok",
-        "0 6 frame =ok",
-        "0 6 frame  = ok",
-        "16 6 frame = ok",
-        "0 18446744073709551616 frame = ok",
-        "0 frame = ok",
-        "0 x frame = ok",
-        "0 6 frames = ok",
-    ];
-    for text in texts {
+    for text in &NO_LINES {
         assert!(rt; split_line(text.as_bytes()).is_none(), "{text}");
     }
 }

@@ -1,9 +1,9 @@
 //! Lines of a log and of a trace: what each says, and its first fault; and lines of a log that are written.
+use crate::samples::is_printed;
 use gp_lines::LONGEST_LINE;
 use gp_log::{LAST_FRAME, LogFault, LogLine, Said, push_entry, read_line};
 use gp_ranging::Grant;
-use std::process::Abort;
-use std::test::Fail;
+use std::alloc::{AllocError, Global};
 
 /// The octets of `ff01414243440000000100002c`.
 const HEARD: [u8; 13] = [255, 1, 65, 66, 67, 68, 0, 0, 0, 1, 0, 0, 44];
@@ -339,63 +339,72 @@ const WORDS: [(LogFault, &'static str); 5] = [
     (LogFault::Long, "long"),
 ];
 
-/// Checks that a line is one of a log at port 0 and frame 6, which says this.
-fn assert_said(rt: &impl Abort, line: &str, said: Said) {
-    let wanted = LogLine::Log {
-        port: 0,
-        time: 750_000,
-        said,
-    };
-    assert_eq!(rt; read_line(line.as_bytes()), Ok(wanted), "{line}");
+/// Tells whether a line says this.
+fn is_line(line: &str, wanted: LogLine) -> bool {
+    read_line(line.as_bytes()) == Ok(wanted)
+}
+
+/// Tells whether a line is one of a log at this port and time, which says this.
+fn is_said(line: &str, port: u8, time: u64, said: Said) -> bool {
+    is_line(line, LogLine::Log { port, time, said })
 }
 
 #[test]
 fn remarks(rt: HostRuntime) {
-    for line in REMARKS {
-        assert_eq!(rt; read_line(line.as_bytes()), Ok(LogLine::Remark), "{line}");
+    for line in &REMARKS {
+        assert!(rt; is_line(line, LogLine::Remark), "{line}");
     }
 }
 
 #[test]
 fn messages_down(rt: HostRuntime) {
-    for (line, port, time) in DOWN {
-        let said = Said::Down(SENT);
-        let wanted = LogLine::Log { port, time, said };
-        assert_eq!(rt; read_line(line.as_bytes()), Ok(wanted), "{line}");
+    for (line, port, time) in &DOWN {
+        assert!(rt; is_said(line, *port, *time, Said::Down(SENT)), "{line}");
     }
 }
 
+/// At port 0 and frame 6.
 #[test]
 fn messages_up(rt: HostRuntime) {
-    for (line, delay) in UP {
-        assert_said(&rt, line, Said::Up { code: HEARD, delay });
+    for (line, delay) in &UP {
+        let said = Said::Up {
+            code: HEARD,
+            delay: *delay,
+        };
+        assert!(rt; is_said(line, 0, 750_000, said), "{line}");
     }
 }
 
+/// At port 0 and frame 6.
 #[test]
 fn grants(rt: HostRuntime) {
-    for (line, grant) in GRANTS {
-        assert_said(&rt, line, Said::Grant(grant));
+    for (line, grant) in &GRANTS {
+        assert!(rt; is_said(line, 0, 750_000, Said::Grant(*grant)), "{line}");
     }
 }
 
 #[test]
 fn lines_of_a_trace(rt: HostRuntime) {
-    for (line, port, is_frame, first, second) in TRACES {
+    for (line, port, is_frame, first, second) in &TRACES {
         let wanted = LogLine::Trace {
-            port,
-            is_frame,
-            first,
-            second,
+            port: *port,
+            is_frame: *is_frame,
+            first: *first,
+            second: *second,
         };
-        assert_eq!(rt; read_line(line.as_bytes()), Ok(wanted), "{line}");
+        assert!(rt; is_line(line, wanted), "{line}");
     }
+}
+
+/// Tells whether a line has this fault first.
+fn is_fault(line: &[u8], fault: LogFault) -> bool {
+    read_line(line) == Err(fault)
 }
 
 #[test]
 fn first_faults(rt: HostRuntime) {
-    for (line, fault) in FAULTS {
-        assert_eq!(rt; read_line(line.as_bytes()), Err(fault), "{line}");
+    for (line, fault) in &FAULTS {
+        assert!(rt; is_fault(line.as_bytes(), *fault), "{line}");
     }
 }
 
@@ -403,34 +412,41 @@ fn first_faults(rt: HostRuntime) {
 fn long_lines(rt: HostRuntime) {
     let mut line = [b' '; LONGEST_LINE + 1];
     line[0] = b'#';
-    assert_eq!(rt; read_line(&line[..LONGEST_LINE]), Ok(LogLine::Remark));
-    assert_eq!(rt; read_line(&line), Err(LogFault::Long));
+    assert!(rt; read_line(&line[..LONGEST_LINE]) == Ok(LogLine::Remark));
+    assert!(rt; is_fault(&line, LogFault::Long));
 }
 
 #[test]
-fn words_of_faults(rt: HostRuntime) -> Result<(), Fail> {
-    for (fault, word) in WORDS {
-        let text = format!(in rt.alloc(); "{fault}")?;
-        assert_eq!(rt; text.as_str(), word);
+fn words_of_faults(rt: HostRuntime) {
+    for (fault, word) in &WORDS {
+        assert!(rt; is_printed(rt.alloc(), fault, word), "{word}");
     }
-    Ok(())
+}
+
+/// Tells whether a line is written of this.
+fn is_written(
+    alloc: Global,
+    port: u8,
+    frames: u64,
+    said: Said,
+    line: &str,
+) -> Result<bool, AllocError> {
+    let mut out = Vec::new(alloc);
+    push_entry(&mut out, port, frames, &said)?;
+    Ok(out.strip_suffix(b"\n") == Some(line.as_bytes()))
 }
 
 #[test]
-fn written_lines(rt: HostRuntime) -> Result<(), Fail> {
-    for (line, port, frames, _, said) in WRITTEN {
-        let mut out = Vec::new(rt.alloc());
-        push_entry(&mut out, port, frames, &said)?;
-        let wanted = format!(in rt.alloc(); "{line}\n")?;
-        assert_eq!(rt; out.as_slice(), wanted.as_bytes());
+fn written_lines(rt: HostRuntime) {
+    for (line, port, frames, _, said) in &WRITTEN {
+        let is_so = is_written(rt.alloc(), *port, *frames, *said, line);
+        assert!(rt; is_so == Ok(true), "{line}");
     }
-    Ok(())
 }
 
 #[test]
 fn written_lines_are_read(rt: HostRuntime) {
-    for (line, port, _, time, said) in WRITTEN {
-        let wanted = LogLine::Log { port, time, said };
-        assert_eq!(rt; read_line(line.as_bytes()), Ok(wanted));
+    for (line, port, _, time, said) in &WRITTEN {
+        assert!(rt; is_said(line, *port, *time, *said), "{line}");
     }
 }

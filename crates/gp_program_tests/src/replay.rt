@@ -1,4 +1,6 @@
 //! Replays of scripts: what is written, and how each ends where the script, memory, a read or a write fails.
+use crate::samples::is_printed;
+use crate::streams::FailingReader;
 use gp_replay::{PlayFault, RunFault, play_script, play_with_lights, run_replay};
 use gp_script::{ScriptFault, read_script};
 use gp_stream::{Sink, Source};
@@ -242,16 +244,6 @@ const SCRIPTS: &[Row] = &[
     },
 ];
 
-/// Fails at each read.
-#[derive(Drop)]
-struct FailingReader;
-
-impl Read for FailingReader {
-    fn read(&mut self, _buffer: &mut [u8]) -> io::Result<usize> {
-        Err(io::Error::from(ErrorKind::Other))
-    }
-}
-
 /// Room for each trace of these tests, so that no write takes memory.
 const ROOM: usize = 131_072;
 
@@ -277,13 +269,44 @@ fn ends_with<R: Read + Drop>(
     Ok(outcome == wanted && written.as_slice() == trace.as_bytes())
 }
 
+/// Tells whether a row's script, in its two pieces, is replayed so.
+fn is_replayed(alloc: Global, row: &Row) -> Result<bool, AllocError> {
+    let reader = row.before.as_bytes().chain(row.script.as_bytes());
+    ends_with(alloc, reader, row.outcome, row.trace)
+}
+
 #[test]
 fn scripts(rt: HostRuntime) {
     for row in SCRIPTS {
-        let reader = row.before.as_bytes().chain(row.script.as_bytes());
-        let told = ends_with(rt.alloc(), reader, row.outcome, row.trace);
-        assert!(rt; told == Ok(true), "{}{}", row.before, row.script);
+        assert!(rt;
+            is_replayed(rt.alloc(), row) == Ok(true),
+            "{}{}",
+            row.before,
+            row.script
+        );
     }
+}
+
+/// Tells whether a trace is begun, with whole lines.
+fn is_begun(written: &[u8], trace: &str) -> bool {
+    let is_whole = written.is_empty() || written.last() == Some(&b'\n');
+    is_whole && trace.as_bytes().starts_with(written)
+}
+
+/// Tells whether a trace is written, with ample memory. None where memory was refused, and the lines that were done by
+/// then are written.
+fn is_trace(outcome: Result<(), RunFault>, written: &[u8], trace: &str) -> Option<bool> {
+    if outcome == Err(RunFault::OutOfMemory) && is_begun(written, trace) {
+        return None;
+    }
+    Some(outcome.is_ok() && written == trace.as_bytes())
+}
+
+/// Tells the same of a row; None too where the test has no memory itself.
+fn is_replayed_if_ample(alloc: Global, row: &Row) -> Option<bool> {
+    let reader = row.before.as_bytes().chain(row.script.as_bytes());
+    let (outcome, written) = replay(alloc, reader).ok()?;
+    is_trace(outcome, &written, row.trace)
 }
 
 /// Where an allocation was made to fail it is told, and the lines that were done by then are written; else each trace
@@ -291,36 +314,29 @@ fn scripts(rt: HostRuntime) {
 #[test]
 fn memory_short_or_ample(rt: HostRuntime) {
     for row in &SCRIPTS[..4] {
-        let reader = row.before.as_bytes().chain(row.script.as_bytes());
-        let Ok((outcome, trace)) = replay(rt.alloc(), reader) else {
+        let Some(right) = is_replayed_if_ample(rt.alloc(), row) else {
             return;
         };
-        if outcome == Err(RunFault::OutOfMemory) {
-            assert!(rt; row.trace.as_bytes().starts_with(&trace));
-            assert!(rt; trace.is_empty() || trace.last() == Some(&b'\n'));
-            return;
-        }
-        assert!(rt; outcome == Ok(()));
-        assert!(rt; trace.as_slice() == row.trace.as_bytes());
+        assert!(rt; right, "{}{}", row.before, row.script);
     }
+}
+
+/// Tells whether a row's script is read, and then played so.
+fn is_played(alloc: Global, row: &Row) -> Result<bool, Fail> {
+    let mut text = String::from_str(alloc, row.before)?;
+    text.push_str(row.script)?;
+    let script = read_script(alloc, text.as_bytes())?;
+    let mut sink = Sink::new(alloc, Vec::new(alloc))?;
+    let outcome = play_script(alloc, script, &mut sink);
+    let written = sink.into_inner();
+    Ok(outcome.is_ok() && written.as_slice() == row.trace.as_bytes())
 }
 
 /// A script that was read before is played as it is where it is read first.
 #[test]
 fn scripts_that_were_read(rt: HostRuntime) -> Result<(), Fail> {
     for row in &SCRIPTS[..4] {
-        let mut text = String::from_str(rt.alloc(), row.before)?;
-        text.push_str(row.script)?;
-        let script = read_script(rt.alloc(), text.as_bytes())?;
-        let mut sink = Sink::new(rt.alloc(), Vec::new(rt.alloc()))?;
-        assert!(rt;
-            play_script(rt.alloc(), script, &mut sink) == Ok(()),
-            "{text}"
-        );
-        assert!(rt;
-            sink.into_inner().as_slice() == row.trace.as_bytes(),
-            "{text}"
-        );
+        assert!(rt; is_played(rt.alloc(), row)?, "{}{}", row.before, row.script);
     }
     Ok(())
 }
@@ -333,48 +349,65 @@ fn told(alloc: Global, text: &str) -> Option<(Result<(), PlayFault>, Vec<u8>)> {
     Some((outcome, sink.into_inner()))
 }
 
+/// Tells whether this is told, with ample memory. None where memory was refused, and the lines that were told by then
+/// are written.
+fn is_telling(outcome: Result<(), PlayFault>, written: &[u8], wanted: &str) -> Option<bool> {
+    if outcome == Err(PlayFault::OutOfMemory) && is_begun(written, wanted) {
+        return None;
+    }
+    Some(outcome.is_ok() && written == wanted.as_bytes())
+}
+
+/// Tells the same of a script; None too where there is no memory for it or the sink.
+fn is_told_if_ample(alloc: Global, text: &str, wanted: &str) -> Option<bool> {
+    let (outcome, written) = told(alloc, text)?;
+    is_telling(outcome, &written, wanted)
+}
+
 /// What is told of a script is its trace with a line for each light, and without simulated units its trace.
 #[test]
-fn scripts_that_are_told(rt: HostRuntime) -> Result<(), Fail> {
-    for (text, wanted) in [
+fn scripts_that_are_told(rt: HostRuntime) {
+    for (text, wanted) in &[
         (LIGHTS, LIGHTS_TOLD),
         (ONE_UNIT, ONE_UNIT_TRACE),
         (ONE_SIMULATED_UNIT, ONE_SIMULATED_UNIT_TRACE),
     ] {
-        let is_so = match told(rt.alloc(), text) {
-            Some((outcome, said)) => outcome == Ok(()) && said.as_slice() == wanted.as_bytes(),
-            None => false,
-        };
-        assert!(rt; is_so, "{text}");
+        assert!(rt;
+            is_told_if_ample(rt.alloc(), text, wanted) == Some(true),
+            "{text}"
+        );
     }
-    assert!(rt; ends_with(rt.alloc(), LIGHTS.as_bytes(), Ok(()), LIGHTS_TRACE)?);
-    Ok(())
+}
+
+/// The trace of a script with lights has no line for them.
+#[test]
+fn lights_have_no_line(rt: HostRuntime) {
+    let is_so = ends_with(rt.alloc(), LIGHTS.as_bytes(), Ok(()), LIGHTS_TRACE);
+    assert!(rt; is_so == Ok(true));
 }
 
 /// Where memory is refused the lines that were told by then are written, each of them whole.
 #[test]
 fn lights_with_memory_short_or_ample(rt: HostRuntime) {
-    let Some((outcome, written)) = told(rt.alloc(), LIGHTS) else {
-        return;
-    };
-    if outcome == Err(PlayFault::OutOfMemory) {
-        assert!(rt; LIGHTS_TOLD.as_bytes().starts_with(&written));
-        assert!(rt; written.is_empty() || written.last() == Some(&b'\n'));
-        return;
+    let told = is_told_if_ample(rt.alloc(), LIGHTS, LIGHTS_TOLD);
+    assert!(rt; told.is_none() || told == Some(true));
+}
+
+/// The trace of so many frames.
+fn frames(alloc: Global, count: u32) -> Result<String, AllocError> {
+    let mut trace = String::new(alloc);
+    for number in 0..count {
+        let line = format!(in alloc; "0 {number} frame = ok\n")?;
+        trace.push_str(line.as_str())?;
     }
-    assert!(rt; outcome == Ok(()));
-    assert!(rt; written.as_slice() == LIGHTS_TOLD.as_bytes());
+    Ok(trace)
 }
 
 /// With memory enough each of many frames has its line, to the last.
 #[test]
 fn five_thousand_frames(rt: HostRuntime) -> Result<(), Fail> {
     let script: &[u8] = b"licences = 0\n[[port]]\n[[event]]\nport = 0\nframes = 5000";
-    let mut trace = String::new(rt.alloc());
-    for number in 0..5000 {
-        let line = format!(in rt.alloc(); "0 {number} frame = ok\n")?;
-        trace.push_str(line.as_str())?;
-    }
+    let trace = frames(rt.alloc(), 5000)?;
     assert!(rt; ends_with(rt.alloc(), script, Ok(()), trace.as_str())?);
     Ok(())
 }
@@ -439,29 +472,31 @@ fn a_second_read_that_fails(rt: HostRuntime) {
     assert!(rt; ends_with(rt.alloc(), reader, Err(RunFault::Read), "") == Ok(true));
 }
 
+/// Faults, and the text of each.
+const TEXTS: [(RunFault, &'static str); 7] = [
+    (
+        RunFault::Read,
+        "a read failed, or the input took too many reads",
+    ),
+    (RunFault::TooLong, "the input is too long"),
+    (
+        RunFault::Script(ScriptFault::Hex),
+        "the input is no script: 5 hex",
+    ),
+    (RunFault::OutOfMemory, "out of memory"),
+    (RunFault::Write, "a write failed or took nothing"),
+    (
+        RunFault::Mismatch,
+        "a thread was not started, or what the threads were told does not agree",
+    ),
+    (RunFault::JournalFull, "the journal of a port is full"),
+];
+
 #[test]
-fn texts_of_faults(rt: HostRuntime) -> Result<(), AllocError> {
-    for (fault, wanted) in [
-        (
-            RunFault::Read,
-            "a read failed, or the input took too many reads",
-        ),
-        (RunFault::TooLong, "the input is too long"),
-        (
-            RunFault::Script(ScriptFault::Hex),
-            "the input is no script: 5 hex",
-        ),
-        (RunFault::OutOfMemory, "out of memory"),
-        (RunFault::Write, "a write failed or took nothing"),
-        (
-            RunFault::Mismatch,
-            "a thread was not started, or what the threads were told does not agree",
-        ),
-        (RunFault::JournalFull, "the journal of a port is full"),
-    ] {
-        assert!(rt; format!(in rt.alloc(); "{fault}")?.as_str() == wanted);
+fn texts_of_faults(rt: HostRuntime) {
+    for (fault, text) in &TEXTS {
+        assert!(rt; is_printed(rt.alloc(), fault, text), "{text}");
     }
-    Ok(())
 }
 
 #[test]

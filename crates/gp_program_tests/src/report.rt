@@ -74,20 +74,19 @@ const VERDICTS: &[(Verdict, &'static str, u8)] = &[
 #[test]
 fn reports_of_replays(rt: HostRuntime) {
     for (fault, line, status) in REPORTS {
-        let (told, exit) = run_report(fault);
-        assert!(rt; told == *line && exit == *status, "{line}");
+        assert!(rt; run_report(fault) == (*line, *status), "{line}");
     }
+}
+
+/// The report of a seventh line that can't be.
+fn refused_report(verdict: Verdict) -> (&'static str, u8) {
+    verify_report(&VerifyFault::Refused { line: 7, verdict })
 }
 
 #[test]
 fn reports_of_verifications(rt: HostRuntime) {
     for (verdict, line, status) in VERDICTS {
-        let refused = VerifyFault::Refused {
-            line: 7,
-            verdict: *verdict,
-        };
-        let (told, exit) = verify_report(&refused);
-        assert!(rt; told == *line && exit == *status, "{line}");
+        assert!(rt; refused_report(*verdict) == (*line, *status), "{line}");
     }
     let unended = VerifyFault::Unended { line: 7 };
     assert!(rt; verify_report(&unended) == ("oltctl: no line feed", 7));
@@ -96,8 +95,7 @@ fn reports_of_verifications(rt: HostRuntime) {
 #[test]
 fn reports_of_codes(rt: HostRuntime) {
     for (fault, line, status) in LINE_REPORTS {
-        let (told, exit) = line_report(fault);
-        assert!(rt; told == *line && exit == *status, "{line}");
+        assert!(rt; line_report(fault) == (*line, *status), "{line}");
     }
 }
 
@@ -123,8 +121,8 @@ const WORDS: [(WordsFault, &'static str); 7] = [
 
 #[test]
 fn reports_of_words(rt: HostRuntime) {
-    for (fault, line) in WORDS {
-        assert_eq!(rt; encode_report(&fault), (line, 1));
+    for (fault, line) in &WORDS {
+        assert!(rt; encode_report(fault) == (*line, 1), "{line}");
     }
 }
 
@@ -146,15 +144,20 @@ const INPUTS: [(LinesFault, &'static str, u8); 4] = [
 
 #[test]
 fn reports_of_inputs(rt: HostRuntime) {
-    for (fault, line, exit) in INPUTS {
-        assert_eq!(rt; input_report(&fault), (line, exit));
-        assert_eq!(rt; explain_report(&ExplainFault::Lines(fault)), (line, exit));
+    for (fault, line, exit) in &INPUTS {
+        assert!(rt; input_report(fault) == (*line, *exit), "{line}");
+        let told = explain_report(&ExplainFault::Lines(*fault));
+        assert!(rt; told == (*line, *exit), "{line}");
     }
-    for (why, line) in [
-        (NoLine::NotALine, "oltctl: no line of a trace"),
-        (NoLine::TooLong, "oltctl: line too long"),
-    ] {
-        let told = explain_report(&ExplainFault::Refused { line: 7, why });
-        assert_eq!(rt; told, (line, 1));
-    }
+}
+
+/// The report of a seventh line that is none of a trace.
+fn no_line_of_a_trace(why: NoLine) -> (&'static str, u8) {
+    explain_report(&ExplainFault::Refused { line: 7, why })
+}
+
+#[test]
+fn reports_of_lines(rt: HostRuntime) {
+    assert!(rt; no_line_of_a_trace(NoLine::NotALine) == ("oltctl: no line of a trace", 1));
+    assert!(rt; no_line_of_a_trace(NoLine::TooLong) == ("oltctl: line too long", 1));
 }

@@ -1,8 +1,10 @@
 //! Sources and sinks over readers and writers that are slow or fail.
+use crate::samples::is_printed;
+use crate::streams::ShortWriter;
 use gp_stream::{Sink, Source, SourceFault, WriteStopped, read_all};
 use std::alloc::{AllocError, Global};
 use std::io;
-use std::io::{BufWriter, ErrorKind, Read, Write};
+use std::io::{BufWriter, ErrorKind, Read};
 use std::test::Fail;
 
 /// Gives one octet a read, and fails at one read, counted from 1.
@@ -49,139 +51,137 @@ impl Read for OctetReader {
     }
 }
 
-/// Takes one octet a write, and once it took so many it fails, or takes nothing.
-#[derive(Drop)]
-struct ShortWriter {
-    taken: Vec<u8>,
-    room: usize,
-    fails: bool,
-}
+/// How many bytes came, and whether they begin with what is asked about.
+type Came = Result<(usize, bool), SourceFault>;
 
-impl Write for ShortWriter {
-    fn write(&mut self, buffer: &[u8]) -> io::Result<usize> {
-        if self.taken.len() >= self.room {
-            return if self.fails {
-                Err(io::Error::from(ErrorKind::Other))
-            } else {
-                Ok(0)
-            };
-        }
-        match buffer.first() {
-            Some(first) => {
-                self.taken.push(*first)?;
-                Ok(1)
-            }
-            None => Ok(0),
-        }
-    }
-
-    fn flush(&mut self) -> io::Result<()> {
-        Ok(())
-    }
-}
-
-/// Reads a source to its end, and tells how many bytes came and whether they begin with these.
-fn read<R: Read>(
-    alloc: Global,
-    source: &mut Source<R>,
-    start: &[u8],
-) -> Result<(usize, bool), SourceFault> {
+/// Reads a source to its end.
+fn read<R: Read>(alloc: Global, source: &mut Source<R>, start: &[u8]) -> Came {
     let bytes = read_all(alloc, source)?;
     Ok((bytes.len(), bytes.starts_with(start)))
+}
+
+/// How a source of eight octets is read to its end, and read again, whose read with this number fails.
+fn read_twice(alloc: Global, fails_at: usize) -> [Came; 2] {
+    let mut source = Source::new(SlowReader {
+        rest: b"licences",
+        reads: 0,
+        fails_at,
+    });
+    [
+        read(alloc, &mut source, b"licences"),
+        read(alloc, &mut source, b""),
+    ]
 }
 
 // The eight octets take eight reads, the end one more; a tenth read is made by another call alone. A source with a
 // failed read gives nothing more.
 #[test]
 fn each_read_fails_in_turn(rt: HostRuntime) {
+    let fault = Err(SourceFault::Read);
     for fails_at in 0..12 {
-        let mut source = Source::new(SlowReader {
-            rest: b"licences",
-            reads: 0,
-            fails_at,
-        });
-        let first = read(rt.alloc(), &mut source, b"licences");
-        let again = read(rt.alloc(), &mut source, b"");
-        let fault = Err(SourceFault::Read);
         let wanted = match fails_at {
-            1..10 => (fault, fault),
-            10 => (Ok((8, true)), fault),
-            _ => (Ok((8, true)), Ok((0, true))),
+            1..10 => [fault, fault],
+            10 => [Ok((8, true)), fault],
+            _ => [Ok((8, true)), Ok((0, true))],
         };
-        assert_eq!(rt; (first, again), wanted, "read {fails_at}");
+        assert!(rt;
+            read_twice(rt.alloc(), fails_at) == wanted,
+            "read {fails_at}"
+        );
     }
+}
+
+/// How so many octets are read.
+fn read_many(alloc: Global, octets: u64) -> Came {
+    let mut source = Source::new(io::repeat(7).take(octets));
+    read(alloc, &mut source, b"\x07\x07")
 }
 
 #[test]
 fn longest_input(rt: HostRuntime) {
-    for (octets, wanted) in [
-        (1_048_576, Ok((1_048_576, true))),
-        (1_048_577, Err(SourceFault::TooLong)),
-    ] {
-        let mut source = Source::new(io::repeat(7).take(octets));
-        assert_eq!(rt; read(rt.alloc(), &mut source, b"\x07\x07"), wanted);
-    }
+    assert!(rt; read_many(rt.alloc(), 1_048_576) == Ok((1_048_576, true)));
+    assert!(rt; read_many(rt.alloc(), 1_048_577) == Err(SourceFault::TooLong));
+}
+
+/// How so many octets, one a read, are read up to a first end, and up to a second.
+fn read_on(alloc: Global, octets: usize, endless: bool) -> [Came; 2] {
+    let reader = OctetReader { left: octets };
+    let mut source = if endless {
+        Source::endless(reader)
+    } else {
+        Source::new(reader)
+    };
+    [
+        read(alloc, &mut source, b""),
+        read(alloc, &mut source, b"\x07"),
+    ]
 }
 
 // The first input is too long after 1,048,577 reads of an octet. That leaves 1,048,575, the last of which finds the
 // end, or none where an octet more comes; an endless source has no bound.
 #[test]
 fn bound_of_reads(rt: HostRuntime) {
-    let too_long = Err(SourceFault::TooLong);
     for (octets, endless, wanted) in [
         (2_097_151, false, Ok((1_048_574, true))),
         (2_097_152, false, Err(SourceFault::Read)),
         (2_097_152, true, Ok((1_048_575, true))),
     ] {
-        let reader = OctetReader { left: octets };
-        let mut source = if endless {
-            Source::endless(reader)
-        } else {
-            Source::new(reader)
-        };
-        let first = read(rt.alloc(), &mut source, b"");
-        let second = read(rt.alloc(), &mut source, b"\x07");
-        assert_eq!(rt; (first, second), (too_long, wanted), "{octets} {endless}");
+        let found = read_on(rt.alloc(), octets, endless);
+        assert!(rt;
+            found == [Err(SourceFault::TooLong), wanted],
+            "{octets} {endless}"
+        );
     }
 }
 
+/// Tells whether two puts to a writer with so much room are taken, what both ends answer is right, and the writer got
+/// what it has room for.
+fn is_put(alloc: Global, room: usize, fails: bool) -> Result<bool, AllocError> {
+    let taken = Vec::with_capacity(alloc, 6)?;
+    let mut sink = Sink::new(alloc, ShortWriter { taken, room, fails })?;
+    let puts = [sink.put(b"abc"), sink.put(b"def")];
+    let ends = [sink.finish(), sink.finish()];
+    let taken = sink.into_inner().taken;
+    let wanted = if room < 6 { Err(WriteStopped) } else { Ok(()) };
+    Ok(puts == [Ok(()); 2] && ends == [wanted; 2] && is_cut_at(b"abcdef", &taken, room))
+}
+
+/// Tells whether octets are the first ones of a text, so many or all.
+fn is_cut_at(text: &[u8], taken: &[u8], room: usize) -> bool {
+    text.starts_with(taken) && taken.len() == room.min(text.len())
+}
+
 #[test]
-fn short_writes_and_faults(rt: HostRuntime) -> Result<(), AllocError> {
+fn short_writes_and_faults(rt: HostRuntime) {
     for fails in [true, false] {
         for room in 0..7 {
-            let taken = Vec::with_capacity(rt.alloc(), 6)?;
-            let writer = ShortWriter { taken, room, fails };
-            let mut sink = Sink::new(rt.alloc(), writer)?;
-            let puts = [sink.put(b"abc"), sink.put(b"def")];
-            let ends = [sink.finish(), sink.finish()];
-            let taken = sink.into_inner().taken;
-            let wanted = if room < 6 { Err(WriteStopped) } else { Ok(()) };
-            assert_eq!(rt;
-                (puts, ends, taken.as_slice()),
-                ([Ok(()); 2], [wanted; 2], &b"abcdef"[..room])
+            assert!(rt;
+                is_put(rt.alloc(), room, fails) == Ok(true),
+                "{room} {fails}"
             );
         }
     }
-    Ok(())
+}
+
+/// The same of one put to a writer behind a buffer.
+fn is_put_behind_a_buffer(alloc: Global, room: usize) -> Result<bool, Fail> {
+    let writer = ShortWriter {
+        taken: Vec::new(alloc),
+        room,
+        fails: true,
+    };
+    let mut sink = Sink::new(alloc, BufWriter::new(alloc, writer)?)?;
+    let ends = [sink.put(b"abc"), sink.finish()];
+    let buffer = sink.into_inner();
+    let wanted = if room < 3 { Err(WriteStopped) } else { Ok(()) };
+    Ok(ends == [Ok(()), wanted] && is_cut_at(b"abc", &buffer.get_ref().taken, room))
 }
 
 /// What a buffer between the sink and the writer keeps back goes out before `finish` answers.
 #[test]
 fn a_writer_behind_a_buffer(rt: HostRuntime) -> Result<(), Fail> {
     for room in 0..4 {
-        let writer = ShortWriter {
-            taken: Vec::new(rt.alloc()),
-            room,
-            fails: true,
-        };
-        let mut sink = Sink::new(rt.alloc(), BufWriter::new(rt.alloc(), writer)?)?;
-        let ends = [sink.put(b"abc"), sink.finish()];
-        let buffer = sink.into_inner();
-        let wanted = if room < 3 { Err(WriteStopped) } else { Ok(()) };
-        assert_eq!(rt;
-            (ends, buffer.get_ref().taken.as_slice()),
-            ([Ok(()), wanted], &b"abc"[..room])
-        );
+        assert!(rt; is_put_behind_a_buffer(rt.alloc(), room)?, "{room}");
     }
     Ok(())
 }
@@ -191,21 +191,21 @@ fn larger_than_the_room(rt: HostRuntime) -> Result<(), AllocError> {
     let mut sink = Sink::new(rt.alloc(), Vec::new(rt.alloc()))?;
     let puts = [sink.put(b"abc"), sink.put(&[7; 70_000]), sink.put(b"def")];
     let count = sink.into_inner().len();
-    assert_eq!(rt; (puts, count), ([Ok(()); 3], 70_003));
+    assert!(rt; puts == [Ok(()); 3] && count == 70_003);
     Ok(())
 }
 
 #[test]
-fn texts_of_faults(rt: HostRuntime) -> Result<(), AllocError> {
-    let text = format!(in rt.alloc();
-        "{}; {}; {}; {WriteStopped}",
-        SourceFault::Read,
-        SourceFault::TooLong,
-        SourceFault::OutOfMemory
-    )?;
-    assert_eq!(rt;
-        text.as_str(),
-        "a read failed, or the input took too many reads; the input is too long; out of memory; a write failed or took nothing"
-    );
-    Ok(())
+fn texts_of_faults(rt: HostRuntime) {
+    for (fault, text) in &[
+        (
+            SourceFault::Read,
+            "a read failed, or the input took too many reads",
+        ),
+        (SourceFault::TooLong, "the input is too long"),
+        (SourceFault::OutOfMemory, "out of memory"),
+    ] {
+        assert!(rt; is_printed(rt.alloc(), fault, text), "{text}");
+    }
+    assert!(rt; is_printed(rt.alloc(), &WriteStopped, "a write failed or took nothing"));
 }

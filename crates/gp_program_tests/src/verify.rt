@@ -7,7 +7,7 @@ use gp_replay::RunFault;
 use gp_script::ScriptFault;
 use gp_stream::{Sink, Source};
 use gp_verify::{CheckFault, Verdict, VerifyFault, verify_script, verify_told};
-use std::alloc::Global;
+use std::alloc::{AllocError, Global};
 
 /// A port that admits one unit and searches once.
 const SCRIPT: &str = "licences = 1\n[[port]]\ncycles = 1\nadmit = [\"ABCD00000001\"]\n";
@@ -39,54 +39,46 @@ const RANGED: &str = "\
 /// The line of the unit's answer.
 const FOUND: &str = "0 6 burst 100000 ff01414243440000000100002c = found 0\n";
 
-/// The seventh line can't be.
-const fn refused(verdict: Verdict) -> Result<u64, CheckFault> {
-    Err(CheckFault::Trace(VerifyFault::Refused { line: 7, verdict }))
-}
+/// What comes behind a search, and what is found of the whole: how many lines a run has, or why the seventh can't be.
+const ROWS: [(&'static str, Result<u64, Verdict>); 13] = [
+    ("", Ok(6)),
+    (RANGED, Ok(16)),
+    (FOUND, Ok(7)),
+    (
+        "0 6 burst 100000 ff01414243440000000100002c = found 7\n",
+        Ok(7),
+    ),
+    (
+        "0 6 burst 100000 ff01414243440000000100002c = found 253\n",
+        Ok(7),
+    ),
+    (
+        "0 6 burst 100000 ff01414243440000000100002c = found 254\n",
+        Err(Verdict::NotAStep),
+    ),
+    (
+        "0 6 burst 100000 ff01414243440000000100002c = found 007\n",
+        Err(Verdict::NotAStep),
+    ),
+    (
+        "0 6 burst 0100000 ff01414243440000000100002c = found 7\n",
+        Err(Verdict::NotAStep),
+    ),
+    (
+        "0 5 burst 100000 ff01414243440000000100002c = found 7\n",
+        Err(Verdict::WrongNumber),
+    ),
+    ("1 0 frame = ok\n", Err(Verdict::NoPort)),
+    ("found 7\n", Err(Verdict::NotALine)),
+    ("\n", Err(Verdict::NotALine)),
+    ("0 6 frame = ok\r\n", Err(Verdict::NotAStep)),
+];
 
-/// What comes behind a search, and what is found of the whole.
-fn rows() -> [(&'static str, Result<u64, CheckFault>); 14] {
-    [
-        ("", Ok(6)),
-        (RANGED, Ok(16)),
-        (FOUND, Ok(7)),
-        (
-            "0 6 burst 100000 ff01414243440000000100002c = found 7\n",
-            Ok(7),
-        ),
-        (
-            "0 6 burst 100000 ff01414243440000000100002c = found 253\n",
-            Ok(7),
-        ),
-        (
-            "0 6 burst 100000 ff01414243440000000100002c = found 254\n",
-            refused(Verdict::NotAStep),
-        ),
-        (
-            "0 6 burst 100000 ff01414243440000000100002c = found 007\n",
-            refused(Verdict::NotAStep),
-        ),
-        (
-            "0 6 burst 0100000 ff01414243440000000100002c = found 7\n",
-            refused(Verdict::NotAStep),
-        ),
-        (
-            "0 5 burst 100000 ff01414243440000000100002c = found 7\n",
-            refused(Verdict::WrongNumber),
-        ),
-        ("1 0 frame = ok\n", refused(Verdict::NoPort)),
-        ("found 7\n", refused(Verdict::NotALine)),
-        ("\n", refused(Verdict::NotALine)),
-        ("0 6 frame = ok\r\n", refused(Verdict::NotAStep)),
-        (
-            "0 6 burst 100000 ff01414243440000000100002c = found 0",
-            Err(CheckFault::Trace(VerifyFault::Unended { line: 7 })),
-        ),
-    ]
-}
+/// What is found of a text, and what is written.
+type Found = (Result<u64, CheckFault>, Vec<u8>);
 
 /// What is found of a text, and what is written; None where memory was refused.
-fn found(alloc: Global, script: &str, text: &[u8]) -> Option<(Result<u64, CheckFault>, Vec<u8>)> {
+fn found(alloc: Global, script: &str, text: &[u8]) -> Option<Found> {
     let mut script = Source::new(script.as_bytes());
     let mut trace = Source::endless(text);
     let mut sink = Sink::new(alloc, Vec::new(alloc)).ok()?;
@@ -102,7 +94,7 @@ fn told(
     at_least: Option<u64>,
     script: &str,
     text: &[u8],
-) -> Option<(Result<u64, CheckFault>, Vec<u8>)> {
+) -> Option<Found> {
     let mut script = Source::new(script.as_bytes());
     let mut trace = Source::endless(text);
     let mut sink = Sink::new(alloc, Vec::new(alloc)).ok()?;
@@ -111,19 +103,61 @@ fn told(
 }
 
 /// What is found of a search and this behind it.
-fn found_behind(alloc: Global, last: &[u8]) -> Option<(Result<u64, CheckFault>, Vec<u8>)> {
-    let mut text = Vec::new(alloc);
-    text.extend_from_slice(SEARCH.as_bytes()).ok()?;
+fn found_behind(alloc: Global, last: &[u8]) -> Option<Found> {
+    let mut text = Vec::from_slice(alloc, SEARCH.as_bytes()).ok()?;
     text.extend_from_slice(last).ok()?;
     found(alloc, SCRIPT, &text)
 }
 
+/// Tells whether this is found.
+fn is_found(found: &Option<Found>, wanted: Result<u64, CheckFault>) -> bool {
+    match found {
+        Some((outcome, _)) => *outcome == wanted,
+        None => false,
+    }
+}
+
+/// Tells whether this is written.
+fn is_written(found: &Option<Found>, wanted: &str) -> bool {
+    match found {
+        Some((_, written)) => written.as_slice() == wanted.as_bytes(),
+        None => false,
+    }
+}
+
+/// Tells whether what is written ends so.
+fn is_ended(found: &Option<Found>, end: &str) -> bool {
+    match found {
+        Some((_, written)) => written.as_slice().ends_with(end.as_bytes()),
+        None => false,
+    }
+}
+
+/// Tells whether this is found of a search and these lines behind it: so many lines of a run, or why the seventh line
+/// can't be.
+fn is_verdict(found: &Option<Found>, wanted: Result<u64, Verdict>) -> bool {
+    match wanted {
+        Ok(lines) => is_found(found, Ok(lines)),
+        Err(verdict) => {
+            let refused = VerifyFault::Refused { line: 7, verdict };
+            is_found(found, Err(CheckFault::Trace(refused)))
+        }
+    }
+}
+
 #[test]
 fn lines_behind_a_search(rt: HostRuntime) {
-    for (last, expected) in rows() {
-        let outcome = found_behind(rt.alloc(), last.as_bytes()).map(|found| found.0);
-        assert_eq!(rt; outcome, Some(expected), "{last}");
+    for (last, wanted) in &ROWS {
+        let found = found_behind(rt.alloc(), last.as_bytes());
+        assert!(rt; is_verdict(&found, *wanted), "{last}");
     }
+}
+
+#[test]
+fn a_line_without_its_feed(rt: HostRuntime) {
+    let last = b"0 6 burst 100000 ff01414243440000000100002c = found 0";
+    let unended = CheckFault::Trace(VerifyFault::Unended { line: 7 });
+    assert!(rt; is_found(&found_behind(rt.alloc(), last), Err(unended)));
 }
 
 /// What comes behind a ranged unit, and what is written of the whole.
@@ -365,77 +399,81 @@ const WHY_NONE: [(&'static str, &'static str); 14] = [
 ];
 
 /// Tells whether this is why the line behind a search and these is none of a run.
-fn is_why(alloc: Global, behind: &str, line: &str, reason: &str) -> bool {
-    let (Ok(text), Ok(why)) = (
-        format!(in alloc; "{behind}{line}"),
-        format!(in alloc; "\nwhy: {reason}\n"),
-    ) else {
-        return false;
-    };
-    found_behind(alloc, text.as_bytes()).is_some_and(|found| found
-        .1
-        .as_slice()
-        .ends_with(why.as_bytes()))
+fn is_why(alloc: Global, behind: &str, line: &str, reason: &str) -> Result<bool, AllocError> {
+    let text = format!(in alloc; "{behind}{line}")?;
+    let why = format!(in alloc; "\nwhy: {reason}\n")?;
+    Ok(is_ended(&found_behind(alloc, text.as_bytes()), &why))
 }
 
 #[test]
 fn why_it_is_none(rt: HostRuntime) {
-    for (behind, line, reason) in WHY {
-        assert!(rt; is_why(rt.alloc(), behind, line, reason), "{line}");
-    }
-}
-
-#[test]
-fn why_it_is_no_line(rt: HostRuntime) {
-    for (line, reason) in WHY_NONE {
-        assert!(rt; is_why(rt.alloc(), "", line, reason), "{line}");
-    }
-}
-
-#[test]
-fn why_no_message_is(rt: HostRuntime) {
-    for (behind, line, reason) in WHY_SENT {
-        let answered = format!(in rt.alloc(); "{FOUND}{behind}");
+    for (behind, line, reason) in &WHY {
         assert!(rt;
-            answered.is_ok_and(|text| is_why(rt.alloc(), &text, line, reason)),
+            is_why(rt.alloc(), behind, line, reason) == Ok(true),
             "{line}"
         );
     }
 }
 
-/// Tells whether this is what is written of a search and these behind it.
-fn writes(alloc: Global, behind: &str, last: &str, told: &str) -> bool {
-    let Ok(text) = format!(in alloc; "{behind}{last}") else {
-        return false;
-    };
-    found_behind(alloc, text.as_bytes()).is_some_and(|found| found.1.as_slice() == told.as_bytes())
+#[test]
+fn why_it_is_no_line(rt: HostRuntime) {
+    for (line, reason) in &WHY_NONE {
+        assert!(rt; is_why(rt.alloc(), "", line, reason) == Ok(true), "{line}");
+    }
+}
+
+/// Tells the same behind the unit's answer and these.
+fn is_why_behind_an_answer(
+    alloc: Global,
+    behind: &str,
+    line: &str,
+    reason: &str,
+) -> Result<bool, AllocError> {
+    let answered = format!(in alloc; "{FOUND}{behind}")?;
+    is_why(alloc, &answered, line, reason)
 }
 
 #[test]
-fn what_is_told(rt: HostRuntime) {
-    for (last, told) in TOLD {
-        assert!(rt; writes(rt.alloc(), RANGED, last, told), "{last}");
+fn why_no_message_is(rt: HostRuntime) {
+    for (behind, line, reason) in &WHY_SENT {
+        let is_so = is_why_behind_an_answer(rt.alloc(), behind, line, reason);
+        assert!(rt; is_so == Ok(true), "{line}");
     }
-    for (last, told) in TOLD_FOUND {
-        assert!(rt; writes(rt.alloc(), "", last, told), "{last}");
+}
+
+/// Tells whether this is what is written of a search and these behind it.
+fn writes(alloc: Global, behind: &str, last: &str, told: &str) -> Result<bool, AllocError> {
+    let text = format!(in alloc; "{behind}{last}")?;
+    Ok(is_written(&found_behind(alloc, text.as_bytes()), told))
+}
+
+#[test]
+fn what_is_told_behind_a_ranged_unit(rt: HostRuntime) {
+    for (last, told) in &TOLD {
+        assert!(rt;
+            writes(rt.alloc(), RANGED, last, told) == Ok(true),
+            "{last}"
+        );
+    }
+}
+
+#[test]
+fn what_is_told_behind_a_search(rt: HostRuntime) {
+    for (last, told) in &TOLD_FOUND {
+        assert!(rt; writes(rt.alloc(), "", last, told) == Ok(true), "{last}");
     }
 }
 
 #[test]
 fn a_long_line(rt: HostRuntime) {
-    let outcome = found_behind(rt.alloc(), &[b'0'; 4_097]);
-    assert!(rt; outcome.as_ref().is_some_and(|found| found.1.is_empty()));
-    assert_eq!(rt;
-        outcome.map(|found| found.0),
-        Some(refused(Verdict::TooLong))
-    );
-    let outcome = found_behind(rt.alloc(), &[b'0'; 4_096]).map(|found| found.0);
-    assert_eq!(rt; outcome, Some(refused(Verdict::NotALine)));
+    let found = found_behind(rt.alloc(), &[b'0'; 4_097]);
+    assert!(rt; is_verdict(&found, Err(Verdict::TooLong)) && is_written(&found, ""));
+    let found = found_behind(rt.alloc(), &[b'0'; 4_096]);
+    assert!(rt; is_verdict(&found, Err(Verdict::NotALine)));
 }
 
 #[test]
 fn no_script(rt: HostRuntime) {
-    let outcome = found(rt.alloc(), "licences = 1\n", b"").map(|found| found.0);
     let shape = CheckFault::Script(RunFault::Script(ScriptFault::Shape));
-    assert_eq!(rt; outcome, Some(Err(shape)));
+    assert!(rt; is_found(&found(rt.alloc(), "licences = 1\n", b""), Err(shape)));
 }

@@ -1,16 +1,9 @@
 //! What is told of files as objects, read again as JSON: each field, and no other.
+use crate::json::{Field, has_fields, value_of_line};
 use gp_check::{Purpose, find_script, found_object, unread_object};
 use gp_stream::Source;
 use serde_json::Value;
 use std::alloc::{AllocError, Global};
-
-/// A field of an object.
-#[derive(Clone, Copy)]
-enum Field {
-    Text(&'static str, &'static str),
-    Number(&'static str, u64),
-    Truth(&'static str, bool),
-}
 
 /// A script, and the fields of its object beside its name.
 type Row = (&'static str, &'static [Field]);
@@ -83,78 +76,76 @@ const UNKNOWN: Row = (
 
 const ROWS: [Row; 5] = [SCRIPT, AT_KEY, AT_ITEM, AT_TOP, UNKNOWN];
 
-/// Tells whether an object has this field.
-fn has_field(object: &Value, field: Field) -> bool {
-    match field {
-        Field::Text(name, text) => object.get(name).and_then(Value::as_str) == Some(text),
-        Field::Number(name, number) => object.get(name).and_then(Value::as_u64) == Some(number),
-        Field::Truth(name, truth) => object.get(name).and_then(Value::as_bool) == Some(truth),
+/// Tells whether a value is an object of the file with this name, with these fields and no other.
+fn is_of_file(value: &Value, name: &str, fields: &[Field]) -> bool {
+    let Some(all) = value.as_object() else {
+        return false;
+    };
+    let is_named = value.get("file").and_then(Value::as_str) == Some(name);
+    is_named && all.len() == fields.len() + 1 && has_fields(value, fields)
+}
+
+/// Tells whether a line is such an object.
+fn is_told(alloc: Global, line: &[u8], name: &str, fields: &[Field]) -> bool {
+    match value_of_line(alloc, line) {
+        Some(value) => is_of_file(&value, name, fields),
+        None => false,
     }
 }
 
-/// How many fields an object has.
-fn fields_in(object: &Value) -> usize {
-    object.as_object().map(|fields| fields.len()).unwrap_or(0)
+/// What is told of a file with these octets, as an object.
+fn object_of(
+    alloc: Global,
+    purpose: Purpose,
+    name: &str,
+    octets: &[u8],
+) -> Result<Vec<u8>, AllocError> {
+    let mut source = Source::new(octets);
+    let found = find_script(alloc, purpose, &mut source)?;
+    found_object(alloc, name, &found)
 }
 
-/// Tells whether a line is an object of the file with this name, with these fields and no other.
-fn is_object(alloc: Global, line: &[u8], name: &str, fields: &[Field]) -> bool {
-    let Ok(text) = str::from_utf8(line) else {
-        return false;
-    };
-    let Ok(object) = Value::from_str(alloc, text) else {
-        return false;
-    };
-    let is_line = line.iter().position(|octet| *octet == b'\n')
-        == Some(line.len().saturating_sub(1));
-    is_line
-        && object.get("file").and_then(Value::as_str) == Some(name)
-        && fields_in(&object) == fields.len() + 1
-        && fields.iter().all(|field| has_field(&object, *field))
-}
+const NAME: &str = "a \"b\"\\\u{e4}\u{7f}.toml";
 
 #[test]
 fn objects_of_scripts(rt: HostRuntime) -> Result<(), AllocError> {
-    let name = "a \"b\"\\\u{e4}\u{7f}.toml";
-    for (text, fields) in ROWS {
-        let mut source = Source::new(text.as_bytes());
-        let found = find_script(rt.alloc(), Purpose::Replay, &mut source)?;
-        let object = found_object(rt.alloc(), name, &found)?;
-        assert!(rt;
-            is_object(rt.alloc(), object.as_slice(), name, fields),
-            "{text}"
-        );
+    for (text, fields) in &ROWS {
+        let object = object_of(rt.alloc(), Purpose::Replay, NAME, text.as_bytes())?;
+        assert!(rt; is_told(rt.alloc(), &object, NAME, fields), "{text}");
     }
     Ok(())
 }
 
-/// The line and the column of what is no TOML, and that something is said of it; and what is no text.
+/// The line and the column of what is no TOML, and that something is said of it.
 #[test]
 fn objects_of_no_toml(rt: HostRuntime) -> Result<(), AllocError> {
-    let mut source = Source::new(b"licences = 1\nport\n".as_slice());
-    let found = find_script(rt.alloc(), Purpose::Replay, &mut source)?;
-    let object = found_object(rt.alloc(), "s", &found)?;
-    let begin = b"{\"file\":\"s\",\"ok\":false,\"line\":2,\"column\":".as_slice();
+    let object = object_of(rt.alloc(), Purpose::Replay, "s", b"licences = 1\nport\n")?;
+    let begin = b"{\"file\":\"s\",\"ok\":false,\"line\":2,\"column\":";
     assert!(rt; object.as_slice().starts_with(begin));
-    let mut source = Source::new(b"\xff".as_slice());
-    let found = find_script(rt.alloc(), Purpose::Storm, &mut source)?;
-    let object = found_object(rt.alloc(), "s", &found)?;
-    let fields = [
-        Field::Truth("ok", false),
-        Field::Text("kind", "syntax"),
-        Field::Text("wanted", "not UTF-8"),
-    ];
-    assert!(rt; is_object(rt.alloc(), object.as_slice(), "s", fields.as_slice()));
     Ok(())
 }
+
+const NO_TEXT: &[Field] = &[
+    Field::Truth("ok", false),
+    Field::Text("kind", "syntax"),
+    Field::Text("wanted", "not UTF-8"),
+];
+
+#[test]
+fn objects_of_no_text(rt: HostRuntime) -> Result<(), AllocError> {
+    let object = object_of(rt.alloc(), Purpose::Storm, "s", b"\xff")?;
+    assert!(rt; is_told(rt.alloc(), &object, "s", NO_TEXT));
+    Ok(())
+}
+
+const NOT_READ: &[Field] = &[
+    Field::Truth("ok", false),
+    Field::Text("why", "can't be read: \"x\""),
+];
 
 #[test]
 fn objects_of_what_is_not_read(rt: HostRuntime) -> Result<(), AllocError> {
     let object = unread_object(rt.alloc(), "s", "can't be read: \"x\"")?;
-    let fields = [
-        Field::Truth("ok", false),
-        Field::Text("why", "can't be read: \"x\""),
-    ];
-    assert!(rt; is_object(rt.alloc(), object.as_slice(), "s", fields.as_slice()));
+    assert!(rt; is_told(rt.alloc(), &object, "s", NOT_READ));
     Ok(())
 }

@@ -1,16 +1,11 @@
 //! What is told of a trace as an object, read again as JSON: each field, and no other.
-use super::{FOUND, RANGED, SCRIPT, SEARCH, told};
+use super::{FOUND, Found, RANGED, SCRIPT, SEARCH, is_found, is_written, told};
+use crate::json::{Field, is_object, value_of_line};
 use gp_explain::Form;
-use serde_json::Value;
+use gp_replay::RunFault;
+use gp_script::ScriptFault;
+use gp_verify::CheckFault;
 use std::alloc::{AllocError, Global};
-
-/// A field of an object.
-#[derive(Clone, Copy)]
-enum Field {
-    Text(&'static str, &'static str),
-    Number(&'static str, u64),
-    Truth(&'static str, bool),
-}
 
 /// What comes behind a search, and the fields of the object that is told of the whole.
 type Row = (&'static [u8], &'static [Field]);
@@ -181,90 +176,71 @@ const COUNTED: [Counted; 6] = [
     MANY_MORE,
 ];
 
-/// Tells whether an object has this field.
-fn has_field(object: &Value, field: Field) -> bool {
-    match field {
-        Field::Text(name, text) => object.get(name).and_then(Value::as_str) == Some(text),
-        Field::Number(name, number) => object.get(name).and_then(Value::as_u64) == Some(number),
-        Field::Truth(name, truth) => object.get(name).and_then(Value::as_bool) == Some(truth),
+/// Tells whether a line in ASCII is told, which is an object with these fields and no other.
+fn is_object_told(alloc: Global, found: &Option<Found>, fields: &[Field]) -> bool {
+    let Some((_, line)) = found else {
+        return false;
+    };
+    match value_of_line(alloc, line) {
+        Some(value) => line.is_ascii() && is_object(&value, fields),
+        None => false,
     }
-}
-
-/// How many fields an object has.
-fn fields_in(object: &Value) -> usize {
-    object.as_object().map(|fields| fields.len()).unwrap_or(0)
-}
-
-/// Tells whether octets are one line in ASCII, which is an object with these fields and no other.
-fn is_object(alloc: Global, line: &[u8], fields: &[Field]) -> bool {
-    let Ok(text) = str::from_utf8(line) else {
-        return false;
-    };
-    let Ok(object) = Value::from_str(alloc, text) else {
-        return false;
-    };
-    text.is_ascii()
-        && line.iter().position(|octet| *octet == b'\n') == Some(line.len().saturating_sub(1))
-        && fields_in(&object) == fields.len()
-        && fields.iter().all(|field| has_field(&object, *field))
 }
 
 /// Tells whether this is told of a text, where so many lines are asked for.
 fn is_told(alloc: Global, at_least: Option<u64>, text: &[u8], fields: &[Field]) -> bool {
-    told(alloc, Form::Json, at_least, SCRIPT, text).is_some_and(|told| is_object(
-        alloc,
-        told.1.as_slice(),
-        fields,
-    ))
+    let found = told(alloc, Form::Json, at_least, SCRIPT, text);
+    is_object_told(alloc, &found, fields)
+}
+
+/// Tells the same of a search and this behind it.
+fn is_told_behind(alloc: Global, last: &[u8], fields: &[Field]) -> Result<bool, AllocError> {
+    let mut text = Vec::from_slice(alloc, SEARCH.as_bytes())?;
+    text.extend_from_slice(last)?;
+    Ok(is_told(alloc, None, &text, fields))
 }
 
 #[test]
-fn objects_of_lines(rt: HostRuntime) -> Result<(), AllocError> {
-    for (last, fields) in ROWS {
-        let mut text = Vec::from_slice(rt.alloc(), SEARCH.as_bytes())?;
-        text.extend_from_slice(last)?;
-        assert!(rt; is_told(rt.alloc(), None, text.as_slice(), fields));
+fn objects_of_lines(rt: HostRuntime) {
+    for (last, fields) in &ROWS {
+        assert!(rt; is_told_behind(rt.alloc(), last, fields) == Ok(true));
     }
-    Ok(())
 }
 
 #[test]
 fn objects_of_counts(rt: HostRuntime) {
-    for (at_least, text, fields) in COUNTED {
-        assert!(rt; is_told(rt.alloc(), at_least, text.as_bytes(), fields));
+    for (at_least, text, fields) in &COUNTED {
+        assert!(rt; is_told(rt.alloc(), *at_least, text.as_bytes(), fields));
     }
 }
+
+const NO_ALLOC_ID: &[Field] = &[
+    Field::Truth("run", false),
+    Field::Text("kind", "not a run"),
+    Field::Number("line", 17),
+    Field::Text("text", "0 16 alloc ABCD00000001 = allocated 4096"),
+    Field::Text("machine", "0 16 alloc ABCD00000001 = allocated 256"),
+    Field::Text("choice", "any free Alloc-ID would do"),
+    Field::Text("why", "the reply: `allocated 256`, not `allocated 4096`"),
+];
+
+const SIXTEEN_LINES: &[Field] = &[Field::Truth("run", true), Field::Number("lines", 16)];
 
 /// An Alloc-ID that is not free; and one of a run of sixteen lines.
 #[test]
 fn objects_behind_a_ranged_unit(rt: HostRuntime) -> Result<(), AllocError> {
-    let fields = [
-        Field::Truth("run", false),
-        Field::Text("kind", "not a run"),
-        Field::Number("line", 17),
-        Field::Text("text", "0 16 alloc ABCD00000001 = allocated 4096"),
-        Field::Text("machine", "0 16 alloc ABCD00000001 = allocated 256"),
-        Field::Text("choice", "any free Alloc-ID would do"),
-        Field::Text("why", "the reply: `allocated 256`, not `allocated 4096`"),
-    ];
-    let alloc = rt.alloc();
-    let run = format!(in alloc; "{SEARCH}{RANGED}")?;
-    let text = format!(in alloc; "{run}0 16 alloc ABCD00000001 = allocated 4096\n")?;
-    assert!(rt; is_told(alloc, None, text.as_bytes(), fields.as_slice()));
-    let fields = [Field::Truth("run", true), Field::Number("lines", 16)];
-    assert!(rt; is_told(alloc, Some(16), run.as_bytes(), fields.as_slice()));
+    let run = format!(in rt.alloc(); "{SEARCH}{RANGED}")?;
+    assert!(rt; is_told(rt.alloc(), Some(16), run.as_bytes(), SIXTEEN_LINES));
+    let text = format!(in rt.alloc(); "{run}0 16 alloc ABCD00000001 = allocated 4096\n")?;
+    assert!(rt; is_told(rt.alloc(), None, text.as_bytes(), NO_ALLOC_ID));
     Ok(())
 }
 
 /// Nothing is told as an object of a script that is wrong.
 #[test]
 fn no_object_of_no_script(rt: HostRuntime) {
-    let found = told(
-        rt.alloc(),
-        Form::Json,
-        None,
-        "licences = 1\n",
-        FOUND.as_bytes(),
-    );
-    assert!(rt; found.is_some_and(|found| found.0.is_err() && found.1.is_empty()));
+    let script = "licences = 1\n";
+    let found = told(rt.alloc(), Form::Json, None, script, FOUND.as_bytes());
+    let shape = CheckFault::Script(RunFault::Script(ScriptFault::Shape));
+    assert!(rt; is_found(&found, Err(shape)) && is_written(&found, ""));
 }

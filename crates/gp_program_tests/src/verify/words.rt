@@ -1,11 +1,11 @@
 //! What is told of a trace in words, and where the output takes no more of what is told at the end.
-use super::{FOUND, RANGED, SCRIPT, SEARCH, told};
+use super::{FOUND, Found, RANGED, SCRIPT, SEARCH, is_found, is_written, told};
+use crate::streams::ShortWriter;
 use gp_explain::Form;
 use gp_flow::{LinesFault, Unanswered};
 use gp_stream::{Sink, Source};
 use gp_verify::{CheckFault, VerifyFault, verify_told};
 use std::alloc::{AllocError, Global};
-use std::io::{self, ErrorKind, Write};
 
 /// What comes behind a search, and what is told of the whole, in words.
 const ROWS: [(&str, &str); 8] = [
@@ -42,96 +42,101 @@ why: the number: `6` is next, not `7`\n",
 ];
 
 /// Tells whether this is told of a search and these behind it, in a form.
-fn tells(alloc: Global, form: Form, behind: &str, last: &str, wanted: &str) -> bool {
-    let Ok(text) = format!(in alloc; "{SEARCH}{behind}{last}") else {
-        return false;
-    };
-    told(alloc, form, None, SCRIPT, text.as_bytes()).is_some_and(|told| told.1.as_slice()
-        == wanted.as_bytes())
+fn tells(
+    alloc: Global,
+    form: Form,
+    behind: &str,
+    last: &str,
+    wanted: &str,
+) -> Result<bool, AllocError> {
+    let text = format!(in alloc; "{SEARCH}{behind}{last}")?;
+    let found = told(alloc, form, None, SCRIPT, text.as_bytes());
+    Ok(is_written(&found, wanted))
 }
 
 #[test]
 fn lines_in_words(rt: HostRuntime) {
-    for (last, wanted) in ROWS {
-        assert!(rt; tells(rt.alloc(), Form::Words, "", last, wanted), "{last}");
+    for (last, wanted) in &ROWS {
+        let is_so = tells(rt.alloc(), Form::Words, "", last, wanted);
+        assert!(rt; is_so == Ok(true), "{last}");
     }
 }
+
+/// A line whose message isn't the one that is owed, what is told of it in words, and as it is.
+const OTHER_SENT: &str = "0 7 frame = ok sent ff030141424344000000010073\n";
+
+const IN_WORDS: &str = "line 8: 0 7 frame = ok sent [Assign_ONU-ID 1 ABCD00000001]\n\
+machine: 0 7 frame = ok sent [Assign_ONU-ID 0 ABCD00000001]\n\
+why: the message sent: the first copy of `Assign_ONU-ID 0 ABCD00000001` is owed, \
+not `Assign_ONU-ID 1 ABCD00000001`\n";
+
+const AS_IT_IS: &str = "line 8: 0 7 frame = ok sent ff030141424344000000010073\n\
+machine: 0 7 frame = ok sent ff03004142434400000001001b\n\
+why: the message sent: the first copy of `Assign_ONU-ID 0 ABCD00000001` is owed, \
+not `Assign_ONU-ID 1 ABCD00000001`\n";
 
 /// The code of a message that is sent is told as one of the line terminal.
 #[test]
 fn sent_in_words(rt: HostRuntime) {
-    let last = "0 7 frame = ok sent ff030141424344000000010073\n";
-    let words = "line 8: 0 7 frame = ok sent [Assign_ONU-ID 1 ABCD00000001]\n\
-machine: 0 7 frame = ok sent [Assign_ONU-ID 0 ABCD00000001]\n\
-why: the message sent: the first copy of `Assign_ONU-ID 0 ABCD00000001` is owed, \
-not `Assign_ONU-ID 1 ABCD00000001`\n";
-    assert!(rt; tells(rt.alloc(), Form::Words, FOUND, last, words));
-    let plain = "line 8: 0 7 frame = ok sent ff030141424344000000010073\n\
-machine: 0 7 frame = ok sent ff03004142434400000001001b\n\
-why: the message sent: the first copy of `Assign_ONU-ID 0 ABCD00000001` is owed, \
-not `Assign_ONU-ID 1 ABCD00000001`\n";
-    assert!(rt; tells(rt.alloc(), Form::Plain, FOUND, last, plain));
+    let in_words = tells(rt.alloc(), Form::Words, FOUND, OTHER_SENT, IN_WORDS);
+    assert!(rt; in_words == Ok(true));
+    let as_it_is = tells(rt.alloc(), Form::Plain, FOUND, OTHER_SENT, AS_IT_IS);
+    assert!(rt; as_it_is == Ok(true));
+}
+
+/// Tells whether a run of six lines, where seven are asked for, is found, and nothing is told.
+fn is_run_untold(alloc: Global, form: Form) -> bool {
+    let found = told(alloc, form, Some(7), SCRIPT, SEARCH.as_bytes());
+    is_found(&found, Ok(6)) && is_written(&found, "")
 }
 
 /// A run is told as one as it is, too, and of one of too few lines nothing.
 #[test]
 fn runs_as_they_are(rt: HostRuntime) {
-    assert!(rt; tells(rt.alloc(), Form::Plain, "", RANGED, "16 lines, a run\n"));
-    for form in [Form::Plain, Form::Words] {
-        let found = told(rt.alloc(), form, Some(7), SCRIPT, SEARCH.as_bytes());
-        assert!(rt; found.is_some_and(|found| found.0 == Ok(6) && found.1.is_empty()));
-    }
+    assert!(rt; tells(rt.alloc(), Form::Plain, "", RANGED, "16 lines, a run\n") == Ok(true));
+    assert!(rt; is_run_untold(rt.alloc(), Form::Plain));
+    assert!(rt; is_run_untold(rt.alloc(), Form::Words));
 }
 
-/// Takes so many octets, and then fails.
-#[derive(Drop)]
-struct ShortWriter {
-    taken: Vec<u8>,
-    room: usize,
+/// How a telling of too few lines ends whose output has so much room, and what it takes.
+fn told_to(alloc: Global, room: usize) -> Result<Found, AllocError> {
+    let mut script = Source::new(SCRIPT.as_bytes());
+    let mut trace = Source::endless(SEARCH.as_bytes());
+    let writer = ShortWriter {
+        taken: Vec::new(alloc),
+        room,
+        fails: true,
+    };
+    let mut sink = Sink::new(alloc, writer)?;
+    let outcome = verify_told(
+        alloc,
+        Form::Json,
+        Some(7),
+        &mut script,
+        &mut trace,
+        &mut sink,
+    );
+    Ok((outcome, sink.into_inner().taken))
 }
 
-impl Write for ShortWriter {
-    fn write(&mut self, buffer: &[u8]) -> io::Result<usize> {
-        match buffer.first() {
-            Some(first) if self.taken.len() < self.room => {
-                self.taken.push(*first)?;
-                Ok(1)
-            }
-            _ => Err(io::Error::from(ErrorKind::Other)),
-        }
-    }
-
-    fn flush(&mut self) -> io::Result<()> {
-        Ok(())
-    }
+/// Tells whether an output with so much room has a prefix of what is told, and where that is not all it is answered.
+fn is_cut_at(found: &Found, room: usize) -> bool {
+    let wanted = b"{\"run\":false,\"kind\":\"too few lines\",\"lines\":6,\"wanted\":7}\n";
+    let stopped = LinesFault::Line(Unanswered::Write);
+    let outcome = if room < wanted.len() {
+        Err(CheckFault::Trace(VerifyFault::Lines(stopped)))
+    } else {
+        Ok(6)
+    };
+    found.0 == outcome && wanted.get(..room) == Some(found.1.as_slice())
 }
 
 /// Where the output takes no more that is answered, and it has a prefix of what is told.
 #[test]
 fn an_end_that_is_not_written(rt: HostRuntime) -> Result<(), AllocError> {
-    let wanted = b"{\"run\":false,\"kind\":\"too few lines\",\"lines\":6,\"wanted\":7}\n";
-    let stopped = LinesFault::Line(Unanswered::Write);
-    for room in 0..wanted.len() + 1 {
-        let mut script = Source::new(SCRIPT.as_bytes());
-        let mut trace = Source::endless(SEARCH.as_bytes());
-        let taken = Vec::new(rt.alloc());
-        let mut sink = Sink::new(rt.alloc(), ShortWriter { taken, room })?;
-        let found = verify_told(
-            rt.alloc(),
-            Form::Json,
-            Some(7),
-            &mut script,
-            &mut trace,
-            &mut sink,
-        );
-        let whole = room >= wanted.len();
-        let expected = if whole {
-            Ok(6)
-        } else {
-            Err(CheckFault::Trace(VerifyFault::Lines(stopped)))
-        };
-        assert_eq!(rt; found, expected, "{room}");
-        assert!(rt; sink.into_inner().taken.as_slice() == &wanted[..room]);
+    for room in 0..59 {
+        let found = told_to(rt.alloc(), room)?;
+        assert!(rt; is_cut_at(&found, room), "{room}");
     }
     Ok(())
 }

@@ -1,5 +1,0 @@
-use Rattle.std.proofs.Common.{None}
-use Rattle.gp_program_tests.proofs.tell.a_write_below_fails.Given as goal
-
-abbrev pub ghosts-told_by : goal.ghosts-told_by
-ghosts-told_by a a' = record { held = None; manner = a'.telling }
