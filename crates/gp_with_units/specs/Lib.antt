@@ -3,3 +3,4 @@ pub mod Playing
 pub mod Explaining
 pub mod Driving
 pub mod Verifying
+pub mod Telling

@@ -60,7 +60,7 @@ fn ended_by(fault: TellFault, ended: DriveEnded) -> DriveEnded
 }
 
 /// Has a teller write out what it told of the answers of a drive.
-fn end_told<S: TellingBegan, W: Write + Drop>(
+pub(crate) fn end_told<S: TellingBegan, W: Write + Drop>(
     ended: DriveEnded,
     teller: Teller<S, W>,
 ) -> DriveWritten<W>

@@ -40,7 +40,7 @@ fn write_summary<W: Write>(ended: Ended, writer: &mut W) -> Result<(), PlayFault
 }
 
 /// How a play ends whose teller had a fault.
-fn ended_by(fault: TellFault, played: Result<(), PlayFault>) -> Result<(), PlayFault>
+pub(crate) fn ended_by(fault: TellFault, played: Result<(), PlayFault>) -> Result<(), PlayFault>
     ensures { result ≡ play_ended_by fault played }
 {
     match fault {

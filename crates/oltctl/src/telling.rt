@@ -6,19 +6,17 @@ ghost use Rattle.gp_with_units.specs.Behind as spec;
 
 use crate::progress::Counted;
 use gp_command_line::{Play, TraceForm};
-use gp_drive::{DriveFault, DriveManner, Driven, drive_script};
-use gp_explain::Telling;
-use gp_flow::{LinesFault, Unanswered};
-use gp_replay::{PlayFault, play_script, play_with_lights};
+use gp_drive::{DriveFault, DriveManner, Driven};
+use gp_replay::{PlayFault, play_script};
 use gp_script::{Script, ScriptEvent, read_script};
 use gp_stream::{Sink, Source, read_all};
 use gp_tally::Nowhere;
-use gp_tell::{Began, TellFault, Teller};
-use gp_with_units::{PlayWritten, play_for_summary, play_with_units};
+use gp_with_units::{
+    DriveWritten, PlayWritten, play_for_summary, play_with_units, tell_drive, tell_play,
+};
 use std::alloc::Global;
 use std::io;
 use std::io::{Read, Write};
-use std::marker::Brand;
 use std::rt::Clock;
 
 /// Tells whether lines are written as they are.
@@ -64,44 +62,6 @@ fn counted<'r, R: Eprint + Clock, W: Write>(
     Counted::new(rt, inner, progress, expected)
 }
 
-/// How a play ended, where what was told of it may have had a fault.
-fn ended(told: Option<TellFault>, played: Result<(), PlayFault>) -> Result<(), PlayFault> {
-    match told {
-        Some(TellFault::OutOfMemory) => Err(PlayFault::OutOfMemory),
-        Some(TellFault::Write) | None => played,
-    }
-}
-
-/// Plays a script, and writes its trace as it is told.
-fn play_by<B: Began, W: Write + Drop>(
-    alloc: Global,
-    script: Script,
-    telling: Telling,
-    writer: W,
-) -> Result<(), PlayFault>
-    requires manner { telling ≡ B.manner }
-    requires held { W.contents writer ≡ B.held }
-    requires playable { IsPlayable (script_view script) }
-{
-    let teller = Teller::<B, W>::new(alloc, telling, writer)?;
-    let mut sink = Sink::new(alloc, teller)?;
-    let played = play_with_lights(alloc, script, &mut sink);
-    ended(sink.into_inner().fault(), played)
-}
-
-/// Plays a script, and writes its trace so.
-fn play_told<W: Write + Drop>(
-    alloc: Global,
-    script: Script,
-    told: TraceForm,
-    writer: W,
-) -> Result<(), PlayFault>
-    requires { IsPlayable (script_view script) }
-{
-    let telling = Telling::new(alloc, script.mask, told.form, told.timed);
-    play_by::<Brand, W>(alloc, script, telling, writer)
-}
-
 /// Plays a script, and writes its trace as it is wanted.
 pub(crate) fn play_so<R: AllocGlobal + Print + Eprint + Clock>(
     rt: &R,
@@ -128,35 +88,11 @@ pub(crate) fn play_so<R: AllocGlobal + Print + Eprint + Clock>(
         return played;
     }
     if !is_plain(play.told) {
-        return play_told(rt.alloc(), script, play.told, writer);
+        let PlayWritten { played, writer: _ } = tell_play(rt.alloc(), script, form, timed, writer)?;
+        return played;
     }
     let mut sink = Sink::new(rt.alloc(), writer)?;
     play_script(rt.alloc(), script, &mut sink)
-}
-
-/// Plays a script, and answers lines, by trace lines as they are told.
-fn drive_by<B: Began, T: Read, W: Write + Drop>(
-    alloc: Global,
-    manner: DriveManner,
-    script: Script,
-    turns: &mut Source<T>,
-    telling: Telling,
-    writer: W,
-) -> Result<Driven, DriveFault>
-    requires manner { telling ≡ B.manner }
-    requires held { W.contents writer ≡ B.held }
-    requires playable { IsPlayable (script_view script) }
-{
-    let teller = Teller::<B, W>::new(alloc, telling, writer)?;
-    let mut sink = Sink::new(alloc, teller)?;
-    let driven = drive_script(alloc, manner, script, turns, &mut sink);
-    match sink.into_inner().fault() {
-        Some(TellFault::OutOfMemory) => {
-            let fault = LinesFault::Line(Unanswered::OutOfMemory);
-            Err(DriveFault::Turns(fault))
-        }
-        Some(TellFault::Write) | None => driven,
-    }
 }
 
 /// Reads the script that a reader gives to its end.
@@ -177,14 +113,17 @@ pub(crate) fn drive_told<R: AllocGlobal + Print, S: Read + Drop, T: Read + Drop>
     told: TraceForm,
 ) -> Result<Driven, DriveFault> {
     let script = script_from(rt.alloc(), script)?;
-    let telling = Telling::new(rt.alloc(), script.mask, told.form, told.timed);
     let mut turns = Source::endless(turns);
-    drive_by::<Brand, T, io::Printer<'_, R>>(
+    let TraceForm { form, timed } = told;
+    let out = io::writer(rt);
+    let DriveWritten { ended, writer: _ } = tell_drive(
         rt.alloc(),
         manner,
         script,
+        form,
+        timed,
         &mut turns,
-        telling,
-        io::writer(rt),
-    )
+        out,
+    )?;
+    ended.driven
 }
