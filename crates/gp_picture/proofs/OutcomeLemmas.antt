@@ -21,8 +21,7 @@ use Rattle.gp_explain.specs.declared.fault.ExplainFault.TheVariants.{Refused, Li
 use Rattle.gp_explain.specs.declared.fault.NoLine.{NoLine}
 use Rattle.gp_picture.specs.declared.running.PictureSum.{PictureSum}
 use Rattle.gp_times.specs.declared.frames.Frames.{Frames}
-use Rattle.gp_times.specs.declared.frames.Outside.{Outside}
-use Rattle.gp_times.specs.Lines.{AreRead, IsRead, IsUnread, IsWhere, Lead}
+use Rattle.gp_times.specs.Lines.{AreRead, IsRead, IsUnread, Lead}
 use Rattle.gp_times.specs.Times.{outside_of, times_begun}
 use Rattle.gp_picture.specs.Drawing.{DrawState, Drawing, has_ended, opened}
 use Rattle.gp_picture.specs.Outcome.{DrawsTrace, EndsAs, Ends, IsBegun, IsNone, IsRefused, WritesPicture}
@@ -92,7 +91,7 @@ started new ls said h = course ls opened new said refl h
 
 -- ---- behind the last line
 
-module _ {R W : Type 0} (from to : SourceState R) (before mid after : SinkState W) where
+module _ {R W : Type 0} (frames : Frames) (from to : SourceState R) (before mid after : SinkState W) where
   -- what was gathered before is written, and nothing else
   only_gathered : (said : List ℕ) → said ≡ [] → Appends before.held mid.held (before.gathered ++ said) → Appends before.held mid.held before.gathered
   only_gathered said none h = subst (λ (l : List ℕ). Appends before.held mid.held l) (ap (λ (l : List ℕ). before.gathered ++ l) none ∙ append-nil before.gathered) h
@@ -100,7 +99,7 @@ module _ {R W : Type 0} (from to : SourceState R) (before mid after : SinkState 
   refused : (why : NoLine) (new : DrawState) (bytes : List ℕ) (ls others : List (List ℕ)) (said : List ℕ) (answer : Result PictureSum ExplainFault)
       → Consumes from.remaining to.remaining bytes → lines_of bytes ≡ ls ++ others → Halts why (map (handed longest_line) ls) said opened new
       → Appends before.held mid.held (before.gathered ++ said) → KeepsNothing mid → (answer ≡ Err (Refused new.lines why)) × (after ≡ mid)
-      → DrawsTrace from to before after answer
+      → DrawsTrace frames from to before after answer
   refused why new bytes ls others said answer came is halts written kept ends =
       let p = parted longest_line ls halts.before halts.line halts.rest halts.all_is in
       let many = halts.lines in
@@ -118,11 +117,11 @@ module _ {R W : Type 0} (from to : SourceState R) (before mid after : SinkState 
         kept = kept;
       } in
       let here : IsRefused from to before after new.lines why = subst (λ (s : SinkState W). IsRefused from to before s new.lines why) (sym ends.1) there in
-      subst (λ (a : Result PictureSum ExplainFault). DrawsTrace from to before after a) (sym ends.0) here
+      subst (λ (a : Result PictureSum ExplainFault). DrawsTrace frames from to before after a) (sym ends.0) here
 
   whole : (new : DrawState) (text said : List ℕ) (answer : Result PictureSum ExplainFault) → ReadsWhole from to text
       → Runs (map (handed longest_line) (lines_of text)) said opened new → Appends before.held mid.held (before.gathered ++ said) → KeepsNothing mid
-      → EndsAs None new mid after answer → DrawsTrace from to before after answer
+      → EndsAs frames None new mid after answer → DrawsTrace frames from to before after answer
   whole new text said (Ok sum) read runs written kept ends =
       let first = only_gathered said runs.silent written in
       let same : lines_of text ≡ runs.texts = handed_all longest_line (lines_of text) runs.texts runs.all_is in
@@ -130,14 +129,19 @@ module _ {R W : Type 0} (from to : SourceState R) (before mid after : SinkState 
       let told = ends.0 in
       let long : length (lines_of text) ≡ length runs.texts = ap length same in
       let heard : sum.heard ≡ runs.told = ends.1 ∙ runs.heard in
-      let w = ends.2.2 in record {
+      let w = ends.3.2 in record {
         text = text;
         read = read;
+        outside = record {
+          times = new.times;
+          lead = subst (λ (ls : List (List ℕ)). Lead ls times_begun new.times) (sym same) runs.lead;
+          is = ends.2;
+        };
         all = subst (λ (b : Bool). AreRead (lines_of text) b) (sym heard) (subst (λ (ls : List (List ℕ)). AreRead ls runs.told) (sym same) runs.read);
         count = omega (arith, many, told, long);
-        picture = ends.2.0;
-        svg = ends.2.1;
-        written = Appends-trans before.held mid.held after.held before.gathered ends.2.0 first (takes_whole mid after ends.2.0 w.gives.ok kept.0 w.empty);
+        picture = ends.3.0;
+        svg = ends.3.1;
+        written = Appends-trans before.held mid.held after.held before.gathered ends.3.0 first (takes_whole mid after ends.3.0 w.gives.ok kept.0 w.empty);
         kept = (w.empty, w.gives.flushed kept.1);
       }
   whole new text said (Err (Refused line why)) read runs written kept ends = absurd ends
@@ -171,21 +175,21 @@ module _ {R W : Type 0} (from to : SourceState R) (before mid after : SinkState 
 
   ended_whole : (ended : Option NoLine) (new : DrawState) (text said : List ℕ) (answer : Result PictureSum ExplainFault) → ReadsWhole from to text
       → Course ended (map (handed longest_line) (lines_of text)) said opened new → Appends before.held mid.held (before.gathered ++ said) → KeepsNothing mid
-      → EndsAs ended new mid after answer → DrawsTrace from to before after answer
+      → EndsAs frames ended new mid after answer → DrawsTrace frames from to before after answer
   ended_whole None new text said answer read c written kept ends = whole new text said answer read c written kept ends
   ended_whole (Some why) new text said answer read c written kept ends =
       refused why new text (lines_of text) [] said answer read.consumed (sym (append-nil (lines_of text))) c written kept ends
 
   ended_over : (ended : Option NoLine) (new : DrawState) (bytes said : List ℕ) (answer : Result PictureSum ExplainFault) → is_some ended ≡ true
       → Consumes from.remaining to.remaining bytes → Course ended (map (handed longest_line) (ended_lines bytes)) said opened new
-      → Appends before.held mid.held (before.gathered ++ said) → KeepsNothing mid → EndsAs ended new mid after answer → DrawsTrace from to before after answer
+      → Appends before.held mid.held (before.gathered ++ said) → KeepsNothing mid → EndsAs frames ended new mid after answer → DrawsTrace frames from to before after answer
   ended_over None new bytes said answer some came c written kept ends = absurd (never some)
   ended_over (Some why) new bytes said answer some came c written kept ends =
       let e = ended_first bytes [] in
       refused why new bytes (ended_lines bytes) e.0 said answer came (ap lines_of (sym (append-nil bytes)) ∙ e.1) c written kept ends
 
-  drawn : (end : LinesEnd) (new : DrawState) (answer : Result PictureSum ExplainFault) → ServesTo Drawing has_ended longest_line end from to opened new before mid → Ends new mid after answer
-      → DrawsTrace from to before after answer
+  drawn : (end : LinesEnd) (new : DrawState) (answer : Result PictureSum ExplainFault) → ServesTo Drawing has_ended longest_line end from to opened new before mid → Ends frames new mid after answer
+      → DrawsTrace frames from to before after answer
   drawn Whole new answer s ends =
       ended_whole new.ended new s.bytes s.said answer s.read (started new (map (handed longest_line) (lines_of s.bytes)) s.said s.spoken) s.written s.kept ends
   drawn Open new answer s ends =
@@ -194,56 +198,12 @@ module _ {R W : Type 0} (from to : SourceState R) (before mid after : SinkState 
       ended_over new.ended new s.0.bytes s.0.said answer s.1 s.0.read (started new (map (handed longest_line) (ended_lines s.0.bytes)) s.0.said s.0.spoken) s.0.written s.0.kept ends
 
   pub drawn_as : (end : LinesEnd) (old new : DrawState) (answer : Result PictureSum ExplainFault) → old ≡ opened
-      → ServesTo Drawing has_ended longest_line end from to old new before mid → Ends new mid after answer → DrawsTrace from to before after answer
+      → ServesTo Drawing has_ended longest_line end from to old new before mid → Ends frames new mid after answer → DrawsTrace frames from to before after answer
   drawn_as end old new answer opens s ends = drawn end new answer (subst (λ (o : DrawState). ServesTo Drawing has_ended longest_line end from to o new before mid) opens s) ends
-
--- ---- where all that was heard is
-
-ok_err : (sum : PictureSum) (fault : ExplainFault) → Ok sum ≡ Err fault → ⊥
-ok_err sum fault h = cc
-
-module _ {R W : Type 0} (frames : Frames) (from to : SourceState R) (before mid after : SinkState W) where
-  where_runs : (new : DrawState) (text said : List ℕ) (outside : Option Outside) → ReadsWhole from to text
-      → Runs (map (handed longest_line) (lines_of text)) said opened new → outside ≡ outside_of frames new.times → IsWhere frames from to outside
-  where_runs new text said outside read runs is =
-      let same : lines_of text ≡ runs.texts = handed_all longest_line (lines_of text) runs.texts runs.all_is in
-      record {
-        text = text;
-        read = read;
-        times = new.times;
-        lead = subst (λ (ls : List (List ℕ)). Lead ls times_begun new.times) (sym same) runs.lead;
-        is = is;
-      }
-
-  where_course : (ended : Option NoLine) (new : DrawState) (text said : List ℕ) (sum : PictureSum) → ReadsWhole from to text
-      → Course ended (map (handed longest_line) (lines_of text)) said opened new → EndsAs ended new mid after (Ok sum)
-      → sum.outside ≡ outside_of frames new.times → IsWhere frames from to sum.outside
-  where_course None new text said sum read c ends is = where_runs new text said sum.outside read c is
-  where_course (Some why) new text said sum read c ends is = absurd (ok_err sum _ ends.0)
-
-  where_over : (ended : Option NoLine) (new : DrawState) (sum : PictureSum) → is_some ended ≡ true → EndsAs ended new mid after (Ok sum)
-      → IsWhere frames from to sum.outside
-  where_over None new sum some ends = absurd (never some)
-  where_over (Some why) new sum some ends = absurd (ok_err sum _ ends.0)
-
-  where_served : (end : LinesEnd) (new : DrawState) (sum : PictureSum) → ServesTo Drawing has_ended longest_line end from to opened new before mid
-      → Ends new mid after (Ok sum) → sum.outside ≡ outside_of frames new.times → IsWhere frames from to sum.outside
-  where_served Whole new sum s ends is =
-      where_course new.ended new s.bytes s.said sum s.read (started new (map (handed longest_line) (lines_of s.bytes)) s.said s.spoken) ends is
-  where_served Open new sum s ends is =
-      where_course new.ended new s.bytes s.said sum s.read (started new (map (handed longest_line) (lines_of s.bytes)) s.said s.spoken) ends is
-  where_served Over new sum s ends is = where_over new.ended new sum s.1 ends
-
-  pub where_as : (end : LinesEnd) (old new : DrawState) (answer : Result PictureSum ExplainFault) → old ≡ opened
-      → ServesTo Drawing has_ended longest_line end from to old new before mid → Ends new mid after answer
-      → IfOk answer (λ sum. sum.outside ≡ outside_of frames new.times) → IfOk answer (λ sum. IsWhere frames from to sum.outside)
-  where_as end old new (Ok sum) opens s ends is =
-      where_served end new sum (subst (λ (o : DrawState). ServesTo Drawing has_ended longest_line end from to o new before mid) opens s) ends is
-  where_as end old new (Err fault) opens s ends is = is
 
 -- ---- where it was not read, or a line not drawn
 
-module _ {R W : Type 0} (from to : SourceState R) (before after : SinkState W) where
+module _ {R W : Type 0} (frames : Frames) (from to : SourceState R) (before after : SinkState W) where
   begun_prefix : (bytes said : List ℕ) → said ≡ [] → Consumes from.remaining to.remaining bytes → GetsPrefix before after said → IsBegun from to before after
   begun_prefix bytes said none came p = record {
     bytes = bytes;
@@ -279,7 +239,7 @@ module _ {R W : Type 0} (from to : SourceState R) (before after : SinkState W) w
   begun_by Full bytes said none came left = begun_either bytes said none came left
 
   unread : (fault : LinesFault) (new : DrawState) → Serves Drawing has_ended longest_line from to opened new before after (Err fault)
-      → DrawsTrace from to before after (Err (Lines fault))
+      → DrawsTrace frames from to before after (Err (Lines fault))
   unread faults.Read new s =
       let e = s.read refl in
       (begun_all e.bytes e.said (silent (map (handed longest_line) (ended_lines e.bytes)) opened new e.said e.spoken) e.read e.written, s.failed refl)
@@ -288,21 +248,21 @@ module _ {R W : Type 0} (from to : SourceState R) (before after : SinkState W) w
       inl (begun_by fault e.bytes e.said (silent_some e.begun opened e.said e.spoken) e.read e.written)
 
   pub unread_as : (fault : LinesFault) (old new : DrawState) (answer : Result PictureSum ExplainFault) → old ≡ opened
-      → IsErrAnd answer (λ told. told ≡ Lines fault) → Serves Drawing has_ended longest_line from to old new before after (Err fault) → DrawsTrace from to before after answer
+      → IsErrAnd answer (λ told. told ≡ Lines fault) → Serves Drawing has_ended longest_line from to old new before after (Err fault) → DrawsTrace frames from to before after answer
   unread_as fault old new (Ok lines) opens told s = absurd told
   unread_as fault old new (Err e) opens told s =
-      subst (λ (x : ExplainFault). DrawsTrace from to before after (Err x)) (sym told)
+      subst (λ (x : ExplainFault). DrawsTrace frames from to before after (Err x)) (sym told)
       (unread fault new (subst (λ (o : DrawState). Serves Drawing has_ended longest_line from to o new before after (Err fault)) opens s))
 
 -- nothing was read, for want of memory
-pub unbegun : {R W : Type 0} (from : SourceState R) (before : SinkState W) (answer : Result PictureSum ExplainFault)
-    → IsErrAnd answer (λ told. told ≡ Lines (faults.Line OutOfMemory)) → DrawsTrace from from before before answer
-unbegun from before (Ok lines) told = absurd told
-unbegun from before (Err e) told =
-    subst (λ (x : ExplainFault). DrawsTrace from from before before (Err x)) (sym told) (inr (refl, refl, refl))
+pub unbegun : {R W : Type 0} (frames : Frames) (from : SourceState R) (before : SinkState W) (answer : Result PictureSum ExplainFault)
+    → IsErrAnd answer (λ told. told ≡ Lines (faults.Line OutOfMemory)) → DrawsTrace frames from from before before answer
+unbegun frames from before (Ok lines) told = absurd told
+unbegun frames from before (Err e) told =
+    subst (λ (x : ExplainFault). DrawsTrace frames from from before before (Err x)) (sym told) (inr (refl, refl, refl))
 
 -- behind the last line the picture was written
-pub ends_whole : {W : Type 0} (drawn : DrawState) (sum : PictureSum) (before after : SinkState W) → drawn.ended ≡ None → sum.lines ≡ drawn.lines
-    → sum.heard ≡ drawn.heard → WritesPicture before after (Ok (tt {0})) → Ends drawn before after (Ok sum)
-ends_whole drawn sum before after none many heard written =
-    subst (λ (e : Option NoLine). EndsAs e drawn before after (Ok sum)) (sym none) (many, heard, written)
+pub ends_whole : {W : Type 0} (frames : Frames) (drawn : DrawState) (sum : PictureSum) (before after : SinkState W) → drawn.ended ≡ None → sum.lines ≡ drawn.lines
+    → sum.heard ≡ drawn.heard → sum.outside ≡ outside_of frames drawn.times → WritesPicture before after (Ok (tt {0})) → Ends frames drawn before after (Ok sum)
+ends_whole frames drawn sum before after none many heard outside written =
+    subst (λ (e : Option NoLine). EndsAs frames e drawn before after (Ok sum)) (sym none) (many, heard, outside, written)

@@ -13,7 +13,9 @@ use Rattle.gp_explain.specs.declared.fault.ExplainFault.TheVariants.{Refused, Li
 use Rattle.gp_explain.specs.declared.fault.NoLine.{NoLine}
 use Rattle.gp_explain.specs.declared.fault.NoLine.TheVariants.{NotALine, TooLong}
 use Rattle.gp_picture.specs.declared.running.PictureSum.{PictureSum}
-use Rattle.gp_times.specs.Lines.{AreRead, IsRead, IsUnread}
+use Rattle.gp_times.specs.declared.frames.Frames.{Frames}
+use Rattle.gp_times.specs.Lines.{AreRead, IsRead, IsUnread, IsWhere}
+use Rattle.gp_times.specs.Times.{outside_of}
 use Rattle.gp_picture.specs.Drawing.{DrawState}
 
 -- a whole SVG document (W3C, Scalable Vector Graphics 1.1). What stands in it is tested, and not said here.
@@ -21,12 +23,13 @@ abbrev pub IsSvg : List ℕ → Type 0
 IsSvg text = (inside : List ℕ) × (text ≡ codes "<svg " ++ inside ++ codes "</svg>\n")
 
 -- the whole input was read, each of its lines is read, and the writer got one picture
-pub record IsDrawn {R W : Type 0} (from to : SourceState R) (before after : SinkState W) (sum : PictureSum)
-    : Type 0 where
+pub record IsDrawn {R W : Type 0} (frames : Frames) (from to : SourceState R) (before after : SinkState W)
+    (sum : PictureSum) : Type 0 where
   pub text : List ℕ
   pub read : ReadsWhole from to text
   pub all : AreRead (lines_of text) sum.heard
   pub count : length (lines_of text) ≡ sum.lines
+  pub outside : IsWhere frames (lines_of text) sum.outside
   -- the writer got all of it, and keeps nothing back
   pub picture : List ℕ
   pub svg : IsSvg picture
@@ -67,13 +70,13 @@ pub record IsBegun {R W : Type 0} (from to : SourceState R) (before after : Sink
   pub appended : Appends before.held after.held written
 
 -- how it may end; a failed read, and the bound of reads, are told as such. Memory may run out before anything was read.
-abbrev pub DrawsTrace : {R W : Type 0} → SourceState R → SourceState R → SinkState W → SinkState W
+abbrev pub DrawsTrace : {R W : Type 0} → Frames → SourceState R → SourceState R → SinkState W → SinkState W
     → Result PictureSum ExplainFault → Type 0
-DrawsTrace from to before after (Ok sum) = IsDrawn from to before after sum
-DrawsTrace from to before after (Err (Refused line why)) = IsRefused from to before after line why
-DrawsTrace from to before after (Err (Lines faults.Read)) =
+DrawsTrace frames from to before after (Ok sum) = IsDrawn frames from to before after sum
+DrawsTrace frames from to before after (Err (Refused line why)) = IsRefused from to before after line why
+DrawsTrace frames from to before after (Err (Lines faults.Read)) =
     IsBegun from to before after × ((to.failed ≡ true) ⊎ (to.left ≡ 0))
-DrawsTrace from to before after (Err (Lines (faults.Line fault))) =
+DrawsTrace frames from to before after (Err (Lines (faults.Line fault))) =
     IsBegun from to before after ⊎ ((fault ≡ OutOfMemory) × (to ≡ from) × (after ≡ before))
 
 -- how a picture is written, if it is
@@ -89,12 +92,13 @@ WritesPicture before after (Err (Lines (faults.Line fault))) =
     × (stopped : WriteStopped) × WritesWhole {T = Unit {0}} before after picture (Err stopped))
 
 -- how it ends behind the last line
-abbrev pub EndsAs : {W : Type 0} → Option NoLine → DrawState → SinkState W → SinkState W
+abbrev pub EndsAs : {W : Type 0} → Frames → Option NoLine → DrawState → SinkState W → SinkState W
     → Result PictureSum ExplainFault → Type 0
-EndsAs (Some why) drawn before after answer = (answer ≡ Err (Refused drawn.lines why)) × (after ≡ before)
-EndsAs None drawn before after (Ok sum) =
-    (sum.lines ≡ drawn.lines) × (sum.heard ≡ drawn.heard) × WritesPicture before after (Ok (tt {0}))
-EndsAs None drawn before after (Err fault) = WritesPicture before after (Err fault)
+EndsAs frames (Some why) drawn before after answer = (answer ≡ Err (Refused drawn.lines why)) × (after ≡ before)
+EndsAs frames None drawn before after (Ok sum) =
+    (sum.lines ≡ drawn.lines) × (sum.heard ≡ drawn.heard) × (sum.outside ≡ outside_of frames drawn.times)
+    × WritesPicture before after (Ok (tt {0}))
+EndsAs frames None drawn before after (Err fault) = WritesPicture before after (Err fault)
 
-abbrev pub Ends : {W : Type 0} → DrawState → SinkState W → SinkState W → Result PictureSum ExplainFault → Type 0
-Ends drawn before after answer = EndsAs drawn.ended drawn before after answer
+abbrev pub Ends : {W : Type 0} → Frames → DrawState → SinkState W → SinkState W → Result PictureSum ExplainFault → Type 0
+Ends frames drawn before after answer = EndsAs frames drawn.ended drawn before after answer

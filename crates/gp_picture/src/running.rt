@@ -1,9 +1,7 @@
 //! From the bytes of a trace or a log to its picture: nothing is written before all of it was read, and none where a
 //! line can't be.
-ghost use Rattle.std.specs.Prelude.{◌≡◌, true, IfOk};
+ghost use Rattle.std.specs.Prelude.{◌≡◌, true};
 ghost use Rattle.gp_picture.specs.Outcome as spec;
-ghost use Rattle.gp_times.specs.Lines.{IsWhere};
-ghost use Rattle.gp_times.specs.Times.{outside_of};
 
 use crate::drawer::Drawer;
 use crate::options::PictureOptions;
@@ -23,7 +21,8 @@ pub struct PictureSum {
     pub lines: u64,
     /// Whether one of them says anything: not all are empty or remarks.
     pub heard: bool,
-    /// Where all that was heard is, if it is in none of the frames that are drawn.
+    /// Where all that was heard is, if all of it is before the first of the frames that are drawn, or all of it behind
+    /// the last.
     pub outside: Option<Outside>,
 }
 
@@ -39,8 +38,7 @@ pub fn draw_trace<R: Read, W: Write>(
     sink: &mut Sink<W>,
 ) -> Result<PictureSum, ExplainFault>
     requires { sink.old.flushed ≡ true }
-    ensures drawn { spec.DrawsTrace source.old source.new sink.old sink.new result }
-    ensures outside { IfOk result (λ sum. IsWhere options.now.frames source.old source.new sum.outside) }
+    ensures { spec.DrawsTrace options.now.frames source.old source.new sink.old sink.new result }
 {
     let mut drawer = Drawer::begin(alloc, options)?;
     run_lines(alloc, source, sink, &mut drawer)?;
@@ -54,8 +52,7 @@ fn finish<W: Write>(
     drawer: &Drawer,
     sink: &mut Sink<W>,
 ) -> Result<PictureSum, ExplainFault>
-    ensures ends { spec.Ends drawer.now sink.old sink.new result }
-    ensures outside { IfOk result (λ sum. sum.outside ≡ outside_of options.now.frames drawer.now.times) }
+    ensures { spec.Ends options.now.frames drawer.now sink.old sink.new result }
 {
     match drawer.ended {
         Some(why) => Err(ExplainFault::Refused {

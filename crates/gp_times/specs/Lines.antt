@@ -1,8 +1,6 @@
 -- Which lines of an input are read, whether one of them says anything, and the times of the ports behind them (this
 -- profile's own rule).
-use Rattle.std.specs.Prelude.{◌≡◌, ◌||◌, not, ℕ, Bool, false, List, [], ◌∷◌, Option, Result, Ok, Err}
-use Rattle.gp_flow.specs.Lines.{lines_of}
-use Rattle.gp_stream.specs.Source.{SourceState, ReadsWhole}
+use Rattle.std.specs.Prelude.{◌≡◌, ◌||◌, not, ℕ, Bool, false, List, [], ◌∷◌, Option, Ok, Err}
 use Rattle.gp_log.specs.declared.fault.LogFault.{LogFault}
 use Rattle.gp_log.specs.declared.line.LogLine.{LogLine}
 use Rattle.gp_log.specs.Line.{Reads, says_nothing}
@@ -31,10 +29,9 @@ abbrev pub Lead : List (List ℕ) → List PortTime → List PortTime → Type 0
 Lead [] from to = to ≡ from
 Lead (text ∷ texts) from to = (line : LogLine) × Reads text (Ok line) × Lead texts (times_after line from) to
 
--- the whole input was read, and where all that was heard in it is, if it is in none of the wanted frames
-pub record IsWhere {R : Type 0} (frames : Frames) (from to : SourceState R) (outside : Option Outside) : Type 0 where
-  pub text : List ℕ
-  pub read : ReadsWhole from to text
+-- these lines were read, and where all that was heard in them is, if all of it is before the first of the wanted frames,
+-- or all of it behind the last
+pub record IsWhere (frames : Frames) (texts : List (List ℕ)) (outside : Option Outside) : Type 0 where
   pub times : List PortTime
-  pub lead : Lead (lines_of text) times_begun times
+  pub lead : Lead texts times_begun times
   pub is : outside ≡ outside_of frames times

@@ -1,17 +1,14 @@
--- The time of each port by the lines that tell of it, and where all of them are outside of the frames that are wanted
--- (this profile's own rule).
+-- The time of each port by the lines that tell of it, in nanoseconds, and where all of them are before the first frame
+-- that is wanted, or all of them behind the last (this profile's own rule).
 use Rattle.std.specs.Prelude.{ℕ, ◌+◌, ◌-◌, ◌*◌, ◌/◌, ◌^◌, Bool, true, false, if◌then◌else◌, nat_lt, min, max, List, Option, None, Some, replicate, slice_index_or, slice_set}
 use Rattle.std.specs.List.{fold}
 use Rattle.gp_log.specs.declared.line.LogLine.{LogLine}
 use Rattle.gp_log.specs.declared.line.LogLine.TheVariants as line
+use Rattle.gp_log.specs.Time.{frame_time}
 use Rattle.gp_times.specs.declared.frames.Frames.{Frames}
 use Rattle.gp_times.specs.declared.frames.Outside.{Outside}
 use Rattle.gp_times.specs.declared.frames.Outside.TheVariants.{Before, Behind}
 use Rattle.gp_times.specs.declared.times.PortTime.{PortTime}
-
--- a frame has 125 microseconds, and times are in nanoseconds
-abbrev pub frame_time : ℕ
-frame_time = 125000
 
 -- how many frames there were by a time
 abbrev pub frame_of : ℕ → ℕ
@@ -82,8 +79,7 @@ first_told times = fold (λ first (port : PortTime). earlier first port.first) N
 abbrev pub last_told : List PortTime → ℕ
 last_told times = fold (λ last (port : PortTime). max last (frame_of port.time)) 0 times
 
--- where all that was heard is, if it is in none of the wanted frames: all of it is before the first of them, or behind
--- the last
+-- where all that was heard is, if all of it is before the first of the wanted frames, or all of it behind the last
 abbrev pub outside_by : Frames → Option ℕ → ℕ → Option Outside
 outside_by frames None last = None
 outside_by frames (Some first) last =

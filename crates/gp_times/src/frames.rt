@@ -1,4 +1,4 @@
-//! The frames that are wanted of an input, and where all that was heard is if none of them was.
+//! The frames that are wanted of an input, and where all that was heard is if it is before or behind all of them.
 ghost use Rattle.std.specs.Prelude.{◌≡◌, ◌≤◌, ◌<◌, ◌↔◌, IsTrue};
 ghost use Rattle.gp_times.specs.Times.{begin_of, frame_of};
 
@@ -13,7 +13,7 @@ pub struct Frames {
     pub to: u64,
 }
 
-/// Where all that was heard is, where none of it is in a frame that is wanted.
+/// Where all that was heard is: all of it before the first of the frames that are wanted, or all of it behind the last.
 #[derive(Clone, Copy, Debug, PartialEq, Eq)]
 pub enum Outside {
     /// Before the first of them: the last frame of which a line told.

@@ -152,7 +152,7 @@ impl PortTimes {
             .fold(0, |last: u64, port| last.max(port.frame()))
     }
 
-    /// Gives where all that was heard is, if it is in none of these frames.
+    /// Gives where all that was heard is, if all of it is before the first of these frames, or all of it behind the last.
     pub fn outside(&self, frames: &Frames) -> Option<Outside>
         ensures { result ≡ spec.outside_of frames.now self.now }
     {
