@@ -89,15 +89,17 @@ module _ {W : Type 0} (began : Manner) (first : Option (List ℕ)) (seen old new
     taken = still ∙ ap (λ (s : TellerState W). s.taken) same;
     ok = (all, now);
     error = tt;
+    unwritten = λ tells. tt;
     refused = λ fault some. telling_still fault same none some;
   }
 
-  pub finishes_err : (fault : TellFault) → seen ≡ old → seen.fault ≡ None → new.taken ≡ seen.taken → HasPrefix began new.taken first new.below.held → new.fault ≡ Some fault
+  pub finishes_err : (fault : TellFault) → fault ≡ Write → seen ≡ old → seen.fault ≡ None → new.taken ≡ seen.taken → HasPrefix began new.taken first new.below.held → new.fault ≡ Some fault
       → Finishes began first old new (Err fault)
-  finishes_err fault same none still part now = record {
+  finishes_err fault is same none still part now = record {
     taken = still ∙ ap (λ (s : TellerState W). s.taken) same;
     ok = tt;
     error = (part, now);
+    unwritten = λ tells. is;
     refused = λ f some. telling_still f same none some;
   }
 

@@ -5,6 +5,7 @@ use Rattle.gp_flow.specs.Lines.{longest_line}
 use Rattle.gp_stream.specs.Sink.{SinkState}
 use Rattle.gp_explain.specs.Telling.{Manner}
 use Rattle.gp_tell.specs.declared.fault.TellFault.{TellFault}
+use Rattle.gp_tell.specs.declared.fault.TellFault.TheVariants.{Write}
 use Rattle.gp_tell.specs.Octets.{TellsOctets, open_line}
 
 -- a teller over a writer
@@ -40,6 +41,8 @@ pub record Finishes {W : Type 0} (began : Manner) (first : Option (List ℕ)) (o
   pub ok : OnOk answer (HasAll began new.taken first new.below.held × (new.fault ≡ None))
   -- or a prefix of it
   pub error : IfErr answer (λ fault. HasPrefix began new.taken first new.below.held × (new.fault ≡ Some fault))
+  -- while it tells, only a write that failed is a fault
+  pub unwritten : old.fault ≡ None → IfErr answer (λ fault. fault ≡ Write)
   -- once it tells no more, nothing is written
   pub refused : (fault : TellFault) → old.fault ≡ Some fault → (answer ≡ Err fault) × (new ≡ old)
 

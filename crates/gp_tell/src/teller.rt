@@ -108,8 +108,8 @@ impl<B: Began, W: Write> Teller<B, W> {
         }
     }
 
-    /// Returns the writer below, which holds what the teller says that it holds. What was told and is not yet written is
-    /// lost: call [`Teller::finish`] first.
+    /// Returns the writer below, which holds what the teller says that it holds. What was told and is not yet written
+    /// is lost: call [`Teller::finish`] first.
     pub fn into_inner(self) -> W
         ensures writer { result ≡ self.below.writer }
         ensures held { W.contents result ≡ self.below.held }

@@ -10,4 +10,4 @@ invariant_of-self-in-Err g c =
 pub returns-in-Err : goal.returns-in-Err
 returns-in-Err g c =
     let runs = runs_of _ _ _ _ _ _ _ _ c.in_default.is c.self.invariant.0 in
-    finishes_err _ _ _ _ _ _ c.self.view_is c.in_default.is refl (finished_part _ _ _ _ _ _ _ _ c.in-Err.field-0 runs c.in-Err.ensures) refl
+    finishes_err _ _ _ _ _ _ refl c.self.view_is c.in_default.is refl (finished_part _ _ _ _ _ _ _ _ c.in-Err.field-0 runs c.in-Err.ensures) refl
