@@ -27,9 +27,8 @@ use Rattle.gp_dump.specs.Head.{head_text}
 use Rattle.gp_dump.proofs.PartLemmas.{continues_none}
 use Rattle.gp_waves.specs.declared.running.WavesSum.{WavesSum}
 use Rattle.gp_times.specs.declared.frames.Frames.{Frames}
-use Rattle.gp_times.specs.declared.frames.Outside.{Outside}
 use Rattle.gp_times.specs.declared.times.PortTime.{PortTime}
-use Rattle.gp_times.specs.Lines.{AreRead, IsRead, IsUnread, IsWhere, Lead}
+use Rattle.gp_times.specs.Lines.{AreRead, IsRead, IsUnread, Lead}
 use Rattle.gp_times.specs.Times.{outside_of, times_begun}
 use Rattle.gp_waves.specs.Dumping.{Dumping, Says, WavesState, has_ended}
 use Rattle.gp_waves.specs.Writing.{Grows, GrowsAs, Written}
@@ -131,7 +130,7 @@ course_grows (Some why) ls said from to c = c.grown
 
 -- ---- behind the last line
 
-module _ {R W : Type 0} (from to : SourceState R) (before mid after : SinkState W) where
+module _ {R W : Type 0} (frames : Frames) (from to : SourceState R) (before mid after : SinkState W) where
   -- the rest was written behind what was said to lines
   dumped : (old state last : WavesState) (said text : List ℕ) → IsOpened old → Grows old.written said state.written → IsRest state last text
       → Appends before.held mid.held (before.gathered ++ said) → KeepsNothing mid → WritesWhole {T = Unit {0}} {E = WriteStopped} mid after text (Ok (tt {0}))
@@ -184,7 +183,7 @@ module _ {R W : Type 0} (from to : SourceState R) (before mid after : SinkState 
   -- the rest could not be written
   unwritten : (old state last : WavesState) (bytes said : List ℕ) (fault : ExplainFault) → IsOpened old → Grows old.written said state.written
       → Consumes from.remaining to.remaining bytes → Appends before.held mid.held (before.gathered ++ said) → KeepsNothing mid
-      → WritesRest state last mid after (Err fault) → DumpsWaves from to before after (Err fault)
+      → WritesRest state last mid after (Err fault) → DumpsWaves frames from to before after (Err fault)
   unwritten old state last bytes said (Refused line why) o grown came written kept w = absurd w
   unwritten old state last bytes said (Lines faults.Read) o grown came written kept w = absurd w
   unwritten old state last bytes said (Lines (faults.Line fault)) o grown came written kept (inl same) =
@@ -214,7 +213,7 @@ module _ {R W : Type 0} (from to : SourceState R) (before mid after : SinkState 
   -- what was found where an input was read to its end
   found_whole : (ended : Option NoLine) (old state : WavesState) (text said : List ℕ) (answer : Result WavesSum ExplainFault) → IsOpened old → ReadsWhole from to text
       → Course ended (map (handed longest_line) (lines_of text)) said old state → GetsDump before after
-      → IsFoundBy ended state answer → DumpsWaves from to before after answer
+      → IsFoundBy frames ended state answer → DumpsWaves frames from to before after answer
   found_whole None old state text said (Ok sum) o read c gets found =
       let same : lines_of text ≡ c.texts = handed_all longest_line (lines_of text) c.texts c.all_is in
       let many = c.lines in
@@ -227,56 +226,62 @@ module _ {R W : Type 0} (from to : SourceState R) (before mid after : SinkState 
         read = read;
         all = subst (λ (t : Bool). AreRead (lines_of text) t) (sym heard) (subst (λ (ls : List (List ℕ)). AreRead ls c.told) (sym same) c.read);
         count = omega (arith, many, told, long, zero);
+        outside = record {
+          times = state.times;
+          lead = subst (λ (t : List PortTime). Lead (lines_of text) t state.times) o.times
+              (subst (λ (ls : List (List ℕ)). Lead ls old.times state.times) (sym same) c.lead);
+          is = found.2;
+        };
         dumped = gets;
       }
   found_whole None old state text said (Err fault) o read c gets found = absurd found
   found_whole (Some why) old state text said answer o read c gets found =
-      subst (λ (a : Result WavesSum ExplainFault). DumpsWaves from to before after a) (sym found)
+      subst (λ (a : Result WavesSum ExplainFault). DumpsWaves frames from to before after a) (sym found)
       (refused why old state text (lines_of text) [] said read.consumed (sym (append-nil (lines_of text))) o.lines c gets)
 
   -- or until a line ended it
   found_over : (ended : Option NoLine) (old state : WavesState) (bytes said : List ℕ) (answer : Result WavesSum ExplainFault) → is_some ended ≡ true → IsOpened old
       → Consumes from.remaining to.remaining bytes → Course ended (map (handed longest_line) (ended_lines bytes)) said old state
-      → GetsDump before after → IsFoundBy ended state answer → DumpsWaves from to before after answer
+      → GetsDump before after → IsFoundBy frames ended state answer → DumpsWaves frames from to before after answer
   found_over None old state bytes said answer some o came c gets found = absurd (never some)
   found_over (Some why) old state bytes said answer some o came c gets found =
       let e = ended_first bytes [] in
-      subst (λ (a : Result WavesSum ExplainFault). DumpsWaves from to before after a) (sym found)
+      subst (λ (a : Result WavesSum ExplainFault). DumpsWaves frames from to before after a) (sym found)
       (refused why old state bytes (ended_lines bytes) e.0 said came (ap lines_of (sym (append-nil bytes)) ∙ e.1) o.lines c gets)
 
   -- what was found is found of the state before the rest was written, too
   found_before : (ended same : Option NoLine) (state last : WavesState) (answer : Result WavesSum ExplainFault) → ended ≡ same → last.lines ≡ state.lines
-      → last.heard ≡ state.heard → IsFoundBy ended last answer → IsFoundBy same state answer
-  found_before ended (Some why) state last answer is many heard found =
-      subst (λ (n : ℕ). answer ≡ Err (Refused n why)) many (subst (λ (e : Option NoLine). IsFoundBy e last answer) is found)
-  found_before ended None state last (Ok sum) is many heard found =
-      let there : IsFoundBy None last (Ok sum) = subst (λ (e : Option NoLine). IsFoundBy e last (Ok sum)) is found in
-      (there.0 ∙ many, there.1 ∙ heard)
-  found_before ended None state last (Err fault) is many heard found = subst (λ (e : Option NoLine). IsFoundBy e last (Err fault)) is found
+      → last.heard ≡ state.heard → last.times ≡ state.times → IsFoundBy frames ended last answer → IsFoundBy frames same state answer
+  found_before ended (Some why) state last answer is many heard times found =
+      subst (λ (n : ℕ). answer ≡ Err (Refused n why)) many (subst (λ (e : Option NoLine). IsFoundBy frames e last answer) is found)
+  found_before ended None state last (Ok sum) is many heard times found =
+      let there : IsFoundBy frames None last (Ok sum) = subst (λ (e : Option NoLine). IsFoundBy frames e last (Ok sum)) is found in
+      (there.0 ∙ many, there.1 ∙ heard, there.2 ∙ ap (λ (t : List PortTime). outside_of frames t) times)
+  found_before ended None state last (Err fault) is many heard times found = subst (λ (e : Option NoLine). IsFoundBy frames e last (Err fault)) is found
 
   pub dumped_as : (end : LinesEnd) (old state last : WavesState) (answer : Result WavesSum ExplainFault) → IsOpened old
-      → ServesTo Dumping has_ended longest_line end from to old state before mid → WritesRest state last mid after (Ok (tt {0})) → IsFound last answer
-      → DumpsWaves from to before after answer
+      → ServesTo Dumping has_ended longest_line end from to old state before mid → WritesRest state last mid after (Ok (tt {0})) → IsFound frames last answer
+      → DumpsWaves frames from to before after answer
   dumped_as Whole old state last answer o s w found =
       let c = started old state (map (handed longest_line) (lines_of s.bytes)) s.said o s.spoken in
       let grown = course_grows state.ended _ s.said old state c in
       found_whole state.ended old state s.bytes s.said answer o s.read c (dumped old state last s.said w.0 o grown w.1 s.written s.kept w.2)
-      (found_before last.ended state.ended state last answer w.1.ended w.1.lines w.1.heard found)
+      (found_before last.ended state.ended state last answer w.1.ended w.1.lines w.1.heard w.1.times found)
   dumped_as Open old state last answer o s w found =
       let c = started old state (map (handed longest_line) (lines_of s.bytes)) s.said o s.spoken in
       let grown = course_grows state.ended _ s.said old state c in
       found_whole state.ended old state s.bytes s.said answer o s.read c (dumped old state last s.said w.0 o grown w.1 s.written s.kept w.2)
-      (found_before last.ended state.ended state last answer w.1.ended w.1.lines w.1.heard found)
+      (found_before last.ended state.ended state last answer w.1.ended w.1.lines w.1.heard w.1.times found)
   dumped_as Over old state last answer o s w found =
       let c = started old state (map (handed longest_line) (ended_lines s.0.bytes)) s.0.said o s.0.spoken in
       let grown = course_grows state.ended _ s.0.said old state c in
       found_over state.ended old state s.0.bytes s.0.said answer s.1 o s.0.read c (dumped old state last s.0.said w.0 o grown w.1 s.0.written s.0.kept w.2)
-      (found_before last.ended state.ended state last answer w.1.ended w.1.lines w.1.heard found)
+      (found_before last.ended state.ended state last answer w.1.ended w.1.lines w.1.heard w.1.times found)
 
   -- the rest could not be written where the input was read
   unwritten_to : (end : LinesEnd) (old state last : WavesState) (fault : ExplainFault) → IsOpened old
       → ServesTo Dumping has_ended longest_line end from to old state before mid → WritesRest state last mid after (Err fault)
-      → DumpsWaves from to before after (Err fault)
+      → DumpsWaves frames from to before after (Err fault)
   unwritten_to Whole old state last fault o s w =
       let c = started old state (map (handed longest_line) (lines_of s.bytes)) s.said o s.spoken in
       unwritten old state last s.bytes s.said fault o (course_grows state.ended _ s.said old state c) s.read.consumed s.written s.kept w
@@ -289,15 +294,15 @@ module _ {R W : Type 0} (from to : SourceState R) (before mid after : SinkState 
 
   pub unwritten_as : (end : LinesEnd) (old state last : WavesState) (fault : ExplainFault) (answer : Result WavesSum ExplainFault) → IsOpened old
       → ServesTo Dumping has_ended longest_line end from to old state before mid → WritesRest state last mid after (Err fault)
-      → IsErrAnd answer (λ told. told ≡ fault) → DumpsWaves from to before after answer
+      → IsErrAnd answer (λ told. told ≡ fault) → DumpsWaves frames from to before after answer
   unwritten_as end old state last fault (Ok sum) o s w told = absurd told
   unwritten_as end old state last fault (Err e) o s w told =
-      subst (λ (x : ExplainFault). DumpsWaves from to before after (Err x)) (sym told) (unwritten_to end old state last fault o s w)
+      subst (λ (x : ExplainFault). DumpsWaves frames from to before after (Err x)) (sym told) (unwritten_to end old state last fault o s w)
 
   -- ---- where the input could not be read
 
   pub unread : (old state last : WavesState) → IsOpened old → Serves Dumping has_ended longest_line from to old state before mid (Err faults.Read)
-      → WritesRest state last mid after (Ok (tt {0})) → DumpsWaves from to before after (Err (Lines faults.Read))
+      → WritesRest state last mid after (Ok (tt {0})) → DumpsWaves frames from to before after (Err (Lines faults.Read))
   unread old state last o s w =
       let e = s.read refl in
       let c = started old state (map (handed longest_line) (ended_lines e.bytes)) e.said o e.spoken in
@@ -311,12 +316,12 @@ module _ {R W : Type 0} (from to : SourceState R) (before mid after : SinkState 
 
   pub unread_unwritten : (old state last : WavesState) (fault : ExplainFault) (answer : Result WavesSum ExplainFault) → IsOpened old
       → Serves Dumping has_ended longest_line from to old state before mid (Err faults.Read) → WritesRest state last mid after (Err fault)
-      → IsErrAnd answer (λ told. told ≡ fault) → DumpsWaves from to before after answer
+      → IsErrAnd answer (λ told. told ≡ fault) → DumpsWaves frames from to before after answer
   unread_unwritten old state last fault (Ok sum) o s w told = absurd told
   unread_unwritten old state last fault (Err x) o s w told =
       let e = s.read refl in
       let c = started old state (map (handed longest_line) (ended_lines e.bytes)) e.said o e.spoken in
-      subst (λ (f : ExplainFault). DumpsWaves from to before after (Err f)) (sym told)
+      subst (λ (f : ExplainFault). DumpsWaves frames from to before after (Err f)) (sym told)
       (unwritten old state last e.bytes e.said fault o (course_grows state.ended _ e.said old state c) e.read e.written e.kept w)
 
   pub unread_at : (fault : LinesFault) (old state last : WavesState) → fault ≡ faults.Read → IsOpened old
@@ -327,61 +332,11 @@ module _ {R W : Type 0} (from to : SourceState R) (before mid after : SinkState 
 
   pub unwritten_at : (served : LinesFault) (old state last : WavesState) (fault : ExplainFault) (answer : Result WavesSum ExplainFault) → served ≡ faults.Read → IsOpened old
       → Serves Dumping has_ended longest_line from to old state before mid (Err served) → WritesRest state last mid after (Err fault)
-      → IsErrAnd answer (λ told. told ≡ fault) → DumpsWaves from to before after answer
+      → IsErrAnd answer (λ told. told ≡ fault) → DumpsWaves frames from to before after answer
   unwritten_at served old state last fault answer is o s w told =
       unread_unwritten old state last fault answer o (subst (λ (f : LinesFault). Serves Dumping has_ended longest_line from to old state before mid (Err f)) is s) w told
 
--- ---- where all that was heard is
-
-ok_err : (sum : WavesSum) (fault : ExplainFault) → Ok sum ≡ Err fault → ⊥
-ok_err sum fault h = cc
-
-module _ {R W : Type 0} (frames : Frames) (from to : SourceState R) (before mid after : SinkState W) where
-  where_runs : (old state : WavesState) (text said : List ℕ) (outside : Option Outside) → IsOpened old → ReadsWhole from to text
-      → Runs (map (handed longest_line) (lines_of text)) said old state → outside ≡ outside_of frames state.times → IsWhere frames from to outside
-  where_runs old state text said outside o read runs is =
-      let same : lines_of text ≡ runs.texts = handed_all longest_line (lines_of text) runs.texts runs.all_is in
-      let lead : Lead (lines_of text) old.times state.times = subst (λ (ls : List (List ℕ)). Lead ls old.times state.times) (sym same) runs.lead in
-      record {
-        text = text;
-        read = read;
-        times = state.times;
-        lead = subst (λ (t : List PortTime). Lead (lines_of text) t state.times) o.times lead;
-        is = is;
-      }
-
-  where_course : (ended same : Option NoLine) (old state last : WavesState) (text said : List ℕ) (sum : WavesSum) → IsOpened old → ReadsWhole from to text
-      → Course same (map (handed longest_line) (lines_of text)) said old state → ended ≡ same → IsFoundBy ended last (Ok sum)
-      → sum.outside ≡ outside_of frames state.times → IsWhere frames from to sum.outside
-  where_course ended None old state last text said sum o read c same found is = where_runs old state text said sum.outside o read c is
-  where_course ended (Some why) old state last text said sum o read c same found is =
-      absurd (ok_err sum _ (subst (λ (e : Option NoLine). IsFoundBy e last (Ok sum)) same found))
-
-  where_over : (ended same : Option NoLine) (last : WavesState) (sum : WavesSum) → is_some same ≡ true → ended ≡ same → IsFoundBy ended last (Ok sum)
-      → IsWhere frames from to sum.outside
-  where_over ended None last sum some same found = absurd (never some)
-  where_over ended (Some why) last sum some same found = absurd (ok_err sum _ (subst (λ (e : Option NoLine). IsFoundBy e last (Ok sum)) same found))
-
-  where_sum : (end : LinesEnd) (old state last : WavesState) (sum : WavesSum) → IsOpened old
-      → ServesTo Dumping has_ended longest_line end from to old state before mid → WritesRest state last mid after (Ok (tt {0})) → IsFound last (Ok sum)
-      → sum.outside ≡ outside_of frames last.times → IsWhere frames from to sum.outside
-  where_sum Whole old state last sum o s w found is =
-      let c = started old state (map (handed longest_line) (lines_of s.bytes)) s.said o s.spoken in
-      where_course last.ended state.ended old state last s.bytes s.said sum o s.read c w.1.ended found
-      (subst (λ (t : List PortTime). sum.outside ≡ outside_of frames t) w.1.times is)
-  where_sum Open old state last sum o s w found is =
-      let c = started old state (map (handed longest_line) (lines_of s.bytes)) s.said o s.spoken in
-      where_course last.ended state.ended old state last s.bytes s.said sum o s.read c w.1.ended found
-      (subst (λ (t : List PortTime). sum.outside ≡ outside_of frames t) w.1.times is)
-  where_sum Over old state last sum o s w found is = where_over last.ended state.ended last sum s.1 w.1.ended found
-
-  pub where_as : (end : LinesEnd) (old state last : WavesState) (answer : Result WavesSum ExplainFault) → IsOpened old
-      → ServesTo Dumping has_ended longest_line end from to old state before mid → WritesRest state last mid after (Ok (tt {0})) → IsFound last answer
-      → IfOk answer (λ sum. sum.outside ≡ outside_of frames last.times) → IfOk answer (λ sum. IsWhere frames from to sum.outside)
-  where_as end old state last (Ok sum) o s w found is = where_sum end old state last sum o s w found is
-  where_as end old state last (Err fault) o s w found is = is
-
-module _ {R W : Type 0} (from to : SourceState R) (before after : SinkState W) where
+module _ {R W : Type 0} (frames : Frames) (from to : SourceState R) (before after : SinkState W) where
   -- a prefix of what was gathered and of what was said
   prefix_begun : (old state : WavesState) (bytes said : List ℕ) → IsOpened old → Grows old.written said state.written → Consumes from.remaining to.remaining bytes
       → GetsPrefix before after said → IsBegun from to before after
@@ -402,7 +357,7 @@ module _ {R W : Type 0} (from to : SourceState R) (before after : SinkState W) w
 
   all_begun : (old state : WavesState) (bytes said : List ℕ) → IsOpened old → Grows old.written said state.written → Consumes from.remaining to.remaining bytes
       → GetsAll before after said → IsBegun from to before after
-  all_begun old state bytes said o grown came g = begun_none from to before after after old state bytes said o grown came g.written refl
+  all_begun old state bytes said o grown came g = begun_none frames from to before after after old state bytes said o grown came g.written refl
 
   leaves_begun : (fault : Unanswered) (old state : WavesState) (bytes said : List ℕ) → IsOpened old → Grows old.written said state.written
       → Consumes from.remaining to.remaining bytes → Leaves fault before after said → IsBegun from to before after
@@ -414,7 +369,7 @@ module _ {R W : Type 0} (from to : SourceState R) (before after : SinkState W) w
 
   -- a line could not be dumped
   pub line_fault : (fault : Unanswered) (old state : WavesState) → IsOpened old → Serves Dumping has_ended longest_line from to old state before after (Err (faults.Line fault))
-      → DumpsWaves from to before after (Err (Lines (faults.Line fault)))
+      → DumpsWaves frames from to before after (Err (Lines (faults.Line fault)))
   line_fault fault old state o s =
       let e = s.fault fault refl in
       let whole = all_of_some Says old e.begun e.said e.spoken in
@@ -422,13 +377,13 @@ module _ {R W : Type 0} (from to : SourceState R) (before after : SinkState W) w
       inl (leaves_begun fault old whole.0 e.bytes e.said o (course_grows whole.0.ended e.begun e.said old whole.0 c) e.read e.written)
 
   pub line_fault_at : (told : LinesFault) (fault : Unanswered) (old state : WavesState) → told ≡ faults.Line fault → IsOpened old
-      → Serves Dumping has_ended longest_line from to old state before after (Err told) → DumpsWaves from to before after (Err (Lines (faults.Line fault)))
+      → Serves Dumping has_ended longest_line from to old state before after (Err told) → DumpsWaves frames from to before after (Err (Lines (faults.Line fault)))
   line_fault_at told fault old state is o s =
       line_fault fault old state o (subst (λ (f : LinesFault). Serves Dumping has_ended longest_line from to old state before after (Err f)) is s)
 
 -- nothing was read, for want of memory
-pub unbegun : {R W : Type 0} (from : SourceState R) (before : SinkState W) (answer : Result WavesSum ExplainFault)
-    → IsErrAnd answer (λ told. told ≡ Lines (faults.Line OutOfMemory)) → DumpsWaves from from before before answer
-unbegun from before (Ok sum) told = absurd told
-unbegun from before (Err e) told =
-    subst (λ (x : ExplainFault). DumpsWaves from from before before (Err x)) (sym told) (inr (refl, refl, refl))
+pub unbegun : {R W : Type 0} (frames : Frames) (from : SourceState R) (before : SinkState W) (answer : Result WavesSum ExplainFault)
+    → IsErrAnd answer (λ told. told ≡ Lines (faults.Line OutOfMemory)) → DumpsWaves frames from from before before answer
+unbegun frames from before (Ok sum) told = absurd told
+unbegun frames from before (Err e) told =
+    subst (λ (x : ExplainFault). DumpsWaves frames from from before before (Err x)) (sym told) (inr (refl, refl, refl))

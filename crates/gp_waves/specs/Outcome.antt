@@ -14,7 +14,9 @@ use Rattle.gp_explain.specs.declared.fault.NoLine.{NoLine}
 use Rattle.gp_explain.specs.declared.fault.NoLine.TheVariants.{NotALine, TooLong}
 use Rattle.gp_dump.specs.Dump.{IsDumpTo}
 use Rattle.gp_waves.specs.declared.running.WavesSum.{WavesSum}
-use Rattle.gp_times.specs.Lines.{AreRead, IsRead, IsUnread}
+use Rattle.gp_times.specs.declared.frames.Frames.{Frames}
+use Rattle.gp_times.specs.Lines.{AreRead, IsRead, IsUnread, IsWhere}
+use Rattle.gp_times.specs.Times.{outside_of}
 use Rattle.gp_waves.specs.Dumping.{WavesState}
 use Rattle.gp_waves.specs.Writing.{Grows}
 
@@ -30,12 +32,13 @@ pub record GetsDump {W : Type 0} (before after : SinkState W) : Type 0 where
   pub kept : KeepsNothing after
 
 -- the whole input was read, each of its lines is read, and the writer got one dump
-pub record IsDumped {R W : Type 0} (from to : SourceState R) (before after : SinkState W) (sum : WavesSum)
-    : Type 0 where
+pub record IsDumped {R W : Type 0} (frames : Frames) (from to : SourceState R) (before after : SinkState W)
+    (sum : WavesSum) : Type 0 where
   pub text : List ℕ
   pub read : ReadsWhole from to text
   pub all : AreRead (lines_of text) sum.heard
   pub count : length (lines_of text) ≡ sum.lines
+  pub outside : IsWhere frames (lines_of text) sum.outside
   pub dumped : GetsDump before after
 
 -- why a text is no line of a trace or a log
@@ -78,12 +81,12 @@ pub record IsBegun {R W : Type 0} (from to : SourceState R) (before after : Sink
   pub appended : Appends before.held after.held written
 
 -- how it may end; a failed read, and the bound of reads, are told as such. Memory may run out before anything was read.
-abbrev pub DumpsWaves : {R W : Type 0} → SourceState R → SourceState R → SinkState W → SinkState W
+abbrev pub DumpsWaves : {R W : Type 0} → Frames → SourceState R → SourceState R → SinkState W → SinkState W
     → Result WavesSum ExplainFault → Type 0
-DumpsWaves from to before after (Ok sum) = IsDumped from to before after sum
-DumpsWaves from to before after (Err (Refused line why)) = IsRefused from to before after line why
-DumpsWaves from to before after (Err (Lines faults.Read)) = IsUnfinished from to before after
-DumpsWaves from to before after (Err (Lines (faults.Line fault))) =
+DumpsWaves frames from to before after (Ok sum) = IsDumped frames from to before after sum
+DumpsWaves frames from to before after (Err (Refused line why)) = IsRefused from to before after line why
+DumpsWaves frames from to before after (Err (Lines faults.Read)) = IsUnfinished from to before after
+DumpsWaves frames from to before after (Err (Lines (faults.Line fault))) =
     IsBegun from to before after ⊎ ((fault ≡ OutOfMemory) × (to ≡ from) × (after ≡ before))
 
 -- the rest of a dump behind what is written
@@ -108,10 +111,11 @@ WritesRest old new before after (Err (Lines (faults.Line fault))) =
     × WritesWhole {T = Unit {0}} before after text (Err stopped))
 
 -- what was found, by what ended it
-abbrev pub IsFoundBy : Option NoLine → WavesState → Result WavesSum ExplainFault → Type 0
-IsFoundBy (Some why) state answer = answer ≡ Err (Refused state.lines why)
-IsFoundBy None state (Ok sum) = (sum.lines ≡ state.lines) × (sum.heard ≡ state.heard)
-IsFoundBy None state (Err fault) = ⊥
+abbrev pub IsFoundBy : Frames → Option NoLine → WavesState → Result WavesSum ExplainFault → Type 0
+IsFoundBy frames (Some why) state answer = answer ≡ Err (Refused state.lines why)
+IsFoundBy frames None state (Ok sum) =
+    (sum.lines ≡ state.lines) × (sum.heard ≡ state.heard) × (sum.outside ≡ outside_of frames state.times)
+IsFoundBy frames None state (Err fault) = ⊥
 
-abbrev pub IsFound : WavesState → Result WavesSum ExplainFault → Type 0
-IsFound state answer = IsFoundBy state.ended state answer
+abbrev pub IsFound : Frames → WavesState → Result WavesSum ExplainFault → Type 0
+IsFound frames state answer = IsFoundBy frames state.ended state answer

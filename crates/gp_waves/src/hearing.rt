@@ -57,16 +57,15 @@ impl Waves {
         falls: bool,
         said: &Said,
     ) -> Result<(), WavesFault> {
-        let scope = scope_of(&self.options, number);
-        let Some(port) = self.ports.get_mut(usize::from(number)) else {
-            return Ok(());
-        };
         if falls {
             self.fallen = self.fallen.saturating_add(1);
-            port.pass_over();
             return Ok(());
         }
-        port.hear_log(&mut self.held, &scope, time, said)
+        let scope = scope_of(&self.options, number);
+        match self.ports.get_mut(usize::from(number)) {
+            Some(port) => port.hear_log(&mut self.held, &scope, time, said),
+            None => Ok(()),
+        }
     }
 
     /// Hears a line, which these times have heard, at its port. Where memory is refused, a part of it may have been

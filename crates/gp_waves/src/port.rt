@@ -325,11 +325,6 @@ impl Port {
         }
     }
 
-    /// Notes that a line tells of it whose time is before that of the port: nothing of it is heard.
-    pub(crate) fn pass_over(&mut self) {
-        self.is_told = true;
-    }
-
     /// Hears a line of a log, with which the port comes to this time. Behind the last frame that is dumped only time is
     /// counted.
     pub(crate) fn hear_log(

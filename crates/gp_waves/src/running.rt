@@ -1,7 +1,5 @@
 //! From the bytes of a trace or a log to its value change dump, and what was dumped of it. Memory is flat.
-ghost use Rattle.std.specs.Prelude.{◌≡◌, true, IfOk};
-ghost use Rattle.gp_times.specs.Lines.{IsWhere};
-ghost use Rattle.gp_times.specs.Times.{outside_of};
+ghost use Rattle.std.specs.Prelude.{◌≡◌, true};
 ghost use Rattle.gp_waves.specs.Outcome as spec;
 
 use crate::dumper::Dumper;
@@ -24,7 +22,8 @@ pub struct WavesSum {
     pub fallen: u64,
     /// How many changes stand at a later time than theirs, since their port was too far behind the others.
     pub late: u64,
-    /// Where all that was heard is, if it is in none of the frames that are dumped.
+    /// Where all that was heard is, if all of it is before the first of the frames that are dumped, or all of it behind
+    /// the last.
     pub outside: Option<Outside>,
 }
 
@@ -42,8 +41,7 @@ pub fn dump_waves<R: Read, W: Write>(
     sink: &mut Sink<W>,
 ) -> Result<WavesSum, ExplainFault>
     requires { sink.old.flushed ≡ true }
-    ensures dumped { spec.DumpsWaves source.old source.new sink.old sink.new result }
-    ensures outside { IfOk result (λ sum. IsWhere options.now.frames source.old source.new sum.outside) }
+    ensures { spec.DumpsWaves options.now.frames source.old source.new sink.old sink.new result }
 {
     let mut dumper = Dumper::begin(alloc, options)?;
     match run_lines(alloc, source, sink, &mut dumper) {
@@ -81,8 +79,7 @@ fn write_rest<W: Write>(
 
 /// What was found.
 fn finding(options: &WavesOptions, dumper: &Dumper) -> Result<WavesSum, ExplainFault>
-    ensures found { spec.IsFound dumper.now result }
-    ensures outside { IfOk result (λ sum. sum.outside ≡ outside_of options.now.frames dumper.now.times) }
+    ensures { spec.IsFound options.now.frames dumper.now result }
 {
     match dumper.ended {
         Some(why) => Err(ExplainFault::Refused {
