@@ -7,13 +7,14 @@ use Rattle.gp_explain.specs.declared.fault.ExplainFault.{ExplainFault}
 use Rattle.gp_explain.specs.declared.fault.ExplainFault.TheVariants.{Refused, Lines}
 use Rattle.gp_explain.specs.Telling.{Manner}
 use Rattle.gp_stream.specs.Source.{SourceState}
+use Rattle.gp_tell.specs.Teller.{TellerState}
 use Rattle.gp_tell.specs.declared.fault.TellFault.{TellFault}
 use Rattle.gp_tell.specs.declared.fault.TellFault.TheVariants as tells
 use Rattle.gp_ploam.specs.declared.check.Mask.{Mask}
 use Rattle.gp_summary.specs.declared.form.SummaryForm.{SummaryForm}
 use Rattle.gp_summed.specs.declared.codes.HeardCodes.{HeardCodes}
 use Rattle.gp_with_units.specs.declared.explaining.ToldTrace.{ToldTrace}
-use Rattle.gp_with_units.specs.Behind.{TellsThen, WritesSummary, WritesText}
+use Rattle.gp_with_units.specs.Behind.{TellsThen, WritesSummary, WritesText, stopped_by}
 use Rattle.gp_with_units.specs.Explaining.{ExplainsForSummary, ExplainsWithUnits, SumsTrace, no_memory, not_written, told_with, trace_ended_by}
 
 abbrev pub HasHeard : ToldTrace → Type 0
@@ -30,7 +31,7 @@ with_codes lines (Err memory) = tt
 by_text : (done unwritten told : ToldTrace) (text : List ℕ) (old new : Option (List ℕ)) → HasHeard done → HasHeard unwritten → WritesText done unwritten text old new told
     → HasHeard told
 by_text done unwritten told text old new h k (inl w) = by done told w.1 h
-by_text done unwritten told text old new h k (inr w) = by unwritten told w.2 k
+by_text done unwritten told text old new h k (inr w) = by unwritten told w.3 k
 
 by_summary : (done told : ToldTrace) (summary : Result (Vec ℕ Global) AllocError) (old new : Option (List ℕ)) → HasHeard done
     → WritesSummary done no_memory not_written summary old new told → HasHeard told
@@ -50,14 +51,14 @@ by_fault tells.Write (Ok lines) = tt
 by_fault tells.Write (Err (Refused line why)) = tt
 by_fault tells.Write (Err (Lines fault)) = tt
 
-by_telling : (manner : Manner) (octets : List ℕ) (lines : Result ℕ ExplainFault) (codes : Result HeardCodes AllocError) (summary : Result (Vec ℕ Global) AllocError)
-    (old new : Option (List ℕ)) (told : ToldTrace) → TellsThen manner octets (SumsTrace lines codes summary) (λ fault. trace_ended_by fault lines) old new told → HasHeard told
-by_telling manner octets lines codes summary old new told (inl w) = by_sums lines codes summary w.0 new told w.2
-by_telling manner octets lines codes summary old new told (inr w) = by _ told w.2 (by_fault w.1 lines)
+by_telling : {W : Type 0} (manner : Manner) (teller : TellerState W) (lines : Result ℕ ExplainFault) (codes : Result HeardCodes AllocError) (summary : Result (Vec ℕ Global) AllocError)
+    (old new : Option (List ℕ)) (told : ToldTrace) → TellsThen manner teller (SumsTrace lines codes summary) (λ fault. trace_ended_by fault lines) old new told → HasHeard told
+by_telling manner teller lines codes summary old new told (inl w) = by_sums lines codes summary w.0 new told w.3
+by_telling manner teller lines codes summary old new told (inr w) = by _ told w.1 (by_fault (stopped_by teller.fault) lines)
 
 pub heard_with : {R W : Type 0} (form : SummaryForm) (manner : Manner) (from to : SourceState R) (old new : Option (List ℕ)) (told : ToldTrace)
     → ExplainsWithUnits R W form manner from to old new told → HasHeard told
-heard_with form manner from to old new told e = by_telling manner e.counting.counter.taken e.lines e.codes e.summary old new told e.tells
+heard_with form manner from to old new told e = by_telling manner e.counting.inner e.lines e.codes e.summary old new told e.tells
 
 heard_alone : {R W : Type 0} (form : SummaryForm) (mask : Mask) (from to : SourceState R) (old new : Option (List ℕ)) (told : ToldTrace)
     → ExplainsForSummary R W form mask from to old new told → HasHeard told

@@ -51,7 +51,9 @@ pub record DrivesTold (T W : Type 0) (form : SummaryForm) (told : Manner) (manne
   pub counting : CountingState (TellerState W)
   pub ended : DriveEnded
   pub drives : DrivesSummed form manner script from to counting ended.driven ended.summary
-  pub tells : TellsThen told counting.counter.taken (λ before behind end. (behind ≡ before) × (end ≡ ended))
+  -- the teller took what was counted
+  pub took : counting.inner.taken ≡ counting.counter.taken
+  pub tells : TellsThen told counting.inner (λ before behind end. (behind ≡ before) × (end ≡ ended))
       (λ fault. drive_ended_by fault ended) old new answer
 
 -- what is answered at the end of a drive, with what became of ports and units: where memory was refused for that, so

@@ -64,7 +64,9 @@ pub record ExplainsWithUnits (R W : Type 0) (form : SummaryForm) (manner : Manne
   pub codes : Result HeardCodes AllocError
   pub explains : ExplainsSummed form manner.mask from to counting lines summary
   pub heard : HasCodes manner.mask counting.counter.taken codes
-  pub tells : TellsThen manner counting.counter.taken (SumsTrace lines codes summary)
+  -- the teller took what was counted
+  pub took : counting.inner.taken ≡ counting.counter.taken
+  pub tells : TellsThen manner counting.inner (SumsTrace lines codes summary)
       (λ fault. trace_ended_by fault lines) old new told
 
 -- the lines of a trace were counted and heard, and that alone was told

@@ -51,7 +51,9 @@ pub record PlaysTold (W : Type 0) (form : SummaryForm) (manner : Manner) (script
   pub played : Result (Unit {0}) PlayFault
   pub summary : Result (Vec ℕ Global) AllocError
   pub plays : TellsSummed true form script counting played summary
-  pub tells : TellsThen manner counting.counter.taken (SumsPlay played summary) (λ fault. play_ended_by fault played)
+  -- the teller took what was counted
+  pub took : counting.inner.taken ≡ counting.counter.taken
+  pub tells : TellsThen manner counting.inner (SumsPlay played summary) (λ fault. play_ended_by fault played)
       old new answer
 
 -- a script was played, its trace went through another writer, and its summary alone was written

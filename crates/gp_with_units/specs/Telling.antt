@@ -27,7 +27,7 @@ pub record TellsPlay (W : Type 0) (manner : Manner) (script : ScriptView) (old n
   pub plays : TellsScript true script before after played
   -- what was handed on is what the teller took
   pub held : after.held ≡ Some after.writer.taken
-  pub tells : TellsThen manner after.writer.taken (λ mid behind end. (behind ≡ mid) × (end ≡ played))
+  pub tells : TellsThen manner after.writer (λ mid behind end. (behind ≡ mid) × (end ≡ played))
       (λ fault. play_ended_by fault played) old new answer
 
 -- a script was driven, and what was answered was written so; of its ports and units nothing is told
@@ -40,6 +40,6 @@ pub record TellsDrive (T W : Type 0) (told : Manner) (manner : DriveManner) (scr
   pub drives : DrivesScriptIn manner driven from to before after script
   -- what was handed on is what the teller took
   pub held : after.held ≡ Some after.writer.taken
-  pub tells : TellsThen told after.writer.taken
+  pub tells : TellsThen told after.writer
       (λ mid behind end. (behind ≡ mid) × (end ≡ record { driven = driven; summary = None }))
       (λ fault. drive_ended_by fault (record { driven = driven; summary = None })) old new answer

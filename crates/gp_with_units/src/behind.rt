@@ -1,8 +1,8 @@
 //! A text that is written behind what a writer holds, and what a teller leaves to its writer. It takes no memory.
-ghost use Rattle.std.specs.Prelude.{◌≡◌, ◌⊎◌, ℕ, OnErr, OnOk, take};
+ghost use Rattle.std.specs.Prelude.{◌≡◌, ◌<◌, ℕ, IfErr, None, OnErr, OnOk, length, take};
 ghost use Rattle.std.specs.Io.KnownBytes.{Appends};
 ghost use Rattle.gp_tell.specs.Teller.{HasAll, HasPrefix};
-ghost use Rattle.gp_with_units.specs.Behind.{is_plain};
+ghost use Rattle.gp_with_units.specs.Behind.{is_plain, stopped_by};
 
 use gp_explain::Form;
 use gp_stream::WriteStopped;
@@ -39,22 +39,23 @@ fn write_all<W: Write>(writer: &mut W, text: &[u8]) -> Result<(), WriteStopped>
 /// more is written; a flush that fails counts as a failed write.
 pub(crate) fn write_text<W: Write>(writer: &mut W, text: &[u8]) -> Result<(), WriteStopped>
     ensures all { OnOk result (Appends (W.contents writer.old) (W.contents writer.new) text.now) }
-    ensures part { OnErr result ((count : ℕ)
+    ensures part { OnErr result ((0 < length text.now) × (count : ℕ)
         × Appends (W.contents writer.old) (W.contents writer.new) (take count text.now)) }
 {
-    write_all(writer, text)?;
     if text.is_empty() {
         return Ok(());
     }
+    write_all(writer, text)?;
     writer.flush().map_err(|_| WriteStopped)
 }
 
-/// Has a teller write out all that it told, and gives the writer below.
+/// Has a teller write out all that it told, if it has no fault, and gives the writer below.
 pub(crate) fn written_out<T: Began, W: Write + Drop>(
     teller: Teller<T, W>,
 ) -> (Result<(), TellFault>, W)
-    ensures all { OnOk result.0 (HasAll T.manner teller.taken T.held (W.contents result.1)) }
-    ensures part { OnErr result.0 (HasPrefix T.manner teller.taken T.held (W.contents result.1)) }
+    ensures all { OnOk result.0 ((teller.fault ≡ None) × HasAll T.manner teller.taken T.held (W.contents result.1)) }
+    ensures part { IfErr result.0 (λ fault. (fault ≡ stopped_by teller.fault)
+        × HasPrefix T.manner teller.taken T.held (W.contents result.1)) }
 {
     let mut teller = teller;
     let told = teller.finish();

@@ -64,7 +64,7 @@ pub(crate) fn end_told<S: TellingBegan, W: Write + Drop>(
     ended: DriveEnded,
     teller: Teller<S, W>,
 ) -> DriveWritten<W>
-    ensures { TellsThen S.manner teller.taken (λ before behind end. (behind ≡ before) × (end ≡ ended))
+    ensures { TellsThen S.manner teller (λ before behind end. (behind ≡ before) × (end ≡ ended))
         (λ fault. drive_ended_by fault ended) S.held (W.contents result.writer) result.ended }
 {
     let (told, writer) = written_out(teller);

@@ -106,7 +106,7 @@ fn end_told<T: TellingBegan, W: Write + Drop>(
     summary: Result<Vec<u8>, AllocError>,
     teller: Teller<T, W>,
 ) -> TraceWritten<W>
-    ensures { TellsThen T.manner teller.taken (SumsTrace lines codes summary)
+    ensures { TellsThen T.manner teller (SumsTrace lines codes summary)
         (λ fault. trace_ended_by fault lines) T.held (W.contents result.writer) result.told }
 {
     let (told, writer) = written_out(teller);
@@ -228,7 +228,8 @@ fn explain_unwritten<B: Began, S: Read, T: Write + Drop, W: Write>(
 }
 
 /// Counts the lines of a trace, up to the first that is none of a trace, and writes what was counted of them alone, in
-/// the form that goes with traces in this one. Where memory is refused before anything is read, nothing is written.
+/// the form that goes with traces in this one. Where memory is refused, `OutOfMemory` is answered: before anything is
+/// read, or for what was counted, and then nothing is written. Where a write fails, `Write` is, and a prefix is written.
 pub fn explain_for_summary<S: Read, W: Write>(
     alloc: Global,
     mask: Mask,

@@ -3,8 +3,8 @@
 //!
 //! Promise: what is written is what is written without it, told as is wanted, and then the lines that tell of ports and
 //! units; after a failed write a prefix of that, and the answer says so (`play_with_units`, `explain_with_units`,
-//! `drive_with_units`, `verify_with_units`; `play_for_summary`, `explain_for_summary`). `tell_play` and `tell_drive`
-//! promise it with nothing behind.
+//! `verify_with_units`; `play_for_summary`, `explain_for_summary`). Of a drive these lines are answered, and not written
+//! (`drive_with_units`). `tell_play` and `tell_drive` promise it with nothing behind.
 //!
 //! - `playing.rt`: a script that is played. `explaining.rt`: a trace that is told again; `ToldTrace`, what is found of
 //!   it. `driving.rt`: a script that is driven. `verifying.rt`: a trace that is verified. `telling.rt`: a script that is

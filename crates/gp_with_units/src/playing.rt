@@ -54,7 +54,7 @@ pub(crate) fn ended_by(fault: TellFault, played: Result<(), PlayFault>) -> Resul
 
 /// Has a teller write out what it told of a play, and writes its summary behind that.
 fn end_told<T: TellingBegan, W: Write + Drop>(ended: Ended, teller: Teller<T, W>) -> PlayWritten<W>
-    ensures { TellsThen T.manner teller.taken (SumsPlay ended.played ended.summary)
+    ensures { TellsThen T.manner teller (SumsPlay ended.played ended.summary)
         (λ fault. play_ended_by fault ended.played) T.held (W.contents result.writer) result.played }
 {
     let (told, writer) = written_out(teller);
@@ -142,7 +142,8 @@ fn play_told<T: TellingBegan, W: Write + Drop>(
 /// the light that comes and goes at simulated units.
 ///
 /// Memory is taken as `gp_summary::play_summed` takes it, and for what is told of a line. Where that is refused at the
-/// beginning, an error is answered, and nothing was played and nothing written.
+/// beginning, an error is answered, and nothing was played and nothing written. `played` says what stopped it later: a
+/// failed write, or memory that was refused; a prefix is written then.
 pub fn play_with_units<W: Write + Drop>(
     alloc: Global,
     script: Script,
@@ -186,7 +187,9 @@ fn play_unwritten<B: Began, T: Write + Drop, W: Write>(
 }
 
 /// Plays a script, whose trace goes through a writer, and writes its summary alone to another, in the form that goes
-/// with traces in this one. Where memory is refused before anything is played, nothing is written.
+/// with traces in this one. Where memory is refused, `OutOfMemory` is answered, and nothing is written. Where a write
+/// of the summary fails, `Write` is, and a prefix of it is written; so is `Write` where one of the trace's does, and then
+/// nothing of the summary is.
 pub fn play_for_summary<T: Write + Drop, W: Write>(
     alloc: Global,
     script: Script,

@@ -26,7 +26,7 @@ fn end_play<B: Began, W: Write + Drop>(
     played: Result<(), PlayFault>,
     teller: Teller<B, W>,
 ) -> PlayWritten<W>
-    ensures { TellsThen B.manner teller.taken (λ before behind end. (behind ≡ before) × (end ≡ played))
+    ensures { TellsThen B.manner teller (λ before behind end. (behind ≡ before) × (end ≡ played))
         (λ fault. play_ended_by fault played) B.held (W.contents result.writer) result.played }
 {
     let (told, writer) = written_out(teller);

@@ -31,6 +31,9 @@ fn write_units<W: Write>(
 
 /// Tells whether a text is the trace of some run on the chassis that a script opens, as `gp_verify::verify_told` does,
 /// and writes behind that what became of each port and unit, where the script and the trace were read.
+///
+/// What is answered is what that found, unless what became of ports and units could not be written, or memory for it
+/// was refused: then `Write` or `OutOfMemory`, as of a line that could not be answered.
 pub fn verify_with_units<R: Read, T: Read, W: Write>(
     alloc: Global,
     form: Form,
