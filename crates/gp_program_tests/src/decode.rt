@@ -152,26 +152,28 @@ fn faults_in_their_order(rt: HostRuntime) -> Result<(), AllocError> {
     Ok(())
 }
 
+/// What is told of a directed message to all.
+const POPUP: &[u8] = b"POPUP 255\n";
+
 /// Tells whether a slice with so much room has the first bytes of a line, and where it has too little that is told: it
 /// takes as many bytes as it has room for, and then none.
 fn is_cut_at(alloc: Global, room: usize) -> Result<bool, AllocError> {
-    let line = b"POPUP 255\n";
     let mut taken = vec![in alloc; 0; room]?;
     let mut sink = Sink::new(alloc, &mut taken[..])?;
     let text = "ff0c00000000000000000000c3";
     let outcome = decode_line(alloc, text, DOWN, Mask::Plain, &mut sink);
     drop(sink);
-    let wanted = if room < line.len() {
+    let wanted = if room < POPUP.len() {
         Err(DecodeFault::Write)
     } else {
         Ok(())
     };
-    Ok(outcome == wanted && line.starts_with(&taken))
+    Ok(outcome == wanted && POPUP.starts_with(&taken))
 }
 
 #[test]
 fn a_writer_that_stops(rt: HostRuntime) {
-    for room in 0..=10 {
+    for room in 0..=POPUP.len() {
         assert!(rt; is_cut_at(rt.alloc(), room) == Ok(true), "{room}");
     }
 }

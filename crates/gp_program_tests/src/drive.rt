@@ -77,22 +77,25 @@ error 2 never
 error 4 range
 ";
 
-/// What is done beside the answers: nothing, each line is told to be done, and light is told.
+/// Nothing is done beside the answers.
 const PLAIN: DriveManner = DriveManner {
     done: false,
     lights: false,
 };
 
+/// Each line is told to be done.
 const DONE: DriveManner = DriveManner {
     done: true,
     lights: false,
 };
 
+/// Light that comes and goes is told.
 const LIGHTS: DriveManner = DriveManner {
     done: false,
     lights: true,
 };
 
+/// Both are.
 const ALL: DriveManner = DriveManner {
     done: true,
     lights: true,

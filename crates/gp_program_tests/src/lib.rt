@@ -21,7 +21,7 @@
 //! - `verify.rt`: traces that are told to be runs, and the first line of each that is not; `verify/objects.rt` reads
 //!   what is told as JSON, `verify/words.rt` has it in words.
 //! - `report.rt`: fault texts and statuses.
-//! - `streams.rt`, `json.rt`, `samples.rt`: readers and writers that fail, fields of JSON objects, and what is printed,
+//! - `streams.rt`, `json.rt`, `printed.rt`: readers and writers that fail, fields of JSON objects, and what is printed,
 //!   for several of these.
 #![tactic(auto)]
 
@@ -44,11 +44,11 @@ mod lines;
 #[cfg(test)]
 mod log;
 #[cfg(test)]
+mod printed;
+#[cfg(test)]
 mod replay;
 #[cfg(test)]
 mod report;
-#[cfg(test)]
-mod samples;
 #[cfg(test)]
 mod script;
 #[cfg(test)]

@@ -1,5 +1,5 @@
 //! Lines that tell events and lines that ask for something: what each says, and its first fault.
-use crate::samples::is_printed;
+use crate::printed::is_printed;
 use gp_lines::{Asked, LONGEST_LINE, LineFault, parse_event, parse_turn, picked, split_line};
 use gp_machine::{Command, Event};
 use gp_ploam::{Mask, Serial};

@@ -1,5 +1,5 @@
 //! Lines of a log and of a trace: what each says, and its first fault; and lines of a log that are written.
-use crate::samples::is_printed;
+use crate::printed::is_printed;
 use gp_lines::LONGEST_LINE;
 use gp_log::{LAST_FRAME, LogFault, LogLine, Said, push_entry, read_line};
 use gp_ranging::Grant;

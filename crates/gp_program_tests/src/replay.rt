@@ -1,5 +1,5 @@
 //! Replays of scripts: what is written, and how each ends where the script, memory, a read or a write fails.
-use crate::samples::is_printed;
+use crate::printed::is_printed;
 use crate::streams::FailingReader;
 use gp_replay::{PlayFault, RunFault, play_script, play_with_lights, run_replay};
 use gp_script::{ScriptFault, read_script};

@@ -2,7 +2,7 @@
 mod faults;
 mod ranges;
 
-use crate::samples::is_printed;
+use crate::printed::is_printed;
 use gp_machine::{Command, PortConfig};
 use gp_ploam::{Mask, Serial};
 use gp_script::{

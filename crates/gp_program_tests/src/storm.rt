@@ -12,7 +12,7 @@ use std::io::Read;
 use std::sync::Wait;
 use std::thread::Threads;
 
-/// One unit is found and ranged: a command, three frames' worth of windows and two bursts.
+/// The totals of a run in which one unit is found and ranged.
 const ONE_UNIT_TOTALS: &str = "frames 13\nbursts 2\ncommands 1\nentries 16\nlicences 1\n";
 
 /// A port that has its frames, bursts and commands beside another's.

@@ -1,5 +1,5 @@
 //! Sources and sinks over readers and writers that are slow or fail.
-use crate::samples::is_printed;
+use crate::printed::is_printed;
 use crate::streams::ShortWriter;
 use gp_stream::{Sink, Source, SourceFault, WriteStopped, read_all};
 use std::alloc::{AllocError, Global};

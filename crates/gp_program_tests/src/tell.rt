@@ -311,10 +311,12 @@ fn long_lines(rt: HostRuntime) -> Result<(), AllocError> {
     Ok(())
 }
 
+/// What is told of two lines.
+const TOLD: &[u8] = b"0 7 frame = ok sent [Assign_ONU-ID 0 ABCD00000001]\n0 8 frame = ok\n";
+
 /// Tells whether a writer below with so much room has a prefix of what is told, and where it fails that is told.
 fn is_cut_at(alloc: Global, room: usize) -> Result<bool, AllocError> {
     let trace = b"0 7 frame = ok sent ff03004142434400000001001b\n0 8 frame = ok\n";
-    let words = b"0 7 frame = ok sent [Assign_ONU-ID 0 ABCD00000001]\n0 8 frame = ok\n";
     let telling = Telling::new(alloc, Mask::Plain, Form::Words, false);
     let writer = ShortWriter {
         taken: Vec::new(alloc),
@@ -323,16 +325,16 @@ fn is_cut_at(alloc: Global, room: usize) -> Result<bool, AllocError> {
     };
     let (ended, writer) = told_by::<Brand, ShortWriter>(alloc, telling, trace, 9, writer)?;
     Ok(
-        ended.is_err() == (room < words.len())
-            && words.starts_with(&writer.taken)
-            && writer.taken.len() == room.min(words.len()),
+        ended.is_err() == (room < TOLD.len())
+            && TOLD.starts_with(&writer.taken)
+            && writer.taken.len() == room.min(TOLD.len()),
     )
 }
 
 /// A writer below that fails has a prefix of what is told, and the fault stays.
 #[test]
 fn a_write_below_fails(rt: HostRuntime) -> Result<(), AllocError> {
-    for room in 0..68 {
+    for room in 0..=TOLD.len() {
         assert!(rt; is_cut_at(rt.alloc(), room)?, "{room}");
     }
     Ok(())

@@ -116,7 +116,7 @@ fn objects_of_scripts(rt: HostRuntime) -> Result<(), AllocError> {
     Ok(())
 }
 
-/// The line and the column of what is no TOML, and that something is said of it.
+/// The line of what is no TOML, and that a column follows.
 #[test]
 fn objects_of_no_toml(rt: HostRuntime) -> Result<(), AllocError> {
     let object = object_of(rt.alloc(), Purpose::Replay, "s", b"licences = 1\nport\n")?;

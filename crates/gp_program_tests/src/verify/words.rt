@@ -119,22 +119,24 @@ fn told_to(alloc: Global, room: usize) -> Result<Found, AllocError> {
     Ok((outcome, sink.into_inner().taken))
 }
 
+/// What is told of a run of six lines where seven are wanted.
+const TOO_FEW: &[u8] = b"{\"run\":false,\"kind\":\"too few lines\",\"lines\":6,\"wanted\":7}\n";
+
 /// Tells whether an output with so much room has a prefix of what is told, and where that is not all it is answered.
 fn is_cut_at(found: &Found, room: usize) -> bool {
-    let wanted = b"{\"run\":false,\"kind\":\"too few lines\",\"lines\":6,\"wanted\":7}\n";
     let stopped = LinesFault::Line(Unanswered::Write);
-    let outcome = if room < wanted.len() {
+    let outcome = if room < TOO_FEW.len() {
         Err(CheckFault::Trace(VerifyFault::Lines(stopped)))
     } else {
         Ok(6)
     };
-    found.0 == outcome && wanted.get(..room) == Some(found.1.as_slice())
+    found.0 == outcome && TOO_FEW.get(..room) == Some(found.1.as_slice())
 }
 
 /// Where the output takes no more that is answered, and it has a prefix of what is told.
 #[test]
 fn an_end_that_is_not_written(rt: HostRuntime) -> Result<(), AllocError> {
-    for room in 0..59 {
+    for room in 0..=TOO_FEW.len() {
         let found = told_to(rt.alloc(), room)?;
         assert!(rt; is_cut_at(&found, room), "{room}");
     }
