@@ -13,9 +13,9 @@ def end(why):
 
 
 def helped(doc):
-    """Prints what a tool says of itself, and ends, where its help is asked for. Else gives the words behind its name."""
+    """Prints what a tool says of itself, and ends, where its first word asks for it. Else gives the words behind its name."""
     words = sys.argv[1:]
-    if {"-h", "--help"} & {*words}:
+    if words[:1] in (["-h"], ["--help"]):
         print(doc.strip())
         sys.exit(0)
     return words
