@@ -90,56 +90,71 @@ const INPUTS: [Row; 6] = [
 ];
 
 /// How lines of words are answered, and what is written.
-fn encoded(
-    alloc: Global,
-    input: &[u8],
-    upstream: bool,
-    mask: Mask,
-) -> Result<(Result<Option<WordsFaultAt>, LinesFault>, Vec<u8>), AllocError> {
+type Lines = (Result<Option<WordsFaultAt>, LinesFault>, Vec<u8>);
+
+/// How lines of words are answered.
+fn encoded(alloc: Global, input: &[u8], upstream: bool, mask: Mask) -> Result<Lines, AllocError> {
     let mut source = Source::endless(input);
     let mut sink = Sink::new(alloc, Vec::new(alloc))?;
     let outcome = encode_objects(alloc, &mut source, &mut sink, upstream, mask);
     Ok((outcome, sink.into_inner()))
 }
 
-#[test]
-fn lines(rt: HostRuntime) -> Result<(), AllocError> {
-    for (input, upstream, mask, objects, first) in INPUTS {
-        let (outcome, said) = encoded(rt.alloc(), input, upstream, mask)?;
-        let first = first.map(|(line, fault)| WordsFaultAt { line, fault });
-        assert_eq!(rt; outcome, Ok(first));
-        assert!(rt; are_lines(rt.alloc(), said.as_slice(), objects)?);
-    }
-    Ok(())
+/// Tells whether lines have these objects, and this first fault.
+fn is_answered(
+    alloc: Global,
+    input: &[u8],
+    upstream: bool,
+    mask: Mask,
+    objects: &[&'static [Plain]],
+    first: Fault,
+) -> Result<bool, AllocError> {
+    let (outcome, said) = encoded(alloc, input, upstream, mask)?;
+    let first = first.map(|(line, fault)| WordsFaultAt { line, fault });
+    Ok(outcome == Ok(first) && are_lines(alloc, &said, objects)?)
 }
+
+/// Tells whether that is so of a row.
+fn is_row(alloc: Global, row: &Row) -> Result<bool, AllocError> {
+    let (input, upstream, mask, objects, first) = *row;
+    is_answered(alloc, input, upstream, mask, objects, first)
+}
+
+#[test]
+fn lines(rt: HostRuntime) {
+    for place in 0..INPUTS.len() {
+        let right = is_row(rt.alloc(), &INPUTS[place]);
+        assert!(rt; right == Ok(true), "{place}");
+    }
+}
+
+/// Tells whether a remark has these objects, and this first fault.
+fn is_remark(
+    alloc: Global,
+    remark: &[u8],
+    objects: &[&'static [Plain]],
+    first: Fault,
+) -> Result<bool, AllocError> {
+    is_answered(alloc, remark, false, Mask::Plain, objects, first)
+}
+
+/// What is said to a line that is too long.
+const LONG: [&'static [Plain]; 1] = [&[Plain::Number("line", 1), Plain::Text("error", "long")]];
 
 /// A line of 4,096 octets is looked at, and a longer one isn't, though it be a remark.
 #[test]
-fn long_lines(rt: HostRuntime) -> Result<(), AllocError> {
-    let long: &'static [Plain] = &[Plain::Number("line", 1), Plain::Text("error", "long")];
-    for (count, is_long) in [(4095, false), (4096, true)] {
-        let mut input = Vec::from_slice(rt.alloc(), b"#")?;
-        for _ in 0..count {
-            input.push(b' ')?;
-        }
-        let (outcome, said) = encoded(rt.alloc(), &input, false, Mask::Plain)?;
-        let first = WordsFaultAt {
-            line: 1,
-            fault: WordsFault::Part(LineFault::Long),
-        };
-        if is_long {
-            assert_eq!(rt; outcome, Ok(Some(first)));
-            assert!(rt; are_lines(rt.alloc(), said.as_slice(), [long].as_slice())?);
-        } else {
-            assert_eq!(rt; outcome, Ok(None));
-            assert!(rt; said.is_empty());
-        }
-    }
-    Ok(())
+fn long_lines(rt: HostRuntime) {
+    let mut line = [b' '; 4_097];
+    line[0] = b'#';
+    let first = Some((1, WordsFault::Part(LineFault::Long)));
+    assert!(rt; is_remark(rt.alloc(), &line[..4_096], &[], None) == Ok(true));
+    assert!(rt; is_remark(rt.alloc(), &line, &LONG, first) == Ok(true));
 }
 
-/// Words of one message, the fault of each, and its object.
-const ALONE: [(&'static [u8], Option<WordsFault>, &'static [Plain]); 3] = [
+/// Words of one message, their fault, and the object of that.
+type Words = (&'static [u8], Option<WordsFault>, &'static [Plain]);
+
+const ALONE: [Words; 3] = [
     (b"POPUP 255", None, &[LINE, POPUP]),
     (
         b"POPUP 256",
@@ -155,31 +170,47 @@ const ALONE: [(&'static [u8], Option<WordsFault>, &'static [Plain]); 3] = [
 
 const LINE: Plain = Plain::Number("line", 1);
 
-#[test]
-fn alone(rt: HostRuntime) -> Result<(), AllocError> {
-    for (words, fault, fields) in ALONE {
-        let mut sink = Sink::new(rt.alloc(), Vec::new(rt.alloc()))?;
-        let outcome = encode_object(rt.alloc(), words, false, Mask::Plain, &mut sink);
-        let said = sink.into_inner();
-        assert_eq!(rt; outcome, Ok(fault));
-        assert!(rt; are_lines(rt.alloc(), said.as_slice(), [fields].as_slice())?);
-    }
-    Ok(())
+/// How words are answered alone, and what is written.
+fn encoded_alone(
+    alloc: Global,
+    words: &[u8],
+) -> Result<(Result<Option<WordsFault>, Unanswered>, Vec<u8>), AllocError> {
+    let mut sink = Sink::new(alloc, Vec::new(alloc))?;
+    let outcome = encode_object(alloc, words, false, Mask::Plain, &mut sink);
+    Ok((outcome, sink.into_inner()))
 }
+
+/// Tells whether words alone have this fault and this object.
+fn is_alone(alloc: Global, row: &Words) -> Result<bool, AllocError> {
+    let (words, fault, fields) = *row;
+    let (outcome, said) = encoded_alone(alloc, words)?;
+    Ok(outcome == Ok(fault) && are_lines(alloc, &said, [fields].as_slice())?)
+}
+
+#[test]
+fn alone(rt: HostRuntime) {
+    for place in 0..ALONE.len() {
+        let right = is_alone(rt.alloc(), &ALONE[place]);
+        assert!(rt; right == Ok(true), "{place}");
+    }
+}
+
+/// Tells whether a slice with so much room has the first octets of an object.
+fn is_cut_at(alloc: Global, room: usize) -> Result<bool, AllocError> {
+    let mut taken = vec![in alloc; 0; room]?;
+    let mut sink = Sink::new(alloc, &mut taken[..])?;
+    let outcome = encode_object(alloc, b"POPUP 256", false, Mask::Plain, &mut sink);
+    drop(sink);
+    Ok(outcome == Err(Unanswered::Write) && WRITTEN.starts_with(&taken))
+}
+
+/// What is written of a number that is out of its range.
+const WRITTEN: &[u8] = b"{\"line\":1,\"error\":\"range\"}\n";
 
 /// A slice takes as many octets as it has room for, and then none.
 #[test]
-fn a_writer_that_stops(rt: HostRuntime) -> Result<(), AllocError> {
-    let wanted = *b"{\"line\":1,\"error\":\"range\"}\n";
-    for room in 0..wanted.len() {
-        let mut taken = [0; 27];
-        let mut sink = Sink::new(rt.alloc(), &mut taken[..room])?;
-        let outcome = encode_object(rt.alloc(), b"POPUP 256", false, Mask::Plain, &mut sink);
-        drop(sink);
-        assert_eq!(rt;
-            (outcome, &taken[..room]),
-            (Err(Unanswered::Write), &wanted[..room])
-        );
+fn a_writer_that_stops(rt: HostRuntime) {
+    for room in 0..WRITTEN.len() {
+        assert!(rt; is_cut_at(rt.alloc(), room) == Ok(true), "{room}");
     }
-    Ok(())
 }

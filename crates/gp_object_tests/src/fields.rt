@@ -80,22 +80,52 @@ pub(crate) fn is_split_object(value: &Value, front: &[Plain], fields: &[Plain]) 
         && fields.iter().all(|field| has_plain(value, *field))
 }
 
+/// The text of octets that are whole lines.
+fn whole_lines(octets: &[u8]) -> Option<&str> {
+    let text = str::from_utf8(octets).ok()?;
+    (text.is_empty() || text.ends_with('\n')).then_some(text)
+}
+
+/// Reads a line as JSON. Tells whether it is that.
+fn push_line(values: &mut Vec<Value>, alloc: Global, line: &str) -> Result<bool, AllocError> {
+    match Value::from_str(alloc, line) {
+        Ok(value) => {
+            values.push(value)?;
+            Ok(true)
+        }
+        Err(_) => Ok(false),
+    }
+}
+
+/// Reads each line of a text as JSON. Tells whether all are that.
+fn push_lines(values: &mut Vec<Value>, alloc: Global, text: &str) -> Result<bool, AllocError> {
+    for line in text.lines() {
+        if !push_line(values, alloc, line)? {
+            return Ok(false);
+        }
+    }
+    Ok(true)
+}
+
 /// Reads each line of a text as JSON. None where one is none, or the last has no line feed.
-pub(crate) fn read_lines(alloc: Global, text: &[u8]) -> Result<Option<Vec<Value>>, AllocError> {
-    let mut values = Vec::new(alloc);
-    let Ok(text) = str::from_utf8(text) else {
+pub(crate) fn read_lines(alloc: Global, octets: &[u8]) -> Result<Option<Vec<Value>>, AllocError> {
+    let Some(text) = whole_lines(octets) else {
         return Ok(None);
     };
-    if !text.is_empty() && !text.ends_with('\n') {
-        return Ok(None);
+    let mut values = Vec::new(alloc);
+    match push_lines(&mut values, alloc, text)? {
+        true => Ok(Some(values)),
+        false => Ok(None),
     }
-    for line in text.lines() {
-        let Ok(value) = Value::from_str(alloc, line) else {
-            return Ok(None);
-        };
-        values.push(value)?;
-    }
-    Ok(Some(values))
+}
+
+/// Tells whether values are objects with these fields each, and no others.
+fn are_objects(values: &[Value], wanted: &[&'static [Plain]]) -> bool {
+    values.len() == wanted.len()
+        && values
+            .iter()
+            .zip(wanted.iter())
+            .all(|(value, fields)| is_plain_object(value, *fields))
 }
 
 /// Tells whether the lines of a text are objects with these fields each, and no others.
@@ -104,14 +134,8 @@ pub(crate) fn are_lines(
     text: &[u8],
     wanted: &[&'static [Plain]],
 ) -> Result<bool, AllocError> {
-    let Some(values) = read_lines(alloc, text)? else {
-        return Ok(false);
-    };
-    Ok(
-        values.len() == wanted.len()
-            && values
-                .iter()
-                .zip(wanted.iter())
-                .all(|(value, fields)| is_plain_object(value, *fields)),
-    )
+    match read_lines(alloc, text)? {
+        Some(values) => Ok(are_objects(&values, wanted)),
+        None => Ok(false),
+    }
 }

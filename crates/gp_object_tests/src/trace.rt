@@ -40,17 +40,42 @@ fn line_of(alloc: Global, event: Event, answer: Answer) -> Result<Vec<u8>, Alloc
     Ok(line)
 }
 
-/// What is told of a line as an object; None where that is no JSON, or not one line.
-fn object_of(alloc: Global, line: &[u8]) -> Result<Option<Value>, AllocError> {
+/// Tells whether an entry has this line.
+fn is_line(alloc: Global, event: Event, answer: Answer, text: &str) -> Result<bool, AllocError>
+    requires { ForSome answer.sent IsProperDown }
+{
+    let line = line_of(alloc, event, answer)?;
+    Ok(line.as_slice() == text.as_bytes())
+}
+
+/// What is told of a line as an object.
+fn object_of(alloc: Global, line: &[u8]) -> Result<Vec<u8>, AllocError> {
     let mut out = Vec::new(alloc);
     write_object(alloc, Mask::Plain, None, line, &mut out)?;
-    let Ok(text) = str::from_utf8(out.as_slice()) else {
-        return Ok(None);
-    };
+    Ok(out)
+}
+
+/// Reads an object; None where that is no JSON, or not one line.
+fn read(alloc: Global, octets: &[u8]) -> Option<Value> {
+    let text = str::from_utf8(octets).ok()?;
     if !text.ends_with('\n') {
-        return Ok(None);
+        return None;
     }
-    Ok(Value::from_str(alloc, text).ok())
+    Value::from_str(alloc, text).ok()
+}
+
+/// Tells whether a text is an object with the two fields in front and these.
+fn has_fields(alloc: Global, octets: &[u8], fields: &[Field]) -> bool {
+    match read(alloc, octets) {
+        Some(object) => is_object(&object, FRONT.as_slice(), fields),
+        None => false,
+    }
+}
+
+/// Tells whether a line is told by the two fields in front and these.
+fn is_told_by(alloc: Global, line: &str, fields: &[Field]) -> Result<bool, AllocError> {
+    let object = object_of(alloc, line.as_bytes())?;
+    Ok(has_fields(alloc, &object, fields))
 }
 
 /// Tells whether an entry has this line, and is told by the two fields in front and these.
@@ -63,10 +88,8 @@ fn is_told(
 ) -> Result<bool, AllocError>
     requires { ForSome answer.sent IsProperDown }
 {
-    let line = line_of(alloc, event, answer)?;
-    if line.as_slice() != text.as_bytes() {
+    if !is_line(alloc, event, answer, text)? {
         return Ok(false);
     }
-    let object = object_of(alloc, line.as_slice())?.unwrap_or(Value::Null);
-    Ok(is_object(&object, FRONT.as_slice(), fields))
+    is_told_by(alloc, text, fields)
 }

@@ -1,8 +1,7 @@
 //! Where two texts differ, and what is shown of that.
-use gp_compare::{Difference, LineEnd, MAX_SHOWN, ShownLine, compare_text};
+use gp_compare::{CompareFault, Difference, LineEnd, MAX_SHOWN, ShownLine, compare_text};
 use gp_stream::Source;
 use std::alloc::{AllocError, Global};
-use std::test::Fail;
 
 /// What is behind a line: `$` a line feed, `!` the end of the text, `+` more of the line.
 fn mark(end: LineEnd) -> &'static str {
@@ -19,18 +18,32 @@ fn push_line(told: &mut String, line: &ShownLine) -> Result<(), AllocError> {
     told.push_str(mark(line.end))
 }
 
-/// Gives a difference as `LINE:OCTET EXPECTED|GOT`; `same` where there is none.
-fn told(alloc: Global, difference: Option<Difference>) -> Result<String, AllocError> {
-    let Some(difference) = difference else {
-        return String::from_str(alloc, "same");
-    };
+/// Gives a difference as `LINE:OCTET EXPECTED|GOT`.
+fn push_difference(told: &mut String, difference: &Difference) -> Result<(), AllocError> {
     let line = difference.line;
     let octet = difference.octet;
-    let mut told = format!(in alloc; "{line}:{octet} ")?;
-    push_line(&mut told, &difference.expected)?;
+    write!(told, "{line}:{octet} ")?;
+    push_line(told, &difference.expected)?;
     told.push_str("|")?;
-    push_line(&mut told, &difference.got)?;
+    push_line(told, &difference.got)
+}
+
+/// Gives it so; `same` where there is none.
+fn told(alloc: Global, difference: &Option<Difference>) -> Result<String, AllocError> {
+    let mut told = String::new(alloc);
+    match difference {
+        Some(difference) => push_difference(&mut told, difference)?,
+        None => told.push_str("same")?,
+    }
     Ok(told)
+}
+
+/// Tells whether this is told of a difference.
+fn is_told(alloc: Global, difference: &Option<Difference>, wanted: &str) -> bool {
+    match told(alloc, difference) {
+        Ok(told) => told.as_str() == wanted,
+        Err(_) => false,
+    }
 }
 
 /// What is expected, what comes, and what is told of the two.
@@ -57,19 +70,22 @@ const CASES: [Case; 17] = [
     Case("x\ny\nz\n", "x\ny\nz\nz\n", "4:1 !|z$"),
 ];
 
+/// Tells whether a case is told so.
+fn is_case(alloc: Global, case: &Case) -> Result<bool, CompareFault> {
+    let Case(expected, came, wanted) = *case;
+    let difference = compare_text(alloc, came.as_bytes(), Source::new(expected.as_bytes()))?;
+    Ok(is_told(alloc, &difference, wanted))
+}
+
 #[test]
-fn the_first_line_that_differs_is_told(rt: HostRuntime) -> Result<(), Fail> {
-    let alloc = rt.alloc();
+fn the_first_line_that_differs_is_told(rt: HostRuntime) {
     for case in &CASES {
-        let Case(expected, came, wanted) = *case;
-        let difference = compare_text(alloc, came.as_bytes(), Source::new(expected.as_bytes()))?;
-        assert_eq!(rt;
-            told(alloc, difference)?.as_str(),
-            wanted,
+        let Case(expected, came, _) = *case;
+        assert!(rt;
+            is_case(rt.alloc(), case) == Ok(true),
             "{expected:?} {came:?}"
         );
     }
-    Ok(())
 }
 
 /// Gives a line of so many octets, and a line feed.
@@ -79,40 +95,78 @@ fn long_line(alloc: Global, octets: usize) -> Result<Vec<u8>, AllocError> {
     Ok(line)
 }
 
-#[test]
-fn as_much_of_a_line_is_shown_as_there_is_room_for(rt: HostRuntime) -> Result<(), Fail> {
-    let alloc = rt.alloc();
-    for (more, wanted) in [
-        (0, LineEnd::Feed),
-        (1, LineEnd::More),
-        (70_000, LineEnd::More),
-    ] {
-        let expected = long_line(alloc, MAX_SHOWN + more)?;
-        let came = b"xxx\n";
-        let difference = compare_text(alloc, came, Source::new(expected.as_slice()))?;
-        let difference = difference.ok_or("no difference")?;
-        assert_eq!(rt; difference.octet, 4);
-        assert_eq!(rt; difference.expected.octets.len(), MAX_SHOWN);
-        assert_eq!(rt; difference.expected.end, wanted);
-        assert_eq!(rt; difference.got.octets.as_slice(), b"xxx".as_slice());
+/// Where a text differs from a line of so many octets.
+fn differs(alloc: Global, octets: usize, came: &[u8]) -> Result<Option<Difference>, CompareFault> {
+    let expected = long_line(alloc, octets)?;
+    compare_text(alloc, came, Source::new(expected.as_slice()))
+}
+
+/// Tells whether a line is shown as far as there is room, with this behind it, beside `xxx`.
+fn is_shown(difference: &Option<Difference>, end: LineEnd) -> bool {
+    match difference {
+        Some(difference) => {
+            difference.octet == 4
+                && difference.expected.octets.len() == MAX_SHOWN
+                && difference.expected.end == end
+                && difference.got.octets.as_slice() == b"xxx".as_slice()
+        }
+        None => false,
     }
-    Ok(())
+}
+
+/// Tells whether that is so of a line of so many octets.
+fn is_line_shown(alloc: Global, octets: usize, end: LineEnd) -> Result<bool, CompareFault> {
+    let difference = differs(alloc, octets, b"xxx\n")?;
+    Ok(is_shown(&difference, end))
 }
 
 #[test]
-fn an_octet_far_behind_in_a_line_is_told_by_its_place(rt: HostRuntime) -> Result<(), Fail> {
-    let alloc = rt.alloc();
-    let mut expected = long_line(alloc, 200_000)?;
-    let came = long_line(alloc, 200_000)?;
-    if let Some(octet) = expected.get_mut(150_000) {
+fn as_much_of_a_line_is_shown_as_there_is_room_for(rt: HostRuntime) {
+    for (octets, end) in [
+        (MAX_SHOWN, LineEnd::Feed),
+        (MAX_SHOWN + 1, LineEnd::More),
+        (MAX_SHOWN + 70_000, LineEnd::More),
+    ] {
+        let shown = is_line_shown(rt.alloc(), octets, end);
+        assert!(rt; shown == Ok(true), "{octets}");
+    }
+}
+
+/// Gives a line whose octet at a place is another.
+fn altered_line(alloc: Global, octets: usize, place: usize) -> Result<Vec<u8>, AllocError> {
+    let mut line = long_line(alloc, octets)?;
+    if let Some(octet) = line.get_mut(place) {
         *octet = b'y';
     }
-    let difference = compare_text(alloc, came.as_slice(), Source::new(expected.as_slice()))?;
-    let difference = difference.ok_or("no difference")?;
-    assert_eq!(rt; difference.line, 1);
-    assert_eq!(rt; difference.octet, 150_001);
-    assert_eq!(rt; difference.expected.octets.len(), MAX_SHOWN);
-    assert_eq!(rt; difference.expected.end, LineEnd::More);
-    assert_eq!(rt; difference.got.end, LineEnd::More);
-    Ok(())
+    Ok(line)
+}
+
+/// Where two long lines differ that differ in one octet.
+fn differs_far_behind(alloc: Global) -> Result<Option<Difference>, CompareFault> {
+    let came = altered_line(alloc, 200_000, 150_000)?;
+    differs(alloc, 200_000, &came)
+}
+
+/// Tells whether that octet is told, and more of both lines.
+fn is_far(difference: &Option<Difference>) -> bool {
+    match difference {
+        Some(difference) => {
+            (difference.line, difference.octet) == (1, 150_001)
+                && difference.expected.octets.len() == MAX_SHOWN
+                && difference.expected.end == LineEnd::More
+                && difference.got.end == LineEnd::More
+        }
+        None => false,
+    }
+}
+
+/// Tells whether that is so of the two lines.
+fn is_told_far_behind(alloc: Global) -> Result<bool, CompareFault> {
+    let difference = differs_far_behind(alloc)?;
+    Ok(is_far(&difference))
+}
+
+#[test]
+fn an_octet_far_behind_in_a_line_is_told_by_its_place(rt: HostRuntime) {
+    assert!(rt; is_told_far_behind(rt.alloc()) == Ok(true));
 }

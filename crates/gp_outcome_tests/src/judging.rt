@@ -5,7 +5,6 @@ use gp_outcome::{
 };
 use gp_stream::Source;
 use std::alloc::{AllocError, Global};
-use std::test::Fail;
 
 const SCRIPT: &str = "licences = 1\n[[port]]\nadmit = []\n[[event]]\nport = 0\nframes = 3\n";
 
@@ -114,49 +113,64 @@ fn expected_of(case: &Case) -> Expected<&'static [u8]> {
     }
 }
 
+/// Gives the name of the folder, and that of a file.
+fn names(alloc: Global, file: &str) -> Result<(String, String), AllocError> {
+    let folder = String::from_str(alloc, "d")?;
+    let file = String::from_str(alloc, file)?;
+    Ok((folder, file))
+}
+
 /// Gives an outcome the names of a file.
 fn verdict_of(alloc: Global, file: &str, outcome: Outcome) -> Result<Verdict, AllocError> {
+    let (folder, file) = names(alloc, file)?;
     Ok(Verdict {
-        folder: String::from_str(alloc, "d")?,
-        file: String::from_str(alloc, file)?,
+        folder,
+        file,
         outcome,
     })
 }
 
-#[test]
-fn what_fails_has_a_line(rt: HostRuntime) -> Result<(), Fail> {
-    let alloc = rt.alloc();
-    for case in &CASES {
-        let outcome = judge(alloc, case.script.as_bytes(), expected_of(case))?;
-        let is_failed = outcome.is_failed();
-        let line = verdict_line(alloc, &verdict_of(alloc, "x.toml", outcome)?)?;
-        assert_eq!(rt; is_failed, line.is_some());
-        let line = line.unwrap_or(Vec::new(alloc));
-        let told = std::str::from_utf8(line.as_slice()).unwrap_or("no text");
-        assert_eq!(rt; told, case.told);
+/// Judges a case.
+fn verdict_on(alloc: Global, case: &Case) -> Result<Verdict, AllocError> {
+    let outcome = judge(alloc, case.script.as_bytes(), expected_of(case))?;
+    verdict_of(alloc, "x.toml", outcome)
+}
+
+/// Tells whether a line is this, or where there is none nothing is told; and whether there is one where that has to be.
+fn is_line(line: &Option<Vec<u8>>, is_failed: bool, told: &str) -> bool {
+    match line {
+        Some(line) => is_failed && line.as_slice() == told.as_bytes(),
+        None => !is_failed && told.is_empty(),
     }
-    Ok(())
+}
+
+/// Tells whether a verdict has this line, and one that fails has one.
+fn has_line(alloc: Global, verdict: &Verdict, told: &str) -> Result<bool, AllocError> {
+    let line = verdict_line(alloc, verdict)?;
+    Ok(is_line(&line, verdict.outcome.is_failed(), told))
+}
+
+/// Tells whether a case is told so.
+fn is_told(alloc: Global, case: &Case) -> Result<bool, AllocError> {
+    let verdict = verdict_on(alloc, case)?;
+    has_line(alloc, &verdict, case.told)
+}
+
+#[test]
+fn what_fails_has_a_line(rt: HostRuntime) {
+    for case in &CASES {
+        assert!(rt; is_told(rt.alloc(), case) == Ok(true), "{}", case.told);
+    }
 }
 
 /// Where a request for memory is refused, a script is not judged or not told of; else it is as with ample memory.
 #[test]
 fn memory_short_or_ample(rt: HostRuntime) {
-    let alloc = rt.alloc();
     for case in &CASES {
-        let Ok(outcome) = judge(alloc, case.script.as_bytes(), expected_of(case)) else {
+        let Ok(right) = is_told(rt.alloc(), case) else {
             return;
         };
-        let Ok(verdict) = verdict_of(alloc, "x.toml", outcome) else {
-            return;
-        };
-        let Ok(line) = verdict_line(alloc, &verdict) else {
-            return;
-        };
-        let told = match &line {
-            Some(line) => std::str::from_utf8(line.as_slice()).unwrap_or("no text"),
-            None => "",
-        };
-        assert_eq!(rt; told, case.told);
+        assert!(rt; right, "{}", case.told);
     }
 }
 
@@ -169,39 +183,52 @@ fn judged(alloc: Global, trace: &'static str) -> Result<Outcome, AllocError> {
     )
 }
 
+/// Tells whether a verdict has this object.
+fn has_object(alloc: Global, verdict: &Verdict, wanted: &str) -> Result<bool, AllocError> {
+    let object = verdict_object(alloc, verdict)?;
+    Ok(object.as_slice() == wanted.as_bytes())
+}
+
+/// Tells whether an outcome has this object.
+fn is_object(alloc: Global, outcome: Outcome, wanted: &str) -> Result<bool, AllocError> {
+    let verdict = verdict_of(alloc, "x", outcome)?;
+    has_object(alloc, &verdict, wanted)
+}
+
+/// Tells whether the script has this object, judged by a trace.
+fn is_judged(alloc: Global, trace: &'static str, wanted: &str) -> Result<bool, AllocError> {
+    let outcome = judged(alloc, trace)?;
+    is_object(alloc, outcome, wanted)
+}
+
+/// Traces, and the object of the script that is judged by each.
+const JUDGED: [(&'static str, &'static str); 2] = [
+    (
+        TRACE,
+        "{\"file\":\"d/x\",\"ok\":true,\"outcome\":\"passed\",\"lines\":3}\n",
+    ),
+    (
+        "0 0 frame = ok\n",
+        "{\"file\":\"d/x\",\"ok\":false,\"outcome\":\"failed\",\"why\":\"line 2 of its .trace, octet 1: expected the end, got \\\"0 1 frame = ok\\\"\",\"line\":2,\"octet\":1,\"expected\":null,\"got\":\"0 1 frame = ok\"}\n",
+    ),
+];
+
 #[test]
-fn each_has_an_object(rt: HostRuntime) -> Result<(), Fail> {
-    let alloc = rt.alloc();
-    let outcomes = [
-        (
-            judged(alloc, TRACE)?,
-            "{\"file\":\"d/x\",\"ok\":true,\"outcome\":\"passed\",\"lines\":3}\n",
-        ),
-        (
-            Outcome::Refused,
-            "{\"file\":\"d/x\",\"ok\":true,\"outcome\":\"refused\"}\n",
-        ),
-        (
-            Outcome::Written,
-            "{\"file\":\"d/x\",\"ok\":true,\"outcome\":\"written\"}\n",
-        ),
-        (
-            Outcome::Failed(Failure::NoScript),
-            "{\"file\":\"d/x\",\"ok\":false,\"outcome\":\"failed\",\"why\":\"no script beside it, whose name ends in .toml\"}\n",
-        ),
-        (
-            judged(alloc, "0 0 frame = ok\n")?,
-            "{\"file\":\"d/x\",\"ok\":false,\"outcome\":\"failed\",\"why\":\"line 2 of its .trace, octet 1: expected the end, got \\\"0 1 frame = ok\\\"\",\"line\":2,\"octet\":1,\"expected\":null,\"got\":\"0 1 frame = ok\"}\n",
-        ),
-    ];
-    for (outcome, wanted) in outcomes {
-        let object = verdict_object(alloc, &verdict_of(alloc, "x", outcome)?)?;
-        assert_eq!(rt;
-            std::str::from_utf8(object.as_slice()).unwrap_or("no text"),
-            wanted
+fn each_has_an_object(rt: HostRuntime) {
+    for (trace, wanted) in &JUDGED {
+        assert!(rt;
+            is_judged(rt.alloc(), trace, wanted) == Ok(true),
+            "{wanted}"
         );
     }
-    Ok(())
+    let wanted = "{\"file\":\"d/x\",\"ok\":true,\"outcome\":\"refused\"}\n";
+    assert!(rt; is_object(rt.alloc(), Outcome::Refused, wanted) == Ok(true));
+    let wanted = "{\"file\":\"d/x\",\"ok\":true,\"outcome\":\"written\"}\n";
+    assert!(rt; is_object(rt.alloc(), Outcome::Written, wanted) == Ok(true));
+    let none = Outcome::Failed(Failure::NoScript);
+    let wanted =
+        "{\"file\":\"d/x\",\"ok\":false,\"outcome\":\"failed\",\"why\":\"no script beside it, whose name ends in .toml\"}\n";
+    assert!(rt; is_object(rt.alloc(), none, wanted) == Ok(true));
 }
 
 const SUITE: &str = "\
@@ -222,47 +249,111 @@ const SUITE: &str = "\
 </testsuites>
 ";
 
-#[test]
-fn a_folder_is_a_suite(rt: HostRuntime) -> Result<(), Fail> {
-    let alloc = rt.alloc();
-    let mut verdicts = Vec::new(alloc);
-    verdicts.push(verdict_of(alloc, "a&<>.toml", Outcome::Refused)?)?;
-    verdicts.push(verdict_of(alloc, "b.toml", Outcome::Written)?)?;
-    verdicts.push(verdict_of(alloc, "c.toml", judged(alloc, "")?)?)?;
-    verdicts.push(verdict_of(alloc, "", Outcome::Failed(Failure::NoScripts))?)?;
-    let mut tally = Tally::new();
-    for verdict in verdicts.iter() {
-        tally.count(&verdict.outcome);
-    }
-    let mut out = Vec::new(alloc);
-    push_suites_begin(&mut out, &tally)?;
-    push_suite(alloc, &mut out, "d", verdicts.as_slice())?;
-    push_suites_end(&mut out)?;
-    assert_eq!(rt;
-        std::str::from_utf8(out.as_slice()).unwrap_or("no text"),
-        SUITE
-    );
-    assert_eq!(rt;
-        tally.line(alloc)?.as_slice(),
-        b"1 passed, 1 written, 2 failed\n".as_slice()
-    );
-    assert_eq!(rt;
-        tally.object(alloc)?.as_slice(),
-        b"{\"passed\":1,\"written\":1,\"failed\":2}\n".as_slice()
-    );
+/// Adds what became of a file.
+fn push_verdict(
+    verdicts: &mut Vec<Verdict>,
+    alloc: Global,
+    file: &str,
+    outcome: Outcome,
+) -> Result<(), AllocError> {
+    let verdict = verdict_of(alloc, file, outcome)?;
+    verdicts.push(verdict)?;
     Ok(())
 }
 
+/// Adds what became of the files of a folder.
+fn push_verdicts(verdicts: &mut Vec<Verdict>, alloc: Global) -> Result<(), AllocError> {
+    push_verdict(verdicts, alloc, "a&<>.toml", Outcome::Refused)?;
+    push_verdict(verdicts, alloc, "b.toml", Outcome::Written)?;
+    let outcome = judged(alloc, "")?;
+    push_verdict(verdicts, alloc, "c.toml", outcome)?;
+    let none = Outcome::Failed(Failure::NoScripts);
+    push_verdict(verdicts, alloc, "", none)
+}
+
+/// What became of the files of a folder.
+fn verdicts(alloc: Global) -> Result<Vec<Verdict>, AllocError> {
+    let mut verdicts = Vec::new(alloc);
+    push_verdicts(&mut verdicts, alloc)?;
+    Ok(verdicts)
+}
+
+/// Counts them.
+fn tally_of(verdicts: &[Verdict]) -> Tally {
+    let mut tally = Tally::new();
+    for verdict in verdicts {
+        tally.count(&verdict.outcome);
+    }
+    tally
+}
+
+/// Writes them as a suite.
+fn push_folder(
+    out: &mut Vec<u8>,
+    alloc: Global,
+    verdicts: &[Verdict],
+    tally: &Tally,
+) -> Result<(), AllocError> {
+    push_suites_begin(out, tally)?;
+    push_suite(alloc, out, "d", verdicts)?;
+    push_suites_end(out)
+}
+
+/// Tells whether they are this suite.
+fn is_suite(alloc: Global, verdicts: &[Verdict], tally: &Tally) -> Result<bool, AllocError> {
+    let mut out = Vec::new(alloc);
+    push_folder(&mut out, alloc, verdicts, tally)?;
+    Ok(out.as_slice() == SUITE.as_bytes())
+}
+
+/// Tells whether that is so of the folder.
+fn is_folder(alloc: Global) -> Result<bool, AllocError> {
+    let verdicts = verdicts(alloc)?;
+    is_suite(alloc, &verdicts, &tally_of(&verdicts))
+}
+
+/// Counts the files of the folder.
+fn tally(alloc: Global) -> Result<Tally, AllocError> {
+    let verdicts = verdicts(alloc)?;
+    Ok(tally_of(&verdicts))
+}
+
+/// Tells whether its counts are this line.
+fn is_tally_line(alloc: Global) -> Result<bool, AllocError> {
+    let tally = tally(alloc)?;
+    let line = tally.line(alloc)?;
+    Ok(line.as_slice() == b"1 passed, 1 written, 2 failed\n".as_slice())
+}
+
+/// Tells whether they are this object.
+fn is_tally_object(alloc: Global) -> Result<bool, AllocError> {
+    let tally = tally(alloc)?;
+    let object = tally.object(alloc)?;
+    Ok(object.as_slice() == b"{\"passed\":1,\"written\":1,\"failed\":2}\n".as_slice())
+}
+
 #[test]
-fn paths_are_joined_by_one_slash(rt: HostRuntime) -> Result<(), Fail> {
-    let alloc = rt.alloc();
+fn a_folder_is_a_suite(rt: HostRuntime) {
+    assert!(rt; is_folder(rt.alloc()) == Ok(true));
+    assert!(rt; is_tally_line(rt.alloc()) == Ok(true));
+    assert!(rt; is_tally_object(rt.alloc()) == Ok(true));
+}
+
+/// Tells whether a folder and a file have this path.
+fn is_path(alloc: Global, folder: &str, file: &str, wanted: &str) -> Result<bool, AllocError> {
+    let path = path_of(alloc, folder, file)?;
+    Ok(path.as_str() == wanted)
+}
+
+#[test]
+fn paths_are_joined_by_one_slash(rt: HostRuntime) {
     for (folder, file, wanted) in [
         ("d", "x", "d/x"),
         ("d/", "x", "d/x"),
         ("", "x", "x"),
         ("d", "", "d"),
     ] {
-        assert_eq!(rt; path_of(alloc, folder, file)?.as_str(), wanted);
+        let path = is_path(rt.alloc(), folder, file, wanted);
+        assert!(rt; path == Ok(true), "{wanted}");
     }
-    Ok(())
 }

@@ -1,9 +1,9 @@
 //! Sources that give an octet at a time, or fail in the middle.
-use gp_compare::{CompareFault, compare_text};
+use gp_compare::{CompareFault, Difference, compare_text};
 use gp_stream::Source;
+use std::alloc::Global;
 use std::io;
 use std::io::{ErrorKind, Read};
-use std::test::Fail;
 
 /// A reader that gives one octet at a time, and fails behind so many.
 #[derive(Drop)]
@@ -39,23 +39,46 @@ fn source_of(octets: &'static [u8], fails_at: usize) -> Source<Slow> {
     })
 }
 
-#[test]
-fn octets_may_come_one_by_one(rt: HostRuntime) -> Result<(), Fail> {
-    let alloc = rt.alloc();
-    assert!(rt; compare_text(alloc, b"ab\ncd\n", source_of(b"ab\ncd\n", 100))?.is_none());
-    let difference = compare_text(alloc, b"ab\nxd\n", source_of(b"ab\ncd\nef\n", 100))?;
-    let difference = difference.ok_or("no difference")?;
-    assert_eq!(rt; difference.line, 2);
-    assert_eq!(rt; difference.expected.octets.as_slice(), b"cd".as_slice());
-    Ok(())
+/// Tells whether there is no difference.
+fn are_same(alloc: Global, came: &[u8], octets: &'static [u8]) -> bool {
+    match compare_text(alloc, came, source_of(octets, 100)) {
+        Ok(difference) => difference.is_none(),
+        Err(_) => false,
+    }
+}
+
+/// Tells whether a difference is in the second line, where `cd` is expected.
+fn is_second(difference: &Option<Difference>) -> bool {
+    match difference {
+        Some(difference) => {
+            difference.line == 2 && difference.expected.octets.as_slice() == b"cd".as_slice()
+        }
+        None => false,
+    }
+}
+
+/// Tells whether that is so of a text.
+fn differs_second(alloc: Global, came: &[u8], octets: &'static [u8]) -> Result<bool, CompareFault> {
+    let difference = compare_text(alloc, came, source_of(octets, 100))?;
+    Ok(is_second(&difference))
 }
 
 #[test]
-fn a_read_that_fails_is_told_wherever_it_does(rt: HostRuntime) -> Result<(), Fail> {
-    let alloc = rt.alloc();
+fn octets_may_come_one_by_one(rt: HostRuntime) {
+    assert!(rt; are_same(rt.alloc(), b"ab\ncd\n", b"ab\ncd\n"));
+    let differs = differs_second(rt.alloc(), b"ab\nxd\n", b"ab\ncd\nef\n");
+    assert!(rt; differs == Ok(true));
+}
+
+/// The fault of a source that fails behind so many octets.
+fn fault_at(alloc: Global, fails_at: usize) -> Option<CompareFault> {
+    compare_text(alloc, b"ab\ncd\n", source_of(b"ab\ncd\n", fails_at)).err()
+}
+
+#[test]
+fn a_read_that_fails_is_told_wherever_it_does(rt: HostRuntime) {
     for fails_at in 0..7 {
-        let outcome = compare_text(alloc, b"ab\ncd\n", source_of(b"ab\ncd\n", fails_at));
-        assert_eq!(rt; outcome.err(), Some(CompareFault::Read), "{fails_at}");
+        let fault = fault_at(rt.alloc(), fails_at);
+        assert!(rt; fault == Some(CompareFault::Read), "{fails_at}");
     }
-    Ok(())
 }

@@ -3,13 +3,14 @@ ghost use Rattle.std.specs.Prelude.{◌≡◌};
 ghost use Rattle.gp_ploam.specs.declared.check.Mask.TheVariants.{Plain};
 ghost use Rattle.gp_summed.specs.Explaining.{trace_ports};
 
+use crate::compared::{Field, Wanted, has_field, is_text, is_text_or_refused};
 use gp_explain::{ExplainFault, NoLine};
+use gp_flow::{LinesFault, Unanswered};
 use gp_ploam::Mask;
 use gp_stream::Source;
 use gp_summary::SummaryForm;
 use gp_summed::{Explained, HeardCodes, explain_summed};
 use gp_tally::{Began, Nowhere};
-use serde_json::Value;
 use std::alloc::{AllocError, Global};
 use std::io;
 use std::io::{ErrorKind, Write};
@@ -66,6 +67,9 @@ const TOLD: [&str; 5] = [
     "port 0: units 0, frames 23, bursts 2, commands 3, alarm LOS 1\n\
     unit ABCD00000001: gone, found 1, ranged 1, lost 1, alarm LOS 1, last frame 9, took frames 4\n",
 ];
+
+/// How many lines the trace has up to there.
+const LINES: [u64; 5] = [7, 11, 16, 24, 28];
 
 /// Takes one octet at a time.
 #[derive(Drop)]
@@ -139,108 +143,123 @@ fn trace_of(alloc: Global, parts: usize) -> Result<String, AllocError> {
     Ok(trace)
 }
 
+/// Tells the first so many parts of the trace, and this behind them, to a slow writer.
+fn told_slowly(alloc: Global, parts: usize, behind: &str) -> Result<Told<SlowWriter>, AllocError> {
+    let mut trace = trace_of(alloc, parts)?;
+    trace.push_str(behind)?;
+    let taken = Vec::new(alloc);
+    told(alloc, SummaryForm::Text, &trace, SlowWriter { taken })
+}
+
+/// Tells whether a trace was written, and then summed so.
+fn are_told(told: &Told<SlowWriter>, trace: &str, wanted: &str) -> bool {
+    told.1.taken.as_slice() == trace.as_bytes() && is_text(&told.2, wanted)
+}
+
+/// Tells whether the first so many parts of the trace were told, with this outcome, and summed so.
+fn is_told(
+    alloc: Global,
+    told: &Told<SlowWriter>,
+    parts: usize,
+    found: Result<u64, ExplainFault>,
+    wanted: &str,
+) -> Result<bool, AllocError> {
+    let trace = trace_of(alloc, parts)?;
+    Ok(told.0 == found && are_told(told, &trace, wanted))
+}
+
+/// Tells whether so many parts of the trace are told and summed so, with this behind them.
+fn is_summed(
+    alloc: Global,
+    parts: usize,
+    behind: &str,
+    found: Result<u64, ExplainFault>,
+    wanted: &str,
+) -> Result<bool, AllocError> {
+    let told = told_slowly(alloc, parts, behind)?;
+    is_told(alloc, &told, parts, found, wanted)
+}
+
 /// A unit stands as it was heard behind each part of the trace, in whatever pieces its lines are taken.
 #[test]
-fn a_unit_stands_as_it_was_heard(rt: HostRuntime) -> Result<(), AllocError> {
+fn a_unit_stands_as_it_was_heard(rt: HostRuntime) {
     for place in 0..TOLD.len() {
-        let trace = trace_of(rt.alloc(), place + 1)?;
-        let writer = SlowWriter {
-            taken: Vec::new(rt.alloc()),
-        };
-        let (found, writer, text, _) = told(rt.alloc(), SummaryForm::Text, &trace, writer)?;
-        assert!(rt; found.is_ok(), "{place}");
-        assert!(rt; writer.taken.as_slice() == trace.as_bytes(), "{place}");
-        assert!(rt; text?.as_slice() == TOLD[place].as_bytes(), "{place}");
+        let found = is_summed(rt.alloc(), place + 1, "", Ok(LINES[place]), TOLD[place]);
+        assert!(rt; found == Ok(true), "{place}");
     }
-    Ok(())
 }
 
 /// What stands from the first line on that is none of a trace is neither told nor heard.
 #[test]
-fn a_line_that_is_none_ends_it(rt: HostRuntime) -> Result<(), AllocError> {
-    let mut trace = trace_of(rt.alloc(), 2)?;
-    trace.push_str("0 down 00050000000000000000000063\n")?;
-    let writer = SlowWriter {
-        taken: Vec::new(rt.alloc()),
-    };
-    let (found, writer, text, _) = told(rt.alloc(), SummaryForm::Text, &trace, writer)?;
+fn a_line_that_is_none_ends_it(rt: HostRuntime) {
+    let behind = "0 down 00050000000000000000000063\n";
     let why = NoLine::NotALine;
-    assert!(rt; found == Err(ExplainFault::Refused { line: 12, why }));
-    assert!(rt; writer.taken.as_slice() == trace_of(rt.alloc(), 2)?.as_bytes());
-    assert!(rt; text?.as_slice() == TOLD[1].as_bytes());
-    Ok(())
+    let refused = Err(ExplainFault::Refused { line: 12, why });
+    assert!(rt; is_summed(rt.alloc(), 2, behind, refused, TOLD[1]) == Ok(true));
+}
+
+/// Tells whether all three parts of a trace were told, and summed or memory for that refused. None where memory for
+/// what is told was refused.
+fn is_ample(told: &Told<Nowhere>) -> Option<bool> {
+    if told.0 == Err(ExplainFault::Lines(LinesFault::Line(Unanswered::OutOfMemory))) {
+        return None;
+    }
+    Some(told.0 == Ok(LINES[2]) && is_text_or_refused(&told.2, TOLD[2]))
+}
+
+/// Tells the same of a trace that is told now; None too where nothing is read.
+fn is_told_if_ample(alloc: Global) -> Option<bool> {
+    let trace = trace_of(alloc, 3).ok()?;
+    let told = told(alloc, SummaryForm::Text, &trace, Nowhere).ok()?;
+    is_ample(&told)
 }
 
 /// Where a request for memory is refused, nothing is read; or all of it is, and there is no summary.
 #[test]
-fn memory_short_or_ample(rt: HostRuntime) -> Result<(), AllocError> {
-    let Ok(trace) = trace_of(rt.alloc(), 3) else {
-        return Ok(());
-    };
-    let Ok((found, _, text, _)) = told(rt.alloc(), SummaryForm::Text, &trace, Nowhere) else {
-        return Ok(());
-    };
-    if let (Ok(lines), Ok(text)) = (found, &text) {
-        assert_eq!(rt; lines, 16);
-        assert!(rt; text.as_slice() == TOLD[2].as_bytes());
-    }
-    Ok(())
+fn memory_short_or_ample(rt: HostRuntime) {
+    assert!(rt; is_told_if_ample(rt.alloc()) != Some(false));
 }
 
-/// The object of a line, if it is one.
-fn object_of(alloc: Global, line: &[u8]) -> Result<Option<Value>, AllocError> {
-    match str::from_utf8(line) {
-        Ok(text) => Ok(Value::from_str(alloc, text).ok()),
-        Err(_) => Ok(None),
-    }
+/// What is told of the first four parts of the trace, as JSON.
+fn objects(alloc: Global) -> Result<Vec<u8>, AllocError> {
+    let trace = trace_of(alloc, 4)?;
+    let (_, _, text, _) = told(alloc, SummaryForm::Json, &trace, Nowhere)?;
+    text
 }
 
-/// Tells whether an object has this number at a key.
-fn has(object: &Value, key: &str, number: u64) -> bool {
-    object.get(key).and_then(Value::as_u64) == Some(number)
+/// Tells whether that has this field.
+fn is_told_with(alloc: Global, field: &Field) -> Result<bool, AllocError> {
+    let text = objects(alloc)?;
+    has_field(alloc, &text, 2, field)
 }
+
+const FIELDS: [Field; 19] = [
+    (0, "port", Wanted::Number(0)),
+    (0, "units", Wanted::Number(1)),
+    (0, "frames", Wanted::Number(19)),
+    (0, "bursts", Wanted::Number(2)),
+    (0, "commands", Wanted::Number(3)),
+    (0, "refused_stray", Wanted::Number(0)),
+    (0, "alarm_DG", Wanted::Number(0)),
+    (1, "port", Wanted::Number(0)),
+    (1, "onu", Wanted::Number(0)),
+    (1, "eqd", Wanted::Number(211_040)),
+    (1, "found", Wanted::Number(1)),
+    (1, "ranged", Wanted::Number(1)),
+    (1, "lost", Wanted::Number(0)),
+    (1, "alarm_SUF", Wanted::Number(0)),
+    (1, "last_frame", Wanted::Number(9)),
+    (1, "took_frames", Wanted::Number(4)),
+    (1, "serial", Wanted::Text("ABCD00000001")),
+    (1, "state", Wanted::Text("operating")),
+    (1, "allocs", Wanted::Numbers(&[300, 301])),
+];
 
 #[test]
-fn a_unit_is_read_as_json(rt: HostRuntime) -> Result<(), AllocError> {
-    let trace = trace_of(rt.alloc(), 4)?;
-    let (_, _, text, _) = told(rt.alloc(), SummaryForm::Json, &trace, Nowhere)?;
-    let mut objects = Vec::new(rt.alloc());
-    for line in text?.split(|octet| *octet == b'\n') {
-        if !line.is_empty() {
-            objects.push(object_of(rt.alloc(), line)?.unwrap_or(Value::Null))?;
-        }
+fn a_unit_is_read_as_json(rt: HostRuntime) {
+    for field in &FIELDS {
+        assert!(rt; is_told_with(rt.alloc(), field) == Ok(true), "{}", field.1);
     }
-    assert_eq!(rt; objects.len(), 2);
-    for (key, number) in [
-        ("port", 0),
-        ("units", 1),
-        ("frames", 19),
-        ("bursts", 2),
-        ("commands", 3),
-        ("refused_stray", 0),
-        ("alarm_DG", 0),
-    ] {
-        assert!(rt; has(&objects[0], key, number), "{key}");
-    }
-    for (key, number) in [
-        ("port", 0),
-        ("onu", 0),
-        ("eqd", 211_040),
-        ("found", 1),
-        ("ranged", 1),
-        ("lost", 0),
-        ("alarm_SUF", 0),
-        ("last_frame", 9),
-        ("took_frames", 4),
-    ] {
-        assert!(rt; has(&objects[1], key, number), "{key}");
-    }
-    assert!(rt; objects[1].get("serial").and_then(Value::as_str) == Some("ABCD00000001"));
-    assert!(rt; objects[1].get("state").and_then(Value::as_str) == Some("operating"));
-    let allocs = objects[1].get("allocs").unwrap_or(&Value::Null);
-    assert!(rt; allocs.get(0).and_then(Value::as_u64) == Some(300));
-    assert!(rt; allocs.get(1).and_then(Value::as_u64) == Some(301));
-    Ok(())
 }
 
 /// A burst, and a message on the last port, whose check octets are wrong.
@@ -249,7 +268,7 @@ const GARBLED_UP: &str = "0 0 burst 5 ff01414243440000000100002d = refused 2 gar
 const GARBLED_DOWN: &str = "15 0 frame = ok sent ff03004142434400000001001c\n";
 
 /// A trace, how many of its codes can't be read, and whether one can.
-const CODES: [(&str, u64, bool); 6] = [
+const CODES: [(&'static str, u64, bool); 6] = [
     ("", 0, false),
     ("0 0 frame = ok\n", 0, false),
     (GARBLED_UP, 1, false),
@@ -258,22 +277,37 @@ const CODES: [(&str, u64, bool); 6] = [
     (ASSIGNED, 0, true),
 ];
 
-/// Codes with a wrong check octet are counted, up and down, each by itself and all together.
-#[test]
-fn garbled_codes_are_counted(rt: HostRuntime) -> Result<(), AllocError> {
-    let mut all = String::new(rt.alloc());
-    for (trace, garbled, is_read) in CODES {
-        let (_, _, _, codes) = told(rt.alloc(), SummaryForm::Text, trace, Nowhere)?;
-        assert_eq!(rt; codes?, HeardCodes { garbled, is_read });
+/// The codes that are heard of a trace.
+fn codes_of(alloc: Global, trace: &str) -> Result<HeardCodes, AllocError> {
+    let (_, _, _, codes) = told(alloc, SummaryForm::Text, trace, Nowhere)?;
+    codes
+}
+
+/// Tells whether these are heard.
+fn are_codes(alloc: Global, trace: &str, garbled: u64, is_read: bool) -> bool {
+    codes_of(alloc, trace) == Ok(HeardCodes { garbled, is_read })
+}
+
+/// All of these traces as one.
+fn all_codes(alloc: Global) -> Result<String, AllocError> {
+    let mut all = String::new(alloc);
+    for (trace, _, _) in &CODES {
         all.push_str(trace)?;
     }
-    let (_, _, _, codes) = told(rt.alloc(), SummaryForm::Text, &all, Nowhere)?;
-    assert_eq!(rt;
-        codes?,
-        HeardCodes {
-            garbled: 2,
-            is_read: true
-        }
-    );
-    Ok(())
+    Ok(all)
+}
+
+/// Tells whether these are heard of all.
+fn are_all_codes(alloc: Global, garbled: u64, is_read: bool) -> Result<bool, AllocError> {
+    let all = all_codes(alloc)?;
+    Ok(are_codes(alloc, &all, garbled, is_read))
+}
+
+/// Codes with a wrong check octet are counted, up and down, each by itself and all together.
+#[test]
+fn garbled_codes_are_counted(rt: HostRuntime) {
+    for (trace, garbled, is_read) in &CODES {
+        assert!(rt; are_codes(rt.alloc(), trace, *garbled, *is_read), "{trace}");
+    }
+    assert!(rt; are_all_codes(rt.alloc(), 2, true) == Ok(true));
 }

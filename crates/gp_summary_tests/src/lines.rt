@@ -2,7 +2,7 @@
 use gp_alarms::AlarmKind;
 use gp_machine::Refusal;
 use gp_ploam::Mask;
-use gp_tally::{Counter, PortTally, kind_place};
+use gp_tally::{Counter, PortTally, UnitCounts, kind_place};
 use std::alloc::{AllocError, Global};
 
 /// A unit is found, ranged and lost, another is refused; the last line is open, and two lines are none of a trace.
@@ -35,32 +35,54 @@ fn refused(port: &PortTally, refusal: Refusal) -> u64 {
     port.counts().refusals[usize::from(refusal.number())]
 }
 
-#[test]
-fn pieces_are_counted_as_a_whole(rt: HostRuntime) -> Result<(), AllocError> {
-    for piece in [1, 2, 7, 64, 100_000] {
-        let counter = counted(rt.alloc(), TEXT, piece)?;
-        let ports = counter.ports()?;
-        assert_eq!(rt; ports.len(), 2);
-        let counts = ports[0].counts();
-        assert_eq!(rt;
-            (counts.frames, counts.bursts, counts.commands),
-            (3, 4, 1),
-            "{piece}"
-        );
-        assert_eq!(rt; refused(&ports[0], Refusal::NoLicence), 1);
-        assert_eq!(rt; refused(&ports[0], Refusal::Stray), 1);
-        assert_eq!(rt; refused(&ports[0], Refusal::Busy), 0);
-        assert_eq!(rt; counts.alarms[kind_place(AlarmKind::Los)], 1);
-        assert_eq!(rt; ports[1].counts().frames, 1);
-        assert_eq!(rt; ports[0].units().len(), 1);
-        for (_, unit) in ports[0].units().iter() {
-            assert_eq!(rt; (unit.found, unit.ranged), (1, 1));
-            assert_eq!(rt;
-                (unit.heard, unit.asked, unit.took),
-                (Some(2), None, Some(1))
-            );
-            assert_eq!(rt; unit.alarms[kind_place(AlarmKind::Los)], 1);
-        }
+/// Tells whether a unit was found, ranged and lost so.
+fn is_unit(unit: &UnitCounts) -> bool {
+    (unit.found, unit.ranged) == (1, 1)
+        && (unit.heard, unit.asked, unit.took) == (Some(2), None, Some(1))
+        && unit.alarms[kind_place(AlarmKind::Los)] == 1
+}
+
+/// Tells whether the units of a port are one that was counted so.
+fn is_one_unit(port: &PortTally) -> bool {
+    port.units().len() == 1 && port.units().iter().all(|(_, unit)| is_unit(unit))
+}
+
+/// Tells whether the first port was counted so.
+fn is_first(port: &PortTally) -> bool {
+    let counts = port.counts();
+    (counts.frames, counts.bursts, counts.commands) == (3, 4, 1)
+        && refused(port, Refusal::NoLicence) == 1
+        && refused(port, Refusal::Stray) == 1
+        && refused(port, Refusal::Busy) == 0
+        && counts.alarms[kind_place(AlarmKind::Los)] == 1
+        && is_one_unit(port)
+}
+
+/// Tells whether both ports were counted so.
+fn are_counted(ports: &[PortTally]) -> bool {
+    match ports {
+        [first, second] => is_first(first) && second.counts().frames == 1,
+        _ => false,
     }
-    Ok(())
+}
+
+/// Tells whether a counter has counted so.
+fn has_counted(counter: &Counter) -> bool {
+    match counter.ports() {
+        Ok(ports) => are_counted(ports),
+        Err(_) => false,
+    }
+}
+
+/// Tells whether the text is counted so in pieces of so many octets.
+fn is_counted(alloc: Global, piece: usize) -> Result<bool, AllocError> {
+    let counter = counted(alloc, TEXT, piece)?;
+    Ok(has_counted(&counter))
+}
+
+#[test]
+fn pieces_are_counted_as_a_whole(rt: HostRuntime) {
+    for piece in [1, 2, 7, 64, 100_000] {
+        assert!(rt; is_counted(rt.alloc(), piece) == Ok(true), "{piece}");
+    }
 }

@@ -3,14 +3,15 @@ ghost use Rattle.std.specs.Prelude.{◌≡◌, IfOk, length};
 ghost use Rattle.gp_script.specs.Playable.{IsPlayable};
 ghost use Rattle.gp_script.specs.View.{script_view};
 
+use crate::compared::{Field, Wanted, has_field, is_text, is_text_or_refused};
+use crate::streams::ShortWriter;
 use gp_replay::PlayFault;
 use gp_script::{Script, read_script};
 use gp_summary::{Ended, SummaryForm, Summed, play_summed};
 use gp_tally::Began;
-use serde_json::Value;
 use std::alloc::{AllocError, Global};
 use std::io;
-use std::io::{ErrorKind, Write};
+use std::io::Write;
 use std::marker::Brand;
 
 /// One unit is found and ranged.
@@ -104,57 +105,6 @@ fn played<W: Write + Drop>(
     }
 }
 
-/// Plays it, and gives its summary and how many lines its trace has.
-fn summary(alloc: Global, text: &str, form: SummaryForm) -> Result<(Vec<u8>, usize), AllocError> {
-    let (ended, trace) = played(alloc, text, form, Vec::new(alloc))?;
-    let lines = trace.iter().filter(|octet| **octet == b'\n').count();
-    Ok((ended.summary?, lines))
-}
-
-/// Takes so many octets, and then fails.
-#[derive(Drop)]
-struct ShortWriter {
-    taken: Vec<u8>,
-    room: usize,
-}
-
-impl Write for ShortWriter {
-    fn write(&mut self, bytes: &[u8]) -> io::Result<usize> {
-        if self.taken.len() >= self.room {
-            return Err(io::Error::from(ErrorKind::Other));
-        }
-        let count = bytes.len().min(self.room - self.taken.len());
-        match self.taken.extend_from_slice(&bytes[..count]) {
-            Ok(()) => Ok(count),
-            Err(_) => Err(io::Error::from(ErrorKind::OutOfMemory)),
-        }
-    }
-
-    fn flush(&mut self) -> io::Result<()> {
-        Ok(())
-    }
-}
-
-#[test]
-fn a_unit_that_was_never_found_asks(rt: HostRuntime) -> Result<(), AllocError> {
-    let (text, lines) = summary(rt.alloc(), NO_LICENCE, SummaryForm::Text)?;
-    assert_eq!(rt; lines, 7);
-    let wanted =
-        "port 0: units 0, acquisition 0, frames 5, bursts 1, commands 1, refused no-licence 1\n\
-        unit ABCD00000001: asking, found 0, ranged 0, lost 0, last frame 5\n\
-        licences: free 0, in use 0\n";
-    assert!(rt; text.as_slice() == wanted.as_bytes());
-    Ok(())
-}
-
-#[test]
-fn one_unit_is_told(rt: HostRuntime) -> Result<(), AllocError> {
-    let (text, lines) = summary(rt.alloc(), ONE_UNIT, SummaryForm::Text)?;
-    assert_eq!(rt; lines, LINES);
-    assert!(rt; text.as_slice() == TOLD.as_bytes());
-    Ok(())
-}
-
 /// Counts the lines of what it takes, and keeps nothing.
 #[derive(Drop)]
 struct LineCount {
@@ -173,87 +123,101 @@ impl Write for LineCount {
     }
 }
 
+/// Plays a script, and counts the lines of its trace.
+fn counted(alloc: Global, text: &str, form: SummaryForm) -> Result<Played<LineCount>, AllocError> {
+    played(alloc, text, form, LineCount { lines: 0 })
+}
+
+/// Tells whether all was played, with so many lines.
+fn are_played(played: &Played<LineCount>, lines: usize) -> bool {
+    played.0.played == Ok(()) && played.1.lines == lines
+}
+
+/// Tells whether a script is played with so many lines, and summed so.
+fn is_summed(alloc: Global, text: &str, lines: usize, wanted: &str) -> Result<bool, AllocError> {
+    let played = counted(alloc, text, SummaryForm::Text)?;
+    Ok(are_played(&played, lines) && is_text(&played.0.summary, wanted))
+}
+
+#[test]
+fn a_unit_that_was_never_found_asks(rt: HostRuntime) {
+    let wanted =
+        "port 0: units 0, acquisition 0, frames 5, bursts 1, commands 1, refused no-licence 1\n\
+        unit ABCD00000001: asking, found 0, ranged 0, lost 0, last frame 5\n\
+        licences: free 0, in use 0\n";
+    assert!(rt; is_summed(rt.alloc(), NO_LICENCE, 7, wanted) == Ok(true));
+}
+
+#[test]
+fn one_unit_is_told(rt: HostRuntime) {
+    assert!(rt; is_summed(rt.alloc(), ONE_UNIT, LINES, TOLD) == Ok(true));
+}
+
+/// Tells whether one unit is played, and summed or memory for that refused; None where nothing is played.
+fn is_played_if_ample(alloc: Global) -> Option<bool> {
+    let played = counted(alloc, ONE_UNIT, SummaryForm::Text).ok()?;
+    Some(are_played(&played, LINES) && is_text_or_refused(&played.0.summary, TOLD))
+}
+
 /// Where a request for memory is refused, nothing is played; or all of it is, and there is no summary.
 #[test]
 fn memory_short_or_ample(rt: HostRuntime) {
-    let writer = LineCount { lines: 0 };
-    let Ok((ended, writer)) = played(rt.alloc(), ONE_UNIT, SummaryForm::Text, writer) else {
-        return;
-    };
-    assert!(rt; ended.played == Ok(()));
-    assert_eq!(rt; writer.lines, LINES);
-    if let Ok(text) = &ended.summary {
-        assert!(rt; text.as_slice() == TOLD.as_bytes());
+    assert!(rt; is_played_if_ample(rt.alloc()) != Some(false));
+}
+
+/// What is told of one unit, as JSON.
+fn objects(alloc: Global) -> Result<Vec<u8>, AllocError> {
+    let (ended, _) = counted(alloc, ONE_UNIT, SummaryForm::Json)?;
+    ended.summary
+}
+
+/// Tells whether that has this field.
+fn is_told_with(alloc: Global, field: &Field) -> Result<bool, AllocError> {
+    let text = objects(alloc)?;
+    has_field(alloc, &text, 3, field)
+}
+
+const FIELDS: [Field; 20] = [
+    (0, "port", Wanted::Number(0)),
+    (0, "units", Wanted::Number(1)),
+    (0, "frames", Wanted::Number(13)),
+    (0, "bursts", Wanted::Number(2)),
+    (0, "commands", Wanted::Number(1)),
+    (0, "refused_stray", Wanted::Number(0)),
+    (0, "refused_already-searching", Wanted::Number(0)),
+    (0, "alarm_LOS", Wanted::Number(0)),
+    (0, "alarm_DG", Wanted::Number(0)),
+    (1, "onu", Wanted::Number(0)),
+    (1, "eqd", Wanted::Number(211_040)),
+    (1, "found", Wanted::Number(1)),
+    (1, "ranged", Wanted::Number(1)),
+    (1, "lost", Wanted::Number(0)),
+    (1, "last_frame", Wanted::Number(9)),
+    (1, "took_frames", Wanted::Number(4)),
+    (1, "alarm_SUF", Wanted::Number(0)),
+    (1, "state", Wanted::Text("operating")),
+    (2, "free", Wanted::Number(2)),
+    (2, "in_use", Wanted::Number(1)),
+];
+
+#[test]
+fn one_unit_is_read_as_json(rt: HostRuntime) {
+    for field in &FIELDS {
+        assert!(rt; is_told_with(rt.alloc(), field) == Ok(true), "{}", field.1);
     }
 }
 
-/// The object of a line, if it is one.
-fn object_of(alloc: Global, line: &[u8]) -> Result<Option<Value>, AllocError> {
-    match str::from_utf8(line) {
-        Ok(text) => Ok(Value::from_str(alloc, text).ok()),
-        Err(_) => Ok(None),
-    }
-}
-
-/// Tells whether an object has this number at a key.
-fn has(object: &Value, key: &str, number: u64) -> bool {
-    object.get(key).and_then(Value::as_u64) == Some(number)
+/// Tells whether a play ends with a failed write where the writer has so much room, and the writer has that.
+fn is_cut_at(alloc: Global, room: usize) -> Result<bool, AllocError> {
+    let taken = Vec::new(alloc);
+    let writer = ShortWriter { taken, room };
+    let (ended, writer) = played(alloc, ONE_UNIT, SummaryForm::Text, writer)?;
+    Ok(ended.played == Err(PlayFault::Write) && writer.taken.len() == room)
 }
 
 #[test]
-fn one_unit_is_read_as_json(rt: HostRuntime) -> Result<(), AllocError> {
-    let (text, _) = summary(rt.alloc(), ONE_UNIT, SummaryForm::Json)?;
-    let mut objects = Vec::new(rt.alloc());
-    for line in text.split(|octet| *octet == b'\n') {
-        if !line.is_empty() {
-            objects.push(object_of(rt.alloc(), line)?.unwrap_or(Value::Null))?;
-        }
-    }
-    assert_eq!(rt; objects.len(), 3);
-    for (key, number) in [
-        ("port", 0),
-        ("units", 1),
-        ("frames", 13),
-        ("bursts", 2),
-        ("commands", 1),
-    ] {
-        assert!(rt; has(&objects[0], key, number), "{key}");
-    }
-    for key in [
-        "refused_stray",
-        "refused_already-searching",
-        "alarm_LOS",
-        "alarm_DG",
-    ] {
-        assert!(rt; has(&objects[0], key, 0), "{key}");
-    }
-    for (key, number) in [
-        ("onu", 0),
-        ("eqd", 211_040),
-        ("found", 1),
-        ("ranged", 1),
-        ("lost", 0),
-    ] {
-        assert!(rt; has(&objects[1], key, number), "{key}");
-    }
-    for (key, number) in [("last_frame", 9), ("took_frames", 4), ("alarm_SUF", 0)] {
-        assert!(rt; has(&objects[1], key, number), "{key}");
-    }
-    assert!(rt; objects[1].get("state").and_then(Value::as_str) == Some("operating"));
-    assert!(rt; has(&objects[2], "free", 2) && has(&objects[2], "in_use", 1));
-    Ok(())
-}
-
-#[test]
-fn a_write_fails(rt: HostRuntime) -> Result<(), AllocError> {
+fn a_write_fails(rt: HostRuntime) {
     for room in [0, 1, 100] {
-        let writer = ShortWriter {
-            taken: Vec::new(rt.alloc()),
-            room,
-        };
-        let (ended, writer) = played(rt.alloc(), ONE_UNIT, SummaryForm::Text, writer)?;
-        assert!(rt; ended.played == Err(PlayFault::Write), "{room}");
-        assert_eq!(rt; writer.taken.len(), room);
+        assert!(rt; is_cut_at(rt.alloc(), room) == Ok(true), "{room}");
     }
-    Ok(())
 }

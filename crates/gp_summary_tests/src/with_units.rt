@@ -3,21 +3,23 @@ ghost use Rattle.std.specs.Prelude.{IfOk};
 ghost use Rattle.gp_script.specs.Playable.{IsPlayable};
 ghost use Rattle.gp_script.specs.View.{script_view};
 
-use gp_drive::{DriveManner, Driven};
-use gp_explain::Form;
+use crate::streams::ShortWriter;
+use gp_drive::{DriveFault, DriveManner, Driven};
+use gp_explain::{ExplainFault, Form};
+use gp_flow::{LinesFault, Unanswered};
 use gp_ploam::Mask;
-use gp_replay::PlayFault;
+use gp_replay::{PlayFault, RunFault};
 use gp_script::{Script, read_script};
 use gp_stream::{Sink, Source};
-use gp_summed::HeardCodes;
+use gp_summed::{DriveEnded, HeardCodes};
 use gp_tally::Nowhere;
+use gp_verify::{CheckFault, VerifyFault};
 use gp_with_units::{
     DriveWritten, PlayWritten, ToldTrace, TraceWritten, drive_with_units, explain_for_summary,
     explain_with_units, play_for_summary, play_with_units, verify_with_units,
 };
 use std::alloc::{AllocError, Global};
-use std::io;
-use std::io::{ErrorKind, Write};
+use std::io::Write;
 
 /// A port that admits one unit and searches once.
 const PORT: &str = "licences = 1\n[[port]]\ncycles = 1\nadmit = [\"ABCD00000001\"]\n";
@@ -52,6 +54,17 @@ const TRACE: &str = "\
 0 6 burst 100000 ff01414243440000000100002c = found 0
 ";
 
+/// The same in words.
+const WORDS: &str = "\
+0 0 search = searching
+0 1 frame = ok
+0 2 frame = ok sent [Upstream_Overhead 00000000000000000000]
+0 3 frame = ok sent [Upstream_Overhead 00000000000000000000]
+0 4 frame = ok sent [Upstream_Overhead 00000000000000000000]
+0 5 frame = ok grant search
+0 6 burst 100000 [Serial_Number_ONU 255 ABCD00000001 0 0] = found 0
+";
+
 /// What became of the port and its unit.
 const UNITS: &str = "port 0: units 1, acquisition 0, frames 5, bursts 1, commands 1\n\
     unit ABCD00000001: ranging, onu 0, found 1, ranged 0, lost 0, last frame 5\n\
@@ -61,29 +74,20 @@ const UNITS: &str = "port 0: units 1, acquisition 0, frames 5, bursts 1, command
 const HEARD: &str = "port 0: units 0, frames 5, bursts 1, commands 1\n\
     unit ABCD00000001: asking, found 1, ranged 0, lost 0, last frame 5\n";
 
-/// Takes so many octets, and then fails.
-#[derive(Drop)]
-struct ShortWriter {
-    taken: Vec<u8>,
-    room: usize,
+/// Room for all that is written here, so that no write takes memory.
+const ROOM: usize = 4_096;
+
+/// How a call ends.
+#[derive(Clone, Copy, PartialEq, Eq)]
+enum End {
+    /// All was done, and found as it is.
+    Done,
+    OutOfMemory,
+    Other,
 }
 
-impl Write for ShortWriter {
-    fn write(&mut self, bytes: &[u8]) -> io::Result<usize> {
-        if self.taken.len() >= self.room {
-            return Err(io::Error::from(ErrorKind::Other));
-        }
-        let count = bytes.len().min(self.room - self.taken.len());
-        match self.taken.extend_from_slice(&bytes[..count]) {
-            Ok(()) => Ok(count),
-            Err(_) => Err(io::Error::from(ErrorKind::OutOfMemory)),
-        }
-    }
-
-    fn flush(&mut self) -> io::Result<()> {
-        Ok(())
-    }
-}
+/// How a call ends, and what is written; None where memory was refused before anything was done.
+type Came = Option<(End, Vec<u8>)>;
 
 /// Reads a script.
 fn script_of(alloc: Global, text: &str) -> Result<Script, AllocError>
@@ -95,43 +99,257 @@ fn script_of(alloc: Global, text: &str) -> Result<Script, AllocError>
     }
 }
 
-/// Plays the script to a writer of so much room.
-fn played(alloc: Global, form: Form, room: usize) -> Result<PlayWritten<ShortWriter>, AllocError> {
+/// How a play ends.
+fn end_of_play(played: Result<(), PlayFault>) -> End {
+    match played {
+        Ok(()) => End::Done,
+        Err(PlayFault::OutOfMemory) => End::OutOfMemory,
+        Err(PlayFault::Write) => End::Other,
+    }
+}
+
+/// Plays the script to a writer.
+fn played_to<W: Write + Drop>(
+    alloc: Global,
+    form: Form,
+    writer: W,
+) -> Result<PlayWritten<W>, AllocError> {
     let script = script_of(alloc, SCRIPT)?;
-    let writer = ShortWriter {
-        taken: Vec::new(alloc),
-        room,
-    };
     play_with_units(alloc, script, form, false, writer)
 }
 
-/// Tells whether these octets are the one text and then the other.
+/// What comes of that.
+fn played(alloc: Global, form: Form) -> Came {
+    let taken = Vec::with_capacity(alloc, ROOM).ok()?;
+    let PlayWritten { played, writer } = played_to(alloc, form, taken).ok()?;
+    Some((end_of_play(played), writer))
+}
+
+/// What comes of a play whose summary is written alone.
+fn played_alone(alloc: Global) -> Came {
+    let script = script_of(alloc, SCRIPT).ok()?;
+    let mut out = Vec::with_capacity(alloc, ROOM).ok()?;
+    let played = play_for_summary(alloc, script, Form::Plain, Nowhere, &mut out);
+    Some((end_of_play(played), out))
+}
+
+/// How telling the trace ends.
+fn end_of_trace(told: &ToldTrace) -> End {
+    let codes = HeardCodes {
+        garbled: 0,
+        is_read: true,
+    };
+    let refused = ExplainFault::Lines(LinesFault::Line(Unanswered::OutOfMemory));
+    if told.lines == Ok(7) && told.codes == Some(codes) {
+        End::Done
+    } else if told.lines == Err(refused) && told.codes.is_none() {
+        End::OutOfMemory
+    } else {
+        End::Other
+    }
+}
+
+/// What comes of the trace where it is told again.
+fn explained(alloc: Global) -> Came {
+    let mut source = Source::endless(TRACE.as_bytes());
+    let out = Vec::with_capacity(alloc, ROOM).ok()?;
+    let plain = Form::Plain;
+    let TraceWritten { told, writer } = explain_with_units(
+        alloc,
+        Mask::Plain,
+        plain,
+        false,
+        &mut source,
+        out,
+    ).ok()?;
+    Some((end_of_trace(&told), writer))
+}
+
+/// What comes of it where its summary is written alone.
+fn explained_alone(alloc: Global) -> Came {
+    let mut source = Source::endless(TRACE.as_bytes());
+    let mut out = Vec::with_capacity(alloc, ROOM).ok()?;
+    let told = explain_for_summary(alloc, Mask::Plain, Form::Plain, &mut source, &mut out);
+    Some((end_of_trace(&told), out))
+}
+
+/// How a drive ends of which all lines were answered, by what is told of units.
+fn end_of_summary(summary: &Option<Result<Vec<u8>, AllocError>>) -> End {
+    match summary {
+        Some(Ok(text)) if text.as_slice() == UNITS.as_bytes() => End::Done,
+        Some(Err(_)) => End::OutOfMemory,
+        Some(Ok(_)) | None => End::Other,
+    }
+}
+
+/// How a drive ends.
+fn end_of_drive(ended: &DriveEnded) -> End {
+    let all = Driven {
+        lines: 3,
+        errors: 0,
+    };
+    if ended.driven == Ok(all) {
+        return end_of_summary(&ended.summary);
+    }
+    let of_line = DriveFault::Turns(LinesFault::Line(Unanswered::OutOfMemory));
+    let of_script = DriveFault::Script(RunFault::OutOfMemory);
+    let is_refused = ended.driven == Err(of_line) || ended.driven == Err(of_script);
+    if is_refused && ended.summary.is_none() {
+        End::OutOfMemory
+    } else {
+        End::Other
+    }
+}
+
+/// Drives the port so that the unit is found.
+fn driven_to(
+    alloc: Global,
+    script: Script,
+    out: Vec<u8>,
+) -> Result<DriveWritten<Vec<u8>>, AllocError>
+    requires { IsPlayable (script_view script) }
+{
+    let lines: &[u8] = b"0 search\n0 until search\n0 burst 100000 ff01414243440000000100002c\n";
+    let manner = DriveManner {
+        done: false,
+        lights: false,
+    };
+    let mut turns = Source::endless(lines);
+    drive_with_units(alloc, manner, script, Form::Plain, false, &mut turns, out)
+}
+
+/// What comes of that.
+fn driven(alloc: Global) -> Came {
+    let script = script_of(alloc, PORT).ok()?;
+    let out = Vec::with_capacity(alloc, ROOM).ok()?;
+    let DriveWritten { ended, writer } = driven_to(alloc, script, out).ok()?;
+    Some((end_of_drive(&ended), writer))
+}
+
+/// How a verification of the trace ends.
+fn end_of_verification(found: Result<u64, CheckFault>) -> End {
+    let of_line = LinesFault::Line(Unanswered::OutOfMemory);
+    let of_trace = CheckFault::Trace(VerifyFault::Lines(of_line));
+    let of_script = CheckFault::Script(RunFault::OutOfMemory);
+    if found == Ok(7) {
+        End::Done
+    } else if found == Err(of_trace) || found == Err(of_script) {
+        End::OutOfMemory
+    } else {
+        End::Other
+    }
+}
+
+/// What comes of the trace where it is verified.
+fn verified(alloc: Global) -> Came {
+    let mut script = Source::new(PORT.as_bytes());
+    let mut trace = Source::endless(TRACE.as_bytes());
+    let out = Vec::with_capacity(alloc, ROOM).ok()?;
+    let mut sink = Sink::new(alloc, out).ok()?;
+    let plain = Form::Plain;
+    let found = verify_with_units(alloc, plain, None, &mut script, &mut trace, &mut sink);
+    Some((end_of_verification(found), sink.into_inner()))
+}
+
+/// The calls.
+#[derive(Clone, Copy)]
+enum Call {
+    Play,
+    PlayInWords,
+    PlayForSummary,
+    Explain,
+    ExplainForSummary,
+    Drive,
+    Verify,
+}
+
+/// What comes of a call.
+fn came_of(alloc: Global, call: Call) -> Came {
+    match call {
+        Call::Play => played(alloc, Form::Plain),
+        Call::PlayInWords => played(alloc, Form::Words),
+        Call::PlayForSummary => played_alone(alloc),
+        Call::Explain => explained(alloc),
+        Call::ExplainForSummary => explained_alone(alloc),
+        Call::Drive => driven(alloc),
+        Call::Verify => verified(alloc),
+    }
+}
+
+/// Tells whether octets are the one text and then the other.
 fn are_both(octets: &[u8], first: &str, second: &str) -> bool {
     octets.strip_prefix(first.as_bytes()) == Some(second.as_bytes())
 }
 
+/// Tells whether octets are the first ones of that.
+fn are_begun(octets: &[u8], first: &str, second: &str) -> bool {
+    match octets.strip_prefix(first.as_bytes()) {
+        Some(rest) => second.as_bytes().starts_with(rest),
+        None => first.as_bytes().starts_with(octets),
+    }
+}
+
+/// Tells whether octets are whole lines.
+fn are_lines(octets: &[u8]) -> bool {
+    octets.is_empty() || octets.last() == Some(&b'\n')
+}
+
+/// Tells whether all was done, and the one text and then the other is written. None where memory was refused, and
+/// whole lines of that are written, or none.
+fn is_written(came: &Came, first: &str, second: &str) -> Option<bool> {
+    let (end, written) = came.as_ref()?;
+    if *end == End::OutOfMemory && are_begun(written, first, second) && are_lines(written) {
+        return None;
+    }
+    Some(*end == End::Done && are_both(written, first, second))
+}
+
+/// A call, and the two texts that are written.
+type Row = (Call, &'static str, &'static str);
+
+/// Tells whether that is so of a call that is made now.
+fn is_so_if_ample(alloc: Global, row: &Row) -> Option<bool> {
+    let (call, first, second) = *row;
+    let came = came_of(alloc, call);
+    is_written(&came, first, second)
+}
+
+const PLAYS: [Row; 2] = [
+    (Call::Play, TRACE, UNITS),
+    (Call::PlayInWords, WORDS, UNITS),
+];
+
+const PLAY_ALONE: Row = (Call::PlayForSummary, "", UNITS);
+
+const TRACES: [Row; 2] = [
+    (Call::Explain, TRACE, HEARD),
+    (Call::ExplainForSummary, "", HEARD),
+];
+
+/// The summary of a drive is not written.
+const DRIVE: Row = (Call::Drive, TRACE, "");
+
+const VERIFICATION: Row = (Call::Verify, "7 lines, a run\n", UNITS);
+
 #[test]
-fn a_play_is_written(rt: HostRuntime) -> Result<(), AllocError> {
-    let PlayWritten {
-        played: plain,
-        writer,
-    } = played(rt.alloc(), Form::Plain, 4_096)?;
-    assert!(rt; plain == Ok(()));
-    assert!(rt; are_both(writer.taken.as_slice(), TRACE, UNITS));
-    let PlayWritten {
-        played: told,
-        writer,
-    } = played(rt.alloc(), Form::Words, 4_096)?;
-    assert!(rt; told == Ok(()));
-    let trace = writer.taken.strip_suffix(UNITS.as_bytes()).unwrap_or(b"");
-    assert!(rt; trace.starts_with(b"0 0 search = searching\n0 1 frame = ok\n"));
-    assert_eq!(rt; trace.iter().filter(|octet| **octet == b'\n').count(), 7);
-    Ok(())
+fn a_play_is_written(rt: HostRuntime) {
+    for row in &PLAYS {
+        assert!(rt; is_so_if_ample(rt.alloc(), row) == Some(true), "{}", row.1);
+    }
+}
+
+/// Tells whether a play ends with a failed write where the writer has so much room, and the writer has that.
+fn is_cut_at(alloc: Global, room: usize) -> Result<bool, AllocError> {
+    let taken = Vec::new(alloc);
+    let writer = ShortWriter { taken, room };
+    let PlayWritten { played, writer } = played_to(alloc, Form::Plain, writer)?;
+    let is_cut = writer.taken.len() == room && are_begun(&writer.taken, TRACE, UNITS);
+    Ok(played == Err(PlayFault::Write) && is_cut)
 }
 
 /// Up to there the writer has all, in the trace and behind it.
 #[test]
-fn a_write_fails(rt: HostRuntime) -> Result<(), AllocError> {
+fn a_write_fails(rt: HostRuntime) {
     for room in [
         0,
         1,
@@ -140,105 +358,43 @@ fn a_write_fails(rt: HostRuntime) -> Result<(), AllocError> {
         TRACE.len() + 1,
         TRACE.len() + UNITS.len() - 1,
     ] {
-        let PlayWritten { played, writer } = played(rt.alloc(), Form::Plain, room)?;
-        assert!(rt; played == Err(PlayFault::Write), "{room}");
-        let mut whole = String::from_str(rt.alloc(), TRACE)?;
-        whole.push_str(UNITS)?;
-        assert!(rt;
-            whole.as_bytes().get(..room) == Some(writer.taken.as_slice()),
-            "{room}"
-        );
+        assert!(rt; is_cut_at(rt.alloc(), room) == Ok(true), "{room}");
     }
-    Ok(())
 }
 
 #[test]
-fn a_summary_is_written_alone(rt: HostRuntime) -> Result<(), AllocError> {
-    let script = script_of(rt.alloc(), SCRIPT)?;
-    let mut out = Vec::new(rt.alloc());
-    let played = play_for_summary(rt.alloc(), script, Form::Plain, Nowhere, &mut out);
-    assert!(rt; played == Ok(()));
-    assert!(rt; out.as_slice() == UNITS.as_bytes());
-    Ok(())
+fn a_summary_is_written_alone(rt: HostRuntime) {
+    assert!(rt; is_so_if_ample(rt.alloc(), &PLAY_ALONE) == Some(true));
 }
 
 #[test]
-fn a_trace_is_told(rt: HostRuntime) -> Result<(), AllocError> {
-    let codes = HeardCodes {
-        garbled: 0,
-        is_read: true,
-    };
-    let mut source = Source::endless(TRACE.as_bytes());
-    let out = Vec::new(rt.alloc());
-    let TraceWritten { told, writer } = explain_with_units(
-        rt.alloc(),
-        Mask::Plain,
-        Form::Plain,
-        false,
-        &mut source,
-        out,
-    )?;
-    assert!(rt; told.lines == Ok(7) && told.codes == Some(codes));
-    assert!(rt; are_both(writer.as_slice(), TRACE, HEARD));
-    let mut source = Source::endless(TRACE.as_bytes());
-    let mut out = Vec::new(rt.alloc());
-    let ToldTrace {
-        lines,
-        codes: heard,
-    } = explain_for_summary(rt.alloc(), Mask::Plain, Form::Plain, &mut source, &mut out);
-    assert!(rt; lines == Ok(7) && heard == Some(codes));
-    assert!(rt; out.as_slice() == HEARD.as_bytes());
-    Ok(())
+fn a_trace_is_told(rt: HostRuntime) {
+    for row in &TRACES {
+        assert!(rt; is_so_if_ample(rt.alloc(), row) == Some(true), "{}", row.1);
+    }
 }
 
 #[test]
-fn a_drive_is_summed(rt: HostRuntime) -> Result<(), AllocError> {
-    let script = script_of(rt.alloc(), PORT)?;
-    let lines: &[u8] = b"0 search\n0 until search\n0 burst 100000 ff01414243440000000100002c\n";
-    let manner = DriveManner {
-        done: false,
-        lights: false,
-    };
-    let mut turns = Source::endless(lines);
-    let out = Vec::new(rt.alloc());
-    let DriveWritten { ended, writer } = drive_with_units(
-        rt.alloc(),
-        manner,
-        script,
-        Form::Plain,
-        false,
-        &mut turns,
-        out,
-    )?;
-    assert!(rt;
-        ended.driven
-            == Ok(Driven {
-                lines: 3,
-                errors: 0
-            })
-    );
-    assert!(rt; writer.as_slice() == TRACE.as_bytes());
-    let Some(Ok(text)) = ended.summary else {
-        return Err(AllocError);
-    };
-    assert!(rt; text.as_slice() == UNITS.as_bytes());
-    Ok(())
+fn a_drive_is_summed(rt: HostRuntime) {
+    assert!(rt; is_so_if_ample(rt.alloc(), &DRIVE) == Some(true));
 }
 
 #[test]
-fn a_verification_is_summed(rt: HostRuntime) -> Result<(), AllocError> {
-    let mut script = Source::new(PORT.as_bytes());
-    let mut trace = Source::endless(TRACE.as_bytes());
-    let mut sink = Sink::new(rt.alloc(), Vec::new(rt.alloc()))?;
-    let found = verify_with_units(
-        rt.alloc(),
-        Form::Plain,
-        None,
-        &mut script,
-        &mut trace,
-        &mut sink,
-    );
-    assert!(rt; found == Ok(7));
-    assert!(rt; are_both(sink.into_inner().as_slice(), "7 lines, a run\n", UNITS));
-    Ok(())
+fn a_verification_is_summed(rt: HostRuntime) {
+    assert!(rt; is_so_if_ample(rt.alloc(), &VERIFICATION) == Some(true));
+}
+
+/// Where a request for memory is refused it is told, and what is written is whole lines of what is written else, or
+/// nothing was done; else it is as with ample memory.
+#[test]
+fn memory_short_or_ample(rt: HostRuntime) {
+    for row in &PLAYS {
+        assert!(rt; is_so_if_ample(rt.alloc(), row) != Some(false), "{}", row.1);
+    }
+    assert!(rt; is_so_if_ample(rt.alloc(), &PLAY_ALONE) != Some(false));
+    for row in &TRACES {
+        assert!(rt; is_so_if_ample(rt.alloc(), row) != Some(false), "{}", row.1);
+    }
+    assert!(rt; is_so_if_ample(rt.alloc(), &DRIVE) != Some(false));
+    assert!(rt; is_so_if_ample(rt.alloc(), &VERIFICATION) != Some(false));
 }

@@ -1,49 +1,57 @@
 //! Lines that are none, times that fall, readers and writers that fail, and memory that is refused.
-use crate::dumped::{ALL, dumped, dumped_from, dumped_to};
-use crate::parsed::{Wanted, parse};
-use crate::run::RUN;
+use crate::dumped::{
+    ALL, Count, DumpText, dumped, dumped_from, dumped_to, has_count, is_dump_with, is_sum,
+};
+use crate::parsed::Wanted;
+use crate::run::{DUMP, RUN};
 use gp_explain::{ExplainFault, NoLine};
 use gp_flow::{LinesFault, Unanswered};
-use std::alloc::Global;
+use gp_waves::WavesSum;
+use std::alloc::{AllocError, Global};
 use std::io;
 use std::io::{ErrorKind, Read, Write};
 
-/// Tells whether a text is a whole dump with so many frames in it.
-fn is_dump_of(alloc: Global, text: &str, frames: u64) -> Result<bool, ExplainFault> {
-    match parse(alloc, text)? {
-        Some(parsed) => Ok(parsed.count("", "frame", Wanted::Each) == frames),
-        None => Ok(false),
-    }
+/// Tells whether a dump ended so, behind so many frames.
+fn is_ended(
+    alloc: Global,
+    dump: &DumpText,
+    fault: ExplainFault,
+    frames: u64,
+) -> Result<bool, AllocError> {
+    let count = ("", "frame", Wanted::Each, frames);
+    Ok(dump.outcome == Err(fault) && is_dump_with(alloc, dump.text(), &count)?)
+}
+
+/// Tells whether the dump of what is read ends so, behind so many frames.
+fn ends_with<R: Read + Drop>(
+    alloc: Global,
+    reader: R,
+    fault: ExplainFault,
+    frames: u64,
+) -> Result<bool, AllocError> {
+    let dump = dumped_from(alloc, reader, ALL)?;
+    is_ended(alloc, &dump, fault, frames)
 }
 
 #[test]
-fn a_line_that_is_none(rt: HostRuntime) -> Result<(), ExplainFault> {
+fn a_line_that_is_none(rt: HostRuntime) {
     let text = "0 0 frame = ok\n\n# a remark\n0 1 frmae = ok\n0 2 frame = ok\n";
-    let dump = dumped(rt.alloc(), text, ALL)?;
     let refused = ExplainFault::Refused {
         line: 4,
         why: NoLine::NotALine,
     };
-    assert!(rt; dump.outcome.is_err_and(|fault| fault == refused));
-    assert!(rt; is_dump_of(rt.alloc(), dump.text(), 1)?);
-    Ok(())
+    assert!(rt; ends_with(rt.alloc(), text.as_bytes(), refused, 1) == Ok(true));
 }
 
 #[test]
-fn a_line_that_is_too_long(rt: HostRuntime) -> Result<(), ExplainFault> {
-    let mut text = String::new(rt.alloc());
-    text.push_str("0 0 frame = ok\n")?;
-    for _ in 0..4_097 {
-        text.push('0')?;
-    }
-    let dump = dumped(rt.alloc(), text.as_str(), ALL)?;
+fn a_line_that_is_too_long(rt: HostRuntime) {
+    let long = [b'0'; 4_097];
+    let text = b"0 0 frame = ok\n".chain(long.as_slice());
     let refused = ExplainFault::Refused {
         line: 2,
         why: NoLine::TooLong,
     };
-    assert!(rt; dump.outcome.is_err_and(|fault| fault == refused));
-    assert!(rt; is_dump_of(rt.alloc(), dump.text(), 1)?);
-    Ok(())
+    assert!(rt; ends_with(rt.alloc(), text, refused, 1) == Ok(true));
 }
 
 /// The second line comes too late; its code is garbled, and of no port but 0; the fourth is of another port.
@@ -54,23 +62,29 @@ const FALLS: &'static str = "\
 1 3 grant search\n\
 ";
 
+const HEARD: [Count; 4] = [
+    ("", "sent", Wanted::Something, 1),
+    ("", "burst", Wanted::Something, 1),
+    ("", "delay", Wanted::Something, 0),
+    ("unit", "state", Wanted::Each, 0),
+];
+
+/// Tells whether one of four lines fell.
+fn has_fallen(alloc: Global) -> Result<bool, AllocError> {
+    let dump = dumped(alloc, FALLS, ALL)?;
+    Ok(is_sum(&dump, 4, 1))
+}
+
 #[test]
-fn times_that_fall(rt: HostRuntime) -> Result<(), ExplainFault> {
-    let dump = dumped(rt.alloc(), FALLS, ALL)?;
-    assert!(rt;
-        dump.outcome
-            .is_ok_and(|sum| sum.lines == 4 && sum.fallen == 1 && sum.late == 0)
-    );
-    match parse(rt.alloc(), dump.text())? {
-        Some(parsed) => {
-            assert_eq!(rt; parsed.count("", "sent", Wanted::Something), 1);
-            assert_eq!(rt; parsed.count("", "burst", Wanted::Something), 1);
-            assert_eq!(rt; parsed.count("", "delay", Wanted::Something), 0);
-            assert_eq!(rt; parsed.count("unit", "state", Wanted::Each), 0);
-        }
-        None => assert!(rt; false),
+fn times_that_fall(rt: HostRuntime) {
+    assert!(rt; has_fallen(rt.alloc()) == Ok(true));
+    for row in &HEARD {
+        assert!(rt;
+            has_count(rt.alloc(), FALLS, ALL, row) == Ok(true),
+            "{}",
+            row.1
+        );
     }
-    Ok(())
 }
 
 /// Fails at each read.
@@ -84,15 +98,10 @@ impl Read for FailingReader {
 }
 
 #[test]
-fn a_read_that_fails(rt: HostRuntime) -> Result<(), ExplainFault> {
-    let reader = "0 0 frame = ok\n0 1 frame = ok\n0 2 fra"
-        .as_bytes()
-        .chain(FailingReader);
-    let dump = dumped_from(rt.alloc(), reader, ALL)?;
+fn a_read_that_fails(rt: HostRuntime) {
+    let begin = b"0 0 frame = ok\n0 1 frame = ok\n0 2 fra".as_slice();
     let unread = ExplainFault::Lines(LinesFault::Read);
-    assert!(rt; dump.outcome.is_err_and(|fault| fault == unread));
-    assert!(rt; is_dump_of(rt.alloc(), dump.text(), 2)?);
-    Ok(())
+    assert!(rt; ends_with(rt.alloc(), begin.chain(FailingReader), unread, 2) == Ok(true));
 }
 
 /// Takes so many octets, and then fails.
@@ -118,39 +127,59 @@ impl Write for ShortWriter {
     }
 }
 
-/// A pipe that is closed has a prefix of the dump, and the fault is told.
-#[test]
-fn a_write_that_fails(rt: HostRuntime) -> Result<(), ExplainFault> {
-    let whole = dumped(rt.alloc(), RUN, ALL)?;
-    let length = whole.octets.len();
-    for room in [0, 1, 100, length / 2, length.saturating_sub(1), length] {
-        let taken = Vec::new(rt.alloc());
-        let (outcome, writer) = dumped_to(rt.alloc(), RUN, ShortWriter { taken, room })?;
-        let stopped = ExplainFault::Lines(LinesFault::Line(Unanswered::Write));
-        if room < length {
-            assert!(rt; outcome.is_err_and(|fault| fault == stopped), "{room}");
-        } else {
-            assert!(rt; outcome.is_ok(), "{room}");
-        }
-        let wanted = whole.octets.get(..room.min(length)).unwrap_or(&[]);
-        assert!(rt; writer.taken.as_slice() == wanted, "{room}");
+/// Tells whether dumping ends as it has to where the writer has so much room.
+fn is_end(outcome: Result<WavesSum, ExplainFault>, room: usize) -> bool {
+    let stopped = ExplainFault::Lines(LinesFault::Line(Unanswered::Write));
+    if room < DUMP.len() {
+        outcome == Err(stopped)
+    } else {
+        outcome.is_ok()
     }
-    Ok(())
 }
 
-/// Where an allocation was made to fail it is told, and what is written is the beginning of a dump. What the test takes
-/// for itself may be refused too.
+/// Tells whether octets are the first of the dump, so many or all.
+fn are_first(taken: &[u8], room: usize) -> bool {
+    DUMP.as_bytes().starts_with(taken) && taken.len() == room.min(DUMP.len())
+}
+
+/// Tells whether that is so of a writer that has so much room.
+fn is_cut_at(alloc: Global, room: usize) -> Result<bool, AllocError> {
+    let taken = Vec::new(alloc);
+    let (outcome, writer) = dumped_to(alloc, RUN, ShortWriter { taken, room })?;
+    Ok(is_end(outcome, room) && are_first(&writer.taken, room))
+}
+
+/// A pipe that is closed has a prefix of the dump, and the fault is told.
+#[test]
+fn a_write_that_fails(rt: HostRuntime) {
+    let length = DUMP.len();
+    for room in [0, 1, 100, length / 2, length.saturating_sub(1), length] {
+        assert!(rt; is_cut_at(rt.alloc(), room) == Ok(true), "{room}");
+    }
+}
+
+/// Room for the dump, so that no write takes memory.
+const ROOM: usize = 8_192;
+
+/// Tells whether all lines are dumped. None where memory was refused, and nothing is written.
+fn is_dump(outcome: Result<WavesSum, ExplainFault>, written: &[u8]) -> Option<bool> {
+    let refused = ExplainFault::Lines(LinesFault::Line(Unanswered::OutOfMemory));
+    if outcome == Err(refused) && written.is_empty() {
+        return None;
+    }
+    Some(outcome.is_ok_and(|sum| sum.lines == 11) && written == DUMP.as_bytes())
+}
+
+/// Tells the same of a dump that is made now; None too where the test has no memory itself.
+fn is_dumped_if_ample(alloc: Global) -> Option<bool> {
+    let writer = Vec::with_capacity(alloc, ROOM).ok()?;
+    let (outcome, written) = dumped_to(alloc, RUN, writer).ok()?;
+    is_dump(outcome, &written)
+}
+
+/// Where an allocation was made to fail it is told, and nothing is written; else the dump is as it should be. What the
+/// test takes for itself may be refused too.
 #[test]
 fn memory_short_or_ample(rt: HostRuntime) {
-    let Ok(dump) = dumped(rt.alloc(), RUN, ALL) else {
-        return;
-    };
-    let refused = ExplainFault::Lines(LinesFault::Line(Unanswered::OutOfMemory));
-    match dump.outcome {
-        Ok(sum) => assert_eq!(rt; sum.lines, 11),
-        Err(fault) => {
-            assert_eq!(rt; fault, refused);
-            assert!(rt; dump.octets.is_empty());
-        }
-    }
+    assert!(rt; is_dumped_if_ample(rt.alloc()) != Some(false));
 }

@@ -60,7 +60,7 @@ fn is_of_width(value: &str, width: usize) -> bool {
             && value
                 .as_bytes()
                 .iter()
-                .all(|digit| *digit == b'0' || *digit == b'1'))
+                .all(|digit| matches!(*digit, b'0' | b'1')))
 }
 
 impl<'a> Parsed<'a> {
@@ -77,14 +77,30 @@ impl<'a> Parsed<'a> {
         }
     }
 
+    /// Opens the scope of a port. Tells whether it has the name of one.
+    fn open_port(&mut self, name: &'a str) -> bool {
+        let is_port = name.starts_with("port");
+        if is_port {
+            self.port = name;
+        }
+        is_port
+    }
+
+    /// Opens the scope of a unit. Tells whether it has the name of one.
+    fn open_unit(&mut self, name: &'a str) -> bool {
+        let is_unit = name.starts_with("unit");
+        if is_unit {
+            self.unit = name;
+        }
+        is_unit
+    }
+
     /// Opens a scope. Tells whether it may stand there.
     fn open_scope(&mut self, name: &'a str) -> bool {
-        if self.port.is_empty() && name.starts_with("port") {
-            self.port = name;
-            true
-        } else if !self.port.is_empty() && self.unit.is_empty() && name.starts_with("unit") {
-            self.unit = name;
-            true
+        if self.port.is_empty() {
+            self.open_port(name)
+        } else if self.unit.is_empty() {
+            self.open_unit(name)
         } else {
             false
         }
@@ -216,6 +232,33 @@ impl<'a> Parsed<'a> {
         }
         count
     }
+
+    /// The last value that a variable of this name gets.
+    pub(crate) fn last(&self, name: &str) -> Option<Setting<'a>> {
+        let mut settings = self.settings.as_slice().iter().rev();
+        settings
+            .find(|setting| setting.variable.name == name)
+            .copied()
+    }
+
+    /// Reads a line. Tells whether it is one.
+    fn line(&mut self, line: &'a str) -> Result<bool, AllocError> {
+        if self.is_open {
+            self.declaration(line)
+        } else {
+            self.change(line)
+        }
+    }
+
+    /// Reads lines. Tells whether they are the lines of a whole dump.
+    fn lines(&mut self, lines: &'a str) -> Result<bool, AllocError> {
+        for line in lines.split('\n') {
+            if !self.line(line)? {
+                return Ok(false);
+            }
+        }
+        Ok(!self.is_open)
+    }
 }
 
 /// Reads a whole dump. None where it is none.
@@ -224,18 +267,8 @@ pub(crate) fn parse<'a>(alloc: Global, text: &'a str) -> Result<Option<Parsed<'a
         return Ok(None);
     };
     let mut parsed = Parsed::begin(alloc);
-    for line in lines.split('\n') {
-        let is_one = if parsed.is_open {
-            parsed.declaration(line)?
-        } else {
-            parsed.change(line)?
-        };
-        if !is_one {
-            return Ok(None);
-        }
+    match parsed.lines(lines)? {
+        true => Ok(Some(parsed)),
+        false => Ok(None),
     }
-    if parsed.is_open {
-        return Ok(None);
-    }
-    Ok(Some(parsed))
 }

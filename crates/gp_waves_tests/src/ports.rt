@@ -1,7 +1,6 @@
 //! Ports that are not in step.
-use crate::dumped::{ALL, dumped};
-use crate::parsed::{Wanted, parse};
-use gp_explain::ExplainFault;
+use crate::dumped::{ALL, DumpText, dumped, is_sum};
+use crate::parsed::{Parsed, Wanted, parse};
 use std::alloc::{AllocError, Global};
 
 /// Port 3 has all of its frames before port 1 has one.
@@ -37,18 +36,22 @@ bz da\n\
 bz bw\n\
 bz dw\n";
 
+/// Tells whether a text has the scopes of ports 1 and 3, and none of port 0.
+fn has_scopes(text: &str) -> bool {
+    text.contains("$scope module port1 $end\n")
+        && text.contains("$scope module port3 $end\n")
+        && !text.contains("$scope module port0 $end\n")
+}
+
+/// Tells whether both ports are dumped so.
+fn are_in_order(alloc: Global) -> Result<bool, AllocError> {
+    let dump = dumped(alloc, APART, ALL)?;
+    Ok(dump.text().ends_with(CHANGES) && has_scopes(dump.text()) && is_sum(&dump, 5, 0))
+}
+
 #[test]
-fn ports_in_the_order_of_their_times(rt: HostRuntime) -> Result<(), ExplainFault> {
-    let dump = dumped(rt.alloc(), APART, ALL)?;
-    assert!(rt; dump.text().ends_with(CHANGES));
-    assert!(rt; dump.text().contains("$scope module port1 $end\n"));
-    assert!(rt; dump.text().contains("$scope module port3 $end\n"));
-    assert!(rt; !dump.text().contains("$scope module port0 $end\n"));
-    assert!(rt;
-        dump.outcome
-            .is_ok_and(|sum| sum.lines == 5 && sum.late == 0)
-    );
-    Ok(())
+fn ports_in_the_order_of_their_times(rt: HostRuntime) {
+    assert!(rt; are_in_order(rt.alloc()) == Ok(true));
 }
 
 /// Gives a trace in which port 0 has so many frames before port 1 has ten.
@@ -63,20 +66,41 @@ fn far_apart(alloc: Global, frames: u64) -> Result<String, AllocError> {
     Ok(trace)
 }
 
-#[test]
-fn further_apart_than_is_held_back(rt: HostRuntime) -> Result<(), ExplainFault> {
-    let trace = far_apart(rt.alloc(), 66_001)?;
-    let dump = dumped(rt.alloc(), trace.as_str(), ALL)?;
-    assert!(rt;
-        dump.outcome
-            .is_ok_and(|sum| sum.lines == 66_010 && sum.late > 0)
-    );
-    match parse(rt.alloc(), dump.text())? {
-        Some(parsed) => {
-            assert_eq!(rt; parsed.variables.len(), 16 * (8 + 4 * 256));
-            assert_eq!(rt; parsed.count("", "frame", Wanted::Each), 66_010);
-        }
-        None => assert!(rt; false),
+/// Tells whether changes of a dump were late.
+fn is_late(dump: &DumpText) -> bool {
+    match dump.outcome {
+        Ok(sum) => sum.lines == 66_010 && sum.late > 0,
+        Err(_) => false,
     }
-    Ok(())
+}
+
+/// Tells whether all variables that there can be are declared, and each frame is there.
+fn has_all(parsed: &Parsed<'_>) -> bool {
+    parsed.variables.len() == 16 * (8 + 4 * 256)
+        && parsed.count("", "frame", Wanted::Each) == 66_010
+}
+
+/// Tells whether a text is a dump of which that is so.
+fn is_dump_of_all(alloc: Global, text: &str) -> Result<bool, AllocError> {
+    match parse(alloc, text)? {
+        Some(parsed) => Ok(has_all(&parsed)),
+        None => Ok(false),
+    }
+}
+
+/// The dump of that trace with so many frames.
+fn dumped_apart(alloc: Global, frames: u64) -> Result<DumpText, AllocError> {
+    let trace = far_apart(alloc, frames)?;
+    dumped(alloc, trace.as_str(), ALL)
+}
+
+/// Tells whether it has each frame, some of them late.
+fn are_apart(alloc: Global) -> Result<bool, AllocError> {
+    let dump = dumped_apart(alloc, 66_001)?;
+    Ok(is_late(&dump) && is_dump_of_all(alloc, dump.text())?)
+}
+
+#[test]
+fn further_apart_than_is_held_back(rt: HostRuntime) {
+    assert!(rt; are_apart(rt.alloc()) == Ok(true));
 }

@@ -1,8 +1,8 @@
 //! A short run, change by change.
-use crate::dumped::{ALL, dumped};
+use crate::dumped::{ALL, Count, dumped, has_count, is_sum};
 use crate::parsed::{Wanted, parse};
-use gp_explain::ExplainFault;
 use gp_waves::Frames;
+use std::alloc::{AllocError, Global};
 
 /// A unit is found and ranged, then polled without an answer, lost with an alarm, and removed.
 pub(crate) const RUN: &'static str = "\
@@ -20,7 +20,7 @@ pub(crate) const RUN: &'static str = "\
 ";
 
 /// Its dump: `ABCD` is 41424344, 100000 is 186a0, 211040 is 33860 in hexadecimal digits.
-const DUMP: &'static str = "\
+pub(crate) const DUMP: &'static str = "\
 $timescale 1 ns $end\n\
 $comment grant, window: 1 search, 2 range, 3 poll; alarm: 1 LOS, 2 LOAM, 3 LOA, 4 SUF, 5 DF, 6 DG; state: 0 removed, 1 asking, 2 ranging, 3 operating; z: none $end\n\
 $scope module port2 $end\n\
@@ -105,52 +105,71 @@ bz cl\n\
 bz cs\n\
 ";
 
+/// Tells whether the run is dumped so.
+fn is_run(alloc: Global) -> Result<bool, AllocError> {
+    let dump = dumped(alloc, RUN, ALL)?;
+    Ok(dump.text() == DUMP && is_sum(&dump, 11, 0))
+}
+
 #[test]
-fn a_run(rt: HostRuntime) -> Result<(), ExplainFault> {
-    let dump = dumped(rt.alloc(), RUN, ALL)?;
-    assert_eq!(rt; dump.text(), DUMP);
-    assert!(rt;
-        dump.outcome
-            .is_ok_and(|sum| sum.lines == 11 && sum.fallen == 0 && sum.late == 0)
-    );
-    Ok(())
+fn a_run(rt: HostRuntime) {
+    assert!(rt; is_run(rt.alloc()) == Ok(true));
 }
 
 /// The frames from the one behind the answer on, up to the last but one.
 const SOME: Frames = Frames { from: 5, to: 8 };
 
-#[test]
-fn some_frames(rt: HostRuntime) -> Result<(), ExplainFault> {
-    let dump = dumped(rt.alloc(), RUN, SOME)?;
-    // what is known of the unit stands where they begin
-    let begin = "$enddefinitions $end\n\
-        #625000\n\
-        b0100000101000010010000110100010000000000000000000000000000000001 cn0\n\
-        b00000011 ct0\n\
-        b00000000 co0\n\
-        b00000000000000110011100001100000 ce0\n\
-        1cf\n";
-    assert!(rt; dump.text().contains(begin));
-    match parse(rt.alloc(), dump.text())? {
-        Some(parsed) => {
-            assert_eq!(rt; parsed.count("", "frame", Wanted::Each), 4);
-            assert_eq!(rt; parsed.count("", "grant", Wanted::Something), 1);
-            assert_eq!(rt; parsed.count("", "alarm", Wanted::Something), 1);
-            assert_eq!(rt; parsed.count("", "burst", Wanted::Something), 0);
-            assert_eq!(rt; parsed.count("unit", "state", Wanted::Each), 1);
-        }
-        None => assert!(rt; false),
-    }
-    Ok(())
+/// What is known of the unit stands where they begin.
+const BEGIN: &'static str = "$enddefinitions $end\n\
+#625000\n\
+b0100000101000010010000110100010000000000000000000000000000000001 cn0\n\
+b00000011 ct0\n\
+b00000000 co0\n\
+b00000000000000110011100001100000 ce0\n\
+1cf\n";
+
+const OF_SOME: [Count; 5] = [
+    ("", "frame", Wanted::Each, 4),
+    ("", "grant", Wanted::Something, 1),
+    ("", "alarm", Wanted::Something, 1),
+    ("", "burst", Wanted::Something, 0),
+    ("unit", "state", Wanted::Each, 1),
+];
+
+/// Tells whether these frames are dumped with this beginning.
+fn is_begun(alloc: Global) -> Result<bool, AllocError> {
+    let dump = dumped(alloc, RUN, SOME)?;
+    Ok(dump.text().contains(BEGIN))
 }
 
 #[test]
-fn no_line(rt: HostRuntime) -> Result<(), ExplainFault> {
-    let dump = dumped(rt.alloc(), "", ALL)?;
-    assert!(rt; dump.text().ends_with(" none $end\n$enddefinitions $end\n"));
-    match parse(rt.alloc(), dump.text())? {
-        Some(parsed) => assert!(rt; parsed.variables.is_empty()),
-        None => assert!(rt; false),
+fn some_frames(rt: HostRuntime) {
+    assert!(rt; is_begun(rt.alloc()) == Ok(true));
+    for row in &OF_SOME {
+        assert!(rt;
+            has_count(rt.alloc(), RUN, SOME, row) == Ok(true),
+            "{}",
+            row.1
+        );
     }
-    Ok(())
+}
+
+/// Tells whether a text is a dump with no variable.
+fn has_none(alloc: Global, text: &str) -> Result<bool, AllocError> {
+    match parse(alloc, text)? {
+        Some(parsed) => Ok(parsed.variables.is_empty()),
+        None => Ok(false),
+    }
+}
+
+/// Tells whether that is so of the dump of no line.
+fn is_empty(alloc: Global) -> Result<bool, AllocError> {
+    let dump = dumped(alloc, "", ALL)?;
+    let is_end = dump.text().ends_with(" none $end\n$enddefinitions $end\n");
+    Ok(is_end && has_none(alloc, dump.text())?)
+}
+
+#[test]
+fn no_line(rt: HostRuntime) {
+    assert!(rt; is_empty(rt.alloc()) == Ok(true));
 }

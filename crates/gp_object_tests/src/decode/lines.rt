@@ -3,7 +3,7 @@ use super::decoded;
 use crate::fields::{Plain, are_lines};
 use gp_decode::{DecodeFault, Direction, FaultAt};
 use gp_ploam::Mask;
-use std::alloc::AllocError;
+use std::alloc::{AllocError, Global};
 
 /// A line, and its fault.
 type Fault = Option<(u64, DecodeFault)>;
@@ -121,38 +121,53 @@ const INPUTS: [Row; 7] = [
     ),
 ];
 
-#[test]
-fn lines(rt: HostRuntime) -> Result<(), AllocError> {
-    for (input, direction, mask, objects, first) in INPUTS {
-        let (outcome, said) = decoded(rt.alloc(), input, direction, mask)?;
-        let first = first.map(|(line, fault)| FaultAt { line, fault });
-        assert_eq!(rt; outcome, Ok(first));
-        assert!(rt; are_lines(rt.alloc(), said.as_slice(), objects)?);
-    }
-    Ok(())
+/// Tells whether lines have these objects, and this first fault.
+fn is_answered(
+    alloc: Global,
+    input: &[u8],
+    direction: Direction,
+    mask: Mask,
+    objects: &[&'static [Plain]],
+    first: Fault,
+) -> Result<bool, AllocError> {
+    let (outcome, said) = decoded(alloc, input, direction, mask)?;
+    let first = first.map(|(line, fault)| FaultAt { line, fault });
+    Ok(outcome == Ok(first) && are_lines(alloc, &said, objects)?)
 }
+
+/// Tells whether that is so of a row.
+fn is_row(alloc: Global, row: &Row) -> Result<bool, AllocError> {
+    let (input, direction, mask, objects, first) = *row;
+    is_answered(alloc, input, direction, mask, objects, first)
+}
+
+#[test]
+fn lines(rt: HostRuntime) {
+    for place in 0..INPUTS.len() {
+        let right = is_row(rt.alloc(), &INPUTS[place]);
+        assert!(rt; right == Ok(true), "{place}");
+    }
+}
+
+/// Tells whether a remark has these objects, and this first fault.
+fn is_remark(
+    alloc: Global,
+    remark: &[u8],
+    objects: &[&'static [Plain]],
+    first: Fault,
+) -> Result<bool, AllocError> {
+    is_answered(alloc, remark, Direction::Each, Mask::Plain, objects, first)
+}
+
+/// What is said to a line that is too long.
+const LONG: [&'static [Plain]; 1] = [&[Plain::Number("line", 1), Plain::Text("error", "length")]];
 
 /// A line of 4,096 octets is looked at, and a longer one isn't, though it be a remark.
 #[test]
-fn long_lines(rt: HostRuntime) -> Result<(), AllocError> {
-    let long: &'static [Plain] = &[Plain::Number("line", 1), Plain::Text("error", "length")];
-    for (count, is_long) in [(4095, false), (4096, true)] {
-        let mut input = Vec::from_slice(rt.alloc(), b"#")?;
-        for _ in 0..count {
-            input.push(b' ')?;
-        }
-        let (outcome, said) = decoded(rt.alloc(), &input, Direction::Each, Mask::Plain)?;
-        let first = FaultAt {
-            line: 1,
-            fault: DecodeFault::Length,
-        };
-        if is_long {
-            assert_eq!(rt; outcome, Ok(Some(first)));
-            assert!(rt; are_lines(rt.alloc(), said.as_slice(), [long].as_slice())?);
-        } else {
-            assert_eq!(rt; outcome, Ok(None));
-            assert!(rt; said.is_empty());
-        }
-    }
-    Ok(())
+fn long_lines(rt: HostRuntime) {
+    let mut line = [b' '; 4_097];
+    line[0] = b'#';
+    let first = Some((1, DecodeFault::Length));
+    assert!(rt; is_remark(rt.alloc(), &line[..4_096], &[], None) == Ok(true));
+    assert!(rt; is_remark(rt.alloc(), &line, &LONG, first) == Ok(true));
 }

@@ -2,7 +2,7 @@
 use super::{A, is_told};
 use crate::fields::{Field, Plain};
 use gp_machine::{Allocs, Answer, Command, Event, Phase, Refusal, Reply, Row};
-use std::alloc::AllocError;
+use std::alloc::{AllocError, Global};
 
 /// A reply, the line of a frame that has it, and the fields of that behind the first two.
 type ReplyRow = (Reply, &'static str, &'static [Field]);
@@ -329,24 +329,31 @@ const REFUSALS: [RefusalRow; 14] = [
     ),
 ];
 
-#[test]
-fn replies(rt: HostRuntime) -> Result<(), AllocError> {
-    for (reply, text, fields) in REPLIES {
-        let answer = Answer::from(reply);
-        let right = is_told(rt.alloc(), Event::Frame, answer, text, fields)?;
-        assert!(rt; right, "{text}");
-    }
-    Ok(())
+/// Tells whether a frame that is answered by a reply has its line and its fields.
+fn is_reply(alloc: Global, row: &ReplyRow) -> Result<bool, AllocError> {
+    let (reply, text, fields) = *row;
+    is_told(alloc, Event::Frame, Answer::from(reply), text, fields)
 }
 
 #[test]
-fn refusals(rt: HostRuntime) -> Result<(), AllocError> {
-    for (refusal, text, fields) in REFUSALS {
-        let answer = Answer::from(Reply::Refused(refusal));
-        let right = is_told(rt.alloc(), Event::Frame, answer, text, fields)?;
-        assert!(rt; right, "{text}");
+fn replies(rt: HostRuntime) {
+    for row in &REPLIES {
+        assert!(rt; is_reply(rt.alloc(), row) == Ok(true), "{}", row.1);
     }
-    Ok(())
+}
+
+/// Tells whether a frame that is refused has its line and its fields.
+fn is_refusal(alloc: Global, row: &RefusalRow) -> Result<bool, AllocError> {
+    let (refusal, text, fields) = *row;
+    let answer = Answer::from(Reply::Refused(refusal));
+    is_told(alloc, Event::Frame, answer, text, fields)
+}
+
+#[test]
+fn refusals(rt: HostRuntime) {
+    for row in &REFUSALS {
+        assert!(rt; is_refusal(rt.alloc(), row) == Ok(true), "{}", row.1);
+    }
 }
 
 /// The fields of a unit that is shown, behind the first two: its ONU-ID is 3.
@@ -431,51 +438,50 @@ fn with_alloc(mut allocs: Allocs, alloc: u16, leaving: bool) -> Allocs {
     allocs
 }
 
-#[test]
-fn shown_units(rt: HostRuntime) -> Result<(), AllocError> {
+/// Tells whether a unit that is shown has this line and these fields.
+fn is_shown(alloc: Global, row: Row, text: &str, fields: &[Field]) -> Result<bool, AllocError> {
+    let show = Event::Command(Command::Show(A));
+    is_told(alloc, show, Answer::from(Reply::Shown(row)), text, fields)
+}
+
+/// A unit that operates, with these Alloc-IDs.
+fn operating(allocs: Allocs) -> Row {
     let phase = Phase::Operating {
         eqd: 211_040,
         dark: 1,
         garbled: 2,
     };
-    let ranging = Row::ranging(3);
-    let operating = Row { phase, ..ranging };
-    let held = with_alloc(Allocs::new(), 300, false);
-    let one = Row {
-        allocs: held,
-        ..operating
-    };
-    let three = Row {
-        allocs: with_alloc(with_alloc(held, 4095, false), 256, true),
-        ..ranging
-    };
-    let rows: [(Row, &'static str, &'static [Field]); 4] = [
-        (
-            ranging,
-            "1 7 show ABCD00000001 = unit 3 ranging 0 allocs -",
-            RANGING_ALONE.as_slice(),
-        ),
-        (
-            operating,
-            "1 7 show ABCD00000001 = unit 3 operating 211040 allocs -",
-            OPERATING_ALONE.as_slice(),
-        ),
-        (
-            one,
-            "1 7 show ABCD00000001 = unit 3 operating 211040 allocs 300",
-            OPERATING_WITH_ONE.as_slice(),
-        ),
-        (
-            three,
-            "1 7 show ABCD00000001 = unit 3 ranging 0 allocs 256!,300,4095",
-            RANGING_WITH_THREE.as_slice(),
-        ),
-    ];
-    for (row, text, fields) in rows {
-        let command = Event::Command(Command::Show(A));
-        let answer = Answer::from(Reply::Shown(row));
-        let right = is_told(rt.alloc(), command, answer, text, fields)?;
-        assert!(rt; right, "{text}");
+    Row {
+        phase,
+        allocs,
+        ..Row::ranging(3)
     }
-    Ok(())
+}
+
+/// A unit that is ranged, with three Alloc-IDs, of which one leaves.
+fn ranging_with_three() -> Row {
+    let held = with_alloc(with_alloc(Allocs::new(), 300, false), 4_095, false);
+    Row {
+        allocs: with_alloc(held, 256, true),
+        ..Row::ranging(3)
+    }
+}
+
+#[test]
+fn shown_units(rt: HostRuntime) {
+    let alone = operating(Allocs::new());
+    let one = operating(with_alloc(Allocs::new(), 300, false));
+    let three = ranging_with_three();
+    let text = "1 7 show ABCD00000001 = unit 3 ranging 0 allocs -";
+    let right = is_shown(rt.alloc(), Row::ranging(3), text, &RANGING_ALONE);
+    assert!(rt; right == Ok(true), "{text}");
+    let text = "1 7 show ABCD00000001 = unit 3 operating 211040 allocs -";
+    let right = is_shown(rt.alloc(), alone, text, &OPERATING_ALONE);
+    assert!(rt; right == Ok(true), "{text}");
+    let text = "1 7 show ABCD00000001 = unit 3 operating 211040 allocs 300";
+    let right = is_shown(rt.alloc(), one, text, &OPERATING_WITH_ONE);
+    assert!(rt; right == Ok(true), "{text}");
+    let text = "1 7 show ABCD00000001 = unit 3 ranging 0 allocs 256!,300,4095";
+    let right = is_shown(rt.alloc(), three, text, &RANGING_WITH_THREE);
+    assert!(rt; right == Ok(true), "{text}");
 }

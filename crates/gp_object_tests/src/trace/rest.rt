@@ -8,7 +8,7 @@ use gp_alarms::{Alarm, AlarmKind};
 use gp_machine::{Answer, Event, Reply};
 use gp_ploam::Down;
 use gp_ranging::Grant;
-use std::alloc::AllocError;
+use std::alloc::{AllocError, Global};
 
 const FRAME: Field = Field::Plain(Plain::Text("event", "frame"));
 
@@ -45,17 +45,21 @@ const GRANTS: [GrantRow; 3] = [
     ),
 ];
 
+/// Tells whether a grant has its line and its fields.
+fn is_grant(alloc: Global, row: &GrantRow) -> Result<bool, AllocError> {
+    let (grant, text, fields) = *row;
+    let answer = Answer {
+        grant: Some(grant),
+        ..Answer::from(Reply::Ticked)
+    };
+    is_told(alloc, Event::Frame, answer, text, fields)
+}
+
 #[test]
-fn grants(rt: HostRuntime) -> Result<(), AllocError> {
-    for (grant, text, fields) in GRANTS {
-        let answer = Answer {
-            grant: Some(grant),
-            ..Answer::from(Reply::Ticked)
-        };
-        let right = is_told(rt.alloc(), Event::Frame, answer, text, fields)?;
-        assert!(rt; right, "{text}");
+fn grants(rt: HostRuntime) {
+    for row in &GRANTS {
+        assert!(rt; is_grant(rt.alloc(), row) == Ok(true), "{}", row.1);
     }
-    Ok(())
 }
 
 /// A kind of alarm, and the line of a frame that gives it.
@@ -101,17 +105,21 @@ const ALARMS: [AlarmRow; 6] = [
     ),
 ];
 
+/// Tells whether an alarm has its line and its fields.
+fn is_alarm(alloc: Global, row: &AlarmRow) -> Result<bool, AllocError> {
+    let (kind, text, fields) = *row;
+    let answer = Answer {
+        alarm: Some(Alarm { kind, serial: A }),
+        ..Answer::from(Reply::Ticked)
+    };
+    is_told(alloc, Event::Frame, answer, text, fields)
+}
+
 #[test]
-fn alarms(rt: HostRuntime) -> Result<(), AllocError> {
-    for (kind, text, fields) in ALARMS {
-        let answer = Answer {
-            alarm: Some(Alarm { kind, serial: A }),
-            ..Answer::from(Reply::Ticked)
-        };
-        let right = is_told(rt.alloc(), Event::Frame, answer, text, fields)?;
-        assert!(rt; right, "{text}");
+fn alarms(rt: HostRuntime) {
+    for row in &ALARMS {
+        assert!(rt; is_alarm(rt.alloc(), row) == Ok(true), "{}", row.1);
     }
-    Ok(())
 }
 
 const SENT_CODE: Field = Field::Plain(Plain::Text("sent", "ff03004142434400000001001b"));
@@ -163,27 +171,35 @@ fn sending(grant: Option<Grant>, alarm: Option<AlarmKind>) -> Answer
     }
 }
 
+/// Tells whether a message that is sent, with this behind it, has this line and these fields.
+fn is_sent(
+    alloc: Global,
+    grant: Option<Grant>,
+    alarm: Option<AlarmKind>,
+    text: &str,
+    fields: &[Field],
+) -> Result<bool, AllocError> {
+    is_told(alloc, Event::Frame, sending(grant, alarm), text, fields)
+}
+
 /// A message sent, alone and before what may stand behind it.
 #[test]
-fn messages_sent(rt: HostRuntime) -> Result<(), AllocError> {
-    let code = "1 7 frame = ok sent ff03004142434400000001001b";
-    let alone = is_told(rt.alloc(), Event::Frame, sending(None, None), code, &SENT)?;
-    assert!(rt; alone);
-    let with_alarm = is_told(
+fn messages_sent(rt: HostRuntime) {
+    let text = "1 7 frame = ok sent ff03004142434400000001001b";
+    let right = is_sent(rt.alloc(), None, None, text, &SENT);
+    assert!(rt; right == Ok(true), "{text}");
+    let text = "1 7 frame = ok sent ff03004142434400000001001b alarm SUF ABCD00000001";
+    let right = is_sent(
         rt.alloc(),
-        Event::Frame,
-        sending(None, Some(AlarmKind::Suf)),
-        "1 7 frame = ok sent ff03004142434400000001001b alarm SUF ABCD00000001",
+        None,
+        Some(AlarmKind::Suf),
+        text,
         &SENT_WITH_ALARM,
-    )?;
-    assert!(rt; with_alarm);
-    let all = is_told(
-        rt.alloc(),
-        Event::Frame,
-        sending(Some(Grant::Range(0)), Some(AlarmKind::Loam)),
-        "1 7 frame = ok sent ff03004142434400000001001b grant range 0 alarm LOAM ABCD00000001",
-        &ALL,
-    )?;
-    assert!(rt; all);
-    Ok(())
+    );
+    assert!(rt; right == Ok(true), "{text}");
+    let grant = Some(Grant::Range(0));
+    let text =
+        "1 7 frame = ok sent ff03004142434400000001001b grant range 0 alarm LOAM ABCD00000001";
+    let right = is_sent(rt.alloc(), grant, Some(AlarmKind::Loam), text, &ALL);
+    assert!(rt; right == Ok(true), "{text}");
 }
