@@ -5,7 +5,8 @@
 //! - `lines.rt`: lines that are counted, whole and in pieces.
 //! - `summed.rt`: traces that are verified, scripts that are driven, and light that is told.
 //! - `explained.rt`: traces that are told again, and what was counted and heard of them.
-//! - `with_units.rt`: what is written behind each of these, or alone, also where memory is refused.
+//! - `with_units.rt`: what is written behind each of these, or alone, also where memory is refused; `with_units/told.rt`
+//!   has it in each form, and to a writer that fails.
 //! - `compared.rt`: summaries beside what is wanted of them. `streams.rt`: a writer that fails.
 #![tactic(auto)]
 

@@ -3,6 +3,8 @@ ghost use Rattle.std.specs.Prelude.{IfOk};
 ghost use Rattle.gp_script.specs.Playable.{IsPlayable};
 ghost use Rattle.gp_script.specs.View.{script_view};
 
+mod told;
+
 use crate::streams::ShortWriter;
 use gp_drive::{DriveFault, DriveManner, Driven};
 use gp_explain::{ExplainFault, Form};
