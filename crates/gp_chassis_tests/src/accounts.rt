@@ -62,11 +62,16 @@ const ROWS: &[Row] = &[
     ),
 ];
 
+/// Appends both entries.
+fn record_both(journal: &mut Journal) -> Result<(), JournalFault> {
+    record(journal, entry(0, false))?;
+    record(journal, entry(1, false))
+}
+
 /// The journal of a port that searched and then had a frame.
 fn journal(alloc: Global) -> Result<Journal, JournalFault> {
     let mut journal = Journal::new(alloc);
-    record(&mut journal, entry(0, false))?;
-    record(&mut journal, entry(1, false))?;
+    record_both(&mut journal)?;
     Ok(journal)
 }
 
@@ -78,10 +83,8 @@ fn part_of(alloc: Global, receipts: &[Receipt], from: usize, to: usize) -> Optio
     receipts[from..to].to_vec(alloc).ok()
 }
 
-/// Reconciles what two workers were told with the journal, with so many tries at most where memory is refused. There
-/// is no answer where it is refused before.
-fn reconciled(alloc: Global, row: &Row, tries: u8) -> Option<Result<(), CloseFault>> {
-    let journals = [journal(alloc).ok()?];
+/// What two workers were told.
+fn told(alloc: Global, row: &Row) -> Option<[Vec<Receipt>; 2]> {
     let named = row.1;
     let receipts = [
         receipt(named[0].0, named[0].1),
@@ -89,20 +92,45 @@ fn reconciled(alloc: Global, row: &Row, tries: u8) -> Option<Result<(), CloseFau
     ];
     let first = part_of(alloc, &receipts, 0, row.2.0)?;
     let second = part_of(alloc, &receipts, row.2.1, 2)?;
-    let told = [first, second];
+    Some([first, second])
+}
+
+/// Reconciles receipts with journals, with so many tries at most where memory is refused.
+fn reconcile_at_last(
+    alloc: Global,
+    journals: &[Journal; 1],
+    told: &[Vec<Receipt>; 2],
+    tries: u8,
+) -> Result<(), CloseFault> {
     let mut answer = Err(CloseFault::OutOfMemory);
     for _ in 0..tries {
         if answer == Err(CloseFault::OutOfMemory) {
-            answer = reconcile(alloc, &journals, &told);
+            answer = reconcile(alloc, journals, told);
         }
     }
-    Some(answer)
+    answer
+}
+
+/// Reconciles what two workers were told with the journal, with so many tries at most where memory is refused. There
+/// is no answer where it is refused before.
+fn reconciled(alloc: Global, row: &Row, tries: u8) -> Option<Result<(), CloseFault>> {
+    let told = told(alloc, row)?;
+    let journals = [journal(alloc).ok()?];
+    Some(reconcile_at_last(alloc, &journals, &told, tries))
 }
 
 #[test]
 fn worked_rows(rt: HostRuntime) {
     for row in ROWS {
-        assert_eq!(rt; reconciled(rt.alloc(), row, 1), Some(row.3), "{}", row.0);
+        assert!(rt; reconciled(rt.alloc(), row, 1) == Some(row.3), "{}", row.0);
+    }
+}
+
+/// The same with two tries, and once more where memory was refused before.
+fn reconciled_at_last(alloc: Global, row: &Row) -> Option<Result<(), CloseFault>> {
+    match reconciled(alloc, row, 2) {
+        None => reconciled(alloc, row, 2),
+        found => found,
     }
 }
 
@@ -110,10 +138,10 @@ fn worked_rows(rt: HostRuntime) {
 #[test]
 fn memory_short_or_ample(rt: HostRuntime) {
     for row in ROWS {
-        let found = match reconciled(rt.alloc(), row, 2) {
-            None => reconciled(rt.alloc(), row, 2),
-            found => found,
-        };
-        assert_eq!(rt; found, Some(row.3), "{}", row.0);
+        assert!(rt;
+            reconciled_at_last(rt.alloc(), row) == Some(row.3),
+            "{}",
+            row.0
+        );
     }
 }

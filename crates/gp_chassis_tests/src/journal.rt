@@ -77,20 +77,30 @@ fn with_numbers(answer: Answer, found: u8, later: u8) -> Answer {
     }
 }
 
-/// Makes the steps of A's port, and records each with these ONU-IDs.
-fn record_all<L: Ledger>(
-    alloc: Global,
+/// Makes a step, and records it with these ONU-IDs.
+fn record_step<L: Ledger>(
+    journal: &mut Journal,
     port: &mut PortCore<L>,
     book: &mut LicenceBook<L>,
     row: &Row,
-) -> Result<Journal, JournalFault> {
-    let mut journal = Journal::new(alloc);
-    for event in EVENTS {
-        let mut entry = entry_of(port, book, event);
-        entry.answer = with_numbers(entry.answer, row.0, row.1);
-        record(&mut journal, entry)?;
+    event: Event,
+) -> Result<(), JournalFault> {
+    let mut entry = entry_of(port, book, event);
+    entry.answer = with_numbers(entry.answer, row.0, row.1);
+    record(journal, entry)
+}
+
+/// Makes the steps of A's port, and records each.
+fn record_all<L: Ledger>(
+    journal: &mut Journal,
+    port: &mut PortCore<L>,
+    book: &mut LicenceBook<L>,
+    row: &Row,
+) -> Result<(), JournalFault> {
+    for event in &EVENTS {
+        record_step(journal, port, book, row, *event)?;
     }
-    Ok(journal)
+    Ok(())
 }
 
 /// Whether the journal tells where the port stands. It is asked once more where memory is refused.
@@ -106,41 +116,59 @@ fn tells<L: Ledger>(
     }
 }
 
+/// Makes the steps of A's port, and tells whether their journal tells where the port stands.
+fn tells_of_steps<L: Ledger>(
+    alloc: Global,
+    config: &PortConfig,
+    port: &mut PortCore<L>,
+    book: &mut LicenceBook<L>,
+    row: &Row,
+) -> Result<bool, JournalFault> {
+    let mut journal = Journal::new(alloc);
+    record_all(&mut journal, port, book, row)?;
+    tells(alloc, config, &journal, port)
+}
+
 /// Whether the journal of A's port tells where the port stands. There is no answer where memory for the port is
 /// refused.
 fn outcome_of<L: Ledger>(
     alloc: Global,
     blank: Blank,
+    config: &PortConfig,
     row: &Row,
 ) -> Option<Result<bool, JournalFault>>
     requires name { blank.name ≡ L.name }
     requires parts { (blank.parts ≡ L.parts) × (L.parts ≡ MAX_LICENCES) }
 {
-    let mut config = port_of(alloc, (1, 1), 3).ok()?;
-    config.quarantine = row.2;
-    let mut port = PortCore::<L>::begin(alloc, &config).ok()?;
+    let mut port = PortCore::<L>::begin(alloc, config).ok()?;
     let mut book = LicenceBook::<L>::new(blank, 1);
-    let outcome = match record_all(alloc, &mut port, &mut book, row) {
-        Ok(journal) => tells(alloc, &config, &journal, &port),
-        Err(fault) => Err(fault),
-    };
+    let outcome = tells_of_steps(alloc, config, &mut port, &mut book, row);
     book.close(port.close());
     Some(outcome)
 }
 
 /// The same with a new ledger.
 fn outcome(alloc: Global, row: &Row) -> Option<Result<bool, JournalFault>> {
-    outcome_of::<Brand>(alloc, Blank::new(u64::from(MAX_LICENCES)), row)
+    let mut config = port_of(alloc, (1, 1), 3).ok()?;
+    config.quarantine = row.2;
+    outcome_of::<Brand>(alloc, Blank::new(u64::from(MAX_LICENCES)), &config, row)
+}
+
+/// The same, and once more where memory for the port was refused.
+fn outcome_at_last(alloc: Global, row: &Row) -> Option<Result<bool, JournalFault>> {
+    match outcome(alloc, row) {
+        None => outcome(alloc, row),
+        found => found,
+    }
 }
 
 // Passes whichever one request for memory is refused, and with ample memory (`rt try --test --fail-alloc N`).
 #[test]
 fn histories(rt: HostRuntime) {
-    for row in ROWS {
-        let found = match outcome(rt.alloc(), &row) {
-            None => outcome(rt.alloc(), &row),
-            found => found,
-        };
-        assert_eq!(rt; found, Some(Ok(row.3)), "{row:?}");
+    for row in &ROWS {
+        assert!(rt;
+            outcome_at_last(rt.alloc(), row) == Some(Ok(row.3)),
+            "{row:?}"
+        );
     }
 }

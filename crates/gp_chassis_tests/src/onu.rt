@@ -29,100 +29,108 @@ fn operating() -> Unit {
     unit
 }
 
-/// The light goes and comes back, and so many frames pass.
-fn interrupt(unit: &mut Unit, frames: u32) {
-    unit.dark();
-    unit.light();
+/// So many frames pass.
+fn pass(unit: &mut Unit, frames: u32) {
     for _ in 0..frames {
         unit.frame();
     }
 }
 
+/// The light goes and comes back, and so many frames pass.
+fn interrupt(unit: &mut Unit, frames: u32) {
+    unit.dark();
+    unit.light();
+    pass(unit, frames);
+}
+
+/// Tells whether a unit is in this state, and its timer ends in so many frames, if it has one.
+fn stands(unit: &Unit, state: State, ends_in: Option<u32>) -> bool {
+    unit.state() == state && unit.ends_in() == ends_in
+}
+
+/// Tells whether a unit is in this state after it has heard a message.
+fn is_after(unit: &mut Unit, octets: &[u8; 13], state: State) -> bool {
+    unit.hear(octets);
+    unit.state() == state
+}
+
+/// Tells whether a unit operates with the ONU-ID 0 and its equalization delay.
+fn operates(unit: &Unit) -> bool {
+    stands(unit, State::Operation, None) && unit.number() == Some(0) && unit.eqd() == Some(211_040)
+}
+
 #[test]
 fn each_state_in_turn(rt: HostRuntime) {
     let mut unit = Unit::new(SERIAL, Mask::Plain);
-    let first = unit.state();
+    assert!(rt; unit.state() == State::Initial);
     unit.light();
-    let second = unit.state();
-    unit.hear(&OVERHEAD);
-    let third = unit.state();
-    unit.hear(&ASSIGNMENT);
-    let fourth = unit.state();
+    assert!(rt; unit.state() == State::Standby);
+    assert!(rt; is_after(&mut unit, &OVERHEAD, State::SerialNumber));
+    assert!(rt; is_after(&mut unit, &ASSIGNMENT, State::Ranging));
     unit.hear(&RANGING_TIME);
-    let told = (unit.state(), unit.number(), unit.eqd(), unit.ends_in());
-    let before = [first, second, third, fourth];
-    let expected = [
-        State::Initial,
-        State::Standby,
-        State::SerialNumber,
-        State::Ranging,
-    ];
-    assert_eq!(rt; before, expected);
-    assert_eq!(rt; told, (State::Operation, Some(0), Some(211_040), None));
+    assert!(rt; operates(&unit));
 }
 
 #[test]
 fn popup_before_its_timer(rt: HostRuntime) {
     let mut unit = operating();
     interrupt(&mut unit, 799);
-    let before = unit.state();
+    assert!(rt; unit.state() == State::Popup);
     unit.hear(&encode_down(&Down::Popup { onu: 0 }, Mask::Plain));
-    let told = (before, unit.state(), unit.eqd());
-    assert_eq!(rt; told, (State::Popup, State::Operation, Some(211_040)));
+    assert!(rt; unit.state() == State::Operation && unit.eqd() == Some(211_040));
 }
 
 #[test]
 fn popup_timer(rt: HostRuntime) {
     let mut unit = operating();
     interrupt(&mut unit, 0);
-    let begun = unit.state();
-    for _ in 0..799 {
-        unit.frame();
-    }
-    let last = unit.state();
+    assert!(rt; unit.state() == State::Popup);
+    pass(&mut unit, 799);
+    assert!(rt; unit.state() == State::Popup);
     unit.frame();
-    let ended = (unit.state(), unit.ends_in());
+    assert!(rt; stands(&unit, State::Initial, Some(1)));
     unit.frame();
-    let told = ([begun, last], ended, unit.state());
-    let popup = [State::Popup, State::Popup];
-    assert_eq!(rt; told, (popup, (State::Initial, Some(1)), State::Standby));
+    assert!(rt; unit.state() == State::Standby);
+}
+
+/// Tells whether the timer of a unit that was searched ends with the next frame, and the unit is in O2 after it.
+fn is_last_frame(unit: &mut Unit) -> bool {
+    let is_last = stands(unit, State::SerialNumber, Some(1));
+    unit.frame();
+    is_last && unit.state() == State::Standby
 }
 
 /// Frame by frame, and by one call.
 #[test]
 fn activation_timer(rt: HostRuntime) {
     let mut unit = searched();
+    pass(&mut unit, 79_999);
+    assert!(rt; is_last_frame(&mut unit));
     let mut skipped = searched();
-    assert_eq!(rt; skipped.ends_in(), Some(80_000));
-    for _ in 0..79_999 {
-        unit.frame();
-    }
+    assert!(rt; skipped.ends_in() == Some(80_000));
     skipped.skip(79_999);
-    let last = [
-        (unit.state(), unit.ends_in()),
-        (skipped.state(), skipped.ends_in()),
-    ];
-    unit.frame();
-    skipped.frame();
-    let told = (last, [unit.state(), skipped.state()]);
-    let expected = ([(State::SerialNumber, Some(1)); 2], [State::Standby; 2]);
-    assert_eq!(rt; told, expected);
+    assert!(rt; is_last_frame(&mut skipped));
+}
+
+const ALLOC_ID: [u8; 13] = [0, 0x0a, 0x10, 0, 1, 0, 0, 0, 0, 0, 0, 0, 0x47];
+
+const ACKNOWLEDGE: [u8; 13] = [0, 9, 0x0a, 0, 0x0a, 0x10, 0, 1, 0, 0, 0, 0, 0x71];
+
+const NOTHING: [u8; 13] = [0, 4, 0, 0, 0, 0, 0, 0, 0, 0, 0, 0, 0x7c];
+
+/// Tells whether a unit that is polled says this.
+fn says(unit: &mut Unit, octets: &[u8; 13]) -> bool {
+    unit.grant(Grant::Poll(0), 0) == Some(*octets)
 }
 
 #[test]
 fn alloc_id_acknowledged(rt: HostRuntime) {
-    let assignment = [0, 0x0a, 0x10, 0, 1, 0, 0, 0, 0, 0, 0, 0, 0x47];
-    let acknowledge = [0, 9, 0x0a, 0, 0x0a, 0x10, 0, 1, 0, 0, 0, 0, 0x71];
-    let nothing = [0, 4, 0, 0, 0, 0, 0, 0, 0, 0, 0, 0, 0x7c];
     let mut unit = operating();
-    unit.hear(&assignment);
-    let first = [unit.grant(Grant::Poll(0), 0), unit.grant(Grant::Poll(0), 0)];
-    unit.hear(&assignment);
-    let told = (first, unit.grant(Grant::Poll(0), 0));
-    assert_eq!(rt;
-        told,
-        ([Some(acknowledge), Some(nothing)], Some(acknowledge))
-    );
+    unit.hear(&ALLOC_ID);
+    assert!(rt; says(&mut unit, &ACKNOWLEDGE));
+    assert!(rt; says(&mut unit, &NOTHING));
+    unit.hear(&ALLOC_ID);
+    assert!(rt; says(&mut unit, &ACKNOWLEDGE));
 }
 
 /// Tells whether a value is printed, as this text.
@@ -133,17 +141,19 @@ pub(crate) fn prints<T: Display>(alloc: Global, value: &T, text: &str) -> bool {
     }
 }
 
+const NAMES: [(State, &'static str); 7] = [
+    (State::Initial, "O1"),
+    (State::Standby, "O2"),
+    (State::SerialNumber, "O3"),
+    (State::Ranging, "O4"),
+    (State::Operation, "O5"),
+    (State::Popup, "O6"),
+    (State::EmergencyStop, "O7"),
+];
+
 #[test]
 fn state_names(rt: HostRuntime) {
-    for (state, name) in [
-        (State::Initial, "O1"),
-        (State::Standby, "O2"),
-        (State::SerialNumber, "O3"),
-        (State::Ranging, "O4"),
-        (State::Operation, "O5"),
-        (State::Popup, "O6"),
-        (State::EmergencyStop, "O7"),
-    ] {
-        assert!(rt; prints(rt.alloc(), &state, name), "{name}");
+    for (state, name) in &NAMES {
+        assert!(rt; prints(rt.alloc(), state, name), "{name}");
     }
 }

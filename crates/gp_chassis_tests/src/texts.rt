@@ -1,31 +1,29 @@
 //! The texts of faults.
+use super::onu::prints;
 use gp_accounts::CloseFault;
 use gp_chassis::CoreFault;
 use gp_journal::JournalFault;
-use std::test::Fail;
+
+const CLOSE: [(CloseFault, &'static str); 3] = [
+    (CloseFault::WorkerMissing, "a worker is missing"),
+    (CloseFault::Mismatch, "receipts and journals differ"),
+    (CloseFault::OutOfMemory, "out of memory"),
+];
+
+const CORE: [(CoreFault, &'static str); 4] = [
+    (CoreFault::NoActor, "no such actor"),
+    (CoreFault::NoPort, "no such port"),
+    (CoreFault::OutOfMemory, "out of memory"),
+    (CoreFault::JournalFull, "journal full"),
+];
 
 #[test]
-fn fault_texts(rt: HostRuntime) -> Result<(), Fail> {
-    let close = format!(in rt.alloc();
-        "{}, {}, {}",
-        CloseFault::WorkerMissing,
-        CloseFault::Mismatch,
-        CloseFault::OutOfMemory
-    )?;
-    let core = format!(in rt.alloc();
-        "{}, {}, {}, {}, {}",
-        CoreFault::NoActor,
-        CoreFault::NoPort,
-        CoreFault::OutOfMemory,
-        CoreFault::JournalFull,
-        JournalFault::OutOfMemory
-    )?;
-    assert_eq!(rt;
-        [close.as_str(), core.as_str()],
-        [
-            "a worker is missing, receipts and journals differ, out of memory",
-            "no such actor, no such port, out of memory, journal full, out of memory"
-        ]
-    );
-    Ok(())
+fn fault_texts(rt: HostRuntime) {
+    for (fault, text) in &CLOSE {
+        assert!(rt; prints(rt.alloc(), fault, text), "{text}");
+    }
+    for (fault, text) in &CORE {
+        assert!(rt; prints(rt.alloc(), fault, text), "{text}");
+    }
+    assert!(rt; prints(rt.alloc(), &JournalFault::OutOfMemory, "out of memory"));
 }

@@ -90,6 +90,14 @@ pub(crate) fn heard(number: u16) -> Event {
     }
 }
 
+/// Puts so many units from this one on into a list.
+fn admit(serials: &mut Vec<Serial>, first: u16, count: u16) -> Result<(), AllocError> {
+    for number in 0..count {
+        serials.push(unit(first.wrapping_add(number)))?;
+    }
+    Ok(())
+}
+
 /// A port with so many search windows to a search, which admits so many units from this one on.
 pub(crate) fn port_of(
     alloc: Global,
@@ -97,9 +105,7 @@ pub(crate) fn port_of(
     cycles: u8,
 ) -> Result<PortConfig, AllocError> {
     let mut serials = Vec::new(alloc);
-    for number in 0..count {
-        serials.push(unit(first.wrapping_add(number)))?;
-    }
+    admit(&mut serials, first, count)?;
     Ok(PortConfig {
         mask: Mask::Plain,
         teqd: 311_040,
@@ -113,6 +119,31 @@ pub(crate) fn port_of(
     })
 }
 
+/// Puts a port behind others.
+fn add_port(
+    alloc: Global,
+    ports: &mut Vec<PortConfig>,
+    admitted: (u16, u16),
+    cycles: u8,
+) -> Result<(), AllocError> {
+    let port = port_of(alloc, admitted, cycles)?;
+    ports.push(port)?;
+    Ok(())
+}
+
+/// Puts ports that admit so many units from these on behind others.
+fn add_ports(
+    alloc: Global,
+    ports: &mut Vec<PortConfig>,
+    cycles: u8,
+    units: &[(u16, u16)],
+) -> Result<(), AllocError> {
+    for admitted in units {
+        add_port(alloc, ports, *admitted, cycles)?;
+    }
+    Ok(())
+}
+
 /// A chassis whose ports admit so many units from these on.
 pub(crate) fn chassis_of(
     alloc: Global,
@@ -122,9 +153,7 @@ pub(crate) fn chassis_of(
     units: &[(u16, u16)],
 ) -> Result<ChassisConfig, AllocError> {
     let mut ports = Vec::new(alloc);
-    for admitted in units {
-        ports.push(port_of(alloc, *admitted, cycles)?)?;
-    }
+    add_ports(alloc, &mut ports, cycles, units)?;
     Ok(ChassisConfig {
         licences,
         journal_limit,

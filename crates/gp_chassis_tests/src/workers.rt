@@ -93,6 +93,31 @@ fn add<L: Ledger>(workers: &mut Vec<Worker<L>>, worker: Worker<L>) {
     }
 }
 
+/// Makes a worker, and adds it to a list.
+fn add_worker<G: Gate<L>, L: Ledger, R: Wait>(
+    rt: &R,
+    alloc: Global,
+    chassis: &Chassis<G, L>,
+    workers: &mut Vec<Worker<L>>,
+) {
+    if let Ok(worker) = chassis.worker(rt, alloc) {
+        add(workers, worker);
+    }
+}
+
+/// Makes so many workers, and adds them to a list.
+fn add_workers<G: Gate<L>, L: Ledger, R: Wait>(
+    rt: &R,
+    alloc: Global,
+    chassis: &Chassis<G, L>,
+    workers: &mut Vec<Worker<L>>,
+    count: u8,
+) {
+    for _ in 0..count {
+        add_worker(rt, alloc, chassis, workers);
+    }
+}
+
 /// Makes so many workers.
 fn workers_of<G: Gate<L>, L: Ledger, R: Wait>(
     rt: &R,
@@ -101,11 +126,7 @@ fn workers_of<G: Gate<L>, L: Ledger, R: Wait>(
     count: u8,
 ) -> Vec<Worker<L>> {
     let mut workers = Vec::new(alloc);
-    for _ in 0..count {
-        if let Ok(worker) = chassis.worker(rt, alloc) {
-            add(&mut workers, worker);
-        }
-    }
+    add_workers(rt, alloc, chassis, &mut workers, count);
     workers
 }
 
@@ -130,6 +151,23 @@ fn end<G: Gate<L>, L: Ledger, R: Wait>(rt: &R, refused: CloseRefused<G, L>) -> C
     fault
 }
 
+/// Closes a chassis that was not closed. Where it does not close again it ends all the same, with its workers.
+fn close_again<G: Gate<L>, L: Ledger, R: Wait>(
+    rt: &R,
+    alloc: Global,
+    refused: CloseRefused<G, L>,
+) -> Result<Closed, CloseFault> {
+    let CloseRefused {
+        fault: _,
+        chassis,
+        workers,
+    } = refused;
+    match chassis.close(alloc, workers) {
+        Ok(closed) => Ok(closed),
+        Err(refused) => Err(end(rt, refused)),
+    }
+}
+
 /// Closes a chassis, with a second try where memory was refused. Where it does not close it ends all the same, with
 /// its workers.
 fn close<G: Gate<L>, L: Ledger, R: Wait>(
@@ -146,15 +184,7 @@ fn close<G: Gate<L>, L: Ledger, R: Wait>(
     if tries < 2 || refused.fault != CloseFault::OutOfMemory {
         return Err(end(rt, refused));
     }
-    let CloseRefused {
-        fault: _,
-        chassis,
-        workers,
-    } = refused;
-    match chassis.close(alloc, workers) {
-        Ok(closed) => Ok(closed),
-        Err(refused) => Err(end(rt, refused)),
-    }
+    close_again(rt, alloc, refused)
 }
 
 /// Closes a chassis without its last worker, and gives why that is refused, with all as it was.
@@ -178,6 +208,24 @@ fn close_without_last<L: Ledger, R: Abort>(
     (fault, chassis, workers)
 }
 
+/// Cuts the journals of a chassis that was not cut since memory was refused.
+fn cut_again<L: Ledger, R: Abort>(
+    rt: &R,
+    alloc: Global,
+    refused: CloseRefused<NoGate, L>,
+) -> (Chassis<NoGate, L>, Vec<Worker<L>>, Cut) {
+    let CloseRefused {
+        fault,
+        chassis,
+        workers,
+    } = refused;
+    assert!(rt; fault == CloseFault::OutOfMemory);
+    match chassis.cut(alloc, workers) {
+        Ok(done) => done,
+        Err(_) => panic!(rt; "not cut"),
+    }
+}
+
 /// Cuts the journals of a chassis, with a second try where memory was refused.
 fn cut<L: Ledger, R: Abort + Wait>(
     rt: &R,
@@ -186,20 +234,12 @@ fn cut<L: Ledger, R: Abort + Wait>(
     workers: Vec<Worker<L>>,
     tries: u8,
 ) -> (Chassis<NoGate, L>, Vec<Worker<L>>, Cut) {
-    let refused = match chassis.cut(alloc, workers) {
-        Ok(done) => return done,
-        Err(refused) => refused,
-    };
-    assert!(rt; tries > 1);
-    let CloseRefused {
-        fault,
-        chassis,
-        workers,
-    } = refused;
-    assert_eq!(rt; fault, CloseFault::OutOfMemory);
     match chassis.cut(alloc, workers) {
         Ok(done) => done,
-        Err(_) => panic!(rt; "not cut"),
+        Err(refused) => {
+            assert!(rt; tries > 1);
+            cut_again(rt, alloc, refused)
+        }
     }
 }
 

@@ -125,50 +125,69 @@ const ROWS: [Row; 21] = [
     ),
 ];
 
+/// Ends a poll window: what is counted then, and the alarm.
+fn end_one(
+    rt: &impl Abort,
+    counts: PollCounts,
+    outcome: Outcome,
+    pending: bool,
+) -> (PollCounts, Option<AlarmKind>) {
+    assert!(rt; counts.dark <= 3 && counts.garbled <= 2 && counts.waiting <= 2);
+    close_poll(counts, outcome, pending)
+}
+
 /// Ends poll windows up to the first alarm: what is counted then, and the alarm.
 fn ended(
     rt: &impl Abort,
-    counted: Counts,
+    counted: PollCounts,
     outcomes: &[Outcome],
     pending: bool,
-) -> (Counts, Option<(usize, AlarmKind)>) {
+) -> (PollCounts, Option<(usize, AlarmKind)>) {
+    let mut counts = counted;
+    for (before, outcome) in outcomes.iter().enumerate() {
+        let (then, alarm) = end_one(rt, counts, *outcome, pending);
+        if let Some(kind) = alarm {
+            return (then, Some((before + 1, kind)));
+        }
+        counts = then;
+    }
+    (counts, None)
+}
+
+fn counts_of(counted: Counts) -> PollCounts {
     let [dark, garbled, waiting] = counted;
-    let mut counts = PollCounts {
+    PollCounts {
         dark,
         garbled,
         waiting,
-    };
-    let mut first = None;
-    for (before, outcome) in outcomes.iter().enumerate() {
-        assert!(rt; counts.dark <= 3 && counts.garbled <= 2 && counts.waiting <= 2);
-        let (then, alarm) = close_poll(counts, *outcome, pending);
-        counts = then;
-        if let Some(kind) = alarm {
-            first = Some((before + 1, kind));
-            break;
-        }
     }
-    ([counts.dark, counts.garbled, counts.waiting], first)
+}
+
+/// Tells whether the windows of a row end so.
+fn is_ended(rt: &impl Abort, row: &Row) -> bool {
+    let (counts, first) = ended(rt, counts_of(row.0), row.1, row.2);
+    counts == counts_of(row.3) && first == row.4
 }
 
 #[test]
 fn dark_and_garbled_polls(rt: HostRuntime) {
-    for (counted, outcomes, pending, then, alarm) in ROWS {
-        let told = ended(&rt, counted, outcomes, pending);
-        assert!(rt; told == (then, alarm), "{counted:?} {outcomes:?}");
+    for row in &ROWS {
+        assert!(rt; is_ended(&rt, row), "{:?} {:?}", row.0, row.1);
     }
 }
 
+const NAMES: [(AlarmKind, &'static str); 6] = [
+    (AlarmKind::Los, "LOS"),
+    (AlarmKind::Loam, "LOAM"),
+    (AlarmKind::Loa, "LOA"),
+    (AlarmKind::Suf, "SUF"),
+    (AlarmKind::Df, "DF"),
+    (AlarmKind::Dg, "DG"),
+];
+
 #[test]
 fn names_of_alarms(rt: HostRuntime) {
-    for (kind, name) in [
-        (AlarmKind::Los, "LOS"),
-        (AlarmKind::Loam, "LOAM"),
-        (AlarmKind::Loa, "LOA"),
-        (AlarmKind::Suf, "SUF"),
-        (AlarmKind::Df, "DF"),
-        (AlarmKind::Dg, "DG"),
-    ] {
-        assert!(rt; prints(rt.alloc(), &kind, name), "{name}");
+    for (kind, name) in &NAMES {
+        assert!(rt; prints(rt.alloc(), kind, name), "{name}");
     }
 }

@@ -17,8 +17,8 @@ fn code(number: u128) -> [u8; 13] {
 #[test]
 fn crc_check_values(rt: HostRuntime) {
     let octets = b"123456789";
-    let values = [crc(octets, Mask::Plain), crc(octets, Mask::Coset)];
-    assert!(rt; values == [0xf4, 0xa1]);
+    assert!(rt; crc(octets, Mask::Plain) == 0xf4);
+    assert!(rt; crc(octets, Mask::Coset) == 0xa1);
 }
 
 /// A unit is given the ONU-ID 0. Octet 12, which its row leaves free, is not looked at.
@@ -28,57 +28,71 @@ fn assign_onu_code(rt: HostRuntime) {
         onu: 0,
         serial: SERIAL,
     };
-    let (plain, coset) = (
-        encode_down(&message, Mask::Plain),
-        encode_down(&message, Mask::Coset),
-    );
     let unspecified = code(0xff030041424344000000017759);
-    let read = decode_down(&unspecified, Mask::Plain);
-    assert!(rt; plain == code(0xff03004142434400000001001b));
-    assert!(rt; coset == code(0xff03004142434400000001004e));
-    assert!(rt; read == Ok(message));
+    assert!(rt; encode_down(&message, Mask::Plain) == code(0xff03004142434400000001001b));
+    assert!(rt; encode_down(&message, Mask::Coset) == code(0xff03004142434400000001004e));
+    assert!(rt; decode_down(&unspecified, Mask::Plain) == Ok(message));
+}
+
+/// Octets that are no code downstream, and why.
+const NOT_DOWN: [(&'static [u8], PloamFault); 5] = [
+    (
+        b"\xff\x03\x00\x41\x42\x43\x44\x00\x00\x00\x01\x00\x1a",
+        PloamFault::Crc,
+    ),
+    (
+        b"\x00\x05\x00\x00\x00\x00\x00\x00\x00\x00\x00\x00\x62",
+        PloamFault::Crc,
+    ),
+    (&[0xff; 13], PloamFault::Crc),
+    (&[0; 12], PloamFault::Length),
+    (&[0; 14], PloamFault::Length),
+];
+
+/// The same upstream, under a mask.
+const NOT_UP: [(&'static [u8], Mask, PloamFault); 4] = [
+    (&[0; 13], Mask::Coset, PloamFault::Crc),
+    (&[0xff; 13], Mask::Plain, PloamFault::Crc),
+    (&[0; 12], Mask::Plain, PloamFault::Length),
+    (&[0; 14], Mask::Plain, PloamFault::Length),
+];
+
+/// What octets of 0 say.
+const NO_IDENTIFIER: Up = Up::Other {
+    id: 0,
+    octet1: 0,
+    body: [0; 10],
+};
+
+fn is_not_down(octets: &[u8], fault: PloamFault) -> bool {
+    decode_down(octets, Mask::Plain) == Err(fault)
+}
+
+fn is_not_up(octets: &[u8], mask: Mask, fault: PloamFault) -> bool {
+    decode_up(octets, mask) == Err(fault)
+}
+
+fn is_up(octets: &[u8], message: &Up) -> bool {
+    decode_up(octets, Mask::Plain) == Ok(*message)
 }
 
 /// A wrong check octet, octets of 0 under either mask, octets of 255, and one octet too few or too many.
 #[test]
 fn length_and_crc_faults(rt: HostRuntime) {
-    let zeros = [0; 14];
-    let ones = [0xff; 13];
-    let down = [
-        decode_down(&code(0xff03004142434400000001001a), Mask::Plain),
-        decode_down(&code(0x00050000000000000000000062), Mask::Plain),
-        decode_down(&ones, Mask::Plain),
-        decode_down(&zeros[..12], Mask::Plain),
-        decode_down(&zeros, Mask::Plain),
-    ];
-    let up = [
-        decode_up(&zeros[..13], Mask::Coset),
-        decode_up(&zeros[..13], Mask::Plain),
-        decode_up(&ones, Mask::Plain),
-        decode_up(&zeros[..12], Mask::Plain),
-        decode_up(&zeros, Mask::Plain),
-    ];
-    let (crc, length) = (PloamFault::Crc, PloamFault::Length);
-    let other = Up::Other {
-        id: 0,
-        octet1: 0,
-        body: [0; 10],
-    };
-    assert!(rt; down == [Err(crc), Err(crc), Err(crc), Err(length), Err(length)]);
-    assert!(rt; up == [Err(crc), Ok(other), Err(crc), Err(length), Err(length)]);
+    for (octets, fault) in &NOT_DOWN {
+        assert!(rt; is_not_down(octets, *fault), "{octets:?}");
+    }
+    for (octets, mask, fault) in &NOT_UP {
+        assert!(rt; is_not_up(octets, *mask, *fault), "{octets:?}");
+    }
+    assert!(rt; is_up(&[0; 13], &NO_IDENTIFIER));
 }
 
 #[test]
 fn printed_faults(rt: HostRuntime) {
-    let printed = [
-        prints(
-            rt.alloc(),
-            &PloamFault::Length,
-            "the code has not 13 octets",
-        ),
-        prints(rt.alloc(), &PloamFault::Crc, "the check octet is wrong"),
-    ];
-    assert!(rt; printed == [true; 2]);
+    let length = "the code has not 13 octets";
+    assert!(rt; prints(rt.alloc(), &PloamFault::Length, length));
+    assert!(rt; prints(rt.alloc(), &PloamFault::Crc, "the check octet is wrong"));
 }
 
 /// Gives the same code under the other mask.
@@ -88,37 +102,37 @@ fn under_coset(plain: [u8; 13]) -> [u8; 13] {
     coset
 }
 
-/// Tells whether a proper message has this code under either mask, is read from it, and isn't read under the wrong
-/// mask.
-fn told_of(number: u128, message: &Down) -> [bool; 5] {
-    if !is_proper(message) {
-        return [false; 5];
-    }
-    let plain = code(number);
-    let coset = under_coset(plain);
-    [
-        encode_down(message, Mask::Plain) == plain,
-        encode_down(message, Mask::Coset) == coset,
-        decode_down(&plain, Mask::Plain) == Ok(*message),
-        decode_down(&coset, Mask::Coset) == Ok(*message),
-        decode_down(&coset, Mask::Plain) == Err(PloamFault::Crc),
-    ]
+/// Tells whether a message is proper, has this code under a mask, and is read from it.
+fn is_coded(code: &[u8; 13], message: &Down, mask: Mask) -> bool {
+    is_proper(message)
+        && encode_down(message, mask) == *code
+        && decode_down(code, mask) == Ok(*message)
 }
 
-/// Tells the same of a unit's message.
-fn told_of_up(number: u128, message: &Up) -> [bool; 5] {
-    if !is_proper_up(message) {
-        return [false; 5];
-    }
+/// Tells whether a proper message has this code under either mask, is read from it, and isn't read under the wrong
+/// mask.
+fn is_down_of(number: u128, message: &Down) -> bool {
     let plain = code(number);
     let coset = under_coset(plain);
-    [
-        encode_up(message, Mask::Plain) == plain,
-        encode_up(message, Mask::Coset) == coset,
-        decode_up(&plain, Mask::Plain) == Ok(*message),
-        decode_up(&coset, Mask::Coset) == Ok(*message),
-        decode_up(&coset, Mask::Plain) == Err(PloamFault::Crc),
-    ]
+    is_coded(&plain, message, Mask::Plain)
+        && is_coded(&coset, message, Mask::Coset)
+        && is_not_down(&coset, PloamFault::Crc)
+}
+
+/// Tells the same as `is_coded` of a unit's message.
+fn is_coded_up(code: &[u8; 13], message: &Up, mask: Mask) -> bool {
+    is_proper_up(message)
+        && encode_up(message, mask) == *code
+        && decode_up(code, mask) == Ok(*message)
+}
+
+/// Tells the same as `is_down_of` of a unit's message.
+fn is_up_of(number: u128, message: &Up) -> bool {
+    let plain = code(number);
+    let coset = under_coset(plain);
+    is_coded_up(&plain, message, Mask::Plain)
+        && is_coded_up(&coset, message, Mask::Coset)
+        && is_not_up(&coset, Mask::Plain, PloamFault::Crc)
 }
 
 /// Each row of the table of codes, with the limits of its fields.
@@ -269,15 +283,15 @@ const CODES_UP: [(u128, Up); 10] = [
 
 #[test]
 fn worked_codes_down(rt: HostRuntime) {
-    for (number, message) in CODES_DOWN {
-        assert_eq!(rt; told_of(number, &message), [true; 5], "{number:x}");
+    for (number, message) in &CODES_DOWN {
+        assert!(rt; is_down_of(*number, message), "{number:x}");
     }
 }
 
 #[test]
 fn worked_codes_up(rt: HostRuntime) {
-    for (number, message) in CODES_UP {
-        assert_eq!(rt; told_of_up(number, &message), [true; 5], "{number:x}");
+    for (number, message) in &CODES_UP {
+        assert!(rt; is_up_of(*number, message), "{number:x}");
     }
 }
 

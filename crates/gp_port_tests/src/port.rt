@@ -36,6 +36,12 @@ fn config_of_a(alloc: Global, cycles: u8, quarantine: u16) -> Result<PortConfig,
     })
 }
 
+/// Makes a step without a licence at hand.
+fn step_without<L: Ledger>(port: &mut PortCore<L>, book: &mut LicenceBook<L>, event: Event) {
+    let (_, rest) = port.step(Licences::none(), event);
+    book.give(rest);
+}
+
 /// Finds one unit by hand: how a port is begun, stepped and closed.
 fn find_one<L: Ledger>(alloc: Global, blank: Blank, config: &PortConfig) -> Result<Reply, OpenFault>
     requires name { blank.name ≡ L.name }
@@ -45,11 +51,9 @@ fn find_one<L: Ledger>(alloc: Global, blank: Blank, config: &PortConfig) -> Resu
     let mut book = LicenceBook::<L>::new(blank, 1);
 
     // The operator asks for a search; its window opens with the fifth frame.
-    let (_, rest) = port.step(Licences::none(), Event::Command(Command::Search));
-    book.give(rest);
+    step_without(&mut port, &mut book, Event::Command(Command::Search));
     for _ in 0..5 {
-        let (_, rest) = port.step(Licences::none(), Event::Frame);
-        book.give(rest);
+        step_without(&mut port, &mut book, Event::Frame);
     }
 
     // A burst comes with a licence, if one is free; what the port doesn't use comes back.
@@ -61,14 +65,15 @@ fn find_one<L: Ledger>(alloc: Global, blank: Blank, config: &PortConfig) -> Resu
     Ok(answer.reply)
 }
 
+/// The same with a new ledger, on a port with the defaults.
+fn find_one_unit(alloc: Global) -> Result<Reply, OpenFault> {
+    let config = config_of_a(alloc, 3, 800)?;
+    find_one::<Brand>(alloc, Blank::new(u64::from(MAX_LICENCES)), &config)
+}
+
 #[test]
 fn one_unit_by_hand(rt: HostRuntime) {
-    let blank = Blank::new(u64::from(MAX_LICENCES));
-    let reply = match config_of_a(rt.alloc(), 3, 800) {
-        Ok(config) => find_one::<Brand>(rt.alloc(), blank, &config),
-        Err(_) => Err(OpenFault::OutOfMemory),
-    };
-    assert_eq!(rt; reply, Ok(Reply::Found(0)));
+    assert!(rt; find_one_unit(rt.alloc()) == Ok(Reply::Found(0)));
 }
 
 /// Tells why a port with this configuration is not opened, if it is not.
@@ -100,41 +105,25 @@ fn opened_with_ample_memory(rt: HostRuntime) {
 /// No search windows, and a quarantine of 8001 frames.
 #[test]
 fn outside_the_limits(rt: HostRuntime) {
-    let faults = [
-        fault_with(rt.alloc(), 0, 800),
-        fault_with(rt.alloc(), 3, 8001),
-    ];
-    assert_eq!(rt; faults, [Some(OpenFault::Limit); 2]);
+    assert!(rt; fault_with(rt.alloc(), 0, 800) == Some(OpenFault::Limit));
+    assert!(rt; fault_with(rt.alloc(), 3, 8001) == Some(OpenFault::Limit));
 }
 
 /// Twelve, thirteen and fourteen octets.
 #[test]
 fn twelve_to_fourteen_octets(rt: HostRuntime) {
-    let octets = [0xff; 14];
-    let made = [
-        burst_of(1, &octets[..12]),
-        burst_of(1, &octets[..13]),
-        burst_of(1, &octets),
-    ];
     let thirteen = Event::Burst {
         at: 1,
         bytes: [0xff; 13],
     };
-    assert!(rt;
-        made == [
-            Err(PloamFault::Length),
-            Ok(thirteen),
-            Err(PloamFault::Length)
-        ]
-    );
+    assert!(rt; burst_of(1, &[0xff; 12]) == Err(PloamFault::Length));
+    assert!(rt; burst_of(1, &[0xff; 13]) == Ok(thirteen));
+    assert!(rt; burst_of(1, &[0xff; 14]) == Err(PloamFault::Length));
 }
 
 #[test]
 fn fault_texts(rt: HostRuntime) {
     let limit = "a number is outside its range, or a serial number is admitted twice";
-    let printed = [
-        prints(rt.alloc(), &OpenFault::Limit, limit),
-        prints(rt.alloc(), &OpenFault::OutOfMemory, "out of memory"),
-    ];
-    assert!(rt; printed == [true; 2]);
+    assert!(rt; prints(rt.alloc(), &OpenFault::Limit, limit));
+    assert!(rt; prints(rt.alloc(), &OpenFault::OutOfMemory, "out of memory"));
 }

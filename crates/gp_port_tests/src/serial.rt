@@ -5,8 +5,7 @@ use gp_serial::{
     AdmissionList, AdmitFault, MAX_ON_A_PORT, SerialFault, SerialText, parse_serial,
     push_serial_text, serial_text,
 };
-use std::alloc::Global;
-use std::test::Fail;
+use std::alloc::{AllocError, Global};
 
 /// The serial number of the vendor's unit with this number.
 fn numbered(number: u16) -> Serial {
@@ -28,23 +27,26 @@ const TEXTS: [(Serial, &str); 4] = [
     ),
 ];
 
+/// What is read, and how.
+const READ: [(&'static str, Result<Serial, SerialFault>); 4] = [
+    ("ABCD0000001", Err(SerialFault::Length)),
+    ("abCD00000001", Err(SerialFault::Vendor)),
+    ("ABCD0000000G", Err(SerialFault::Digit)),
+    ("4142434400000001", Ok(SERIAL)),
+];
+
+/// Tells whether a text is read so.
+fn is_read(text: &str, wanted: &Result<Serial, SerialFault>) -> bool {
+    parse_serial(text) == *wanted
+}
+
 #[test]
 fn serial_texts(rt: HostRuntime) {
-    let read = [
-        parse_serial("ABCD0000001"),
-        parse_serial("abCD00000001"),
-        parse_serial("ABCD0000000G"),
-        parse_serial("4142434400000001"),
-    ];
-    let expected = [
-        Err(SerialFault::Length),
-        Err(SerialFault::Vendor),
-        Err(SerialFault::Digit),
-        Ok(SERIAL),
-    ];
-    assert_eq!(rt; read, expected);
-    for (serial, text) in TEXTS {
-        assert!(rt; is_written(rt.alloc(), &serial, text), "{text}");
+    for (text, wanted) in &READ {
+        assert!(rt; is_read(text, wanted), "{text}");
+    }
+    for (serial, text) in &TEXTS {
+        assert!(rt; is_written(rt.alloc(), serial, text), "{text}");
     }
 }
 
@@ -56,104 +58,135 @@ fn is_written(alloc: Global, serial: &Serial, text: &str) -> bool {
     }
 }
 
+/// Pushes the texts of two serial numbers.
+fn push_both(out: &mut Vec<u8>) -> Result<(), AllocError> {
+    push_serial_text(out, &Serial([0x5b, 0x42, 0x43, 0x44, 0, 0, 0, 0xa1]))?;
+    push_serial_text(out, &SERIAL)
+}
+
 #[test]
-fn pushed_texts(rt: HostRuntime) -> Result<(), Fail> {
+fn pushed_texts(rt: HostRuntime) {
     let mut out = Vec::new(rt.alloc());
-    push_serial_text(&mut out, &Serial([0x5b, 0x42, 0x43, 0x44, 0, 0, 0, 0xa1]))?;
-    push_serial_text(&mut out, &SERIAL)?;
+    assert!(rt; push_both(&mut out).is_ok());
     assert!(rt; out.as_slice() == b"5B424344000000A1ABCD00000001".as_slice());
-    Ok(())
+}
+
+/// Admits the units from 0 on up to this one on port 0.
+fn fill(list: &mut AdmissionList, end: u16) {
+    for number in 0..end {
+        let _ = list.admit(0, numbered(number));
+    }
+}
+
+/// Tells whether a unit is admitted on a port so.
+fn admits(list: &mut AdmissionList, port: u8, number: u16, wanted: Result<(), AdmitFault>) -> bool {
+    list.admit(port, numbered(number)) == wanted
+}
+
+/// Tells whether a unit of port 1 is not disabled, and is once that is asked for.
+fn is_disabled_once_asked(list: &mut AdmissionList, serial: &Serial) -> bool {
+    let before = list.is_disabled(serial);
+    let is_set = list.set_disabled(serial, true);
+    !before && is_set && list.is_disabled(serial) && list.port_of(serial) == Some(1)
 }
 
 /// Port 0 has as many as it can. Those that it has are admitted nowhere else, and one more is, on another port.
 #[test]
 fn a_full_port(rt: HostRuntime) {
     let mut list = AdmissionList::new(rt.alloc());
-    for number in 0..512u16 {
-        let _ = list.admit(0, numbered(number));
+    fill(&mut list, 512);
+    assert!(rt; admits(&mut list, 0, 512, Err(AdmitFault::Full)));
+    assert!(rt; admits(&mut list, 0, 0, Err(AdmitFault::Duplicate)));
+    assert!(rt; admits(&mut list, 1, 0, Err(AdmitFault::Duplicate)));
+    assert!(rt; admits(&mut list, 1, 512, Ok(())));
+    assert!(rt; is_disabled_once_asked(&mut list, &numbered(512)));
+    assert!(rt; list.admitted_on(0) == MAX_ON_A_PORT);
+}
+
+/// Tells whether the unit with the number of a port is admitted on it.
+fn is_admitted(list: &mut AdmissionList, port: u8) -> bool {
+    let serial = numbered(u16::from(port));
+    list.admit(port, serial) == Ok(()) && list.port_of(&serial) == Some(port)
+}
+
+/// The first port on which it is not.
+fn first_without(list: &mut AdmissionList) -> Option<u8> {
+    for port in 0..=255u8 {
+        if !is_admitted(list, port) {
+            return Some(port);
+        }
     }
-    let (first, more) = (numbered(0), numbered(512));
-    let admitted = [
-        list.admit(0, more),
-        list.admit(0, first),
-        list.admit(1, first),
-        list.admit(1, more),
-    ];
-    let expected = [
-        Err(AdmitFault::Full),
-        Err(AdmitFault::Duplicate),
-        Err(AdmitFault::Duplicate),
-        Ok(()),
-    ];
-    let disabled = [
-        list.is_disabled(&more),
-        list.set_disabled(&more, true),
-        list.is_disabled(&more),
-    ];
-    let told = (list.admitted_on(0), list.port_of(&more), disabled);
-    assert_eq!(rt; admitted, expected);
-    assert!(rt; told == (MAX_ON_A_PORT, Some(1), [false, true, true]));
+    None
 }
 
 #[test]
 fn each_port(rt: HostRuntime) {
     let mut list = AdmissionList::new(rt.alloc());
-    for port in 0..=255u8 {
-        let serial = numbered(u16::from(port));
-        let told = (list.admit(port, serial), list.port_of(&serial));
-        assert!(rt; told == (Ok(()), Some(port)), "{port}");
-    }
+    assert!(rt; first_without(&mut list).is_none());
 }
 
-// Run with each allocation refused in turn (`rt try --test --fail-alloc N`).
 fn admitted(alloc: Global) -> (Result<(), AdmitFault>, Option<u8>) {
     let mut list = AdmissionList::new(alloc);
     (list.admit(3, SERIAL), list.port_of(&SERIAL))
 }
 
-#[test]
-fn memory_short_or_ample(rt: HostRuntime) {
-    let expected = match admitted(rt.alloc()) {
+/// Tells whether a unit is admitted, or is not since memory was refused.
+fn is_admitted_or_told(alloc: Global) -> bool {
+    match admitted(alloc) {
         (Ok(()), port) => port == Some(3),
         (Err(fault), port) => fault == AdmitFault::OutOfMemory && port.is_none(),
-    };
-    let fault = serial_text(rt.alloc(), &SERIAL).err();
-    assert!(rt; expected && (fault.is_none() || fault == Some(SerialFault::OutOfMemory)));
+    }
 }
+
+/// Tells whether a text is made, or is not since memory was refused.
+fn is_made_or_told(alloc: Global) -> bool {
+    match serial_text(alloc, &SERIAL) {
+        Ok(_) => true,
+        Err(fault) => fault == SerialFault::OutOfMemory,
+    }
+}
+
+// Run with each allocation refused in turn (`rt try --test --fail-alloc N`).
+#[test]
+fn memory_short_or_ample(rt: HostRuntime) {
+    assert!(rt; is_admitted_or_told(rt.alloc()));
+    assert!(rt; is_made_or_told(rt.alloc()));
+}
+
+const READING: [(SerialFault, &'static str); 4] = [
+    (
+        SerialFault::Length,
+        "a serial number has 12 or 16 characters",
+    ),
+    (
+        SerialFault::Vendor,
+        "a vendor code has letters A to Z and digits 0 to 9",
+    ),
+    (
+        SerialFault::Digit,
+        "a serial number's octets are hex digits",
+    ),
+    (SerialFault::OutOfMemory, "out of memory"),
+];
+
+const ADMITTING: [(AdmitFault, &'static str); 3] = [
+    (
+        AdmitFault::Duplicate,
+        "the serial number is admitted already",
+    ),
+    (
+        AdmitFault::Full,
+        "512 serial numbers are admitted on the port",
+    ),
+    (AdmitFault::OutOfMemory, "out of memory"),
+];
 
 #[test]
 fn printed_faults(rt: HostRuntime) {
-    let alloc = rt.alloc();
-    let reading = [
-        prints(
-            alloc,
-            &SerialFault::Length,
-            "a serial number has 12 or 16 characters",
-        ),
-        prints(
-            alloc,
-            &SerialFault::Vendor,
-            "a vendor code has letters A to Z and digits 0 to 9",
-        ),
-        prints(
-            alloc,
-            &SerialFault::Digit,
-            "a serial number's octets are hex digits",
-        ),
-        prints(alloc, &SerialFault::OutOfMemory, "out of memory"),
-    ];
-    let admitting = [
-        prints(
-            alloc,
-            &AdmitFault::Duplicate,
-            "the serial number is admitted already",
-        ),
-        prints(
-            alloc,
-            &AdmitFault::Full,
-            "512 serial numbers are admitted on the port",
-        ),
-        prints(alloc, &AdmitFault::OutOfMemory, "out of memory"),
-    ];
-    assert!(rt; (reading, admitting) == ([true; 4], [true; 3]));
+    for (fault, text) in &READING {
+        assert!(rt; prints(rt.alloc(), fault, text), "{text}");
+    }
+    for (fault, text) in &ADMITTING {
+        assert!(rt; prints(rt.alloc(), fault, text), "{text}");
+    }
 }

@@ -24,17 +24,9 @@ fn row_after_measuring(teqd: u32, rtd: u32) -> Option<Row> {
 
 #[test]
 fn a_delay_up_to_the_limit(rt: HostRuntime) {
-    let rows = [
-        row_after_measuring(100, 40),
-        row_after_measuring(100, 100),
-        row_after_measuring(100, 101),
-    ];
-    let expected = [
-        Some(Row::ranging(0).measured(60)),
-        Some(Row::ranging(0).measured(0)),
-        Some(Row::ranging(0)),
-    ];
-    assert!(rt; rows == expected);
+    assert!(rt; row_after_measuring(100, 40) == Some(Row::ranging(0).measured(60)));
+    assert!(rt; row_after_measuring(100, 100) == Some(Row::ranging(0).measured(0)));
+    assert!(rt; row_after_measuring(100, 101) == Some(Row::ranging(0)));
 }
 
 /// Whether anything was heard of a unit that failed in two ranging windows, and whether its ONU-ID is free then.
@@ -62,14 +54,10 @@ fn failed_unit(first: bool, second: bool) -> Option<(bool, bool)> {
 
 #[test]
 fn two_ranging_windows(rt: HostRuntime) {
-    let told = [
-        failed_unit(false, false),
-        failed_unit(true, false),
-        failed_unit(false, true),
-        failed_unit(true, true),
-    ];
-    let heard = Some((true, true));
-    assert!(rt; told == [Some((false, true)), heard, heard, heard]);
+    assert!(rt; failed_unit(false, false) == Some((false, true)));
+    assert!(rt; failed_unit(true, false) == Some((true, true)));
+    assert!(rt; failed_unit(false, true) == Some((true, true)));
+    assert!(rt; failed_unit(true, true) == Some((true, true)));
 }
 
 /// Gives the unit an Alloc-ID, which it acknowledges: whether that freed one, and the row in the end.
@@ -136,15 +124,19 @@ fn popped_up(outcome: Outcome) -> Option<Row> {
     }
 }
 
+/// How a poll ends after which a unit is kept.
+const KEPT: [Outcome; 4] = [
+    Outcome::Good,
+    Outcome::Garbled,
+    Outcome::Dark,
+    Outcome::Gasped,
+];
+
 #[test]
 fn a_polled_unit_pops_up(rt: HostRuntime) {
-    let rows = [
-        popped_up(Outcome::Good),
-        popped_up(Outcome::Garbled),
-        popped_up(Outcome::Dark),
-        popped_up(Outcome::Gasped),
-    ];
-    assert!(rt; rows == [Some(Row::ranging(0)); 4]);
+    for outcome in &KEPT {
+        assert!(rt; popped_up(*outcome) == Some(Row::ranging(0)), "{outcome:?}");
+    }
 }
 
 /// How many frames after a unit was given up its ONU-ID is free again.
@@ -166,10 +158,8 @@ fn frames_until_free(quarantine: u16) -> Option<u16>
 
 #[test]
 fn a_unit_that_is_given_up_leaves_its_number_to_cool(rt: HostRuntime) {
-    for quarantine in [0, 1, 800, 8000] {
-        assert!(rt;
-            frames_until_free(quarantine) == Some(quarantine),
-            "{quarantine}"
-        );
-    }
+    assert!(rt; frames_until_free(0) == Some(0));
+    assert!(rt; frames_until_free(1) == Some(1));
+    assert!(rt; frames_until_free(800) == Some(800));
+    assert!(rt; frames_until_free(8000) == Some(8000));
 }

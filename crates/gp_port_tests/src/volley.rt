@@ -2,7 +2,7 @@
 use crate::samples::prints;
 use gp_ploam::Down;
 use gp_volley::{QueueFault, VolleyQueue};
-use std::test::Fail;
+use std::alloc::Global;
 
 /// Owes as many messages for the ONU-IDs from 0 on as there is room for beside one more.
 fn owe_63(queue: &mut VolleyQueue) {
@@ -13,88 +13,105 @@ fn owe_63(queue: &mut VolleyQueue) {
     }
 }
 
-/// What a queue has at its ends.
-#[derive(Clone, Copy, Debug, PartialEq, Eq)]
-struct Ends {
-    len: usize,
-    last: [Option<Down>; 3],
-    first: [Option<Down>; 2],
-    owes: [bool; 2],
-}
-
-/// Looks at both ends of a queue that owed 189 copies and is filled: the last ones, and then the first ones after one
-/// message and a copy were sent.
-fn ends_of(queue: &mut VolleyQueue) -> Ends {
+/// Owes one more where 189 copies are owed.
+fn owe_last(queue: &mut VolleyQueue) {
     if queue.len_copies() == 189 {
         queue.owe(Down::NoMessage);
     }
-    let len = queue.len_copies();
-    let last = [queue.copy_at(188), queue.copy_at(189), queue.copy_at(192)];
+}
+
+/// Tells whether a queue is full, and ends with a copy of the last ONU-ID and those of one message more.
+fn ends_full(queue: &VolleyQueue) -> bool {
+    queue.len_copies() == 192
+        && queue.copy_at(188) == Some(Down::Deactivate { onu: 62 })
+        && queue.copy_at(189) == Some(Down::NoMessage)
+        && queue.copy_at(192).is_none()
+}
+
+/// Sends four copies: one message, and a copy.
+fn send_four(queue: &mut VolleyQueue) {
     for _ in 0..4 {
         let _ = queue.send_one();
     }
-    let owes = [
-        queue.owes(&Down::Deactivate { onu: 0 }),
-        queue.owes(&Down::Deactivate { onu: 1 }),
-    ];
-    Ends {
-        len,
-        last,
-        first: [queue.copy_at(1), queue.copy_at(2)],
-        owes,
-    }
 }
 
-#[test]
-fn full_room(rt: HostRuntime) -> Result<(), Fail> {
-    let mut queue = VolleyQueue::begin(rt.alloc())?;
+/// Tells whether a queue begins with two copies for the ONU-ID 1, and none for 0 is owed.
+fn begins_with_two(queue: &VolleyQueue) -> bool {
+    queue.copy_at(1) == Some(Down::Deactivate { onu: 1 })
+        && queue.copy_at(2) == Some(Down::Deactivate { onu: 2 })
+        && !queue.owes(&Down::Deactivate { onu: 0 })
+        && queue.owes(&Down::Deactivate { onu: 1 })
+}
+
+/// Fills a queue and sends four copies: whether it ends, and then begins, as it has to.
+fn fill_and_send(alloc: Global) -> Result<(bool, bool), QueueFault> {
+    let mut queue = VolleyQueue::begin(alloc)?;
     owe_63(&mut queue);
-    let ends = ends_of(&mut queue);
+    owe_last(&mut queue);
+    let is_end = ends_full(&queue);
+    send_four(&mut queue);
+    let is_begin = begins_with_two(&queue);
     queue.close();
-    let expected = Ends {
-        len: 192,
-        last: [
-            Some(Down::Deactivate { onu: 62 }),
-            Some(Down::NoMessage),
-            None,
-        ],
-        first: [
-            Some(Down::Deactivate { onu: 1 }),
-            Some(Down::Deactivate { onu: 2 }),
-        ],
-        owes: [false, true],
-    };
-    assert_eq!(rt; ends, expected);
-    Ok(())
+    Ok((is_end, is_begin))
 }
 
 #[test]
-fn three_copies_in_a_row(rt: HostRuntime) -> Result<(), Fail> {
-    let mut queue = VolleyQueue::begin(rt.alloc())?;
+fn full_room(rt: HostRuntime) {
+    assert!(rt; fill_and_send(rt.alloc()) == Ok((true, true)));
+}
+
+/// What is sent of two messages, frame by frame.
+const SENT: [Option<Down>; 7] = [
+    Some(Down::EnableAll),
+    Some(Down::EnableAll),
+    Some(Down::EnableAll),
+    Some(Down::Popup { onu: 255 }),
+    Some(Down::Popup { onu: 255 }),
+    Some(Down::Popup { onu: 255 }),
+    None,
+];
+
+/// Tells whether a queue sends these, one after the other.
+fn sends_all(queue: &mut VolleyQueue, copies: &[Option<Down>]) -> bool {
+    for copy in copies {
+        if queue.send_one() != *copy {
+            return false;
+        }
+    }
+    true
+}
+
+/// Tells whether two messages are sent so.
+fn are_sent(alloc: Global) -> Result<bool, QueueFault> {
+    let mut queue = VolleyQueue::begin(alloc)?;
     queue.owe(Down::EnableAll);
     queue.owe(Down::Popup { onu: 255 });
-    let mut sent = [None; 7];
-    for copy in &mut sent {
-        *copy = queue.send_one();
-    }
+    let are_sent = sends_all(&mut queue, &SENT);
     queue.close();
-    let (first, second) = (Some(Down::EnableAll), Some(Down::Popup { onu: 255 }));
-    assert_eq!(rt; sent, [first, first, first, second, second, second, None]);
-    Ok(())
+    Ok(are_sent)
 }
 
-// Run with each allocation refused in turn (`rt try --test --fail-alloc N`).
 #[test]
-fn memory_short_or_ample(rt: HostRuntime) {
-    let is_told = match VolleyQueue::begin(rt.alloc()) {
+fn three_copies_in_a_row(rt: HostRuntime) {
+    assert!(rt; are_sent(rt.alloc()) == Ok(true));
+}
+
+/// Tells whether a queue is made, which is empty, or is not since memory was refused.
+fn is_made_or_told(alloc: Global) -> bool {
+    match VolleyQueue::begin(alloc) {
         Ok(queue) => {
             let copies = queue.len_copies();
             queue.close();
             copies == 0
         }
         Err(fault) => fault == QueueFault::OutOfMemory,
-    };
-    assert!(rt; is_told);
+    }
+}
+
+// Run with each allocation refused in turn (`rt try --test --fail-alloc N`).
+#[test]
+fn memory_short_or_ample(rt: HostRuntime) {
+    assert!(rt; is_made_or_told(rt.alloc()));
 }
 
 #[test]

@@ -182,6 +182,8 @@ fn owed<L: Ledger>(core: &ChassisCore<L>, port: u8) -> Answer {
 }
 
 fn cut<L: Ledger>(alloc: Global, core: &mut ChassisCore<L>, port: u8) -> Answer {
-    core.cut(alloc, port)
-        .map(|piece| (None, None, piece.first, piece.len()))
+    match core.cut(alloc, port) {
+        Ok(piece) => Ok((None, None, piece.first, piece.len())),
+        Err(fault) => Err(fault),
+    }
 }

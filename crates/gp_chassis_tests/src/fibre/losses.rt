@@ -5,14 +5,13 @@ ghost use Rattle.std.specs.Prelude.{◌≡◌};
 use super::runs::{
     ACTS, Act, IN_PARTS, LOSSES, PARTS, POPUP_AND_TIMERS, Plan, Run, TOLD, UNITS_AND_STEPS,
 };
-use super::{config_of, first_wrong, loses, played, units_of};
+use super::{config_of, first_wrong, loses, play, units_of};
 use gp_fibre::{LossPlan, Losses, LostNumbers, World, WorldFault, WorldStep};
 use gp_licence::MAX_LICENCES;
-use gp_machine::{Entry, Event};
+use gp_machine::{Entry, Event, PortConfig};
 use std::alloc::{AllocError, Global};
 use std::marker::Brand;
 use std::sync::ledger::{Blank, Ledger};
-use std::test::Fail;
 
 /// How the numbers of a list follow each other.
 #[derive(Clone, Copy, Debug, PartialEq, Eq)]
@@ -44,12 +43,18 @@ fn number_at(form: Form, place: u64, count: u64) -> u64 {
     }
 }
 
-/// Makes a list of so many numbers.
-fn numbers_of(alloc: Global, form: Form, count: u64) -> Result<Vec<u64>, AllocError> {
-    let mut numbers = Vec::new(alloc);
+/// Puts so many numbers into a list.
+fn put_numbers(numbers: &mut Vec<u64>, form: Form, count: u64) -> Result<(), AllocError> {
     for place in 0..count {
         numbers.push(number_at(form, place, count))?;
     }
+    Ok(())
+}
+
+/// Makes a list of so many numbers.
+fn numbers_of(alloc: Global, form: Form, count: u64) -> Result<Vec<u64>, AllocError> {
+    let mut numbers = Vec::new(alloc);
+    put_numbers(&mut numbers, form, count)?;
     Ok(numbers)
 }
 
@@ -101,35 +106,53 @@ fn wrong_turn_of(alloc: Global, form: Form, count: u64) -> Result<Option<(u32, u
     Ok(first_wrong_turn(&mut lost, &given, 160))
 }
 
+/// How many numbers a list has.
+const COUNTS: [u64; 5] = [0, 1, 2, 7, 40];
+
 #[test]
-fn numbers_beside_their_list(rt: HostRuntime) -> Result<(), Fail> {
-    for form in FORMS {
-        for count in [0, 1, 2, 7, 40] {
-            let wrong = wrong_turn_of(rt.alloc(), form, count)?;
-            assert_eq!(rt; wrong, None, "{count} numbers, {form:?}");
+fn numbers_beside_their_list(rt: HostRuntime) {
+    for form in &FORMS {
+        for count in &COUNTS {
+            assert!(rt;
+                wrong_turn_of(rt.alloc(), *form, *count) == Ok(None),
+                "{count} numbers, {form:?}"
+            );
         }
     }
-    Ok(())
+}
+
+/// Numbers, and whether the copy and the burst of each are lost by a plan.
+const LOST: [(u64, bool, bool); 7] = [
+    (0, false, true),
+    (3, true, false),
+    (4, true, false),
+    (6, false, false),
+    (99, false, true),
+    (1_000_000, true, false),
+    (u64::MAX, false, false),
+];
+
+/// The first of these numbers that is told otherwise.
+fn first_lost_otherwise(losses: &mut Losses, numbers: &[(u64, bool, bool)]) -> Option<u64> {
+    for (number, is_copy, is_burst) in numbers {
+        let copy = losses.copies.is_lost(*number);
+        let burst = losses.bursts.is_lost(*number);
+        if copy != *is_copy || burst != *is_burst {
+            return Some(*number);
+        }
+    }
+    None
+}
+
+/// The same of the losses of a plan.
+fn first_of_plan(alloc: Global) -> Result<Option<u64>, AllocError> {
+    let mut losses = Losses::from(loses(alloc, &[3, 4, 5, 4, 1_000_000], &[99, 0])?);
+    Ok(first_lost_otherwise(&mut losses, &LOST))
 }
 
 #[test]
-fn losses_of_a_plan(rt: HostRuntime) -> Result<(), Fail> {
-    let plan = loses(rt.alloc(), &[3, 4, 5, 4, 1_000_000], &[99, 0])?;
-    let mut losses = Losses::from(plan);
-    for (number, is_copy, is_burst) in [
-        (0, false, true),
-        (3, true, false),
-        (4, true, false),
-        (6, false, false),
-        (99, false, true),
-        (1_000_000, true, false),
-        (u64::MAX, false, false),
-    ] {
-        let copy = losses.copies.is_lost(number);
-        let burst = losses.bursts.is_lost(number);
-        assert_eq!(rt; (copy, burst), (is_copy, is_burst), "{number}");
-    }
-    Ok(())
+fn losses_of_a_plan(rt: HostRuntime) {
+    assert!(rt; first_of_plan(rt.alloc()) == Ok(None));
 }
 
 /// How many frames these entries are of.
@@ -212,26 +235,25 @@ fn all_done_into<L: Ledger>(
     Ok(())
 }
 
-/// Plays a run into a list that is lent, in a new world with one licence, which comes back. There is room for the
-/// entries of a short run before it begins.
+/// Plays a run into a list that is lent, in a new world with one licence, and gives how many come back.
 fn played_into<L: Ledger>(
     alloc: Global,
     blank: Blank,
+    config: &PortConfig,
     plan: &Plan,
     acts: &[(Run, Act)],
     losses: &mut Losses,
-) -> Result<(Vec<Entry>, u32), WorldFault>
+    lists: (&mut Vec<Entry>, &mut Vec<Entry>),
+) -> Result<u32, WorldFault>
     requires name { blank.name ≡ L.name }
     requires parts { (blank.parts ≡ L.parts) × (L.parts ≡ MAX_LICENCES) }
 {
-    let config = config_of(alloc, plan.cycles)?;
-    let mut all = Vec::with_capacity(alloc, 64)?;
-    let mut lent = Vec::new(alloc);
-    let mut world = World::<L>::begin(alloc, blank, &config, 1, units_of(plan))?;
-    let done = all_done_into(&mut world, plan.run, acts, losses, &mut lent, &mut all);
+    let mut world = World::<L>::begin(alloc, blank, config, 1, units_of(plan))?;
+    let (lent, all) = lists;
+    let done = all_done_into(&mut world, plan.run, acts, losses, lent, all);
     let licences = world.close();
     done?;
-    Ok((all, licences))
+    Ok(licences)
 }
 
 /// The same with a new ledger.
@@ -240,16 +262,30 @@ fn play_into(
     plan: &Plan,
     acts: &[(Run, Act)],
     losses: &mut Losses,
-) -> Result<(Vec<Entry>, u32), WorldFault> {
+    all: &mut Vec<Entry>,
+) -> Result<u32, WorldFault> {
+    let config = config_of(alloc, plan.cycles)?;
+    let mut lent = Vec::new(alloc);
     let blank = Blank::new(u64::from(MAX_LICENCES));
-    played_into::<Brand>(alloc, blank, plan, acts, losses)
+    played_into::<Brand>(alloc, blank, &config, plan, acts, losses, (&mut lent, all))
 }
 
-/// Plays a worked run into a list that is lent, and gives the first wrong place, and how many licences come back.
+/// Plays a worked run with these losses into a list that is lent, and gives the first wrong place, and how many
+/// licences come back. There is room for the entries of a short run before it begins.
+fn wrong_with(
+    alloc: Global,
+    plan: &Plan,
+    losses: &mut Losses,
+) -> Result<(Option<usize>, u32), WorldFault> {
+    let mut entries = Vec::with_capacity(alloc, 64)?;
+    let licences = play_into(alloc, plan, &ACTS, losses, &mut entries)?;
+    Ok((first_wrong(&entries, plan.run, &TOLD), licences))
+}
+
+/// The same with the losses of the plan.
 fn wrong_into(alloc: Global, plan: &Plan) -> Result<(Option<usize>, u32), WorldFault> {
     let mut losses = Losses::from(loses(alloc, plan.copies, plan.bursts)?);
-    let (entries, licences) = play_into(alloc, plan, &ACTS, &mut losses)?;
-    Ok((first_wrong(&entries, plan.run, &TOLD), licences))
+    wrong_with(alloc, plan, &mut losses)
 }
 
 /// The same, and once more where there was no memory for a new world.
@@ -263,21 +299,30 @@ fn wrong_at_last(alloc: Global, plan: &Plan) -> Result<(Option<usize>, u32), Wor
 // Passes whichever one request for memory is refused, and with ample memory (`rt try --test --fail-alloc N`).
 #[test]
 fn short_of_memory(rt: HostRuntime) {
-    for plan in LOSSES {
-        let wrong = wrong_at_last(rt.alloc(), &plan);
-        assert_eq!(rt; wrong, Ok((None, 1)), "{:?}", plan.run);
+    for plan in &LOSSES {
+        assert!(rt;
+            wrong_at_last(rt.alloc(), plan) == Ok((None, 1)),
+            "{:?}",
+            plan.run
+        );
     }
 }
 
 #[test]
 fn worked_runs(rt: HostRuntime) {
-    for plan in POPUP_AND_TIMERS {
-        let wrong = wrong_into(rt.alloc(), &plan);
-        assert_eq!(rt; wrong, Ok((None, 1)), "{:?}", plan.run);
+    for plan in &POPUP_AND_TIMERS {
+        assert!(rt;
+            wrong_into(rt.alloc(), plan) == Ok((None, 1)),
+            "{:?}",
+            plan.run
+        );
     }
-    for plan in UNITS_AND_STEPS {
-        let wrong = wrong_into(rt.alloc(), &plan);
-        assert_eq!(rt; wrong, Ok((None, 1)), "{:?}", plan.run);
+    for plan in &UNITS_AND_STEPS {
+        assert!(rt;
+            wrong_into(rt.alloc(), plan) == Ok((None, 1)),
+            "{:?}",
+            plan.run
+        );
     }
 }
 
@@ -288,49 +333,68 @@ fn look_up(lost: &mut LostNumbers, times: u32) {
     }
 }
 
-/// Plays the run in parts by a plan.
-fn play_by_plan(alloc: Global, loss: &LossPlan) -> Result<(Vec<Entry>, u32), WorldFault> {
-    let config = config_of(alloc, IN_PARTS.cycles)?;
-    let blank = Blank::new(u64::from(MAX_LICENCES));
-    played::<Brand>(alloc, blank, &config, &IN_PARTS, &PARTS, loss)
+/// Loses so many copies, and half as many bursts.
+fn loss_of(alloc: Global, form: Form, count: u64) -> Result<LossPlan, AllocError> {
+    let copies = numbers_of(alloc, form, count)?;
+    let bursts = numbers_of(alloc, form, count / 2)?;
+    Ok(LossPlan { copies, bursts })
 }
 
-/// Tells whether the run in parts is the same by a plan and into a list that is lent, where a number was looked up so
-/// often among both before.
-fn is_same_by_both(alloc: Global, loss: LossPlan, times: u32) -> Result<bool, WorldFault> {
-    let by_plan = play_by_plan(alloc, &loss)?;
+/// What is played: the entries, and how many licences come back.
+type Played = (Vec<Entry>, u32);
+
+/// Plays the run in parts by a plan.
+fn parts_by_plan(alloc: Global, loss: &LossPlan) -> Result<Played, WorldFault> {
+    let mut entries = Vec::new(alloc);
+    let licences = play(alloc, &IN_PARTS, &PARTS, loss, &mut entries)?;
+    Ok((entries, licences))
+}
+
+/// Plays the run in parts into a list that is lent, where a number was looked up so often among both before.
+fn parts_into(alloc: Global, loss: LossPlan, times: u32) -> Result<Played, WorldFault> {
     let mut losses = Losses::from(loss);
     look_up(&mut losses.copies, times);
     look_up(&mut losses.bursts, times);
-    Ok(play_into(alloc, &IN_PARTS, &PARTS, &mut losses)? == by_plan)
+    let mut entries = Vec::new(alloc);
+    let licences = play_into(alloc, &IN_PARTS, &PARTS, &mut losses, &mut entries)?;
+    Ok((entries, licences))
 }
 
-/// The losses stay as they were given, or are put in order during the run, or before it.
+/// Tells whether the same entries are played, and as many licences come back.
+fn are_same(by_plan: &Played, into: &Played) -> bool {
+    by_plan.0.as_slice() == into.0.as_slice() && by_plan.1 == into.1
+}
+
+/// Tells whether the run in parts is the same by a plan and into a list that is lent, with losses of this form.
+fn is_same_by_both(alloc: Global, form: Form, count: u64, times: u32) -> Result<bool, WorldFault> {
+    let loss = loss_of(alloc, form, count)?;
+    let by_plan = parts_by_plan(alloc, &loss)?;
+    let into = parts_into(alloc, loss, times)?;
+    Ok(are_same(&by_plan, &into))
+}
+
+/// How many numbers are lost, and how often one is looked up before: the losses stay as they were given, or are put in
+/// order during the run, or before it.
+const LOOK_UPS: [(u64, u32); 9] = [
+    (0, 0),
+    (1, 0),
+    (2, 0),
+    (5, 3),
+    (9, 5),
+    (9, 600),
+    (40, 0),
+    (40, 15),
+    (40, 600),
+];
+
 #[test]
-fn runs_by_both_forms(rt: HostRuntime) -> Result<(), Fail> {
-    for form in FORMS {
-        for (count, times) in [
-            (0, 0),
-            (1, 0),
-            (2, 0),
-            (5, 3),
-            (9, 5),
-            (9, 600),
-            (40, 0),
-            (40, 15),
-            (40, 600),
-        ] {
-            let loss = LossPlan {
-                copies: numbers_of(rt.alloc(), form, count)?,
-                bursts: numbers_of(rt.alloc(), form, count / 2)?,
-            };
-            let same = is_same_by_both(rt.alloc(), loss, times);
-            assert_eq!(rt;
-                same,
-                Ok(true),
+fn runs_by_both_forms(rt: HostRuntime) {
+    for form in &FORMS {
+        for (count, times) in &LOOK_UPS {
+            assert!(rt;
+                is_same_by_both(rt.alloc(), *form, *count, *times) == Ok(true),
                 "{count} numbers, {form:?}, after {times} look-ups"
             );
         }
     }
-    Ok(())
 }

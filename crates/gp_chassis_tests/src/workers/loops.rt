@@ -70,38 +70,56 @@ fn outcome_of<L: Ledger, R: Wait>(
     rt: &R,
     alloc: Global,
     blank: Blank,
+    config: &ChassisConfig,
     consumer: Consumer<RingItem>,
     tries: u8,
 ) -> Option<Outcome>
     requires name { blank.name ≡ L.name }
     requires parts { (blank.parts ≡ L.parts) × (L.parts ≡ MAX_LICENCES) }
 {
-    let config = chassis_of(alloc, 1, 100, 1, &[(1, 1), (101, 1)]).ok()?;
-    let chassis = Chassis::<NoGate, L>::begin(alloc, blank, &config, NoGate).ok()?;
+    let chassis = Chassis::<NoGate, L>::begin(alloc, blank, config, NoGate).ok()?;
     let mut workers = workers_of(rt, alloc, &chassis, 3);
     let told = run(rt, &chassis, &mut workers, consumer);
     let closed = close(rt, alloc, chassis, workers, tries);
     Some((told, events_of(closed.ok())))
 }
 
-/// The same with a new ledger, and a ring of two bursts. It is told also how much room the ring has at last.
+/// The same with a new ledger.
+fn outcome_of_ring<R: Wait>(
+    rt: &R,
+    alloc: Global,
+    consumer: Consumer<RingItem>,
+    tries: u8,
+) -> Option<Outcome> {
+    let config = chassis_of(alloc, 1, 100, 1, &[(1, 1), (101, 1)]).ok()?;
+    let blank = Blank::new(u64::from(MAX_LICENCES));
+    outcome_of::<Brand, R>(rt, alloc, blank, &config, consumer, tries)
+}
+
+/// The same with a ring of two bursts. It is told also how much room the ring has at last.
 fn outcome<R: Wait>(rt: &R, alloc: Global, tries: u8) -> Option<(Outcome, usize)> {
     let (mut producer, consumer) = RingBuffer::new(alloc, 3).ok()?;
-    let fed = producer.push_entire_slice(&[BURST, BURST, RingItem::End]);
-    let blank = Blank::new(u64::from(MAX_LICENCES));
-    let outcome = outcome_of::<Brand, R>(rt, alloc, blank, consumer, tries)?;
-    match fed {
-        Ok(()) => Some((outcome, producer.slots())),
-        Err(_) => None,
+    if producer
+        .push_entire_slice(&[BURST, BURST, RingItem::End])
+        .is_err()
+    {
+        return None;
+    }
+    let outcome = outcome_of_ring(rt, alloc, consumer, tries)?;
+    Some((outcome, producer.slots()))
+}
+
+/// Tells whether there is an outcome, and it is what the loops have to tell.
+fn is_whole(found: &Option<(Outcome, usize)>) -> bool {
+    match found {
+        Some((outcome, room)) => { outcome.0 == TOLD && outcome.1 == Some((3, 1, 2)) && *room == 3 }
+        None => false,
     }
 }
 
 #[test]
 fn clock_operator_and_reader(rt: HostRuntime) {
-    assert_eq!(rt;
-        outcome(&rt, rt.alloc(), 1),
-        Some(((TOLD, Some((3, 1, 2))), 3))
-    );
+    assert!(rt; is_whole(&outcome(&rt, rt.alloc(), 1)));
 }
 
 /// Whether a loop told what it has to, or ended early since memory ran out.
@@ -109,20 +127,35 @@ fn is_told(told: &Told, whole: &Told) -> bool {
     *told == *whole || (told.0 == Err(ApplyFault::OutOfMemory) && told.1 < whole.1)
 }
 
+/// Whether each loop did, and the journals have as many events as the workers have receipts.
+fn are_told(told: &(Told, Told, Told), events: Option<(u64, u64, u64)>) -> bool {
+    let (clock, operator, reader) = told;
+    is_told(clock, &TOLD.0)
+        && is_told(operator, &TOLD.1)
+        && is_told(reader, &TOLD.2)
+        && events == Some((clock.1 as u64, operator.1 as u64, reader.1 as u64))
+}
+
+/// Whether there is an outcome, and it is this, and the ring has room for three at last.
+fn is_told_by_all(found: &Option<(Outcome, usize)>) -> bool {
+    match found {
+        Some((outcome, room)) => are_told(&outcome.0, outcome.1) && *room == 3,
+        None => false,
+    }
+}
+
+/// The same with two tries of a close, and once more where the chassis was not opened.
+fn outcome_at_last<R: Wait>(rt: &R, alloc: Global) -> Option<(Outcome, usize)> {
+    match outcome(rt, alloc, 2) {
+        None => outcome(rt, alloc, 2),
+        found => found,
+    }
+}
+
 // Passes whichever one request for memory is refused, and with ample memory (`rt try --test --fail-alloc N`).
 #[test]
 fn loops_short_of_memory(rt: HostRuntime) {
-    let found = match outcome(&rt, rt.alloc(), 2) {
-        None => outcome(&rt, rt.alloc(), 2),
-        found => found,
-    };
-    let (outcome, room) = found.expect(&rt, "an outcome");
-    let (clock, operator, reader) = outcome.0;
-    let counts = (clock.1 as u64, operator.1 as u64, reader.1 as u64);
-    assert_eq!(rt; (outcome.1, room), (Some(counts), 3));
-    assert!(rt;
-        is_told(&clock, &TOLD.0) && is_told(&operator, &TOLD.1) && is_told(&reader, &TOLD.2)
-    );
+    assert!(rt; is_told_by_all(&outcome_at_last(&rt, rt.alloc())));
 }
 
 /// Puts an item into the ring once there is a place, and tells whether it did: not where the reader is gone.
@@ -168,15 +201,18 @@ fn feed_and_read<L: Ledger + Send + Sync, R: Threads + Wait + Sync>(
     )
 }
 
+/// Whether all went into the ring, what the reader answers, and how many frames, commands and bursts the journals have.
+type Read = ((bool, Result<u64, ApplyFault>), Option<(u64, u64, u64)>);
+
 /// Feeds a ring of two places with so many bursts in one thread, and reads it in another for a port whose journal
-/// keeps so many; gives whether all went into the ring, what the reader answers, and how many bursts the journal has.
+/// keeps so many.
 fn read_of<L: Ledger + Send + Sync, R: Threads + Wait + Sync>(
     rt: &R,
     alloc: Global,
     blank: Blank,
     config: &ChassisConfig,
     bursts: u8,
-) -> Option<((bool, Result<u64, ApplyFault>), Option<(u64, u64, u64)>)>
+) -> Option<Read>
     requires name { blank.name ≡ L.name }
     requires parts { (blank.parts ≡ L.parts) × (L.parts ≡ MAX_LICENCES) }
 {
@@ -194,19 +230,35 @@ fn read<R: Threads + Wait + Sync>(
     alloc: Global,
     bursts: u8,
     journal_limit: u32,
-) -> Option<((bool, Result<u64, ApplyFault>), Option<(u64, u64, u64)>)> {
+) -> Option<Read> {
     let config = chassis_of(alloc, 1, journal_limit, 1, &[(1, 1)]).ok()?;
     let blank = Blank::new(u64::from(MAX_LICENCES));
     read_of::<Brand, R>(rt, alloc, blank, &config, bursts)
 }
 
+/// How many bursts are fed, how many entries the journal keeps, and what is read then.
+const READS: [(u8, u32, Read); 2] = [
+    (2, 100, ((true, Ok(2)), Some((0, 0, 2)))),
+    (
+        9,
+        1,
+        ((true, Err(ApplyFault::JournalFull)), Some((0, 0, 1))),
+    ),
+];
+
+/// Tells whether something is read, and it is this.
+fn is_read(found: &Option<Read>, wanted: &Read) -> bool {
+    match found {
+        Some((told, events)) => *told == wanted.0 && *events == wanted.1,
+        None => false,
+    }
+}
+
 // After the second burst has found a journal of one entry full, the others and the end are taken out all the same.
 #[test]
 fn reader_of_a_ring(rt: HostRuntime) {
-    let all = ((true, Ok(2)), Some((0, 0, 2)));
-    let full = ((true, Err(ApplyFault::JournalFull)), Some((0, 0, 1)));
-    assert_eq!(rt;
-        [read(&rt, rt.alloc(), 2, 100), read(&rt, rt.alloc(), 9, 1)],
-        [Some(all), Some(full)]
-    );
+    for (bursts, journal_limit, told) in &READS {
+        let found = read(&rt, rt.alloc(), *bursts, *journal_limit);
+        assert!(rt; is_read(&found, told), "{told:?}");
+    }
 }

@@ -112,16 +112,28 @@ fn notes_of<C: Clock + Drop + Send + Sync, R: Abort + Threads + Wait + Sync>(
     meet::<C, Brand, R>(rt, alloc, blank, &meeting, &config, events)
 }
 
+/// Notes that three copies were owed on the first port, and that the other answered meanwhile.
+const MEET: Option<(u64, u64)> = Some((3, MET));
+
+/// Tells whether two ports meet that hear their first units at once.
+fn meet_by_bursts<C: Clock + Drop + Send + Sync, R: Abort + Threads + Wait + Sync>(
+    rt: &R,
+    alloc: Global,
+    clock: C,
+    (kept, other): (u8, u8),
+) -> bool {
+    let bursts = (heard(first_unit(kept)), heard(first_unit(other)));
+    notes_of(rt, alloc, clock, (kept, other), bursts) == MEET
+}
+
 #[test]
 fn two_ports_at_once(rt: HostRuntime) {
-    let met = Some((3, MET));
     let frames = (Event::Frame, Event::Frame);
-    assert_eq!(rt; notes_of(&rt, rt.alloc(), rt, (0, 1), frames), met);
+    assert!(rt; notes_of(&rt, rt.alloc(), rt, (0, 1), frames) == MEET);
     for other in 1..16u8 {
         for kept in 0..other {
-            let bursts = (heard(first_unit(kept)), heard(first_unit(other)));
-            let notes = notes_of(&rt, rt.alloc(), rt, (kept, other), bursts);
-            assert_eq!(rt; notes, met, "ports {kept} and {other}");
+            let is_met = meet_by_bursts(&rt, rt.alloc(), rt, (kept, other));
+            assert!(rt; is_met, "ports {kept} and {other}");
         }
     }
 }
@@ -139,6 +151,31 @@ fn hear_all<L: Ledger, R: Wait>(
     }
 }
 
+/// Opens a search window on a port.
+fn open_window<L: Ledger, R: Wait>(
+    rt: &R,
+    chassis: &Chassis<NoGate, L>,
+    workers: &mut [Worker<L>],
+    port: u8,
+) {
+    let lines = [
+        (0, 1, port, SEARCH, Ok(Said::Searching)),
+        (0, 5, port, Event::Frame, Ok(Said::Ticked)),
+    ];
+    let _ = play(rt, chassis, workers, &lines, 1);
+}
+
+/// Opens one on each port.
+fn open_windows<L: Ledger, R: Wait>(
+    rt: &R,
+    chassis: &Chassis<NoGate, L>,
+    workers: &mut [Worker<L>],
+) {
+    for port in 0..16u8 {
+        open_window(rt, chassis, workers, port);
+    }
+}
+
 /// Opens a search window on each port, has all ports hear their units at once, and gives how many bursts the journals
 /// have and how many units are active.
 fn storm_of<L: Ledger + Send + Sync, R: Threads + Wait + Sync>(
@@ -152,13 +189,7 @@ fn storm_of<L: Ledger + Send + Sync, R: Threads + Wait + Sync>(
 {
     let chassis = Chassis::<NoGate, L>::begin(alloc, blank, config, NoGate).ok()?;
     let mut workers = workers_of(rt, alloc, &chassis, 16);
-    for port in 0..16u8 {
-        let lines = [
-            (0, 1, port, SEARCH, Ok(Said::Searching)),
-            (0, 5, port, Event::Frame, Ok(Said::Ticked)),
-        ];
-        let _ = play(rt, &chassis, &mut workers, &lines, 1);
-    }
+    open_windows(rt, &chassis, &mut workers);
     let shared = &chassis;
     thread::for_each_mut(
         rt,
@@ -183,5 +214,5 @@ fn storm<R: Threads + Wait + Sync>(rt: &R, alloc: Global) -> Option<(u64, u64)> 
 // Each unit is heard once, and each of them that gets one of the hundred licences keeps it.
 #[test]
 fn sixteen_ports_at_once(rt: HostRuntime) {
-    assert_eq!(rt; storm(&rt, rt.alloc()), Some((16 * 63, 100)));
+    assert!(rt; storm(&rt, rt.alloc()) == Some((16 * 63, 100)));
 }

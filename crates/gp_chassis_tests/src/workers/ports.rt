@@ -5,12 +5,12 @@ ghost use Rattle.gp_licence.specs.declared.ledger_parts.TheConstants.{MAX_LICENC
 
 use super::{Line, close, close_without_last, cut, cut_without_last, play, workers_of};
 use crate::units::{SEARCH, Said, chassis_of};
-use gp_chassis::ApplyFault;
+use gp_chassis::{ApplyFault, ChassisConfig};
 use gp_licence::MAX_LICENCES;
 use gp_machine::{Command, Event, Refusal};
 use gp_ploam::Serial;
-use gp_workers::{Chassis, CloseFault, Closed, Cut, NoGate};
-use std::alloc::{AllocError, Global};
+use gp_workers::{Chassis, CloseFault, Closed, Cut, NoGate, Worker};
+use std::alloc::Global;
 use std::marker::Brand;
 use std::process::Abort;
 use std::sync::Wait;
@@ -62,83 +62,101 @@ const LATER: &[Line] = &[
 
 const NOT_ACTIVE: Result<Said, ApplyFault> = Ok(Said::Refused(Refusal::NotActive));
 
-/// The number of the first entry that is kept of each port, and how many there are.
-type Kept = Vec<(u64, u64)>;
+/// What each way leaves: why it was refused, the first number and the length of each piece, and the same of each
+/// journal.
+type Row = (
+    Between,
+    Option<CloseFault>,
+    &'static [(u64, u64)],
+    [(u64, u64); 3],
+);
 
-/// What is left: the places of the lines that were answered otherwise, why a close or a cut was refused, and what the
-/// cut and the close handed out.
-type Outcome = ([Option<usize>; 2], Option<CloseFault>, Kept, Kept);
+/// What is left: the places of the lines that were answered otherwise, why a close or a cut was refused, and whether
+/// the cut and the close handed out what the row has.
+type Outcome = ([Option<usize>; 2], Option<CloseFault>, bool, bool);
 
-/// What is kept in pieces.
-fn kept_in_pieces(alloc: Global, cut: &Cut) -> Result<Kept, AllocError> {
-    let mut kept = Vec::new(alloc);
-    for piece in &cut.pieces {
-        kept.push((piece.first, piece.len()))?;
-    }
-    Ok(kept)
+/// Tells whether pieces begin with these numbers, and are so long.
+fn are_pieces(cut: &Cut, wanted: &[(u64, u64)]) -> bool {
+    let same = cut
+        .pieces
+        .iter()
+        .zip(wanted)
+        .all(|(piece, kept)| *kept == (piece.first, piece.len()));
+    same && cut.pieces.len() == wanted.len()
 }
 
-/// What is kept in journals.
-fn kept_in_journals(alloc: Global, closed: &Closed) -> Result<Kept, AllocError> {
-    let mut kept = Vec::new(alloc);
-    for journal in &closed.journals {
-        kept.push((journal.first(), journal.entries().len() as u64))?;
+/// Tells whether journals begin with these numbers, and keep so many entries.
+fn are_journals(closed: &Closed, wanted: &[(u64, u64)]) -> bool {
+    let same = closed.journals.iter().zip(wanted).all(|(journal, kept)| {
+        *kept == (journal.first(), journal.entries().len() as u64)
+    });
+    same && closed.journals.len() == wanted.len()
+}
+
+/// A chassis, its workers, why a close or a cut of it was refused, and whether a cut handed out these pieces.
+type Tried<L> = (Chassis<NoGate, L>, Vec<Worker<L>>, Option<CloseFault>, bool);
+
+/// Cuts, or is refused, in this way; where nothing is cut there have to be no pieces.
+fn tried<L: Ledger, R: Abort + Wait>(
+    rt: &R,
+    alloc: Global,
+    chassis: Chassis<NoGate, L>,
+    workers: Vec<Worker<L>>,
+    row: &Row,
+    tries: u8,
+) -> Tried<L> {
+    match row.0 {
+        Between::Cut => {
+            let (chassis, workers, cut) = cut(rt, alloc, chassis, workers, tries);
+            let are_pieces = are_pieces(&cut, row.2);
+            (chassis, workers, None, are_pieces)
+        }
+        Between::CutWithoutLast => {
+            let (fault, chassis, workers) = cut_without_last(rt, alloc, chassis, workers);
+            (chassis, workers, Some(fault), row.2.is_empty())
+        }
+        Between::CloseWithoutLast => {
+            let (fault, chassis, workers) = close_without_last(rt, alloc, chassis, workers);
+            (chassis, workers, Some(fault), row.2.is_empty())
+        }
     }
-    Ok(kept)
 }
 
 /// Plays the first lines, cuts or is refused, plays the others and closes, with so many tries at most where memory is
-/// refused.
+/// refused. There is no outcome where the chassis is not opened.
 fn outcome_of<L: Ledger, R: Abort + Wait>(
     rt: &R,
     alloc: Global,
     blank: Blank,
-    between: Between,
+    config: &ChassisConfig,
+    row: &Row,
     tries: u8,
-) -> Result<Outcome, AllocError>
+) -> Option<Outcome>
     requires name { blank.name ≡ L.name }
     requires parts { (blank.parts ≡ L.parts) × (L.parts ≡ MAX_LICENCES) }
 {
-    let config = chassis_of(alloc, 1, 100, 1, UNITS)?;
-    let Ok(chassis) = Chassis::<NoGate, L>::begin(alloc, blank, &config, NoGate) else {
-        return Err(AllocError);
-    };
+    let chassis = Chassis::<NoGate, L>::begin(alloc, blank, config, NoGate).ok()?;
     let mut workers = workers_of(rt, alloc, &chassis, 3);
     let first = play(rt, &chassis, &mut workers, FIRST, tries);
-    let (fault, chassis, mut workers, pieces) = match between {
-        Between::Cut => {
-            let (chassis, workers, cut) = cut(rt, alloc, chassis, workers, tries);
-            (None, chassis, workers, kept_in_pieces(alloc, &cut))
-        }
-        Between::CutWithoutLast => {
-            let (fault, chassis, workers) = cut_without_last(rt, alloc, chassis, workers);
-            (Some(fault), chassis, workers, Ok(Vec::new(alloc)))
-        }
-        Between::CloseWithoutLast => {
-            let (fault, chassis, workers) = close_without_last(rt, alloc, chassis, workers);
-            (Some(fault), chassis, workers, Ok(Vec::new(alloc)))
-        }
-    };
+    let (chassis, mut workers, fault, are_pieces) = tried(rt, alloc, chassis, workers, row, tries);
     let later = play(rt, &chassis, &mut workers, LATER, tries);
     let closed = close(rt, alloc, chassis, workers, tries).expect(rt, "closed");
-    let journals = kept_in_journals(alloc, &closed)?;
-    Ok(([first, later], fault, pieces?, journals))
+    Some((
+        [first, later],
+        fault,
+        are_pieces,
+        are_journals(&closed, &row.3),
+    ))
 }
 
 /// The same with a new ledger.
-fn outcome<R: Abort + Wait>(
-    rt: &R,
-    alloc: Global,
-    between: Between,
-    tries: u8,
-) -> Result<Outcome, AllocError> {
+fn outcome<R: Abort + Wait>(rt: &R, alloc: Global, row: &Row, tries: u8) -> Option<Outcome> {
+    let config = chassis_of(alloc, 1, 100, 1, UNITS).ok()?;
     let blank = Blank::new(u64::from(MAX_LICENCES));
-    outcome_of::<Brand, R>(rt, alloc, blank, between, tries)
+    outcome_of::<Brand, R>(rt, alloc, blank, &config, row, tries)
 }
 
-/// What each way leaves: why it was refused, the first number and the length of each piece, and the same of each
-/// journal.
-const WAYS: [(Between, Option<CloseFault>, &[(u64, u64)], [(u64, u64); 3]); 3] = [
+const WAYS: [Row; 3] = [
     (
         Between::Cut,
         None,
@@ -159,25 +177,31 @@ const WAYS: [(Between, Option<CloseFault>, &[(u64, u64)], [(u64, u64); 3]); 3] =
     ),
 ];
 
-/// Tells whether an outcome is as its row has it.
-fn is_left(
-    outcome: &Outcome,
-    fault: Option<CloseFault>,
-    pieces: &[(u64, u64)],
-    journals: &[(u64, u64)],
-) -> bool {
-    let (wrong, found, cut, closed) = outcome;
-    *wrong == [None, None]
-        && *found == fault
-        && cut.as_slice() == pieces
-        && closed.as_slice() == journals
+/// Tells whether there is an outcome, and it is as its row has it.
+fn is_left(found: &Option<Outcome>, row: &Row) -> bool {
+    let Some(outcome) = found else {
+        return false;
+    };
+    let (wrong, fault, are_pieces, are_journals) = outcome;
+    *wrong == [None, None] && *fault == row.1 && *are_pieces && *are_journals
 }
 
 #[test]
 fn each_port_under_its_number(rt: HostRuntime) {
-    for (between, fault, pieces, journals) in WAYS {
-        let found = outcome(&rt, rt.alloc(), between, 1).expect(&rt, "an outcome");
-        assert!(rt; is_left(&found, fault, pieces, &journals), "{between:?}");
+    for row in &WAYS {
+        assert!(rt;
+            is_left(&outcome(&rt, rt.alloc(), row, 1), row),
+            "{:?}",
+            row.0
+        );
+    }
+}
+
+/// The same with two tries of each call, and once more where the chassis was not opened.
+fn outcome_at_last<R: Abort + Wait>(rt: &R, alloc: Global, row: &Row) -> Option<Outcome> {
+    match outcome(rt, alloc, row, 2) {
+        None => outcome(rt, alloc, row, 2),
+        found => found,
     }
 }
 
@@ -185,11 +209,5 @@ fn each_port_under_its_number(rt: HostRuntime) {
 // and a close that are refused are tried again.
 #[test]
 fn each_port_short_of_memory(rt: HostRuntime) {
-    let found = match outcome(&rt, rt.alloc(), Between::Cut, 2) {
-        Err(_) => outcome(&rt, rt.alloc(), Between::Cut, 2),
-        found => found,
-    };
-    let found = found.expect(&rt, "an outcome");
-    let (_, fault, pieces, journals) = WAYS[0];
-    assert!(rt; is_left(&found, fault, pieces, &journals));
+    assert!(rt; is_left(&outcome_at_last(&rt, rt.alloc(), &WAYS[0]), &WAYS[0]));
 }

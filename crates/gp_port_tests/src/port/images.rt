@@ -5,7 +5,7 @@ use super::lines::{A, B, B_RANGED, C, D, FAR, GARBLED, Played, USUAL, Wrong};
 use super::parts::Part;
 use gp_licence::MAX_LICENCES;
 use gp_machine::{Command, Entry, Event, Phase, Refusal, Reply};
-use gp_ploam::{Down, Mask, encode_up};
+use gp_ploam::{Down, Mask, Serial, encode_up};
 use gp_port::{Common, Grant, ImageFault, OpenFault, PortCore, PortFollower, PortImage, RowView};
 use std::alloc::Global;
 use std::marker::Brand;
@@ -69,15 +69,26 @@ fn told_of<L: Ledger>(
     reply: Reply,
 ) -> Result<[bool; 6], ImageFault> {
     let image = played.port.image(alloc)?;
-    let before = played.port.stands_for(&image);
+    told_from(alloc, &image, played, event, reply)
+}
+
+/// Tells the same from the image before the event.
+fn told_from<L: Ledger>(
+    alloc: Global,
+    image: &PortImage,
+    played: &mut Played<L>,
+    event: Event,
+    reply: Reply,
+) -> Result<[bool; 6], ImageFault> {
+    let before = played.port.stands_for(image);
     let entry = played.step(event);
-    let after = played.port.stands_for(&image);
+    let after = played.port.stands_for(image);
     let other = Entry {
         purse_out: entry.purse_out.wrapping_add(1),
         ..entry
     };
-    let (followed, arrived) = follows(alloc, &image, &entry, &played.port)?;
-    let (misled, _) = follows(alloc, &image, &other, &played.port)?;
+    let (followed, arrived) = follows(alloc, image, &entry, &played.port)?;
+    let (misled, _) = follows(alloc, image, &other, &played.port)?;
     let replied = entry.answer.reply == reply;
     Ok([replied, before, after, followed, misled, arrived])
 }
@@ -89,8 +100,7 @@ fn told_otherwise<L: Ledger>(
     alloc: Global,
     played: &mut Played<L>,
 ) -> Result<Option<(usize, [bool; 6])>, ImageFault> {
-    let changes = changes();
-    for (place, (event, reply)) in changes.iter().enumerate() {
+    for (place, (event, reply)) in changes().iter().enumerate() {
         let told = told_of(alloc, played, *event, *reply)?;
         if told != AS_IT_HAS_TO_BE {
             return Ok(Some((place, told)));
@@ -147,42 +157,96 @@ fn row_of_b() -> RowView {
     }
 }
 
+/// Tells whether the unit with an ONU-ID is this one, and the image has this of it.
+fn has_unit(image: &PortImage, onu: u8, serial: Serial, wanted: &RowView) -> bool {
+    match image.unit_with(onu) {
+        Some((found, row)) => found == serial && row.view() == *wanted,
+        None => false,
+    }
+}
+
+/// Tells whether this is what the image has of A.
+fn is_row_of_a(image: &PortImage) -> bool {
+    match image.row_of(&A) {
+        Some(row) => row.view() == row_of_a(),
+        None => false,
+    }
+}
+
+/// Tells whether the image has A and B, and no other unit.
+fn has_both(image: &PortImage) -> bool {
+    image.rows() == 2
+        && is_row_of_a(image)
+        && image.row_of(&D).is_none()
+        && has_unit(image, 0, A, &row_of_a())
+        && has_unit(image, 1, B, &row_of_b())
+        && image.unit_with(2).is_none()
+}
+
+/// Tells whether C alone is disabled.
+fn disables_c(image: &PortImage) -> bool {
+    !image.is_disabled(&A)
+        && !image.is_disabled(&B)
+        && image.is_disabled(&C)
+        && !image.is_disabled(&D)
+}
+
+/// Tells whether the window is open in which B is ranged, and has seen something.
+fn has_window(image: &PortImage) -> bool {
+    match image.window() {
+        Some(window) => { window.grant() == Grant::Range(1) && window.left() == 3 && window.seen() }
+        None => false,
+    }
+}
+
+/// Tells whether a search is wanted while B is measured, and A was polled last.
+fn is_measuring(image: &PortImage) -> bool {
+    image.common() == Common::Measuring
+        && image.is_wanted()
+        && image.timer() == 0
+        && image.polled() == Some(0)
+}
+
+/// Tells whether six copies are owed: for the ONU-ID 2 that is taken back, and for C.
+fn owes_six(image: &PortImage) -> bool {
+    let owed = image.owed();
+    owed.len_copies() == 6
+        && owed.copy_at(2) == Some(Down::Deactivate { onu: 2 })
+        && owed.copy_at(3) == Some(Down::DisableSerial { serial: C })
+        && owed.copy_at(6).is_none()
+}
+
+/// Tells whether the ONU-ID 2 cools, 1 does not, and 254 is none.
+fn cools_2(image: &PortImage) -> bool {
+    image.frames_left(1) == Some(0)
+        && image.frames_left(2) == Some(800)
+        && image.frames_left(254).is_none()
+}
+
 /// Tells of each part of the image whether it is read as the rules have it, once a garbled burst was seen and a search
 /// is wanted.
-fn readings(image: &PortImage) -> [bool; 12] {
-    let unit_with = |onu| image
-        .unit_with(onu)
-        .map(|(serial, row)| (serial, row.view()));
-    let disabled = |serial| image.is_disabled(&serial);
-    let owed = image.owed();
+fn readings(image: &PortImage) -> [bool; 6] {
     [
-        image.rows() == 2,
-        image.row_of(&A).map(|row| row.view()) == Some(row_of_a()),
-        image.row_of(&D).is_none(),
-        (unit_with(0), unit_with(1)) == (Some((A, row_of_a())), Some((B, row_of_b()))),
-        unit_with(2).is_none(),
-        [disabled(A), disabled(B), disabled(C), disabled(D)] == [false, false, true, false],
-        image.common() == Common::Measuring,
-        image.is_wanted() && image.timer() == 0,
-        image
-            .window()
-            .map(|window| (window.grant(), window.left(), window.seen()))
-            == Some((Grant::Range(1), 3, true)),
-        owed.len_copies() == 6
-            && owed.copy_at(2) == Some(Down::Deactivate { onu: 2 })
-            && owed.copy_at(3) == Some(Down::DisableSerial { serial: C })
-            && owed.copy_at(6).is_none(),
-        image.polled() == Some(0),
-        [
-            image.frames_left(1),
-            image.frames_left(2),
-            image.frames_left(254),
-        ] == [Some(0), Some(800), None],
+        has_both(image),
+        disables_c(image),
+        has_window(image),
+        is_measuring(image),
+        owes_six(image),
+        cools_2(image),
     ]
 }
 
+/// Reads an image of a port.
+fn read<L: Ledger>(alloc: Global, played: &Played<L>) -> Result<[bool; 6], ImageFault> {
+    let image = played.port.image(alloc)?;
+    Ok(readings(&image))
+}
+
 /// Plays a port up to where it has all, and reads an image of it.
-fn read_of_all<L: Ledger>(alloc: Global, blank: Blank) -> Result<Option<[bool; 12]>, OpenFault>
+fn read_of_all<L: Ledger>(
+    alloc: Global,
+    blank: Blank,
+) -> Result<Result<[bool; 6], ImageFault>, OpenFault>
     requires name { blank.name ≡ L.name }
     requires parts { (blank.parts ≡ L.parts) × (L.parts ≡ MAX_LICENCES) }
 {
@@ -190,28 +254,41 @@ fn read_of_all<L: Ledger>(alloc: Global, blank: Blank) -> Result<Option<[bool; 1
     let _ = played.first_wrong(&BEFORE);
     played.step(GARBLED);
     played.step(Event::Command(Command::Search));
-    let read = match played.port.image(alloc) {
-        Ok(image) => Some(readings(&image)),
-        Err(ImageFault::OutOfMemory) => None,
-    };
+    let read = read(alloc, &played);
     played.close();
     Ok(read)
 }
 
+/// The same with a new ledger.
+fn all_read(alloc: Global) -> Result<Result<[bool; 6], ImageFault>, OpenFault> {
+    read_of_all::<Brand>(alloc, Blank::new(u64::from(MAX_LICENCES)))
+}
+
 #[test]
 fn an_image_is_read(rt: HostRuntime) {
-    let blank = Blank::new(u64::from(MAX_LICENCES));
-    let read = read_of_all::<Brand>(rt.alloc(), blank);
-    assert_eq!(rt; read, Ok(Some([true; 12])));
+    assert!(rt; all_read(rt.alloc()) == Ok(Ok([true; 6])));
+}
+
+/// The first line that a new port answers otherwise, and the first event of which an image tells otherwise.
+fn wrong_in_all(
+    alloc: Global,
+) -> Result<(Wrong, Result<Option<(usize, [bool; 6])>, ImageFault>), OpenFault> {
+    wrong_in_images::<Brand>(alloc, Blank::new(u64::from(MAX_LICENCES)))
+}
+
+/// Tells whether each line is answered as it has to be, and each image tells what it has to; or memory was refused for
+/// the port, or for an image.
+fn is_told(alloc: Global) -> bool {
+    match wrong_in_all(alloc) {
+        Ok((wrong, told)) => {
+            wrong.is_none() && (told == Ok(None) || told == Err(ImageFault::OutOfMemory))
+        }
+        Err(fault) => fault == OpenFault::OutOfMemory,
+    }
 }
 
 // Run with each allocation refused in turn (`rt try --test --fail-alloc N`).
 #[test]
 fn images_of_all_at_once(rt: HostRuntime) {
-    let blank = Blank::new(u64::from(MAX_LICENCES));
-    match wrong_in_images::<Brand>(rt.alloc(), blank) {
-        Ok((wrong, Err(ImageFault::OutOfMemory))) => assert_eq!(rt; wrong, None),
-        Ok((wrong, told)) => assert_eq!(rt; (wrong, told), (None, Ok(None))),
-        Err(fault) => assert_eq!(rt; fault, OpenFault::OutOfMemory),
-    }
+    assert!(rt; is_told(rt.alloc()));
 }

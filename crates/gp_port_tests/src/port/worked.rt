@@ -123,24 +123,34 @@ fn wrong_in_run<L: Ledger>(
     alloc: Global,
     blank: Blank,
     numbers: Numbers,
-    parts: [Part; 4],
+    parts: &[Part],
 ) -> Result<Wrong, OpenFault>
     requires name { blank.name ≡ L.name }
     requires parts { (blank.parts ≡ L.parts) × (L.parts ≡ MAX_LICENCES) }
 {
     let mut played = Played::<L>::begin(alloc, blank, numbers)?;
-    let wrong = played.first_wrong(&parts);
+    let wrong = played.first_wrong(parts);
     played.close();
     Ok(wrong)
 }
 
+/// The same with a new ledger.
+fn wrong_in(alloc: Global, numbers: Numbers, parts: &[Part]) -> Result<Wrong, OpenFault> {
+    let blank = Blank::new(u64::from(MAX_LICENCES));
+    wrong_in_run::<Brand>(alloc, blank, numbers, parts)
+}
+
+/// Tells whether a run is played without a wrong part, or memory for the port was refused.
+fn is_played_or_told(alloc: Global, numbers: Numbers, parts: &[Part]) -> bool {
+    match wrong_in(alloc, numbers, parts) {
+        Ok(wrong) => wrong.is_none(),
+        Err(fault) => fault == OpenFault::OutOfMemory,
+    }
+}
+
 #[test]
 fn worked_runs(rt: HostRuntime) {
-    for (numbers, parts) in RUNS {
-        let blank = Blank::new(u64::from(MAX_LICENCES));
-        let wrong = wrong_in_run::<Brand>(rt.alloc(), blank, numbers, parts);
-        if wrong != Err(OpenFault::OutOfMemory) {
-            assert_eq!(rt; wrong, Ok(None));
-        }
+    for (place, (numbers, parts)) in RUNS.iter().enumerate() {
+        assert!(rt; is_played_or_told(rt.alloc(), *numbers, parts), "{place}");
     }
 }

@@ -1,5 +1,0 @@
-use Rattle.gp_licence.specs.declared.ledger_parts.TheConstants.{MAX_LICENCES}
-use Rattle.gp_port_tests.proofs.port.one_unit_by_hand.Given as goal
-
-abbrev pub ghosts-find_one : goal.ghosts-find_one
-ghosts-find_one g a = record { name = a.blank.name; parts = MAX_LICENCES }
