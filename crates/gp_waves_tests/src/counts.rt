@@ -129,10 +129,11 @@ fn digits_of(digit: char) -> &'static str {
 
 /// Tells whether these are the binary digits of a code.
 fn is_binary(digits: &str, code: &str) -> bool {
-    let mut fours = digits.as_bytes().chunks(4);
-    code.chars()
-        .all(|digit| fours.next() == Some(digits_of(digit).as_bytes()))
-        && fours.next().is_none()
+    let fours = digits.as_bytes().chunks(4);
+    digits.len() == code.len().saturating_mul(4)
+        && fours
+            .zip(code.chars())
+            .all(|(four, digit)| four == digits_of(digit).as_bytes())
 }
 
 /// Gives the code that a line of a trace sends, or that of its burst.
