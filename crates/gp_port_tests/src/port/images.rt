@@ -59,6 +59,27 @@ fn follows<L: Ledger>(
     Ok((followed, arrived))
 }
 
+/// The same entry with a licence more left.
+fn with_more_left(entry: &Entry) -> Entry {
+    Entry {
+        purse_out: entry.purse_out.wrapping_add(1),
+        ..*entry
+    }
+}
+
+/// Tells whether a port that begins at the image makes the step of the entry, and of the entry with a licence more
+/// left; and whether it stands where the port does after the first of these.
+fn told_of_entry<L: Ledger>(
+    alloc: Global,
+    image: &PortImage,
+    entry: &Entry,
+    port: &PortCore<L>,
+) -> Result<[bool; 3], ImageFault> {
+    let (followed, arrived) = follows(alloc, image, entry, port)?;
+    let (misled, _) = follows(alloc, image, &with_more_left(entry), port)?;
+    Ok([followed, misled, arrived])
+}
+
 /// Tells of an image and one event after it: whether the port answered so; whether the image stood for the port
 /// before the event and afterwards; whether a port that begins at the image makes the step of the entry, and of the
 /// entry with a licence more left; and whether it stands where the port does after the first of these.
@@ -83,12 +104,7 @@ fn told_from<L: Ledger>(
     let before = played.port.stands_for(image);
     let entry = played.step(event);
     let after = played.port.stands_for(image);
-    let other = Entry {
-        purse_out: entry.purse_out.wrapping_add(1),
-        ..entry
-    };
-    let (followed, arrived) = follows(alloc, image, &entry, &played.port)?;
-    let (misled, _) = follows(alloc, image, &other, &played.port)?;
+    let [followed, misled, arrived] = told_of_entry(alloc, image, &entry, &played.port)?;
     let replied = entry.answer.reply == reply;
     Ok([replied, before, after, followed, misled, arrived])
 }

@@ -10,7 +10,7 @@ use gp_machine::{Admitted, Command, Entry, Event, PortConfig, Refusal, Reply};
 use gp_ploam::{ASSIGN_ALLOC_ID, BROADCAST_ONU, Down, Mask, Serial, Up, encode_up, is_proper_up};
 use gp_port::{OpenFault, PortCore};
 use gp_ranging::Grant;
-use std::alloc::Global;
+use std::alloc::{AllocError, Global};
 use std::sync::ledger::{Blank, Ledger};
 
 /// What happens at a port, and what it answers.
@@ -120,6 +120,22 @@ pub(super) const USUAL: Numbers = Numbers {
 /// The place of the first part that a port answers otherwise, and the line's place in the table that has the part.
 pub(super) type Wrong = Option<(usize, [Option<usize>; 7])>;
 
+/// The defaults but for some numbers, with A to D admitted.
+fn config_of(alloc: Global, numbers: Numbers) -> Result<PortConfig, AllocError> {
+    let admitted = Admitted::from([A, B, C, D].to_vec(alloc)?);
+    Ok(PortConfig {
+        mask: Mask::Plain,
+        teqd: 311_040,
+        overhead: [0; 10],
+        max_units: numbers.max_units,
+        alloc_last: numbers.alloc_last,
+        cycles: 1,
+        search_period: 0,
+        quarantine: numbers.quarantine,
+        admitted,
+    })
+}
+
 /// A port, and the licences that its units don't hold.
 pub(super) struct Played<L: Ledger> {
     pub(super) port: PortCore<L>,
@@ -136,28 +152,23 @@ impl<L: Ledger> Played<L> {
         requires name { blank.name ≡ L.name }
         requires parts { (blank.parts ≡ L.parts) × (L.parts ≡ MAX_LICENCES) }
     {
-        let config = PortConfig {
-            mask: Mask::Plain,
-            teqd: 311_040,
-            overhead: [0; 10],
-            max_units: numbers.max_units,
-            alloc_last: numbers.alloc_last,
-            cycles: 1,
-            search_period: 0,
-            quarantine: numbers.quarantine,
-            admitted: Admitted::from([A, B, C, D].to_vec(alloc)?),
-        };
+        let config = config_of(alloc, numbers)?;
         let port = PortCore::begin(alloc, &config)?;
         let book = LicenceBook::new(blank, 4);
         Ok(Played { port, book })
     }
 
-    /// Makes a step, and gives its entry. A burst has a licence at hand, if one is free.
-    pub(super) fn step(&mut self, event: Event) -> Entry {
-        let purse = match event {
+    /// What is at hand for an event: a burst has a licence, if one is free.
+    fn purse_for(&mut self, event: Event) -> Licences<L> {
+        match event {
             Event::Burst { .. } => self.book.take(),
             _ => Licences::none(),
-        };
+        }
+    }
+
+    /// Makes a step, and gives its entry.
+    pub(super) fn step(&mut self, event: Event) -> Entry {
+        let purse = self.purse_for(event);
         let purse_in = purse.count();
         let (answer, rest) = self.port.step(purse, event);
         let purse_out = rest.count();

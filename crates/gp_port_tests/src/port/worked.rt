@@ -37,9 +37,10 @@ const ONE_ALLOC: Numbers = Numbers {
     quarantine: 800,
 };
 
-/// The runs, each made of parts.
-const RUNS: [(Numbers, [Part; 4]); 13] = [
+/// The runs by their names, each made of parts.
+const RUNS: [(&'static str, Numbers, [Part; 4]); 13] = [
     (
+        "as far as may be",
         USUAL,
         [
             Part::Searches,
@@ -49,26 +50,32 @@ const RUNS: [(Numbers, [Part; 4]); 13] = [
         ],
     ),
     (
+        "too far",
         USUAL,
         [Part::Searches, Part::FindsA, Part::TooFar, Part::Nothing],
     ),
     (
+        "silent",
         USUAL,
         [Part::Searches, Part::FindsA, Part::Silent, Part::Nothing],
     ),
     (
+        "repeated",
         USUAL,
         [Part::Searches, Part::Repeated, Part::Nothing, Part::Nothing],
     ),
     (
+        "B at 0",
         ONE_AT_ONCE,
         [Part::Searches, Part::OneAtMost, Part::BAt0, Part::Nothing],
     ),
     (
+        "B at 1",
         ONE,
         [Part::Searches, Part::OneAtMost, Part::BAt1, Part::Nothing],
     ),
     (
+        "dark and garbled",
         USUAL,
         [
             Part::Searches,
@@ -78,6 +85,7 @@ const RUNS: [(Numbers, [Part; 4]); 13] = [
         ],
     ),
     (
+        "polls in turn",
         USUAL,
         [
             Part::Searches,
@@ -87,6 +95,7 @@ const RUNS: [(Numbers, [Part; 4]); 13] = [
         ],
     ),
     (
+        "one Alloc-ID",
         ONE_ALLOC,
         [
             Part::Searches,
@@ -96,18 +105,22 @@ const RUNS: [(Numbers, [Part; 4]); 13] = [
         ],
     ),
     (
+        "A at 0",
         AT_ONCE,
         [Part::Searches, Part::FindsA, Part::Disabled, Part::AAt0],
     ),
     (
+        "A at 1",
         USUAL,
         [Part::Searches, Part::FindsA, Part::Disabled, Part::AAt1],
     ),
     (
+        "full queue",
         USUAL,
         [Part::Searches, Part::FindsA, Part::RangesA, Part::FullQueue],
     ),
     (
+        "eight Alloc-IDs",
         USUAL,
         [
             Part::Searches,
@@ -150,7 +163,7 @@ fn is_played_or_told(alloc: Global, numbers: Numbers, parts: &[Part]) -> bool {
 
 #[test]
 fn worked_runs(rt: HostRuntime) {
-    for (place, (numbers, parts)) in RUNS.iter().enumerate() {
-        assert!(rt; is_played_or_told(rt.alloc(), *numbers, parts), "{place}");
+    for (name, numbers, parts) in &RUNS {
+        assert!(rt; is_played_or_told(rt.alloc(), *numbers, parts), "{name}");
     }
 }
