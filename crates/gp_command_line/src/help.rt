@@ -130,6 +130,9 @@ Examples:
   oltctl verify --format json script.toml my-own.trace
   oltctl verify --units script.toml my-own.trace
 
+Lines that drive writes beside the trace, error, done and unit, are none of it: leave
+them out, as by grep '^[0-9]'.
+
 With --words the line that can't be and the machine's own are told with their
 codes in words; with --format json standard output is one object, whose field
 run says whether the trace is a run. With --units an object, or a line, for each port,
@@ -150,7 +153,7 @@ pub const DRIVE_HELP: &str = "\
 Lines, with one space between parts:
   PORT frame [COUNT]  a frame, or so many, 1 to 1000000
   PORT until GRANT    frames up to this grant: search, range ONU-ID, poll ONU-ID
-  .. within N         at most so many frames, 1 to 1000000
+  .. within N         at most so many frames, 1 to 1000000; else 1000000
   PORT burst D HEX    13 octets arrive, D bit times after their grant
   PORT search         a search for new units
   PORT COMMAND S      alloc, deactivate, disable, enable, popup or show
@@ -164,7 +167,8 @@ Lines, with one space between parts:
   unit I show         what a simulated unit is: its state, ONU-ID and delay
   # ..                a remark; empty lines too are passed over
 S is a serial number, ABCD00000001; D a round-trip delay in bit times, 0 where it is
-left out; K the identifier of a message, 0 to 255, as 10 of Assign_Alloc-ID.
+left out; K the identifier of a message, 0 to 255, as 10 of Assign_Alloc-ID. A unit is
+admitted by admit in the script, and by no line.
 
 A line that is no turn changes nothing and is answered by: error LINE KIND. KIND is
 word, number, range, serial, hex, space or long, or port or unit where it isn't there.
@@ -215,8 +219,9 @@ Lines of LOG, which may be mixed with those of a trace:
                                 unit's equalization delay
   [PORT] TIME grant search      a window; or: grant range N, grant poll N
 TIME is a number of frames, or has a unit: 12.125ms, us or s. Codes may have colons,
-hyphens, spaces and 0x, fields spaces, tabs, commas and semicolons between them; so
-12,125ms is no time. Empty lines and those that begin with # are passed over.
+hyphens, spaces and 0x, fields spaces, tabs, commas and semicolons between them; so a
+comma is no decimal point: 12,125ms down .. is port 12 at 125 ms. Empty lines and those
+that begin with # are passed over.
 
 Any other line, as the heading of a table, is answered by: error N KIND, N its number,
 KIND word, number, code, time or long; so is one whose time is before that of its port
@@ -224,7 +229,7 @@ KIND word, number, code, time or long; so is one whose time is before that of it
 
 Rules of the terminal: garbled copies range barred unasked taken renumbered nobody
 unranged delay early shared not-held grant; of units: garbled disabled anew number
-acknowledge drift. RULES are some of these, with commas between.
+acknowledge drift. RULES are some of these, with commas between; one has to be left.
 
 Examples:
   oltctl audit lab.log
@@ -235,16 +240,18 @@ Examples:
 
 Exit status:
   0  no rule that is told is broken
-  1  a line is answered by an error, nothing was heard, or the log was not read
-  2  the command line is wrong
+  1  a line is answered by an error, nothing was heard, or the log was not read; this
+     comes before 7
+  2  the command line is wrong, or leaves no rule to tell
   3  out of memory
   4  the output takes no more
   7  a rule is broken";
 
 /// What stands at the end of the help of `picture`.
 pub const PICTURE_HELP: &str = "\
-LOG is what audit reads: a log of messages or a trace. A chart is drawn for each port,
-with a lane for each unit; findings are marked as audit tells them.
+LOG is a log of messages or a trace, as for audit, but the first line that is neither
+ends it, and nothing is drawn. A chart is drawn for each port, with a lane for each unit;
+findings are marked as audit tells them.
 
 Examples:
   oltctl picture lab.log > lab.svg
@@ -253,17 +260,18 @@ Examples:
 
 Exit status:
   0  the picture was written
-  1  a line is neither one of a log nor of a trace, nothing was heard, or nothing in the
-     frames that are drawn, or LOG was not read
+  1  a line is neither one of a log nor of a trace, nothing was heard, or all of it is
+     before --from, or all behind --to, or LOG was not read
   2  the command line is wrong
   3  out of memory
   4  the output takes no more";
 
 /// What stands at the end of the help of `waves`.
 pub const WAVES_HELP: &str = "\
-LOG is what audit reads: a log of messages or a trace. A dump is for gtkwave, surfer or
-a simulator: for each port the code sent, the grant, the window, the burst and the alarm,
-for each unit its serial number, state, ONU-ID and delay. Times are in nanoseconds.
+LOG is a log of messages or a trace, as for audit, but the first line that is neither
+ends the dump, behind what was before it. A dump is for gtkwave, surfer or a simulator:
+for each port the code sent, the grant, the window, the burst and the alarm, for each unit
+its serial number, state, ONU-ID and delay. Times are in nanoseconds.
 
 Examples:
   oltctl waves lab.log > lab.vcd
@@ -272,8 +280,8 @@ Examples:
 
 Exit status:
   0  the dump was written
-  1  a line is neither one of a log nor of a trace, nothing was heard, or nothing in the
-     frames that are dumped, or LOG was not read
+  1  a line is neither one of a log nor of a trace, nothing was heard, or all of it is
+     before --from, or all behind --to, or LOG was not read
   2  the command line is wrong
   3  out of memory
   4  the output takes no more";
@@ -290,11 +298,11 @@ Examples:
 
 Without --up and --both codes are the line terminal's. Of a wrong check octet a line
 says which is right: echo HEX | oltctl decode.
-In lines, empty ones and those that begin with # are passed over, and 0x, colons,
-hyphens and spaces in a code. Other ID OCTET1 HEX is a message that has no name here:
-the number of its kind, its first octet, and the ten behind both. With --names the name
-that G.984.3 has for it stands in the place of Other ID, if it has one; with --format json
-it always does.
+In lines, and where more than one code is given, empty ones and those that begin with #
+are passed over, and 0x, colons, hyphens and spaces in a code. Other ID OCTET1 HEX is a
+message that has no name here: the number of its kind, its first octet, and the ten behind
+both. With --names the name that G.984.3 has for it stands in the place of Other ID, if it
+has one; with --format json it always does.
 
 Exit status, that of the first fault:
   0  all codes were told

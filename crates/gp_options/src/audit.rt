@@ -4,7 +4,7 @@ ghost use Rattle.gp_options.specs.Options.{AuditsAs, IsBadAudit, form_of, tells_
 
 use crate::bad_option::BadOption;
 use crate::judged::{delays_of, drift_of};
-use gp_audit::{AuditForm, AuditOptions, FindingChoice, rules_told};
+use gp_audit::{AuditForm, AuditOptions, FindingChoice, RuleSet, rules_told};
 use gp_command_line::Audit;
 
 /// Tells whether the findings of a side are told, where this one alone may be.
@@ -29,7 +29,7 @@ fn form_of(words: bool, json: bool) -> AuditForm
 }
 
 /// Gives what a log is judged by and what is told, or the first option that can't be read: the names of rules are read
-/// first, those of `--only` before those of `--without`, and then the delays. A drift of 2^32 bit times or more counts
+/// first, those of `--only` before those of `--without`, and they have to leave one; and then the delays. A drift of 2^32 bit times or more counts
 /// as the greatest below. Takes no memory.
 pub fn audit_options<'m, 'a>(wanted: &Audit<'m, 'a>) -> Result<AuditOptions, BadOption<'a>>
     ensures { MatchResult result (AuditsAs wanted.now) (IsBadAudit wanted.now) }
@@ -38,6 +38,9 @@ pub fn audit_options<'m, 'a>(wanted: &Audit<'m, 'a>) -> Result<AuditOptions, Bad
         Ok(rules) => rules,
         Err(name) => return Err(BadOption::Rule(name)),
     };
+    if rules == RuleSet::none() {
+        return Err(BadOption::NoRule);
+    }
     let teqd = delays_of(wanted.teqd)?;
     Ok(AuditOptions {
         mask: wanted.mask,
