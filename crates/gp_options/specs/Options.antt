@@ -1,17 +1,16 @@
 -- What an audit and a picture judge by, and what of a log is shown, as is asked for, and the first option that can't be
 -- read (this profile's own rule).
-use Rattle.std.specs.Prelude.{◌≡◌, ◌≢◌, ◌<◌, ◌≤◌, ℕ, Bool, true, false, Option, None, Some, Ok, Err, min, option_map, codes}
+use Rattle.std.specs.Prelude.{◌≡◌, ◌<◌, ◌≤◌, ℕ, Bool, true, false, Option, None, Some, Ok, Err, min, option_map, codes}
 use Rattle.std.specs.Borrow.{Bor}
 use Rattle.std.specs.Str.{bytes_eq}
 use Rattle.gp_observer.specs.declared.rule.Rule.{Rule}
 use Rattle.gp_audit.specs.Chosen.{is_chosen, unknown_name}
 use Rattle.gp_audit.specs.Delays.{equalized_delays}
-use Rattle.gp_audit.specs.RuleSet.{contains, each_rule}
+use Rattle.gp_audit.specs.RuleSet.{contains}
 use Rattle.gp_audit.specs.Texts.{Text, given, texts}
 use Rattle.gp_audit.specs.declared.options.AuditForm.{AuditForm}
 use Rattle.gp_audit.specs.declared.options.AuditForm.TheVariants as told
 use Rattle.gp_audit.specs.declared.options.AuditOptions.{AuditOptions}
-use Rattle.gp_audit.specs.declared.rule_set.RuleSet.{RuleSet}
 use Rattle.gp_command_line.specs.declared.request.Audit.{Audit}
 use Rattle.gp_command_line.specs.declared.request.Drawing.{Drawing}
 use Rattle.gp_command_line.specs.declared.request.Dumping.{Dumping}
@@ -44,11 +43,9 @@ unknown_rule wanted = unknown_name (option_map texts wanted.only) (option_map te
 abbrev pub is_wanted : Audit → Rule → Bool
 is_wanted wanted rule = is_chosen (option_map texts wanted.only) (option_map texts wanted.without) rule
 
--- some rule is
-pub record LeavesRules (wanted : Audit) : Type 0 where
-  pub rules : RuleSet
-  pub are : (rule : Rule) → contains rules rule ≡ is_wanted wanted rule
-  pub some : rules ≢ each_rule false
+-- none is
+abbrev pub WantsNone : Audit → Type 0
+WantsNone wanted = (rule : Rule) → is_wanted wanted rule ≡ false
 
 -- an audit is judged, and told, as it is asked for: all that is asked for can be read
 pub record AuditsAs (wanted : Audit) (options : AuditOptions) : Type 0 where
@@ -61,16 +58,17 @@ pub record AuditsAs (wanted : Audit) (options : AuditOptions) : Type 0 where
   pub known : unknown_rule wanted ≡ None
   pub rules : (rule : Rule)
       → contains options.told.rules rule ≡ is_wanted wanted rule
-  pub some : options.told.rules ≢ each_rule false
+  -- some rule is told
+  pub some : WantsNone wanted → ⊥
   pub form : options.form ≡ form_of wanted.words wanted.json
   pub census : options.units ≡ wanted.units
 
 -- this is the first of its options that can't be read
 abbrev pub IsBadAudit : Audit → BadOption → Type 0
 IsBadAudit wanted (bad.Rule name) = unknown_rule wanted ≡ Some name.now
-IsBadAudit wanted bad.NoRule = (unknown_rule wanted ≡ None) × ((rule : Rule) → is_wanted wanted rule ≡ false)
+IsBadAudit wanted bad.NoRule = (unknown_rule wanted ≡ None) × WantsNone wanted
 IsBadAudit wanted (bad.Delay text) =
-    (unknown_rule wanted ≡ None) × LeavesRules wanted × (equalized_delays (given wanted.teqd) ≡ Err text.now)
+    (unknown_rule wanted ≡ None) × (WantsNone wanted → ⊥) × (equalized_delays (given wanted.teqd) ≡ Err text.now)
 IsBadAudit wanted (bad.Frames from to) = ⊥
 
 -- the frames that are drawn: all where neither end is given

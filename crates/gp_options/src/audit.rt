@@ -29,8 +29,8 @@ fn form_of(words: bool, json: bool) -> AuditForm
 }
 
 /// Gives what a log is judged by and what is told, or the first option that can't be read: the names of rules are read
-/// first, those of `--only` before those of `--without`, and they have to leave one; and then the delays. A drift of 2^32 bit times or more counts
-/// as the greatest below. Takes no memory.
+/// first, those of `--only` before those of `--without`, and they have to leave one; and then the delays. A drift of 2^32
+/// bit times or more counts as the greatest below. Takes no memory.
 pub fn audit_options<'m, 'a>(wanted: &Audit<'m, 'a>) -> Result<AuditOptions, BadOption<'a>>
     ensures { MatchResult result (AuditsAs wanted.now) (IsBadAudit wanted.now) }
 {
