@@ -16,6 +16,7 @@ use Rattle.gp_command_line.specs.declared.request.Drawing.{Drawing}
 use Rattle.gp_command_line.specs.declared.request.Dumping.{Dumping}
 use Rattle.gp_picture.specs.declared.options.PictureOptions.{PictureOptions}
 use Rattle.gp_waves.specs.declared.options.WavesOptions.{WavesOptions}
+use Rattle.gp_options.specs.Sides.{some_of_sides}
 use Rattle.gp_options.specs.declared.bad_option.BadOption.{BadOption}
 use Rattle.gp_options.specs.declared.bad_option.BadOption.TheVariants as bad
 
@@ -43,9 +44,10 @@ unknown_rule wanted = unknown_name (option_map texts wanted.only) (option_map te
 abbrev pub is_wanted : Audit → Rule → Bool
 is_wanted wanted rule = is_chosen (option_map texts wanted.only) (option_map texts wanted.without) rule
 
--- none is
-abbrev pub WantsNone : Audit → Type 0
-WantsNone wanted = (rule : Rule) → is_wanted wanted rule ≡ false
+-- one of them may be broken on a side that is told
+abbrev pub wants_some : Audit → Bool
+wants_some wanted =
+    some_of_sides (tells_side wanted.side (codes "terminal")) (tells_side wanted.side (codes "units")) (is_wanted wanted)
 
 -- an audit is judged, and told, as it is asked for: all that is asked for can be read
 pub record AuditsAs (wanted : Audit) (options : AuditOptions) : Type 0 where
@@ -58,17 +60,17 @@ pub record AuditsAs (wanted : Audit) (options : AuditOptions) : Type 0 where
   pub known : unknown_rule wanted ≡ None
   pub rules : (rule : Rule)
       → contains options.told.rules rule ≡ is_wanted wanted rule
-  -- some rule is told
-  pub some : WantsNone wanted → ⊥
+  -- a rule is told that may be broken
+  pub some : wants_some wanted ≡ true
   pub form : options.form ≡ form_of wanted.words wanted.json
   pub census : options.units ≡ wanted.units
 
 -- this is the first of its options that can't be read
 abbrev pub IsBadAudit : Audit → BadOption → Type 0
 IsBadAudit wanted (bad.Rule name) = unknown_rule wanted ≡ Some name.now
-IsBadAudit wanted bad.NoRule = (unknown_rule wanted ≡ None) × WantsNone wanted
+IsBadAudit wanted bad.NoRule = (unknown_rule wanted ≡ None) × (wants_some wanted ≡ false)
 IsBadAudit wanted (bad.Delay text) =
-    (unknown_rule wanted ≡ None) × (WantsNone wanted → ⊥) × (equalized_delays (given wanted.teqd) ≡ Err text.now)
+    (unknown_rule wanted ≡ None) × (wants_some wanted ≡ true) × (equalized_delays (given wanted.teqd) ≡ Err text.now)
 IsBadAudit wanted (bad.Frames from to) = ⊥
 
 -- the frames that are drawn: all where neither end is given

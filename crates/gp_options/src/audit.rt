@@ -4,7 +4,8 @@ ghost use Rattle.gp_options.specs.Options.{AuditsAs, IsBadAudit, form_of, tells_
 
 use crate::bad_option::BadOption;
 use crate::judged::{delays_of, drift_of};
-use gp_audit::{AuditForm, AuditOptions, FindingChoice, RuleSet, rules_told};
+use crate::sides::tells_some;
+use gp_audit::{AuditForm, AuditOptions, FindingChoice, rules_told};
 use gp_command_line::Audit;
 
 /// Tells whether the findings of a side are told, where this one alone may be.
@@ -29,8 +30,8 @@ fn form_of(words: bool, json: bool) -> AuditForm
 }
 
 /// Gives what a log is judged by and what is told, or the first option that can't be read: the names of rules are read
-/// first, those of `--only` before those of `--without`, and they have to leave one; and then the delays. A drift of 2^32
-/// bit times or more counts as the greatest below. Takes no memory.
+/// first, those of `--only` before those of `--without`, and they have to leave one that may be broken on a side that is
+/// told; and then the delays. A drift of 2^32 bit times or more counts as the greatest below. Takes no memory.
 pub fn audit_options<'m, 'a>(wanted: &Audit<'m, 'a>) -> Result<AuditOptions, BadOption<'a>>
     ensures { MatchResult result (AuditsAs wanted.now) (IsBadAudit wanted.now) }
 {
@@ -38,7 +39,12 @@ pub fn audit_options<'m, 'a>(wanted: &Audit<'m, 'a>) -> Result<AuditOptions, Bad
         Ok(rules) => rules,
         Err(name) => return Err(BadOption::Rule(name)),
     };
-    if rules == RuleSet::none() {
+    let told = FindingChoice {
+        terminal: tells_side(wanted.side, "terminal"),
+        units: tells_side(wanted.side, "units"),
+        rules,
+    };
+    if !tells_some(&told) {
         return Err(BadOption::NoRule);
     }
     let teqd = delays_of(wanted.teqd)?;
@@ -47,11 +53,7 @@ pub fn audit_options<'m, 'a>(wanted: &Audit<'m, 'a>) -> Result<AuditOptions, Bad
         teqd,
         drift: drift_of(wanted.drift),
         midway: wanted.midway,
-        told: FindingChoice {
-            terminal: tells_side(wanted.side, "terminal"),
-            units: tells_side(wanted.side, "units"),
-            rules,
-        },
+        told,
         form: form_of(wanted.words, wanted.json),
         units: wanted.units,
     })

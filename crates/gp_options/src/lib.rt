@@ -4,19 +4,22 @@
 //! in one way only (`audit_options`, `picture_options`, `waves_options`).
 //!
 //! - `audit.rt`: of an audit. `picture.rt`: of a picture. `waves.rt`: of a dump.
+//! - `sides.rt`: whether a choice of rules leaves one to tell.
 //! - `judged.rt`: what these have in common. `bad_option.rt`: an option that can't be read, in words.
 //!
 //! Where to make which change: what is asked for stands in `gp_command_line`, how names of rules and delays are read in
-//! `gp_audit`, and what becomes of them in `specs/Options.antt`.
+//! `gp_audit`, which rules are of which side in `specs/Sides.antt`, and what becomes of them in `specs/Options.antt`.
 #![tactic(auto)]
 
 mod audit;
 mod bad_option;
 mod judged;
 mod picture;
+mod sides;
 mod waves;
 
 pub use audit::audit_options;
 pub use bad_option::BadOption;
 pub use picture::picture_options;
+pub use sides::sides_are_judged;
 pub use waves::waves_options;

@@ -1,4 +1,5 @@
-//! What became of ports and units behind plays, traces, drives and verifications, or alone.
+//! Plays, traces, drives and verifications as they are told, with what became of ports and units behind them, or that
+//! alone.
 ghost use Rattle.std.specs.Prelude.{IfOk};
 ghost use Rattle.gp_script.specs.Playable.{IsPlayable};
 ghost use Rattle.gp_script.specs.View.{script_view};
@@ -18,7 +19,8 @@ use gp_tally::Nowhere;
 use gp_verify::{CheckFault, VerifyFault};
 use gp_with_units::{
     DriveWritten, PlayWritten, ToldTrace, TraceWritten, drive_with_units, explain_for_summary,
-    explain_with_units, play_for_summary, play_with_units, verify_with_units,
+    explain_with_units, play_for_summary, play_with_units, tell_drive, tell_play,
+    verify_with_units,
 };
 use std::alloc::{AllocError, Global};
 use std::io::Write;
@@ -127,6 +129,14 @@ fn played(alloc: Global, form: Form) -> Came {
     Some((end_of_play(played), writer))
 }
 
+/// What comes of one that is told, and nothing behind it.
+fn played_and_told(alloc: Global, form: Form) -> Came {
+    let script = script_of(alloc, SCRIPT).ok()?;
+    let taken = Vec::with_capacity(alloc, ROOM).ok()?;
+    let PlayWritten { played, writer } = tell_play(alloc, script, form, false, taken).ok()?;
+    Some((end_of_play(played), writer))
+}
+
 /// What comes of a play whose summary is written alone.
 fn played_alone(alloc: Global) -> Came {
     let script = script_of(alloc, SCRIPT).ok()?;
@@ -184,13 +194,15 @@ fn end_of_summary(summary: &Option<Result<Vec<u8>, AllocError>>) -> End {
     }
 }
 
+/// All lines of a drive are answered.
+const ANSWERED: Driven = Driven {
+    lines: 3,
+    errors: 0,
+};
+
 /// How a drive ends.
 fn end_of_drive(ended: &DriveEnded) -> End {
-    let all = Driven {
-        lines: 3,
-        errors: 0,
-    };
-    if ended.driven == Ok(all) {
+    if ended.driven == Ok(ANSWERED) {
         return end_of_summary(&ended.summary);
     }
     let of_line = DriveFault::Turns(LinesFault::Line(Unanswered::OutOfMemory));
@@ -203,7 +215,23 @@ fn end_of_drive(ended: &DriveEnded) -> End {
     }
 }
 
-/// Drives the port so that the unit is found.
+/// How one ends that is told, and nothing behind it.
+fn end_of_told_drive(ended: &DriveEnded) -> End {
+    if ended.driven == Ok(ANSWERED) && ended.summary.is_none() {
+        return End::Done;
+    }
+    end_of_drive(ended)
+}
+
+const MANNER: DriveManner = DriveManner {
+    done: false,
+    lights: false,
+};
+
+/// The unit is found.
+const LINES: &str = "0 search\n0 until search\n0 burst 100000 ff01414243440000000100002c\n";
+
+/// Drives the port so.
 fn driven_to(
     alloc: Global,
     script: Script,
@@ -211,13 +239,20 @@ fn driven_to(
 ) -> Result<DriveWritten<Vec<u8>>, AllocError>
     requires { IsPlayable (script_view script) }
 {
-    let lines: &[u8] = b"0 search\n0 until search\n0 burst 100000 ff01414243440000000100002c\n";
-    let manner = DriveManner {
-        done: false,
-        lights: false,
-    };
-    let mut turns = Source::endless(lines);
-    drive_with_units(alloc, manner, script, Form::Plain, false, &mut turns, out)
+    let mut turns = Source::endless(LINES.as_bytes());
+    drive_with_units(alloc, MANNER, script, Form::Plain, false, &mut turns, out)
+}
+
+/// The same, and nothing is told behind it.
+fn driven_and_told_to(
+    alloc: Global,
+    script: Script,
+    out: Vec<u8>,
+) -> Result<DriveWritten<Vec<u8>>, AllocError>
+    requires { IsPlayable (script_view script) }
+{
+    let mut turns = Source::endless(LINES.as_bytes());
+    tell_drive(alloc, MANNER, script, Form::Plain, false, &mut turns, out)
 }
 
 /// What comes of that.
@@ -226,6 +261,14 @@ fn driven(alloc: Global) -> Came {
     let out = Vec::with_capacity(alloc, ROOM).ok()?;
     let DriveWritten { ended, writer } = driven_to(alloc, script, out).ok()?;
     Some((end_of_drive(&ended), writer))
+}
+
+/// What comes of that where nothing is told behind it.
+fn driven_and_told(alloc: Global) -> Came {
+    let script = script_of(alloc, PORT).ok()?;
+    let out = Vec::with_capacity(alloc, ROOM).ok()?;
+    let DriveWritten { ended, writer } = driven_and_told_to(alloc, script, out).ok()?;
+    Some((end_of_told_drive(&ended), writer))
 }
 
 /// How a verification of the trace ends.
@@ -258,10 +301,12 @@ fn verified(alloc: Global) -> Came {
 enum Call {
     Play,
     PlayInWords,
+    TellPlay,
     PlayForSummary,
     Explain,
     ExplainForSummary,
     Drive,
+    TellDrive,
     Verify,
 }
 
@@ -270,10 +315,12 @@ fn came_of(alloc: Global, call: Call) -> Came {
     match call {
         Call::Play => played(alloc, Form::Plain),
         Call::PlayInWords => played(alloc, Form::Words),
+        Call::TellPlay => played_and_told(alloc, Form::Words),
         Call::PlayForSummary => played_alone(alloc),
         Call::Explain => explained(alloc),
         Call::ExplainForSummary => explained_alone(alloc),
         Call::Drive => driven(alloc),
+        Call::TellDrive => driven_and_told(alloc),
         Call::Verify => verified(alloc),
     }
 }
@@ -316,9 +363,10 @@ fn is_so_if_ample(alloc: Global, row: &Row) -> Option<bool> {
     is_written(&came, first, second)
 }
 
-const PLAYS: [Row; 2] = [
+const PLAYS: [Row; 3] = [
     (Call::Play, TRACE, UNITS),
     (Call::PlayInWords, WORDS, UNITS),
+    (Call::TellPlay, WORDS, ""),
 ];
 
 const PLAY_ALONE: Row = (Call::PlayForSummary, "", UNITS);
@@ -329,7 +377,10 @@ const TRACES: [Row; 2] = [
 ];
 
 /// The summary of a drive is not written.
-const DRIVE: Row = (Call::Drive, TRACE, "");
+const DRIVES: [Row; 2] = [
+    (Call::Drive, TRACE, ""),
+    (Call::TellDrive, TRACE, ""),
+];
 
 const VERIFICATION: Row = (Call::Verify, "7 lines, a run\n", UNITS);
 
@@ -377,8 +428,10 @@ fn a_trace_is_told(rt: HostRuntime) {
 }
 
 #[test]
-fn a_drive_is_summed(rt: HostRuntime) {
-    assert!(rt; is_so_if_ample(rt.alloc(), &DRIVE) == Some(true));
+fn a_drive_is_written(rt: HostRuntime) {
+    for row in &DRIVES {
+        assert!(rt; is_so_if_ample(rt.alloc(), row) == Some(true), "{}", row.1);
+    }
 }
 
 #[test]
@@ -397,6 +450,8 @@ fn memory_short_or_ample(rt: HostRuntime) {
     for row in &TRACES {
         assert!(rt; is_so_if_ample(rt.alloc(), row) != Some(false), "{}", row.1);
     }
-    assert!(rt; is_so_if_ample(rt.alloc(), &DRIVE) != Some(false));
+    for row in &DRIVES {
+        assert!(rt; is_so_if_ample(rt.alloc(), row) != Some(false), "{}", row.1);
+    }
     assert!(rt; is_so_if_ample(rt.alloc(), &VERIFICATION) != Some(false));
 }
