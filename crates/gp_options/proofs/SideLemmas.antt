@@ -1,34 +1,18 @@
--- What a choice of rules leaves, by the rules that are in it.
-use Rattle.std.proofs.Common.{◌≡◌, ◌∙◌, Bool, true, false, ◌&&◌, ◌||◌, cond, List, [], ◌∷◌, ◌++◌, ◌×◌, Option, None, Some, ℕ, map, refl, sym, ap}
+-- What is told of a choice that leaves no rule.
+use Rattle.std.proofs.Common.{◌≡◌, ◌∙◌, Bool, true, false, ◌&&◌, ◌||◌, cond, List, [], ◌∷◌, ◌++◌, Option, None, Some, ℕ, map, refl, sym, ap}
 use Rattle.std.specs.List.{list_any}
 use Rattle.std.proofs.lemmas.List.Folds.{list_any-append}
 use Rattle.std.proofs.lemmas.Bool.{false≢true}
 use Rattle.gp_ploam.specs.declared.message.Down.{Down}
 use Rattle.gp_ploam.specs.declared.message.Down.TheVariants.{NoMessage}
 use Rattle.gp_ploam.specs.declared.message.Up.{Up}
-use Rattle.gp_ranging.specs.declared.grant.Grant.{Grant}
 use Rattle.gp_observer.specs.declared.rule.Rule.{Rule}
 use Rattle.gp_observer.specs.declared.rule.Rule.TheVariants as rule
-use Rattle.gp_observer.specs.Heard.{Heard, HeardDown, HeardUp, HeardGrant, answer_rules, breaks, broken_of, copy_breaks, down_breaks, message_rules, up_breaks}
+use Rattle.gp_observer.specs.Heard.{HeardDown, HeardUp, HeardGrant, answer_rules, broken_of, copy_breaks, down_breaks, message_rules, up_breaks}
 use Rattle.gp_observer.specs.Rules.{Settings, breaks_grant}
 use Rattle.gp_observer.specs.Watch.{Watch, passes_over, tells}
 use Rattle.gp_audit.specs.RuleSet.{contains, is_told}
-use Rattle.gp_audit.specs.declared.options.FindingChoice.{FindingChoice}
-use Rattle.gp_options.specs.Sides.{NoneTellsNothing, SidesAreJudged, some_of_sides, tells_some, terminals_rules, units_rules}
-
-same_any : (these those : Rule → Bool) → ((r : Rule) → these r ≡ those r) → (rules : List Rule) → list_any these rules ≡ list_any those rules
-same_any these those same [] = refl
-same_any these those same (r ∷ rules) =
-    ap (λ (is_in : Bool). is_in || list_any these rules) (same r) ∙ ap (λ (others : Bool). those r || others) (same_any these those same rules)
-
--- the same rules leave the same
-pub same_sides : (terminal units : Bool) (these those : Rule → Bool) → ((r : Rule) → these r ≡ those r)
-    → some_of_sides terminal units these ≡ some_of_sides terminal units those
-same_sides terminal units these those same =
-    ap (λ (any : Bool). (terminal && any) || (units && list_any these units_rules)) (same_any these those same terminals_rules)
-    ∙ ap (λ (any : Bool). (terminal && list_any those terminals_rules) || (units && any)) (same_any these those same units_rules)
-
--- ---- what is told where none is left
+use Rattle.gp_options.specs.Sides.{NoneTellsNothing, SidesAreJudged, terminals_rules, units_rules}
 
 or_first : (a b : Bool) → a || b ≡ false → a ≡ false
 or_first false b none = refl
@@ -70,44 +54,49 @@ by_copy : (told : Rule → Bool) (settings : Settings) (watch : Watch) (message 
     → list_any told (copy_breaks settings watch message) ≡ false
 by_copy told settings watch message none =
     let judged : list_any told (broken_of (message_rules settings watch message)) ≡ false =
-        none_broken told (message_rules settings watch message) (between told settings watch message none) in
+    none_broken told (message_rules settings watch message) (between told settings watch message none) in
     none_either told (passes_over watch message) [] (cond (tells watch message) (broken_of (message_rules settings watch message)) []) refl
-        (none_either told (tells watch message) (broken_of (message_rules settings watch message)) [] judged refl)
+    (none_either told (tells watch message) (broken_of (message_rules settings watch message)) [] judged refl)
 
 by_garbled : (told : Rule → Bool) (others : List Rule) → list_any told (rule.Garbled ∷ others) ≡ false → list_any told (rule.Garbled ∷ []) ≡ false
 by_garbled told others none = ap (λ (first : Bool). first || false) (or_first (told rule.Garbled) (list_any told others) none)
 
 by_down : (told : Rule → Bool) (settings : Settings) (watch : Watch) (message : Option Down) → list_any told terminals_rules ≡ false
     → list_any told (down_breaks settings watch message) ≡ false
-by_down told settings watch None none = by_garbled told _ none
+by_down told settings watch None none =
+    let others : List Rule = map (λ (it : Bool × Rule). it.1) (message_rules settings watch NoMessage) ++ (rule.Grant ∷ []) in
+    by_garbled told others none
 by_down told settings watch (Some NoMessage) none = refl
 by_down told settings watch (Some message) none = by_copy told settings watch message none
 
 -- of one up
 by_up : (told : Rule → Bool) (settings : Settings) (watch : Watch) (message : Option Up) (delay : Option ℕ) → list_any told units_rules ≡ false
     → list_any told (up_breaks settings watch message delay) ≡ false
-by_up told settings watch None delay none = by_garbled told _ none
+by_up told settings watch None delay none =
+    let others : List Rule = rule.Disabled ∷ rule.Anew ∷ rule.Number ∷ rule.Acknowledge ∷ rule.Drift ∷ [] in
+    by_garbled told others none
 by_up told settings watch (Some message) delay none =
-    none_broken told (answer_rules settings watch message delay) (or_second (told rule.Garbled) _ none)
+    let others : List Rule = map (λ (it : Bool × Rule). it.1) (answer_rules settings watch message delay) in
+    none_broken told (answer_rules settings watch message delay) (or_second (told rule.Garbled) (list_any told others) none)
 
 -- of a grant
-by_grant : (told : Rule → Bool) (settings : Settings) (watch : Watch) (grant : Grant) → list_any told terminals_rules ≡ false
-    → list_any told (broken_of ((breaks_grant watch grant, rule.Grant) ∷ [])) ≡ false
-by_grant told settings watch grant none =
-    none_broken told ((breaks_grant watch grant, rule.Grant) ∷ []) (
-        let others : List Rule = rule.Garbled ∷ map (λ (it : Bool × Rule). it.1) (message_rules settings watch NoMessage) in
-        or_second (list_any told others) (list_any told (rule.Grant ∷ [])) (sym (list_any-append told others (rule.Grant ∷ [])) ∙ none))
+by_grant : (told : Rule → Bool) (settings : Settings) (watch : Watch) (broken : Bool) → list_any told terminals_rules ≡ false
+    → list_any told (broken_of ((broken, rule.Grant) ∷ [])) ≡ false
+by_grant told settings watch broken none =
+    none_broken told ((broken, rule.Grant) ∷ []) (
+    let others : List Rule = rule.Garbled ∷ map (λ (it : Bool × Rule). it.1) (message_rules settings watch NoMessage) in
+    or_second (list_any told others) (list_any told (rule.Grant ∷ [])) (sym (list_any-append told others (rule.Grant ∷ [])) ∙ none))
 
 pub tells_nothing : NoneTellsNothing
 tells_nothing choice settings watch (HeardDown message) none =
     by_down (is_told choice (HeardDown message)) settings watch message (
-        on_side choice.terminal (λ (r : Rule). contains choice.rules r) terminals_rules (or_first (choice.terminal && list_any (λ (r : Rule). contains choice.rules r) terminals_rules) _ none))
+    on_side choice.terminal (λ (r : Rule). contains choice.rules r) terminals_rules (or_first (choice.terminal && list_any (λ (r : Rule). contains choice.rules r) terminals_rules) _ none))
 tells_nothing choice settings watch (HeardUp message delay) none =
     by_up (is_told choice (HeardUp message delay)) settings watch message delay (
-        on_side choice.units (λ (r : Rule). contains choice.rules r) units_rules (or_second (choice.terminal && list_any (λ (r : Rule). contains choice.rules r) terminals_rules) _ none))
+    on_side choice.units (λ (r : Rule). contains choice.rules r) units_rules (or_second (choice.terminal && list_any (λ (r : Rule). contains choice.rules r) terminals_rules) _ none))
 tells_nothing choice settings watch (HeardGrant grant) none =
-    by_grant (is_told choice (HeardGrant grant)) settings watch grant (
-        on_side choice.terminal (λ (r : Rule). contains choice.rules r) terminals_rules (or_first (choice.terminal && list_any (λ (r : Rule). contains choice.rules r) terminals_rules) _ none))
+    by_grant (is_told choice (HeardGrant grant)) settings watch (breaks_grant watch grant) (
+    on_side choice.terminal (λ (r : Rule). contains choice.rules r) terminals_rules (or_first (choice.terminal && list_any (λ (r : Rule). contains choice.rules r) terminals_rules) _ none))
 
 pub are_judged : SidesAreJudged
 are_judged = record { terminal = λ settings watch message. refl; units = λ settings watch message delay. refl }

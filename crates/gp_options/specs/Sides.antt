@@ -1,6 +1,6 @@
 -- Which rules may be broken on which side, and whether a choice of rules leaves one that may be on a side that is told
 -- (this profile's own rule).
-use Rattle.std.specs.Prelude.{◌≡◌, Bool, true, false, ◌&&◌, ◌||◌, List, [], ◌∷◌, ◌++◌, Option, ℕ, map}
+use Rattle.std.specs.Prelude.{◌≡◌, Bool, false, ◌&&◌, ◌||◌, List, [], ◌∷◌, ◌++◌, Option, ℕ, map}
 use Rattle.std.specs.List.{list_any}
 use Rattle.gp_ploam.specs.declared.message.Down.{Down}
 use Rattle.gp_ploam.specs.declared.message.Up.{Up}

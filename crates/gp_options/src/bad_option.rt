@@ -14,10 +14,8 @@ pub enum BadOption<'a> {
     #[error("no rule is called \"{0}\"; the rules are {rules}", rules = RULES)]
     Rule(&'a str),
     /// No rule is left to tell that may be broken on a side that is told.
-    #[error(
-        "--side, --only and --without leave no rule to tell; a unit may break garbled, disabled, anew, number, \
-acknowledge and drift, the terminal all but the last five"
-    )]
+    #[error("--side, --only and --without leave no rule to tell; a unit may break garbled, disabled, anew, number, \
+acknowledge and drift, the terminal all but the last five")]
     NoRule,
     /// An equalized delay.
     #[error("--teqd {0} is no delay; it is T or PORT=T, T below 2^32 bit times, PORT 0 to 15")]
