@@ -377,10 +377,7 @@ const TRACES: [Row; 2] = [
 ];
 
 /// The summary of a drive is not written.
-const DRIVES: [Row; 2] = [
-    (Call::Drive, TRACE, ""),
-    (Call::TellDrive, TRACE, ""),
-];
+const DRIVES: [Row; 2] = [(Call::Drive, TRACE, ""), (Call::TellDrive, TRACE, "")];
 
 const VERIFICATION: Row = (Call::Verify, "7 lines, a run\n", UNITS);
 
