@@ -16,7 +16,7 @@ use Rattle.gp_command_line.specs.declared.request.Drawing.{Drawing}
 use Rattle.gp_command_line.specs.declared.request.Dumping.{Dumping}
 use Rattle.gp_picture.specs.declared.options.PictureOptions.{PictureOptions}
 use Rattle.gp_waves.specs.declared.options.WavesOptions.{WavesOptions}
-use Rattle.gp_options.specs.Sides.{some_of_sides}
+use Rattle.gp_options.specs.Sides.{some_judged}
 use Rattle.gp_options.specs.declared.bad_option.BadOption.{BadOption}
 use Rattle.gp_options.specs.declared.bad_option.BadOption.TheVariants as bad
 
@@ -44,10 +44,11 @@ unknown_rule wanted = unknown_name (option_map texts wanted.only) (option_map te
 abbrev pub is_wanted : Audit → Rule → Bool
 is_wanted wanted rule = is_chosen (option_map texts wanted.only) (option_map texts wanted.without) rule
 
--- one of them may be broken on a side that is told
+-- one of them is judged on a side that is told
 abbrev pub wants_some : Audit → Bool
 wants_some wanted =
-    some_of_sides (tells_side wanted.side (codes "terminal")) (tells_side wanted.side (codes "units")) (is_wanted wanted)
+    some_judged wanted.midway (tells_side wanted.side (codes "terminal")) (tells_side wanted.side (codes "units"))
+    (is_wanted wanted)
 
 -- an audit is judged, and told, as it is asked for: all that is asked for can be read
 pub record AuditsAs (wanted : Audit) (options : AuditOptions) : Type 0 where
@@ -60,7 +61,7 @@ pub record AuditsAs (wanted : Audit) (options : AuditOptions) : Type 0 where
   pub known : unknown_rule wanted ≡ None
   pub rules : (rule : Rule)
       → contains options.told.rules rule ≡ is_wanted wanted rule
-  -- a rule is told that may be broken
+  -- a rule is told that is judged
   pub some : wants_some wanted ≡ true
   pub form : options.form ≡ form_of wanted.words wanted.json
   pub census : options.units ≡ wanted.units

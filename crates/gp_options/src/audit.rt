@@ -30,8 +30,8 @@ fn form_of(words: bool, json: bool) -> AuditForm
 }
 
 /// Gives what a log is judged by and what is told, or the first option that can't be read: the names of rules are read
-/// first, those of `--only` before those of `--without`, and they have to leave one that may be broken on a side that is
-/// told; and then the delays. A drift of 2^32 bit times or more counts as the greatest below. Takes no memory.
+/// first, those of `--only` before those of `--without`, and they have to leave one that is judged on a side that is told;
+/// and then the delays. A drift of 2^32 bit times or more counts as the greatest below. Takes no memory.
 pub fn audit_options<'m, 'a>(wanted: &Audit<'m, 'a>) -> Result<AuditOptions, BadOption<'a>>
     ensures { MatchResult result (AuditsAs wanted.now) (IsBadAudit wanted.now) }
 {
@@ -44,7 +44,7 @@ pub fn audit_options<'m, 'a>(wanted: &Audit<'m, 'a>) -> Result<AuditOptions, Bad
         units: tells_side(wanted.side, "units"),
         rules,
     };
-    if !tells_some(&told) {
+    if !tells_some(wanted.midway, &told) {
         return Err(BadOption::NoRule);
     }
     let teqd = delays_of(wanted.teqd)?;

@@ -13,9 +13,9 @@ pub enum BadOption<'a> {
     /// Of rules, a name that none has.
     #[error("no rule is called \"{0}\"; the rules are {rules}", rules = RULES)]
     Rule(&'a str),
-    /// No rule is left to tell that may be broken on a side that is told.
-    #[error("--side, --only and --without leave no rule to tell; a unit may break garbled, disabled, anew, number, \
-acknowledge and drift, the terminal all but the last five")]
+    /// No rule is left to tell that is judged on a side that is told.
+    #[error("--side, --only, --without and --midway leave no rule to tell; of units alone are disabled, anew, number, \
+acknowledge and drift, of both sides garbled, of the terminal alone all others; --midway judges no unasked")]
     NoRule,
     /// An equalized delay.
     #[error("--teqd {0} is no delay; it is T or PORT=T, T below 2^32 bit times, PORT 0 to 15")]

@@ -1,7 +1,8 @@
 //! What a log is judged by, and what of it is shown, as the command line of `oltctl` asks for it.
 //!
 //! Promise: the options of an audit, a picture and a dump are read whole, or the first that can't be is given back, and
-//! in one way only (`audit_options`, `picture_options`, `waves_options`).
+//! in one way only (`audit_options`, `picture_options`, `waves_options`). Of an audit a rule is left that is judged on a
+//! side that is told; without one no finding would be told (`sides_are_judged`).
 //!
 //! - `audit.rt`: of an audit. `picture.rt`: of a picture. `waves.rt`: of a dump.
 //! - `sides.rt`: whether a choice of rules leaves one to tell.

@@ -1,4 +1,4 @@
-//! Which rules may be broken on which side, and whether a choice of rules leaves one to tell.
+//! Which rules are judged on which side, and whether a choice of rules leaves one to tell.
 ghost use Rattle.std.specs.Prelude.{◌≡◌};
 ghost use Rattle.std.specs.List.{list_any};
 ghost use Rattle.gp_audit.specs.RuleSet.{contains};
@@ -7,13 +7,12 @@ ghost use Rattle.gp_options.specs.Sides.{NoneTellsNothing, SidesAreJudged, tells
 use gp_audit::{FindingChoice, RuleSet};
 use gp_observer::Rule;
 
-/// Those that the line terminal may break.
-const TERMINALS: [Rule; 14] = [
+/// Those that are judged of the line terminal, wherever a log begins.
+const TERMINAL_RULES: [Rule; 13] = [
     Rule::Garbled,
     Rule::Copies,
     Rule::Range,
     Rule::Barred,
-    Rule::Unasked,
     Rule::Taken,
     Rule::Renumbered,
     Rule::Nobody,
@@ -25,8 +24,8 @@ const TERMINALS: [Rule; 14] = [
     Rule::Grant,
 ];
 
-/// Those that a unit may break.
-const UNITS: [Rule; 6] = [
+/// Those that are judged of a unit.
+const UNIT_RULES: [Rule; 6] = [
     Rule::Garbled,
     Rule::Disabled,
     Rule::Anew,
@@ -36,22 +35,25 @@ const UNITS: [Rule; 6] = [
 ];
 
 /// Tells whether one of these rules is in the set.
-fn has_any(rules: &RuleSet, these: &[Rule]) -> bool
+fn contains_any(rules: &RuleSet, these: &[Rule]) -> bool
     ensures { result ≡ list_any (λ rule. contains rules.now rule) these.now }
 {
     these.iter().any(|rule| rules.contains(*rule))
 }
 
-/// Tells whether a choice leaves a rule that may be broken on a side of which it tells.
-pub(crate) fn tells_some(told: &FindingChoice) -> bool
-    ensures { result ≡ tells_some told.now }
+/// Tells whether a choice leaves a rule that is judged on a side of which it tells. Who asked before a log that begins
+/// in the middle isn't known, so there `unasked` isn't judged.
+pub(crate) fn tells_some(midway: bool, choice: &FindingChoice) -> bool
+    ensures { result ≡ tells_some midway choice.now }
 {
-    (told.terminal && has_any(&told.rules, &TERMINALS))
-        || (told.units && has_any(&told.rules, &UNITS))
+    let rules = &choice.rules;
+    (choice.terminal
+        && (contains_any(rules, &TERMINAL_RULES) || (!midway && rules.contains(Rule::Unasked))))
+        || (choice.units && contains_any(rules, &UNIT_RULES))
 }
 
 /// States that the rules of each side are just those that are judged there, and that where a choice leaves none of
-/// them nothing that is heard would be told.
+/// them no finding would be told, whatever is heard.
 pub fn sides_are_judged()
     ensures judged { SidesAreJudged }
     ensures none { NoneTellsNothing }

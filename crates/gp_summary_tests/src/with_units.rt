@@ -217,10 +217,11 @@ fn end_of_drive(ended: &DriveEnded) -> End {
 
 /// How one ends that is told, and nothing behind it.
 fn end_of_told_drive(ended: &DriveEnded) -> End {
-    if ended.driven == Ok(ANSWERED) && ended.summary.is_none() {
-        return End::Done;
+    match (ended.driven == Ok(ANSWERED), ended.summary.is_none()) {
+        (true, true) => End::Done,
+        (true, false) => End::Other,
+        (false, _) => end_of_drive(ended),
     }
-    end_of_drive(ended)
 }
 
 const MANNER: DriveManner = DriveManner {
