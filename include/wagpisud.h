@@ -30,7 +30,7 @@ extern "C" {
 #endif
 
 /* The version of the library, as `oltctl --version` has it: CHANGELOG.md says what came with which. */
-#define WP_VERSION "1.6.1"
+#define WP_VERSION "1.6.2"
 #define WP_VERSION_MAJOR 1
 #define WP_VERSION_MINOR 6
 #define WP_VERSION_PATCH 1

@@ -10,3 +10,4 @@ pub mod TextLemmas
 pub mod NameLemmas
 pub mod ChosenLemmas
 pub mod DelayLemmas
+pub mod UnnotedLemmas

@@ -4,12 +4,14 @@ use Rattle.gp_ploam.specs.declared.check.Mask.{Mask}
 use Rattle.gp_log.specs.declared.fault.LogFault.{LogFault}
 use Rattle.gp_log.specs.declared.line.LogLine.{LogLine}
 use Rattle.gp_log.specs.Line.{Reads}
+use Rattle.gp_watch.specs.declared.fault.WatchFault.{WatchFault}
 use Rattle.gp_audit.specs.declared.options.AuditForm.TheVariants.{Text}
 use Rattle.gp_audit.specs.declared.options.AuditOptions.{AuditOptions}
 use Rattle.gp_audit.specs.Audit.{most_ports}
 use Rattle.gp_audit.specs.Hearing.{ports_after}
 use Rattle.gp_audit.specs.Port.{PortState, port_begun}
 use Rattle.gp_audit.specs.RuleSet.{each_rule}
+use Rattle.gp_audit.specs.Unnoted.{LineUnnoted}
 
 -- a listener: the mask of the codes, and what is known of each port
 pub record ListenerState : Type 0 where
@@ -42,3 +44,9 @@ pub record HearsLine (mask : Mask) (line : List ℕ) (old new : List PortState) 
   pub read : Result LogLine LogFault
   pub reads : Reads line read
   pub heard : new ≡ ports_after (listening mask) old read
+
+-- something on a line can't be noted, for this: nothing can't be of a line that is none, and of one that is noted
+pub record LeavesLine (mask : Mask) (line : List ℕ) (old : List PortState) (fault : WatchFault) : Type 0 where
+  pub read : Result LogLine LogFault
+  pub reads : Reads line read
+  pub unnoted : LineUnnoted (listening mask) old read fault

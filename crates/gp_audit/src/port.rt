@@ -1,12 +1,13 @@
 //! What is known of one port, and what is told of something that is heard there; or nothing is told, and it is noted
 //! alone.
-ghost use Rattle.std.specs.Prelude.{◌≡◌, ◌<◌, ◌||◌, [], ◌∷◌, ◌++◌, if◌then◌else◌, IfOk, OnOk};
+ghost use Rattle.std.specs.Prelude.{◌≡◌, ◌<◌, ◌||◌, [], ◌∷◌, ◌++◌, if◌then◌else◌, IfErr, IfOk, OnErr, OnOk};
 ghost use Rattle.gp_watch.specs.Heard.{followed_down, followed_up, heard_of, IsFitting};
 ghost use Rattle.gp_audit.specs.Book.{TellsNotices};
 ghost use Rattle.gp_audit.specs.Ending.{units_of};
 ghost use Rattle.gp_audit.specs.Hearing.{census_after, findings_of, followed_in, full_told, heard_told, log_told, maybe_told, overfills, port_after, port_behind, port_logged, port_maybe, port_noted, port_ticked, port_traced, said_told, told_rules, trace_told};
 ghost use Rattle.gp_audit.specs.Port.{is_silent, port_begun, time_after};
 ghost use Rattle.gp_audit.specs.RuleSet.{is_told};
+ghost use Rattle.gp_audit.specs.Unnoted.{IsNewUnit, IsUnnoted, LogUnnoted, MaybeUnnoted, SaidUnnoted, TraceUnnoted};
 
 use crate::book::Book;
 use crate::fault::AuditFault;
@@ -173,9 +174,10 @@ impl Port {
 
     /// Counts what is heard, where that is told at the end.
     fn count(&mut self, options: &AuditOptions, heard: &Heard) -> Result<(), AllocError>
-        ensures { OnOk result (self.new ≡ record self.old {
+        ensures counted { OnOk result (self.new ≡ record self.old {
           census = census_after options.now.units self.old (heard_of heard.now);
         }) }
+        ensures fault { OnErr result (IsNewUnit options.now.units self.old.census.units (heard_of heard.now)) }
     {
         if options.units {
             self.census.note(&self.watch, heard, self.time)?;
@@ -201,7 +203,8 @@ impl Port {
     /// Notes what is heard.
     fn note(&mut self, options: &AuditOptions, heard: &Heard) -> Result<(), WatchFault>
         requires { IsFitting heard.now }
-        ensures { OnOk result (self.new ≡ port_noted options.now self.old (heard_of heard.now)) }
+        ensures noted { OnOk result (self.new ≡ port_noted options.now self.old (heard_of heard.now)) }
+        ensures fault { IfErr result (IsUnnoted options.now self.old (heard_of heard.now)) }
     {
         self.count(options, heard)?;
         self.watch.hear(heard)?;
@@ -321,7 +324,8 @@ impl Port {
     /// Notes what is heard, of which nothing is told.
     fn listen(&mut self, options: &AuditOptions, heard: &Heard) -> Result<(), WatchFault>
         requires { IsFitting heard.now }
-        ensures { OnOk result (self.new ≡ port_after options.now self.old (heard_of heard.now)) }
+        ensures noted { OnOk result (self.new ≡ port_after options.now self.old (heard_of heard.now)) }
+        ensures fault { IfErr result (IsUnnoted options.now self.old (heard_of heard.now)) }
     {
         self.full |= self.overfills(heard);
         self.note(options, heard)
@@ -329,7 +333,8 @@ impl Port {
 
     /// Notes what is said.
     fn listen_said(&mut self, options: &AuditOptions, said: &Said) -> Result<(), WatchFault>
-        ensures { OnOk result (self.new ≡ port_behind options.now self.old said.now) }
+        ensures noted { OnOk result (self.new ≡ port_behind options.now self.old said.now) }
+        ensures fault { IfErr result (SaidUnnoted options.now self.old said.now) }
     {
         let heard = heard_in(options.mask, said);
         self.listen(options, &heard)
@@ -341,7 +346,8 @@ impl Port {
         options: &AuditOptions,
         said: &Option<Said>,
     ) -> Result<(), WatchFault>
-        ensures { OnOk result (self.new ≡ port_maybe options.now self.old said.now) }
+        ensures noted { OnOk result (self.new ≡ port_maybe options.now self.old said.now) }
+        ensures fault { IfErr result (MaybeUnnoted options.now self.old said.now) }
     {
         match said {
             Some(said) => self.listen_said(options, said),
@@ -356,7 +362,8 @@ impl Port {
         time: u64,
         said: &Said,
     ) -> Result<(), WatchFault>
-        ensures { OnOk result (self.new ≡ port_logged options.now self.old time said.now) }
+        ensures noted { OnOk result (self.new ≡ port_logged options.now self.old time said.now) }
+        ensures fault { IfErr result (LogUnnoted options.now self.old time said.now) }
     {
         if self.time > time {
             return Ok(());
@@ -373,8 +380,9 @@ impl Port {
         first: &Option<Said>,
         second: &Option<Said>,
     ) -> Result<(), WatchFault>
-        ensures { OnOk result (self.new
+        ensures noted { OnOk result (self.new
             ≡ port_traced options.now (port_ticked self.old is_frame) first.now second.now) }
+        ensures fault { IfErr result (TraceUnnoted options.now (port_ticked self.old is_frame) first.now second.now) }
     {
         self.tick(is_frame);
         self.listen_maybe(options, first)?;

@@ -1,5 +1,5 @@
 //! What is known of each of sixteen ports, and a line heard on its own: judged, or noted alone.
-ghost use Rattle.std.specs.Prelude.{◌≡◌, ◌<◌, ◌++◌, IfOk, OnOk, replicate, length, slice_set};
+ghost use Rattle.std.specs.Prelude.{◌≡◌, ◌<◌, ◌++◌, IfErr, IfOk, OnOk, replicate, length, slice_set};
 ghost use Rattle.gp_audit.specs.Book.{TellsNotices};
 ghost use Rattle.gp_audit.specs.Audit.{most_ports};
 ghost use Rattle.gp_audit.specs.Ending.{first_units};
@@ -8,6 +8,7 @@ ghost use Rattle.gp_audit.specs.Port.{is_silent, port_begun};
 ghost use Rattle.std.specs.List.{list_all};
 ghost use Rattle.gp_audit.specs.Listening.{port_of};
 ghost use Rattle.gp_audit.specs.Places.{IsNear};
+ghost use Rattle.gp_audit.specs.Unnoted.{LineUnnoted, LogUnnoted, TraceUnnoted};
 
 use crate::book::Book;
 use crate::fault::AuditFault;
@@ -168,8 +169,10 @@ impl Ports {
         said: &Said,
     ) -> Result<(), WatchFault>
         requires { port < 16 }
-        ensures { OnOk result (self.new ≡ slice_set self.old port
+        ensures noted { OnOk result (self.new ≡ slice_set self.old port
             (port_logged options.now (port_at options.now self.old port) time said.now)) }
+        ensures fault { IfErr result
+            (LogUnnoted options.now (port_at options.now self.old port) time said.now) }
     {
         let port = &mut self.ports[usize::from(port)];
         port.listen_log(options, time, said)
@@ -185,8 +188,10 @@ impl Ports {
         second: &Option<Said>,
     ) -> Result<(), WatchFault>
         requires { port < 16 }
-        ensures { OnOk result (self.new ≡ slice_set self.old port (port_traced options.now
+        ensures noted { OnOk result (self.new ≡ slice_set self.old port (port_traced options.now
             (port_ticked (port_at options.now self.old port) is_frame) first.now second.now)) }
+        ensures fault { IfErr result (TraceUnnoted options.now
+            (port_ticked (port_at options.now self.old port) is_frame) first.now second.now) }
     {
         let port = &mut self.ports[usize::from(port)];
         port.listen_trace(options, is_frame, first, second)
@@ -199,7 +204,8 @@ impl Ports {
         read: &Result<LogLine, LogFault>,
     ) -> Result<(), WatchFault>
         requires { IsNear read.now }
-        ensures { OnOk result (self.new ≡ ports_after options.now self.old read.now) }
+        ensures noted { OnOk result (self.new ≡ ports_after options.now self.old read.now) }
+        ensures fault { IfErr result (LineUnnoted options.now self.old read.now) }
     {
         match read {
             Ok(LogLine::Log { port, time, said }) => self.listen_log(options, *port, *time, said),

@@ -8,8 +8,8 @@
 //! - `options.rt`: `PictureOptions`, the frames that are drawn, and what is heard is judged by. `moment.rt`: a line and
 //!   its frame.
 //! - `state.rt`: what a unit does. `touched.rt`: which units a message touches. `lane.rt`: a unit's changes.
-//! - `mark.rt`: marks and their rows. `windows.rt`: the windows that are open. `alarm.rt`: the alarm of a line.
-//!   `room.rt`: how much is kept, and which frames as one.
+//! - `mark.rt`: marks and their rows. `windows.rt`: the windows that are open. `room.rt`: how much is kept, and which
+//!   frames as one.
 //! - `port.rt`: what is kept of one port, and what something that is heard changes of it. `picture.rt`: all that is
 //!   drawn. `fault.rt`: why a line can't be.
 //! - `drawer.rt`: `Drawer`, which is given lines one after another; `serving.rt`: as what serves lines.
@@ -21,7 +21,6 @@
 //! `port.rt`, how it looks in `legend.rt` (the styles and their one legend), how it may end in `specs/Outcome.antt`.
 #![tactic(auto)]
 
-mod alarm;
 mod drawer;
 mod fault;
 mod lane;

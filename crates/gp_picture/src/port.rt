@@ -1,6 +1,5 @@
 //! What is kept of one port, and what something that is heard there changes of it.
 
-use crate::alarm::alarm_in;
 use crate::fault::PictureFault;
 use crate::lane::Lane;
 use crate::mark::{Mark, MarkKind, Row};
@@ -13,6 +12,7 @@ use crate::windows::{MOST_OPEN, Window, Windows};
 use gp_finding::heard_in;
 use gp_log::Said;
 use gp_ploam::Serial;
+use gp_tally::kind_told;
 use gp_watch::{Heard, PortWatch, Settings};
 use std::alloc::{AllocError, Global};
 use std::collections::BTreeMap;
@@ -282,7 +282,7 @@ impl Port {
         place: &Place<'_>,
         is_frame: bool,
     ) -> Result<(), AllocError> {
-        match alarm_in(place.text) {
+        match kind_told(place.text) {
             Some(kind) if is_frame => self
                 .alarms
                 .keep(room, mark_at(MarkKind::Alarm(kind), place)),

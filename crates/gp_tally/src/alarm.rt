@@ -1,4 +1,4 @@
-//! The alarm at the end of the text of an answer.
+//! The alarm at the end of the text of an answer, and the kind of that in a line.
 ghost use Rattle.std.specs.Prelude.{◌≡◌, position};
 ghost use Rattle.std.specs.Char.{is_ascii_uppercase};
 ghost use Rattle.std.specs.Result.{result_ok};
@@ -22,6 +22,22 @@ fn kind_named(name: &[u8]) -> Option<AlarmKind>
         b"DG" => Some(AlarmKind::Dg),
         _ => None,
     }
+}
+
+/// Gives the kind of the alarm that a line of a trace tells: the word behind its first part `alarm`. Takes no memory.
+pub fn kind_told(text: &[u8]) -> Option<AlarmKind>
+    ensures { result ≡ spec.kind_told (parts_of text.now) }
+{
+    let (mut part, mut rest) = cut(text);
+    'parts: while let Some(behind) = rest {
+        let (next, others) = cut(behind);
+        if part == b"alarm".as_slice() {
+            return kind_named(next);
+        }
+        part = next;
+        rest = others;
+    }
+    None
 }
 
 /// Gives the place of the first capital.

@@ -8,7 +8,7 @@
 //!
 //! - `options.rt`: `WavesOptions`, the frames that are dumped, and how codes are read.
 //! - `held.rt`: the changes that are held back, so that those of all ports come in the order of their times.
-//! - `alarm.rt`: the alarm of a line. `touched.rt`: which units a message touches. `lanes.rt`: the units of a port.
+//! - `touched.rt`: which units a message touches. `lanes.rt`: the units of a port.
 //! - `pulses.rt`: what stands on a port for a frame, or while a window is open. `port.rt`: what is kept of one port,
 //!   and which changes something that is heard makes.
 //! - `fault.rt`: why a line can't be dumped.
@@ -20,7 +20,6 @@
 //! `lanes.rt`; how it may end in `specs/Outcome.antt`.
 #![tactic(auto)]
 
-mod alarm;
 mod dumper;
 mod fault;
 mod hearing;

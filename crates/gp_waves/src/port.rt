@@ -1,6 +1,5 @@
 //! What is kept of one port, and which changes something that is heard there makes.
 
-use crate::alarm::alarm_in;
 use crate::fault::WavesFault;
 use crate::held::Held;
 use crate::lanes::{LaneChanges, Lanes};
@@ -11,6 +10,7 @@ use gp_finding::heard_in;
 use gp_log::Said;
 use gp_ploam::{Mask, Serial};
 use gp_ranging::Grant;
+use gp_tally::kind_told;
 use gp_times::Frames;
 use gp_watch::{Heard, PortWatch};
 use std::alloc::{AllocError, Global};
@@ -350,7 +350,7 @@ impl Port {
     ) -> Result<(), AllocError> {
         self.level = !self.level;
         scope.tell(held, self.time, PortChange::Frame(self.level))?;
-        match alarm_in(text) {
+        match kind_told(text) {
             Some(kind) => {
                 self.pulses.begin(Pulse::Alarm, self.time);
                 scope.tell(held, self.time, PortChange::Alarm(Some(kind)))
