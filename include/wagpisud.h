@@ -33,7 +33,7 @@ extern "C" {
 #define WP_VERSION "1.6.2"
 #define WP_VERSION_MAJOR 1
 #define WP_VERSION_MINOR 6
-#define WP_VERSION_PATCH 1
+#define WP_VERSION_PATCH 2
 
 /* What a call answers. */
 enum wp_status {

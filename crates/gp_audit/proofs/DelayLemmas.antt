@@ -1,5 +1,5 @@
 -- Delays that texts tell.
-use Rattle.std.proofs.Common.{◌≡◌, ℕ, ◌<◌, ◌==◌, true, false, List, ◌∷◌, length, Option, None, Some, Result, Err, refl, sym, ap, arith}
+use Rattle.std.proofs.Common.{◌≡◌, ℕ, ◌<◌, ◌==◌, true, false, List, ◌∷◌, length, Option, None, Some, Err, refl, sym, ap, arith}
 use Rattle.std.proofs.lemmas.Bool.Decides.{nat_tests}
 use Rattle.std.specs.List.{after_first, before_first, position_or_len}
 use Rattle.gp_audit.specs.Delays.{delay_of_all, delay_of_port, delays_after, delays_set, is_equals, told_or}

@@ -10,4 +10,3 @@ pub mod TextLemmas
 pub mod NameLemmas
 pub mod ChosenLemmas
 pub mod DelayLemmas
-pub mod UnnotedLemmas

@@ -2,7 +2,6 @@
 -- Inside: no public contract cites this.
 use Rattle.std.specs.Prelude.{ℕ, ◌+◌, Bool, true, false, List, [], ◌∷◌, length, Option, None, Some, Result, Ok, Err, ok_or}
 use Rattle.std.specs.Borrow.{Bor}
-use Rattle.gp_observer.specs.declared.rule.Rule.{Rule}
 use Rattle.gp_finding.specs.Names.{rule_named}
 use Rattle.gp_audit.specs.declared.rule_set.RuleSet.{RuleSet}
 use Rattle.gp_audit.specs.RuleSet.{each_rule, with_rule}

@@ -1,6 +1,6 @@
 -- What of a line can't be noted, and why (this profile's own rule): a serial number is new, for which memory is wanted,
 -- or it asks more often than is counted.
-use Rattle.std.specs.Prelude.{◌≡◌, ◌⊎◌, ◌×◌, ⊥, ℕ, Bool, true, false, nat_lt, List, Option, None, Some, Result, Ok, Err}
+use Rattle.std.specs.Prelude.{◌≡◌, ◌⊎◌, ℕ, Bool, true, false, nat_lt, List, Option, None, Some, Result, Ok, Err}
 use Rattle.gp_observer.specs.Heard.{Heard}
 use Rattle.gp_watch.specs.declared.fault.WatchFault.{WatchFault}
 use Rattle.gp_watch.specs.declared.fault.WatchFault.TheVariants.{OutOfMemory, Full}

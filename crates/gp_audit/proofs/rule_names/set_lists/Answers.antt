@@ -1,9 +1,5 @@
-use Rattle.std.proofs.Common.{ℕ, ◌≡◌, ◌+◌, ◌<◌, Bool, Ok, Err, List, [], ◌++◌, drop, get_or, length, map, ap, ◌∙◌, arith}
+use Rattle.std.proofs.Common.{◌∙◌, arith}
 use Rattle.std.proofs.lemmas.Result.{err_from_is_err_and}
-use Rattle.std.specs.Borrow.{Bor}
-use Rattle.gp_audit.specs.declared.rule_set.RuleSet.{RuleSet}
-use Rattle.gp_audit.specs.Naming.{names_set}
-use Rattle.gp_audit.specs.Texts.{Text, names_in, names_of}
 use Rattle.gp_audit.proofs.NameLemmas.{list_from_set, list_from_wrong}
 use Rattle.gp_audit.proofs.rule_names.set_lists.Goals as goal
 

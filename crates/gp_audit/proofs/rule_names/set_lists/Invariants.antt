@@ -1,6 +1,6 @@
 use Rattle.std.proofs.Common.{◌≡◌, drop, map}
 use Rattle.gp_audit.specs.Naming.{names_set}
-use Rattle.gp_audit.specs.Texts.{names_in, texts}
+use Rattle.gp_audit.specs.Texts.{names_in}
 use Rattle.gp_audit.proofs.rule_names.set_lists.Given as goal
 
 -- the lists that are left are set in what is set so far
