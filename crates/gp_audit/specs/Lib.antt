@@ -11,7 +11,7 @@ pub mod Book
 pub mod Places
 pub mod Again
 pub mod Audit
-pub mod Unnoted
+pub mod Failing
 pub mod Listening
 pub mod Ending
 pub mod Outcome

@@ -11,7 +11,7 @@ use Rattle.gp_audit.specs.Audit.{most_ports}
 use Rattle.gp_audit.specs.Hearing.{ports_after}
 use Rattle.gp_audit.specs.Port.{PortState, port_begun}
 use Rattle.gp_audit.specs.RuleSet.{each_rule}
-use Rattle.gp_audit.specs.Unnoted.{LineUnnoted}
+use Rattle.gp_audit.specs.Failing.{LineFails}
 
 -- a listener: the mask of the codes, and what is known of each port
 pub record ListenerState : Type 0 where
@@ -45,8 +45,8 @@ pub record HearsLine (mask : Mask) (line : List ℕ) (old new : List PortState) 
   pub reads : Reads line read
   pub heard : new ≡ ports_after (listening mask) old read
 
--- something on a line can't be noted, for this: nothing can't be of a line that is none, and of one that is noted
-pub record LeavesLine (mask : Mask) (line : List ℕ) (old : List PortState) (fault : WatchFault) : Type 0 where
+-- why hearing a line may fail, by what is read of it
+pub record FailsOnLine (mask : Mask) (line : List ℕ) (old : List PortState) (fault : WatchFault) : Type 0 where
   pub read : Result LogLine LogFault
   pub reads : Reads line read
-  pub unnoted : LineUnnoted (listening mask) old read fault
+  pub fails : LineFails (listening mask) old read fault

@@ -1,7 +1,7 @@
 //! `Listener`, which is given the lines of a log or of a trace, and tells nothing of them: what they let one know of
 //! each port stands in it.
 ghost use Rattle.std.specs.Prelude.{◌≡◌, ◌<◌, IfErr, IfOk, OnOk};
-ghost use Rattle.gp_audit.specs.Listening.{HearsLine, LeavesLine, listening, none_heard, port_of};
+ghost use Rattle.gp_audit.specs.Listening.{HearsLine, FailsOnLine, listening, none_heard, port_of};
 
 use crate::options::{AuditForm, AuditOptions, FindingChoice};
 use crate::ports::Ports;
@@ -69,12 +69,12 @@ impl Listener {
     }
 
     /// Hears a line, which comes without its line feed, as an audit does. Takes memory where a serial number is new.
-    /// Where that is refused, or a serial number asks more often than is counted, a part of the line may have been
-    /// heard.
+    /// Where that is refused, or a serial number asks more often than is counted, nothing is promised of what is known
+    /// of the ports then.
     pub fn hear(&mut self, text: &[u8]) -> Result<(), WatchFault>
         ensures heard { OnOk result (HearsLine self.old.mask text.now self.old.ports self.new.ports) }
         ensures mask { self.new.mask ≡ self.old.mask }
-        ensures fault { IfErr result (LeavesLine self.old.mask text.now self.old.ports) }
+        ensures fault { IfErr result (FailsOnLine self.old.mask text.now self.old.ports) }
     {
         let read = read_line(text);
         self.ports.listen(&self.options, &read)

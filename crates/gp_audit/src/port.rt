@@ -7,7 +7,7 @@ ghost use Rattle.gp_audit.specs.Ending.{units_of};
 ghost use Rattle.gp_audit.specs.Hearing.{census_after, findings_of, followed_in, full_told, heard_told, log_told, maybe_told, overfills, port_after, port_behind, port_logged, port_maybe, port_noted, port_ticked, port_traced, said_told, told_rules, trace_told};
 ghost use Rattle.gp_audit.specs.Port.{is_silent, port_begun, time_after};
 ghost use Rattle.gp_audit.specs.RuleSet.{is_told};
-ghost use Rattle.gp_audit.specs.Unnoted.{IsNewUnit, IsUnnoted, LogUnnoted, MaybeUnnoted, SaidUnnoted, TraceUnnoted};
+ghost use Rattle.gp_audit.specs.Failing.{IsNewUnit, HeardFails, LogFails, MaybeFails, SaidFails, TraceFails};
 
 use crate::book::Book;
 use crate::fault::AuditFault;
@@ -177,7 +177,8 @@ impl Port {
         ensures counted { OnOk result (self.new ≡ record self.old {
           census = census_after options.now.units self.old (heard_of heard.now);
         }) }
-        ensures fault { OnErr result (IsNewUnit options.now.units self.old.census.units (heard_of heard.now)) }
+        ensures fault { OnErr result (IsNewUnit options.now.units self.old.watch self.old.census.units
+            (heard_of heard.now)) }
     {
         if options.units {
             self.census.note(&self.watch, heard, self.time)?;
@@ -204,7 +205,7 @@ impl Port {
     fn note(&mut self, options: &AuditOptions, heard: &Heard) -> Result<(), WatchFault>
         requires { IsFitting heard.now }
         ensures noted { OnOk result (self.new ≡ port_noted options.now self.old (heard_of heard.now)) }
-        ensures fault { IfErr result (IsUnnoted options.now self.old (heard_of heard.now)) }
+        ensures fault { IfErr result (HeardFails options.now self.old (heard_of heard.now)) }
     {
         self.count(options, heard)?;
         self.watch.hear(heard)?;
@@ -325,7 +326,7 @@ impl Port {
     fn listen(&mut self, options: &AuditOptions, heard: &Heard) -> Result<(), WatchFault>
         requires { IsFitting heard.now }
         ensures noted { OnOk result (self.new ≡ port_after options.now self.old (heard_of heard.now)) }
-        ensures fault { IfErr result (IsUnnoted options.now self.old (heard_of heard.now)) }
+        ensures fault { IfErr result (HeardFails options.now self.old (heard_of heard.now)) }
     {
         self.full |= self.overfills(heard);
         self.note(options, heard)
@@ -334,7 +335,7 @@ impl Port {
     /// Notes what is said.
     fn listen_said(&mut self, options: &AuditOptions, said: &Said) -> Result<(), WatchFault>
         ensures noted { OnOk result (self.new ≡ port_behind options.now self.old said.now) }
-        ensures fault { IfErr result (SaidUnnoted options.now self.old said.now) }
+        ensures fault { IfErr result (SaidFails options.now self.old said.now) }
     {
         let heard = heard_in(options.mask, said);
         self.listen(options, &heard)
@@ -347,7 +348,7 @@ impl Port {
         said: &Option<Said>,
     ) -> Result<(), WatchFault>
         ensures noted { OnOk result (self.new ≡ port_maybe options.now self.old said.now) }
-        ensures fault { IfErr result (MaybeUnnoted options.now self.old said.now) }
+        ensures fault { IfErr result (MaybeFails options.now self.old said.now) }
     {
         match said {
             Some(said) => self.listen_said(options, said),
@@ -363,7 +364,7 @@ impl Port {
         said: &Said,
     ) -> Result<(), WatchFault>
         ensures noted { OnOk result (self.new ≡ port_logged options.now self.old time said.now) }
-        ensures fault { IfErr result (LogUnnoted options.now self.old time said.now) }
+        ensures fault { IfErr result (LogFails options.now self.old time said.now) }
     {
         if self.time > time {
             return Ok(());
@@ -382,7 +383,7 @@ impl Port {
     ) -> Result<(), WatchFault>
         ensures noted { OnOk result (self.new
             ≡ port_traced options.now (port_ticked self.old is_frame) first.now second.now) }
-        ensures fault { IfErr result (TraceUnnoted options.now (port_ticked self.old is_frame) first.now second.now) }
+        ensures fault { IfErr result (TraceFails options.now (port_ticked self.old is_frame) first.now second.now) }
     {
         self.tick(is_frame);
         self.listen_maybe(options, first)?;

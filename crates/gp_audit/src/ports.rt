@@ -8,7 +8,7 @@ ghost use Rattle.gp_audit.specs.Port.{is_silent, port_begun};
 ghost use Rattle.std.specs.List.{list_all};
 ghost use Rattle.gp_audit.specs.Listening.{port_of};
 ghost use Rattle.gp_audit.specs.Places.{IsNear};
-ghost use Rattle.gp_audit.specs.Unnoted.{LineUnnoted, LogUnnoted, TraceUnnoted};
+ghost use Rattle.gp_audit.specs.Failing.{LineFails, LogFails, TraceFails};
 
 use crate::book::Book;
 use crate::fault::AuditFault;
@@ -172,7 +172,7 @@ impl Ports {
         ensures noted { OnOk result (self.new ≡ slice_set self.old port
             (port_logged options.now (port_at options.now self.old port) time said.now)) }
         ensures fault { IfErr result
-            (LogUnnoted options.now (port_at options.now self.old port) time said.now) }
+            (LogFails options.now (port_at options.now self.old port) time said.now) }
     {
         let port = &mut self.ports[usize::from(port)];
         port.listen_log(options, time, said)
@@ -190,7 +190,7 @@ impl Ports {
         requires { port < 16 }
         ensures noted { OnOk result (self.new ≡ slice_set self.old port (port_traced options.now
             (port_ticked (port_at options.now self.old port) is_frame) first.now second.now)) }
-        ensures fault { IfErr result (TraceUnnoted options.now
+        ensures fault { IfErr result (TraceFails options.now
             (port_ticked (port_at options.now self.old port) is_frame) first.now second.now) }
     {
         let port = &mut self.ports[usize::from(port)];
@@ -205,7 +205,7 @@ impl Ports {
     ) -> Result<(), WatchFault>
         requires { IsNear read.now }
         ensures noted { OnOk result (self.new ≡ ports_after options.now self.old read.now) }
-        ensures fault { IfErr result (LineUnnoted options.now self.old read.now) }
+        ensures fault { IfErr result (LineFails options.now self.old read.now) }
     {
         match read {
             Ok(LogLine::Log { port, time, said }) => self.listen_log(options, *port, *time, said),

@@ -169,7 +169,7 @@ counted_by (HeardDown message) = counted_by_down message
 counted_by (HeardUp message delay) = counted_by_up message
 counted_by (HeardGrant grant) = None
 
--- there is one, and nothing was counted of it: only then memory is wanted
-abbrev pub IsNewTo : Sightings → Option Serial → Type 0
-IsNewTo units None = ⊥
-IsNewTo units (Some serial) = get units serial ≡ None
+-- there is one, nothing was counted of it, and an observer follows it or has room to: only then memory is wanted
+abbrev pub IsNewTo : Watch → Sightings → Option Serial → Type 0
+IsNewTo watch units None = ⊥
+IsNewTo watch units (Some serial) = (get units serial ≡ None) × (can_follow watch serial ≡ true)

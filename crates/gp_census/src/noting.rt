@@ -29,7 +29,7 @@ impl Units {
     ) -> Result<(), AllocError>
         ensures ok { OnOk result (self.new ≡ units_told self.old watch.now message.now time) }
         ensures same { OnErr result (self.new ≡ self.old) }
-        ensures new { OnErr result (IsNewTo self.old (counted_by_message message.now)) }
+        ensures new { OnErr result (IsNewTo watch.now self.old (counted_by_message message.now)) }
     {
         match message {
             Down::AssignOnu { serial, .. } => {
@@ -98,7 +98,7 @@ impl Units {
     ) -> Result<(), AllocError>
         ensures ok { OnOk result (self.new ≡ serial_noted self.old watch.now onu serial.now time) }
         ensures same { OnErr result (self.new ≡ self.old) }
-        ensures new { OnErr result (IsNewTo self.old (if onu == broadcast_onu then Some serial.now else None)) }
+        ensures new { OnErr result (IsNewTo watch.now self.old (if onu == broadcast_onu then Some serial.now else None)) }
     {
         if onu == BROADCAST_ONU {
             return self.count_if(watch, serial, UnitEvent::Asks(time));
@@ -119,7 +119,7 @@ impl Units {
     ) -> Result<(), AllocError>
         ensures ok { OnOk result (self.new ≡ units_heard self.old watch.now message.now time) }
         ensures same { OnErr result (self.new ≡ self.old) }
-        ensures new { OnErr result (IsNewTo self.old (counted_by_up message.now)) }
+        ensures new { OnErr result (IsNewTo watch.now self.old (counted_by_up message.now)) }
     {
         match message {
             Some(Up::SerialNumber { onu, serial, .. }) => {

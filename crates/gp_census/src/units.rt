@@ -1,5 +1,5 @@
 //! The units of which something was counted, by their serial numbers.
-ghost use Rattle.std.specs.Prelude.{◌≡◌, IfOk, OnOk, OnErr, None};
+ghost use Rattle.std.specs.Prelude.{◌≡◌, IfOk, OnOk, OnErr, None, Some};
 ghost use Rattle.std.specs.FinMap as map;
 ghost use Rattle.gp_observer.specs.Watch.{can_follow};
 ghost use Rattle.gp_census.specs.Census.{IsNewTo, changed, changed_of, counted, counted_if, sighting_of};
@@ -114,7 +114,7 @@ impl Units {
     ) -> Result<(), AllocError>
         ensures ok { OnOk result (self.new ≡ counted_if self.old watch.now serial.now event) }
         ensures same { OnErr result (self.new ≡ self.old) }
-        ensures new { OnErr result (map.get self.old serial.now ≡ None) }
+        ensures new { OnErr result (IsNewTo watch.now self.old (Some serial.now)) }
     {
         if watch.can_follow(serial) {
             self.count(serial, event)?;

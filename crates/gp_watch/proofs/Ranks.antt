@@ -1,5 +1,5 @@
 -- What a search finds among places in order, and what an edit there does to the index.
-use Rattle.std.proofs.Common.{◌≡◌, ℕ, zero, suc, ◌+◌, ◌-◌, ◌/◌, ◌^◌, ◌<◌, ◌≤◌, true, false, cond, List, [], ◌∷◌, length, map, None, Some, inl, inr, refl, sym, ap, subst, ◌∙◌, get_or, arith, w64}
+use Rattle.std.proofs.Common.{◌≡◌, ℕ, zero, suc, ◌+◌, ◌-◌, ◌/◌, ◌^◌, ◌<◌, ◌≤◌, true, false, cond, List, [], ◌∷◌, length, map, None, Some, inl, inr, refl, sym, ap, subst, ◌∙◌, get_or, arith}
 use Rattle.std.proofs.lemmas.Bool.{cases_Bool, cases_eq, cases_lt}
 use Rattle.std.proofs.Math.ListN.{set, length-set}
 use Rattle.std.proofs.lemmas.List.{map-set, get_or-set_same, get_or-set_other}

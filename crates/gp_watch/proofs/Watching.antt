@@ -1,6 +1,6 @@
 -- What is known, after a change of the tables or of the index.
 use Rattle.std.proofs.Common.{◌≡◌, ℕ, ◌<◌, ◌≤◌, ◌==◌, nat_lt, Bool, true, false, cond, Option, None, Some, Result, Ok, Err, inl, inr, refl, sym, ap, ◌∙◌, is_some}
-use Rattle.std.specs.Prelude.{IfOk, OnOk}
+use Rattle.std.specs.Prelude.{IfOk, OnErr, OnOk}
 use Rattle.std.specs.FinMap.{FinMap, get, insert, len, same_map}
 use Rattle.std.specs.FinMap as map
 use Rattle.std.specs.FinSet.{FinSet}
@@ -171,6 +171,10 @@ on_ok (Err e) P Q R p q h = tt
 pub if_ok : {A E : Type 0} (r : Result A E) (R : A → Type 0) → ((a : A) → R a) → IfOk r R
 if_ok (Ok a) R h = h a
 if_ok (Err e) R h = tt
+
+pub on_err : {A E : Type 0} (r : Result A E) (R : Type 0) → R → OnErr r R
+on_err (Ok a) R h = tt
+on_err (Err e) R h = h
 
 -- ---- at first
 

@@ -1,5 +1,5 @@
 -- What is heard, and what it is judged by, as the code has them (this profile's own rule).
-use Rattle.std.specs.Prelude.{◌≡◌, ◌==◌, ◌-◌, ◌^◌, if◌then◌else◌, Option, None, Some}
+use Rattle.std.specs.Prelude.{◌≡◌, ◌==◌, ◌-◌, ◌^◌, ◌&&◌, not, if◌then◌else◌, true, Option, None, Some}
 use Rattle.std.specs.FinMap.{get}
 use Rattle.gp_ploam.specs.declared.message.Serial.{Serial}
 use Rattle.gp_ploam.specs.declared.message.Down.{Down}
@@ -10,7 +10,7 @@ use Rattle.gp_ploam.specs.OnuIds.{broadcast_onu}
 use Rattle.gp_ploam.specs.Down.{IsFittingDown}
 use Rattle.gp_observer.specs.Heard as observer
 use Rattle.gp_observer.specs.Rules as rules
-use Rattle.gp_observer.specs.Watch.{Watch}
+use Rattle.gp_observer.specs.Watch.{Watch, can_follow, passes_over, tells}
 use Rattle.gp_watch.specs.declared.fault.WatchFault.{WatchFault}
 use Rattle.gp_watch.specs.declared.fault.WatchFault.TheVariants.{OutOfMemory, Full}
 use Rattle.gp_watch.specs.declared.heard.Heard.{Heard}
@@ -49,22 +49,38 @@ abbrev pub followed_up : Option Up → Option Serial
 followed_up (Some (SerialNumber onu serial random flags)) = if onu == broadcast_onu then Some serial else None
 followed_up _ = None
 
-abbrev pub followed_heard : Heard → Option Serial
-followed_heard (heard.Down message) = followed_down message
-followed_heard (heard.Up message delay) = followed_up message
-followed_heard (heard.Grant grant) = None
-
--- there is a serial number to follow, and it is new
+-- there is a serial number to follow, it is new, and there is room for it
 abbrev pub IsNew : Watch → Option Serial → Type 0
 IsNew watch None = ⊥
-IsNew watch (Some serial) = get watch.asks serial ≡ None
+IsNew watch (Some serial) = (get watch.asks serial ≡ None) × (can_follow watch serial ≡ true)
 
 -- there is one, and its asks can't be counted further
 abbrev pub IsCounted : Watch → Option Serial → Type 0
 IsCounted watch None = ⊥
 IsCounted watch (Some serial) = get watch.asks serial ≡ Some (2 ^ 64 - 1)
 
--- why nothing is noted: memory is wanted only where a serial number is new
+-- why nothing is noted of a serial number that asks: memory is wanted only where it is new
 abbrev pub FailsBy : Watch → Option Serial → WatchFault → Type 0
 FailsBy watch serial OutOfMemory = IsNew watch serial
 FailsBy watch serial Full = IsCounted watch serial
+
+-- the serial number that asks, if one does
+abbrev pub asking_heard : Heard → Option Serial
+asking_heard (heard.Up message delay) = followed_up message
+asking_heard _ = None
+
+-- the serial number that a message down has followed with this copy: copies that tell it no more change nothing of that
+abbrev pub followed_by_copy : Watch → Down → Option Serial
+followed_by_copy watch message =
+    if not (passes_over watch message) && tells watch message then followed_by message else None
+
+abbrev pub followed_now : Watch → Heard → Option Serial
+followed_now watch (heard.Down None) = None
+followed_now watch (heard.Down (Some message)) = followed_by_copy watch message
+followed_now watch (heard.Up message delay) = followed_up message
+followed_now watch (heard.Grant grant) = None
+
+-- why nothing is noted of what is heard: memory is wanted only where a serial number is new, and only asks are counted
+abbrev pub FailsOn : Watch → Heard → WatchFault → Type 0
+FailsOn watch heard OutOfMemory = IsNew watch (followed_now watch heard)
+FailsOn watch heard Full = IsCounted watch (asking_heard heard)

@@ -9,7 +9,7 @@ ghost use Rattle.gp_observer.specs.Watch.{noted, passes_over, tells, copy_heard,
 ghost use Rattle.gp_observer.specs.Heard.{watch_after};
 ghost use Rattle.gp_watch.specs.Changes.{watch_assigned};
 ghost use Rattle.gp_watch.specs.declared.heard.Heard.TheVariants as heards;
-ghost use Rattle.gp_watch.specs.Heard.{heard_of, followed_by, followed_down, followed_heard, followed_up, FailsBy, IsFitting, IsNew};
+ghost use Rattle.gp_watch.specs.Heard.{heard_of, followed_by, followed_by_copy, followed_now, followed_up, FailsBy, FailsOn, IsFitting, IsNew};
 
 use crate::fault::WatchFault;
 use crate::heard::Heard;
@@ -37,7 +37,7 @@ impl PortWatch {
     fn note_assign(&mut self, onu: u8, serial: &Serial) -> Result<(), AllocError>
         ensures ok { OnOk result (self.new ≡ noted self.old (AssignOnu onu serial.now)) }
         ensures same { OnErr result (self.new ≡ self.old) }
-        ensures new { OnErr result (map.get self.old.asks serial.now ≡ None) }
+        ensures new { OnErr result (IsNew self.old (Some serial.now)) }
     {
         let followed = self.take_ask(serial)?;
         if onu <= LAST_ONU {
@@ -68,7 +68,7 @@ impl PortWatch {
     fn note_disable(&mut self, serial: &Serial) -> Result<(), AllocError>
         ensures ok { OnOk result (self.new ≡ noted self.old (DisableSerial serial.now)) }
         ensures same { OnErr result (self.new ≡ self.old) }
-        ensures new { OnErr result (map.get self.old.asks serial.now ≡ None) }
+        ensures new { OnErr result (IsNew self.old (Some serial.now)) }
     {
         let followed = self.follow(serial)?;
         self.give_up_of(serial);
@@ -151,7 +151,7 @@ impl PortWatch {
         requires { IsFittingDown message.now }
         ensures ok { OnOk result (self.new ≡ copy_heard self.old message.now) }
         ensures same { OnErr result (self.new ≡ self.old) }
-        ensures new { OnErr result (IsNew self.old (followed_by message.now)) }
+        ensures new { OnErr result (IsNew self.old (followed_by_copy self.old message.now)) }
     {
         if self.passes_over(message) {
             self.pass_over(message);
@@ -169,7 +169,7 @@ impl PortWatch {
         requires { IsFitting (heards.Down message.now) }
         ensures ok { OnOk result (self.new ≡ after_down self.old message.now) }
         ensures same { OnErr result (self.new ≡ self.old) }
-        ensures new { OnErr result (IsNew self.old (followed_down message.now)) }
+        ensures new { OnErr result (IsNew self.old (followed_now self.old (heards.Down message.now))) }
     {
         match message {
             None | Some(Down::NoMessage) => Ok(()),
@@ -215,7 +215,7 @@ impl PortWatch {
         requires { IsFitting heard.now }
         ensures ok { OnOk result (self.new ≡ watch_after self.old (heard_of heard.now)) }
         ensures same { OnErr result (self.new ≡ self.old) }
-        ensures fails { IfErr result (FailsBy self.old (followed_heard heard.now)) }
+        ensures fails { IfErr result (FailsOn self.old heard.now) }
     {
         match heard {
             Heard::Down(message) => Ok(self.hear_down(message)?),

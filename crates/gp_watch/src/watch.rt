@@ -8,7 +8,7 @@ ghost use Rattle.gp_pools.specs.Limits.{last_alloc_id};
 ghost use Rattle.gp_observer.specs.Observer.{some_passes, is_of, with_alloc};
 ghost use Rattle.gp_observer.specs.Watch.{watch_begun, numbers_below, asks_left, asks_put, asks_with, can_follow, answers_of, with_answer};
 ghost use Rattle.gp_observer.specs.Rules.{leaves_no_answer};
-ghost use Rattle.gp_watch.specs.Heard.{settings_of, FailsBy};
+ghost use Rattle.gp_watch.specs.Heard.{settings_of, FailsBy, IsNew};
 ghost use Rattle.gp_watch.specs.Index.{released};
 ghost use Rattle.gp_watch.specs.Changes.{IsOnuOf, onu_held, watch_without, watch_holding};
 
@@ -285,7 +285,7 @@ impl PortWatch {
               (if followed then Some asks else None);
         }) }
         ensures same { OnErr result (self.new ≡ self.old) }
-        ensures new { OnErr result (map.get self.old.asks serial.now ≡ None) }
+        ensures new { OnErr result (IsNew self.old (Some serial.now)) }
     {
         if self.index.len() >= MOST_FOLLOWED {
             return Ok(false);
@@ -321,7 +321,7 @@ impl PortWatch {
         ensures asks { OnOk result (self.new
             ≡ record self.old { asks = asks_with self.old serial.now (λ asks. asks - 1) }) }
         ensures same { OnErr result (self.new ≡ self.old) }
-        ensures new { OnErr result (map.get self.old.asks serial.now ≡ None) }
+        ensures new { OnErr result (IsNew self.old (Some serial.now)) }
     {
         match self.index.get(serial) {
             Some(followed) => {
@@ -340,7 +340,7 @@ impl PortWatch {
         ensures asks { OnOk result (self.new
             ≡ record self.old { asks = asks_with self.old serial.now (λ asks. asks) }) }
         ensures same { OnErr result (self.new ≡ self.old) }
-        ensures new { OnErr result (map.get self.old.asks serial.now ≡ None) }
+        ensures new { OnErr result (IsNew self.old (Some serial.now)) }
     {
         match self.index.get(serial) {
             Some(_) => Ok(true),

@@ -1,5 +1,4 @@
 use Rattle.std.proofs.Common.{sym, ap}
-use Rattle.gp_watch.specs.Changes.{IsOnuOf}
 use Rattle.gp_watch.specs.Index.{onu_in}
 use Rattle.gp_watch.proofs.Holding.{held_is}
 use Rattle.gp_watch.proofs.Watching.{onu_is, none_held}
