@@ -1,12 +1,12 @@
 -- Why hearing may fail, by what is known before it (this profile's own rule): memory is wanted for a serial number that
 -- is new, and no more than so many asks of one are counted.
 use Rattle.std.specs.Prelude.{◌≡◌, ◌⊎◌, ℕ, Bool, true, false, nat_lt, List, Option, None, Some, Result, Ok, Err}
-use Rattle.gp_observer.specs.Heard.{Heard, HeardUp}
+use Rattle.gp_observer.specs.Heard.{Heard, HeardDown, HeardUp, HeardGrant}
 use Rattle.gp_observer.specs.Watch.{Watch}
 use Rattle.gp_ploam.specs.declared.message.Serial.{Serial}
 use Rattle.gp_watch.specs.declared.fault.WatchFault.{WatchFault}
 use Rattle.gp_watch.specs.declared.fault.WatchFault.TheVariants.{OutOfMemory, Full}
-use Rattle.gp_watch.specs.Heard.{IsCounted, IsNew, followed_up}
+use Rattle.gp_watch.specs.Heard.{IsCounted, IsNew, followed_by_copy, followed_up}
 use Rattle.gp_log.specs.declared.fault.LogFault.{LogFault}
 use Rattle.gp_log.specs.declared.line.LogLine.{LogLine}
 use Rattle.gp_log.specs.declared.line.LogLine.TheVariants as line
@@ -14,13 +14,20 @@ use Rattle.gp_log.specs.declared.said.Said.{Said}
 use Rattle.gp_finding.specs.Hearing.{heard_in}
 use Rattle.gp_census.specs.Census.{IsNewTo, Sightings, counted_by}
 use Rattle.gp_audit.specs.declared.options.AuditOptions.{AuditOptions}
-use Rattle.gp_audit.specs.Hearing.{followed_in, port_at, port_maybe, port_ticked}
+use Rattle.gp_audit.specs.Hearing.{port_at, port_maybe, port_ticked}
 use Rattle.gp_audit.specs.Port.{PortState}
 
 -- units are counted, and of the one that is to be counted nothing was yet
 abbrev pub IsNewUnit : Bool → Watch → Sightings → Heard → Type 0
 IsNewUnit false watch units heard = ⊥
-IsNewUnit true watch units heard = IsNewTo watch units (counted_by heard)
+IsNewUnit true watch units heard = IsNewTo watch units (counted_by watch heard)
+
+-- the serial number that this has followed from now on, if any: a copy that tells its message no more has none
+abbrev pub followed_new : Watch → Heard → Option Serial
+followed_new watch (HeardDown None) = None
+followed_new watch (HeardDown (Some message)) = followed_by_copy watch message
+followed_new watch (HeardUp message delay) = followed_up message
+followed_new watch (HeardGrant grant) = None
 
 -- the serial number that asks, if one does
 abbrev pub asking_in : Heard → Option Serial
@@ -30,7 +37,7 @@ asking_in heard = None
 -- why hearing this on a port may fail
 abbrev pub HeardFails : AuditOptions → PortState → Heard → WatchFault → Type 0
 HeardFails options port heard OutOfMemory =
-    IsNew port.watch (followed_in heard) ⊎ IsNewUnit options.units port.watch port.census.units heard
+    IsNew port.watch (followed_new port.watch heard) ⊎ IsNewUnit options.units port.watch port.census.units heard
 HeardFails options port heard Full = IsCounted port.watch (asking_in heard)
 
 -- why hearing what is said may

@@ -18,8 +18,8 @@
 //! line is read in `gp_log`. Which rules lists of names tell stands in `specs/Chosen.antt`, which delays texts give in
 //! `specs/Delays.antt`. What is told of something heard stands in `specs/Hearing.antt`, which of it is told in
 //! `specs/RuleSet.antt`, what is said to a line in `specs/Audit.antt`, how it is told again in `specs/Again.antt`,
-//! what is told at the end in `specs/Ending.antt`, what a listener hears in `specs/Listening.antt`, and how it may end
-//! in `specs/Outcome.antt`. What is counted of units stands in `gp_census`.
+//! what is told at the end in `specs/Ending.antt`, what a listener hears in `specs/Listening.antt`, why it may
+//! fail in `specs/Failing.antt`, and how an audit may end in `specs/Outcome.antt`. What is counted of units stands in `gp_census`.
 #![tactic(auto)]
 
 mod again;

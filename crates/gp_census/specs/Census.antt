@@ -1,6 +1,6 @@
 -- What is counted of a port and of its units, by what is heard and by what is known before it (this profile's own
 -- rule).
-use Rattle.std.specs.Prelude.{◌≡◌, ℕ, zero, suc, ◌==◌, true, not, if◌then◌else◌, Option, None, Some}
+use Rattle.std.specs.Prelude.{◌≡◌, ℕ, zero, suc, ◌==◌, ◌&&◌, true, not, if◌then◌else◌, Option, None, Some}
 use Rattle.std.specs.FinMap.{FinMap, empty, get, insert}
 use Rattle.gp_ploam.specs.declared.message.Serial.{Serial}
 use Rattle.gp_ploam.specs.declared.message.Down.{Down}
@@ -156,18 +156,23 @@ abbrev pub counted_by_message : Down → Option Serial
 counted_by_message (AssignOnu onu serial) = Some serial
 counted_by_message _ = None
 
-abbrev pub counted_by_down : Option Down → Option Serial
-counted_by_down None = None
-counted_by_down (Some message) = counted_by_message message
+-- with this copy: copies that tell a message no more count nothing
+abbrev pub counted_by_copy : Watch → Down → Option Serial
+counted_by_copy watch message =
+    if not (passes_over watch message) && tells watch message then counted_by_message message else None
+
+abbrev pub counted_by_down : Watch → Option Down → Option Serial
+counted_by_down watch None = None
+counted_by_down watch (Some message) = counted_by_copy watch message
 
 abbrev pub counted_by_up : Option Up → Option Serial
 counted_by_up (Some (SerialNumber onu serial random flags)) = if onu == broadcast_onu then Some serial else None
 counted_by_up _ = None
 
-abbrev pub counted_by : Heard → Option Serial
-counted_by (HeardDown message) = counted_by_down message
-counted_by (HeardUp message delay) = counted_by_up message
-counted_by (HeardGrant grant) = None
+abbrev pub counted_by : Watch → Heard → Option Serial
+counted_by watch (HeardDown message) = counted_by_down watch message
+counted_by watch (HeardUp message delay) = counted_by_up message
+counted_by watch (HeardGrant grant) = None
 
 -- there is one, nothing was counted of it, and an observer follows it or has room to: only then memory is wanted
 abbrev pub IsNewTo : Watch → Sightings → Option Serial → Type 0

@@ -4,7 +4,7 @@ ghost use Rattle.std.specs.FinMap as map;
 ghost use Rattle.gp_observer.specs.Watch.{passes_over, tells};
 ghost use Rattle.gp_watch.specs.Heard.{heard_of};
 ghost use Rattle.gp_census.specs.Counts.{one_more};
-ghost use Rattle.gp_census.specs.Census.{IsNewTo, census_begun, copy_noted, counted_by, counted_by_down, counted_by_message, down_noted, message_noted, noted, port_heard, sighting_of};
+ghost use Rattle.gp_census.specs.Census.{IsNewTo, census_begun, copy_noted, counted_by, counted_by_copy, counted_by_down, counted_by_message, down_noted, message_noted, noted, port_heard, sighting_of};
 
 use crate::sighting::{PortCounts, Sighting, one_more};
 use crate::units::Units;
@@ -105,7 +105,7 @@ impl Census {
     fn note_copy(&mut self, watch: &PortWatch, message: &Down, time: u64) -> Result<(), AllocError>
         ensures ok { OnOk result (self.new ≡ copy_noted self.old watch.now message.now time) }
         ensures same { OnErr result (self.new ≡ self.old) }
-        ensures new { OnErr result (IsNewTo watch.now self.old.units (counted_by_message message.now)) }
+        ensures new { OnErr result (IsNewTo watch.now self.old.units (counted_by_copy watch.now message.now)) }
     {
         if !watch.passes_over(message) && watch.tells(message) {
             self.note_message(watch, message, time)?;
@@ -122,7 +122,7 @@ impl Census {
     ) -> Result<(), AllocError>
         ensures ok { OnOk result (self.new ≡ down_noted self.old watch.now message.now time) }
         ensures same { OnErr result (self.new ≡ self.old) }
-        ensures new { OnErr result (IsNewTo watch.now self.old.units (counted_by_down message.now)) }
+        ensures new { OnErr result (IsNewTo watch.now self.old.units (counted_by_down watch.now message.now)) }
     {
         match message {
             None => self.port.garbled_down = one_more(self.port.garbled_down),
@@ -137,7 +137,7 @@ impl Census {
     pub fn note(&mut self, watch: &PortWatch, heard: &Heard, time: u64) -> Result<(), AllocError>
         ensures ok { OnOk result (self.new ≡ noted self.old watch.now (heard_of heard.now) time) }
         ensures same { OnErr result (self.new ≡ self.old) }
-        ensures new { OnErr result (IsNewTo watch.now self.old.units (counted_by (heard_of heard.now))) }
+        ensures new { OnErr result (IsNewTo watch.now self.old.units (counted_by watch.now (heard_of heard.now))) }
     {
         match heard {
             Heard::Down(message) => self.note_down(watch, message, time)?,

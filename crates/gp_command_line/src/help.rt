@@ -229,8 +229,8 @@ KIND word, number, code, time or long; so is one whose time is before that of it
 
 Rules of the terminal: garbled copies range barred unasked taken renumbered nobody
 unranged delay early shared not-held grant; of units: garbled disabled anew number
-acknowledge drift. RULES are some of these, with commas between. One has to be left that
-is looked for: with --side, on that side; with --midway, another one than unasked.
+acknowledge drift. RULES are some of these, with commas between. One has to be left to
+tell: with --side, one that is judged on that side; with --midway, one other than unasked.
 
 Examples:
   oltctl audit lab.log

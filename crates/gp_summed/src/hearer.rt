@@ -20,7 +20,8 @@ const LINE_FEED: u8 = b'\n';
 const LINE_ROOM: usize = 512;
 
 /// Hears the lines of a text that comes in any pieces. Contracts see what it was handed, the mask of its codes, what is
-/// known of each port, and whether memory was refused: from then on nothing is known.
+/// known of each port, and whether something could not be heard, for want of memory, or since a serial number asked too
+/// often (2^64 - 1 times): from then on nothing is known.
 #[derive(Drop)]
 pub(crate) struct Hearer {
     listener: Listener,
@@ -91,7 +92,7 @@ impl Hearer {
         })
     }
 
-    /// Gives what is known of the ports, unless memory was refused for it.
+    /// Gives what is known of the ports, unless something could not be heard.
     pub(crate) fn listener(&self) -> Result<&Listener, AllocError>
         ensures heard { IfOk result (λ listener. AreHeard self.now.mask self.now.taken listener.now.ports) }
         ensures refused { OnErr result (self.now.refused ≡ true) }

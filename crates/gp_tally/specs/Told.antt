@@ -84,13 +84,14 @@ kind_named name =
     else if bytes_eq name (codes "DG") then Some Dg
     else None
 
--- the kind that a line tells: the word behind its first part `alarm`
+-- the kind of alarm that a line tells: the word behind the first part that is `alarm`; this is not counted
 abbrev pub kind_told : List (List ℕ) → Option AlarmKind
 kind_told [] = None
 kind_told (word ∷ []) = None
 kind_told (word ∷ name ∷ parts) =
     if bytes_eq word (codes "alarm") then kind_named name else kind_told (name ∷ parts)
 
+-- an alarm, where there are both a kind and a serial number
 abbrev pub alarm_with : Option AlarmKind → Option Serial → Option Alarm
 alarm_with (Some kind) (Some serial) = Some (record { kind = kind; serial = serial })
 alarm_with _ _ = None

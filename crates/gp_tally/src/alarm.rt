@@ -1,4 +1,5 @@
-//! The alarm at the end of the text of an answer, and the kind of that in a line.
+//! The alarm at the end of the text of an answer, which is counted; and the kind of alarm that a line tells, which is
+//! drawn and dumped.
 ghost use Rattle.std.specs.Prelude.{◌≡◌, position};
 ghost use Rattle.std.specs.Char.{is_ascii_uppercase};
 ghost use Rattle.std.specs.Result.{result_ok};
@@ -24,7 +25,8 @@ fn kind_named(name: &[u8]) -> Option<AlarmKind>
     }
 }
 
-/// Gives the kind of the alarm that a line of a trace tells: the word behind its first part `alarm`. Takes no memory.
+/// Gives the kind of alarm that a line of a trace tells: the word behind the first part that is `alarm`. No serial
+/// number is looked for behind it. Takes no memory.
 pub fn kind_told(text: &[u8]) -> Option<AlarmKind>
     ensures { result ≡ spec.kind_told (parts_of text.now) }
 {

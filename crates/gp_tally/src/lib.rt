@@ -5,7 +5,7 @@
 //! `Counting::passed_on`).
 //!
 //! - `told.rt`: `Told`, what a line tells that is counted; `answered.rt`: what the text of an answer says; `alarm.rt`:
-//!   the alarm at its end, and the kind of that in a line; `reading.rt`: a line, read.
+//!   the alarm at its end, and the kind of alarm of a line, for pictures and dumps; `reading.rt`: a line, read.
 //! - `counts.rt`: `PortCounts` and `UnitCounts`, what is counted of a port and of a unit, and `UnitEvent`, what happens
 //!   to a unit. `units.rt`: the map from serial numbers to these counts.
 //! - `port_tally.rt`: `PortTally`, a port with its units; `hearing.rt`: what a burst changes of the units.
