@@ -23,8 +23,8 @@ pub record AreHeard (mask : Mask) (text : List ℕ) (ports : List PortState) : T
   pub last : List ℕ
   pub hears : HearsText mask text last ports
 
--- a hearer: all octets that it was handed, the mask of its codes, what is known of each port, and whether memory was
--- refused
+-- a hearer: all octets that it was handed, the mask of its codes, what is known of each port, and whether something
+-- could not be heard
 pub record HearerState : Type 0 where
   pub taken : List ℕ
   pub mask : Mask
@@ -41,7 +41,7 @@ pub record HearingState (W : Type 0) : Type 0 where
 abbrev pub hearer_begun : Mask → HearerState
 hearer_begun mask = record { taken = []; mask = mask; ports = none_heard; refused = false }
 
--- until memory is refused it hears what it was handed, and keeps the line that isn't ended yet
+-- until something can't be heard it hears what it was handed, and keeps the line that isn't ended yet
 abbrev pub IsHearing : Bool → Mask → List ℕ → List ℕ → List PortState → Type 0
 IsHearing true mask taken last ports = ⊤
 IsHearing false mask taken last ports = HearsText mask taken last ports
