@@ -62,16 +62,14 @@ impl Picture {
             }
             LogLine::Trace {
                 port,
-                is_frame,
                 first,
                 second,
+                ..
             } => {
                 let number = usize::from(*port);
                 let place = line.at(times.of(*port).frame());
                 match self.ports.get_mut(number) {
-                    Some(port) => port.hear_trace(
-                        options, room, number, &place, *is_frame, first, second,
-                    ),
+                    Some(port) => { port.hear_trace(options, room, number, &place, first, second) }
                     None => Ok(()),
                 }
             }

@@ -275,18 +275,13 @@ impl Port {
         self.hear(options, room, number, place, said)
     }
 
-    /// Marks the alarm that the line of a frame tells, if it tells one.
-    fn mark_alarm(
-        &mut self,
-        room: &mut Room,
-        place: &Place<'_>,
-        is_frame: bool,
-    ) -> Result<(), AllocError> {
+    /// Marks the alarm that a line of a trace tells, a frame's or a burst's, if it tells one.
+    fn mark_alarm(&mut self, room: &mut Room, place: &Place<'_>) -> Result<(), AllocError> {
         match kind_told(place.text) {
-            Some(kind) if is_frame => self
+            Some(kind) => self
                 .alarms
                 .keep(room, mark_at(MarkKind::Alarm(kind), place)),
-            _ => Ok(()),
+            None => Ok(()),
         }
     }
 
@@ -298,7 +293,6 @@ impl Port {
         room: &mut Room,
         number: usize,
         place: &Place<'_>,
-        is_frame: bool,
         first: &Option<Said>,
         second: &Option<Said>,
     ) -> Result<(), PictureFault> {
@@ -308,7 +302,7 @@ impl Port {
         }
         self.hear_maybe(options, room, number, place, first)?;
         self.hear_maybe(options, room, number, place, second)?;
-        self.mark_alarm(room, place, is_frame)?;
+        self.mark_alarm(room, place)?;
         Ok(())
     }
 

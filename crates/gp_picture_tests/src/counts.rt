@@ -3,7 +3,7 @@ use crate::drawn::{ALL, count_of, drawn};
 use gp_explain::ExplainFault;
 use std::alloc::{AllocError, Global};
 
-/// The trace of a unit that is lost with LOS, and found again.
+/// The trace of a unit that is lost with LOS, found again, and gasps with a burst.
 const TRACE: &'static str = "\
 0 0 search = searching\n\
 0 1 frame = ok\n\
@@ -65,6 +65,7 @@ const TRACE: &'static str = "\
 0 57 frame = ok sent 010a100001000000000000001a\n\
 0 58 frame = ok sent 010a100001000000000000001a\n\
 0 59 frame = ok\n\
+0 60 burst 100000 0103000000000000000000007c = gasp 1 alarm DG ABCD00000001\n\
 ";
 
 /// A log in which two units have one ONU-ID.

@@ -341,15 +341,20 @@ impl Port {
         Ok(())
     }
 
-    /// Tells that a frame begins, and its alarm, if its line tells one.
-    fn tell_frame(
+    /// Tells that a frame begins.
+    fn tell_frame(&mut self, held: &mut Held, scope: &Scope) -> Result<(), AllocError> {
+        self.level = !self.level;
+        scope.tell(held, self.time, PortChange::Frame(self.level))
+    }
+
+    /// Tells the alarm that a line of a trace tells, a frame's or a burst's, if it tells one: it stands to the end of
+    /// that frame, or until another one comes.
+    fn tell_alarm(
         &mut self,
         held: &mut Held,
         scope: &Scope,
         text: &[u8],
     ) -> Result<(), AllocError> {
-        self.level = !self.level;
-        scope.tell(held, self.time, PortChange::Frame(self.level))?;
         match kind_told(text) {
             Some(kind) => {
                 self.pulses.begin(Pulse::Alarm, self.time);
@@ -376,8 +381,9 @@ impl Port {
             return Ok(());
         }
         if is_frame {
-            self.tell_frame(held, scope, text)?;
+            self.tell_frame(held, scope)?;
         }
+        self.tell_alarm(held, scope, text)?;
         self.hear_maybe(held, scope, first)?;
         self.hear_maybe(held, scope, second)
     }
