@@ -299,11 +299,11 @@ Examples:
 
 Without --up and --both codes are the line terminal's. Of a wrong check octet a line
 says which is right: echo HEX | oltctl decode.
-In lines, and where more than one code is given, empty ones and those that begin with #
-are passed over, and 0x, colons, hyphens and spaces in a code. Other ID OCTET1 HEX is a
-message that has no name here: the number of its kind, its first octet, and the ten behind
-both. With --names the name that G.984.3 has for it stands in the place of Other ID, if it
-has one; with --format json it always does.
+Of lines, empty ones and those that begin with # are passed over; in lines, and where
+more than one code is given, 0x, colons, hyphens and spaces in a code are, too. Other ID
+OCTET1 HEX is a message that has no name here: the number of its kind, its first octet,
+and the ten behind both. With --names the name that G.984.3 has for it stands in the place
+of Other ID, if it has one; with --format json it always does.
 
 Exit status, that of the first fault:
   0  all codes were told
