@@ -18,7 +18,7 @@ use Rattle.gp_audit.proofs.NameLemmas.{named, unnamed}
 -- ---- places
 
 -- a place tells whose it is
-of_place : (r : Rule) → get_or all_rules (rule_place r) rule.Garbled ≡ r
+pub of_place : (r : Rule) → get_or all_rules (rule_place r) rule.Garbled ≡ r
 of_place rule.Garbled = refl
 of_place rule.Copies = refl
 of_place rule.Range = refl
@@ -42,7 +42,7 @@ of_place rule.Drift = refl
 same_place : (r other : Rule) → rule_place r ≡ rule_place other → r ≡ other
 same_place r other same = sym (of_place r) ∙ ap (λ (n : ℕ). get_or all_rules n rule.Garbled) same ∙ of_place other
 
-below : (r : Rule) → rule_place r < 19
+pub below : (r : Rule) → rule_place r < 19
 below rule.Garbled = omega arith
 below rule.Copies = omega arith
 below rule.Range = omega arith

@@ -9,4 +9,5 @@ pub mod OutcomeLemmas
 pub mod TextLemmas
 pub mod NameLemmas
 pub mod ChosenLemmas
+pub mod JudgedLemmas
 pub mod DelayLemmas

@@ -1,6 +1,6 @@
 -- What is said to the lines of a log, one after another (this profile's own rule).
 use Rattle.std.specs.Prelude.{◌≡◌, ℕ, ◌+◌, Bool, false, List, [], ◌++◌, replicate, Option, None, Some, Result, Err}
-use Rattle.std.specs.List.{list_all}
+use Rattle.std.specs.List.{fold, list_all}
 use Rattle.gp_flow.specs.Lines.{Speech, WholeLines}
 use Rattle.gp_log.specs.declared.fault.LogFault.{LogFault}
 use Rattle.gp_log.specs.declared.fault.LogFault.TheVariants as faults
@@ -9,6 +9,8 @@ use Rattle.gp_log.specs.Line.{Reads, text_of}
 use Rattle.gp_finding.specs.declared.error.AuditSum.{AuditSum}
 use Rattle.gp_audit.specs.declared.options.AuditOptions.{AuditOptions}
 use Rattle.gp_audit.specs.Again.{TellsAgain}
+use Rattle.gp_audit.specs.declared.judged.Judged.{Judged}
+use Rattle.gp_audit.specs.Judging.{both, nothing_judged}
 use Rattle.gp_audit.specs.Hearing.{ports_after, told_of}
 use Rattle.gp_audit.specs.Notice.{Notice, notices_text, sum_behind, sum_with}
 use Rattle.gp_audit.specs.Port.{PortState, port_begun}
@@ -36,6 +38,10 @@ audit_begun options =
 -- nothing was heard on any port
 abbrev pub is_silent : AuditState → Bool
 is_silent state = list_all port.is_silent state.ports
+
+-- what was judged on all ports
+abbrev pub judged_on : List PortState → Judged
+judged_on ports = fold (λ sum (at : PortState). both sum at.judged) nothing_judged ports
 
 -- ---- a line that was read
 

@@ -15,6 +15,7 @@ use Rattle.gp_finding.specs.Hearing.{heard_in}
 use Rattle.gp_audit.specs.declared.options.AuditOptions.{AuditOptions}
 use Rattle.gp_audit.specs.Notice.{Notice, Finding, Fault, settings_at}
 use Rattle.gp_census.specs.Census.{Census, noted}
+use Rattle.gp_audit.specs.Judging.{judged_after}
 use Rattle.gp_audit.specs.Port.{PortState, one_more, port_begun, time_after}
 use Rattle.gp_audit.specs.RuleSet.{is_told}
 
@@ -64,6 +65,7 @@ port_noted options port heard =
     record port {
       watch = watch_after port.watch heard;
       heard = one_more port.heard;
+      judged = judged_after options.told port.watch heard port.judged;
       census = census_after options.units port heard;
     }
 
@@ -74,6 +76,7 @@ port_after options port heard =
       watch = watch_after port.watch heard;
       full = port.full || overfills port.watch heard;
       heard = one_more port.heard;
+      judged = judged_after options.told port.watch heard port.judged;
       census = census_after options.units port heard;
     }
 

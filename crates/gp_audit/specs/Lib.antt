@@ -4,6 +4,7 @@ pub mod Chosen
 pub mod Naming
 pub mod Delays
 pub mod Faults
+pub mod Judging
 pub mod Port
 pub mod Notice
 pub mod Hearing

@@ -2,6 +2,8 @@
 use Rattle.std.specs.Prelude.{ℕ, ◌+◌, ◌-◌, ◌==◌, ◌^◌, Bool, true, false, min}
 use Rattle.gp_observer.specs.Watch.{Watch, watch_begun}
 use Rattle.gp_census.specs.Census.{Census, census_begun}
+use Rattle.gp_audit.specs.declared.judged.Judged.{Judged}
+use Rattle.gp_audit.specs.Judging.{nothing_judged}
 
 pub record PortState : Type 0 where
   -- what the messages on its fibre told
@@ -12,12 +14,22 @@ pub record PortState : Type 0 where
   pub full : Bool
   -- how many messages, garbled codes and grants were heard, as far as 64 bits go
   pub heard : ℕ
+  -- what was judged of what was heard
+  pub judged : Judged
   -- what was counted of its units
   pub census : Census
 
 -- before anything was heard
 abbrev pub port_begun : Bool → PortState
-port_begun midway = record { watch = watch_begun midway; time = 0; full = false; heard = 0; census = census_begun }
+port_begun midway =
+    record {
+      watch = watch_begun midway;
+      time = 0;
+      full = false;
+      heard = 0;
+      judged = nothing_judged;
+      census = census_begun;
+    }
 
 -- nothing was heard
 abbrev pub is_silent : PortState → Bool

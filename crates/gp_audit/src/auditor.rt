@@ -1,11 +1,12 @@
 //! `Auditor`, which is given the lines of a log one after another, and tells of each what it breaks and at the end what
 //! was counted.
 ghost use Rattle.std.specs.Prelude.{◌≡◌, IfOk};
-ghost use Rattle.gp_audit.specs.Audit.{audit_begun, is_silent};
+ghost use Rattle.gp_audit.specs.Audit.{audit_begun, is_silent, judged_on};
 ghost use Rattle.gp_audit.specs.Outcome.{TellsEnd};
 
 use crate::again::Again;
 use crate::book::Book;
+use crate::judged::Judged;
 use crate::options::AuditOptions;
 use crate::ports::Ports;
 use gp_finding::{AuditSum, push_sum};
@@ -77,6 +78,14 @@ impl Auditor {
         ensures { result ≡ is_silent self.now }
     {
         self.ports.are_silent()
+    }
+
+    /// Whether something was heard of which a rule that is told is judged, on any port, and how many garbled codes were
+    /// passed over.
+    pub fn judged(&self) -> Judged
+        ensures { result ≡ judged_on self.now.ports }
+    {
+        self.ports.judged()
     }
 
     /// Writes what was counted of the units, where that is wanted, and the sum.

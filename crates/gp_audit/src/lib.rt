@@ -8,6 +8,7 @@
 //! - `rule_names.rt`: `rules_told`, which rules are told, by lists of their names; `delays.rt`: `equalized_delays`, the
 //!   equalized delays of the ports.
 //! - `port.rt`: what is known of one port, and what is told of something that is heard there; `ports.rt`: the ports.
+//! - `judged.rt`: `Judged`, whether anything was judged, and the law that else nothing is told.
 //! - `book.rt`: what is said of the line at hand, and the counts. `again.rt`: a line told again, in words.
 //! - `auditor.rt`: `Auditor`, which is given lines one after another; `serving.rt`: as what serves lines.
 //!   `fault.rt`: why nothing is said of a line.
@@ -17,7 +18,7 @@
 //! Where to make which change: which rules there are stands in `gp_observer`, how they are told in `gp_finding`, how a
 //! line is read in `gp_log`. Which rules lists of names tell stands in `specs/Chosen.antt`, which delays texts give in
 //! `specs/Delays.antt`. What is told of something heard stands in `specs/Hearing.antt`, which of it is told in
-//! `specs/RuleSet.antt`, what is said to a line in `specs/Audit.antt`, how it is told again in `specs/Again.antt`,
+//! `specs/RuleSet.antt`, what is judged in `specs/Judging.antt`, what is said to a line in `specs/Audit.antt`, how it is told again in `specs/Again.antt`,
 //! what is told at the end in `specs/Ending.antt`, what a listener hears in `specs/Listening.antt`, why it may
 //! fail in `specs/Failing.antt`, and how an audit may end in `specs/Outcome.antt`. What is counted of units stands in `gp_census`.
 #![tactic(auto)]
@@ -27,6 +28,7 @@ mod auditor;
 mod book;
 mod delays;
 mod fault;
+mod judged;
 mod listener;
 mod options;
 mod port;
@@ -39,6 +41,7 @@ mod serving;
 pub use auditor::Auditor;
 pub use delays::equalized_delays;
 pub use gp_lines::PORTS;
+pub use judged::{Judged, unjudged_tell_nothing};
 pub use listener::Listener;
 pub use options::{AuditForm, AuditOptions, FindingChoice};
 pub use rule_names::rules_told;

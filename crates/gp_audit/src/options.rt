@@ -37,7 +37,7 @@ pub struct FindingChoice {
 
 impl FindingChoice {
     /// Tells whether findings of its side are told.
-    fn tells_side(&self, heard: &Heard) -> bool
+    pub(crate) fn tells_side(&self, heard: &Heard) -> bool
         ensures { result ≡ is_side_told self.now (heard_of heard.now) }
     {
         match heard {

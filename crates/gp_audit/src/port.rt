@@ -11,6 +11,7 @@ ghost use Rattle.gp_audit.specs.Failing.{IsNewUnit, HeardFails, LogFails, MaybeF
 
 use crate::book::Book;
 use crate::fault::AuditFault;
+use crate::judged::Judged;
 use crate::options::AuditOptions;
 use gp_census::{Census, push_census};
 use gp_finding::{LineError, Place, heard_in};
@@ -25,13 +26,14 @@ use std::marker::Model;
 const FRAME_TIME: u64 = 125_000;
 
 /// What is known of one port. Contracts see what its messages told, its time in nanoseconds, whether it was told that a
-/// serial number can't be followed, how much was heard, and what was counted of its units.
+/// serial number can't be followed, how much was heard and what was judged of it, and what was counted of its units.
 #[derive(Drop)]
 pub(crate) struct Port {
     watch: PortWatch,
     time: u64,
     full: bool,
     heard: u64,
+    judged: Judged,
     census: Census,
 }
 
@@ -45,7 +47,7 @@ impl Model for Port {
 
     ghost coded = { Prim.hlevel (codes, watch_code, census_code) };
 
-    ghost view = { λ p. record { watch = p.watch; time = p.time; full = p.full; heard = p.heard; census = p.census } };
+    ghost view = { λ p. record { watch = p.watch; time = p.time; full = p.full; heard = p.heard; judged = p.judged; census = p.census } };
 }
 
 /// Gives the serial number that a message down has followed, if it has one.
@@ -91,6 +93,7 @@ impl Port {
             time: 0,
             full: false,
             heard: 0,
+            judged: Judged::none(),
             census: Census::begin(alloc),
         })
     }
@@ -208,6 +211,7 @@ impl Port {
         ensures fault { IfErr result (HeardFails options.now self.old (heard_of heard.now)) }
     {
         self.count(options, heard)?;
+        self.judged.note(&options.told, &self.watch, heard);
         self.watch.hear(heard)?;
         self.heard = self.heard.saturating_add(1);
         Ok(())
@@ -395,6 +399,13 @@ impl Port {
         ensures { result.now ≡ self.now.watch }
     {
         &self.watch
+    }
+
+    /// Gives what was judged of what was heard.
+    pub(crate) fn judged(&self) -> Judged
+        ensures { result ≡ self.now.judged }
+    {
+        self.judged
     }
 
     /// Gives what was counted of its units.

@@ -1,7 +1,7 @@
 //! What is known of each of sixteen ports, and a line heard on its own: judged, or noted alone.
 ghost use Rattle.std.specs.Prelude.{◌≡◌, ◌<◌, ◌++◌, IfErr, IfOk, OnOk, replicate, length, slice_set};
 ghost use Rattle.gp_audit.specs.Book.{TellsNotices};
-ghost use Rattle.gp_audit.specs.Audit.{most_ports};
+ghost use Rattle.gp_audit.specs.Audit.{judged_on, most_ports};
 ghost use Rattle.gp_audit.specs.Ending.{first_units};
 ghost use Rattle.gp_audit.specs.Hearing.{log_told, port_at, port_logged, port_ticked, port_traced, ports_after, told_of, trace_told};
 ghost use Rattle.gp_audit.specs.Port.{is_silent, port_begun};
@@ -12,6 +12,7 @@ ghost use Rattle.gp_audit.specs.Failing.{LineFails, LogFails, TraceFails};
 
 use crate::book::Book;
 use crate::fault::AuditFault;
+use crate::judged::Judged;
 use crate::options::AuditOptions;
 use crate::port::Port;
 use gp_census::Census;
@@ -70,6 +71,15 @@ impl Ports {
         ensures { result ≡ list_all is_silent self.now }
     {
         self.ports.iter().all(|port| port.is_silent())
+    }
+
+    /// Gives what was judged on all of them.
+    pub(crate) fn judged(&self) -> Judged
+        ensures { result ≡ judged_on self.now }
+    {
+        self.ports
+            .iter()
+            .fold(Judged::none(), |sum, port| sum.with(port.judged()))
     }
 
     /// Tells what was counted of the units of each port on which something was heard.

@@ -12,6 +12,7 @@ pub mod Answering
 pub mod Causing
 pub mod CausingFrames
 pub mod Judging
+pub mod Judged
 pub mod Low
 pub mod Copies
 pub mod Watching

@@ -3,6 +3,7 @@ pub mod Watch
 pub mod Rules
 pub mod UnitRules
 pub mod Heard
+pub mod Judged
 pub mod Knows
 pub mod Sent
 pub mod Fibre

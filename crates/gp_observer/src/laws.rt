@@ -1,5 +1,6 @@
 //! What is true of each run of the machine, to an observer of its messages.
 ghost use Rattle.gp_observer.specs.Fibre.{EveryRunIsHeard, SentCodesAreHeard, TerminalBreaksNoRule, TerminalBreaksNoRuleMidway};
+ghost use Rattle.gp_observer.specs.Judged.{BrokenAreJudged};
 ghost use Rattle.gp_observer.specs.Knows.{ObserversKnowUnits};
 ghost use Rattle.gp_observer.specs.Sent.{MessagesNameAdmitted, SentTellUnits, UnitsTellAll};
 ghost use Rattle.gp_observer.specs.Watch.{SameMessagesAreEqual};
@@ -48,4 +49,9 @@ pub fn terminal_breaks_no_rule()
 /// States that the codes that a run sends are heard as its messages: none is garbled.
 pub fn sent_codes_are_heard()
     ensures { SentCodesAreHeard }
+{}
+
+/// States that a rule that is broken was judged (`specs/Judged.antt`): where none was judged, none is broken.
+pub fn broken_are_judged()
+    ensures { BrokenAreJudged }
 {}

@@ -104,12 +104,19 @@ impl UnitAnswers {
         }
     }
 
+    /// Tells whether there was an answer, and all their delays are known.
+    pub(crate) fn are_known(&self) -> bool
+        ensures { result ≡ some_passes (λ answers. answers.all) self.now }
+    {
+        !self.is_none() && self.all
+    }
+
     /// Tells whether there was an answer, all their delays are known, and none of them is what this equalization delay
     /// leaves of the equalized delay.
     pub(crate) fn leave_none(&self, settings: &Settings, eqd: u32) -> bool
         ensures { result ≡ some_passes (leaves_no_answer (settings_of settings.now) eqd) self.now }
     {
-        if self.is_none() || !self.all {
+        if !self.are_known() {
             return false;
         }
         eqd > settings.teqd || !self.had(settings.teqd - eqd)

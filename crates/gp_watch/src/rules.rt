@@ -25,7 +25,7 @@ fn unit_if(onu: u8) -> Option<u8>
 }
 
 /// Gives the ONU-ID of the unit that a message is to, if it is to one.
-fn unit_told(message: &Down) -> Option<u8>
+pub(crate) fn unit_told(message: &Down) -> Option<u8>
     ensures { result ≡ rules.unit_told message.now }
 {
     match *message {

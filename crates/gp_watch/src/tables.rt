@@ -123,6 +123,13 @@ impl Tables {
         self.answers.as_slice()[usize::from(onu)].is_none()
     }
 
+    /// Tells whether there was an answer with an ONU-ID, and all their delays are known.
+    pub(crate) fn knows_delays(&self, onu: u8) -> bool
+        ensures { result ≡ some_passes (λ answers. answers.all) (map.get self.now.answers onu) }
+    {
+        self.answers.as_slice()[usize::from(onu)].are_known()
+    }
+
     /// Tells whether there was an answer with an ONU-ID, all their delays are known, and none of them is what this
     /// equalization delay leaves of the equalized delay.
     pub(crate) fn answers_leave_none(&self, settings: &Settings, onu: u8, eqd: u32) -> bool

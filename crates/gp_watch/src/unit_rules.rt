@@ -13,7 +13,7 @@ use gp_observer::Rule;
 use gp_ploam::{BROADCAST_ONU, Up};
 
 /// The identifier of Assign_Alloc-ID.
-const ASSIGN_ALLOC_ID: u8 = 10;
+pub(crate) const ASSIGN_ALLOC_ID: u8 = 10;
 
 /// Tells whether a delay with its equalization delay isn't near the equalized delay.
 fn drifts(settings: &Settings, delay: u32, eqd: u32) -> bool
@@ -57,7 +57,7 @@ impl PortWatch {
     }
 
     /// Tells whether a unit speaks with an ONU-ID that nobody holds, or gives its serial number with another's.
-    fn breaks_number(&self, message: &Up) -> bool
+    pub(crate) fn breaks_number(&self, message: &Up) -> bool
         ensures { result ≡ rules.breaks_number self.now message.now }
     {
         let onu = message.octet1();

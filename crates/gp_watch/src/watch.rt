@@ -5,6 +5,7 @@ ghost use Rattle.std.specs.FinSet as finset;
 ghost use Rattle.gp_ploam.specs.OnuIds.{last_onu, onu_ids};
 ghost use Rattle.gp_ploam.specs.Serials.{serial_cmp};
 ghost use Rattle.gp_pools.specs.Limits.{last_alloc_id};
+ghost use Rattle.gp_observer.specs.Judged.{knows_delays};
 ghost use Rattle.gp_observer.specs.Observer.{some_passes, is_of, with_alloc};
 ghost use Rattle.gp_observer.specs.Watch.{watch_begun, numbers_below, asks_left, asks_put, asks_with, can_follow, answers_of, with_answer};
 ghost use Rattle.gp_observer.specs.Rules.{leaves_no_answer};
@@ -175,6 +176,13 @@ impl PortWatch {
         ensures { result ≡ is_none (map.get self.now.answers onu) }
     {
         self.tables.is_unanswered(onu)
+    }
+
+    /// Tells whether a unit gave its serial number with this ONU-ID, and the delays of all its answers are known.
+    pub fn knows_delays(&self, onu: u8) -> bool
+        ensures { result ≡ knows_delays self.now onu }
+    {
+        self.tables.knows_delays(onu)
     }
 
     /// Tells whether a unit gave its serial number with this ONU-ID, the delays of all its answers are known, and none
