@@ -12,9 +12,19 @@ use Rattle.gp_audit.specs.declared.judged.Judged.{Judged}
 use Rattle.gp_audit.specs.declared.options.FindingChoice.{FindingChoice}
 use Rattle.gp_audit.specs.RuleSet.{contains, is_side_told, is_told}
 
+-- one of these rules, which is told, is judged of it
+abbrev pub is_judged_by : List Rule → FindingChoice → Watch → Heard → Bool
+is_judged_by these told watch heard = list_any (λ rule. is_told told heard rule && judges watch heard rule) these
+
 -- a rule that is told is judged of it
 abbrev pub is_judged : FindingChoice → Watch → Heard → Bool
-is_judged told watch heard = list_any (λ rule. is_told told heard rule && judges watch heard rule) rules
+is_judged told watch heard = is_judged_by rules told watch heard
+
+-- those that are judged by who holds an ONU-ID
+abbrev pub holder_rules : List Rule
+holder_rules =
+    rule.Unasked ∷ rule.Taken ∷ rule.Nobody ∷ rule.Unranged ∷ rule.Delay ∷ rule.Early ∷ rule.NotHeld ∷ rule.Grant
+    ∷ rule.Number ∷ rule.Acknowledge ∷ rule.Drift ∷ []
 
 -- its check octet is wrong
 abbrev pub is_garbled : Heard → Bool
@@ -32,7 +42,7 @@ together one other = min (one + other) (2 ^ 64 - 1)
 
 -- before anything was heard
 abbrev pub nothing_judged : Judged
-nothing_judged = record { terminal = false; units = false; passed_over = 0 }
+nothing_judged = record { terminal = false; units = false; holders = false; passed_over = 0 }
 
 -- behind something that is heard, by what is known before it
 abbrev pub judged_after : FindingChoice → Watch → Heard → Judged → Judged
@@ -40,8 +50,8 @@ judged_after told watch heard judged =
     record {
       terminal = judged.terminal || (is_terminals heard && is_judged told watch heard);
       units = judged.units || (not (is_terminals heard) && is_judged told watch heard);
-      passed_over =
-          if is_passed_over told heard then together judged.passed_over 1 else judged.passed_over;
+      holders = judged.holders || is_judged_by holder_rules told watch heard;
+      passed_over = if is_passed_over told heard then together judged.passed_over 1 else judged.passed_over;
     }
 
 -- of two ports
@@ -50,6 +60,7 @@ both one other =
     record {
       terminal = one.terminal || other.terminal;
       units = one.units || other.units;
+      holders = one.holders || other.holders;
       passed_over = together one.passed_over other.passed_over;
     }
 

@@ -10,8 +10,11 @@
 //! - `transcribe.rt`: traces that are written as logs.
 //! - `many.rt`: more serial numbers than are followed, more delays than are kept, a line that is too long, what is told
 //!   alone.
+//! - `judged.rt`: what of a log is judged.
 #![tactic(auto)]
 
+#[cfg(test)]
+mod judged;
 #[cfg(test)]
 mod lines;
 #[cfg(test)]

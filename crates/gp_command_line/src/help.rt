@@ -240,9 +240,9 @@ Examples:
   oltctl audit --side terminal --format json lab.log
 
 Exit status:
-  0  no rule that is told is broken
-  1  a line is answered by an error, nothing was heard, or the log was not read; this
-     comes before 7
+  0  no rule that is told is broken; what was not judged is said on standard error
+  1  a line is answered by an error, nothing was heard, or nothing that the rules that
+     are told judge, or the log was not read; this comes before 7
   2  the command line is wrong, or leaves no rule to tell
   3  out of memory
   4  the output takes no more

@@ -5,7 +5,7 @@ ghost use Rattle.oltctl.specs.Statuses.{IsAudited, audit_status, audited_status}
 use crate::observed::{Observed, Seen};
 use crate::progress::Counted;
 use crate::reporting::{refuse_option, report};
-use gp_audit::{AuditOptions, Auditor, audit_log};
+use gp_audit::{AuditOptions, Auditor, Judged, RuleSet, audit_log};
 use gp_command_line::Audit;
 use gp_finding::AuditSum;
 use gp_flow::LinesFault;
@@ -23,6 +23,8 @@ pub(crate) struct Audited {
     sum: AuditSum,
     /// Neither a message nor a grant was heard.
     is_silent: bool,
+    /// What was judged of what was heard.
+    judged: Judged,
 }
 
 /// Audits the log that a reader gives. What is found goes to standard output.
@@ -35,8 +37,11 @@ fn audit_from<R: AllocGlobal + Print, T: Read + Drop>(
     let mut sink = Sink::new(rt.alloc(), io::writer(rt))?;
     let mut auditor = Auditor::begin(rt.alloc(), options)?;
     let sum = audit_log(rt.alloc(), &mut source, &mut sink, &mut auditor)?;
-    let is_silent = auditor.is_silent();
-    Ok(Audited { sum, is_silent })
+    Ok(Audited {
+        sum,
+        is_silent: auditor.is_silent(),
+        judged: auditor.judged(),
+    })
 }
 
 /// Audits the log of a file, or of standard input.
@@ -66,8 +71,50 @@ fn audit_file<R: AllocGlobal + Files + Print + Eprint + Input + Clock>(
     }
 }
 
-/// Says that a log had lines that were none, or nothing that was heard, and answers the exit status.
-fn end_audited<R: Eprint>(rt: &R, audited: &Audited) -> u8
+/// Says why nothing of what was heard was judged, and answers the exit status.
+fn report_unjudged<R: Eprint>(rt: &R, judged: &Judged) -> u8
+    ensures { result ≡ BAD_INPUT }
+{
+    let _ = match judged.passed_over {
+        0 => eprintln!(rt; "oltctl: nothing was heard that these rules judge"),
+        codes => eprintln!(rt;
+            "oltctl: nothing was judged; codes garbled under this mask: {codes}"
+        ),
+    };
+    BAD_INPUT
+}
+
+/// Says what of a log was not judged, though something was: garbled codes where they are not told, a side that said
+/// nothing, and who holds an ONU-ID where none was assigned.
+fn tell_unjudged<R: Eprint>(rt: &R, options: &AuditOptions, judged: &Judged) {
+    let Judged {
+        terminal,
+        units,
+        holders,
+        passed_over,
+    } = *judged;
+    if passed_over != 0 {
+        let _ = eprintln!(rt;
+            "oltctl: codes garbled under this mask, of which nothing was judged: {passed_over}"
+        );
+    }
+    if options.told.rules == RuleSet::all() {
+        if options.told.terminal && !terminal {
+            let _ = eprintln!(rt; "oltctl: nothing of the terminal was judged");
+        }
+        if options.told.units && !units {
+            let _ = eprintln!(rt; "oltctl: nothing of the units was judged");
+        }
+    }
+    if options.midway && !holders && options.told.tells_of_holders() {
+        let _ = eprintln!(rt;
+            "oltctl: with --midway it was of no ONU-ID known who holds it, so nothing was judged by that"
+        );
+    }
+}
+
+/// Says that a log had lines that were none, or nothing that was heard or judged, and answers the exit status.
+fn end_audited<R: Eprint>(rt: &R, options: &AuditOptions, audited: &Audited) -> u8
     ensures { result ≡ audited_status audited.now }
 {
     if audited.sum.errors != 0 {
@@ -78,6 +125,10 @@ fn end_audited<R: Eprint>(rt: &R, audited: &Audited) -> u8
     if audited.is_silent {
         return report(rt, ("oltctl: nothing was heard", BAD_INPUT));
     }
+    if !audited.judged.terminal && !audited.judged.units {
+        return report_unjudged(rt, &audited.judged);
+    }
+    tell_unjudged(rt, options, &audited.judged);
     if audited.sum.findings == 0 {
         SUCCESS
     } else {
@@ -88,13 +139,14 @@ fn end_audited<R: Eprint>(rt: &R, audited: &Audited) -> u8
 /// Says how an audit ended, and answers the exit status.
 fn end_audit<R: AllocGlobal + Eprint>(
     rt: &R,
+    options: &AuditOptions,
     outcome: &Result<Audited, LinesFault>,
     seen: &Seen<'_>,
 ) -> u8
     ensures { result ≡ audit_status outcome.now }
 {
     match outcome {
-        Ok(audited) => end_audited(rt, audited),
+        Ok(audited) => end_audited(rt, options, audited),
         Err(LinesFault::Read) => seen.tell_unread(rt),
         Err(fault) => report(rt, input_report(fault)),
     }
@@ -112,7 +164,7 @@ pub(crate) fn audit<R: AllocGlobal + Files + Print + Eprint + Input + Clock>(
         Ok(options) => {
             let mut seen = Seen::new(wanted.log);
             let outcome = audit_file(rt, &options, wanted, &mut seen);
-            end_audit(rt, &outcome, &seen)
+            end_audit(rt, &options, &outcome, &seen)
         }
     }
 }
