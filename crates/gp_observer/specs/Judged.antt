@@ -78,7 +78,7 @@ judges_not_held watch _ = false
 
 -- the rule is judged of a message that is told
 abbrev pub message_judges : Watch → Down → Rule → Bool
-message_judges watch message rule.Copies = true
+message_judges watch _ rule.Copies = true
 message_judges watch message rule.Range = gives_number message
 message_judges watch message rule.Barred = is_assignment message
 message_judges watch message rule.Unasked = judges_unasked watch message
@@ -90,7 +90,7 @@ message_judges watch message rule.Delay = judges_delay watch message
 message_judges watch message rule.Early = judges_early watch message
 message_judges watch message rule.Shared = gives_alloc message
 message_judges watch message rule.NotHeld = judges_not_held watch message
-message_judges watch message _ = false
+message_judges watch _ _ = false
 
 -- ---- those of a message up
 
@@ -117,13 +117,13 @@ judges_drift watch message (Some delay) =
 
 -- the rule is judged of a message up
 abbrev pub answer_judges : Watch → Up → Option ℕ → Rule → Bool
-answer_judges watch message delay rule.Garbled = true
+answer_judges watch _ delay rule.Garbled = true
 answer_judges watch message delay rule.Disabled = asks message
 answer_judges watch message delay rule.Anew = asks message
 answer_judges watch message delay rule.Number = judges_number watch message
 answer_judges watch message delay rule.Acknowledge = judges_acknowledge watch message
 answer_judges watch message delay rule.Drift = judges_drift watch message delay
-answer_judges watch message delay _ = false
+answer_judges watch _ delay _ = false
 
 -- ---- what is heard
 
