@@ -251,8 +251,9 @@ Exit status:
 /// What stands at the end of the help of `picture`.
 pub const PICTURE_HELP: &str = "\
 LOG is a log of messages or a trace, as for audit, but the first line that is neither
-ends it, and nothing is drawn. A chart is drawn for each port, with a lane for each unit;
-findings are marked as audit tells them.
+ends it, and nothing is drawn; put # before the heading of a table, and it is passed over.
+A chart is drawn for each port, with a lane for each unit; findings are marked as audit
+tells them.
 
 Examples:
   oltctl picture lab.log > lab.svg
@@ -270,9 +271,10 @@ Exit status:
 /// What stands at the end of the help of `waves`.
 pub const WAVES_HELP: &str = "\
 LOG is a log of messages or a trace, as for audit, but the first line that is neither
-ends the dump, behind what was before it. A dump is for gtkwave, surfer or a simulator:
-for each port the code sent, the grant, the window, the burst and the alarm, for each unit
-its serial number, state, ONU-ID and delay. Times are in nanoseconds.
+ends the dump, behind what was before it; put # before the heading of a table, and it is
+passed over. A dump is for gtkwave, surfer or a simulator: for each port the code sent,
+the grant, the window, the burst and the alarm, for each unit its serial number, state,
+ONU-ID and delay. Times are in nanoseconds.
 
 Examples:
   oltctl waves lab.log > lab.vcd

@@ -120,6 +120,9 @@ fn end_audited<R: Eprint>(rt: &R, options: &AuditOptions, audited: &Audited) -> 
     if audited.sum.errors != 0 {
         let errors = audited.sum.errors;
         let _ = eprintln!(rt; "oltctl: lines answered by an error: {errors}");
+        let _ = eprintln!(rt;
+            "oltctl: what they say was not heard, so findings behind them may come of that; see oltctl audit --help"
+        );
         return BAD_INPUT;
     }
     if audited.is_silent {
