@@ -8,9 +8,8 @@ use Rattle.gp_explain.specs.declared.fault.NoLine.{NoLine}
 use Rattle.gp_explain.specs.declared.fault.NoLine.TheVariants.{NotALine, TooLong}
 use Rattle.gp_log.specs.Line.{Reads, says_nothing}
 use Rattle.gp_log.specs.declared.line.LogLine.{LogLine}
-use Rattle.gp_times.specs.declared.times.PortTime.{PortTime}
 use Rattle.gp_times.specs.Lines.{AreRead, IsRead, IsUnread, Lead}
-use Rattle.gp_times.specs.Times.{times_after}
+use Rattle.gp_times.specs.Times.{TimesState, times_after}
 use Rattle.gp_picture.specs.Drawing.{DrawState, Drawing, DrawsFrom, DrawsText, ended_by}
 
 -- lines that are handed on whole
@@ -86,7 +85,7 @@ onto None text ls said first rest from next to line reads one heard timed nothin
   silent = both_silent said first rest parts nothing c.silent;
   lines = let many = c.lines in omega (arith, many, one);
   heard = c.heard ∙ ap (λ (b : Bool). b || c.told) heard ∙ or_assoc from.heard (not (says_nothing line)) c.told;
-  lead = (line, reads, subst (λ (t : List PortTime). Lead c.texts t to.times) timed c.lead);
+  lead = (line, reads, subst (λ (t : TimesState). Lead c.texts t to.times) timed c.lead);
 }
 onto (Some why) text ls said first rest from next to line reads one heard timed nothing parts c = record {
   before = text ∷ c.before;

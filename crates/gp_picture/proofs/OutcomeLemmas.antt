@@ -129,19 +129,18 @@ module _ {R W : Type 0} (frames : Frames) (from to : SourceState R) (before mid 
       let told = ends.0 in
       let long : length (lines_of text) ≡ length runs.texts = ap length same in
       let heard : sum.heard ≡ runs.told = ends.1 ∙ runs.heard in
-      let w = ends.3.2 in record {
+      let w = ends.4.2 in
+      let lead = subst (λ (ls : List (List ℕ)). Lead ls times_begun new.times) (sym same) runs.lead in
+      record {
         text = text;
         read = read;
-        outside = record {
-          times = new.times;
-          lead = subst (λ (ls : List (List ℕ)). Lead ls times_begun new.times) (sym same) runs.lead;
-          is = ends.2;
-        };
+        outside = record { times = new.times; lead = lead; is = ends.2 };
+        fallen = record { times = new.times; lead = lead; is = ends.3 };
         all = subst (λ (b : Bool). AreRead (lines_of text) b) (sym heard) (subst (λ (ls : List (List ℕ)). AreRead ls runs.told) (sym same) runs.read);
         count = omega (arith, many, told, long);
-        picture = ends.3.0;
-        svg = ends.3.1;
-        written = Appends-trans before.held mid.held after.held before.gathered ends.3.0 first (takes_whole mid after ends.3.0 w.gives.ok kept.0 w.empty);
+        picture = ends.4.0;
+        svg = ends.4.1;
+        written = Appends-trans before.held mid.held after.held before.gathered ends.4.0 first (takes_whole mid after ends.4.0 w.gives.ok kept.0 w.empty);
         kept = (w.empty, w.gives.flushed kept.1);
       }
   whole new text said (Err (Refused line why)) read runs written kept ends = absurd ends
@@ -263,6 +262,7 @@ unbegun frames from before (Err e) told =
 
 -- behind the last line the picture was written
 pub ends_whole : {W : Type 0} (frames : Frames) (drawn : DrawState) (sum : PictureSum) (before after : SinkState W) → drawn.ended ≡ None → sum.lines ≡ drawn.lines
-    → sum.heard ≡ drawn.heard → sum.outside ≡ outside_of frames drawn.times → WritesPicture before after (Ok (tt {0})) → Ends frames drawn before after (Ok sum)
-ends_whole frames drawn sum before after none many heard outside written =
-    subst (λ (e : Option NoLine). EndsAs frames e drawn before after (Ok sum)) (sym none) (many, heard, outside, written)
+    → sum.heard ≡ drawn.heard → sum.outside ≡ outside_of frames drawn.times → sum.fallen ≡ drawn.times.fallen
+    → WritesPicture before after (Ok (tt {0})) → Ends frames drawn before after (Ok sum)
+ends_whole frames drawn sum before after none many heard outside fallen written =
+    subst (λ (e : Option NoLine). EndsAs frames e drawn before after (Ok sum)) (sym none) (many, heard, outside, fallen, written)

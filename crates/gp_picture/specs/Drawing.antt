@@ -6,17 +6,16 @@ use Rattle.gp_explain.specs.declared.fault.NoLine.{NoLine}
 use Rattle.gp_explain.specs.declared.fault.NoLine.TheVariants.{NotALine, TooLong}
 use Rattle.gp_log.specs.declared.line.LogLine.{LogLine}
 use Rattle.gp_log.specs.Line.{Reads, says_nothing}
-use Rattle.gp_times.specs.declared.times.PortTime.{PortTime}
-use Rattle.gp_times.specs.Times.{times_after, times_begun}
+use Rattle.gp_times.specs.Times.{TimesState, times_after, times_begun}
 use Rattle.gp_times.specs.Lines.{IsUnread}
 
 -- how many lines came, whether one of them says anything, why the last of them ended it, if it did, and the times of
--- the ports
+-- the ports, with how many lines fell
 pub record DrawState : Type 0 where
   pub lines : ℕ
   pub heard : Bool
   pub ended : Option NoLine
-  pub times : List PortTime
+  pub times : TimesState
 
 -- before the first line
 abbrev pub opened : DrawState

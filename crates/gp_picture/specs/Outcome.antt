@@ -14,7 +14,7 @@ use Rattle.gp_explain.specs.declared.fault.NoLine.{NoLine}
 use Rattle.gp_explain.specs.declared.fault.NoLine.TheVariants.{NotALine, TooLong}
 use Rattle.gp_picture.specs.declared.running.PictureSum.{PictureSum}
 use Rattle.gp_times.specs.declared.frames.Frames.{Frames}
-use Rattle.gp_times.specs.Lines.{AreRead, IsRead, IsUnread, IsWhere}
+use Rattle.gp_times.specs.Lines.{AreRead, HaveFallen, IsRead, IsUnread, IsWhere}
 use Rattle.gp_times.specs.Times.{outside_of}
 use Rattle.gp_picture.specs.Drawing.{DrawState}
 
@@ -30,6 +30,7 @@ pub record IsDrawn {R W : Type 0} (frames : Frames) (from to : SourceState R) (b
   pub all : AreRead (lines_of text) sum.heard
   pub count : length (lines_of text) ≡ sum.lines
   pub outside : IsWhere frames (lines_of text) sum.outside
+  pub fallen : HaveFallen (lines_of text) sum.fallen
   -- the writer got all of it, and keeps nothing back
   pub picture : List ℕ
   pub svg : IsSvg picture
@@ -97,7 +98,7 @@ abbrev pub EndsAs : {W : Type 0} → Frames → Option NoLine → DrawState → 
 EndsAs frames (Some why) drawn before after answer = (answer ≡ Err (Refused drawn.lines why)) × (after ≡ before)
 EndsAs frames None drawn before after (Ok sum) =
     (sum.lines ≡ drawn.lines) × (sum.heard ≡ drawn.heard) × (sum.outside ≡ outside_of frames drawn.times)
-    × WritesPicture before after (Ok (tt {0}))
+    × (sum.fallen ≡ drawn.times.fallen) × WritesPicture before after (Ok (tt {0}))
 EndsAs frames None drawn before after (Err fault) = WritesPicture before after (Err fault)
 
 abbrev pub Ends : {W : Type 0} → Frames → DrawState → SinkState W → SinkState W → Result PictureSum ExplainFault → Type 0

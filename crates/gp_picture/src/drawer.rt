@@ -10,7 +10,8 @@ use std::alloc::{AllocError, Global};
 use std::marker::Model;
 
 /// Is given the lines of a trace or a log, one after another. The first line that is none ends it. Contracts see how
-/// many lines came, whether one of them says anything, what ended it, and the times of the ports.
+/// many lines came, whether one of them says anything, what ended it, and the times of the ports, with how many lines
+/// fell.
 #[derive(Drop)]
 pub(crate) struct Drawer {
     pub(crate) picture: Picture,

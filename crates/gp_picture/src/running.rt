@@ -21,6 +21,8 @@ pub struct PictureSum {
     pub lines: u64,
     /// Whether one of them says anything: not all are empty or remarks.
     pub heard: bool,
+    /// How many lines of a log were not heard, since their time is before that of their port.
+    pub fallen: u64,
     /// Where all that was heard is, if all of it is before the first of the frames that are drawn, or all of it behind
     /// the last.
     pub outside: Option<Outside>,
@@ -64,6 +66,7 @@ fn finish<W: Write>(
             Ok(PictureSum {
                 lines: drawer.lines,
                 heard: drawer.heard,
+                fallen: drawer.times.fallen(),
                 outside: drawer.times.outside(&options.frames),
             })
         }

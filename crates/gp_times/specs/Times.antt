@@ -1,5 +1,6 @@
--- The time of each port by the lines that tell of it, in nanoseconds, and where all of them are before the first frame
--- that is wanted, or all of them behind the last (this profile's own rule).
+-- The time of each port by the lines that tell of it, in nanoseconds, how many lines have a time before that of their
+-- port, and where all of them are before the first frame that is wanted, or all of them behind the last (this profile's
+-- own rule).
 use Rattle.std.specs.Prelude.{ℕ, ◌+◌, ◌-◌, ◌*◌, ◌/◌, ◌^◌, Bool, true, false, if◌then◌else◌, nat_lt, min, max, List, Option, None, Some, replicate, slice_index_or, slice_set}
 use Rattle.std.specs.List.{fold}
 use Rattle.gp_log.specs.declared.line.LogLine.{LogLine}
@@ -43,28 +44,44 @@ abbrev pub traced : Bool → PortTime → PortTime
 traced false port = told_at port.time port
 traced true port = told_at (held_time (port.time + frame_time)) port
 
--- of each of sixteen ports
-abbrev pub times_begun : List PortTime
-times_begun = replicate 16 untold
+-- of each of sixteen ports, and how many lines fell: their time was before that of their port
+pub record TimesState : Type 0 where
+  pub ports : List PortTime
+  pub fallen : ℕ
 
-abbrev pub time_of : List PortTime → ℕ → PortTime
-time_of times port = slice_index_or times port untold
+abbrev pub times_begun : TimesState
+times_begun = record { ports = replicate 16 untold; fallen = 0 }
 
-abbrev pub with_time : List PortTime → ℕ → PortTime → List PortTime
-with_time times port time = slice_set times port time
+abbrev pub time_of : TimesState → ℕ → PortTime
+time_of times port = slice_index_or times.ports port untold
+
+abbrev pub ports_with : TimesState → ℕ → PortTime → List PortTime
+ports_with times port time = slice_set times.ports port time
 
 -- behind a line
-abbrev pub times_after : LogLine → List PortTime → List PortTime
-times_after line.Remark times = times
-times_after (line.Log port time said) times = with_time times port (logged time (time_of times port))
-times_after (line.Trace port is_frame first second) times =
-    with_time times port (traced is_frame (time_of times port))
+abbrev pub ports_after : LogLine → TimesState → List PortTime
+ports_after line.Remark times = times.ports
+ports_after (line.Log port time said) times = ports_with times port (logged time (time_of times port))
+ports_after (line.Trace port is_frame first second) times =
+    ports_with times port (traced is_frame (time_of times port))
 
 -- whether the time of a line is before that of its port
-abbrev pub falls : LogLine → List PortTime → Bool
+abbrev pub falls : LogLine → TimesState → Bool
 falls line.Remark times = false
 falls (line.Log port time said) times = nat_lt time (time_of times port).time
 falls (line.Trace port is_frame first second) times = false
+
+-- one line more fell, or didn't; 64 bits hold how many did
+abbrev pub fallen_with : Bool → ℕ → ℕ
+fallen_with false fallen = fallen
+fallen_with true fallen = min (fallen + 1) (2 ^ 64 - 1)
+
+-- how many fell, behind a line
+abbrev pub fallen_after : LogLine → TimesState → ℕ
+fallen_after line times = fallen_with (falls line times) times.fallen
+
+abbrev pub times_after : LogLine → TimesState → TimesState
+times_after line times = record { ports = ports_after line times; fallen = fallen_after line times }
 
 -- the earlier one of two frames, where there are two
 abbrev pub earlier : Option ℕ → Option ℕ → Option ℕ
@@ -73,11 +90,11 @@ earlier (Some one) None = Some one
 earlier (Some one) (Some other) = Some (min one other)
 
 -- the first frame of which a line told, if one did of any port, and the last frame of any
-abbrev pub first_told : List PortTime → Option ℕ
-first_told times = fold (λ first (port : PortTime). earlier first port.first) None times
+abbrev pub first_told : TimesState → Option ℕ
+first_told times = fold (λ first (port : PortTime). earlier first port.first) None times.ports
 
-abbrev pub last_told : List PortTime → ℕ
-last_told times = fold (λ last (port : PortTime). max last (frame_of port.time)) 0 times
+abbrev pub last_told : TimesState → ℕ
+last_told times = fold (λ last (port : PortTime). max last (frame_of port.time)) 0 times.ports
 
 -- where all that was heard is, if all of it is before the first of the wanted frames, or all of it behind the last
 abbrev pub outside_by : Frames → Option ℕ → ℕ → Option Outside
@@ -86,5 +103,5 @@ outside_by frames (Some first) last =
     if nat_lt last frames.from then Some (Before last)
     else (if nat_lt frames.to first then Some (Behind first) else None)
 
-abbrev pub outside_of : Frames → List PortTime → Option Outside
+abbrev pub outside_of : Frames → TimesState → Option Outside
 outside_of frames times = outside_by frames (first_told times) (last_told times)

@@ -1,4 +1,4 @@
-//! The times of sixteen ports, by the lines of a trace or a log that tell of them.
+//! The times of sixteen ports, by the lines of a trace or a log that tell of them, and how many lines fell.
 ghost use Rattle.std.specs.Prelude.{◌≡◌, replicate};
 ghost use Rattle.gp_times.specs.Times as spec;
 
@@ -70,19 +70,21 @@ fn earlier(one: Option<u64>, other: Option<u64>) -> Option<u64>
     }
 }
 
-/// The times of sixteen ports. Contracts see a list of them.
+/// The times of sixteen ports, and how many lines fell: their time was before that of their port. Contracts see a list
+/// of the times, and the count.
 #[derive(Drop)]
 pub struct PortTimes {
     ports: [PortTime; PORTS],
+    fallen: u64,
 }
 
 impl Model for PortTimes {
-    ghost use Rattle.std.specs.Prelude.{◌≡◌, List, length};
-    ghost use Rattle.gp_times.specs.declared.times.PortTime.{PortTime};
+    ghost use Rattle.std.specs.Prelude.{◌≡◌, length};
+    ghost use Rattle.gp_times.specs.Times.{TimesState};
 
-    ghost Value = { List PortTime };
+    ghost Value = { TimesState };
 
-    ghost view = { λ t. t.ports };
+    ghost view = { λ t. record { ports = t.ports; fallen = t.fallen } };
 
     ghost invariant = { λ t. length t.ports ≡ 16 };
 }
@@ -94,6 +96,7 @@ impl PortTimes {
     {
         PortTimes {
             ports: [UNTOLD; PORTS],
+            fallen: 0,
         }
     }
 
@@ -104,7 +107,8 @@ impl PortTimes {
         self.ports.get(usize::from(port)).copied().unwrap_or(UNTOLD)
     }
 
-    /// Hears a line: its port comes to its time. Tells whether that is before the time of the port, which stays then.
+    /// Hears a line: its port comes to its time. Tells whether that is before the time of the port, which stays then, and
+    /// counts it.
     pub fn hear(&mut self, line: &LogLine) -> bool
         ensures times { self.new ≡ spec.times_after line.now self.old }
         ensures falls { result ≡ spec.falls line.now self.old }
@@ -113,8 +117,10 @@ impl PortTimes {
             LogLine::Remark => false,
             LogLine::Log { port, time, .. } => {
                 let before = self.of(*port);
+                let falls = *time < before.time;
                 self.set(*port, before.logged(*time));
-                *time < before.time
+                self.count(falls);
+                falls
             }
             LogLine::Trace { port, is_frame, .. } => {
                 let before = self.of(*port);
@@ -126,12 +132,30 @@ impl PortTimes {
 
     /// Notes the time of a port, if it is there.
     fn set(&mut self, port: u8, time: PortTime)
-        ensures { self.new ≡ spec.with_time self.old port time }
+        ensures ports { self.new.ports ≡ spec.ports_with self.old port time }
+        ensures fallen { self.new.fallen ≡ self.old.fallen }
     {
         let place = usize::from(port);
         if place < PORTS {
             self.ports[place] = time;
         }
+    }
+
+    /// Counts a line, if it fell.
+    fn count(&mut self, falls: bool)
+        ensures ports { self.new.ports ≡ self.old.ports }
+        ensures fallen { self.new.fallen ≡ spec.fallen_with falls self.old.fallen }
+    {
+        if falls {
+            self.fallen = self.fallen.saturating_add(1);
+        }
+    }
+
+    /// How many lines that were heard had a time before that of their port, as far as 64 bits go.
+    pub fn fallen(&self) -> u64
+        ensures { result ≡ self.now.fallen }
+    {
+        self.fallen
     }
 
     /// The first frame of which a line told, if one did of any port.

@@ -9,9 +9,8 @@ use Rattle.gp_explain.specs.declared.fault.NoLine.TheVariants.{NotALine, TooLong
 use Rattle.gp_log.specs.Line.{Reads, says_nothing}
 use Rattle.gp_log.specs.declared.line.LogLine.{LogLine}
 use Rattle.gp_waves.specs.Writing.{Grows, Written}
-use Rattle.gp_times.specs.declared.times.PortTime.{PortTime}
 use Rattle.gp_times.specs.Lines.{AreRead, IsRead, IsUnread, Lead}
-use Rattle.gp_times.specs.Times.{times_after}
+use Rattle.gp_times.specs.Times.{TimesState, times_after}
 use Rattle.gp_waves.specs.Dumping.{Dumping, SaysFrom, SaysToText, WavesState, ended_by}
 use Rattle.gp_waves.proofs.WritingLemmas.{grows_more, grows_none}
 
@@ -90,7 +89,7 @@ onto None a b c text ls said first rest line reads one heard timed grows parts h
   grown = parted a.written b.written c.written said first rest grows parts h.grown;
   lines = let many = h.lines in omega (arith, many, one);
   heard = h.heard ∙ ap (λ (t : Bool). t || h.told) heard ∙ or_assoc a.heard (not (says_nothing line)) h.told;
-  lead = (line, reads, subst (λ (t : List PortTime). Lead h.texts t c.times) timed h.lead);
+  lead = (line, reads, subst (λ (t : TimesState). Lead h.texts t c.times) timed h.lead);
 }
 onto (Some why) a b c text ls said first rest line reads one heard timed grows parts h = record {
   before = text ∷ h.before;

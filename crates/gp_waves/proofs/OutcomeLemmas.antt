@@ -27,9 +27,8 @@ use Rattle.gp_dump.specs.Head.{head_text}
 use Rattle.gp_dump.proofs.PartLemmas.{continues_none}
 use Rattle.gp_waves.specs.declared.running.WavesSum.{WavesSum}
 use Rattle.gp_times.specs.declared.frames.Frames.{Frames}
-use Rattle.gp_times.specs.declared.times.PortTime.{PortTime}
 use Rattle.gp_times.specs.Lines.{AreRead, IsRead, IsUnread, Lead}
-use Rattle.gp_times.specs.Times.{outside_of, times_begun}
+use Rattle.gp_times.specs.Times.{TimesState, outside_of, times_begun}
 use Rattle.gp_waves.specs.Dumping.{Dumping, Says, WavesState, has_ended}
 use Rattle.gp_waves.specs.Writing.{Grows, GrowsAs, Written}
 use Rattle.gp_waves.specs.Outcome.{DumpsWaves, GetsDump, IsBegun, IsDump, IsFound, IsFoundBy, IsNone, IsRefused, IsRest, IsUnfinished, WritesRest}
@@ -221,17 +220,15 @@ module _ {R W : Type 0} (frames : Frames) (from to : SourceState R) (before mid 
       let told = found.0 in
       let heard : sum.heard ≡ c.told = found.1 ∙ c.heard ∙ ap (λ (t : Bool). t || c.told) o.heard in
       let long : length (lines_of text) ≡ length c.texts = ap length same in
+      let lead = subst (λ (t : TimesState). Lead (lines_of text) t state.times) o.times
+          (subst (λ (ls : List (List ℕ)). Lead ls old.times state.times) (sym same) c.lead) in
       record {
         text = text;
         read = read;
         all = subst (λ (t : Bool). AreRead (lines_of text) t) (sym heard) (subst (λ (ls : List (List ℕ)). AreRead ls c.told) (sym same) c.read);
         count = omega (arith, many, told, long, zero);
-        outside = record {
-          times = state.times;
-          lead = subst (λ (t : List PortTime). Lead (lines_of text) t state.times) o.times
-              (subst (λ (ls : List (List ℕ)). Lead ls old.times state.times) (sym same) c.lead);
-          is = found.2;
-        };
+        outside = record { times = state.times; lead = lead; is = found.2 };
+        fallen = record { times = state.times; lead = lead; is = found.3 };
         dumped = gets;
       }
   found_whole None old state text said (Err fault) o read c gets found = absurd found
@@ -256,7 +253,8 @@ module _ {R W : Type 0} (frames : Frames) (from to : SourceState R) (before mid 
       subst (λ (n : ℕ). answer ≡ Err (Refused n why)) many (subst (λ (e : Option NoLine). IsFoundBy frames e last answer) is found)
   found_before ended None state last (Ok sum) is many heard times found =
       let there : IsFoundBy frames None last (Ok sum) = subst (λ (e : Option NoLine). IsFoundBy frames e last (Ok sum)) is found in
-      (there.0 ∙ many, there.1 ∙ heard, there.2 ∙ ap (λ (t : List PortTime). outside_of frames t) times)
+      (there.0 ∙ many, there.1 ∙ heard, there.2 ∙ ap (λ (t : TimesState). outside_of frames t) times,
+      there.3 ∙ ap (λ (t : TimesState). t.fallen) times)
   found_before ended None state last (Err fault) is many heard times found = subst (λ (e : Option NoLine). IsFoundBy frames e last (Err fault)) is found
 
   pub dumped_as : (end : LinesEnd) (old state last : WavesState) (answer : Result WavesSum ExplainFault) → IsOpened old

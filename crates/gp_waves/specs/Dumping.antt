@@ -5,18 +5,17 @@ use Rattle.gp_explain.specs.declared.fault.NoLine.{NoLine}
 use Rattle.gp_explain.specs.declared.fault.NoLine.TheVariants.{NotALine, TooLong}
 use Rattle.gp_log.specs.declared.line.LogLine.{LogLine}
 use Rattle.gp_log.specs.Line.{Reads, says_nothing}
-use Rattle.gp_times.specs.declared.times.PortTime.{PortTime}
-use Rattle.gp_times.specs.Times.{times_after}
+use Rattle.gp_times.specs.Times.{TimesState, times_after}
 use Rattle.gp_times.specs.Lines.{IsUnread}
 use Rattle.gp_waves.specs.Writing.{Grows, Written}
 
 -- how many lines came, whether one of them says anything, why the last of them ended it, if it did, the times of the
--- ports, and what is written
+-- ports, with how many lines fell, and what is written
 pub record WavesState : Type 0 where
   pub lines : ℕ
   pub heard : Bool
   pub ended : Option NoLine
-  pub times : List PortTime
+  pub times : TimesState
   pub written : Written
 
 -- one line more came, which says this, and this is written by now

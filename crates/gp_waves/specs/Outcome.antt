@@ -15,7 +15,7 @@ use Rattle.gp_explain.specs.declared.fault.NoLine.TheVariants.{NotALine, TooLong
 use Rattle.gp_dump.specs.Dump.{IsDumpTo}
 use Rattle.gp_waves.specs.declared.running.WavesSum.{WavesSum}
 use Rattle.gp_times.specs.declared.frames.Frames.{Frames}
-use Rattle.gp_times.specs.Lines.{AreRead, IsRead, IsUnread, IsWhere}
+use Rattle.gp_times.specs.Lines.{AreRead, HaveFallen, IsRead, IsUnread, IsWhere}
 use Rattle.gp_times.specs.Times.{outside_of}
 use Rattle.gp_waves.specs.Dumping.{WavesState}
 use Rattle.gp_waves.specs.Writing.{Grows}
@@ -39,6 +39,7 @@ pub record IsDumped {R W : Type 0} (frames : Frames) (from to : SourceState R) (
   pub all : AreRead (lines_of text) sum.heard
   pub count : length (lines_of text) ≡ sum.lines
   pub outside : IsWhere frames (lines_of text) sum.outside
+  pub fallen : HaveFallen (lines_of text) sum.fallen
   pub dumped : GetsDump before after
 
 -- why a text is no line of a trace or a log
@@ -115,6 +116,7 @@ abbrev pub IsFoundBy : Frames → Option NoLine → WavesState → Result WavesS
 IsFoundBy frames (Some why) state answer = answer ≡ Err (Refused state.lines why)
 IsFoundBy frames None state (Ok sum) =
     (sum.lines ≡ state.lines) × (sum.heard ≡ state.heard) × (sum.outside ≡ outside_of frames state.times)
+    × (sum.fallen ≡ state.times.fallen)
 IsFoundBy frames None state (Err fault) = ⊥
 
 abbrev pub IsFound : Frames → WavesState → Result WavesSum ExplainFault → Type 0

@@ -11,8 +11,8 @@ use std::alloc::{AllocError, Global};
 use std::marker::Model;
 
 /// Is given the lines of a trace or a log, one after another. The first line that is none ends it. Contracts see how
-/// many lines came, whether one of them says anything, what ended it, the times of the ports, and what is written of
-/// the dump.
+/// many lines came, whether one of them says anything, what ended it, the times of the ports, with how many lines fell,
+/// and what is written of the dump.
 #[derive(Drop)]
 pub struct Dumper {
     pub(crate) waves: Waves,

@@ -16,8 +16,6 @@ pub(crate) struct Waves {
     /// The sixteen ports.
     ports: Vec<Port>,
     held: Held,
-    /// How many lines were not heard, since their time is before that of their port.
-    pub(crate) fallen: u64,
 }
 
 /// Opens each port: nothing was heard.
@@ -45,7 +43,6 @@ impl Waves {
             options: *options,
             ports: open(alloc, options)?,
             held: Held::begin(alloc)?,
-            fallen: 0,
         })
     }
 
@@ -58,7 +55,6 @@ impl Waves {
         said: &Said,
     ) -> Result<(), WavesFault> {
         if falls {
-            self.fallen = self.fallen.saturating_add(1);
             return Ok(());
         }
         let scope = scope_of(&self.options, number);

@@ -89,7 +89,7 @@ fn finding(options: &WavesOptions, dumper: &Dumper) -> Result<WavesSum, ExplainF
         None => Ok(WavesSum {
             lines: dumper.lines,
             heard: dumper.heard,
-            fallen: dumper.waves.fallen,
+            fallen: dumper.times.fallen(),
             late: dumper.writing.late,
             outside: dumper.times.outside(&options.frames),
         }),
