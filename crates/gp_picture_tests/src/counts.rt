@@ -1,6 +1,7 @@
 //! Every span and mark stands for something that a line says, and none is left out: counted against the input.
-use crate::drawn::{ALL, count_of, drawn};
+use crate::drawn::{ALL, count_of, drawn, drawn_with_sum};
 use gp_explain::ExplainFault;
+use gp_picture::Frames;
 use std::alloc::{AllocError, Global};
 
 /// The trace of a unit that is lost with LOS, found again, and gasps with a burst.
@@ -90,6 +91,16 @@ const LOG: &'static str = "\
 15 down ff06ff41424344000000010055\n\
 ";
 
+/// The second, the fourth and the last line come too late at their ports.
+const FALLS: &'static str = "\
+9 down ff010000000000000000000058\n\
+8 down ff010000000000000000000058\n\
+1 3 down ff010000000000000000000058\n\
+7 grant poll 9\n\
+9 down ff010000000000000000000058\n\
+1 2 down ff010000000000000000000058\n\
+";
+
 /// Gives how many lines of a text hold these words.
 fn lines_with(text: &str, words: &str) -> u64 {
     let mut count = 0u64;
@@ -130,6 +141,19 @@ fn the_marks_of_a_log(rt: HostRuntime) -> Result<(), ExplainFault> {
     assert_eq!(rt; count_of(text, "f"), 4);
     assert_eq!(rt; count_of(text, "w"), 0);
     assert_eq!(rt; count_of(text, "k"), 2);
+    Ok(())
+}
+
+#[test]
+fn times_that_fall(rt: HostRuntime) -> Result<(), ExplainFault> {
+    let (picture, sum) = drawn_with_sum(rt.alloc(), FALLS.as_bytes(), ALL)?;
+    // the poll, which is of nobody, is not heard
+    assert_eq!(rt; count_of(picture.as_slice(), "f"), 3);
+    assert_eq!(rt; [sum.lines, sum.fallen], [6, 3]);
+    let (cut, sum) = drawn_with_sum(rt.alloc(), FALLS.as_bytes(), Frames { from: 0, to: 5 })?;
+    // those that are not drawn are counted too
+    assert_eq!(rt; count_of(cut.as_slice(), "f"), 1);
+    assert_eq!(rt; [sum.lines, sum.fallen], [6, 3]);
     Ok(())
 }
 

@@ -1,6 +1,6 @@
 //! Pictures of texts.
 use gp_explain::ExplainFault;
-use gp_picture::{Frames, PORTS, PictureOptions, draw_trace};
+use gp_picture::{Frames, PORTS, PictureOptions, PictureSum, draw_trace};
 use gp_ploam::Mask;
 use gp_stream::{Sink, Source};
 use std::alloc::Global;
@@ -22,12 +22,22 @@ pub(crate) fn options(frames: Frames) -> PictureOptions {
     }
 }
 
-/// Gives the picture of a text.
-pub(crate) fn drawn(alloc: Global, text: &[u8], frames: Frames) -> Result<Vec<u8>, ExplainFault> {
+/// Gives the picture of a text, and what was drawn.
+pub(crate) fn drawn_with_sum(
+    alloc: Global,
+    text: &[u8],
+    frames: Frames,
+) -> Result<(Vec<u8>, PictureSum), ExplainFault> {
     let mut source = Source::endless(text);
     let mut sink = Sink::new(alloc, Vec::new(alloc))?;
-    draw_trace(alloc, &options(frames), &mut source, &mut sink)?;
-    Ok(sink.into_inner())
+    let sum = draw_trace(alloc, &options(frames), &mut source, &mut sink)?;
+    Ok((sink.into_inner(), sum))
+}
+
+/// Gives the picture of a text.
+pub(crate) fn drawn(alloc: Global, text: &[u8], frames: Frames) -> Result<Vec<u8>, ExplainFault> {
+    let (picture, _) = drawn_with_sum(alloc, text, frames)?;
+    Ok(picture)
 }
 
 /// Tells whether a picture holds an element.

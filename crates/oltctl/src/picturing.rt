@@ -3,7 +3,7 @@ ghost use Rattle.std.specs.Prelude.{◌≡◌};
 ghost use Rattle.oltctl.specs.Statuses.{IsPictured, drawn_status, heard_status};
 
 use crate::observed::{Observed, Seen};
-use crate::reporting::{refuse_option, report_before, report_behind, report_silence};
+use crate::reporting::{refuse_option, report_before, report_behind, report_silence, tell_fallen};
 use gp_command_line::Drawing;
 use gp_explain::ExplainFault;
 use gp_flow::LinesFault;
@@ -67,7 +67,10 @@ fn end_picture<R: AllocGlobal + Eprint>(
     ensures { result ≡ drawn_status outcome.now }
 {
     match outcome {
-        Ok(sum) => end_drawn(rt, options, sum),
+        Ok(sum) => {
+            tell_fallen(rt, sum.fallen);
+            end_drawn(rt, options, sum)
+        }
         Err(fault) => seen.end_log(rt, fault),
     }
 }

@@ -79,6 +79,14 @@ pub(crate) fn refuse_option<R: Eprint>(rt: &R, option: BadOption<'_>) -> u8
     BAD_ARGUMENTS
 }
 
+/// Says on standard error how many lines of a log were not heard, since their time is before that of their port, if any
+/// were.
+pub(crate) fn tell_fallen<R: Eprint>(rt: &R, fallen: u64) {
+    if fallen > 0 {
+        let _ = eprintln!(rt; "oltctl: lines whose time falls, not heard: {fallen}");
+    }
+}
+
 /// Says on standard error how many lines came.
 pub(crate) fn tell_came<R: Eprint>(rt: &R, lines: u64) {
     let _ = match lines {

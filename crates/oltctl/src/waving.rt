@@ -3,7 +3,7 @@ ghost use Rattle.std.specs.Prelude.{◌≡◌};
 ghost use Rattle.oltctl.specs.Statuses.{IsDumped, heard_status, waves_status};
 
 use crate::observed::{Observed, Seen};
-use crate::reporting::{refuse_option, report_before, report_behind, report_silence};
+use crate::reporting::{refuse_option, report_before, report_behind, report_silence, tell_fallen};
 use gp_command_line::Dumping;
 use gp_explain::ExplainFault;
 use gp_flow::LinesFault;
@@ -45,12 +45,10 @@ fn dump_file<R: AllocGlobal + Files + Print + Input>(
     }
 }
 
-/// Says which lines were not heard, and how many changes stand at a later time than theirs, if any do.
+/// Says how many lines were not heard, and how many changes stand at a later time than theirs, if any do.
 fn tell_sum<R: Eprint>(rt: &R, sum: &WavesSum) {
     let WavesSum { fallen, late, .. } = *sum;
-    if fallen > 0 {
-        let _ = eprintln!(rt; "oltctl: lines whose time falls, not heard: {fallen}");
-    }
+    tell_fallen(rt, fallen);
     if late > 0 {
         let _ = eprintln!(rt;
             "oltctl: changes of ports that are far behind, at a later time than theirs: {late}"
