@@ -30,10 +30,10 @@ extern "C" {
 #endif
 
 /* The version of the library, as `oltctl --version` has it: CHANGELOG.md says what came with which. */
-#define WP_VERSION "1.6.2"
+#define WP_VERSION "1.7.0"
 #define WP_VERSION_MAJOR 1
-#define WP_VERSION_MINOR 6
-#define WP_VERSION_PATCH 2
+#define WP_VERSION_MINOR 7
+#define WP_VERSION_PATCH 0
 
 /* What a call answers. */
 enum wp_status {
