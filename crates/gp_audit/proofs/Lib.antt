@@ -2,6 +2,7 @@ pub mod ReadLemmas
 pub mod BookLemmas
 pub mod FindingLemmas
 pub mod PortLemmas
+pub mod PortsLemmas
 pub mod AgainLemmas
 pub mod CountLemmas
 pub mod ServingLemmas

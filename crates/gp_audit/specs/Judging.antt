@@ -1,9 +1,9 @@
 -- Of what is heard a rule that is told is judged, and which garbled codes are passed over (this profile's own rule).
-use Rattle.std.specs.Prelude.{◌≡◌, ◌+◌, ◌^◌, ◌-◌, ℕ, Bool, true, false, not, ◌&&◌, ◌||◌, if◌then◌else◌, List, [], ◌∷◌, filter, min, Option, None, Some}
+use Rattle.std.specs.Prelude.{◌≡◌, ◌+◌, ◌^◌, ◌-◌, ℕ, Bool, true, false, not, ◌&&◌, ◌||◌, if◌then◌else◌, List, [], ◌∷◌, filter, min, None}
 use Rattle.std.specs.List.{list_any}
 use Rattle.gp_observer.specs.declared.rule.Rule.{Rule}
 use Rattle.gp_observer.specs.declared.rule.Rule.TheVariants as rule
-use Rattle.gp_observer.specs.Heard.{Heard, HeardDown, HeardUp, HeardGrant, breaks, is_terminals}
+use Rattle.gp_observer.specs.Heard.{Heard, HeardDown, HeardUp, breaks, is_terminals}
 use Rattle.gp_observer.specs.Judged.{judges}
 use Rattle.gp_observer.specs.Rules.{Settings}
 use Rattle.gp_observer.specs.Watch.{Watch}
