@@ -1,9 +1,8 @@
 -- How drawing an input ends.
 use Rattle.std.specs.Prelude.{is_some}
-use Rattle.std.proofs.Common.{◌≡◌, ◌⊎◌, inl, inr, ℕ, Bool, true, false, List, [], ◌∷◌, ◌++◌, Option, None, Some, Result, Ok, Err, IfOk, IsErrAnd, length, take, drop, map, refl, sym, ap, subst, ◌∙◌, append_assoc, arith}
+use Rattle.std.proofs.Common.{◌≡◌, ◌⊎◌, inl, inr, ℕ, Bool, true, false, List, [], ◌∷◌, ◌++◌, Option, None, Some, Result, Ok, Err, IsErrAnd, length, take, drop, map, refl, sym, ap, subst, ◌∙◌, append_assoc, arith}
 use Rattle.std.proofs.lemmas.List.{append-nil, take-append-drop}
 use Rattle.std.proofs.KnownBytes.{Appends-trans}
-use Rattle.std.specs.List.{All}
 use Rattle.std.specs.Io.KnownBytes.{Appends, Consumes}
 use Rattle.gp_flow.specs.declared.fault.Unanswered.{Unanswered}
 use Rattle.gp_flow.specs.declared.fault.Unanswered.TheVariants.{Write, OutOfMemory, Full}
@@ -21,7 +20,7 @@ use Rattle.gp_explain.specs.declared.fault.ExplainFault.TheVariants.{Refused, Li
 use Rattle.gp_explain.specs.declared.fault.NoLine.{NoLine}
 use Rattle.gp_picture.specs.declared.running.PictureSum.{PictureSum}
 use Rattle.gp_times.specs.declared.frames.Frames.{Frames}
-use Rattle.gp_times.specs.Lines.{AreRead, IsRead, IsUnread, Lead}
+use Rattle.gp_times.specs.Lines.{AreRead, IsUnread, Lead}
 use Rattle.gp_times.specs.Times.{outside_of, times_begun}
 use Rattle.gp_picture.specs.Drawing.{DrawState, Drawing, has_ended, opened}
 use Rattle.gp_picture.specs.Outcome.{DrawsTrace, EndsAs, Ends, IsBegun, IsNone, IsRefused, WritesPicture}

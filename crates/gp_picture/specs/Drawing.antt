@@ -1,6 +1,6 @@
 -- How far an input was read (this profile's own rule). What is drawn of a line is tested, and not said here.
 -- Inside: no public contract cites this.
-use Rattle.std.specs.Prelude.{◌≡◌, ℕ, ◌+◌, ◌⊎◌, ◌||◌, not, Bool, false, List, [], Option, None, Some, is_some, Ok, Err, ◌∷◌}
+use Rattle.std.specs.Prelude.{◌≡◌, ℕ, ◌+◌, ◌⊎◌, ◌||◌, not, Bool, false, List, [], Option, None, Some, is_some, Ok}
 use Rattle.gp_flow.specs.Lines.{Speech, WholeLines}
 use Rattle.gp_explain.specs.declared.fault.NoLine.{NoLine}
 use Rattle.gp_explain.specs.declared.fault.NoLine.TheVariants.{NotALine, TooLong}

@@ -1,9 +1,8 @@
 -- How dumping an input ends.
 use Rattle.std.specs.Prelude.{is_some}
-use Rattle.std.proofs.Common.{◌≡◌, ◌⊎◌, ◌||◌, inl, inr, ℕ, Bool, true, false, List, [], ◌∷◌, ◌++◌, Option, None, Some, Result, Ok, Err, IfOk, IsErrAnd, length, take, drop, map, refl, sym, ap, subst, ◌∙◌, append_assoc, append-nil, arith}
+use Rattle.std.proofs.Common.{◌≡◌, ◌||◌, inl, inr, ℕ, Bool, true, false, List, [], ◌∷◌, ◌++◌, Option, None, Some, Result, Ok, Err, IsErrAnd, length, take, drop, map, refl, sym, ap, subst, ◌∙◌, append_assoc, append-nil, arith}
 use Rattle.std.proofs.lemmas.List.{take-append-drop}
 use Rattle.std.proofs.KnownBytes.{Appends-trans}
-use Rattle.std.specs.List.{All}
 use Rattle.std.specs.Io.KnownBytes.{Appends, Consumes}
 use Rattle.gp_flow.specs.declared.fault.Unanswered.{Unanswered}
 use Rattle.gp_flow.specs.declared.fault.Unanswered.TheVariants.{Write, OutOfMemory, Full}
@@ -21,18 +20,17 @@ use Rattle.gp_stream.proofs.SinkLemmas.{takes_whole}
 use Rattle.gp_explain.specs.declared.fault.ExplainFault.{ExplainFault}
 use Rattle.gp_explain.specs.declared.fault.ExplainFault.TheVariants.{Refused, Lines}
 use Rattle.gp_explain.specs.declared.fault.NoLine.{NoLine}
-use Rattle.gp_explain.specs.declared.fault.NoLine.TheVariants.{NotALine, TooLong}
-use Rattle.gp_dump.specs.Dump.{Continues, DumpState, IsDumpTo}
+use Rattle.gp_dump.specs.Dump.{DumpState}
 use Rattle.gp_dump.specs.Head.{head_text}
 use Rattle.gp_dump.proofs.PartLemmas.{continues_none}
 use Rattle.gp_waves.specs.declared.running.WavesSum.{WavesSum}
 use Rattle.gp_times.specs.declared.frames.Frames.{Frames}
-use Rattle.gp_times.specs.Lines.{AreRead, IsRead, IsUnread, Lead}
+use Rattle.gp_times.specs.Lines.{AreRead, IsUnread, Lead}
 use Rattle.gp_times.specs.Times.{TimesState, outside_of, times_begun}
 use Rattle.gp_waves.specs.Dumping.{Dumping, Says, WavesState, has_ended}
 use Rattle.gp_waves.specs.Writing.{Grows, GrowsAs, Written}
 use Rattle.gp_waves.specs.Outcome.{DumpsWaves, GetsDump, IsBegun, IsDump, IsFound, IsFoundBy, IsNone, IsRefused, IsRest, IsUnfinished, WritesRest}
-use Rattle.gp_waves.proofs.CourseLemmas.{Course, Fails, Halts, Runs, course, wholes}
+use Rattle.gp_waves.proofs.CourseLemmas.{Course, Fails, Halts, course, wholes}
 use Rattle.gp_waves.proofs.WritingLemmas.{grows_more}
 
 -- ---- lines that were handed on
@@ -221,7 +219,7 @@ module _ {R W : Type 0} (frames : Frames) (from to : SourceState R) (before mid 
       let heard : sum.heard ≡ c.told = found.1 ∙ c.heard ∙ ap (λ (t : Bool). t || c.told) o.heard in
       let long : length (lines_of text) ≡ length c.texts = ap length same in
       let lead = subst (λ (t : TimesState). Lead (lines_of text) t state.times) o.times
-          (subst (λ (ls : List (List ℕ)). Lead ls old.times state.times) (sym same) c.lead) in
+      (subst (λ (ls : List (List ℕ)). Lead ls old.times state.times) (sym same) c.lead) in
       record {
         text = text;
         read = read;
@@ -252,9 +250,12 @@ module _ {R W : Type 0} (frames : Frames) (from to : SourceState R) (before mid 
   found_before ended (Some why) state last answer is many heard times found =
       subst (λ (n : ℕ). answer ≡ Err (Refused n why)) many (subst (λ (e : Option NoLine). IsFoundBy frames e last answer) is found)
   found_before ended None state last (Ok sum) is many heard times found =
-      let there : IsFoundBy frames None last (Ok sum) = subst (λ (e : Option NoLine). IsFoundBy frames e last (Ok sum)) is found in
-      (there.0 ∙ many, there.1 ∙ heard, there.2 ∙ ap (λ (t : TimesState). outside_of frames t) times,
-      there.3 ∙ ap (λ (t : TimesState). t.fallen) times)
+      let there : IsFoundBy frames None last (Ok sum) = subst (λ (e : Option NoLine). IsFoundBy frames e last (Ok sum)) is found in (
+        there.0 ∙ many,
+        there.1 ∙ heard,
+        there.2 ∙ ap (λ (t : TimesState). outside_of frames t) times,
+        there.3 ∙ ap (λ (t : TimesState). t.fallen) times,
+      )
   found_before ended None state last (Err fault) is many heard times found = subst (λ (e : Option NoLine). IsFoundBy frames e last (Err fault)) is found
 
   pub dumped_as : (end : LinesEnd) (old state last : WavesState) (answer : Result WavesSum ExplainFault) → IsOpened old
