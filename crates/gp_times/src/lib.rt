@@ -1,6 +1,6 @@
-//! The time of each port by the lines of a trace or a log that tell of it, how many lines fall behind it, the frames that
-//! are wanted of it, and where all that was heard is if all of it is before the first of them, or all of it behind the
-//! last.
+//! The time of each port by the lines of a trace or a log that tell of it, how many lines fall behind it, the frames
+//! that are wanted of it, and where all that was heard is if all of it is before the first of them, or all of it behind
+//! the last.
 //!
 //! Promise: the times are those of all lines, the lines that fall are counted, and it is told that all is before or
 //! behind the wanted frames exactly where that is (`PortTimes::hear`, `fallen`, `outside`).

@@ -107,8 +107,8 @@ impl PortTimes {
         self.ports.get(usize::from(port)).copied().unwrap_or(UNTOLD)
     }
 
-    /// Hears a line: its port comes to its time. Tells whether that is before the time of the port, which stays then, and
-    /// counts it.
+    /// Hears a line: its port comes to its time. Tells whether that is before the time of the port, which stays then,
+    /// and counts the line as one that fell.
     pub fn hear(&mut self, line: &LogLine) -> bool
         ensures times { self.new ≡ spec.times_after line.now self.old }
         ensures falls { result ≡ spec.falls line.now self.old }
@@ -151,7 +151,7 @@ impl PortTimes {
         }
     }
 
-    /// How many lines that were heard had a time before that of their port, as far as 64 bits go.
+    /// How many lines had a time before that of their port, as far as 64 bits go.
     pub fn fallen(&self) -> u64
         ensures { result ≡ self.now.fallen }
     {
