@@ -10,7 +10,7 @@ use Rattle.gp_finding.specs.declared.error.AuditSum.{AuditSum}
 use Rattle.gp_audit.specs.declared.options.AuditOptions.{AuditOptions}
 use Rattle.gp_audit.specs.Again.{TellsAgain}
 use Rattle.gp_audit.specs.declared.judged.Judged.{Judged}
-use Rattle.gp_audit.specs.Judging.{both, nothing_judged}
+use Rattle.gp_audit.specs.Judging.{judged_on_both, nothing_judged}
 use Rattle.gp_audit.specs.Hearing.{ports_after, told_of}
 use Rattle.gp_audit.specs.Notice.{Notice, notices_text, sum_behind, sum_with}
 use Rattle.gp_audit.specs.Port.{PortState, port_begun}
@@ -41,7 +41,7 @@ is_silent state = list_all port.is_silent state.ports
 
 -- what was judged on all ports
 abbrev pub judged_on : List PortState → Judged
-judged_on ports = fold (λ sum (at : PortState). both sum at.judged) nothing_judged ports
+judged_on ports = fold (λ sum (at : PortState). judged_on_both sum at.judged) nothing_judged ports
 
 -- ---- a line that was read
 

@@ -47,7 +47,14 @@ impl Model for Port {
 
     ghost coded = { Prim.hlevel (codes, watch_code, census_code) };
 
-    ghost view = { λ p. record { watch = p.watch; time = p.time; full = p.full; heard = p.heard; judged = p.judged; census = p.census } };
+    ghost view = { λ p. record {
+      watch = p.watch;
+      time = p.time;
+      full = p.full;
+      heard = p.heard;
+      judged = p.judged;
+      census = p.census;
+    } };
 }
 
 /// Gives the serial number that a message down has followed, if it has one.

@@ -1,4 +1,4 @@
--- Worked cases of the definitions: each rule is broken where it should be.
+-- Worked cases of the definitions: each rule is broken where it should be, and judged where it may be broken or kept.
 use Rattle.std.proofs.Common.{◌≡◌, true, false, List, [], ◌∷◌, None, Some, refl}
 use Rattle.std.specs.FinMap.{gets}
 use Rattle.std.specs.FinSet.{members}
@@ -12,12 +12,12 @@ use Rattle.gp_ranging.specs.declared.grant.Grant.TheVariants.{Poll}
 use Rattle.gp_machine.specs.State.{some_number}
 use Rattle.gp_observer.proofs.Listed.{dropped_at}
 use Rattle.gp_observer.proofs.Numbers.{kept_in, in_below}
-use Rattle.gp_observer.specs.declared.rule.Rule.{Rule}
 use Rattle.gp_observer.specs.declared.rule.Rule.TheVariants as rule
 use Rattle.gp_observer.specs.Watch.{Watch, watch_begun}
 use Rattle.gp_observer.specs.Rules.{Settings, breaks_copies, breaks_range, breaks_barred, breaks_unasked, breaks_taken, breaks_renumbered, breaks_nobody, breaks_unranged, breaks_delay, breaks_early, breaks_shared, breaks_not_held, breaks_grant}
 use Rattle.gp_observer.specs.UnitRules.{breaks_disabled, breaks_anew, breaks_number, breaks_acknowledge, breaks_drift}
-use Rattle.gp_observer.specs.Heard.{Heard, HeardDown, HeardUp, watch_after_all, breaks}
+use Rattle.gp_observer.specs.Heard.{Heard, HeardDown, HeardUp, HeardGrant, watch_after_all, breaks}
+use Rattle.gp_observer.specs.Judged.{judges}
 
 abbrev first : Serial
 first = record { 0 = 65 ∷ 66 ∷ 67 ∷ 68 ∷ 0 ∷ 0 ∷ 0 ∷ 1 ∷ [] }
@@ -231,3 +231,55 @@ anew_alone = simp (gets, members, serials_total, dropped_at)
 
 garbled : breaks settings (after []) (HeardDown None) ≡ rule.Garbled ∷ []
 garbled = refl
+
+-- ---- of what a rule is judged
+
+garbled_judged : judges (after []) (HeardDown (Some (Deactivate 4))) rule.Garbled ≡ true
+garbled_judged = refl
+
+garbled_alone : judges (after []) (HeardDown None) rule.Taken ≡ false
+garbled_alone = refl
+
+-- before the first message there is none whose copies could be missing
+first_copies : judges (after []) (HeardDown (Some (Deactivate 4))) rule.Copies ≡ false
+first_copies = refl
+
+copies_judged : judges (after (asks first (HeardDown (Some (AssignOnu 3 first)) ∷ []))) (HeardDown (Some (Deactivate 4))) rule.Copies ≡ true
+copies_judged = refl
+
+-- a copy that tells nothing new isn't judged
+copy_unjudged : judges (after (asks first (HeardDown (Some (Deactivate 4)) ∷ []))) (HeardDown (Some (Deactivate 4))) rule.Nobody ≡ false
+copy_unjudged = refl
+
+delay_judged : judges (after (answered [])) (HeardDown (Some (RangingTime 3 5))) rule.Delay ≡ true
+delay_judged = simp (gets, members, serials_total, dropped_at, kept_in)
+
+-- its answer had no delay
+delay_unjudged : judges (after (assigned (HeardUp (Some (SerialNumber 3 first 0 0)) None ∷ []))) (HeardDown (Some (RangingTime 3 5))) rule.Delay ≡ false
+delay_unjudged = simp (gets, members, serials_total)
+
+drift_judged : judges (after (ranged [])) (HeardUp (Some (DyingGasp 3)) (Some 1000)) rule.Drift ≡ true
+drift_judged = simp (gets, members, serials_total)
+
+drift_unjudged : judges (after (ranged [])) (HeardUp (Some (DyingGasp 3)) None) rule.Drift ≡ false
+drift_unjudged = refl
+
+anew_judged : judges (after []) (HeardUp (Some (SerialNumber 255 first 0 0)) None) rule.Anew ≡ true
+anew_judged = simp (gets, serials_total)
+
+-- what was said before it isn't known
+anew_midway : judges (midway []) (HeardUp (Some (SerialNumber 255 first 0 0)) None) rule.Anew ≡ false
+unfolding some_number
+anew_midway = simp (gets, members)
+
+disabled_midway : judges (midway []) (HeardUp (Some (SerialNumber 255 first 0 0)) None) rule.Disabled ≡ false
+disabled_midway = simp members
+
+grant_midway : judges (midway []) (HeardGrant (Poll 4)) rule.Grant ≡ false
+grant_midway = simp (members, in_below)
+
+shared_midway : judges (midway (cut_off (down (AssignOnu 3 first) []))) (HeardDown (Some (AssignAlloc 3 256 true))) rule.Shared ≡ false
+shared_midway = simp (gets, members, serials_total, dropped_at)
+
+shared_judged : judges (after (assigned [])) (HeardDown (Some (AssignAlloc 3 256 true))) rule.Shared ≡ true
+shared_judged = simp (gets, serials_total, dropped_at)

@@ -1,5 +1,5 @@
 -- A rule that is broken was judged.
-use Rattle.std.proofs.Common.{◌≡◌, ℕ, ◌==◌, Bool, true, false, cond, not, ◌&&◌, ◌||◌, List, [], ◌∷◌, Option, None, Some, refl, ap, ◌∙◌, is_some}
+use Rattle.std.proofs.Common.{◌≡◌, ℕ, zero, suc, ◌==◌, Bool, true, false, cond, not, ◌&&◌, ◌||◌, List, [], ◌∷◌, Option, None, Some, refl, ap, ◌∙◌, is_some}
 use Rattle.std.specs.FinMap.{get}
 use Rattle.std.specs.List.{list_all}
 use Rattle.std.proofs.lemmas.Bool.{false≢true}
@@ -7,14 +7,15 @@ use Rattle.gp_ploam.specs.declared.message.Down.{Down}
 use Rattle.gp_ploam.specs.declared.message.Down.TheVariants as down
 use Rattle.gp_ploam.specs.declared.message.Up.{Up}
 use Rattle.gp_ploam.specs.declared.message.Up.TheVariants as up
-use Rattle.gp_ploam.specs.OnuIds.{broadcast_onu}
+use Rattle.gp_ploam.specs.OnuIds.{broadcast_onu, onu_ids}
 use Rattle.gp_ploam.specs.Up.{octet1_of}
 use Rattle.gp_ranging.specs.declared.grant.Grant.TheVariants.{Search, Range, Poll}
+use Rattle.gp_machine.specs.State.{some_number}
 use Rattle.gp_observer.specs.declared.rule.Rule.{Rule}
 use Rattle.gp_observer.specs.declared.rule.Rule.TheVariants as rule
 use Rattle.gp_observer.specs.Heard.{Heard, HeardDown, HeardUp, HeardGrant, answer_rules, breaks, broken_of, copy_breaks, down_breaks, message_rules, up_breaks}
 use Rattle.gp_observer.specs.Judged as judged
-use Rattle.gp_observer.specs.Observer.{some_passes}
+use Rattle.gp_observer.specs.Observer.{is_of, some_passes}
 use Rattle.gp_observer.specs.Rules as rules
 use Rattle.gp_observer.specs.UnitRules as units
 use Rattle.gp_observer.specs.Watch.{Answers, Watch, passes_over, tells}
@@ -28,6 +29,14 @@ first false c h = absurd (false≢true h)
 second_as : (b c d : Bool) → (c ≡ true → d ≡ true) → (b && c) ≡ true → (b && d) ≡ true
 second_as true c d f h = f h
 second_as false c d f h = h
+
+second : (b c : Bool) → (b && c) ≡ true → c ≡ true
+second true c h = h
+second false c h = absurd (false≢true h)
+
+or_left : (b c : Bool) → b ≡ true → (b || c) ≡ true
+or_left true c h = refl
+or_left false c h = absurd (false≢true h)
 
 or_right : (b c : Bool) → c ≡ true → (b || c) ≡ true
 or_right true c h = refl
@@ -45,6 +54,14 @@ passes_as : {X : Type 0} (test other : X → Bool) (value : Option X) → ((x : 
     → some_passes other value ≡ true
 passes_as test other None f h = h
 passes_as test other (Some x) f h = f x h
+
+-- where a number passes one test it passes the other, and so one does of many
+some_as : (test other : ℕ → Bool) (from count : ℕ) → ((n : ℕ) → test n ≡ true → other n ≡ true) → some_number from count test ≡ true → some_number from count other ≡ true
+unfolding some_number
+some_as test other from zero f h = h
+some_as test other from (suc count) f h =
+    either (test from) (some_number (suc from) count test) (other from || some_number (suc from) count other) (λ b. or_left (other from) _ (f from b))
+    (λ b. or_right (other from) _ (some_as test other (suc from) count f b)) h
 
 -- ---- lists of rules
 
@@ -86,6 +103,22 @@ module _ (settings : rules.Settings) (watch : Watch) where
   unasked_judged onu serial h =
       second_as (not watch.midway && rules.is_judged watch onu) _ _ (there_is _ _) h
 
+  copies_judged : (message : Down) → rules.breaks_copies watch message ≡ true → judged.judges_copies watch ≡ true
+  copies_judged m h = or_left (not (watch.to_come == 0)) _ (first (not (watch.to_come == 0)) _ h)
+
+  barred_judged : (onu : ℕ) (serial : _) → rules.breaks_barred watch (down.AssignOnu onu serial) ≡ true → judged.judges_barred watch (down.AssignOnu onu serial) ≡ true
+  barred_judged onu serial h = or_right (judged.knows_serial watch serial) _ h
+
+  holds_any : (serial : _) (test : ℕ → Bool) → rules.holds_one watch serial test ≡ true → rules.holds_one watch serial (λ held. true) ≡ true
+  holds_any serial test h = some_as (λ onu. test onu && is_of watch.seen serial onu) (λ onu. is_of watch.seen serial onu) 0 onu_ids (λ onu. second (test onu) (is_of watch.seen serial onu)) h
+
+  renumbered_judged : (onu : ℕ) (serial : _) → rules.breaks_renumbered watch (down.AssignOnu onu serial) ≡ true → judged.judges_renumbered watch (down.AssignOnu onu serial) ≡ true
+  renumbered_judged onu serial h = or_right (judged.knows_serial watch serial) _ (holds_any serial (λ other. not (other == onu)) h)
+
+  owner_known : (onu : ℕ) (owner : Option ℕ) → some_passes (λ other. rules.is_judged watch other && not (other == onu)) owner ≡ true → judged.knows_owner watch owner ≡ true
+  owner_known onu None h = absurd (false≢true h)
+  owner_known onu (Some owner) h = first (rules.is_judged watch owner) _ h
+
   taken_judged : (onu : ℕ) (serial : _) → rules.breaks_taken watch (down.AssignOnu onu serial) ≡ true → judged.judges_taken watch (down.AssignOnu onu serial) ≡ true
   taken_judged onu serial h = or_right (rules.is_judged watch onu) _ (there_is _ _ h)
 
@@ -97,24 +130,24 @@ module _ (settings : rules.Settings) (watch : Watch) where
       second_as (rules.is_held watch onu) _ _ (passes_as (rules.leaves_no_answer settings eqd) (λ a. a.all) (get watch.answers onu) (leaves_none eqd)) h
 
   message_judged : (message : Down) → EachPasses (judged.message_judges watch message) (message_rules settings watch message)
-  message_judged (down.UpstreamOverhead burst) = (λ h. refl, (λ h. h, (λ h. h, (λ h. h, (λ h. h, (λ h. h, (λ h. h, (λ h. h, (λ h. h, (λ h. h, (λ h. h, (λ h. h, tt))))))))))))
+  message_judged (down.UpstreamOverhead burst) = (copies_judged (down.UpstreamOverhead burst), (λ h. h, (λ h. h, (λ h. h, (λ h. h, (λ h. h, (λ h. h, (λ h. h, (λ h. h, (λ h. h, (λ h. h, (λ h. h, tt))))))))))))
   message_judged (down.AssignOnu onu serial) =
-      (λ h. refl, (λ h. refl, (λ h. refl, (unasked_judged onu serial, (taken_judged onu serial, (λ h. refl, (λ h. h, (λ h. h, (λ h. h, (λ h. h, (λ h. h, (λ h. h, tt))))))))))))
+      (copies_judged (down.AssignOnu onu serial), (λ h. refl, (barred_judged onu serial, (unasked_judged onu serial, (taken_judged onu serial, (renumbered_judged onu serial, (λ h. h, (λ h. h, (λ h. h, (λ h. h, (λ h. h, (λ h. h, tt))))))))))))
   message_judged (down.RangingTime onu eqd) =
-      (λ h. refl, (λ h. h, (λ h. h, (λ h. h, (λ h. h, (λ h. h, (nobody_judged (down.RangingTime onu eqd), (first (rules.is_held watch onu) _, (delay_judged onu eqd, (λ h. h, (λ h. h, (λ h. h, tt))))))))))))
+      (copies_judged (down.RangingTime onu eqd), (λ h. h, (λ h. h, (λ h. h, (λ h. h, (λ h. h, (nobody_judged (down.RangingTime onu eqd), (first (rules.is_held watch onu) _, (delay_judged onu eqd, (λ h. h, (λ h. h, (λ h. h, tt))))))))))))
   message_judged (down.Deactivate onu) =
-      (λ h. refl, (λ h. h, (λ h. h, (λ h. h, (λ h. h, (λ h. h, (nobody_judged (down.Deactivate onu), (λ h. h, (λ h. h, (λ h. h, (λ h. h, (λ h. h, tt))))))))))))
-  message_judged (down.DisableSerial serial) = (λ h. refl, (λ h. h, (λ h. h, (λ h. h, (λ h. h, (λ h. h, (λ h. h, (λ h. h, (λ h. h, (λ h. h, (λ h. h, (λ h. h, tt))))))))))))
-  message_judged (down.EnableSerial serial) = (λ h. refl, (λ h. h, (λ h. h, (λ h. h, (λ h. h, (λ h. h, (λ h. h, (λ h. h, (λ h. h, (λ h. h, (λ h. h, (λ h. h, tt))))))))))))
-  message_judged down.EnableAll = (λ h. refl, (λ h. h, (λ h. h, (λ h. h, (λ h. h, (λ h. h, (λ h. h, (λ h. h, (λ h. h, (λ h. h, (λ h. h, (λ h. h, tt))))))))))))
+      (copies_judged (down.Deactivate onu), (λ h. h, (λ h. h, (λ h. h, (λ h. h, (λ h. h, (nobody_judged (down.Deactivate onu), (λ h. h, (λ h. h, (λ h. h, (λ h. h, (λ h. h, tt))))))))))))
+  message_judged (down.DisableSerial serial) = (copies_judged (down.DisableSerial serial), (λ h. h, (λ h. h, (λ h. h, (λ h. h, (λ h. h, (λ h. h, (λ h. h, (λ h. h, (λ h. h, (λ h. h, (λ h. h, tt))))))))))))
+  message_judged (down.EnableSerial serial) = (copies_judged (down.EnableSerial serial), (λ h. h, (λ h. h, (λ h. h, (λ h. h, (λ h. h, (λ h. h, (λ h. h, (λ h. h, (λ h. h, (λ h. h, (λ h. h, tt))))))))))))
+  message_judged down.EnableAll = (copies_judged down.EnableAll, (λ h. h, (λ h. h, (λ h. h, (λ h. h, (λ h. h, (λ h. h, (λ h. h, (λ h. h, (λ h. h, (λ h. h, (λ h. h, tt))))))))))))
   message_judged (down.AssignAlloc onu alloc true) =
-      (λ h. refl, (λ h. refl, (λ h. h, (λ h. h, (λ h. h, (λ h. h, (nobody_judged (down.AssignAlloc onu alloc true), (λ h. h, (λ h. h, (unranged_judged onu, (λ h. refl, (λ h. h, tt))))))))))))
+      (copies_judged (down.AssignAlloc onu alloc true), (λ h. refl, (λ h. h, (λ h. h, (λ h. h, (λ h. h, (nobody_judged (down.AssignAlloc onu alloc true), (λ h. h, (λ h. h, (unranged_judged onu, (owner_known onu (get watch.seen.alloc alloc), (λ h. h, tt))))))))))))
   message_judged (down.AssignAlloc onu alloc false) =
-      (λ h. refl, (λ h. h, (λ h. h, (λ h. h, (λ h. h, (λ h. h, (nobody_judged (down.AssignAlloc onu alloc false), (λ h. h, (λ h. h, (unranged_judged onu, (λ h. h, (first (rules.is_held watch onu) _, tt))))))))))))
-  message_judged down.NoMessage = (λ h. refl, (λ h. h, (λ h. h, (λ h. h, (λ h. h, (λ h. h, (λ h. h, (λ h. h, (λ h. h, (λ h. h, (λ h. h, (λ h. h, tt))))))))))))
+      (copies_judged (down.AssignAlloc onu alloc false), (λ h. h, (λ h. h, (λ h. h, (λ h. h, (λ h. h, (nobody_judged (down.AssignAlloc onu alloc false), (λ h. h, (λ h. h, (unranged_judged onu, (λ h. h, (first (rules.is_held watch onu) _, tt))))))))))))
+  message_judged down.NoMessage = (copies_judged down.NoMessage, (λ h. h, (λ h. h, (λ h. h, (λ h. h, (λ h. h, (λ h. h, (λ h. h, (λ h. h, (λ h. h, (λ h. h, (λ h. h, tt))))))))))))
   message_judged (down.Popup onu) =
-      (λ h. refl, (λ h. h, (λ h. h, (λ h. h, (λ h. h, (λ h. h, (nobody_judged (down.Popup onu), (λ h. h, (λ h. h, (second_as (not (onu == broadcast_onu)) _ _ (unranged_judged onu), (λ h. h, (λ h. h, tt))))))))))))
-  message_judged (down.Other id octet1 body) = (λ h. refl, (λ h. h, (λ h. h, (λ h. h, (λ h. h, (λ h. h, (λ h. h, (λ h. h, (λ h. h, (λ h. h, (λ h. h, (λ h. h, tt))))))))))))
+      (copies_judged (down.Popup onu), (λ h. h, (λ h. h, (λ h. h, (λ h. h, (λ h. h, (nobody_judged (down.Popup onu), (λ h. h, (λ h. h, (second_as (not (onu == broadcast_onu)) _ _ (unranged_judged onu), (λ h. h, (λ h. h, tt))))))))))))
+  message_judged (down.Other id octet1 body) = (copies_judged (down.Other id octet1 body), (λ h. h, (λ h. h, (λ h. h, (λ h. h, (λ h. h, (λ h. h, (λ h. h, (λ h. h, (λ h. h, (λ h. h, (λ h. h, tt))))))))))))
 
   told_judged : (message : Down)
       → list_all (λ r. judged.judges_garbled r || judged.copy_judges watch message r) (copy_breaks settings watch message) ≡ true
@@ -152,15 +185,15 @@ module _ (settings : rules.Settings) (watch : Watch) where
   drift_judged message (Some delay) h =
       second_as (not (octet1_of message == broadcast_onu) && not (units.breaks_number watch message)) _ _ (there_is _ _) h
 
-  disabled_judged : (message : Up) → units.breaks_disabled watch message ≡ true → judged.asks message ≡ true
-  disabled_judged (up.SerialNumber onu serial random flags) h = first (onu == broadcast_onu) _ h
+  disabled_judged : (message : Up) → units.breaks_disabled watch message ≡ true → judged.judges_disabled watch message ≡ true
+  disabled_judged (up.SerialNumber onu serial random flags) h = second_as (onu == broadcast_onu) _ _ (or_right (judged.knows_serial watch serial) _) h
   disabled_judged (up.DyingGasp onu) h = h
   disabled_judged (up.NoMessage onu) h = h
   disabled_judged (up.Acknowledge onu id copy) h = h
   disabled_judged (up.Other onu id body) h = h
 
-  anew_judged : (message : Up) → units.breaks_anew watch message ≡ true → judged.asks message ≡ true
-  anew_judged (up.SerialNumber onu serial random flags) h = first (onu == broadcast_onu) _ h
+  anew_judged : (message : Up) → units.breaks_anew watch message ≡ true → judged.judges_anew watch message ≡ true
+  anew_judged (up.SerialNumber onu serial random flags) h = second_as (onu == broadcast_onu) _ _ (or_right (judged.knows_serial watch serial) _) h
   anew_judged (up.DyingGasp onu) h = h
   anew_judged (up.NoMessage onu) h = h
   anew_judged (up.Acknowledge onu id copy) h = h

@@ -2,7 +2,9 @@
 -- rule). Of anything else nothing is said by the rule, so that it is kept says nothing either.
 use Rattle.std.specs.Prelude.{◌≡◌, ◌==◌, ◌&&◌, ◌||◌, ℕ, Bool, true, false, not, Option, None, Some, is_some}
 use Rattle.std.specs.FinMap.{get}
+use Rattle.std.specs.FinSet.{contains}
 use Rattle.std.specs.List.{list_all}
+use Rattle.gp_ploam.specs.declared.message.Serial.{Serial}
 use Rattle.gp_ploam.specs.declared.message.Down.{Down}
 use Rattle.gp_ploam.specs.declared.message.Down.TheVariants.{AssignOnu, RangingTime, AssignAlloc, Popup, NoMessage}
 use Rattle.gp_ploam.specs.declared.message.Up.{Up}
@@ -10,21 +12,44 @@ use Rattle.gp_ploam.specs.declared.message.Up.TheVariants.{SerialNumber, Acknowl
 use Rattle.gp_ploam.specs.OnuIds.{broadcast_onu}
 use Rattle.gp_ploam.specs.Up.{octet1_of}
 use Rattle.gp_ranging.specs.declared.grant.Grant.{Grant}
-use Rattle.gp_ranging.specs.declared.grant.Grant.TheVariants.{Search, Range, Poll}
+use Rattle.gp_ranging.specs.declared.grant.Grant.TheVariants.{Range, Poll}
 use Rattle.gp_observer.specs.declared.rule.Rule.{Rule}
 use Rattle.gp_observer.specs.declared.rule.Rule.TheVariants as rule
 use Rattle.gp_observer.specs.Heard.{Heard, HeardDown, HeardUp, HeardGrant, breaks}
 use Rattle.gp_observer.specs.Observer.{some_passes}
-use Rattle.gp_observer.specs.Rules.{Settings, is_anothers, is_held, is_judged, unit_told}
+use Rattle.gp_observer.specs.Rules.{Settings, holds_one, is_held, is_judged, unit_told}
 use Rattle.gp_observer.specs.UnitRules.{breaks_number}
-use Rattle.gp_observer.specs.Watch.{Answers, Watch, can_follow, passes_over, tells}
+use Rattle.gp_observer.specs.Watch.{Answers, Watch, can_follow, passes_over, same_message, tells}
+
+-- ---- what is known
+
+-- all that was said of the serial number is known: it is followed, and nothing was said before
+abbrev pub knows_serial : Watch → Serial → Bool
+knows_serial watch serial = not watch.midway && can_follow watch serial
+
+-- it is known whether the serial number is disabled
+abbrev pub knows_disabled : Watch → Serial → Bool
+knows_disabled watch serial = knows_serial watch serial || contains watch.seen.disabled serial
+
+-- it is known whether the serial number holds an ONU-ID
+abbrev pub knows_held : Watch → Serial → Bool
+knows_held watch serial = knows_serial watch serial || holds_one watch serial (λ held. true)
+
+-- it is known whose the Alloc-ID is, or that it is nobody's
+abbrev pub knows_owner : Watch → Option ℕ → Bool
+knows_owner watch (Some owner) = is_judged watch owner
+knows_owner watch None = not watch.midway
 
 -- ---- the rules of a message down
 
--- `barred`, `renumbered`: Assign_ONU-ID
-abbrev pub is_assignment : Down → Bool
-is_assignment (AssignOnu onu serial) = true
-is_assignment _ = false
+-- `copies`: a message that came before has had its copies, or not
+abbrev pub judges_copies : Watch → Bool
+judges_copies watch = not (watch.to_come == 0) || (not watch.cut && not (same_message watch.last NoMessage))
+
+-- `barred`: Assign_ONU-ID to a serial number of which it is known whether it is disabled
+abbrev pub judges_barred : Watch → Down → Bool
+judges_barred watch (AssignOnu onu serial) = knows_disabled watch serial
+judges_barred watch _ = false
 
 -- `range`: Assign_ONU-ID, and Assign_Alloc-ID that gives one
 abbrev pub gives_number : Down → Bool
@@ -32,7 +57,7 @@ gives_number (AssignOnu onu serial) = true
 gives_number (AssignAlloc onu alloc keep) = keep
 gives_number _ = false
 
--- `unasked`: Assign_ONU-ID to a serial number of which it is known whether it asked
+-- `unasked`: Assign_ONU-ID to a serial number of which it is known how often it asked
 abbrev pub judges_unasked : Watch → Down → Bool
 judges_unasked watch (AssignOnu onu serial) = not watch.midway && is_judged watch onu && can_follow watch serial
 judges_unasked watch _ = false
@@ -42,7 +67,12 @@ abbrev pub judges_taken : Watch → Down → Bool
 judges_taken watch (AssignOnu onu serial) = is_judged watch onu || is_some (get watch.seen.holder onu)
 judges_taken watch _ = false
 
--- `nobody`: a message to one of which it is known
+-- `renumbered`: Assign_ONU-ID to a serial number of which it is known whether it holds one
+abbrev pub judges_renumbered : Watch → Down → Bool
+judges_renumbered watch (AssignOnu onu serial) = knows_held watch serial
+judges_renumbered watch _ = false
+
+-- `nobody`: a message to one of which it is known who holds it, or that nobody does
 abbrev pub judges_nobody : Watch → Down → Bool
 judges_nobody watch message = some_passes (is_judged watch) (unit_told message)
 
@@ -66,10 +96,10 @@ judges_early watch (AssignAlloc onu alloc keep) = is_held watch onu
 judges_early watch (Popup onu) = not (onu == broadcast_onu) && is_held watch onu
 judges_early watch _ = false
 
--- `shared`: Assign_Alloc-ID gives one
-abbrev pub gives_alloc : Down → Bool
-gives_alloc (AssignAlloc onu alloc keep) = keep
-gives_alloc _ = false
+-- `shared`: Assign_Alloc-ID gives one of which it is known whose it is, or that it is nobody's
+abbrev pub judges_shared : Watch → Down → Bool
+judges_shared watch (AssignAlloc onu alloc keep) = keep && knows_owner watch (get watch.seen.alloc alloc)
+judges_shared watch _ = false
 
 -- `not-held`: Assign_Alloc-ID takes one back from a unit
 abbrev pub judges_not_held : Watch → Down → Bool
@@ -78,26 +108,31 @@ judges_not_held watch _ = false
 
 -- the rule is judged of a message that is told
 abbrev pub message_judges : Watch → Down → Rule → Bool
-message_judges watch _ rule.Copies = true
+message_judges watch _ rule.Copies = judges_copies watch
 message_judges watch message rule.Range = gives_number message
-message_judges watch message rule.Barred = is_assignment message
+message_judges watch message rule.Barred = judges_barred watch message
 message_judges watch message rule.Unasked = judges_unasked watch message
 message_judges watch message rule.Taken = judges_taken watch message
-message_judges watch message rule.Renumbered = is_assignment message
+message_judges watch message rule.Renumbered = judges_renumbered watch message
 message_judges watch message rule.Nobody = judges_nobody watch message
 message_judges watch message rule.Unranged = judges_unranged watch message
 message_judges watch message rule.Delay = judges_delay watch message
 message_judges watch message rule.Early = judges_early watch message
-message_judges watch message rule.Shared = gives_alloc message
+message_judges watch message rule.Shared = judges_shared watch message
 message_judges watch message rule.NotHeld = judges_not_held watch message
 message_judges watch _ _ = false
 
 -- ---- those of a message up
 
--- `disabled`, `anew`: a unit asks
-abbrev pub asks : Up → Bool
-asks (SerialNumber onu serial random flags) = onu == broadcast_onu
-asks _ = false
+-- `disabled`: a unit asks of which it is known whether it is disabled
+abbrev pub judges_disabled : Watch → Up → Bool
+judges_disabled watch (SerialNumber onu serial random flags) = onu == broadcast_onu && knows_disabled watch serial
+judges_disabled watch _ = false
+
+-- `anew`: a unit asks of which it is known whether it holds an ONU-ID
+abbrev pub judges_anew : Watch → Up → Bool
+judges_anew watch (SerialNumber onu serial random flags) = onu == broadcast_onu && knows_held watch serial
+judges_anew watch _ = false
 
 -- `number`: it speaks with an ONU-ID of which it is known who holds it, or that nobody does
 abbrev pub judges_number : Watch → Up → Bool
@@ -118,8 +153,8 @@ judges_drift watch message (Some delay) =
 -- the rule is judged of a message up
 abbrev pub answer_judges : Watch → Up → Option ℕ → Rule → Bool
 answer_judges watch _ delay rule.Garbled = true
-answer_judges watch message delay rule.Disabled = asks message
-answer_judges watch message delay rule.Anew = asks message
+answer_judges watch message delay rule.Disabled = judges_disabled watch message
+answer_judges watch message delay rule.Anew = judges_anew watch message
 answer_judges watch message delay rule.Number = judges_number watch message
 answer_judges watch message delay rule.Acknowledge = judges_acknowledge watch message
 answer_judges watch message delay rule.Drift = judges_drift watch message delay

@@ -8,42 +8,92 @@ use crate::rules::unit_told;
 use crate::unit_rules::ASSIGN_ALLOC_ID;
 use crate::watch::PortWatch;
 use gp_observer::Rule;
-use gp_ploam::{BROADCAST_ONU, Down, Up};
+use gp_ploam::{BROADCAST_ONU, Down, Serial, Up};
 use gp_ranging::Grant;
-
-/// Tells whether a message is Assign_ONU-ID.
-fn is_assignment(message: &Down) -> bool
-    ensures { result ≡ spec.is_assignment message.now }
-{
-    matches!(message, Down::AssignOnu { .. })
-}
-
-/// Tells whether a message is Assign_Alloc-ID that gives one.
-fn gives_alloc(message: &Down) -> bool
-    ensures { result ≡ spec.gives_alloc message.now }
-{
-    matches!(message, Down::AssignAlloc { keep: true, .. })
-}
 
 /// Tells whether a message gives an ONU-ID or a further Alloc-ID.
 fn gives_number(message: &Down) -> bool
     ensures { result ≡ spec.gives_number message.now }
 {
-    is_assignment(message) || gives_alloc(message)
-}
-
-/// Tells whether a unit asks.
-fn asks(message: &Up) -> bool
-    ensures { result ≡ spec.asks message.now }
-{
-    match *message {
-        Up::SerialNumber { onu, .. } => onu == BROADCAST_ONU,
-        _ => false,
-    }
+    matches!(
+        message,
+        Down::AssignOnu { .. } | Down::AssignAlloc { keep: true, .. }
+    )
 }
 
 impl PortWatch {
-    /// Tells whether an ONU-ID is given to a serial number of which it is known whether it asked.
+    /// Tells whether all that was said of a serial number is known: it is followed, and nothing was said before.
+    fn knows_serial(&self, serial: &Serial) -> bool
+        ensures { result ≡ spec.knows_serial self.now serial.now }
+    {
+        !self.is_midway() && self.can_follow(serial)
+    }
+
+    /// Tells whether it is known whether a serial number is disabled.
+    fn knows_disabled(&self, serial: &Serial) -> bool
+        ensures { result ≡ spec.knows_disabled self.now serial.now }
+    {
+        self.knows_serial(serial) || self.is_disabled(serial)
+    }
+
+    /// Tells whether it is known whether a serial number holds an ONU-ID.
+    fn knows_held(&self, serial: &Serial) -> bool
+        ensures { result ≡ spec.knows_held self.now serial.now }
+    {
+        self.knows_serial(serial) || self.holds_any(serial)
+    }
+
+    /// Tells whether it is known whose an Alloc-ID is, or that it is nobody's.
+    fn knows_owner(&self, owner: Option<u8>) -> bool
+        ensures { result ≡ spec.knows_owner self.now owner }
+    {
+        match owner {
+            Some(owner) => self.is_judged(owner),
+            None => !self.is_midway(),
+        }
+    }
+
+    /// Tells whether a message came before of which it is known how many copies it had.
+    fn judges_copies(&self) -> bool
+        ensures { result ≡ spec.judges_copies self.now }
+    {
+        self.to_come() != 0 || (!self.is_cut() && self.last() != Down::NoMessage)
+    }
+
+    /// Tells whether an ONU-ID is given to a serial number of which it is known whether it is disabled.
+    fn judges_barred(&self, message: &Down) -> bool
+        ensures { result ≡ spec.judges_barred self.now message.now }
+    {
+        match *message {
+            Down::AssignOnu { serial, .. } => self.knows_disabled(&serial),
+            _ => false,
+        }
+    }
+
+    /// Tells whether an ONU-ID is given to a serial number of which it is known whether it holds one.
+    fn judges_renumbered(&self, message: &Down) -> bool
+        ensures { result ≡ spec.judges_renumbered self.now message.now }
+    {
+        match *message {
+            Down::AssignOnu { serial, .. } => self.knows_held(&serial),
+            _ => false,
+        }
+    }
+
+    /// Tells whether an Alloc-ID is given of which it is known whose it is, or that it is nobody's.
+    fn judges_shared(&self, message: &Down) -> bool
+        ensures { result ≡ spec.judges_shared self.now message.now }
+    {
+        match *message {
+            Down::AssignAlloc {
+                alloc,
+                keep: true,
+                ..
+            } => self.knows_owner(self.owner(alloc)),
+            _ => false,
+        }
+    }
+    /// Tells whether an ONU-ID is given to a serial number of which it is known how often it asked.
     fn judges_unasked(&self, message: &Down) -> bool
         ensures { result ≡ spec.judges_unasked self.now message.now }
     {
@@ -125,16 +175,17 @@ impl PortWatch {
         ensures { result ≡ spec.message_judges self.now message.now rule }
     {
         match rule {
-            Rule::Copies => true,
+            Rule::Copies => self.judges_copies(),
             Rule::Range => gives_number(message),
-            Rule::Barred | Rule::Renumbered => is_assignment(message),
+            Rule::Barred => self.judges_barred(message),
+            Rule::Renumbered => self.judges_renumbered(message),
             Rule::Unasked => self.judges_unasked(message),
             Rule::Taken => self.judges_taken(message),
             Rule::Nobody => self.judges_nobody(message),
             Rule::Unranged => self.judges_unranged(message),
             Rule::Delay => self.judges_delay(message),
             Rule::Early => self.judges_early(message),
-            Rule::Shared => gives_alloc(message),
+            Rule::Shared => self.judges_shared(message),
             Rule::NotHeld => self.judges_not_held(message),
             _ => false,
         }
@@ -155,6 +206,30 @@ impl PortWatch {
         match message {
             None | Some(Down::NoMessage) => rule == Rule::Garbled,
             Some(message) => rule == Rule::Garbled || self.copy_judges(message, rule),
+        }
+    }
+
+    /// Tells whether a unit asks of which it is known whether it is disabled.
+    fn judges_disabled(&self, message: &Up) -> bool
+        ensures { result ≡ spec.judges_disabled self.now message.now }
+    {
+        match *message {
+            Up::SerialNumber { onu, serial, .. } => {
+                onu == BROADCAST_ONU && self.knows_disabled(&serial)
+            }
+            _ => false,
+        }
+    }
+
+    /// Tells whether a unit asks of which it is known whether it holds an ONU-ID.
+    fn judges_anew(&self, message: &Up) -> bool
+        ensures { result ≡ spec.judges_anew self.now message.now }
+    {
+        match *message {
+            Up::SerialNumber { onu, serial, .. } => {
+                onu == BROADCAST_ONU && self.knows_held(&serial)
+            }
+            _ => false,
         }
     }
 
@@ -193,7 +268,8 @@ impl PortWatch {
     {
         match rule {
             Rule::Garbled => true,
-            Rule::Disabled | Rule::Anew => asks(message),
+            Rule::Disabled => self.judges_disabled(message),
+            Rule::Anew => self.judges_anew(message),
             Rule::Number => self.judges_number(message),
             Rule::Acknowledge => self.judges_acknowledge(message),
             Rule::Drift => self.judges_drift(message, delay),

@@ -142,8 +142,8 @@ IsVerifyStatus at_least (Err (check.Trace fault)) status = status ≡ verify_sta
 abbrev pub IsVerified : Option ℕ → ℕ → Type 0
 IsVerified at_least status = (outcome : Result ℕ CheckFault) × IsVerifyStatus at_least outcome status
 
--- the status after a log was audited to its end: where a line was none, or nothing was heard, or nothing that is judged,
--- not all was looked at; else it tells whether a rule is broken
+-- the status after a log was audited to its end: where a line was none, or nothing was heard, or nothing that is
+-- judged, not all was looked at; else it tells whether a rule is broken
 abbrev pub audited_status : Audited → ℕ
 audited_status audited =
     if not (audited.sum.errors == 0) then BAD_INPUT

@@ -4,8 +4,8 @@ ghost use Rattle.oltctl.specs.Statuses.{IsAudited, audit_status, audited_status}
 
 use crate::observed::{Observed, Seen};
 use crate::progress::Counted;
-use crate::reporting::{refuse_option, report};
-use gp_audit::{AuditOptions, Auditor, Judged, RuleSet, audit_log};
+use crate::reporting::{refuse_option, report, report_silence};
+use gp_audit::{AuditOptions, Auditor, FindingChoice, Judged, RuleSet, audit_log};
 use gp_command_line::Audit;
 use gp_finding::AuditSum;
 use gp_flow::LinesFault;
@@ -71,68 +71,65 @@ fn audit_file<R: AllocGlobal + Files + Print + Eprint + Input + Clock>(
     }
 }
 
-/// Says why nothing of what was heard was judged, and answers the exit status.
-fn report_unjudged<R: Eprint>(rt: &R, judged: &Judged) -> u8
-    ensures { result ≡ BAD_INPUT }
-{
-    let _ = match judged.passed_over {
+/// Says that no rule was judged of what was heard.
+fn tell_none_judged<R: Eprint>(rt: &R, judged: &Judged) {
+    let _ = match judged.garbled {
         0 => eprintln!(rt; "oltctl: nothing was heard that these rules judge"),
         codes => eprintln!(rt;
-            "oltctl: nothing was judged; codes garbled under this mask: {codes}"
+            "oltctl: nothing was heard that these rules judge; codes garbled under this mask: {codes}"
         ),
     };
-    BAD_INPUT
 }
 
-/// Says what of a log was not judged, though something was: garbled codes where they are not told, a side that said
-/// nothing, and who holds an ONU-ID where none was assigned.
+/// Says of which side no rule was judged, where all are told.
+fn tell_silent_side<R: Eprint>(rt: &R, told: &FindingChoice, judged: &Judged) {
+    if told.rules != RuleSet::all() {
+        return;
+    }
+    if told.terminal && !judged.terminal {
+        let _ = eprintln!(rt; "oltctl: nothing of the terminal was judged");
+    }
+    if told.units && !judged.units {
+        let _ = eprintln!(rt; "oltctl: nothing of the units was judged");
+    }
+}
+
+/// Says what was not judged, though a rule was: garbled codes where they are not told, a side of which nothing is, and
+/// who holds an ONU-ID where none is known.
 fn tell_unjudged<R: Eprint>(rt: &R, options: &AuditOptions, judged: &Judged) {
-    let Judged {
-        terminal,
-        units,
-        holders,
-        passed_over,
-    } = *judged;
-    if passed_over != 0 {
-        let _ = eprintln!(rt;
-            "oltctl: codes garbled under this mask, of which nothing was judged: {passed_over}"
-        );
+    if !judged.terminal && !judged.units {
+        return tell_none_judged(rt, judged);
     }
-    if options.told.rules == RuleSet::all() {
-        if options.told.terminal && !terminal {
-            let _ = eprintln!(rt; "oltctl: nothing of the terminal was judged");
-        }
-        if options.told.units && !units {
-            let _ = eprintln!(rt; "oltctl: nothing of the units was judged");
-        }
+    if judged.garbled != 0 {
+        let codes = judged.garbled;
+        let _ = eprintln!(rt; "oltctl: codes garbled under this mask, not judged: {codes}");
     }
-    if options.midway && !holders && options.told.tells_of_holders() {
-        let _ = eprintln!(rt;
-            "oltctl: with --midway it was of no ONU-ID known who holds it, so nothing was judged by that"
-        );
+    tell_silent_side(rt, &options.told, judged);
+    if options.midway && options.told.tells_of_holders() && !judged.holders {
+        let _ = eprintln!(rt; "oltctl: no rule about who holds an ONU-ID was judged (--midway)");
     }
 }
 
-/// Says that a log had lines that were none, or nothing that was heard or judged, and answers the exit status.
+/// Says that a log had lines that were none, nothing that was heard, or something that was not judged, and answers the
+/// exit status.
 fn end_audited<R: Eprint>(rt: &R, options: &AuditOptions, audited: &Audited) -> u8
     ensures { result ≡ audited_status audited.now }
 {
-    if audited.sum.errors != 0 {
-        let errors = audited.sum.errors;
+    let errors = audited.sum.errors;
+    if errors != 0 {
         let _ = eprintln!(rt; "oltctl: lines answered by an error: {errors}");
         let _ = eprintln!(rt;
-            "oltctl: what they say was not heard, so findings behind them may come of that; see oltctl audit --help"
+            "oltctl: findings behind such a line may come of it; see oltctl audit --help"
         );
-        return BAD_INPUT;
+    } else if audited.is_silent {
+        return report_silence(rt);
     }
-    if audited.is_silent {
-        return report(rt, ("oltctl: nothing was heard", BAD_INPUT));
+    if !audited.is_silent {
+        tell_unjudged(rt, options, &audited.judged);
     }
-    if !audited.judged.terminal && !audited.judged.units {
-        return report_unjudged(rt, &audited.judged);
-    }
-    tell_unjudged(rt, options, &audited.judged);
-    if audited.sum.findings == 0 {
+    if errors != 0 || (!audited.judged.terminal && !audited.judged.units) {
+        BAD_INPUT
+    } else if audited.sum.findings == 0 {
         SUCCESS
     } else {
         NOT_A_RUN
