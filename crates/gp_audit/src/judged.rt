@@ -1,6 +1,7 @@
 //! Whether something was heard of which a rule that is told is judged, and how many garbled codes were left out.
-ghost use Rattle.std.specs.Prelude.{◌≡◌};
+ghost use Rattle.std.specs.Prelude.{◌≡◌, ◌&&◌};
 ghost use Rattle.std.specs.List.{list_any};
+ghost use Rattle.gp_observer.specs.Judged.{judges};
 ghost use Rattle.gp_audit.specs.Judging as spec;
 ghost use Rattle.gp_audit.specs.RuleSet.{contains};
 ghost use Rattle.gp_watch.specs.Heard.{heard_of};
@@ -49,13 +50,22 @@ fn contains_any(rules: &RuleSet, these: &[Rule]) -> bool
     these.iter().any(|rule| rules.contains(*rule))
 }
 
+/// Tells whether one of these rules is in the set, and judged of something heard, by what is known before it.
+fn any_judged(rules: &RuleSet, these: &[Rule], watch: &PortWatch, heard: &Heard) -> bool
+    ensures { result ≡ list_any (λ rule. contains rules.now rule && judges watch.now (heard_of heard.now) rule)
+        these.now }
+{
+    these
+        .iter()
+        .any(|rule| rules.contains(*rule) && watch.judges(heard, *rule))
+}
+
 impl FindingChoice {
     /// Tells whether one of these rules is told, and judged of something heard, by what is known before it.
     fn judges_by(&self, these: &[Rule], watch: &PortWatch, heard: &Heard) -> bool
         ensures { result ≡ spec.judges_by these.now self.now watch.now (heard_of heard.now) }
     {
-        self.tells_side(heard)
-            && these.iter().any(|rule| self.rules.contains(*rule) && watch.judges(heard, *rule))
+        self.tells_side(heard) && any_judged(&self.rules, these, watch, heard)
     }
 
     /// Tells whether a rule that is told is judged of something heard, by what is known before it.
