@@ -48,7 +48,7 @@ fn push_wanted(
     out.extend_from_slice(b")")
 }
 
-/// Appends a code in words, or what would be right of it, between brackets.
+/// Appends a code in words, or what would be right of it, in parentheses.
 fn push_code(
     out: &mut Vec<u8>,
     note: &mut Vec<u8>,

@@ -225,12 +225,16 @@ that begin with # are passed over.
 
 Any other line, as the heading of a table, is answered by: error N KIND, N its number,
 KIND word, number, code, time or long; so is one whose time is before that of its port
-(time). Nothing of it is heard. error N full: more than 4096 serial numbers on a port.
+(time). Nothing of it is heard, so findings behind it may come of that. error N full: more
+than 4096 serial numbers on a port.
 
 Rules of the terminal: garbled copies range barred unasked taken renumbered nobody
 unranged delay early shared not-held grant; of units: garbled disabled anew number
 acknowledge drift. RULES are some of these, with commas between. One has to be left to
 tell: with --side, one that is judged on that side; with --midway, one other than unasked.
+A rule is judged only where it is known what it asks for. Standard error says where none
+of RULES was judged, where garbled codes were left out, where no rule was judged on one
+side, if all are told, and with --midway where none about who holds an ONU-ID was.
 
 Examples:
   oltctl audit lab.log
@@ -240,9 +244,9 @@ Examples:
   oltctl audit --side terminal --format json lab.log
 
 Exit status:
-  0  no rule that is told is broken; what was not judged is said on standard error
-  1  a line is answered by an error, nothing was heard, or nothing that the rules that
-     are told judge, or the log was not read; this comes before 7
+  0  no rule that is told is broken
+  1  a line is answered by an error, nothing was heard, no rule that is told was judged,
+     or the log was not read; this comes before 7
   2  the command line is wrong, or leaves no rule to tell
   3  out of memory
   4  the output takes no more
