@@ -233,8 +233,8 @@ unranged delay early shared not-held grant; of units: garbled disabled anew numb
 acknowledge drift. RULES are some of these, with commas between. One has to be left to
 tell: with --side, one that is judged on that side; with --midway, one other than unasked.
 A rule is judged only where it is known what it asks for. Standard error says where none
-of RULES was judged, where garbled codes were left out, where no rule was judged on one
-side, if all are told, and with --midway where none about who holds an ONU-ID was.
+of RULES was judged, or none of those of a side, where garbled codes were left out, and,
+with --midway, where none about who holds an ONU-ID was.
 
 Examples:
   oltctl audit lab.log

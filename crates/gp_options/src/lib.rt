@@ -22,5 +22,5 @@ mod waves;
 pub use audit::audit_options;
 pub use bad_option::BadOption;
 pub use picture::picture_options;
-pub use sides::sides_are_judged;
+pub use sides::{sides_are_judged, tells_some};
 pub use waves::waves_options;

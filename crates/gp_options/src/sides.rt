@@ -43,7 +43,7 @@ fn contains_any(rules: &RuleSet, these: &[Rule]) -> bool
 
 /// Tells whether a choice leaves a rule that is judged on a side of which it tells. Who asked before a log that begins
 /// in the middle isn't known, so there `unasked` isn't judged.
-pub(crate) fn tells_some(midway: bool, choice: &FindingChoice) -> bool
+pub fn tells_some(midway: bool, choice: &FindingChoice) -> bool
     ensures { result ≡ tells_some midway choice.now }
 {
     let rules = &choice.rules;

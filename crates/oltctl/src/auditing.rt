@@ -5,11 +5,11 @@ ghost use Rattle.oltctl.specs.Statuses.{IsAudited, audit_status, audited_status}
 use crate::observed::{Observed, Seen};
 use crate::progress::Counted;
 use crate::reporting::{refuse_option, report, report_silence};
-use gp_audit::{AuditOptions, Auditor, FindingChoice, Judged, RuleSet, audit_log};
+use gp_audit::{AuditOptions, Auditor, FindingChoice, Judged, audit_log};
 use gp_command_line::Audit;
 use gp_finding::AuditSum;
 use gp_flow::LinesFault;
-use gp_options::audit_options;
+use gp_options::{audit_options, tells_some};
 use gp_report::{BAD_INPUT, NOT_A_RUN, SUCCESS, input_report};
 use gp_stream::{Sink, Source};
 use std::io;
@@ -81,15 +81,22 @@ fn tell_none_judged<R: Eprint>(rt: &R, judged: &Judged) {
     };
 }
 
-/// Says of which side no rule was judged, where all are told.
-fn tell_silent_side<R: Eprint>(rt: &R, told: &FindingChoice, judged: &Judged) {
-    if told.rules != RuleSet::all() {
-        return;
-    }
-    if told.terminal && !judged.terminal {
+/// Tells whether a choice leaves a rule that is judged of one side alone.
+fn tells_of_side(options: &AuditOptions, terminal: bool, units: bool) -> bool {
+    let told = FindingChoice {
+        terminal: terminal && options.told.terminal,
+        units: units && options.told.units,
+        rules: options.told.rules,
+    };
+    tells_some(options.midway, &told)
+}
+
+/// Says of which side no rule was judged, though one is told that is judged there.
+fn tell_silent_side<R: Eprint>(rt: &R, options: &AuditOptions, judged: &Judged) {
+    if !judged.terminal && tells_of_side(options, true, false) {
         let _ = eprintln!(rt; "oltctl: nothing of the terminal was judged");
     }
-    if told.units && !judged.units {
+    if !judged.units && tells_of_side(options, false, true) {
         let _ = eprintln!(rt; "oltctl: nothing of the units was judged");
     }
 }
@@ -104,7 +111,7 @@ fn tell_unjudged<R: Eprint>(rt: &R, options: &AuditOptions, judged: &Judged) {
         let codes = judged.garbled;
         let _ = eprintln!(rt; "oltctl: codes garbled under this mask, not judged: {codes}");
     }
-    tell_silent_side(rt, &options.told, judged);
+    tell_silent_side(rt, options, judged);
     if options.midway && options.told.tells_of_holders() && !judged.holders {
         let _ = eprintln!(rt; "oltctl: no rule about who holds an ONU-ID was judged (--midway)");
     }
@@ -118,9 +125,11 @@ fn end_audited<R: Eprint>(rt: &R, options: &AuditOptions, audited: &Audited) -> 
     let errors = audited.sum.errors;
     if errors != 0 {
         let _ = eprintln!(rt; "oltctl: lines answered by an error: {errors}");
-        let _ = eprintln!(rt;
-            "oltctl: findings behind such a line may come of it; see oltctl audit --help"
-        );
+        if audited.sum.findings != 0 {
+            let _ = eprintln!(rt;
+                "oltctl: findings behind such a line may come of it; see oltctl audit --help"
+            );
+        }
     } else if audited.is_silent {
         return report_silence(rt);
     }
