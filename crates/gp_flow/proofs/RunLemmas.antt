@@ -13,13 +13,13 @@ use Rattle.gp_stream.specs.declared.sink.WriteStopped.{WriteStopped}
 use Rattle.gp_stream.specs.Sink.{SinkState, KeepsNothing, Takes, TakesPrefix, Finishes}
 use Rattle.gp_stream.proofs.SinkLemmas.{gives_unstopped, takes_more, takes_prefix_after}
 use Rattle.gp_stream.specs.Source.{SourceState}
-use Rattle.gp_flow.specs.Lines.{Speech, DoesAll, AnswersAll, GetsAll, GetsPrefix, HandsIn, Leaves, handed, lines_of, Serves, ServesAll, ServesEnded, ServesSome, ServesTo, Stops, end_of_input, tells_stopped}
+use Rattle.gp_flow.specs.Lines.{Speech, DoesAll, AnswersAll, FullAt, GetsAll, GetsPrefix, HandsIn, Leaves, handed, lines_of, Serves, ServesAll, ServesEnded, ServesSome, ServesTo, Stops, end_of_input, tells_stopped}
 use Rattle.gp_flow.specs.Gathering.{Gathered, ServesGathered, WritesOut}
 use Rattle.gp_flow.specs.declared.lines.LinesEnd.{LinesEnd}
 use Rattle.gp_flow.specs.Lines.{with_feeds}
 use Rattle.gp_flow.specs.OpenLine.{OpenLine, fed_lines, fed_text, last_line}
 use Rattle.gp_flow.proofs.LineLemmas.{fed_lines-append, fed_text-append, fed_ended, fed_all, fed_whole}
-use Rattle.gp_flow.proofs.AnswerLemmas.{answers_more, finish_answers}
+use Rattle.gp_flow.proofs.AnswerLemmas.{answers_more, finish_answers, full_before}
 
 -- where nothing is gathered any more, the writer got everything
 written_all : {W : Type 0} (before after : SinkState W) (said : List ℕ) → Takes before after said → after.gathered ≡ [] → Appends before.held after.held (before.gathered ++ said)
@@ -36,6 +36,9 @@ gets_prefix before after said p =
 
 line_same : (e f : Unanswered) (answer : Result LinesEnd LinesFault) → answer ≡ Err (Line e) → answer ≡ Err (Line f) → e ≡ f
 line_same e f answer p q = cc
+
+line_err : (T : Type 0) (e : Unanswered) → ◌≡◌ {A = Result LinesEnd LinesFault} (Err (Line e)) (Err (Line Full)) → ◌≡◌ {A = Result T Unanswered} (Err e) (Err Full)
+line_err T e same = cc
 
 by_fault : (P : Unanswered → Type 0) (e f : Unanswered) (answer : Result LinesEnd LinesFault) → answer ≡ Err (Line e) → P e → answer ≡ Err (Line f) → P f
 by_fault P e f answer is h same = subst P (line_same e f answer is same) h
@@ -93,7 +96,7 @@ module _ {S R W : Type 0} (does : Speech S) (limit : ℕ) (line : OpenLine) (fro
     bytes = p.bytes ++ more;
     came = Consumes-trans _ _ _ p.bytes more p.came came;
     answers = rw (fed_lines-append limit [] p.bytes more) (answers_more does _ _ old mid new before between after tt (Ok tt) p.answers
-        (subst (λ l. AnswersAll {T = Unit {0}} does l mid new between after (Ok tt)) (more_lines more) (record { ok = answers.ok; error = tt; flushed = answers.flushed; stopped = answers.stopped })));
+        (subst (λ l. AnswersAll {T = Unit {0}} does l mid new between after (Ok tt)) (more_lines more) (record { ok = answers.ok; error = tt; full = λ e. absurd (cc); flushed = answers.flushed; stopped = answers.stopped })));
     line_is = next_is ∙ ap (λ (l : OpenLine). let o : OpenLine = record { text = fed_text l.limit l.text more; limit = l.limit } in o) p.line_is
         ∙ ap (λ (t : List ℕ). let o : OpenLine = record { text = t; limit = limit } in o) (sym (fed_text-append limit [] p.bytes more));
     kept = kept;
@@ -116,6 +119,7 @@ module _ {S R W : Type 0} (does : Speech S) (limit : ℕ) (line : OpenLine) (fro
     ok = (serves_ended now p.came, is);
     read = λ e. absurd (cc);
     fault = λ fault e. absurd (cc);
+    full = λ e. absurd (cc);
     tells_read = λ f t. absurd (let no : now.failed ≡ false = p.unfailed f in cc);
     failed = λ e. absurd (cc);
     stopped = p.answers.stopped;
@@ -127,6 +131,7 @@ module _ {S R W : Type 0} (does : Speech S) (limit : ℕ) (line : OpenLine) (fro
     ok = tt;
     read = λ _. serves_ended to (Consumes-kept _ _ _ p.bytes p.came kept);
     fault = λ fault e. absurd (cc);
+    full = λ e. absurd (cc);
     tells_read = λ _ _. refl;
     failed = λ _. why;
     stopped = p.answers.stopped;
@@ -152,6 +157,11 @@ module _ {S R W : Type 0} (does : Speech S) (limit : ℕ) (line : OpenLine) (fro
           spoken = within.spoken;
           written = gathered T e before after within.said within.written (answers.flushed p.kept.1);
         }) same;
+        full = λ same. record {
+          bytes = p.bytes ++ more;
+          read = Consumes-trans _ _ _ p.bytes more p.came came;
+          at = subst (λ l. FullAt does l old) all (full_before does (fed_lines limit [] p.bytes ++ begun) others old (sofar.full (line_err T e same)));
+        };
         tells_read = λ f t. absurd (let no : to.failed ≡ false = ok ∙ ap (λ v. v || false) (p.unfailed f) in cc);
         failed = λ e. absurd (cc);
         stopped = λ s. stops T e after.stopped (sofar.stopped s);
@@ -211,6 +221,7 @@ module _ {S R W : Type 0} (does : Speech S) (limit : ℕ) (line : OpenLine) (fro
         });
         read = λ e. absurd (cc);
         fault = λ fault e. absurd (cc);
+        full = λ e. absurd (cc);
         tells_read = λ f t. absurd (cc);
         failed = λ e. absurd (cc);
         stopped = all.stopped;
@@ -218,9 +229,9 @@ module _ {S R W : Type 0} (does : Speech S) (limit : ℕ) (line : OpenLine) (fro
 
 -- before the first read
 unbegun : {S R W : Type 0} (does : Speech S) (over : S → Bool) (limit : ℕ) (from : SourceState R) (old other : S) (before after : SinkState W) (e : Unanswered)
-    → Gathered e before after [] → (before.stopped ≡ false → Stops {T = LinesEnd} (Err (Line e)) after.stopped)
+    → (e ≡ Full → ⊥) → Gathered e before after [] → (before.stopped ≡ false → Stops {T = LinesEnd} (Err (Line e)) after.stopped)
     → ServesGathered does over limit from from old other before after (Err (Line e))
-unbegun does over limit from old other before after e g stopped = record {
+unbegun does over limit from old other before after e other_fault g stopped = record {
   ok = tt;
   read = λ e. absurd (cc);
   fault = λ fault same. by_fault (λ (f : Unanswered). ServesSome (Gathered f) does limit from from old before after) e fault (Err (Line e)) refl (record {
@@ -233,6 +244,7 @@ unbegun does over limit from old other before after e g stopped = record {
     spoken = refl;
     written = g;
   }) same;
+  full = λ same. absurd (other_fault (line_same e Full (Err (Line e)) refl same));
   tells_read = λ f t. absurd (cc);
   failed = λ e. absurd (cc);
   stopped = stopped;
@@ -241,13 +253,13 @@ unbegun does over limit from old other before after e g stopped = record {
 pub serves_start_fault : {S R W T : Type 0} (does : Speech S) (over : S → Bool) (limit : ℕ) (from : SourceState R) (old other : S) (before after : SinkState W) (e : WriteStopped)
     → Finishes {T = T} before after (Err e) → ServesGathered does over limit from from old other before after (Err (Line Write))
 serves_start_fault does over limit from old other before after e p =
-    unbegun does over limit from old other before after Write p.gives.error (λ s. p.gives.stopped ∙ ap (λ v. v || true) s)
+    unbegun does over limit from old other before after Write (λ e. absurd (cc)) p.gives.error (λ s. p.gives.stopped ∙ ap (λ v. v || true) s)
 
 -- no memory for the line
 pub serves_no_memory : {S R W T : Type 0} (does : Speech S) (over : S → Bool) (limit : ℕ) (from : SourceState R) (old : S) (before after : SinkState W) (x : T)
     → before.flushed ≡ true → Finishes {E = WriteStopped} before after (Ok x) → ServesGathered does over limit from from old old before after (Err (Line OutOfMemory))
 serves_no_memory does over limit from old before after x flushed p =
-    unbegun does over limit from old old before after OutOfMemory (p.gives.ok, p.gives.flushed flushed) (λ s. tt)
+    unbegun does over limit from old old before after OutOfMemory (λ e. absurd (cc)) (p.gives.ok, p.gives.flushed flushed) (λ s. tt)
 
 -- no read may be made
 pub no_read : (b : Bool) (left : ℕ) (failed : Bool) → IsTrue b ↔ ((0 < left) × (failed ≡ false)) → b ≡ false → (failed ≡ true) ⊎ (left ≡ 0)
@@ -294,11 +306,11 @@ stops_out Full between after written out h = tt
 module _ {S R W : Type 0} (does : Speech S) (over : S → Bool) (limit : ℕ) (from to : SourceState R) (old new : S) (before between : SinkState W) where
   pub served_end : (end : LinesEnd) → ServesGathered does over limit from to old new before between (Ok end) → Serves does over limit from to old new before between (Ok end)
   served_end end s =
-      record { ok = s.ok; read = s.read; fault = λ fault e. absurd (cc); tells_read = s.tells_read; failed = s.failed; stopped = s.stopped }
+      record { ok = s.ok; read = s.read; fault = λ fault e. absurd (cc); full = λ e. absurd (cc); tells_read = s.tells_read; failed = s.failed; stopped = s.stopped }
 
   pub served_read : ServesGathered does over limit from to old new before between (Err Read) → Serves does over limit from to old new before between (Err Read)
   served_read s =
-      record { ok = s.ok; read = s.read; fault = λ fault e. absurd (cc); tells_read = s.tells_read; failed = s.failed; stopped = s.stopped }
+      record { ok = s.ok; read = s.read; fault = λ fault e. absurd (cc); full = λ e. absurd (cc); tells_read = s.tells_read; failed = s.failed; stopped = s.stopped }
 
   pub served_fault : (e : Unanswered) (after : SinkState W) (written : Result (Unit {0}) WriteStopped) → ServesGathered does over limit from to old new before between (Err (Line e))
       → WritesOut e between after written → Serves does over limit from to old new before after (Err (Line e))
@@ -316,6 +328,7 @@ module _ {S R W : Type 0} (does : Speech S) (over : S → Bool) (limit : ℕ) (f
           spoken = some.spoken;
           written = written_out e before between after some.said written some.written out;
         }) same;
+        full = s.full;
         tells_read = s.tells_read;
         failed = s.failed;
         stopped = λ h. stops_out e between after written out (s.stopped h);

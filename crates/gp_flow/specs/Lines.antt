@@ -39,6 +39,10 @@ with_feeds lines = flat_map (λ (line : List ℕ). line ++ 10 ∷ []) lines
 abbrev pub longest_line : ℕ
 longest_line = 4096
 
+-- the most lines that can be counted in 64 bits
+abbrev pub most_lines : ℕ
+most_lines = 18446744073709551615
+
 -- what is handed on of a line: nothing of one that is longer than the limit
 abbrev pub handed : ℕ → List ℕ → Option (List ℕ)
 handed limit line = if nat_le (length line) limit then Some line else None
@@ -49,10 +53,13 @@ pub record Speech (S : Type 0) : Type 1 where
   pub says : S → Option (List ℕ) → List ℕ → S → Type 0
   -- the same where a fault came before the line was answered to its end
   pub begins : S → Option (List ℕ) → List ℕ → S → Type 0
+  -- why the work can take no more, at this line, from this state
+  pub full : S → Option (List ℕ) → Type 0
 
--- a speech in which a line is answered whole or not at all
-abbrev pub WholeLines : {S : Type 0} → (S → Option (List ℕ) → List ℕ → S → Type 0) → Speech S
-WholeLines says = record { says = says; begins = λ old line said new. ⊥ }
+-- a speech in which a line is answered whole or not at all, by why the work can take no more
+abbrev pub WholeLines : {S : Type 0} → (S → Option (List ℕ) → Type 0)
+    → (S → Option (List ℕ) → List ℕ → S → Type 0) → Speech S
+WholeLines full says = record { says = says; begins = λ old line said new. ⊥; full = full }
 
 -- from the old state, to these lines in their order, all these octets are said, to the new state
 abbrev pub DoesAll : {S : Type 0} → Speech S → S → List (Option (List ℕ)) → List ℕ → S → Type 0
@@ -98,6 +105,8 @@ pub record Answers {S W T : Type 0} (does : Speech S) (line : Option (List ℕ))
   -- all that is said to it was handed in
   pub ok : OnOk answer ((said : List ℕ) × does.says old line said new × Takes before after said)
   pub error : IfErr answer (λ fault. Starts does line fault old before after)
+  -- that the work can take no more is answered only where this is why
+  pub full : answer ≡ Err Full → does.full old line
   -- whatever was written was flushed
   pub flushed : before.flushed ≡ true → tells_stopped answer ≡ false → after.flushed ≡ true
   pub stopped : before.stopped ≡ false → after.stopped ≡ tells_stopped answer
@@ -115,11 +124,27 @@ pub record StopsWithin {S W : Type 0} (does : Speech S) (lines : List (Option (L
   pub spoken : DoesSome does old begun said
   pub written : HandsIn fault before after said
 
+-- at one of these lines the work can take no more
+pub record FullAt {S : Type 0} (does : Speech S) (lines : List (Option (List ℕ))) (old : S) : Type 0 where
+  -- the lines before it, which were answered, and what was said to them
+  pub answered : List (Option (List ℕ))
+  pub said : List ℕ
+  -- the state behind them
+  pub next : S
+  pub spoken : DoesAll does old answered said next
+  -- the line
+  pub line : Option (List ℕ)
+  -- the others
+  pub others : List (Option (List ℕ))
+  pub all : answered ++ line ∷ others ≡ lines
+  pub why : does.full next line
+
 -- lines were answered in their order, up to the first fault
 pub record AnswersAll {S W T : Type 0} (does : Speech S) (lines : List (Option (List ℕ))) (old new : S)
     (before after : SinkState W) (answer : Result T Unanswered) : Type 0 where
   pub ok : OnOk answer ((said : List ℕ) × DoesAll does old lines said new × Takes before after said)
   pub error : IfErr answer (λ fault. StopsWithin does lines fault old before after)
+  pub full : answer ≡ Err Full → FullAt does lines old
   pub flushed : before.flushed ≡ true → tells_stopped answer ≡ false → after.flushed ≡ true
   pub stopped : before.stopped ≡ false → after.stopped ≡ tells_stopped answer
 
@@ -195,6 +220,12 @@ pub record ServesSome {S R W : Type 0} (leaves : SinkState W → SinkState W →
   pub spoken : DoesSome does old begun said
   pub written : leaves before after said
 
+-- bytes came, and at one of their lines the work can take no more
+pub record ServesFull {S R : Type 0} (does : Speech S) (limit : ℕ) (from to : SourceState R) (old : S) : Type 0 where
+  pub bytes : List ℕ
+  pub read : Consumes from.remaining to.remaining bytes
+  pub at : FullAt does (map (handed limit) (lines_of bytes)) old
+
 -- whether the sink has stopped, by the answer, if it had not before. A fault other than a failed write is told also
 -- where the writing out behind it failed (`Leaves`).
 abbrev pub Stops : {T : Type 0} → Result T LinesFault → Bool → Type 0
@@ -212,6 +243,8 @@ pub record ServesUpTo {S R W : Type 0} (leaves : Unanswered → SinkState W → 
   pub read : answer ≡ Err Read → ServesEnded does limit from to old new before after
   pub fault : (fault : Unanswered) → answer ≡ Err (Line fault)
       → ServesSome (leaves fault) does limit from to old before after
+  -- that the work can take no more is answered only where one of the lines is why
+  pub full : answer ≡ Err (Line Full) → ServesFull does limit from to old
   -- a failed read is always answered
   pub tells_read : from.failed ≡ false → to.failed ≡ true → answer ≡ Err Read
   -- and only it and the bound of reads are
