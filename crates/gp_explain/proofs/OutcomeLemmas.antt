@@ -3,6 +3,7 @@ use Rattle.std.specs.Prelude.{is_some}
 use Rattle.std.proofs.Common.{◌≡◌, ℕ, true, false, List, [], ◌∷◌, ◌++◌, Option, None, Some, Result, Ok, Err, IsErrAnd, inl, inr, length, take, map, refl, sym, ap, subst, ◌∙◌, append_assoc, arith}
 use Rattle.std.proofs.lemmas.List.{append-nil, take_all}
 use Rattle.std.specs.Io.KnownBytes.{Appends, Consumes}
+use Rattle.gp_flow.specs.declared.fault.Unanswered.{Unanswered}
 use Rattle.gp_flow.specs.declared.fault.Unanswered.TheVariants.{OutOfMemory}
 use Rattle.gp_flow.specs.declared.lines.LinesEnd.{LinesEnd}
 use Rattle.gp_flow.specs.declared.lines.LinesEnd.TheVariants.{Whole, Open, Over}
@@ -18,7 +19,7 @@ use Rattle.gp_explain.specs.declared.fault.NoLine.{NoLine}
 use Rattle.gp_explain.specs.Words.{IsTraceLine}
 use Rattle.gp_explain.specs.Telling.{Manner}
 use Rattle.gp_flow.proofs.AnswerLemmas.{all_of_some}
-use Rattle.gp_explain.specs.Explaining.{ExplainState, Explaining, Explains, has_ended, opened_explain}
+use Rattle.gp_explain.specs.Explaining.{ExplainState, Explaining, Explains, IsFull, has_ended, opened_explain}
 use Rattle.gp_explain.specs.Outcome.{AreTold, ExplainsTrace, IsBegun, IsNone, IsRefused, finding}
 use Rattle.gp_explain.proofs.CourseLemmas.{Course, Fails, Halts, course, wholes}
 
@@ -202,9 +203,10 @@ module _ {R W : Type 0} (manner : Manner) (from to : SourceState R) (before afte
       )
   unread (faults.Line fault) new s =
       let e = s.fault fault refl in
-      let whole = all_of_some Explains (opened_explain manner) e.begun e.said e.spoken in
-      inl (begun (Leaves fault) whole.0.ended e.bytes (lines_of e.bytes) [] e.others e.begun e.said whole.0.lines e.read (sym (append-nil (lines_of e.bytes))) (sym e.all) e.written
-      (started manner whole.0 e.begun e.said whole.1))
+      let whole = all_of_some IsFull Explains (opened_explain manner) e.begun e.said e.spoken in
+      let some = begun (Leaves fault) whole.0.ended e.bytes (lines_of e.bytes) [] e.others e.begun e.said whole.0.lines e.read (sym (append-nil (lines_of e.bytes))) (sym e.all) e.written
+      (started manner whole.0 e.begun e.said whole.1) in
+      (inl some, λ is. s.full (ap (λ (f : Unanswered). let r : Result LinesEnd LinesFault = Err (faults.Line f) in r) is))
 
   pub unread_as : (fault : LinesFault) (old new : ExplainState) (answer : Result ℕ ExplainFault) → old ≡ opened_explain manner
       → IsErrAnd answer (λ told. told ≡ Lines fault) → Serves Explaining has_ended longest_line from to old new before after (Err fault) → ExplainsTrace manner from to before after answer
@@ -218,4 +220,4 @@ pub unbegun : {R W : Type 0} (manner : Manner) (from : SourceState R) (before : 
     → IsErrAnd answer (λ told. told ≡ Lines (faults.Line OutOfMemory)) → ExplainsTrace manner from from before before answer
 unbegun manner from before (Ok lines) told = absurd told
 unbegun manner from before (Err e) told =
-    subst (λ (x : ExplainFault). ExplainsTrace manner from from before before (Err x)) (sym told) (inr (refl, refl, refl))
+    subst (λ (x : ExplainFault). ExplainsTrace manner from from before before (Err x)) (sym told) (inr (refl, refl, refl), λ is. absurd (cc))

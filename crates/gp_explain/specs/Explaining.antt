@@ -1,6 +1,6 @@
 -- What is said to the lines of a trace (this profile's own rule).
 use Rattle.std.specs.Prelude.{◌≡◌, ℕ, ◌+◌, ◌⊎◌, Bool, List, [], Option, None, Some, is_some}
-use Rattle.gp_flow.specs.Lines.{Speech, WholeLines}
+use Rattle.gp_flow.specs.Lines.{Speech, WholeLines, most_lines}
 use Rattle.gp_explain.specs.declared.fault.NoLine.{NoLine}
 use Rattle.gp_explain.specs.declared.fault.NoLine.TheVariants.{NotALine, TooLong}
 use Rattle.gp_explain.specs.Words.{IsTraceLine}
@@ -40,9 +40,13 @@ SaysFrom None old (Some text) said new = SaysToText old text said new
 abbrev pub Explains : ExplainState → Option (List ℕ) → List ℕ → ExplainState → Type 0
 Explains old line said new = SaysFrom old.ended old line said new
 
+-- why no more lines can be taken: it has not ended, and so many have come as can be counted
+abbrev pub IsFull : ExplainState → Option (List ℕ) → Type 0
+IsFull state line = (state.ended ≡ None) × (state.lines ≡ most_lines)
+
 -- what is said to lines, each of which is answered whole or not at all
 abbrev pub Explaining : Speech ExplainState
-Explaining = WholeLines Explains
+Explaining = WholeLines IsFull Explains
 
 -- it has ended
 abbrev pub has_ended : ExplainState → Bool

@@ -1,9 +1,9 @@
 -- How telling a trace may end (this profile's own rule).
 use Rattle.std.specs.Prelude.{◌≡◌, ◌<◌, ◌⊎◌, ℕ, ◌+◌, true, List, [], ◌∷◌, ◌++◌, length, Option, Some, None, Result, Ok, Err}
 use Rattle.std.specs.Io.KnownBytes.{Appends, Consumes}
-use Rattle.gp_flow.specs.declared.fault.Unanswered.TheVariants.{OutOfMemory}
+use Rattle.gp_flow.specs.declared.fault.Unanswered.TheVariants.{OutOfMemory, Full}
 use Rattle.gp_flow.specs.declared.fault.LinesFault.TheVariants as faults
-use Rattle.gp_flow.specs.Lines.{GetsPrefix, Leaves, lines_of, longest_line}
+use Rattle.gp_flow.specs.Lines.{GetsPrefix, Leaves, ServesFull, lines_of, longest_line}
 use Rattle.gp_stream.specs.Sink.{SinkState, KeepsNothing}
 use Rattle.gp_stream.specs.Source.{SourceState, ReadsWhole}
 use Rattle.gp_explain.specs.declared.fault.ExplainFault.{ExplainFault}
@@ -12,6 +12,7 @@ use Rattle.gp_explain.specs.declared.fault.NoLine.{NoLine}
 use Rattle.gp_explain.specs.declared.fault.NoLine.TheVariants.{NotALine, TooLong}
 use Rattle.gp_explain.specs.Words.{IsTraceLine}
 use Rattle.gp_explain.specs.Telling.{Manner, TellsTraceLine}
+use Rattle.gp_explain.specs.Explaining.{Explaining, opened_explain}
 
 -- these texts are lines of a trace, and this is what is told of them, one after another
 abbrev pub AreTold : Manner → List (List ℕ) → List ℕ → Type 0
@@ -73,6 +74,7 @@ pub record IsBegun {R W : Type 0} (leaves : SinkState W → SinkState W → List
 
 -- how it may end; a failed read, and the bound of reads, are told as such. Where a line was not told, the writer got
 -- what is said to those before it, unless a write failed; or memory ran out before anything was read.
+-- That no more lines can be taken is told only where one of the lines is why.
 abbrev pub ExplainsTrace : {R W : Type 0} → Manner → SourceState R → SourceState R → SinkState W → SinkState W
     → Result ℕ ExplainFault → Type 0
 ExplainsTrace manner from to before after (Ok lines) = IsExplained manner from to before after lines
@@ -80,8 +82,9 @@ ExplainsTrace manner from to before after (Err (Refused line why)) = IsRefused m
 ExplainsTrace manner from to before after (Err (Lines faults.Read)) =
     IsBegun GetsPrefix manner from to before after × ((to.failed ≡ true) ⊎ (to.left ≡ 0))
 ExplainsTrace manner from to before after (Err (Lines (faults.Line fault))) =
-    IsBegun (Leaves fault) manner from to before after
-    ⊎ ((fault ≡ OutOfMemory) × (to ≡ from) × (after ≡ before))
+    (IsBegun (Leaves fault) manner from to before after
+    ⊎ ((fault ≡ OutOfMemory) × (to ≡ from) × (after ≡ before)))
+    × (fault ≡ Full → ServesFull Explaining longest_line from to (opened_explain manner))
 
 -- what was found, by what ended it, and how many lines came
 abbrev pub finding : Option NoLine → ℕ → Result ℕ ExplainFault
