@@ -3,7 +3,7 @@ use Rattle.std.specs.Prelude.{◌≡◌, ◌⊎◌, ℕ, ◌+◌, Bool, true, fa
 use Rattle.hex.specs.Hex.{encode_lower}
 use Rattle.gp_flow.specs.declared.lines.LinesEnd.{LinesEnd}
 use Rattle.gp_flow.specs.declared.fault.LinesFault.{LinesFault}
-use Rattle.gp_flow.specs.Lines.{Serves, Speech, WholeLines, longest_line}
+use Rattle.gp_flow.specs.Lines.{Serves, Speech, WholeLines, longest_line, most_lines}
 use Rattle.gp_stream.specs.Sink.{SinkState}
 use Rattle.gp_stream.specs.Source.{SourceState}
 use Rattle.gp_ploam.specs.declared.check.Mask.{Mask}
@@ -78,9 +78,13 @@ SaysToLine old None said new =
     (said ≡ error_line (old.lines + 1) (Part parts.Long)) × (new ≡ after (Some (Part parts.Long)) old)
 SaysToLine old (Some line) said new = SaysOrPasses old (without_return line) said new
 
+-- why no more lines can be taken: so many have come as can be counted
+abbrev pub IsFull : EncodeState → Option (List ℕ) → Type 0
+IsFull state line = state.lines ≡ most_lines
+
 -- what is said to lines, each of which is answered whole or not at all
 abbrev pub Encoding : Speech EncodeState
-Encoding = WholeLines SaysToLine
+Encoding = WholeLines IsFull SaysToLine
 
 -- it goes on to the end of the input
 abbrev pub never : EncodeState → Bool
