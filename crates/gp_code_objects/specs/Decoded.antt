@@ -18,7 +18,7 @@ use Rattle.gp_decode.specs.declared.direction.Direction.{Direction}
 use Rattle.gp_decode.specs.declared.fault.DecodeFault.{DecodeFault}
 use Rattle.gp_decode.specs.declared.fault.DecodeFault.TheVariants as fault
 use Rattle.gp_decode.specs.Line.{HasDecodeFault, HasWrongCheck}
-use Rattle.gp_decode.specs.Lines.{DecodeState, IsAnswer, after, counted, fault_name, faulted, mask_text, never, opened_in, other_mask, wanted_check}
+use Rattle.gp_decode.specs.Lines.{DecodeState, IsAnswer, IsFull, after, counted, fault_name, faulted, mask_text, never, opened_in, other_mask, wanted_check}
 use Rattle.gp_decode.specs.LineText.{code_digits, directed, is_remark, without_return}
 use Rattle.gp_json.specs.Message.{down_fields, down_name, key_text, text_field, up_fields, up_name}
 use Rattle.gp_code_objects.specs.Object.{code_field, direction_word, error_field, error_object, object_begun, object_end}
@@ -89,7 +89,7 @@ ShowsLine old (Some line) said new = ShowsOrPasses old (without_return line) sai
 
 -- what is said to lines, each of which is answered whole or not at all
 abbrev pub Showing : Speech DecodeState
-Showing = WholeLines ShowsLine
+Showing = WholeLines IsFull ShowsLine
 
 -- before the first line; a message is named by the standard wherever that has a name for it
 abbrev pub opened_objects : Direction → Mask → DecodeState

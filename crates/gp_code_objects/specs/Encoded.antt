@@ -13,7 +13,7 @@ use Rattle.gp_encode.specs.declared.encoder.WordsFaultAt.{WordsFaultAt}
 use Rattle.gp_encode.specs.declared.fault.WordsFault.{WordsFault}
 use Rattle.gp_encode.specs.declared.fault.WordsFault.TheVariants.{Part}
 use Rattle.gp_encode.specs.Encoding.{Encodes}
-use Rattle.gp_encode.specs.Lines.{EncodeState, IsAnswer, after, fault_name, never, opened_encode}
+use Rattle.gp_encode.specs.Lines.{EncodeState, IsAnswer, IsFull, after, fault_name, never, opened_encode}
 use Rattle.gp_code_objects.specs.Object.{code_field, error_object, object_begun, object_end}
 
 -- the object of a line whose words have this code
@@ -42,7 +42,7 @@ ShowsLine old (Some line) said new = ShowsOrPasses old (without_return line) sai
 
 -- what is said to lines, each of which is answered whole or not at all
 abbrev pub Showing : Speech EncodeState
-Showing = WholeLines ShowsLine
+Showing = WholeLines IsFull ShowsLine
 
 -- each line of an input was answered by an object, in their order, from where none had come
 pub record EncodesToObjects {R W : Type 0} (upstream : Bool) (mask : Mask) (from to : SourceState R)
