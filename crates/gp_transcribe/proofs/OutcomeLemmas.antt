@@ -3,6 +3,7 @@ use Rattle.std.specs.Prelude.{is_some}
 use Rattle.std.proofs.Common.{◌≡◌, ℕ, true, false, List, [], ◌∷◌, ◌++◌, Option, None, Some, Result, Ok, Err, IsErrAnd, inl, inr, length, take, map, refl, sym, ap, subst, ◌∙◌, append_assoc, arith}
 use Rattle.std.proofs.lemmas.List.{append-nil, take_all}
 use Rattle.std.specs.Io.KnownBytes.{Appends, Consumes}
+use Rattle.gp_flow.specs.declared.fault.Unanswered.{Unanswered}
 use Rattle.gp_flow.specs.declared.fault.Unanswered.TheVariants.{OutOfMemory}
 use Rattle.gp_flow.specs.declared.lines.LinesEnd.{LinesEnd}
 use Rattle.gp_flow.specs.declared.lines.LinesEnd.TheVariants.{Whole, Open, Over}
@@ -17,7 +18,7 @@ use Rattle.gp_explain.specs.declared.fault.ExplainFault.TheVariants.{Lines}
 use Rattle.gp_explain.specs.declared.fault.NoLine.{NoLine}
 use Rattle.gp_transcribe.specs.Entries.{IsTraceRead}
 use Rattle.gp_flow.proofs.AnswerLemmas.{all_of_some}
-use Rattle.gp_transcribe.specs.Transcribing.{TranscribeState, Transcribing, Says, has_ended, no_frames, opened_state}
+use Rattle.gp_transcribe.specs.Transcribing.{IsFull, TranscribeState, Transcribing, Says, has_ended, no_frames, opened_state}
 use Rattle.gp_transcribe.specs.Outcome.{AreTranscribed, TranscribesTrace, IsBegun, IsNone, IsRefused, finding}
 use Rattle.gp_transcribe.proofs.CourseLemmas.{Course, Fails, Halts, course, wholes}
 
@@ -201,9 +202,10 @@ module _ {R W : Type 0} (from to : SourceState R) (before after : SinkState W) w
       )
   unread (faults.Line fault) new s =
       let e = s.fault fault refl in
-      let whole = all_of_some Says opened_state e.begun e.said e.spoken in
-      inl (begun (Leaves fault) whole.0.ended e.bytes (lines_of e.bytes) [] e.others e.begun e.said whole.0.lines e.read (sym (append-nil (lines_of e.bytes))) (sym e.all) e.written
-      (started whole.0 e.begun e.said whole.1))
+      let whole = all_of_some IsFull Says opened_state e.begun e.said e.spoken in
+      let some = begun (Leaves fault) whole.0.ended e.bytes (lines_of e.bytes) [] e.others e.begun e.said whole.0.lines e.read (sym (append-nil (lines_of e.bytes))) (sym e.all) e.written
+      (started whole.0 e.begun e.said whole.1) in
+      (inl some, λ is. s.full (ap (λ (f : Unanswered). let r : Result LinesEnd LinesFault = Err (faults.Line f) in r) is))
 
   pub unread_as : (fault : LinesFault) (old new : TranscribeState) (answer : Result ℕ ExplainFault) → old ≡ opened_state
       → IsErrAnd answer (λ told. told ≡ Lines fault) → Serves Transcribing has_ended longest_line from to old new before after (Err fault) → TranscribesTrace from to before after answer
@@ -217,4 +219,4 @@ pub unbegun : {R W : Type 0} (from : SourceState R) (before : SinkState W) (answ
     → IsErrAnd answer (λ told. told ≡ Lines (faults.Line OutOfMemory)) → TranscribesTrace from from before before answer
 unbegun from before (Ok lines) told = absurd told
 unbegun from before (Err e) told =
-    subst (λ (x : ExplainFault). TranscribesTrace from from before before (Err x)) (sym told) (inr (refl, refl, refl))
+    subst (λ (x : ExplainFault). TranscribesTrace from from before before (Err x)) (sym told) (inr (refl, refl, refl), λ is. absurd (cc))

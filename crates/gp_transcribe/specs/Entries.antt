@@ -1,5 +1,5 @@
 -- What a line of a trace is in a log (this profile's own rule). Lines come without their line feeds.
-use Rattle.std.specs.Prelude.{◌≡◌, ℕ, ◌+◌, ◌*◌, ◌<◌, ◌^◌, Bool, true, false, List, [], ◌++◌, Option, None, Some, Ok, codes, slice_index, slice_set, ⊤}
+use Rattle.std.specs.Prelude.{◌≡◌, ℕ, ◌+◌, ◌*◌, ◌<◌, ◌≤◌, ◌^◌, Bool, true, false, List, [], ◌++◌, Option, None, Some, Ok, codes, slice_index, slice_set, ⊤}
 use Rattle.gp_log.specs.declared.line.LogLine.TheVariants as line
 use Rattle.gp_log.specs.declared.said.Said.{Said}
 use Rattle.gp_log.specs.Line.{Reads}
@@ -33,6 +33,15 @@ said_lines port frames first second = said_line port frames first ++ said_line p
 abbrev pub CanBeLogged : ℕ → ℕ → Option Said → Type 0
 CanBeLogged port frames None = ⊤
 CanBeLogged port frames (Some said) = CanBeWritten port frames said
+
+-- a line of a trace can't be written: its port would have had more frames than 64 bits hold the nanoseconds of
+pub record HasTooManyFrames (old : List ℕ) (text : List ℕ) : Type 0 where
+  pub port : ℕ
+  pub is_frame : Bool
+  pub first : Option Said
+  pub second : Option Said
+  pub read : ReadsAs text port is_frame first second
+  pub many : 2 ^ 64 ≤ frames_with is_frame (slice_index old port) * frame_time
 
 -- a line of a trace is written as lines of a log: by the frames that each port has had before it, and what these are
 -- behind it

@@ -1,9 +1,9 @@
 -- How writing a trace as a log may end (this profile's own rule).
 use Rattle.std.specs.Prelude.{◌≡◌, ◌<◌, ◌⊎◌, ℕ, ◌+◌, true, List, [], ◌∷◌, ◌++◌, length, Option, Some, None, Result, Ok, Err}
 use Rattle.std.specs.Io.KnownBytes.{Appends, Consumes}
-use Rattle.gp_flow.specs.declared.fault.Unanswered.TheVariants.{OutOfMemory}
+use Rattle.gp_flow.specs.declared.fault.Unanswered.TheVariants.{OutOfMemory, Full}
 use Rattle.gp_flow.specs.declared.fault.LinesFault.TheVariants as faults
-use Rattle.gp_flow.specs.Lines.{GetsPrefix, Leaves, lines_of, longest_line}
+use Rattle.gp_flow.specs.Lines.{GetsPrefix, Leaves, ServesFull, lines_of, longest_line}
 use Rattle.gp_stream.specs.Sink.{SinkState, KeepsNothing}
 use Rattle.gp_stream.specs.Source.{SourceState, ReadsWhole}
 use Rattle.gp_explain.specs.declared.fault.ExplainFault.{ExplainFault}
@@ -11,7 +11,7 @@ use Rattle.gp_explain.specs.declared.fault.ExplainFault.TheVariants.{Refused, Li
 use Rattle.gp_explain.specs.declared.fault.NoLine.{NoLine}
 use Rattle.gp_explain.specs.declared.fault.NoLine.TheVariants.{NotALine, TooLong}
 use Rattle.gp_transcribe.specs.Entries.{IsTraceRead, Transcribes}
-use Rattle.gp_transcribe.specs.Transcribing.{no_frames}
+use Rattle.gp_transcribe.specs.Transcribing.{Transcribing, no_frames, opened_state}
 
 -- from these frames on, these texts are lines of a trace, and this is what is written of them, one after another
 abbrev pub AreTranscribed : List ℕ → List (List ℕ) → List ℕ → Type 0
@@ -72,6 +72,7 @@ pub record IsBegun {R W : Type 0} (leaves : SinkState W → SinkState W → List
 
 -- how it may end; a failed read, and the bound of reads, are told as such. Where a line was not transcribed, the writer
 -- got what is written of those before it, unless a write failed; or memory ran out before anything was read.
+-- That no more lines can be taken is told only where one of the lines is why.
 abbrev pub TranscribesTrace : {R W : Type 0} → SourceState R → SourceState R → SinkState W → SinkState W
     → Result ℕ ExplainFault → Type 0
 TranscribesTrace from to before after (Ok lines) = IsTranscribed from to before after lines
@@ -79,8 +80,9 @@ TranscribesTrace from to before after (Err (Refused line why)) = IsRefused from 
 TranscribesTrace from to before after (Err (Lines faults.Read)) =
     IsBegun GetsPrefix from to before after × ((to.failed ≡ true) ⊎ (to.left ≡ 0))
 TranscribesTrace from to before after (Err (Lines (faults.Line fault))) =
-    IsBegun (Leaves fault) from to before after
-    ⊎ ((fault ≡ OutOfMemory) × (to ≡ from) × (after ≡ before))
+    (IsBegun (Leaves fault) from to before after
+    ⊎ ((fault ≡ OutOfMemory) × (to ≡ from) × (after ≡ before)))
+    × (fault ≡ Full → ServesFull Transcribing longest_line from to opened_state)
 
 -- what was found, by what ended it, and how many lines came
 abbrev pub finding : Option NoLine → ℕ → Result ℕ ExplainFault

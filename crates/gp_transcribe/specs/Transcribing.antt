@@ -1,9 +1,9 @@
 -- What is written of the lines of a trace (this profile's own rule).
 use Rattle.std.specs.Prelude.{◌≡◌, ℕ, ◌+◌, ◌⊎◌, Bool, List, [], ◌∷◌, Option, None, Some, is_some}
-use Rattle.gp_flow.specs.Lines.{Speech, WholeLines}
+use Rattle.gp_flow.specs.Lines.{Speech, WholeLines, most_lines}
 use Rattle.gp_explain.specs.declared.fault.NoLine.{NoLine}
 use Rattle.gp_explain.specs.declared.fault.NoLine.TheVariants.{NotALine, TooLong}
-use Rattle.gp_transcribe.specs.Entries.{IsTraceRead, Transcribes}
+use Rattle.gp_transcribe.specs.Entries.{HasTooManyFrames, IsTraceRead, Transcribes}
 
 -- where it stands: how many frames each port has had, how many lines came, and why the last of them ended it, if it did
 pub record TranscribeState : Type 0 where
@@ -43,9 +43,19 @@ SaysFrom None old (Some text) said new = SaysToText old text said new
 abbrev pub Says : TranscribeState → Option (List ℕ) → List ℕ → TranscribeState → Type 0
 Says old line said new = SaysFrom old.ended old line said new
 
+-- a log can't tell so many frames as the port of this line has had with it
+abbrev pub IsUntold : TranscribeState → Option (List ℕ) → Type 0
+IsUntold state None = ⊥
+IsUntold state (Some text) = HasTooManyFrames state.frames text
+
+-- why no more lines can be taken: it has not ended, and so many have come as can be counted, or this one's frame
+-- can't be told
+abbrev pub IsFull : TranscribeState → Option (List ℕ) → Type 0
+IsFull state line = (state.ended ≡ None) × ((state.lines ≡ most_lines) ⊎ IsUntold state line)
+
 -- what is written of lines, of each all or nothing
 abbrev pub Transcribing : Speech TranscribeState
-Transcribing = WholeLines Says
+Transcribing = WholeLines IsFull Says
 
 -- it has ended
 abbrev pub has_ended : TranscribeState → Bool

@@ -1,7 +1,7 @@
 //! One line of a trace, written as lines of a log: what it says, at its port's time, which goes on with a frame.
-ghost use Rattle.std.specs.Prelude.{◌≡◌, ◌⊎◌, IfErr, IfOk, true, false};
+ghost use Rattle.std.specs.Prelude.{◌≡◌, ◌⊎◌, Err, IfErr, IfOk, true, false};
 ghost use Rattle.gp_flow.specs.declared.fault.Unanswered.TheVariants.{OutOfMemory, Full};
-ghost use Rattle.gp_transcribe.specs.Entries.{IsTraceRead, Transcribes};
+ghost use Rattle.gp_transcribe.specs.Entries.{HasTooManyFrames, IsTraceRead, Transcribes};
 
 use crate::frames::frames_with;
 use crate::push::push_lines;
@@ -19,6 +19,7 @@ pub(crate) fn transcribe_line(
     ensures written { IfOk result (λ is. is ≡ true → Transcribes frames.old text.now out.new.items frames.new) }
     ensures other { IfOk result (λ is. is ≡ false → IsTraceRead text.now → ⊥) }
     ensures error { IfErr result (λ fault. (fault ≡ OutOfMemory) ⊎ (fault ≡ Full)) }
+    ensures full { result ≡ Err Full → HasTooManyFrames frames.old text.now }
     ensures kept { IfOk result (λ is. is ≡ false → frames.new ≡ frames.old) }
 {
     let Some(line) = traced(text) else {

@@ -1,10 +1,13 @@
-use Rattle.std.proofs.Common.{rules}
+use Rattle.std.proofs.Common.{◌≡◌, rules}
 use Rattle.gp_transcribe.specs.Transcribing.{counted}
-use Rattle.gp_transcribe.proofs.ServingLemmas.{refused_line, stopped_line, unwritten_line, written_as}
+use Rattle.gp_transcribe.proofs.ServingLemmas.{refused_line, stopped_line, untold_line, unwritten_line, written_as}
 use Rattle.gp_transcribe.proofs.serving.TranscriberLineWork.line.Goals as goal
 
 pub returns-in_err-transcribe_line : goal.returns-in_err-transcribe_line
-returns-in_err-transcribe_line g c = unwritten_line _ c.args.self.now _ _ _ _ (search rules) c.in_err-transcribe_line.ensures.error
+returns-in_err-transcribe_line g c = 
+    let viewed : c.self.inside.frames ≡ c.args.self.now.frames = search rules in
+    let full = untold_line c.args.self.now c.self.inside.frames c.args.text.now _ c.transcribe_line.result (search rules) viewed (search rules) c.transcribe_line.ensures.full in
+    unwritten_line _ c.args.self.now _ _ _ _ (search rules) c.in_err-transcribe_line.ensures.error full
 
 pub returns-then-not-branch : goal.returns-then-not-branch
 returns-then-not-branch g c =
