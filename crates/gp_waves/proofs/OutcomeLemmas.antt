@@ -27,7 +27,7 @@ use Rattle.gp_waves.specs.declared.running.WavesSum.{WavesSum}
 use Rattle.gp_times.specs.declared.frames.Frames.{Frames}
 use Rattle.gp_times.specs.Lines.{AreRead, IsUnread, Lead}
 use Rattle.gp_times.specs.Times.{TimesState, outside_of, times_begun}
-use Rattle.gp_waves.specs.Dumping.{Dumping, Says, WavesState, has_ended}
+use Rattle.gp_waves.specs.Dumping.{Dumping, IsFull, Says, WavesState, has_ended}
 use Rattle.gp_waves.specs.Writing.{Grows, GrowsAs, Written}
 use Rattle.gp_waves.specs.Outcome.{DumpsWaves, GetsDump, IsBegun, IsDump, IsFound, IsFoundBy, IsNone, IsRefused, IsRest, IsUnfinished, WritesRest}
 use Rattle.gp_waves.proofs.CourseLemmas.{Course, Fails, Halts, course, wholes}
@@ -371,7 +371,7 @@ module _ {R W : Type 0} (frames : Frames) (from to : SourceState R) (before afte
       → DumpsWaves frames from to before after (Err (Lines (faults.Line fault)))
   line_fault fault old state o s =
       let e = s.fault fault refl in
-      let whole = all_of_some Says old e.begun e.said e.spoken in
+      let whole = all_of_some IsFull Says old e.begun e.said e.spoken in
       let c = started old whole.0 e.begun e.said o whole.1 in
       inl (leaves_begun fault old whole.0 e.bytes e.said o (course_grows whole.0.ended e.begun e.said old whole.0 c) e.read e.written)
 

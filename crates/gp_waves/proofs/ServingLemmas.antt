@@ -16,7 +16,7 @@ use Rattle.gp_waves.specs.declared.fault.WavesFault.TheVariants as waves
 use Rattle.gp_waves.specs.Faults.{undumped}
 use Rattle.gp_waves.specs.Writing.{Grows, Written}
 use Rattle.gp_times.specs.Lines.{IsUnread}
-use Rattle.gp_waves.specs.Dumping.{Dumping, Says, SaysFrom, WavesState, counted, ended_by}
+use Rattle.gp_waves.specs.Dumping.{Dumping, IsFull, Says, SaysFrom, WavesState, counted, ended_by}
 
 -- a line that is none ends it
 pub refused_line : {W : Type 0} (old new : WavesState) (text : List ℕ) (before : SinkState W) → old.ended ≡ None → IsUnread text
@@ -35,12 +35,12 @@ read_line_says old new text said line written none reads grows same =
 
 -- a line that can't be dumped
 pub undumped_line : {W : Type 0} (line : Option (List ℕ)) (old new : WavesState) (before : SinkState W) (fault : WavesFault) (r : Result (Unit {0}) Unanswered)
-    → IsErrAnd r (λ f. f ≡ undumped fault) → Answers Dumping line old new before before r
-undumped_line line old new before fault (Ok x) told = absurd told
-undumped_line line old new before waves.OutOfMemory (Err f) told =
+    → IsErrAnd r (λ f. f ≡ undumped fault) → IsFull old line → Answers Dumping line old new before before r
+undumped_line line old new before fault (Ok x) told why = absurd told
+undumped_line line old new before waves.OutOfMemory (Err f) told why =
     subst (λ (e : Unanswered). Answers {T = Unit {0}} Dumping line old new before before (Err e)) (sym told) (no_memory Dumping line old new before)
-undumped_line line old new before waves.Full (Err f) told =
-    subst (λ (e : Unanswered). Answers {T = Unit {0}} Dumping line old new before before (Err e)) (sym told) (no_room Dumping line old new before)
+undumped_line line old new before waves.Full (Err f) told why =
+    subst (λ (e : Unanswered). Answers {T = Unit {0}} Dumping line old new before before (Err e)) (sym told) (no_room Dumping line old new before why)
 
 -- a line with which the writer stopped
 pub stopped_line : {W T : Type 0} (old new : WavesState) (text said : List ℕ) (line : LogLine) (written : Written) (before after : SinkState W) (e : WriteStopped)
@@ -66,3 +66,7 @@ pub written_line : {W T : Type 0} (old new : WavesState) (text said : List ℕ) 
     → Puts {T = T} {E = WriteStopped} before after said (Ok x) → Answers {T = Unit {0}} Dumping (Some text) old new before after (Ok tt)
 written_line old new text said line written before after x none reads grows same puts =
     put_answers Dumping (Some text) old new before after said x (tt {0}) (read_line_says old new text said line written none reads grows same) puts
+
+-- with a line that is read a count may not go on
+pub may_fill : (old : WavesState) (text : List ℕ) (read : Result LogLine LogFault) (line : LogLine) → old.ended ≡ None → read ≡ Ok line → Reads text read → IsFull old (Some text)
+may_fill old text read line none is reads = (none, inr (line, read_as text read line is reads))

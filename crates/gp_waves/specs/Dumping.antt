@@ -1,12 +1,12 @@
 -- How far an input was read, and what was written meanwhile (this profile's own rule).
 use Rattle.std.specs.Prelude.{◌≡◌, ℕ, ◌+◌, ◌⊎◌, ◌||◌, not, Bool, List, [], Option, None, Some, is_some, Ok}
-use Rattle.gp_flow.specs.Lines.{Speech, WholeLines}
+use Rattle.gp_flow.specs.Lines.{Speech, WholeLines, most_lines}
 use Rattle.gp_explain.specs.declared.fault.NoLine.{NoLine}
 use Rattle.gp_explain.specs.declared.fault.NoLine.TheVariants.{NotALine, TooLong}
 use Rattle.gp_log.specs.declared.line.LogLine.{LogLine}
 use Rattle.gp_log.specs.Line.{Reads, says_nothing}
 use Rattle.gp_times.specs.Times.{TimesState, times_after}
-use Rattle.gp_times.specs.Lines.{IsUnread}
+use Rattle.gp_times.specs.Lines.{IsRead, IsUnread}
 use Rattle.gp_waves.specs.Writing.{Grows, Written}
 
 -- how many lines came, whether one of them says anything, why the last of them ended it, if it did, the times of the
@@ -48,8 +48,17 @@ SaysFrom None old (Some text) said new = SaysToText old text said new
 abbrev pub Says : WavesState → Option (List ℕ) → List ℕ → WavesState → Type 0
 Says old line said new = SaysFrom old.ended old line said new
 
+-- this line is read, and a count may not go on with it, or a change have no variable
+abbrev pub MayFill : Option (List ℕ) → Type 0
+MayFill None = ⊥
+MayFill (Some text) = IsRead text
+
+-- why no more lines can be taken: it has not ended, and so many have come as can be counted, or this one is read
+abbrev pub IsFull : WavesState → Option (List ℕ) → Type 0
+IsFull state line = (state.ended ≡ None) × ((state.lines ≡ most_lines) ⊎ MayFill line)
+
 abbrev pub Dumping : Speech WavesState
-Dumping = WholeLines Says
+Dumping = WholeLines IsFull Says
 
 -- it has ended
 abbrev pub has_ended : WavesState → Bool

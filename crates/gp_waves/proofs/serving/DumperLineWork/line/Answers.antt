@@ -1,5 +1,5 @@
 use Rattle.std.proofs.Common.{rules}
-use Rattle.gp_waves.proofs.ServingLemmas.{read_as, refused_line, stopped_line, undumped_line, unread_as, written_line}
+use Rattle.gp_waves.proofs.ServingLemmas.{may_fill, read_as, refused_line, stopped_line, undumped_line, unread_as, written_line}
 use Rattle.gp_waves.proofs.WritingLemmas.{grows_as}
 use Rattle.gp_waves.proofs.serving.DumperLineWork.line.Goals as goal
 
@@ -8,10 +8,12 @@ returns-in_default g c =
     refused_line _ _ c.args.text.now _ (search rules) (unread_as c.args.text.now c.read_line.result c.in_default.field-0 c.in_default.is c.read_line.ensures) (search rules)
 
 pub returns-in_err-hear : goal.returns-in_err-hear
-returns-in_err-hear g c = undumped_line _ c.args.self.now _ _ c.in_err-hear.field-0.0 _ (search rules)
+returns-in_err-hear g c = 
+    undumped_line _ c.args.self.now _ _ c.in_err-hear.field-0.0 _ (search rules) (may_fill c.args.self.now c.args.text.now c.read_line.result c.in-Ok.read (search rules) c.in-Ok.is c.read_line.ensures)
 
 pub returns-in_err-spill : goal.returns-in_err-spill
-returns-in_err-spill g c = undumped_line _ c.args.self.now _ _ c.in_err-spill.field-0.0 _ (search rules)
+returns-in_err-spill g c = 
+    undumped_line _ c.args.self.now _ _ c.in_err-spill.field-0.0 _ (search rules) (may_fill c.args.self.now c.args.text.now c.read_line.result c.in-Ok.read (search rules) c.in-Ok.is c.read_line.ensures)
 
 pub returns-in_err-put : goal.returns-in_err-put
 returns-in_err-put g c =
