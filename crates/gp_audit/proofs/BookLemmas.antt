@@ -1,5 +1,6 @@
 -- Telling one after another.
-use Rattle.std.proofs.Common.{◌≡◌, ℕ, ◌+◌, List, [], ◌∷◌, ◌++◌, Result, Ok, Err, OnOk, refl, sym, ap, ◌∙◌, append_assoc, append-nil, arith}
+use Rattle.std.specs.Prelude.{IfErr}
+use Rattle.std.proofs.Common.{◌≡◌, ◌⊎◌, inl, inr, IsErrAnd, ℕ, ◌+◌, ◌≤◌, ◌^◌, List, [], ◌∷◌, ◌++◌, Result, Ok, Err, OnOk, refl, sym, ap, subst, ◌∙◌, append_assoc, append-nil, arith}
 use Rattle.std.proofs.lemmas.Grind.{flat_map-append}
 use Rattle.gp_observer.specs.declared.rule.Rule.{Rule}
 use Rattle.gp_observer.specs.Watch.{Watch}
@@ -9,7 +10,10 @@ use Rattle.gp_finding.specs.declared.error.LineError.{LineError}
 use Rattle.gp_finding.specs.declared.push.Place.{Place}
 use Rattle.gp_audit.specs.declared.book.Book.{Book}
 use Rattle.gp_audit.specs.declared.options.AuditOptions.{AuditOptions}
-use Rattle.gp_audit.specs.Book.{TellsNotices}
+use Rattle.gp_audit.specs.declared.fault.AuditFault.{AuditFault}
+use Rattle.gp_audit.specs.declared.fault.AuditFault.TheVariants.{OutOfMemory, Full}
+use Rattle.gp_audit.specs.Book.{TellingFails, TellsNotices}
+use Rattle.gp_audit.specs.Failing.{Overcounts}
 use Rattle.gp_audit.specs.Notice.{Notice, Finding, Fault, errors_among, findings_among, notice_text, notices_text, sum_with}
 
 pub text_more : (options : AuditOptions) (xs ys : List Notice) → notices_text options (xs ++ ys) ≡ notices_text options xs ++ notices_text options ys
@@ -77,3 +81,50 @@ tells_fault options line error old new text sum = record {
   said = text ∙ ap (λ (l : List ℕ). old.said.items ++ l) (sym (one_text options (Fault line error)));
   sum = sum ∙ counts_same old.sum old.sum.findings (old.sum.findings + 0) (old.sum.errors + 1) (old.sum.errors + 1) (omega arith) refl;
 }
+
+-- ---- what can't be told any more
+
+-- what can't be counted can't with more behind it
+over_before : (sum : AuditSum) (xs ys : List Notice) → Overcounts sum xs → Overcounts sum (xs ++ ys)
+over_before sum xs ys (inl h) = let more = findings_more xs ys in inl (omega (arith, h, more))
+over_before sum xs ys (inr h) = let more = errors_more xs ys in inr (omega (arith, h, more))
+
+-- nor behind what was counted
+over_with : (sum : AuditSum) (xs ys : List Notice) → Overcounts (sum_with sum xs) ys → Overcounts sum (xs ++ ys)
+over_with sum xs ys (inl h) = let more = findings_more xs ys in inl (omega (arith, h, more))
+over_with sum xs ys (inr h) = let more = errors_more xs ys in inr (omega (arith, h, more))
+
+-- nor does it matter why else it could not be noted
+pub fails_before : (sum : AuditSum) (xs ys : List Notice) (P Q : Type 0) (fault : AuditFault) → (P → Q) → TellingFails sum xs P fault → TellingFails sum (xs ++ ys) Q fault
+fails_before sum xs ys P Q OutOfMemory on h = tt
+fails_before sum xs ys P Q Full on (inl h) = inl (over_before sum xs ys h)
+fails_before sum xs ys P Q Full on (inr p) = inr (on p)
+
+pub fails_behind : (options : AuditOptions) (xs ys : List Notice) (P Q : Type 0) (a b : Book) (fault : AuditFault) → TellsNotices options xs a b → (P → Q)
+    → TellingFails b.sum ys P fault → TellingFails a.sum (xs ++ ys) Q fault
+fails_behind options xs ys P Q a b OutOfMemory told on h = tt
+fails_behind options xs ys P Q a b Full told on (inl h) = inl (over_with a.sum xs ys (subst (λ (s : AuditSum). Overcounts s ys) told.sum h))
+fails_behind options xs ys P Q a b Full told on (inr p) = inr (on p)
+
+pub on_fails : (sum : AuditSum) (xs : List Notice) (P Q : Type 0) (fault : AuditFault) → (P → Q) → TellingFails sum xs P fault → TellingFails sum xs Q fault
+on_fails sum xs P Q OutOfMemory on h = tt
+on_fails sum xs P Q Full on (inl h) = inl h
+on_fails sum xs P Q Full on (inr p) = inr (on p)
+
+-- all was told, and it could not be noted
+pub fails_noted : (sum : AuditSum) (xs : List Notice) (Q : Type 0) (fault : AuditFault) → (fault ≡ Full → Q) → TellingFails sum xs Q fault
+fails_noted sum xs Q OutOfMemory on = tt
+fails_noted sum xs Q Full on = inr (on refl)
+
+-- the fault that is answered is that one
+pub fails_so : {T : Type 0} (sum : AuditSum) (xs : List Notice) (Q : Type 0) (fault : AuditFault) (r : Result T AuditFault) → IsErrAnd r (λ e. e ≡ fault) → TellingFails sum xs Q fault
+    → IfErr r (TellingFails sum xs Q)
+fails_so sum xs Q fault (Ok x) told h = tt
+fails_so sum xs Q fault (Err e) told h = subst (λ (f : AuditFault). TellingFails sum xs Q f) (sym told) h
+
+-- one finding more than can be counted, or one error more
+pub over_finding : (sum : AuditSum) (watch : Watch) (place : Place) (said : Said) (rule : Rule) → sum.findings ≡ 18446744073709551615 → Overcounts sum (Finding watch place said rule ∷ [])
+over_finding sum watch place said rule most = inl (omega (arith, most))
+
+pub over_fault : (sum : AuditSum) (line : ℕ) (error : LineError) → sum.errors ≡ 18446744073709551615 → Overcounts sum (Fault line error ∷ [])
+over_fault sum line error most = inr (omega (arith, most))

@@ -1,5 +1,5 @@
 -- How auditing a log ends.
-use Rattle.std.proofs.Common.{◌≡◌, ℕ, true, false, List, [], ◌++◌, Result, Ok, Err, IsErrAnd, inr, length, take, map, sym, ap, subst, ◌∙◌, append_assoc}
+use Rattle.std.proofs.Common.{◌≡◌, ℕ, true, false, List, [], ◌++◌, Result, Ok, Err, IsErrAnd, inl, inr, refl, length, take, map, sym, ap, subst, ◌∙◌, append_assoc}
 use Rattle.std.proofs.Math.Seq.{take-append_seam}
 use Rattle.std.specs.Io.KnownBytes.{Appends}
 use Rattle.std.proofs.KnownBytes.{Appends-trans}
@@ -9,7 +9,7 @@ use Rattle.gp_flow.specs.declared.fault.LinesFault.{LinesFault}
 use Rattle.gp_flow.specs.declared.fault.LinesFault.TheVariants as faults
 use Rattle.gp_flow.specs.declared.lines.LinesEnd.{LinesEnd}
 use Rattle.gp_flow.specs.declared.lines.LinesEnd.TheVariants.{Whole, Open, Over}
-use Rattle.gp_flow.specs.Lines.{GetsPrefix, ServesAll, ServesTo, handed, lines_of, longest_line}
+use Rattle.gp_flow.specs.Lines.{GetsPrefix, Serves, ServesAll, ServesTo, handed, lines_of, longest_line}
 use Rattle.gp_stream.specs.Sink.{SinkState, KeepsNothing, TakesPrefix}
 use Rattle.gp_stream.specs.Source.{SourceState}
 use Rattle.gp_finding.specs.declared.error.AuditSum.{AuditSum}
@@ -85,9 +85,12 @@ module _ {R W : Type 0} (old new : AuditState) (from to : SourceState R) (before
       subst (λ (x : SinkState W). Appends before.held x.held (before.gathered ++ s.said) × KeepsNothing x) (sym t) (s.written, s.kept)
   left Full s t = t
 
+  not_full : (fault : Unanswered) → fault ≡ Full → TellsEnd new between after (Err fault) → ⊥
+  not_full fault is t = subst (λ (f : Unanswered). TellsEnd new between after (Err f)) is t
+
   unsummed : (fault : Unanswered) → Spoken old new from to before between → TellsEnd new between after (Err fault)
       → AuditsLog old new from to before after (Err (faults.Line fault))
-  unsummed fault s t = inr (record { said = s.said; audited = s.audited; left = left fault s t })
+  unsummed fault s t = (inr (record { said = s.said; audited = s.audited; left = left fault s t }), λ is. absurd (not_full fault is t))
 
 -- ---- what audit_log answers
 
@@ -106,3 +109,16 @@ unsummed_as old new later from to before between after end fault (Err f) s t sam
     subst (λ (x : AuditState). AuditsLog old x from to before after (Err f)) (sym same)
     (subst (λ (x : LinesFault). AuditsLog old new from to before after (Err x)) (sym told)
     (unsummed old new from to before between after fault (spoken old new from to before between after end s) t))
+
+-- the input was not read, or a line not answered
+unserved : {R W : Type 0} (old new : AuditState) (from to : SourceState R) (before after : SinkState W) (fault : LinesFault)
+    → Serves Auditing never longest_line from to old new before after (Err fault) → AuditsLog old new from to before after (Err fault)
+unserved old new from to before after faults.Read s = (s.read refl, s.failed refl)
+unserved old new from to before after (faults.Line fault) s =
+    (inl (s.fault fault refl), λ is. s.full (ap (λ (f : Unanswered). let r : Result LinesEnd LinesFault = Err (faults.Line f) in r) is))
+
+pub unserved_as : {R W : Type 0} (old new : AuditState) (from to : SourceState R) (before after : SinkState W) (fault : LinesFault) (r : Result AuditSum LinesFault)
+    → IsErrAnd r (λ f. f ≡ fault) → Serves Auditing never longest_line from to old new before after (Err fault) → AuditsLog old new from to before after r
+unserved_as old new from to before after fault (Ok sum) told s = absurd told
+unserved_as old new from to before after fault (Err e) told s =
+    subst (λ (f : LinesFault). AuditsLog old new from to before after (Err f)) (sym told) (unserved old new from to before after fault s)

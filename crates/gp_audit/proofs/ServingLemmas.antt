@@ -1,9 +1,9 @@
 -- Lines that are handed to an auditor.
-use Rattle.std.proofs.Common.{◌≡◌, ℕ, ◌+◌, List, ◌++◌, Option, Result, Ok, Err, IsErrAnd, sym, ap, subst, ◌∙◌}
+use Rattle.std.proofs.Common.{◌≡◌, inl, inr, refl, ℕ, ◌+◌, List, ◌++◌, Option, Result, Ok, Err, IsErrAnd, sym, ap, subst, ◌∙◌}
 use Rattle.gp_flow.specs.declared.fault.Unanswered.{Unanswered}
-use Rattle.gp_flow.specs.declared.fault.Unanswered.TheVariants.{Write}
-use Rattle.gp_flow.specs.Lines.{Answers}
-use Rattle.gp_flow.proofs.AnswerLemmas.{put_stopped}
+use Rattle.gp_flow.specs.declared.fault.Unanswered.TheVariants.{Write, OutOfMemory, Full}
+use Rattle.gp_flow.specs.Lines.{Answers, most_lines}
+use Rattle.gp_flow.proofs.AnswerLemmas.{no_memory, no_room, put_stopped}
 use Rattle.gp_stream.specs.declared.sink.WriteStopped.{WriteStopped}
 use Rattle.gp_stream.specs.Sink.{SinkState, Puts}
 use Rattle.gp_ploam.specs.declared.check.Mask.{Mask}
@@ -11,10 +11,15 @@ use Rattle.gp_log.specs.declared.fault.LogFault.{LogFault}
 use Rattle.gp_log.specs.declared.line.LogLine.{LogLine}
 use Rattle.gp_finding.specs.declared.error.AuditSum.{AuditSum}
 use Rattle.gp_audit.specs.declared.book.Book.{Book}
+use Rattle.gp_audit.specs.declared.fault.AuditFault.{AuditFault}
+use Rattle.gp_audit.specs.declared.fault.AuditFault.TheVariants as audits
+use Rattle.gp_watch.specs.declared.fault.WatchFault.TheVariants as watches
+use Rattle.gp_audit.specs.Failing.{LineFails}
+use Rattle.gp_audit.specs.Faults.{unanswered}
 use Rattle.gp_audit.specs.declared.options.AuditForm.{AuditForm}
 use Rattle.gp_audit.specs.Again.{TellsAgain}
-use Rattle.gp_audit.specs.Audit.{AuditState, Auditing, Audits, ReadsLine, TellsLineAgain, next_told}
-use Rattle.gp_audit.specs.Book.{TellsNotices}
+use Rattle.gp_audit.specs.Audit.{AuditState, Auditing, Audits, CannotCount, IsFull, ReadsLine, TellsLineAgain, next_told}
+use Rattle.gp_audit.specs.Book.{TellingFails, TellsNotices}
 use Rattle.gp_audit.specs.Hearing.{ports_after, told_of}
 use Rattle.gp_audit.specs.Notice.{notices_text, sum_behind, sum_with}
 use Rattle.gp_audit.specs.Port.{PortState}
@@ -63,3 +68,31 @@ stopped_as line old new next before after said e (Ok x) says puts told = absurd 
 stopped_as line old new next before after said e (Err f) says puts told =
     subst (λ (g : Unanswered). Answers {T = Unit {0}} Auditing line old new before after (Err g)) (sym told)
     (put_stopped Auditing line old new next before after said e says puts)
+
+-- a line of which nothing is said
+pub unaudited : {W : Type 0} (line : Option (List ℕ)) (old new : AuditState) (before : SinkState W) (fault : AuditFault) (r : Result (Unit {0}) Unanswered)
+    → IsErrAnd r (λ f. f ≡ unanswered fault) → (fault ≡ audits.Full → IsFull old line) → Answers Auditing line old new before before r
+unaudited line old new before fault (Ok x) told why = absurd told
+unaudited line old new before audits.OutOfMemory (Err f) told why =
+    subst (λ (e : Unanswered). Answers {T = Unit {0}} Auditing line old new before before (Err e)) (sym told) (no_memory Auditing line old new before)
+unaudited line old new before audits.Full (Err f) told why =
+    subst (λ (e : Unanswered). Answers {T = Unit {0}} Auditing line old new before before (Err e)) (sym told) (no_room Auditing line old new before (why refl))
+
+cannot_count : (old : AuditState) (read : Result LogLine LogFault) (sum : AuditSum) (number : ℕ) (fault : AuditFault) → sum ≡ sum_behind old.sum → number ≡ old.sum.lines + 1
+    → TellingFails sum (told_of old.options old.ports number read) (LineFails old.options old.ports read watches.Full) fault → fault ≡ audits.Full → CannotCount old read
+cannot_count old read sum number audits.OutOfMemory begun counted h is = absurd (cc)
+cannot_count old read sum number audits.Full begun counted h is =
+    let here : TellingFails sum (next_told old read) (LineFails old.options old.ports read watches.Full) audits.Full =
+    subst (λ (n : ℕ). TellingFails sum (told_of old.options old.ports n read) (LineFails old.options old.ports read watches.Full) audits.Full) counted h in
+    subst (λ (s : AuditSum). TellingFails s (next_told old read) (LineFails old.options old.ports read watches.Full) audits.Full) begun here
+
+-- since a count can't go on with it
+pub overfull : (old now : AuditState) (line : Option (List ℕ)) (read : Result LogLine LogFault) (sum : AuditSum) (number : ℕ) (fault : AuditFault) → old ≡ now → ReadsLine line read
+    → sum ≡ sum_behind old.sum → number ≡ old.sum.lines + 1
+    → TellingFails sum (told_of old.options old.ports number read) (LineFails old.options old.ports read watches.Full) fault → fault ≡ audits.Full → IsFull now line
+overfull old now line read sum number fault is reads begun counted h full =
+    subst (λ (o : AuditState). IsFull o line) is (inr (read, reads, cannot_count old read sum number fault begun counted h full))
+
+-- or so many lines have come as can be counted
+pub all_counted : (old now : AuditState) (line : Option (List ℕ)) → old ≡ now → old.sum.lines ≡ most_lines → IsFull now line
+all_counted old now line is most = subst (λ (o : AuditState). IsFull o line) is (inl most)

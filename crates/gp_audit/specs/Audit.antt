@@ -1,7 +1,7 @@
 -- What is said to the lines of a log, one after another (this profile's own rule).
-use Rattle.std.specs.Prelude.{◌≡◌, ℕ, ◌+◌, Bool, false, List, [], ◌++◌, replicate, Option, None, Some, Result, Err}
+use Rattle.std.specs.Prelude.{◌≡◌, ◌⊎◌, ℕ, ◌+◌, Bool, false, List, [], ◌++◌, replicate, Option, None, Some, Result, Err}
 use Rattle.std.specs.List.{fold, list_all}
-use Rattle.gp_flow.specs.Lines.{Speech, WholeLines}
+use Rattle.gp_flow.specs.Lines.{Speech, WholeLines, most_lines}
 use Rattle.gp_log.specs.declared.fault.LogFault.{LogFault}
 use Rattle.gp_log.specs.declared.fault.LogFault.TheVariants as faults
 use Rattle.gp_log.specs.declared.line.LogLine.{LogLine}
@@ -11,6 +11,8 @@ use Rattle.gp_audit.specs.declared.options.AuditOptions.{AuditOptions}
 use Rattle.gp_audit.specs.Again.{TellsAgain}
 use Rattle.gp_audit.specs.declared.judged.Judged.{Judged}
 use Rattle.gp_audit.specs.Judging.{judged_on_both, nothing_judged}
+use Rattle.gp_watch.specs.declared.fault.WatchFault.TheVariants as watches
+use Rattle.gp_audit.specs.Failing.{LineFails, Overcounts}
 use Rattle.gp_audit.specs.Hearing.{ports_after, told_of}
 use Rattle.gp_audit.specs.Notice.{Notice, notices_text, sum_behind, sum_with}
 use Rattle.gp_audit.specs.Port.{PortState, port_begun}
@@ -80,9 +82,21 @@ pub record SaysRead (old : AuditState) (line : Option (List ℕ)) (read : Result
 abbrev pub Audits : AuditState → Option (List ℕ) → List ℕ → AuditState → Type 0
 Audits old line said new = (read : Result LogLine LogFault) × ReadsLine line read × SaysRead old line read said new
 
+-- why no more can be told and noted, by what is read of a line: the findings or the errors can't be counted with those
+-- of this line, or the asks of one serial number
+abbrev pub CannotCount : AuditState → Result LogLine LogFault → Type 0
+CannotCount old read =
+    Overcounts old.sum (next_told old read) ⊎ LineFails old.options old.ports read watches.Full
+
+-- why no more lines can be taken: so many have come as can be counted, or a count can't go on with this one
+abbrev pub IsFull : AuditState → Option (List ℕ) → Type 0
+IsFull old line =
+    (old.sum.lines ≡ most_lines)
+    ⊎ ((read : Result LogLine LogFault) × ReadsLine line read × CannotCount old read)
+
 -- what is said to lines, each of which is answered whole or not at all
 abbrev pub Auditing : Speech AuditState
-Auditing = WholeLines Audits
+Auditing = WholeLines IsFull Audits
 
 -- it goes on to the end of the input
 abbrev pub never : AuditState → Bool

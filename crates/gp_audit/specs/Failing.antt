@@ -1,6 +1,7 @@
 -- Why hearing may fail, by what is known before it (this profile's own rule): memory is wanted for a serial number that
--- is new, and no more than so many asks of one are counted.
-use Rattle.std.specs.Prelude.{◌≡◌, ◌⊎◌, ℕ, Bool, true, false, nat_lt, List, Option, None, Some, Result, Ok, Err}
+-- is new, and no more than so many asks of one are counted. Where what is heard is told too, no more findings and errors
+-- are counted than 64 bits hold.
+use Rattle.std.specs.Prelude.{◌≡◌, ◌≤◌, ◌⊎◌, ◌+◌, ◌^◌, ℕ, Bool, true, false, nat_lt, List, Option, None, Some, Result, Ok, Err}
 use Rattle.gp_observer.specs.Heard.{Heard, HeardDown, HeardUp, HeardGrant}
 use Rattle.gp_observer.specs.Watch.{Watch}
 use Rattle.gp_ploam.specs.declared.message.Serial.{Serial}
@@ -11,10 +12,12 @@ use Rattle.gp_log.specs.declared.fault.LogFault.{LogFault}
 use Rattle.gp_log.specs.declared.line.LogLine.{LogLine}
 use Rattle.gp_log.specs.declared.line.LogLine.TheVariants as line
 use Rattle.gp_log.specs.declared.said.Said.{Said}
+use Rattle.gp_finding.specs.declared.error.AuditSum.{AuditSum}
 use Rattle.gp_finding.specs.Hearing.{heard_in}
 use Rattle.gp_census.specs.Census.{IsNewTo, Sightings, counted_by}
 use Rattle.gp_audit.specs.declared.options.AuditOptions.{AuditOptions}
 use Rattle.gp_audit.specs.Hearing.{port_at, port_maybe, port_ticked}
+use Rattle.gp_audit.specs.Notice.{Notice, errors_among, findings_among}
 use Rattle.gp_audit.specs.Port.{PortState}
 
 -- units are counted, and of the one that is to be counted nothing was yet
@@ -66,3 +69,8 @@ LineFails options ports (Ok (line.Log port time said)) fault =
 LineFails options ports (Ok (line.Trace port is_frame first second)) fault =
     TraceFails options (port_ticked (port_at options ports port) is_frame) first second fault
 LineFails options ports (Err read) fault = ⊥
+
+-- 64 bits can't count the findings, or the errors, of a sum and these behind it
+abbrev pub Overcounts : AuditSum → List Notice → Type 0
+Overcounts sum notices =
+    (2 ^ 64 ≤ sum.findings + findings_among notices) ⊎ (2 ^ 64 ≤ sum.errors + errors_among notices)

@@ -5,7 +5,7 @@ use Rattle.gp_flow.specs.declared.fault.Unanswered.{Unanswered}
 use Rattle.gp_flow.specs.declared.fault.Unanswered.TheVariants.{Write, OutOfMemory, Full}
 use Rattle.gp_flow.specs.declared.fault.LinesFault.{LinesFault}
 use Rattle.gp_flow.specs.declared.fault.LinesFault.TheVariants.{Read, Line}
-use Rattle.gp_flow.specs.Lines.{DoesAll, GetsPrefix, Leaves, ServesEnded, ServesSome, handed, lines_of, longest_line}
+use Rattle.gp_flow.specs.Lines.{DoesAll, GetsPrefix, Leaves, ServesEnded, ServesFull, ServesSome, handed, lines_of, longest_line}
 use Rattle.gp_stream.specs.Sink.{SinkState, KeepsNothing, TakesPrefix}
 use Rattle.gp_stream.specs.Source.{SourceState, ReadsWhole}
 use Rattle.gp_log.specs.declared.fault.LogFault.{LogFault}
@@ -75,12 +75,14 @@ pub record IsUnended {R W : Type 0} (fault : Unanswered) (old new : AuditState) 
   pub left : LeavesUnended fault before after said (end_text new)
 
 -- how it may end: a failed read, and the bound of reads, are told as such, and the writer got what is said to the lines
--- that a line feed ended before; where a line was not answered, what is said to those before it, unless a write failed
+-- that a line feed ended before; where a line was not answered, what is said to those before it, unless a write failed.
+-- That no more lines can be taken is told only where one of the lines is why.
 abbrev pub AuditsLog : {R W : Type 0} → AuditState → AuditState → SourceState R → SourceState R → SinkState W
     → SinkState W → Result AuditSum LinesFault → Type 0
 AuditsLog old new from to before after (Ok sum) = IsAudited old new from to before after sum
 AuditsLog old new from to before after (Err Read) =
     ServesEnded Auditing longest_line from to old new before after × ((to.failed ≡ true) ⊎ (to.left ≡ 0))
 AuditsLog old new from to before after (Err (Line fault)) =
-    ServesSome (Leaves fault) Auditing longest_line from to old before after
-    ⊎ IsUnended fault old new from to before after
+    (ServesSome (Leaves fault) Auditing longest_line from to old before after
+    ⊎ IsUnended fault old new from to before after)
+    × (fault ≡ Full → ServesFull Auditing longest_line from to old)

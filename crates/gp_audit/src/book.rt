@@ -1,7 +1,8 @@
 //! What is said of the line at hand, and the counts.
-ghost use Rattle.std.specs.Prelude.{◌≡◌, ◌+◌, ◌<◌, [], ◌∷◌, IfOk, OnOk};
+ghost use Rattle.std.specs.Prelude.{◌≡◌, ◌+◌, ◌<◌, [], ◌∷◌, IfErr, IfOk, OnErr, OnOk};
+ghost use Rattle.gp_flow.specs.Lines.{most_lines};
 ghost use Rattle.gp_watch.specs.Heard.{settings_of};
-ghost use Rattle.gp_audit.specs.Book.{TellsNotices};
+ghost use Rattle.gp_audit.specs.Book.{TellingFails, TellsNotices};
 ghost use Rattle.gp_audit.specs.Notice.{Finding, Fault, sum_behind};
 
 use crate::fault::AuditFault;
@@ -24,6 +25,7 @@ impl Book {
         ensures number { IfOk result (λ number. number ≡ self.old.sum.lines + 1) }
         ensures sum { OnOk result (self.new.sum ≡ sum_behind self.old.sum) }
         ensures empty { OnOk result (self.new.said.items ≡ []) }
+        ensures full { OnErr result (self.old.sum.lines ≡ most_lines) }
     {
         if self.sum.lines == u64::MAX {
             return Err(AuditFault::Full);
@@ -43,8 +45,10 @@ impl Book {
         rule: Rule,
     ) -> Result<(), AuditFault>
         requires { place.now.port < 16 }
-        ensures { OnOk result (TellsNotices options.now
+        ensures told { OnOk result (TellsNotices options.now
             (Finding watch.now place.now said.now rule ∷ []) self.old self.new) }
+        ensures fault { IfErr result (TellingFails self.old.sum
+            (Finding watch.now place.now said.now rule ∷ []) ⊥) }
     {
         if self.sum.findings == u64::MAX {
             return Err(AuditFault::Full);
@@ -72,7 +76,8 @@ impl Book {
         line: u64,
         error: LineError,
     ) -> Result<(), AuditFault>
-        ensures { OnOk result (TellsNotices options.now (Fault line error ∷ []) self.old self.new) }
+        ensures told { OnOk result (TellsNotices options.now (Fault line error ∷ []) self.old self.new) }
+        ensures fault { IfErr result (TellingFails self.old.sum (Fault line error ∷ []) ⊥) }
     {
         if self.sum.errors == u64::MAX {
             return Err(AuditFault::Full);

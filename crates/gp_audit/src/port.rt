@@ -2,7 +2,7 @@
 //! alone.
 ghost use Rattle.std.specs.Prelude.{◌≡◌, ◌<◌, ◌||◌, [], ◌∷◌, ◌++◌, if◌then◌else◌, IfErr, IfOk, OnErr, OnOk};
 ghost use Rattle.gp_watch.specs.Heard.{followed_down, followed_up, heard_of, IsFitting};
-ghost use Rattle.gp_audit.specs.Book.{TellsNotices};
+ghost use Rattle.gp_audit.specs.Book.{TellingFails, TellsNotices};
 ghost use Rattle.gp_audit.specs.Ending.{units_of};
 ghost use Rattle.gp_audit.specs.Hearing.{census_after, findings_of, followed_in, full_told, heard_told, log_told, maybe_told, overfills, port_after, port_behind, port_logged, port_maybe, port_noted, port_ticked, port_traced, said_told, told_rules, trace_told};
 ghost use Rattle.gp_audit.specs.Port.{is_silent, port_begun, time_after};
@@ -133,8 +133,10 @@ impl Port {
         rule: Rule,
     ) -> Result<(), AuditFault>
         requires { place.now.port < 16 }
-        ensures { OnOk result (TellsNotices options.now (findings_of self.now.watch place.now said.now
+        ensures told { OnOk result (TellsNotices options.now (findings_of self.now.watch place.now said.now
             (if is_told options.now.told (heard_of heard.now) rule then rule ∷ [] else [])) book.old book.new) }
+        ensures fault { IfErr result (TellingFails book.old.sum (findings_of self.now.watch place.now said.now
+            (if is_told options.now.told (heard_of heard.now) rule then rule ∷ [] else [])) ⊥) }
     {
         if options.told.tells(heard, rule) {
             return book.tell_finding(options, &self.watch, place, said, rule);
@@ -152,8 +154,10 @@ impl Port {
         heard: &Heard,
     ) -> Result<(), AuditFault>
         requires { place.now.port < 16 }
-        ensures { OnOk result (TellsNotices options.now (findings_of self.now.watch place.now said.now
+        ensures told { OnOk result (TellsNotices options.now (findings_of self.now.watch place.now said.now
             (told_rules options.now place.now.port self.now.watch (heard_of heard.now))) book.old book.new) }
+        ensures fault { IfErr result (TellingFails book.old.sum (findings_of self.now.watch place.now said.now
+            (told_rules options.now place.now.port self.now.watch (heard_of heard.now))) ⊥) }
     {
         let broken = self.watch.broken(&options.settings(place.port), heard);
         let rules = broken.as_slice();
@@ -174,6 +178,7 @@ impl Port {
         ensures told { OnOk result (TellsNotices options.now
             (full_told line self.old.full overfills) book.old book.new) }
         ensures full { OnOk result (self.new ≡ record self.old { full = self.old.full || overfills }) }
+        ensures fault { IfErr result (TellingFails book.old.sum (full_told line self.old.full overfills) ⊥) }
     {
         if overfills && !self.full {
             book.tell_error(options, line, LineError::Full)?;
@@ -237,6 +242,9 @@ impl Port {
         requires fits { IsFitting heard.now }
         ensures told { OnOk result (TellsNotices options.now
             (heard_told options.now place.now self.old said.now (heard_of heard.now)) book.old book.new) }
+        ensures fault { IfErr result (TellingFails book.old.sum
+            (heard_told options.now place.now self.old said.now (heard_of heard.now))
+            (HeardFails options.now self.old (heard_of heard.now) WatchFault.Full)) }
         ensures noted { OnOk result (self.new ≡ port_after options.now self.old (heard_of heard.now)) }
     {
         self.tell_broken(book, options, place, said, heard)?;
@@ -257,6 +265,9 @@ impl Port {
         requires { place.now.port < 16 }
         ensures told { OnOk result (TellsNotices options.now (said_told options.now place.now self.old said.now)
             book.old book.new) }
+        ensures fault { IfErr result (TellingFails book.old.sum
+            (said_told options.now place.now self.old said.now)
+            (SaidFails options.now self.old said.now WatchFault.Full)) }
         ensures noted { OnOk result (self.new ≡ port_behind options.now self.old said.now) }
     {
         let heard = heard_in(options.mask, said);
@@ -274,6 +285,9 @@ impl Port {
         requires { place.now.port < 16 }
         ensures told { OnOk result (TellsNotices options.now (maybe_told options.now place.now self.old said.now)
             book.old book.new) }
+        ensures fault { IfErr result (TellingFails book.old.sum
+            (maybe_told options.now place.now self.old said.now)
+            (MaybeFails options.now self.old said.now WatchFault.Full)) }
         ensures noted { OnOk result (self.new ≡ port_maybe options.now self.old said.now) }
     {
         match said {
@@ -294,6 +308,9 @@ impl Port {
         requires { place.now.port < 16 }
         ensures told { OnOk result (TellsNotices options.now (log_told options.now place.now self.old time said.now)
             book.old book.new) }
+        ensures fault { IfErr result (TellingFails book.old.sum
+            (log_told options.now place.now self.old time said.now)
+            (LogFails options.now self.old time said.now WatchFault.Full)) }
         ensures noted { OnOk result (self.new ≡ port_logged options.now self.old time said.now) }
     {
         if time < self.time {
@@ -325,6 +342,9 @@ impl Port {
         requires { place.now.port < 16 }
         ensures told { OnOk result (TellsNotices options.now
             (trace_told options.now place.now (port_ticked self.old is_frame) first.now second.now) book.old book.new) }
+        ensures fault { IfErr result (TellingFails book.old.sum
+            (trace_told options.now place.now (port_ticked self.old is_frame) first.now second.now)
+            (TraceFails options.now (port_ticked self.old is_frame) first.now second.now WatchFault.Full)) }
         ensures noted { OnOk result (self.new
             ≡ port_traced options.now (port_ticked self.old is_frame) first.now second.now) }
     {

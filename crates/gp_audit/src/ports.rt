@@ -1,6 +1,6 @@
 //! What is known of each of sixteen ports, and a line heard on its own: judged, or noted alone.
 ghost use Rattle.std.specs.Prelude.{◌≡◌, ◌<◌, ◌++◌, IfErr, IfOk, OnOk, replicate, length, slice_set};
-ghost use Rattle.gp_audit.specs.Book.{TellsNotices};
+ghost use Rattle.gp_audit.specs.Book.{TellingFails, TellsNotices};
 ghost use Rattle.gp_audit.specs.Audit.{judged_on, most_ports};
 ghost use Rattle.gp_audit.specs.Ending.{first_units};
 ghost use Rattle.gp_audit.specs.Hearing.{log_told, port_at, port_logged, port_ticked, port_traced, ports_after, told_of, trace_told};
@@ -108,6 +108,9 @@ impl Ports {
         requires { place.now.port < 16 }
         ensures told { OnOk result (TellsNotices options.now (log_told options.now place.now
             (port_at options.now self.old place.now.port) time said.now) book.old book.new) }
+        ensures fault { IfErr result (TellingFails book.old.sum (log_told options.now place.now
+            (port_at options.now self.old place.now.port) time said.now)
+            (LogFails options.now (port_at options.now self.old place.now.port) time said.now WatchFault.Full)) }
         ensures noted { OnOk result (self.new ≡ slice_set self.old place.now.port
             (port_logged options.now (port_at options.now self.old place.now.port) time said.now)) }
     {
@@ -129,6 +132,10 @@ impl Ports {
         ensures told { OnOk result (TellsNotices options.now (trace_told options.now place.now
             (port_ticked (port_at options.now self.old place.now.port) is_frame) first.now second.now)
             book.old book.new) }
+        ensures fault { IfErr result (TellingFails book.old.sum (trace_told options.now place.now
+            (port_ticked (port_at options.now self.old place.now.port) is_frame) first.now second.now)
+            (TraceFails options.now (port_ticked (port_at options.now self.old place.now.port) is_frame)
+            first.now second.now WatchFault.Full)) }
         ensures noted { OnOk result (self.new ≡ slice_set self.old place.now.port (port_traced options.now
             (port_ticked (port_at options.now self.old place.now.port) is_frame) first.now second.now)) }
     {
@@ -147,6 +154,8 @@ impl Ports {
         requires { IsNear read.now }
         ensures told { OnOk result (TellsNotices options.now
             (told_of options.now self.old line read.now) book.old book.new) }
+        ensures fault { IfErr result (TellingFails book.old.sum (told_of options.now self.old line read.now)
+            (LineFails options.now self.old read.now WatchFault.Full)) }
         ensures noted { OnOk result (self.new ≡ ports_after options.now self.old read.now) }
     {
         match read {

@@ -5,7 +5,7 @@ use Rattle.gp_audit.specs.declared.book.Book.{Book}
 use Rattle.gp_audit.specs.Audit.{AuditState, Auditing, Audits}
 use Rattle.gp_audit.specs.Places.{IsTraced}
 use Rattle.gp_audit.proofs.ReadLemmas.{read_near, read_traced}
-use Rattle.gp_audit.proofs.ServingLemmas.{again_told, line_says, stands, stopped_as}
+use Rattle.gp_audit.proofs.ServingLemmas.{all_counted, overfull, unaudited, again_told, line_says, stands, stopped_as}
 use Rattle.gp_audit.proofs.serving.AuditorLineWork.line.Goals as goal
 
 pub tell_in-requires-clause-traced : goal.tell_in-requires-clause-traced
@@ -41,3 +41,15 @@ returns g c =
     c.in_ok-audit.ensures.noted c.as_slice.ensures.value in
     put_answers Auditing (Some c.args.text.now) c.args.self.now (stands old c.audit.new.self c.audit.new.book.sum) c.args.sink.now c.put.new.self c.as_slice.result.now c.in_ok-put.field-0
     (tt {0}) says c.in_ok-put.ensures
+
+pub returns-in_err-number : goal.returns-in_err-number
+returns-in_err-number g c =
+    let old : AuditState = record { options = c.self.inside.options; ports = c.self.inside.ports; sum = c.self.inside.book.sum } in
+    unaudited (Some c.args.text.now) c.args.self.now _ c.args.sink.now c.in_err-number.field-0.0 _ (search rules) (λ full. all_counted old c.args.self.now (Some c.args.text.now) c.self.view_is c.in_err-number.ensures.full)
+
+pub returns-in_err-audit : goal.returns-in_err-audit
+returns-in_err-audit g c =
+    let old : AuditState = record { options = c.self.inside.options; ports = c.self.inside.ports; sum = c.self.inside.book.sum } in
+    unaudited (Some c.args.text.now) c.args.self.now _ c.args.sink.now c.in_err-audit.field-0.0 _ (search rules)
+    (overfull old c.args.self.now (Some c.args.text.now) c.read_line-read.result c.begin_line.new.self.sum c.in_ok-number.number c.in_err-audit.field-0.0 c.self.view_is c.read_line-read.ensures c.in_ok-number.ensures.sum
+    c.in_ok-number.ensures.number c.in_err-audit.ensures.fault)
