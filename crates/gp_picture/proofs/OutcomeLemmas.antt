@@ -144,32 +144,36 @@ module _ {R W : Type 0} (frames : Frames) (from to : SourceState R) (before mid 
       }
   whole new text said (Err (Refused line why)) read runs written kept ends = absurd ends
   whole new text said (Err (Lines faults.Read)) read runs written kept ends = absurd ends
-  whole new text said (Err (Lines (faults.Line fault))) read runs written kept (inl same) =
-      let first = only_gathered said runs.silent written in
-      inl (record {
-        bytes = text;
-        came = read.consumed;
-        picture = [];
-        svg = inl refl;
-        written = before.gathered;
-        unwritten = [];
-        all = refl;
-        appended = subst (λ (s : SinkState W). Appends before.held s.held before.gathered) (sym same) first;
-      })
-  whole new text said (Err (Lines (faults.Line fault))) read runs written kept (inr (picture, svg, stopped, w)) =
+  whole new text said (Err (Lines (faults.Line fault))) read runs written kept (other, inl same) =
+      let first = only_gathered said runs.silent written in (
+        inl (record {
+          bytes = text;
+          came = read.consumed;
+          picture = [];
+          svg = inl refl;
+          written = before.gathered;
+          unwritten = [];
+          all = refl;
+          appended = subst (λ (s : SinkState W). Appends before.held s.held before.gathered) (sym same) first;
+        }),
+        λ is. absurd (other is),
+      )
+  whole new text said (Err (Lines (faults.Line fault))) read runs written kept (other, inr (picture, svg, stopped, w)) =
       let first = only_gathered said runs.silent written in
       let p = w.gives.error in
-      let rest : picture ≡ p.written ++ p.unwritten = ap (λ (l : List ℕ). l ++ picture) (sym kept.0) ∙ p.rest in
-      inl (record {
-        bytes = text;
-        came = read.consumed;
-        picture = picture;
-        svg = inr svg;
-        written = before.gathered ++ p.written;
-        unwritten = p.unwritten;
-        all = append_assoc before.gathered p.written p.unwritten ∙ ap (λ (l : List ℕ). before.gathered ++ l) (sym rest);
-        appended = Appends-trans before.held mid.held after.held before.gathered p.written first p.appended;
-      })
+      let rest : picture ≡ p.written ++ p.unwritten = ap (λ (l : List ℕ). l ++ picture) (sym kept.0) ∙ p.rest in (
+        inl (record {
+          bytes = text;
+          came = read.consumed;
+          picture = picture;
+          svg = inr svg;
+          written = before.gathered ++ p.written;
+          unwritten = p.unwritten;
+          all = append_assoc before.gathered p.written p.unwritten ∙ ap (λ (l : List ℕ). before.gathered ++ l) (sym rest);
+          appended = Appends-trans before.held mid.held after.held before.gathered p.written first p.appended;
+        }),
+        λ is. absurd (other is),
+      )
 
   ended_whole : (ended : Option NoLine) (new : DrawState) (text said : List ℕ) (answer : Result PictureSum ExplainFault) → ReadsWhole from to text
       → Course ended (map (handed longest_line) (lines_of text)) said opened new → Appends before.held mid.held (before.gathered ++ said) → KeepsNothing mid
@@ -243,7 +247,8 @@ module _ {R W : Type 0} (frames : Frames) (from to : SourceState R) (before afte
       (begun_all e.bytes e.said (silent (map (handed longest_line) (ended_lines e.bytes)) opened new e.said e.spoken) e.read e.written, s.failed refl)
   unread (faults.Line fault) new s =
       let e = s.fault fault refl in
-      inl (begun_by fault e.bytes e.said (silent_some e.begun opened e.said e.spoken) e.read e.written)
+      (inl (begun_by fault e.bytes e.said (silent_some e.begun opened e.said e.spoken) e.read e.written),
+      λ is. s.full (ap (λ (f : Unanswered). let r : Result LinesEnd LinesFault = Err (faults.Line f) in r) is))
 
   pub unread_as : (fault : LinesFault) (old new : DrawState) (answer : Result PictureSum ExplainFault) → old ≡ opened
       → IsErrAnd answer (λ told. told ≡ Lines fault) → Serves Drawing has_ended longest_line from to old new before after (Err fault) → DrawsTrace frames from to before after answer
@@ -257,7 +262,7 @@ pub unbegun : {R W : Type 0} (frames : Frames) (from : SourceState R) (before : 
     → IsErrAnd answer (λ told. told ≡ Lines (faults.Line OutOfMemory)) → DrawsTrace frames from from before before answer
 unbegun frames from before (Ok lines) told = absurd told
 unbegun frames from before (Err e) told =
-    subst (λ (x : ExplainFault). DrawsTrace frames from from before before (Err x)) (sym told) (inr (refl, refl, refl))
+    subst (λ (x : ExplainFault). DrawsTrace frames from from before before (Err x)) (sym told) (inr (refl, refl, refl), λ is. absurd (cc))
 
 -- behind the last line the picture was written
 pub ends_whole : {W : Type 0} (frames : Frames) (drawn : DrawState) (sum : PictureSum) (before after : SinkState W) → drawn.ended ≡ None → sum.lines ≡ drawn.lines

@@ -1,7 +1,8 @@
 -- Lines that are handed to a drawer.
-use Rattle.std.proofs.Common.{◌≡◌, ℕ, List, Option, None, Some, Result, Ok, Err, inl, inr, refl, sym, subst}
+use Rattle.std.proofs.Common.{◌≡◌, ℕ, List, Option, None, Some, Result, Ok, Err, IsErrAnd, inl, inr, refl, sym, subst}
+use Rattle.gp_flow.specs.declared.fault.Unanswered.{Unanswered}
 use Rattle.gp_flow.specs.Lines.{Answers}
-use Rattle.gp_flow.proofs.AnswerLemmas.{silent_answers}
+use Rattle.gp_flow.proofs.AnswerLemmas.{no_memory, no_room, silent_answers}
 use Rattle.gp_stream.specs.Sink.{SinkState}
 use Rattle.gp_explain.specs.declared.fault.NoLine.{NoLine}
 use Rattle.gp_explain.specs.declared.fault.NoLine.TheVariants.{NotALine}
@@ -9,7 +10,10 @@ use Rattle.gp_log.specs.declared.fault.LogFault.{LogFault}
 use Rattle.gp_log.specs.declared.line.LogLine.{LogLine}
 use Rattle.gp_log.specs.Line.{Reads}
 use Rattle.gp_times.specs.Lines.{IsUnread}
-use Rattle.gp_picture.specs.Drawing.{DrawState, Drawing, DrawsFrom, counted, ended_by}
+use Rattle.gp_picture.specs.declared.fault.PictureFault.{PictureFault}
+use Rattle.gp_picture.specs.declared.fault.PictureFault.TheVariants as drawn
+use Rattle.gp_picture.specs.Faults.{DrawingFails, undrawn}
+use Rattle.gp_picture.specs.Drawing.{DrawState, Drawing, DrawsFrom, TellsBurst, counted, ended_by}
 
 -- a line that is none ends it
 pub refused_line : {W : Type 0} (old new : DrawState) (text : List ℕ) (before : SinkState W) → old.ended ≡ None → IsUnread text → new ≡ ended_by NotALine old
@@ -32,3 +36,13 @@ read_as text read line is reads = subst (λ (r : Result LogLine LogFault). Reads
 -- or not
 pub unread_as : (text : List ℕ) (read : Result LogLine LogFault) (fault : LogFault) → read ≡ Err fault → Reads text read → IsUnread text
 unread_as text read fault is reads = (fault, subst (λ (r : Result LogLine LogFault). Reads text r) is reads)
+
+-- a line that can't be drawn
+pub undrawn_line : {W : Type 0} (old new : DrawState) (text : List ℕ) (line : LogLine) (before : SinkState W) (fault : PictureFault) (r : Result (Unit {0}) Unanswered)
+    → IsErrAnd r (λ f. f ≡ undrawn fault) → old.ended ≡ None → Reads text (Ok line) → DrawingFails (TellsBurst line) fault → Answers Drawing (Some text) old new before before r
+undrawn_line old new text line before fault (Ok x) told none reads fails = absurd told
+undrawn_line old new text line before drawn.OutOfMemory (Err f) told none reads fails =
+    subst (λ (e : Unanswered). Answers {T = Unit {0}} Drawing (Some text) old new before before (Err e)) (sym told) (no_memory Drawing (Some text) old new before)
+undrawn_line old new text line before drawn.Full (Err f) told none reads fails =
+    subst (λ (e : Unanswered). Answers {T = Unit {0}} Drawing (Some text) old new before before (Err e)) (sym told)
+    (no_room Drawing (Some text) old new before (none, inr (line, reads, fails)))

@@ -1,10 +1,12 @@
 -- How far an input was read (this profile's own rule). What is drawn of a line is tested, and not said here.
--- Inside: no public contract cites this.
 use Rattle.std.specs.Prelude.{◌≡◌, ℕ, ◌+◌, ◌⊎◌, ◌||◌, not, Bool, false, List, [], Option, None, Some, is_some, Ok}
-use Rattle.gp_flow.specs.Lines.{Speech, WholeLines}
+use Rattle.gp_flow.specs.Lines.{Speech, WholeLines, most_lines}
 use Rattle.gp_explain.specs.declared.fault.NoLine.{NoLine}
 use Rattle.gp_explain.specs.declared.fault.NoLine.TheVariants.{NotALine, TooLong}
 use Rattle.gp_log.specs.declared.line.LogLine.{LogLine}
+use Rattle.gp_log.specs.declared.line.LogLine.TheVariants as line
+use Rattle.gp_log.specs.declared.said.Said.{Said}
+use Rattle.gp_log.specs.declared.said.Said.TheVariants as said
 use Rattle.gp_log.specs.Line.{Reads, says_nothing}
 use Rattle.gp_times.specs.Times.{TimesState, times_after, times_begun}
 use Rattle.gp_times.specs.Lines.{IsUnread}
@@ -47,8 +49,30 @@ DrawsFrom None old (Some text) new = DrawsText old text new
 abbrev pub Draws : DrawState → Option (List ℕ) → List ℕ → DrawState → Type 0
 Draws old line said new = (said ≡ []) × DrawsFrom old.ended old line new
 
+-- this is said, and it is a burst
+abbrev pub IsBurst : Option Said → Type 0
+IsBurst None = ⊥
+IsBurst (Some (said.Down code)) = ⊥
+IsBurst (Some (said.Up code delay)) = Unit {0}
+IsBurst (Some (said.Grant grant)) = ⊥
+
+-- a line tells of a burst
+abbrev pub TellsBurst : LogLine → Type 0
+TellsBurst line.Remark = ⊥
+TellsBurst (line.Log port time heard) = IsBurst (Some heard)
+TellsBurst (line.Trace port is_frame first second) = IsBurst first ⊎ IsBurst second
+
+-- the asks of a unit may not be counted any more with this line: only a burst asks
+abbrev pub MayAsk : Option (List ℕ) → Type 0
+MayAsk None = ⊥
+MayAsk (Some text) = (line : LogLine) × Reads text (Ok line) × TellsBurst line
+
+-- why no more lines can be taken: it has not ended, and so many have come as can be counted, or asks can't be
+abbrev pub IsFull : DrawState → Option (List ℕ) → Type 0
+IsFull state line = (state.ended ≡ None) × ((state.lines ≡ most_lines) ⊎ MayAsk line)
+
 abbrev pub Drawing : Speech DrawState
-Drawing = WholeLines Draws
+Drawing = WholeLines IsFull Draws
 
 -- it has ended
 abbrev pub has_ended : DrawState → Bool

@@ -14,3 +14,8 @@ of_watch watches.Full = drawn.Full
 abbrev pub undrawn : PictureFault → Unanswered
 undrawn drawn.OutOfMemory = lines.OutOfMemory
 undrawn drawn.Full = lines.Full
+
+-- why nothing is drawn: there is no memory; or, where no count can go on, this
+abbrev pub DrawingFails : Type 0 → PictureFault → Type 0
+DrawingFails uncounted drawn.OutOfMemory = Unit {0}
+DrawingFails uncounted drawn.Full = uncounted

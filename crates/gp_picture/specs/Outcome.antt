@@ -1,10 +1,10 @@
 -- How drawing a trace or a log may end (this profile's own rule).
-use Rattle.std.specs.Prelude.{◌≡◌, ◌<◌, ◌⊎◌, ℕ, ◌+◌, true, List, [], ◌∷◌, ◌++◌, length, codes, Option, Some, None, Result, Ok, Err}
+use Rattle.std.specs.Prelude.{◌≡◌, ◌≢◌, ◌<◌, ◌⊎◌, ℕ, ◌+◌, true, List, [], ◌∷◌, ◌++◌, length, codes, Option, Some, None, Result, Ok, Err}
 use Rattle.std.specs.Io.KnownBytes.{Appends, Consumes}
 use Rattle.std.specs.List.{All}
-use Rattle.gp_flow.specs.declared.fault.Unanswered.TheVariants.{OutOfMemory}
+use Rattle.gp_flow.specs.declared.fault.Unanswered.TheVariants.{OutOfMemory, Full}
 use Rattle.gp_flow.specs.declared.fault.LinesFault.TheVariants as faults
-use Rattle.gp_flow.specs.Lines.{lines_of, longest_line}
+use Rattle.gp_flow.specs.Lines.{ServesFull, lines_of, longest_line}
 use Rattle.gp_stream.specs.declared.sink.WriteStopped.{WriteStopped}
 use Rattle.gp_stream.specs.Sink.{SinkState, KeepsNothing, WritesWhole}
 use Rattle.gp_stream.specs.Source.{SourceState, ReadsWhole}
@@ -16,7 +16,7 @@ use Rattle.gp_picture.specs.declared.running.PictureSum.{PictureSum}
 use Rattle.gp_times.specs.declared.frames.Frames.{Frames}
 use Rattle.gp_times.specs.Lines.{AreRead, HaveFallen, IsRead, IsUnread, IsWhere}
 use Rattle.gp_times.specs.Times.{outside_of}
-use Rattle.gp_picture.specs.Drawing.{DrawState}
+use Rattle.gp_picture.specs.Drawing.{DrawState, Drawing, opened}
 
 -- a whole SVG document (W3C, Scalable Vector Graphics 1.1). What stands in it is tested, and not said here.
 abbrev pub IsSvg : List ℕ → Type 0
@@ -71,6 +71,7 @@ pub record IsBegun {R W : Type 0} (from to : SourceState R) (before after : Sink
   pub appended : Appends before.held after.held written
 
 -- how it may end; a failed read, and the bound of reads, are told as such. Memory may run out before anything was read.
+-- That no more lines can be taken is told only where one of the lines is why.
 abbrev pub DrawsTrace : {R W : Type 0} → Frames → SourceState R → SourceState R → SinkState W → SinkState W
     → Result PictureSum ExplainFault → Type 0
 DrawsTrace frames from to before after (Ok sum) = IsDrawn frames from to before after sum
@@ -78,7 +79,8 @@ DrawsTrace frames from to before after (Err (Refused line why)) = IsRefused from
 DrawsTrace frames from to before after (Err (Lines faults.Read)) =
     IsBegun from to before after × ((to.failed ≡ true) ⊎ (to.left ≡ 0))
 DrawsTrace frames from to before after (Err (Lines (faults.Line fault))) =
-    IsBegun from to before after ⊎ ((fault ≡ OutOfMemory) × (to ≡ from) × (after ≡ before))
+    (IsBegun from to before after ⊎ ((fault ≡ OutOfMemory) × (to ≡ from) × (after ≡ before)))
+    × (fault ≡ Full → ServesFull Drawing longest_line from to opened)
 
 -- how a picture is written, if it is
 abbrev pub WritesPicture : {W : Type 0} → SinkState W → SinkState W → Result (Unit {0}) ExplainFault → Type 0
@@ -88,9 +90,10 @@ WritesPicture before after (Ok done) =
 WritesPicture before after (Err (Refused line why)) = ⊥
 WritesPicture before after (Err (Lines faults.Read)) = ⊥
 WritesPicture before after (Err (Lines (faults.Line fault))) =
-    (after ≡ before)
+    (fault ≢ Full)
+    × ((after ≡ before)
     ⊎ ((picture : List ℕ) × IsSvg picture
-    × (stopped : WriteStopped) × WritesWhole {T = Unit {0}} before after picture (Err stopped))
+    × (stopped : WriteStopped) × WritesWhole {T = Unit {0}} before after picture (Err stopped)))
 
 -- how it ends behind the last line
 abbrev pub EndsAs : {W : Type 0} → Frames → Option NoLine → DrawState → SinkState W → SinkState W

@@ -1,4 +1,7 @@
 //! All that is drawn, kept until the input has ended: where it is more than there is room for, columns become wider.
+ghost use Rattle.std.specs.Prelude.{IfErr};
+ghost use Rattle.gp_picture.specs.Drawing.{TellsBurst};
+ghost use Rattle.gp_picture.specs.Faults.{DrawingFails};
 
 use crate::fault::PictureFault;
 use crate::moment::{LineText, Place};
@@ -47,7 +50,9 @@ impl Picture {
         read: &LogLine,
         times: &PortTimes,
         falls: bool,
-    ) -> Result<(), PictureFault> {
+    ) -> Result<(), PictureFault>
+        ensures { IfErr result (DrawingFails (TellsBurst read.now)) }
+    {
         let options = &self.options;
         let room = &mut self.room;
         match read {
@@ -105,7 +110,9 @@ impl Picture {
         read: &LogLine,
         times: &PortTimes,
         falls: bool,
-    ) -> Result<(), PictureFault> {
+    ) -> Result<(), PictureFault>
+        ensures { IfErr result (DrawingFails (TellsBurst read.now)) }
+    {
         self.draw_line(line, read, times, falls)?;
         if self.room.is_full() {
             self.widen()?;

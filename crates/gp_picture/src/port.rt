@@ -1,4 +1,7 @@
 //! What is kept of one port, and what something that is heard there changes of it.
+ghost use Rattle.std.specs.Prelude.{◌⊎◌, IfErr, Some};
+ghost use Rattle.gp_picture.specs.Drawing.{IsBurst};
+ghost use Rattle.gp_picture.specs.Faults.{DrawingFails};
 
 use crate::fault::PictureFault;
 use crate::lane::Lane;
@@ -228,7 +231,9 @@ impl Port {
         number: usize,
         place: &Place<'_>,
         said: &Said,
-    ) -> Result<(), PictureFault> {
+    ) -> Result<(), PictureFault>
+        ensures { IfErr result (DrawingFails (IsBurst (Some said.now))) }
+    {
         let heard = heard_in(options.mask, said);
         self.note_window(place, &heard);
         self.mark_broken(room, &options.settings(number), place, &heard)?;
@@ -246,7 +251,9 @@ impl Port {
         number: usize,
         place: &Place<'_>,
         said: &Option<Said>,
-    ) -> Result<(), PictureFault> {
+    ) -> Result<(), PictureFault>
+        ensures { IfErr result (DrawingFails (IsBurst said.now)) }
+    {
         match said {
             Some(said) => self.hear(options, room, number, place, said),
             None => Ok(()),
@@ -263,7 +270,9 @@ impl Port {
         place: &Place<'_>,
         falls: bool,
         said: &Said,
-    ) -> Result<(), PictureFault> {
+    ) -> Result<(), PictureFault>
+        ensures { IfErr result (DrawingFails (IsBurst (Some said.now))) }
+    {
         self.close_windows(options, room, place.frame)?;
         if place.frame > options.frames.to {
             return Ok(());
@@ -295,7 +304,9 @@ impl Port {
         place: &Place<'_>,
         first: &Option<Said>,
         second: &Option<Said>,
-    ) -> Result<(), PictureFault> {
+    ) -> Result<(), PictureFault>
+        ensures { IfErr result (DrawingFails (IsBurst first.now ⊎ IsBurst second.now)) }
+    {
         self.close_windows(options, room, place.frame)?;
         if place.frame > options.frames.to {
             return Ok(());

@@ -1,5 +1,5 @@
 use Rattle.std.proofs.Common.{rules}
-use Rattle.gp_picture.proofs.ServingLemmas.{drawn_line, read_as, refused_line, unread_as}
+use Rattle.gp_picture.proofs.ServingLemmas.{drawn_line, read_as, refused_line, undrawn_line, unread_as}
 use Rattle.gp_picture.proofs.serving.DrawerLineWork.line.Goals as goal
 
 pub returns-in_default : goal.returns-in_default
@@ -9,3 +9,8 @@ returns-in_default g c =
 pub returns : goal.returns
 returns g c =
     drawn_line _ _ c.args.text.now c.in-Ok.read _ (search rules) (read_as c.args.text.now c.read_line.result c.in-Ok.read c.in-Ok.is c.read_line.ensures) (search rules)
+
+pub returns-in_err-line : goal.returns-in_err-line
+returns-in_err-line g c =
+    undrawn_line c.args.self.now _ c.args.text.now c.in-Ok.read _ c.in_err-line.field-0.0 _ (search rules) (search rules)
+    (read_as c.args.text.now c.read_line.result c.in-Ok.read c.in-Ok.is c.read_line.ensures) c.in_err-line.ensures
