@@ -246,9 +246,10 @@ module _ {R W : Type 0} (frames : Frames) (from to : SourceState R) (before afte
       let e = s.read refl in
       (begun_all e.bytes e.said (silent (map (handed longest_line) (ended_lines e.bytes)) opened new e.said e.spoken) e.read e.written, s.failed refl)
   unread (faults.Line fault) new s =
-      let e = s.fault fault refl in
-      (inl (begun_by fault e.bytes e.said (silent_some e.begun opened e.said e.spoken) e.read e.written),
-      λ is. s.full (ap (λ (f : Unanswered). let r : Result LinesEnd LinesFault = Err (faults.Line f) in r) is))
+      let e = s.fault fault refl in (
+        inl (begun_by fault e.bytes e.said (silent_some e.begun opened e.said e.spoken) e.read e.written),
+        λ is. s.full (ap (λ (f : Unanswered). let r : Result LinesEnd LinesFault = Err (faults.Line f) in r) is),
+      )
 
   pub unread_as : (fault : LinesFault) (old new : DrawState) (answer : Result PictureSum ExplainFault) → old ≡ opened
       → IsErrAnd answer (λ told. told ≡ Lines fault) → Serves Drawing has_ended longest_line from to old new before after (Err fault) → DrawsTrace frames from to before after answer

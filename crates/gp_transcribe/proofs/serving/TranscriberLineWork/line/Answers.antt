@@ -4,7 +4,7 @@ use Rattle.gp_transcribe.proofs.ServingLemmas.{refused_line, stopped_line, untol
 use Rattle.gp_transcribe.proofs.serving.TranscriberLineWork.line.Goals as goal
 
 pub returns-in_err-transcribe_line : goal.returns-in_err-transcribe_line
-returns-in_err-transcribe_line g c = 
+returns-in_err-transcribe_line g c =
     let viewed : c.self.inside.frames ≡ c.args.self.now.frames = search rules in
     let full = untold_line c.args.self.now c.self.inside.frames c.args.text.now _ c.transcribe_line.result (search rules) viewed (search rules) c.transcribe_line.ensures.full in
     unwritten_line _ c.args.self.now _ _ _ _ (search rules) c.in_err-transcribe_line.ensures.error full

@@ -8,11 +8,11 @@ returns-in_default g c =
     refused_line _ _ c.args.text.now _ (search rules) (unread_as c.args.text.now c.read_line.result c.in_default.field-0 c.in_default.is c.read_line.ensures) (search rules)
 
 pub returns-in_err-hear : goal.returns-in_err-hear
-returns-in_err-hear g c = 
+returns-in_err-hear g c =
     undumped_line _ c.args.self.now _ _ c.in_err-hear.field-0.0 _ (search rules) (may_fill c.args.self.now c.args.text.now c.read_line.result c.in-Ok.read (search rules) c.in-Ok.is c.read_line.ensures)
 
 pub returns-in_err-spill : goal.returns-in_err-spill
-returns-in_err-spill g c = 
+returns-in_err-spill g c =
     undumped_line _ c.args.self.now _ _ c.in_err-spill.field-0.0 _ (search rules) (may_fill c.args.self.now c.args.text.now c.read_line.result c.in-Ok.read (search rules) c.in-Ok.is c.read_line.ensures)
 
 pub returns-in_err-put : goal.returns-in_err-put
