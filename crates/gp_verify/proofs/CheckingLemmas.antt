@@ -1,6 +1,7 @@
 -- How the verification of a trace against a script ends, from how its parts end.
 use Rattle.std.proofs.Common.{◌≡◌, ℕ, List, [], Result, Ok, Err, IsErrAnd, refl, subst, sym}
 use Rattle.gp_flow.specs.declared.fault.Unanswered.{Unanswered}
+use Rattle.gp_flow.specs.declared.fault.Unanswered.TheVariants.{Full}
 use Rattle.gp_flow.specs.declared.fault.LinesFault.TheVariants.{Line}
 use Rattle.gp_stream.specs.Sink.{SinkState}
 use Rattle.gp_stream.specs.Source.{SourceState}
@@ -18,11 +19,11 @@ use Rattle.gp_verify.specs.Verdicts.{VerifyState}
 
 -- no line was judged
 pub not_judged : {T W : Type 0} (opened : VerifyState) (from to : SourceState T) (old new : SinkState W) (line : Unanswered) (r : Result ℕ VerifyFault)
-    → IsErrAnd r (λ fault. fault ≡ Lines (Line line)) → (told : List ℕ) × ((end : VerifyState) × Verifies opened end from to told r) × Writes old new told r
-not_judged opened from to old new line (Ok lines) same = absurd same
-not_judged {T = T} opened from to old new line (Err fault) same = (
+    → (line ≡ Full → ⊥) → IsErrAnd r (λ fault. fault ≡ Lines (Line line)) → (told : List ℕ) × ((end : VerifyState) × Verifies opened end from to told r) × Writes old new told r
+not_judged opened from to old new line (Ok lines) other same = absurd same
+not_judged {T = T} opened from to old new line (Err fault) other same = (
   [],
-  (opened, subst (λ (f : VerifyFault). Verifies opened opened from to [] (Err f)) (sym same) tt),
+  (opened, subst (λ (f : VerifyFault). Verifies opened opened from to [] (Err f)) (sym same) (λ full. absurd (other full))),
   subst (λ (f : VerifyFault). Writes old new [] (Err f)) (sym same) tt,
 )
 

@@ -17,9 +17,9 @@ use Rattle.gp_verify.specs.Verdicts.{Judges, VerifyState, ending}
 
 -- a line that was not judged is not answered
 pub not_judged : {S W U : Type 0} (does : Speech S) (line : Option (List ℕ)) (old new : S) (before : SinkState W) (refusal : LineRefusal)
-    → Answers {T = U} does line old new before before (Err (line_fault refusal))
-not_judged does line old new before OutOfMemory = no_memory does line old new before
-not_judged does line old new before Full = no_room does line old new before
+    → (refusal ≡ Full → does.full old line) → Answers {T = U} does line old new before before (Err (line_fault refusal))
+not_judged does line old new before OutOfMemory why = no_memory does line old new before
+not_judged does line old new before Full why = no_room does line old new before (why refl)
 
 -- a line that was judged
 pub judged_line : (old new : VerifyState) (text : List ℕ) (verdict : Verdict) (ended : Option Verdict) → old.ended ≡ ended
@@ -68,4 +68,4 @@ pub followed_silently : {W : Type 0} (old new : VerifyState) (text : List ℕ) (
     → Answers {T = Unit {0}} Following (Some text) old new before before (Ok tt)
 followed_silently old new text before v follows none judged ends lines mask form =
     let report : Reports new.form v new.lines new text [] = subst (λ (x : Verdict). Reports new.form x new.lines new text []) (sym follows) refl in
-    record { ok = ([], told_line old new text [] v none judged ends lines mask form report, takes_nothing before); error = tt; flushed = λ f unstopped. f; stopped = λ s. s }
+    record { ok = ([], told_line old new text [] v none judged ends lines mask form report, takes_nothing before); error = tt; full = λ e. absurd (cc); flushed = λ f unstopped. f; stopped = λ s. s }

@@ -3,6 +3,7 @@ use Rattle.std.specs.Prelude.{All, IfSome, is_some}
 use Rattle.std.proofs.Common.{◌≡◌, ℕ, true, false, List, [], ◌∷◌, ◌++◌, Option, None, Some, Result, Err, length, map, refl, sym, ap, subst, ◌∙◌, append_assoc}
 use Rattle.std.proofs.lemmas.List.{append-nil}
 use Rattle.std.specs.Io.KnownBytes.{Consumes, IsAtEnd}
+use Rattle.gp_flow.specs.declared.fault.Unanswered.{Unanswered}
 use Rattle.gp_flow.specs.declared.lines.LinesEnd.{LinesEnd}
 use Rattle.gp_flow.specs.declared.lines.LinesEnd.TheVariants.{Whole, Open, Over}
 use Rattle.gp_flow.specs.declared.fault.LinesFault.{LinesFault}
@@ -245,4 +246,8 @@ module _ {R W : Type 0} (from to : SourceState R) (old new : VerifyState) (befor
 
   pub unread : (fault : LinesFault) → Serves Following has_ended longest_line from to old new before after (Err fault) → RunsVerify old new from to before after (Err (Lines fault))
   unread faults.Read s = record { told = []; verified = s.failed refl; written = tt }
-  unread (faults.Line fault) s = record { told = []; verified = tt; written = tt }
+  unread (faults.Line fault) s = record {
+    told = [];
+    verified = λ is. s.full (ap (λ (f : Unanswered). let r : Result LinesEnd LinesFault = Err (faults.Line f) in r) is);
+    written = tt;
+  }

@@ -5,7 +5,7 @@ use Rattle.gp_explain.specs.declared.form.Form.{Form}
 use Rattle.gp_verify.specs.declared.verdict.Verdict.{Verdict}
 use Rattle.gp_verify.specs.declared.verdict.Verdict.TheVariants.{TooLong}
 use Rattle.gp_verify.specs.Report.{ReportsAt}
-use Rattle.gp_verify.specs.Verdicts.{Judges, VerifyState, ending}
+use Rattle.gp_verify.specs.Verdicts.{Judges, VerifyState, ending, most_lines}
 
 -- the line was judged
 pub record JudgesLine (old : VerifyState) (text : List ℕ) (new : VerifyState) : Type 0 where
@@ -32,9 +32,13 @@ TellsFrom form None (Some text) new told = ReportsAt form new.ended new.lines ne
 abbrev pub Follows : VerifyState → Option (List ℕ) → List ℕ → VerifyState → Type 0
 Follows old line told new = TellsFrom old.form old.ended line new told × TakesFrom old.ended old line new
 
+-- why no more lines can be taken: it has not ended, and so many were judged as can be
+abbrev pub IsFull : VerifyState → Option (List ℕ) → Type 0
+IsFull old line = (old.ended ≡ None) × (old.lines ≡ most_lines)
+
 -- what a verifier does with a line, which it answers whole or not at all
 abbrev pub Following : Speech VerifyState
-Following = WholeLines Follows
+Following = WholeLines IsFull Follows
 
 -- it has ended
 abbrev pub has_ended : VerifyState → Bool

@@ -1,11 +1,12 @@
 -- How the verification of a text may end (this profile's own rule).
 use Rattle.std.specs.Prelude.{◌≡◌, ◌<◌, ◌⊎◌, ℕ, ◌+◌, true, List, [], ◌∷◌, ◌++◌, length, IfSome, Option, Some, None, Result, Ok, Err}
 use Rattle.std.specs.Io.KnownBytes.{Appends, Consumes}
+use Rattle.gp_flow.specs.declared.fault.Unanswered.TheVariants.{Full}
 use Rattle.gp_flow.specs.declared.fault.LinesFault.{LinesFault}
 use Rattle.gp_flow.specs.declared.fault.LinesFault.TheVariants as faults
 use Rattle.gp_flow.specs.declared.lines.LinesEnd.{LinesEnd}
 use Rattle.gp_flow.specs.declared.lines.LinesEnd.TheVariants.{Whole, Open, Over}
-use Rattle.gp_flow.specs.Lines.{lines_of, longest_line}
+use Rattle.gp_flow.specs.Lines.{ServesFull, lines_of, longest_line}
 use Rattle.gp_stream.specs.Sink.{SinkState, KeepsNothing}
 use Rattle.gp_stream.specs.Source.{SourceState, ReadsWhole}
 use Rattle.gp_ploam.specs.declared.check.Mask.{Mask}
@@ -15,6 +16,7 @@ use Rattle.gp_verify.specs.declared.outcome.VerifyFault.{VerifyFault}
 use Rattle.gp_verify.specs.declared.outcome.VerifyFault.TheVariants.{Refused, Unended, Lines}
 use Rattle.gp_verify.specs.declared.verdict.Verdict.{Verdict}
 use Rattle.gp_verify.specs.declared.verdict.Verdict.TheVariants.{TooLong}
+use Rattle.gp_verify.specs.Following.{Following}
 use Rattle.gp_verify.specs.Report.{Reports}
 use Rattle.gp_verify.specs.Tells.{AreLinesOf, IsTraceText}
 use Rattle.gp_verify.specs.Verdicts.{Judges, VerifyState}
@@ -64,10 +66,11 @@ pub record IsUnended {R : Type 0} (old : VerifyState) (from to : SourceState R) 
   pub count : length (lines_of text) ≡ line
   pub none : IsNoRun old from
 
--- a failed read is told, and only it and the bound of reads are
-abbrev pub IsUnread : {R : Type 0} → LinesFault → SourceState R → Type 0
-IsUnread faults.Read to = (to.failed ≡ true) ⊎ (to.left ≡ 0)
-IsUnread (faults.Line fault) to = Unit {0}
+-- a failed read is told, and only it and the bound of reads are; that no more lines can be taken is told only where one
+-- of the lines is why
+abbrev pub IsUnread : {R : Type 0} → LinesFault → VerifyState → SourceState R → SourceState R → Type 0
+IsUnread faults.Read old from to = (to.failed ≡ true) ⊎ (to.left ≡ 0)
+IsUnread (faults.Line fault) old from to = fault ≡ Full → ServesFull Following longest_line from to old
 
 -- how a verification may end, and what is told of it: nothing, but of the line that can't be
 abbrev pub Verifies : {R : Type 0} → VerifyState → VerifyState → SourceState R → SourceState R → List ℕ
@@ -75,7 +78,7 @@ abbrev pub Verifies : {R : Type 0} → VerifyState → VerifyState → SourceSta
 Verifies old new from to told (Ok lines) = IsRun old from to lines × (told ≡ [])
 Verifies old new from to told (Err (Refused line verdict)) = IsRefused old new from to line verdict told
 Verifies old new from to told (Err (Unended line)) = IsUnended old from to line × (told ≡ [])
-Verifies old new from to told (Err (Lines fault)) = IsUnread fault to
+Verifies old new from to told (Err (Lines fault)) = IsUnread fault old from to
 
 -- the writer got all of it behind what was gathered before, and nothing is kept back
 abbrev pub WritesAll : {W : Type 0} → SinkState W → SinkState W → List ℕ → Type 0

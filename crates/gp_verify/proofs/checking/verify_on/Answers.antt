@@ -5,7 +5,7 @@ use Rattle.gp_verify.proofs.CheckingLemmas.{not_judged}
 use Rattle.gp_verify.proofs.checking.verify_on.Goals as goal
 
 pub returns-in_err-verifier : goal.returns-in_err-verifier
-returns-in_err-verifier g c = not_judged (opened_by c.args.form (script_view c.args.script)) _ _ c.args.sink.now c.args.sink.now OutOfMemory _ c.from_residual.ensures.1
+returns-in_err-verifier g c = not_judged (opened_by c.args.form (script_view c.args.script)) _ _ c.args.sink.now c.args.sink.now OutOfMemory _ (λ e. absurd (cc)) c.from_residual.ensures.1
 
 pub returns : goal.returns
 returns g c =
