@@ -17,7 +17,7 @@ use Rattle.gp_replay.specs.Playing.{Playing}
 use Rattle.gp_replay.specs.Writing.{HandsIn, Happening, PlaysOn}
 use Rattle.gp_trace.specs.Text.{trace_text}
 use Rattle.gp_drive.specs.declared.fault.TurnFault.{TurnFault}
-use Rattle.gp_drive.specs.Drive.{DriveState, Says, answering, driving, ending, errors_of, line_fault, playing_of, refusing}
+use Rattle.gp_drive.specs.Drive.{DriveState, IsFull, Says, answering, driving, ending, errors_of, line_fault, most_lines, playing_of, refusing}
 use Rattle.gp_drive.specs.Shown.{shown_of}
 use Rattle.gp_drive.specs.Turns.{PlaysTo, PlaysTurnPart, cost_of, missing_in}
 
@@ -30,6 +30,7 @@ pub answered : {S W A B : Type 0} (does : Speech S) (line : Option (List ℕ)) (
 answered does line old new x y said u v d h = record {
   ok = (said, d, h.ok);
   error = tt;
+  full = λ e. absurd (cc);
   flushed = λ f unstopped. h.flushed f;
   stopped = λ s. h.stopped ∙ ap (λ (b : Bool). b || false) s;
 }
@@ -40,6 +41,7 @@ pub unanswered : {S W A B : Type 0} (does : Speech S) (line : Option (List ℕ))
 unanswered does line old new next x y said e d h = record {
   ok = tt;
   error = AllSaid said next d h.error;
+  full = λ e. absurd (cc);
   flushed = λ f unstopped. stops unstopped;
   stopped = λ s. h.stopped ∙ ap (λ (b : Bool). b || true) s;
 }
@@ -74,6 +76,7 @@ played playing turn fault old new x y z u w v mask done lights lines errors left
     takes_more x y z _ _ p.ok.lines h.ok,
   );
   error = tt;
+  full = λ e. absurd (cc);
   flushed = λ f unstopped. h.flushed (p.flushed f refl);
   stopped = λ s. h.stopped ∙ ap (λ (b : Bool). b || false) (p.stopped ∙ ap (λ (b : Bool). b || false) s);
 }
@@ -91,6 +94,7 @@ unended playing turn fault old new end x y z u e enough p h =
       error = AllSaid (trace_text old.mask p.ok.receipts ++ (shown_of old.lights playing turn end ++ ending old.done (old.lines + 1) fault)) next
           (fault, record { receipts = p.ok.receipts; played = p.ok.happened; said_is = refl; mask = refl; done = refl; lights = refl; lines = refl; errors = refl; left = is })
           (takes_prefix_after x y z _ _ p.ok.lines h.error);
+      full = λ e. absurd (cc);
       flushed = λ f unstopped. stops unstopped;
       stopped = λ s. h.stopped ∙ ap (λ (b : Bool). b || true) (p.stopped ∙ ap (λ (b : Bool). b || false) s);
     }
@@ -103,6 +107,7 @@ unplayed playing turn old new end x y faults.OutOfMemory p =
     record {
       ok = tt;
       error = PartSaid (trace_text old.mask w.receipts) (record old { player = p.fault.0 }) (record { receipts = w.receipts; played = w.happened; said_is = refl }) w.lines;
+      full = λ e. absurd (cc);
       flushed = λ f unstopped. p.flushed f refl;
       stopped = λ s. p.stopped ∙ ap (λ (b : Bool). b || false) s;
     }
@@ -111,6 +116,7 @@ unplayed playing turn old new end x y faults.Write p =
     record {
       ok = tt;
       error = PartSaid (trace_text old.mask w.receipts) (record old { player = w.end }) (record { receipts = w.receipts; played = w.happened; said_is = refl }) w.lines;
+      full = λ e. absurd (cc);
       flushed = λ f unstopped. stops unstopped;
       stopped = λ s. p.stopped ∙ ap (λ (b : Bool). b || true) s;
     }
@@ -123,23 +129,25 @@ pub answers_missing : {S W T : Type 0} (playing : Playing S) (turn : Asked) (fau
     → Answers (answering playing turn) None old new x y r
 answers_missing playing turn fault old new x y r missing p =
     answers_as (refusing fault) (answering playing turn) None None old new x y r
-    (λ said next h. rw missing h) (λ said next none. absurd none) p
+    (λ said next h. rw missing h) (λ said next none. absurd none) (λ h. rw missing h) p
 
 -- it is there
 pub answers_there : {S W T : Type 0} (playing : Playing S) (turn : Asked) (old new : DriveState S) (x y : SinkState W) (r : Result T Unanswered)
     → missing_in (playing.ports old.player) (playing.units old.player) turn ≡ None → Answers (playing_of playing turn) None old new x y r
     → Answers (answering playing turn) None old new x y r
 answers_there playing turn old new x y r there p =
-    answers_as (playing_of playing turn) (answering playing turn) None None old new x y r (λ said next h. rw there h) (λ said next h. h) p
+    answers_as (playing_of playing turn) (answering playing turn) None None old new x y r (λ said next h. rw there h) (λ said next h. h) (λ h. rw there h) p
 
 -- ---- lines
 
 pub answers_long : {S W T : Type 0} (playing : Playing S) (fault : TurnFault) (line : Option (List ℕ)) (old new : DriveState S) (x y : SinkState W) (r : Result T Unanswered)
     → ((said : List ℕ) (next : DriveState S) → (refusing fault).says old None said next → Says playing old line said next)
+    → (old.lines ≡ most_lines → IsFull playing old line)
     → Answers (refusing fault) None old new x y r → Answers (driving playing) line old new x y r
-answers_long playing fault line old new x y r whole p = answers_as (refusing fault) (driving playing) None line old new x y r whole (λ said next none. absurd none) p
+answers_long playing fault line old new x y r whole why p =
+    answers_as (refusing fault) (driving playing) None line old new x y r whole (λ said next none. absurd none) why p
 
 pub answers_asked : {S W T : Type 0} (playing : Playing S) (turn : Asked) (text : List ℕ) (old new : DriveState S) (x y : SinkState W) (r : Result T Unanswered)
     → turn_of old.mask text ≡ Ok turn → Answers (answering playing turn) None old new x y r → Answers (driving playing) (Some text) old new x y r
 answers_asked playing turn text old new x y r is p =
-    answers_as (answering playing turn) (driving playing) None (Some text) old new x y r (λ said next h. rw is h) (λ said next h. (turn, is, h)) p
+    answers_as (answering playing turn) (driving playing) None (Some text) old new x y r (λ said next h. rw is h) (λ said next h. (turn, is, h)) (λ h. rw is h) p

@@ -64,7 +64,7 @@ turns_unserved manner playing player mask lines.Read first last from to before a
     ((last, t.read refl), t.failed refl)
 turns_unserved manner playing player mask (lines.Line fault) first last from to before after is s =
     let t = subst (λ d. Serves (driving playing) never_over longest_line from to d last before after (Err (lines.Line fault))) is s in
-    t.fault fault refl
+    (t.fault fault refl, λ full. t.full (ap (λ (f : Unanswered). let r : Result LinesEnd LinesFault = Err (lines.Line f) in r) full))
 
 -- ---- the events, and then the lines
 
@@ -136,14 +136,15 @@ drives_to manner playing start mid mask events (Err (lines.Line fault)) from to 
   text = w.text;
   mid = mid;
   opened = w.told;
-  bytes = s.bytes;
-  read = s.read;
-  first = s.begun;
-  others = s.others;
-  all = s.all;
-  said = s.said;
-  spoken = s.spoken;
-  written = joined_left fault x y z w.text s.said w.lines s.written;
+  bytes = s.0.bytes;
+  read = s.0.read;
+  first = s.0.begun;
+  others = s.0.others;
+  all = s.0.all;
+  said = s.0.said;
+  spoken = s.0.spoken;
+  written = joined_left fault x y z w.text s.0.said w.lines s.0.written;
+  full = s.1;
 }
 
 -- what the last line left

@@ -1,5 +1,5 @@
 -- What is said to lines that ask for something (this profile's own rule).
-use Rattle.std.specs.Prelude.{◌≡◌, ◌+◌, ℕ, Bool, false, true, List, [], ◌++◌, Option, None, Some, Result, Ok, Err, codes, decimal}
+use Rattle.std.specs.Prelude.{◌≡◌, ◌≤◌, ◌⊎◌, ◌+◌, ℕ, Bool, false, true, List, [], ◌++◌, Option, None, Some, Result, Ok, Err, codes, decimal}
 use Rattle.gp_ploam.specs.declared.check.Mask.{Mask}
 use Rattle.gp_machine.specs.declared.entry.Receipt.{Receipt}
 use Rattle.gp_flow.specs.declared.fault.Unanswered as unanswered
@@ -137,17 +137,39 @@ SaysPart playing old None said new = ⊥
 SaysPart playing old (Some text) said new =
     (turn : Asked) × (turn_of old.mask text ≡ Ok turn) × PlaysPart playing turn old said new
 
+-- why what a line asks for can't be played: so many lines were answered as can be, or there is no room for it
+abbrev pub CannotPlay : {S : Type 0} → Asked → DriveState S → Type 0
+CannotPlay turn old = (old.lines ≡ most_lines) ⊎ (old.left ≤ cost_of turn)
+
+-- why it can't be answered, by what it asks for that is not there: an error needs no room
+abbrev pub CannotAnswer : {S : Type 0} → Asked → Option TurnFault → DriveState S → Type 0
+CannotAnswer turn (Some fault) old = old.lines ≡ most_lines
+CannotAnswer turn None old = CannotPlay turn old
+
+-- the same, by what is read from it
+abbrev pub CannotTake : {S : Type 0} → Playing S → Result Asked LineFault → DriveState S → Type 0
+CannotTake playing (Err fault) old = old.lines ≡ most_lines
+CannotTake playing (Ok turn) old =
+    CannotAnswer turn (missing_in (playing.ports old.player) (playing.units old.player) turn) old
+
+-- why no more lines can be taken
+abbrev pub IsFull : {S : Type 0} → Playing S → DriveState S → Option (List ℕ) → Type 0
+IsFull playing old None = old.lines ≡ most_lines
+IsFull playing old (Some text) = CannotTake playing (turn_of old.mask text) old
+
 -- ---- in parts
 
 -- only an error is said
 abbrev pub refusing : {S : Type 0} → TurnFault → Speech (DriveState S)
-refusing fault = WholeLines (λ old line said new. Refuses fault old said new)
+refusing fault =
+    WholeLines (λ old line. old.lines ≡ most_lines) (λ old line said new. Refuses fault old said new)
 
 -- what was read from a line is played
 abbrev pub playing_of : {S : Type 0} → Playing S → Asked → Speech (DriveState S)
 playing_of playing turn = record {
   says = λ old line said new. PlaysAsked playing turn old said new;
   begins = λ old line said new. PlaysPart playing turn old said new;
+  full = λ old line. CannotPlay turn old;
 }
 
 -- what was read from a line is answered
@@ -155,13 +177,14 @@ abbrev pub answering : {S : Type 0} → Playing S → Asked → Speech (DriveSta
 answering playing turn = record {
   says = λ old line said new. AnswersTurn playing (Ok turn) old said new;
   begins = λ old line said new. PlaysPart playing turn old said new;
+  full = λ old line. CannotTake playing (Ok turn) old;
 }
 
 -- ---- whole
 
 -- what a drive says to lines
 abbrev pub driving : {S : Type 0} → Playing S → Speech (DriveState S)
-driving playing = record { says = Says playing; begins = SaysPart playing }
+driving playing = record { says = Says playing; begins = SaysPart playing; full = IsFull playing }
 
 -- a drive goes on as long as lines come
 abbrev pub never_over : {S : Type 0} → DriveState S → Bool

@@ -8,9 +8,10 @@ use Rattle.gp_stream.specs.Source.{SourceState, ReadsTooMuch, ReadsWhole, max_by
 use Rattle.gp_script.specs.declared.script.ScriptEvent.{ScriptEvent}
 use Rattle.gp_script.specs.Script.{ScriptView, script_of}
 use Rattle.gp_flow.specs.declared.fault.Unanswered.{Unanswered}
+use Rattle.gp_flow.specs.declared.fault.Unanswered.TheVariants.{Full}
 use Rattle.gp_flow.specs.declared.fault.LinesFault.{LinesFault}
 use Rattle.gp_flow.specs.declared.fault.LinesFault.TheVariants as lines
-use Rattle.gp_flow.specs.Lines.{DoesAll, DoesSome, Leaves, ServesAll, ServesEnded, ServesSome, ended_lines, handed, lines_of, longest_line}
+use Rattle.gp_flow.specs.Lines.{DoesAll, DoesSome, Leaves, ServesAll, ServesEnded, ServesFull, ServesSome, ended_lines, handed, lines_of, longest_line}
 use Rattle.gp_replay.specs.declared.fault.PlayFault.TheVariants as plays
 use Rattle.gp_replay.specs.declared.fault.RunFault.{RunFault}
 use Rattle.gp_replay.specs.declared.fault.RunFault.TheVariants as runs
@@ -84,6 +85,8 @@ pub record DrivesSome {S T W : Type 0} (manner : DriveManner) (playing : Playing
   pub spoken : DoesSome (driving playing) (begun_in manner mid mask) first said
   -- the writer got all of it, unless a write failed, and else a prefix
   pub written : Leaves fault before after (text ++ said)
+  -- that no more lines can be taken is told only where one of the lines is why
+  pub full : fault ≡ Full → ServesFull (driving playing) longest_line from to (begun_in manner mid mask)
 
 -- the lines of an input were answered on a player, by the answer
 abbrev pub ServesTurns : {S T W : Type 0} → DriveManner → Playing S → S → Mask → Result Driven LinesFault
@@ -97,6 +100,7 @@ ServesTurns manner playing player mask (Err lines.Read) from to before after =
     × ((to.failed ≡ true) ⊎ (to.left ≡ 0))
 ServesTurns manner playing player mask (Err (lines.Line fault)) from to before after =
     ServesSome (Leaves fault) (driving playing) longest_line from to (begun_in manner player mask) before after
+    × (fault ≡ Full → ServesFull (driving playing) longest_line from to (begun_in manner player mask))
 
 -- all lines were answered, and the player is given back as the last one left it
 abbrev pub LeavesServed : {S T W : Type 0} → DriveManner → Playing S → S → Mask → S → Driven → SourceState T

@@ -5,4 +5,4 @@ use Rattle.gp_drive.proofs.AnswerLemmas.{answers_long}
 use Rattle.gp_drive.proofs.driver.DriverLineWork.long_line.Goals as goal
 
 pub returns : goal.returns
-returns g c = answers_long g.P.EventPlayer.playing (NoTurn Long) None _ _ _ _ _ (λ said next h. h) c.refuse.ensures.answers
+returns g c = answers_long g.P.EventPlayer.playing (NoTurn Long) None _ _ _ _ _ (λ said next h. h) (λ h. h) c.refuse.ensures.answers
