@@ -1,7 +1,7 @@
 -- Lines that are handed to an auditor.
 use Rattle.std.proofs.Common.{◌≡◌, inl, inr, refl, ℕ, ◌+◌, List, ◌++◌, Option, Result, Ok, Err, IsErrAnd, sym, ap, subst, ◌∙◌}
 use Rattle.gp_flow.specs.declared.fault.Unanswered.{Unanswered}
-use Rattle.gp_flow.specs.declared.fault.Unanswered.TheVariants.{Write, OutOfMemory, Full}
+use Rattle.gp_flow.specs.declared.fault.Unanswered.TheVariants.{Write}
 use Rattle.gp_flow.specs.Lines.{Answers, most_lines}
 use Rattle.gp_flow.proofs.AnswerLemmas.{no_memory, no_room, put_stopped}
 use Rattle.gp_stream.specs.declared.sink.WriteStopped.{WriteStopped}
