@@ -67,10 +67,10 @@ checks_by form script from to before after old end found opened runs =
 
 -- of a trace that was not judged
 pub none_checked : {T W : Type 0} (form : Form) (script : ScriptView) (from to : SourceState T) (old new : SinkState W) (fault : Unanswered) (found : Result ℕ VerifyFault)
-    → found ≡ Err (Lines (Line fault)) → (told : List ℕ) × ChecksTrace form from to told found script × Writes old new told found
-none_checked form script from to old new fault found is = (
+    → (fault ≡ unanswered.Full → ⊥) → found ≡ Err (Lines (Line fault)) → (told : List ℕ) × ChecksTrace form from to told found script × Writes old new told found
+none_checked form script from to old new fault found other is = (
   [],
-  subst (λ (f : Result ℕ VerifyFault). ChecksTrace form from to [] f script) (sym is) (opened_by form script, tt),
+  subst (λ (f : Result ℕ VerifyFault). ChecksTrace form from to [] f script) (sym is) (opened_by form script, λ full. absurd (other full)),
   subst (λ (f : Result ℕ VerifyFault). Writes old new [] f) (sym is) tt,
 )
 

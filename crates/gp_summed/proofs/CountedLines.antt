@@ -1,15 +1,20 @@
 -- What a verifier that counts says to lines, and what was counted of lines.
-use Rattle.std.proofs.Common.{◌≡◌, ℕ, ◌+◌, ◌⊎◌, inl, inr, List, [], ◌∷◌, ◌++◌, Option, None, Some, codes, map, length, refl, sym, ap, ◌∙◌, subst, append_assoc, add-one, arith}
+use Rattle.std.proofs.Common.{◌≡◌, ℕ, ◌+◌, ◌⊎◌, inl, inr, List, [], ◌∷◌, ◌++◌, Option, None, Some, Result, Err, codes, map, length, refl, sym, ap, ◌∙◌, subst, append_assoc, add-one, arith}
 use Rattle.std.proofs.lemmas.List.{append-nil}
 use Rattle.gp_stream.specs.Sink.{SinkState}
 use Rattle.gp_stream.specs.Source.{SourceState}
+use Rattle.gp_flow.specs.declared.fault.Unanswered.{Unanswered}
+use Rattle.gp_flow.specs.declared.fault.LinesFault.{LinesFault}
+use Rattle.gp_flow.specs.declared.fault.LinesFault.TheVariants.{Read, Line}
 use Rattle.gp_flow.specs.declared.lines.LinesEnd.{LinesEnd}
 use Rattle.gp_flow.specs.declared.lines.LinesEnd.TheVariants.{Whole, Open, Over}
-use Rattle.gp_flow.specs.Lines.{DoesAll, ServesTo, ended_lines, handed, lines_of, with_feeds}
+use Rattle.gp_flow.specs.Lines.{DoesAll, Serves, ServesFull, ServesTo, ended_lines, handed, lines_of, longest_line, with_feeds}
 use Rattle.gp_flow.proofs.LineLemmas.{handed_whole}
 use Rattle.gp_verify.specs.declared.verdict.Verdict.{Verdict}
 use Rattle.gp_verify.specs.declared.verdict.Verdict.TheVariants as verdict
 use Rattle.gp_verify.specs.Following.{Following, Follows, JudgesLine, TakesFrom, has_ended}
+use Rattle.gp_verify.specs.declared.outcome.VerifyFault.TheVariants.{Lines}
+use Rattle.gp_verify.specs.Outcome.{RunsVerify}
 use Rattle.gp_verify.specs.Report.{Reports}
 use Rattle.gp_verify.specs.Verdicts.{Judges, VerifyState, ending}
 use Rattle.gp_verify.proofs.FollowingLemmas.{told_line}
@@ -210,3 +215,30 @@ module _ {R W : Type 0} (from to : SourceState R) (old new : CountingVerifyState
     },
     s.1,
   )
+
+-- no more lines can be taken where none can without counting
+full_so : {R : Type 0} (limit : ℕ) (from to : SourceState R) (old : CountingVerifyState) → ServesFull JudgesCounting limit from to old → ServesFull Following limit from to old.verify
+full_so limit from to old s = record {
+  bytes = s.bytes;
+  read = s.read;
+  at = record {
+    answered = s.at.answered;
+    said = s.at.said;
+    next = s.at.next.verify;
+    spoken = as_verified s.at.answered old s.at.next s.at.said s.at.spoken;
+    line = s.at.line;
+    others = s.at.others;
+    all = s.at.all;
+    why = s.at.why;
+  };
+}
+
+-- a text that was not read, or a line not judged
+pub unread_so : {R W : Type 0} (from to : SourceState R) (old new : CountingVerifyState) (before after : SinkState W) (fault : LinesFault)
+    → Serves JudgesCounting is_over longest_line from to old new before after (Err fault) → RunsVerify old.verify new.verify from to before after (Err (Lines fault))
+unread_so from to old new before after Read s = record { told = []; verified = s.failed refl; written = tt }
+unread_so from to old new before after (Line fault) s = record {
+  told = [];
+  verified = λ is. full_so longest_line from to old (s.full (ap (λ (f : Unanswered). let r : Result LinesEnd LinesFault = Err (Line f) in r) is));
+  written = tt;
+}

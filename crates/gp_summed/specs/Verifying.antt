@@ -76,8 +76,12 @@ pub record Counts (old : CountingVerifyState) (line : Option (List ℕ)) (told :
   pub follows : following.Follows old.verify line told new.verify
   pub counted : CountsFrom old.verify.ended old line new
 
+-- why no more lines can be taken: as without counting
+abbrev pub IsFull : CountingVerifyState → Option (List ℕ) → Type 0
+IsFull old line = following.IsFull old.verify line
+
 abbrev pub JudgesCounting : Speech CountingVerifyState
-JudgesCounting = WholeLines Counts
+JudgesCounting = WholeLines IsFull Counts
 
 -- it has ended
 abbrev pub is_over : CountingVerifyState → Bool

@@ -1,8 +1,9 @@
 //! `CountingVerifier`, a verifier whose entries are counted.
-ghost use Rattle.std.specs.Prelude.{◌≡◌, ◌+◌, ◌++◌, [], None, IfOk, OnErr, codes, length};
+ghost use Rattle.std.specs.Prelude.{◌≡◌, ◌+◌, ◌++◌, [], None, Err, IfOk, OnErr, codes, length};
 ghost use Rattle.gp_chassis.specs.World.{IsBalanced};
+ghost use Rattle.gp_verify.specs.declared.fault.LineRefusal.TheVariants.{Full};
 ghost use Rattle.gp_verify.specs.declared.verdict.Verdict.TheVariants.{Follows};
-ghost use Rattle.gp_verify.specs.Verdicts.{Judges, ending};
+ghost use Rattle.gp_verify.specs.Verdicts.{Judges, ending, most_lines};
 ghost use Rattle.gp_summed.specs.Verifying.{IsPlayed, said_by};
 
 use crate::opening::Opening;
@@ -120,6 +121,7 @@ impl<B: Opening, L: Ledger> CountingVerifier<B, L> {
         ensures follows { IfOk result (λ verdict.
             verdict ≡ Follows → self.new.verify.said ≡ text.now ++ codes "\n") }
         ensures err { OnErr result (self.new ≡ self.old) }
+        ensures full { result ≡ Err Full → self.old.verify.lines ≡ most_lines }
     {
         let verdict = self.verifier.judge(text)?;
         count(&mut self.counter, verdict, self.verifier.said());

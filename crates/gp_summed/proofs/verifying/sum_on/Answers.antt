@@ -7,7 +7,7 @@ use Rattle.gp_summed.proofs.verifying.sum_on.Goals as goal
 
 pub returns-in_default-clause-checks : goal.returns-in_default-clause-checks
 returns-in_default-clause-checks g c =
-    none_checked c.args.form (script_view c.args.script) c.args.trace.now c.args.trace.now c.args.sink.now c.args.sink.now OutOfMemory c.unjudged.result.found c.unjudged.ensures.found
+    none_checked c.args.form (script_view c.args.script) c.args.trace.now c.args.trace.now c.args.sink.now c.args.sink.now OutOfMemory c.unjudged.result.found (λ e. absurd (cc)) c.unjudged.ensures.found
 
 pub returns-in-Ok-open_verify-clause-checks : goal.returns-in-Ok-open_verify-clause-checks
 returns-in-Ok-open_verify-clause-checks g c =
@@ -26,4 +26,4 @@ returns-in-Ok-open_verify-clause-units g c =
 
 pub returns-in-Err-clause-checks : goal.returns-in-Err-clause-checks
 returns-in-Err-clause-checks g c =
-    none_checked c.args.form (script_view c.args.script) c.args.trace.now c.args.trace.now c.args.sink.now c.args.sink.now OutOfMemory c.unjudged-in-Err.result.found c.unjudged-in-Err.ensures.found
+    none_checked c.args.form (script_view c.args.script) c.args.trace.now c.args.trace.now c.args.sink.now c.args.sink.now OutOfMemory c.unjudged-in-Err.result.found (λ e. absurd (cc)) c.unjudged-in-Err.ensures.found
