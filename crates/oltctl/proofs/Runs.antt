@@ -71,7 +71,7 @@ unchecked form script of_script trace of_trace (Err told) same =
 module _ {S T : Type 0} (form : Form) (before after : SourceState S) (from to : SourceState T) (told : List ℕ) where
   unwritten : (answer : Result ℕ VerifyFault) → OfScript script_of before after (ChecksTrace form from to told answer)
       → ChecksScript form before after from to told (Err (Trace (verifies.Lines (Line lines.Write))))
-  unwritten answer h = record { script = h.script; input = h.input; held = (h.held.0, tt) }
+  unwritten answer h = record { script = h.script; input = h.input; held = (h.held.0, λ e. absurd (cc)) }
 
   written_or : (found : Result ℕ VerifyFault) (written : Result (Unit {0}) WriteStopped) → ChecksScript form before after from to told (as_checked found)
       → ChecksScript form before after from to told (as_checked (after_writing found written))
@@ -123,10 +123,10 @@ told_from form at_least script of_script trace of_trace before after from to old
 
 -- what more is written behind it changes nothing
 module _ {S T : Type 0} (form : Form) (script : S) (of_script : Option (List ℕ)) (trace : T) (of_trace : Option (List ℕ)) where
-  cut_short : (checked : Result ℕ VerifyFault) (fault : Unanswered) → IsCheckedBy form script of_script trace of_trace (as_checked checked)
+  cut_short : (checked : Result ℕ VerifyFault) (fault : Unanswered) → (fault ≡ lines.Full → ⊥) → IsCheckedBy form script of_script trace of_trace (as_checked checked)
       → IsCheckedBy form script of_script trace of_trace (Err (Trace (verifies.Lines (Line fault))))
-  cut_short (Ok lines) fault h = (h.0, h.1, h.2, record { script = h.3.script; input = h.3.input; held = (h.3.held.0, tt) })
-  cut_short (Err found) fault h = (h.0, h.1, h.2, record { script = h.3.script; input = h.3.input; held = (h.3.held.0, tt) })
+  cut_short (Ok lines) fault other h = (h.0, h.1, h.2, record { script = h.3.script; input = h.3.input; held = (h.3.held.0, λ e. absurd (other e)) })
+  cut_short (Err found) fault other h = (h.0, h.1, h.2, record { script = h.3.script; input = h.3.input; held = (h.3.held.0, λ e. absurd (other e)) })
 
   by_answer : (found answer : Result ℕ CheckFault) → answer ≡ found → IsCheckedBy form script of_script trace of_trace found → IsCheckedBy form script of_script trace of_trace answer
   by_answer found answer is h = subst (λ (a : Result ℕ CheckFault). IsCheckedBy form script of_script trace of_trace a) (sym is) h
@@ -134,13 +134,13 @@ module _ {S T : Type 0} (form : Form) (script : S) (of_script : Option (List ℕ
   by_written : (checked : Result ℕ VerifyFault) (written : Result (Unit {0}) WriteStopped) (answer : Result ℕ CheckFault) → answer ≡ found_behind (as_checked checked) written
       → IsCheckedBy form script of_script trace of_trace (as_checked checked) → IsCheckedBy form script of_script trace of_trace answer
   by_written checked (Ok done) answer is h = by_answer (as_checked checked) answer is h
-  by_written checked (Err stopped) answer is h = by_answer _ answer is (cut_short checked lines.Write h)
+  by_written checked (Err stopped) answer is h = by_answer _ answer is (cut_short checked lines.Write (λ e. absurd (cc)) h)
 
   by_units : {W : Type 0} (checked : Result ℕ VerifyFault) (units : Result (Vec ℕ Global) AllocError) (mid new : SinkState W) (answer : Result ℕ CheckFault)
       → WritesUnits (Some units) (as_checked checked) mid new answer → IsCheckedBy form script of_script trace of_trace (as_checked checked)
       → IsCheckedBy form script of_script trace of_trace answer
   by_units checked (Ok text) mid new answer w h = by_written checked w.0 answer w.2 h
-  by_units checked (Err memory) mid new answer w h = by_answer _ answer w.1 (cut_short checked lines.OutOfMemory h)
+  by_units checked (Err memory) mid new answer w h = by_answer _ answer w.1 (cut_short checked lines.OutOfMemory (λ e. absurd (cc)) h)
 
   behind : {W : Type 0} (before after : SourceState S) (from to : SourceState T) (found : Result ℕ CheckFault) (units : Option (Result (Vec ℕ Global) AllocError))
       (mid new : SinkState W) (answer : Result ℕ CheckFault) → SumsCheck form before after from to found units → WritesUnits units found mid new answer
