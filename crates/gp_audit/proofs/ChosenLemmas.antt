@@ -39,7 +39,7 @@ of_place rule.Number = refl
 of_place rule.Acknowledge = refl
 of_place rule.Drift = refl
 
-same_place : (r other : Rule) → rule_place r ≡ rule_place other → r ≡ other
+pub same_place : (r other : Rule) → rule_place r ≡ rule_place other → r ≡ other
 same_place r other same = sym (of_place r) ∙ ap (λ (n : ℕ). get_or all_rules n rule.Garbled) same ∙ of_place other
 
 pub below : (r : Rule) → rule_place r < 19

@@ -1,34 +1,295 @@
--- Of what no rule that is told is judged of, no finding is told.
-use Rattle.std.proofs.Common.{◌≡◌, ◌&&◌, Bool, true, false, cond, List, [], ◌∷◌, filter, refl, sym, ap, ◌∙◌}
-use Rattle.std.specs.List.{list_all, list_any}
-use Rattle.std.proofs.lemmas.Bool.{false≢true}
-use Rattle.std.proofs.lemmas.List.Folds.{list_any_at}
+-- Which rules are in a set behind something that was heard, and that each of which a finding is told is.
+use Rattle.std.proofs.Common.{◌≡◌, ◌==◌, ◌<◌, ◌⊎◌, ◌&&◌, ◌||◌, if◌then◌else◌, not, ℕ, Bool, true, false, List, [], ◌∷◌, Option, None, Some, filter, length, refl, sym, ap, ◌∙◌, inl, inr, arith, slice_set}
+use Rattle.std.specs.Prelude.{slice_index_or}
+use Rattle.std.specs.List.{fold, list_all, list_any}
+use Rattle.std.proofs.lemmas.Bool.{cases_Bool, false≢true}
+use Rattle.std.proofs.lemmas.Bool.Decides.{Decides-eqb}
+use Rattle.std.proofs.lemmas.List.{get_or-set_same, get_or-set_other, length-set, set-get_or}
+use Rattle.gp_ploam.specs.declared.message.Down.{Down}
+use Rattle.gp_ploam.specs.declared.message.Down.TheVariants as down
+use Rattle.gp_ploam.specs.declared.message.Up.{Up}
+use Rattle.gp_ranging.specs.declared.grant.Grant.{Grant}
+use Rattle.gp_ranging.specs.declared.grant.Grant.TheVariants as grants
 use Rattle.gp_observer.specs.declared.rule.Rule.{Rule}
 use Rattle.gp_observer.specs.declared.rule.Rule.TheVariants as rule
-use Rattle.gp_observer.specs.Heard.{breaks}
-use Rattle.gp_observer.specs.Judged.{judges}
+use Rattle.gp_observer.specs.Heard.{Heard, HeardDown, HeardUp, HeardGrant, breaks, is_terminals}
+use Rattle.gp_observer.specs.Judged.{answer_judges, copy_judges, grant_judges, judges, judges_garbled, message_judges}
+use Rattle.gp_observer.specs.Watch.{Watch}
 use Rattle.gp_observer.proofs.Judged.{heard_judged}
-use Rattle.gp_finding.specs.Names.{rules}
-use Rattle.gp_audit.specs.Judging.{UnjudgedTellNothing}
-use Rattle.gp_audit.specs.RuleSet.{contains, is_side_told, rule_place}
-use Rattle.gp_audit.proofs.ChosenLemmas.{below, of_place}
+use Rattle.gp_finding.specs.Names.{rules as all_rules}
+use Rattle.gp_audit.specs.declared.rule_set.RuleSet.{RuleSet}
+use Rattle.gp_audit.specs.declared.options.FindingChoice.{FindingChoice}
+use Rattle.gp_audit.specs.Judging.{EitherJudged, JustTheJudgedJoin, RulesHaveSides, ToldAreJudged, code_rules, grant_rules, is_new, is_of_terminal, is_of_units, joined_by, judged_with, message_rules, rules_of, unit_rules}
+use Rattle.gp_audit.specs.RuleSet.{contains, is_side_told, is_told, rule_place, with_rule}
+use Rattle.gp_audit.proofs.ChosenLemmas.{below, same_place}
 
--- where none passes, this rule doesn't
-none_passes : (test : Rule → Bool) → list_any test rules ≡ false → (r : Rule) (b : Bool) → test r ≡ b → b ≡ false
-none_passes test none r true is =
-    absurd (false≢true (sym none ∙ list_any_at test rules (rule_place r) rule.Garbled (below r) (ap test (of_place r) ∙ is)))
-none_passes test none r false is = refl
+-- ---- truth values
 
--- a rule that is judged isn't told, where none that is told is judged
-not_both : (side told judged : Bool) → judged ≡ true → (side ≡ true → (told && judged) ≡ false) → (side && told) ≡ false
-not_both false told judged is none = refl
-not_both true true judged is none = sym is ∙ none refl
-not_both true false judged is none = refl
+or_false : (b : Bool) → b ≡ (b || false)
+or_false true = refl
+or_false false = refl
 
--- where the side is told, none of its rules that is told is judged
-other_none : (side some : Bool) → (side && some) ≡ false → side ≡ true → some ≡ false
-other_none true some none is = none
-other_none false some none is = absurd (false≢true is)
+or_true : (b : Bool) → true ≡ (b || true)
+or_true true = refl
+or_true false = refl
+
+and_false : (b : Bool) → (b && false) ≡ false
+and_false true = refl
+and_false false = refl
+
+or_or : (a b c : Bool) → ((a || b) || c) ≡ (a || (b || c))
+or_or true b c = refl
+or_or false b c = refl
+
+-- ---- one rule
+
+-- a rule that is in a set is put in: the set stays as it is
+pub put_again : (set : RuleSet) (r : Rule) → contains set r ≡ true → with_rule true set r ≡ set
+put_again set r is_in =
+    (λ (i : _). record { places = (ap (λ (b : Bool). slice_set set.places (rule_place r) b) (sym is_in) ∙ set-get_or set.places (rule_place r) false) i })
+
+abbrev is : Rule → Rule → Bool
+is r own = rule_place own == rule_place r
+
+abbrev joined : Bool → RuleSet → Rule → RuleSet
+joined passes set own = if passes then with_rule true set own else set
+
+stays_long : (b : Bool) (set : RuleSet) (own : Rule) → length set.places ≡ 19 → length (joined b set own).places ≡ 19
+stays_long true set own long = length-set set.places (rule_place own) true ∙ long
+stays_long false set own long = long
+
+-- a rule is in where it was, or is the one that passes
+one_joins : (b : Bool) (set : RuleSet) (own r : Rule) → length set.places ≡ 19
+    → contains (joined b set own) r ≡ (contains set r || (is r own && b))
+one_joins false set own r long = or_false (contains set r) ∙ ap (λ (b : Bool). contains set r || b) (sym (and_false (is r own)))
+one_joins true set own r long =
+    elim (cases_Bool (is r own)) [
+      | inl same ↦
+          let place : rule_place own ≡ rule_place r = (Decides-eqb (rule_place own) (rule_place r)).0 same in
+          (ap (λ (n : ℕ). slice_index_or (with_rule true set own).places n false) (sym place)
+          ∙ get_or-set_same set.places (rule_place own) true false (omega (arith, below own, long)))
+          ∙ or_true (contains set r) ∙ ap (λ (b : Bool). contains set r || (b && true)) (sym same)
+      | inr other ↦
+          get_or-set_other set.places (rule_place own) (rule_place r) true false
+          (λ same. false≢true (sym other ∙ (Decides-eqb (rule_place own) (rule_place r)).1 (sym same)))
+          ∙ or_false (contains set r) ∙ ap (λ (b : Bool). contains set r || (b && true)) (sym other)
+    ]
+
+-- ---- many rules
+
+abbrev is_passed : (Rule → Bool) → Rule → Rule → Bool
+is_passed passes r own = is r own && passes own
+
+-- a rule is in where it was, or is one of the list that passes
+all_join : (passes : Rule → Bool) (these : List Rule) (set : RuleSet) (r : Rule) → length set.places ≡ 19
+    → contains (joined_by passes these set) r ≡ (contains set r || list_any (is_passed passes r) these)
+all_join passes [] set r long = or_false (contains set r)
+all_join passes (own ∷ these) set r long =
+    all_join passes these (joined (passes own) set own) r (stays_long (passes own) set own long)
+    ∙ ap (λ (b : Bool). b || list_any (is_passed passes r) these) (one_joins (passes own) set own r long)
+    ∙ or_or (contains set r) (is r own && passes own) (list_any (is_passed passes r) these)
+
+-- one that doesn't pass
+none_passes : (passes : Rule → Bool) (r : Rule) (these : List Rule) → passes r ≡ false → list_any (is_passed passes r) these ≡ false
+none_passes passes r [] fails = refl
+none_passes passes r (own ∷ these) fails =
+    elim (cases_Bool (is r own)) [
+      | inl same ↦
+          let own_fails : passes own ≡ false = ap passes (same_place own r ((Decides-eqb (rule_place own) (rule_place r)).0 same)) ∙ fails in
+          ap (λ (b : Bool). (is r own && b) || list_any (is_passed passes r) these) own_fails
+          ∙ ap (λ (b : Bool). b || list_any (is_passed passes r) these) (and_false (is r own))
+          ∙ none_passes passes r these fails
+      | inr other ↦ ap (λ (b : Bool). (b && passes own) || list_any (is_passed passes r) these) other ∙ none_passes passes r these fails
+    ]
+
+-- one of the list that does
+some_passes : (passes : Rule → Bool) (r : Rule) (these : List Rule) → passes r ≡ true → list_any (is r) these ≡ true
+    → list_any (is_passed passes r) these ≡ true
+some_passes passes r [] does among = among
+some_passes passes r (own ∷ these) does among =
+    elim (cases_Bool (is r own)) [
+      | inl same ↦
+          let own_does : passes own ≡ true = ap passes (same_place own r ((Decides-eqb (rule_place own) (rule_place r)).0 same)) ∙ does in
+          ap (λ (b : Bool). (b && passes own) || list_any (is_passed passes r) these) same
+          ∙ ap (λ (b : Bool). b || list_any (is_passed passes r) these) own_does
+      | inr other ↦
+          ap (λ (b : Bool). (b && passes own) || list_any (is_passed passes r) these) other
+          ∙ some_passes passes r these does (ap (λ (b : Bool). b || list_any (is r) these) (sym other) ∙ among)
+    ]
+
+-- of the list just those that pass
+passed_of : (passes : Rule → Bool) (r : Rule) (these : List Rule) → list_any (is r) these ≡ true → list_any (is_passed passes r) these ≡ passes r
+passed_of passes r these among =
+    elim (cases_Bool (passes r)) [
+      | inl does ↦ some_passes passes r these does among ∙ sym does
+      | inr fails ↦ none_passes passes r these fails ∙ sym fails
+    ]
+
+-- ---- the rules that may be judged
+
+-- a rule is one of these, or isn't judged
+abbrev May : List Rule → Rule → Bool → Type 0
+May these r is_judged = (list_any (is r) these ≡ true) ⊎ (is_judged ≡ false)
+
+of_code : (r : Rule) → May code_rules r (judges_garbled r)
+of_code rule.Garbled = inl refl
+of_code rule.Copies = inr refl
+of_code rule.Range = inr refl
+of_code rule.Barred = inr refl
+of_code rule.Unasked = inr refl
+of_code rule.Taken = inr refl
+of_code rule.Renumbered = inr refl
+of_code rule.Nobody = inr refl
+of_code rule.Unranged = inr refl
+of_code rule.Delay = inr refl
+of_code rule.Early = inr refl
+of_code rule.Shared = inr refl
+of_code rule.NotHeld = inr refl
+of_code rule.Grant = inr refl
+of_code rule.Disabled = inr refl
+of_code rule.Anew = inr refl
+of_code rule.Number = inr refl
+of_code rule.Acknowledge = inr refl
+of_code rule.Drift = inr refl
+
+of_message : (watch : Watch) (message : Down) (r : Rule) → (list_any (is r) message_rules ≡ true) ⊎ ((judges_garbled r ≡ false) × (message_judges watch message r ≡ false))
+of_message watch message rule.Garbled = inl refl
+of_message watch message rule.Copies = inl refl
+of_message watch message rule.Range = inl refl
+of_message watch message rule.Barred = inl refl
+of_message watch message rule.Unasked = inl refl
+of_message watch message rule.Taken = inl refl
+of_message watch message rule.Renumbered = inl refl
+of_message watch message rule.Nobody = inl refl
+of_message watch message rule.Unranged = inl refl
+of_message watch message rule.Delay = inl refl
+of_message watch message rule.Early = inl refl
+of_message watch message rule.Shared = inl refl
+of_message watch message rule.NotHeld = inl refl
+of_message watch message rule.Grant = inr (refl, refl)
+of_message watch message rule.Disabled = inr (refl, refl)
+of_message watch message rule.Anew = inr (refl, refl)
+of_message watch message rule.Number = inr (refl, refl)
+of_message watch message rule.Acknowledge = inr (refl, refl)
+of_message watch message rule.Drift = inr (refl, refl)
+
+of_answer : (watch : Watch) (message : Up) (delay : Option ℕ) (r : Rule) → May unit_rules r (answer_judges watch message delay r)
+of_answer watch message delay rule.Garbled = inl refl
+of_answer watch message delay rule.Copies = inr refl
+of_answer watch message delay rule.Range = inr refl
+of_answer watch message delay rule.Barred = inr refl
+of_answer watch message delay rule.Unasked = inr refl
+of_answer watch message delay rule.Taken = inr refl
+of_answer watch message delay rule.Renumbered = inr refl
+of_answer watch message delay rule.Nobody = inr refl
+of_answer watch message delay rule.Unranged = inr refl
+of_answer watch message delay rule.Delay = inr refl
+of_answer watch message delay rule.Early = inr refl
+of_answer watch message delay rule.Shared = inr refl
+of_answer watch message delay rule.NotHeld = inr refl
+of_answer watch message delay rule.Grant = inr refl
+of_answer watch message delay rule.Disabled = inl refl
+of_answer watch message delay rule.Anew = inl refl
+of_answer watch message delay rule.Number = inl refl
+of_answer watch message delay rule.Acknowledge = inl refl
+of_answer watch message delay rule.Drift = inl refl
+
+of_grant : (watch : Watch) (grant : Grant) (r : Rule) → May grant_rules r (grant_judges watch grant r)
+of_grant watch grants.Search r = inr refl
+of_grant watch (grants.Range onu) rule.Garbled = inr refl
+of_grant watch (grants.Range onu) rule.Copies = inr refl
+of_grant watch (grants.Range onu) rule.Range = inr refl
+of_grant watch (grants.Range onu) rule.Barred = inr refl
+of_grant watch (grants.Range onu) rule.Unasked = inr refl
+of_grant watch (grants.Range onu) rule.Taken = inr refl
+of_grant watch (grants.Range onu) rule.Renumbered = inr refl
+of_grant watch (grants.Range onu) rule.Nobody = inr refl
+of_grant watch (grants.Range onu) rule.Unranged = inr refl
+of_grant watch (grants.Range onu) rule.Delay = inr refl
+of_grant watch (grants.Range onu) rule.Early = inr refl
+of_grant watch (grants.Range onu) rule.Shared = inr refl
+of_grant watch (grants.Range onu) rule.NotHeld = inr refl
+of_grant watch (grants.Range onu) rule.Grant = inl refl
+of_grant watch (grants.Range onu) rule.Disabled = inr refl
+of_grant watch (grants.Range onu) rule.Anew = inr refl
+of_grant watch (grants.Range onu) rule.Number = inr refl
+of_grant watch (grants.Range onu) rule.Acknowledge = inr refl
+of_grant watch (grants.Range onu) rule.Drift = inr refl
+of_grant watch (grants.Poll onu) rule.Garbled = inr refl
+of_grant watch (grants.Poll onu) rule.Copies = inr refl
+of_grant watch (grants.Poll onu) rule.Range = inr refl
+of_grant watch (grants.Poll onu) rule.Barred = inr refl
+of_grant watch (grants.Poll onu) rule.Unasked = inr refl
+of_grant watch (grants.Poll onu) rule.Taken = inr refl
+of_grant watch (grants.Poll onu) rule.Renumbered = inr refl
+of_grant watch (grants.Poll onu) rule.Nobody = inr refl
+of_grant watch (grants.Poll onu) rule.Unranged = inr refl
+of_grant watch (grants.Poll onu) rule.Delay = inr refl
+of_grant watch (grants.Poll onu) rule.Early = inr refl
+of_grant watch (grants.Poll onu) rule.Shared = inr refl
+of_grant watch (grants.Poll onu) rule.NotHeld = inr refl
+of_grant watch (grants.Poll onu) rule.Grant = inl refl
+of_grant watch (grants.Poll onu) rule.Disabled = inr refl
+of_grant watch (grants.Poll onu) rule.Anew = inr refl
+of_grant watch (grants.Poll onu) rule.Number = inr refl
+of_grant watch (grants.Poll onu) rule.Acknowledge = inr refl
+of_grant watch (grants.Poll onu) rule.Drift = inr refl
+
+-- a copy, by whether it tells its message
+by_copy : (is_told garbled judged : Bool) (r : Rule) → (list_any (is r) message_rules ≡ true) ⊎ ((garbled ≡ false) × (judged ≡ false)) → May code_rules r garbled
+    → May (if is_told then message_rules else code_rules) r (garbled || (is_told && judged))
+by_copy true garbled judged r (inl among) code = inl among
+by_copy true garbled judged r (inr none) code = inr (ap (λ (b : Bool). b || judged) none.0 ∙ none.1)
+by_copy false garbled judged r message (inl among) = inl among
+by_copy false garbled judged r message (inr none) = inr (ap (λ (b : Bool). b || false) none)
+
+of_copy : (watch : Watch) (message : Down) (r : Rule)
+    → May (if is_new watch message then message_rules else code_rules) r (judges_garbled r || copy_judges watch message r)
+of_copy watch message r = by_copy (is_new watch message) (judges_garbled r) (message_judges watch message r) r (of_message watch message r) (of_code r)
+
+of_heard : (watch : Watch) (heard : Heard) (r : Rule) → May (rules_of watch heard) r (judges watch heard r)
+of_heard watch (HeardDown None) r = of_code r
+of_heard watch (HeardDown (Some down.NoMessage)) r = of_code r
+of_heard watch (HeardDown (Some (down.UpstreamOverhead burst))) r = of_copy watch (down.UpstreamOverhead burst) r
+of_heard watch (HeardDown (Some (down.AssignOnu onu serial))) r = of_copy watch (down.AssignOnu onu serial) r
+of_heard watch (HeardDown (Some (down.RangingTime onu eqd))) r = of_copy watch (down.RangingTime onu eqd) r
+of_heard watch (HeardDown (Some (down.Deactivate onu))) r = of_copy watch (down.Deactivate onu) r
+of_heard watch (HeardDown (Some (down.DisableSerial serial))) r = of_copy watch (down.DisableSerial serial) r
+of_heard watch (HeardDown (Some (down.EnableSerial serial))) r = of_copy watch (down.EnableSerial serial) r
+of_heard watch (HeardDown (Some down.EnableAll)) r = of_copy watch down.EnableAll r
+of_heard watch (HeardDown (Some (down.AssignAlloc onu alloc keep))) r = of_copy watch (down.AssignAlloc onu alloc keep) r
+of_heard watch (HeardDown (Some (down.Popup onu))) r = of_copy watch (down.Popup onu) r
+of_heard watch (HeardDown (Some (down.Other id octet1 body))) r = of_copy watch (down.Other id octet1 body) r
+of_heard watch (HeardUp None delay) r = of_code r
+of_heard watch (HeardUp (Some message) delay) r = of_answer watch message delay r
+of_heard watch (HeardGrant grant) r = of_grant watch grant r
+
+-- ---- the laws
+
+abbrev passes_in : FindingChoice → Watch → Heard → Rule → Bool
+passes_in told watch heard r = contains told.rules r && judges watch heard r
+
+-- of the rules that may be judged, those that are told and are
+passed_in : (told : FindingChoice) (watch : Watch) (heard : Heard) (r : Rule)
+    → list_any (is_passed (passes_in told watch heard) r) (rules_of watch heard) ≡ passes_in told watch heard r
+passed_in told watch heard r =
+    elim (of_heard watch heard r) [
+      | inl among ↦ passed_of (passes_in told watch heard) r (rules_of watch heard) among
+      | inr none ↦
+          let fails : passes_in told watch heard r ≡ false = ap (λ (b : Bool). contains told.rules r && b) none ∙ and_false (contains told.rules r) in
+          none_passes (passes_in told watch heard) r (rules_of watch heard) fails ∙ sym fails
+    ]
+
+by_side : (side : Bool) (told : FindingChoice) (watch : Watch) (heard : Heard) (set : RuleSet) (r : Rule) → length set.places ≡ 19
+    → contains (if side then joined_by (passes_in told watch heard) (rules_of watch heard) set else set) r
+    ≡ (contains set r || (side && contains told.rules r && judges watch heard r))
+by_side true told watch heard set r long =
+    all_join (passes_in told watch heard) (rules_of watch heard) set r long
+    ∙ ap (λ (b : Bool). contains set r || b) (passed_in told watch heard r)
+by_side false told watch heard set r long = or_false (contains set r)
+
+pub judged_join : JustTheJudgedJoin
+judged_join told watch heard set r long = by_side (is_side_told told heard) told watch heard set r long
 
 first : (b c : Bool) → (b && c) ≡ true → b ≡ true
 first true c h = refl
@@ -38,18 +299,68 @@ second : (b c : Bool) → (b && c) ≡ true → c ≡ true
 second true c h = h
 second false c h = absurd (false≢true h)
 
--- of rules that are all judged none is told
-none_told : (side : Bool) (told judged : Rule → Bool) (broken : List Rule) → ((r : Rule) → side ≡ true → (told r && judged r) ≡ false) → list_all judged broken ≡ true
-    → filter (λ r. side && told r) broken ≡ []
-none_told side told judged [] none all = refl
-none_told side told judged (r ∷ broken) none all =
-    ap (λ b. cond b (r ∷ filter (λ s. side && told s) broken) (filter (λ s. side && told s) broken))
-    (not_both side (told r) (judged r) (first (judged r) (list_all judged broken) all) (none r))
-    ∙ none_told side told judged broken none (second (judged r) (list_all judged broken) all)
+-- of rules that are all judged, those that are told are in
+told_in : (is_in is_told_of judged before : Rule → Bool) (broken : List Rule) → ((r : Rule) → is_in r ≡ (before r || (is_told_of r && judged r)))
+    → list_all judged broken ≡ true → list_all is_in (filter is_told_of broken) ≡ true
+told_in is_in is_told_of judged before [] goes all = refl
+told_in is_in is_told_of judged before (r ∷ broken) goes all =
+    let rest = told_in is_in is_told_of judged before broken goes (second (judged r) (list_all judged broken) all) in
+    elim (cases_Bool (is_told_of r)) [
+      | inl told ↦
+          let is : is_in r ≡ true =
+          goes r ∙ ap (λ (b : Bool). before r || (b && judged r)) told
+          ∙ ap (λ (b : Bool). before r || b) (first (judged r) (list_all judged broken) all) ∙ sym (or_true (before r)) in
+          rw told (ap (λ (b : Bool). b && list_all is_in (filter is_told_of broken)) is ∙ rest)
+      | inr other ↦ rw other rest
+    ]
 
-pub tells_nothing : UnjudgedTellNothing
-tells_nothing told settings watch heard none =
-    none_told (is_side_told told heard) (contains told.rules) (judges watch heard) (breaks settings watch heard)
-    (λ r side. none_passes (λ rule. contains told.rules rule && judges watch heard rule)
-    (other_none (is_side_told told heard) (list_any (λ rule. contains told.rules rule && judges watch heard rule) rules) none side) r _ refl)
-    (heard_judged settings watch heard)
+pub told_judged : ToldAreJudged
+told_judged told settings watch heard set long =
+    told_in (contains (judged_with told watch heard set)) (is_told told heard) (judges watch heard) (contains set) (breaks settings watch heard)
+    (λ r. judged_join told watch heard set r long) (heard_judged settings watch heard)
+
+of_all : (r : Rule) → list_any (is r) all_rules ≡ true
+of_all rule.Garbled = refl
+of_all rule.Copies = refl
+of_all rule.Range = refl
+of_all rule.Barred = refl
+of_all rule.Unasked = refl
+of_all rule.Taken = refl
+of_all rule.Renumbered = refl
+of_all rule.Nobody = refl
+of_all rule.Unranged = refl
+of_all rule.Delay = refl
+of_all rule.Early = refl
+of_all rule.Shared = refl
+of_all rule.NotHeld = refl
+of_all rule.Grant = refl
+of_all rule.Disabled = refl
+of_all rule.Anew = refl
+of_all rule.Number = refl
+of_all rule.Acknowledge = refl
+of_all rule.Drift = refl
+
+pub either_judged : EitherJudged
+either_judged one other r long =
+    all_join (contains other) all_rules one r long ∙ ap (λ (b : Bool). contains one r || b) (passed_of (contains other) r all_rules (of_all r))
+
+copy_sides : (told : Bool) → list_all is_of_terminal (if told then message_rules else code_rules) ≡ true
+copy_sides true = refl
+copy_sides false = refl
+
+pub have_sides : RulesHaveSides
+have_sides watch (HeardDown None) = refl
+have_sides watch (HeardDown (Some down.NoMessage)) = refl
+have_sides watch (HeardDown (Some (down.UpstreamOverhead burst))) = copy_sides (is_new watch (down.UpstreamOverhead burst))
+have_sides watch (HeardDown (Some (down.AssignOnu onu serial))) = copy_sides (is_new watch (down.AssignOnu onu serial))
+have_sides watch (HeardDown (Some (down.RangingTime onu eqd))) = copy_sides (is_new watch (down.RangingTime onu eqd))
+have_sides watch (HeardDown (Some (down.Deactivate onu))) = copy_sides (is_new watch (down.Deactivate onu))
+have_sides watch (HeardDown (Some (down.DisableSerial serial))) = copy_sides (is_new watch (down.DisableSerial serial))
+have_sides watch (HeardDown (Some (down.EnableSerial serial))) = copy_sides (is_new watch (down.EnableSerial serial))
+have_sides watch (HeardDown (Some down.EnableAll)) = copy_sides (is_new watch down.EnableAll)
+have_sides watch (HeardDown (Some (down.AssignAlloc onu alloc keep))) = copy_sides (is_new watch (down.AssignAlloc onu alloc keep))
+have_sides watch (HeardDown (Some (down.Popup onu))) = copy_sides (is_new watch (down.Popup onu))
+have_sides watch (HeardDown (Some (down.Other id octet1 body))) = copy_sides (is_new watch (down.Other id octet1 body))
+have_sides watch (HeardUp None delay) = refl
+have_sides watch (HeardUp (Some message) delay) = refl
+have_sides watch (HeardGrant grant) = refl

@@ -1,44 +1,65 @@
--- Whether a rule that is told is judged of what is heard, and which garbled codes are left out (this profile's own
--- rule).
-use Rattle.std.specs.Prelude.{◌≡◌, ◌+◌, ◌^◌, ◌-◌, ℕ, Bool, true, false, not, ◌&&◌, ◌||◌, if◌then◌else◌, List, [], ◌∷◌, filter, min, Option, None, Some}
-use Rattle.std.specs.List.{list_any}
+-- Which rules that are told are judged of what is heard, on each side, and which garbled codes are left out (this
+-- profile's own rule).
+use Rattle.std.specs.Prelude.{◌≡◌, ◌+◌, ◌^◌, ◌-◌, ℕ, Bool, true, false, not, ◌&&◌, ◌||◌, if◌then◌else◌, List, [], ◌∷◌, filter, length, min, Option, None, Some}
+use Rattle.std.specs.List.{fold, list_all}
+use Rattle.gp_ploam.specs.declared.message.Down.{Down}
+use Rattle.gp_ploam.specs.declared.message.Down.TheVariants.{NoMessage}
 use Rattle.gp_observer.specs.declared.rule.Rule.{Rule}
 use Rattle.gp_observer.specs.declared.rule.Rule.TheVariants as rule
 use Rattle.gp_observer.specs.Heard.{Heard, HeardDown, HeardUp, HeardGrant, breaks, is_terminals}
 use Rattle.gp_observer.specs.Judged.{judges}
 use Rattle.gp_observer.specs.Rules.{Settings}
-use Rattle.gp_observer.specs.Watch.{Watch}
-use Rattle.gp_finding.specs.Names.{rules}
+use Rattle.gp_observer.specs.Watch.{Watch, passes_over, tells}
+use Rattle.gp_finding.specs.Names.{rules as all_rules}
 use Rattle.gp_audit.specs.declared.judged.Judged.{Judged}
 use Rattle.gp_audit.specs.declared.options.FindingChoice.{FindingChoice}
-use Rattle.gp_audit.specs.RuleSet.{contains, is_side_told, is_told}
+use Rattle.gp_audit.specs.declared.rule_set.RuleSet.{RuleSet}
+use Rattle.gp_audit.specs.RuleSet.{contains, each_rule, is_empty, is_side_told, is_told, rules as rules_there_are, with_rule}
 
--- one of these rules is told, and judged of it
-abbrev pub judges_by : List Rule → FindingChoice → Watch → Heard → Bool
-judges_by these told watch heard =
-    is_side_told told heard && list_any (λ rule. contains told.rules rule && judges watch heard rule) these
+-- ---- the rules that may be judged
 
--- a rule that is told is
-abbrev pub judges_any : FindingChoice → Watch → Heard → Bool
-judges_any told watch heard = judges_by rules told watch heard
+abbrev pub code_rules : List Rule
+code_rules = rule.Garbled ∷ []
 
--- the rules of each side that go by who holds an ONU-ID, and which are judged too of a log that begins in the middle
-abbrev pub terminal_holder_rules : List Rule
-terminal_holder_rules =
-    rule.Taken ∷ rule.Renumbered ∷ rule.Nobody ∷ rule.Unranged ∷ rule.Delay ∷ rule.Early ∷ rule.Shared ∷ rule.NotHeld
-    ∷ rule.Grant ∷ []
+abbrev pub message_rules : List Rule
+message_rules =
+    rule.Garbled ∷ rule.Copies ∷ rule.Range ∷ rule.Barred ∷ rule.Unasked ∷ rule.Taken ∷ rule.Renumbered ∷ rule.Nobody
+    ∷ rule.Unranged ∷ rule.Delay ∷ rule.Early ∷ rule.Shared ∷ rule.NotHeld ∷ []
 
-abbrev pub unit_holder_rules : List Rule
-unit_holder_rules = rule.Anew ∷ rule.Number ∷ rule.Acknowledge ∷ []
+abbrev pub unit_rules : List Rule
+unit_rules = rule.Garbled ∷ rule.Disabled ∷ rule.Anew ∷ rule.Number ∷ rule.Acknowledge ∷ rule.Drift ∷ []
 
-abbrev pub holder_rules : Heard → List Rule
-holder_rules heard = if is_terminals heard then terminal_holder_rules else unit_holder_rules
+abbrev pub grant_rules : List Rule
+grant_rules = rule.Grant ∷ []
 
--- one of them is told
-abbrev pub tells_of_holders : FindingChoice → Bool
-tells_of_holders told =
-    (told.terminal && list_any (λ rule. contains told.rules rule) terminal_holder_rules)
-    || (told.units && list_any (λ rule. contains told.rules rule) unit_holder_rules)
+-- a message down is told with this copy
+abbrev pub is_new : Watch → Down → Bool
+is_new watch message = not (passes_over watch message) && tells watch message
+
+-- of what is heard, by what is known before it: a message down is judged with the copy that tells it
+abbrev pub rules_of : Watch → Heard → List Rule
+rules_of watch (HeardDown None) = code_rules
+rules_of watch (HeardDown (Some NoMessage)) = code_rules
+rules_of watch (HeardDown (Some message)) =
+    if is_new watch message then message_rules else code_rules
+rules_of watch (HeardUp None delay) = code_rules
+rules_of watch (HeardUp (Some message) delay) = unit_rules
+rules_of watch (HeardGrant grant) = grant_rules
+
+-- ---- those that are judged
+
+-- the rules of a list that pass join a set
+abbrev pub joined_by : (Rule → Bool) → List Rule → RuleSet → RuleSet
+joined_by passes these set = fold (λ joined rule. if passes rule then with_rule true joined rule else joined) set these
+
+-- those that are told and judged of what is heard, by what is known before it, join those that were
+abbrev pub judged_with : FindingChoice → Watch → Heard → RuleSet → RuleSet
+judged_with told watch heard judged =
+    if is_side_told told heard
+    then joined_by (λ rule. contains told.rules rule && judges watch heard rule) (rules_of watch heard) judged
+    else judged
+
+-- ---- garbled codes
 
 -- its check octet is wrong
 abbrev pub is_garbled : Heard → Bool
@@ -54,34 +75,92 @@ leaves_garbled told heard = is_garbled heard && is_side_told told heard && not (
 abbrev pub added : ℕ → ℕ → ℕ
 added one other = min (one + other) (2 ^ 64 - 1)
 
+-- ---- what was judged
+
 -- before anything was heard
 abbrev pub nothing_judged : Judged
-nothing_judged = record { terminal = false; units = false; holders = false; garbled = 0 }
+nothing_judged = record { terminal = each_rule false; units = each_rule false; garbled = 0 }
 
 -- behind something that is heard, by what is known before it
 abbrev pub judged_after : FindingChoice → Watch → Heard → Judged → Judged
 judged_after told watch heard judged =
     record {
-      terminal = judged.terminal || (is_terminals heard && judges_any told watch heard);
-      units = judged.units || (not (is_terminals heard) && judges_any told watch heard);
-      holders = judged.holders || (watch.midway && judges_by (holder_rules heard) told watch heard);
+      terminal = if is_terminals heard then judged_with told watch heard judged.terminal else judged.terminal;
+      units = if is_terminals heard then judged.units else judged_with told watch heard judged.units;
       garbled = if leaves_garbled told heard then added judged.garbled 1 else judged.garbled;
     }
+
+-- the rules of either set
+abbrev pub of_both : RuleSet → RuleSet → RuleSet
+of_both one other = joined_by (contains other) all_rules one
 
 -- of two ports
 abbrev pub judged_on_both : Judged → Judged → Judged
 judged_on_both one other =
     record {
-      terminal = one.terminal || other.terminal;
-      units = one.units || other.units;
-      holders = one.holders || other.holders;
+      terminal = of_both one.terminal other.terminal;
+      units = of_both one.units other.units;
       garbled = added one.garbled other.garbled;
     }
 
--- ---- the law
+-- ---- what was missed
 
--- where no rule that is told is judged of it, no finding is told of it
-abbrev pub UnjudgedTellNothing : Type 0
-UnjudgedTellNothing =
-    (told : FindingChoice) (settings : Settings) (watch : Watch) (heard : Heard) → judges_any told watch heard ≡ false
-    → filter (is_told told heard) (breaks settings watch heard) ≡ []
+-- no rule that is told was judged of anything
+abbrev pub is_nothing : Judged → Bool
+is_nothing judged = is_empty judged.terminal && is_empty judged.units
+
+-- it is judged of what a unit says
+abbrev pub is_of_units : Rule → Bool
+is_of_units rule.Garbled = true
+is_of_units rule.Disabled = true
+is_of_units rule.Anew = true
+is_of_units rule.Number = true
+is_of_units rule.Acknowledge = true
+is_of_units rule.Drift = true
+is_of_units _ = false
+
+-- it is judged of what the terminal says
+abbrev pub is_of_terminal : Rule → Bool
+is_of_terminal rule.Garbled = true
+is_of_terminal rule = not (is_of_units rule)
+
+-- of a side some rule was judged, but not this one
+abbrev pub lacks : RuleSet → Rule → Bool
+lacks judged rule = not (is_empty judged) && not (contains judged rule)
+
+-- the rule is told, and judged on a side of which something was judged, but it was not
+abbrev pub misses : FindingChoice → Judged → Rule → Bool
+misses told judged rule =
+    contains told.rules rule
+    && ((is_of_terminal rule && lacks judged.terminal rule) || (is_of_units rule && lacks judged.units rule))
+
+-- ---- laws
+
+-- just the rules that are told and judged of what is heard join those that were judged before
+abbrev pub JustTheJudgedJoin : Type 0
+JustTheJudgedJoin =
+    (told : FindingChoice) (watch : Watch) (heard : Heard) (judged : RuleSet) (rule : Rule)
+    → length judged.places ≡ rules_there_are
+    → contains (judged_with told watch heard judged) rule
+    ≡ (contains judged rule || (is_told told heard rule && judges watch heard rule))
+
+-- each rule of which a finding is told is among those that were judged then
+abbrev pub ToldAreJudged : Type 0
+ToldAreJudged =
+    (told : FindingChoice) (settings : Settings) (watch : Watch) (heard : Heard) (judged : RuleSet)
+    → length judged.places ≡ rules_there_are
+    → list_all (contains (judged_with told watch heard judged))
+    (filter (is_told told heard) (breaks settings watch heard))
+    ≡ true
+
+-- a rule was judged on one of two ports
+abbrev pub EitherJudged : Type 0
+EitherJudged =
+    (one other : RuleSet) (rule : Rule) → length one.places ≡ rules_there_are
+    → contains (of_both one other) rule ≡ (contains one rule || contains other rule)
+
+-- what may be judged of something is judged on its side
+abbrev pub RulesHaveSides : Type 0
+RulesHaveSides =
+    (watch : Watch) (heard : Heard)
+    → list_all (if is_terminals heard then is_of_terminal else is_of_units) (rules_of watch heard) ≡ true

@@ -1,5 +1,6 @@
 -- Which rules are told (this profile's own rule).
-use Rattle.std.specs.Prelude.{ℕ, Bool, false, ◌&&◌, replicate, slice_index_or, slice_set}
+use Rattle.std.specs.Prelude.{ℕ, Bool, false, not, ◌&&◌, replicate, slice_index_or, slice_set}
+use Rattle.std.specs.List.{list_any}
 use Rattle.gp_observer.specs.declared.rule.Rule.{Rule}
 use Rattle.gp_observer.specs.declared.rule.Rule.TheVariants as rule
 use Rattle.gp_observer.specs.Heard.{Heard, HeardDown, HeardUp, HeardGrant}
@@ -35,6 +36,10 @@ rule_place rule.Drift = 18
 -- the rule is in the set
 abbrev pub contains : RuleSet → Rule → Bool
 contains set rule = slice_index_or set.places (rule_place rule) false
+
+-- no rule is in the set
+abbrev pub is_empty : RuleSet → Bool
+is_empty set = not (list_any (λ is_in. is_in) set.places)
 
 -- all rules, or none
 abbrev pub each_rule : Bool → RuleSet

@@ -1,20 +1,28 @@
-//! Whether something was heard of which a rule that is told is judged, and how many garbled codes were left out.
-ghost use Rattle.std.specs.Prelude.{◌≡◌, ◌&&◌};
-ghost use Rattle.std.specs.List.{list_any};
+//! Which rules that are told were judged of what was heard, on each side, and how many garbled codes were left out.
+ghost use Rattle.std.specs.Prelude.{◌≡◌, ◌&&◌, if◌then◌else◌, true};
+ghost use Rattle.std.specs.List.{fold};
 ghost use Rattle.gp_observer.specs.Judged.{judges};
 ghost use Rattle.gp_audit.specs.Judging as spec;
-ghost use Rattle.gp_audit.specs.RuleSet.{contains};
+ghost use Rattle.gp_audit.specs.RuleSet.{contains, with_rule};
 ghost use Rattle.gp_watch.specs.Heard.{heard_of};
 
 use crate::options::FindingChoice;
 use crate::rule_set::RuleSet;
 use gp_finding::RULES;
 use gp_observer::Rule;
+use gp_ploam::Down;
 use gp_watch::{Heard, PortWatch};
 
-/// The rules of the line terminal that go by who holds an ONU-ID, and are judged too of a log that begins in the
-/// middle.
-const TERMINAL_HOLDER_RULES: [Rule; 9] = [
+/// The rule that is judged of each code.
+const CODE_RULES: [Rule; 1] = [Rule::Garbled];
+
+/// Those that are judged of a message down.
+const MESSAGE_RULES: [Rule; 13] = [
+    Rule::Garbled,
+    Rule::Copies,
+    Rule::Range,
+    Rule::Barred,
+    Rule::Unasked,
     Rule::Taken,
     Rule::Renumbered,
     Rule::Nobody,
@@ -23,78 +31,162 @@ const TERMINAL_HOLDER_RULES: [Rule; 9] = [
     Rule::Early,
     Rule::Shared,
     Rule::NotHeld,
-    Rule::Grant,
 ];
 
-/// Those of a unit.
-const UNIT_HOLDER_RULES: [Rule; 3] = [Rule::Anew, Rule::Number, Rule::Acknowledge];
+/// Those that are judged of a message up.
+const UNIT_RULES: [Rule; 6] = [
+    Rule::Garbled,
+    Rule::Disabled,
+    Rule::Anew,
+    Rule::Number,
+    Rule::Acknowledge,
+    Rule::Drift,
+];
 
-/// What was judged of what was heard: whether a rule that is told was, on each side.
+/// The one that is judged of a grant.
+const GRANT_RULES: [Rule; 1] = [Rule::Grant];
+
+/// Which rules that are told were judged of what was heard. A rule is judged of what can break it or keep it, by what is
+/// known before it.
 #[derive(Clone, Copy, Debug, PartialEq, Eq)]
 pub struct Judged {
-    /// A rule that is told was judged of something that the line terminal said.
-    pub terminal: bool,
-    /// One was of something that a unit said.
-    pub units: bool,
-    /// One was that goes by who holds an ONU-ID. Noted only of a log that begins in the middle.
-    pub holders: bool,
+    /// Those that were judged of something that the line terminal said.
+    pub terminal: RuleSet,
+    /// Those that were judged of something that a unit said.
+    pub units: RuleSet,
     /// How many codes of a side that is told were garbled where that isn't told: nothing is judged of them. As far as
     /// 64 bits go.
     pub garbled: u64,
 }
 
-/// Tells whether one of these rules is in the set.
-fn contains_any(rules: &RuleSet, these: &[Rule]) -> bool
-    ensures { result ≡ list_any (λ rule. contains rules.now rule) these.now }
+/// Gives a set with a rule that is told and judged of something heard. Whether it is isn't asked of one that is in it.
+fn with_judged(
+    judged: RuleSet,
+    told: &RuleSet,
+    watch: &PortWatch,
+    heard: &Heard,
+    rule: Rule,
+) -> RuleSet
+    ensures { result ≡ (if contains told.now rule && judges watch.now (heard_of heard.now) rule
+        then with_rule true judged rule else judged) }
 {
-    these.iter().any(|rule| rules.contains(*rule))
+    let mut joined = judged;
+    if told.contains(rule) && !judged.contains(rule) && watch.judges(heard, rule) {
+        joined.insert(rule);
+    }
+    joined
 }
 
-/// Tells whether one of these rules is in the set, and judged of something heard, by what is known before it.
-fn any_judged(rules: &RuleSet, these: &[Rule], watch: &PortWatch, heard: &Heard) -> bool
-    ensures { result ≡ list_any (λ rule. contains rules.now rule && judges watch.now (heard_of heard.now) rule)
-        these.now }
+/// Gives a set with those of these rules that are told and judged of something heard.
+fn with_these(
+    judged: &RuleSet,
+    these: &[Rule],
+    told: &RuleSet,
+    watch: &PortWatch,
+    heard: &Heard,
+) -> RuleSet
+    ensures { result ≡ spec.joined_by (λ rule. contains told.now rule && judges watch.now (heard_of heard.now) rule)
+        these.now judged.now }
 {
-    these
+    these.iter().fold(*judged, |joined, rule| {
+        with_judged(joined, told, watch, heard, *rule)
+    })
+}
+
+/// Tells whether a message down is told with this copy.
+fn is_new(watch: &PortWatch, message: &Down) -> bool
+    ensures { result ≡ spec.is_new watch.now message.now }
+{
+    !watch.passes_over(message) && watch.tells(message)
+}
+
+/// Gives a set with the rules that are told and judged of something heard, by what is known before it. Only those are
+/// looked at that may be.
+fn with_heard(judged: &RuleSet, told: &RuleSet, watch: &PortWatch, heard: &Heard) -> RuleSet
+    ensures { result ≡ spec.joined_by (λ rule. contains told.now rule && judges watch.now (heard_of heard.now) rule)
+        (spec.rules_of watch.now (heard_of heard.now)) judged.now }
+{
+    match heard {
+        Heard::Down(None) | Heard::Down(Some(Down::NoMessage)) => {
+            with_these(judged, &CODE_RULES, told, watch, heard)
+        }
+        Heard::Down(Some(message)) => {
+            if is_new(watch, message) {
+                with_these(judged, &MESSAGE_RULES, told, watch, heard)
+            } else {
+                with_these(judged, &CODE_RULES, told, watch, heard)
+            }
+        }
+        Heard::Up { message: None, .. } => with_these(judged, &CODE_RULES, told, watch, heard),
+        Heard::Up {
+            message: Some(_), ..
+        } => with_these(judged, &UNIT_RULES, told, watch, heard),
+        Heard::Grant(_) => with_these(judged, &GRANT_RULES, told, watch, heard),
+    }
+}
+
+/// Gives the rules that are in either set.
+fn of_both(one: &RuleSet, other: &RuleSet) -> RuleSet
+    ensures { result ≡ spec.of_both one.now other.now }
+{
+    RULES
         .iter()
-        .any(|rule| rules.contains(*rule) && watch.judges(heard, *rule))
+        .fold(*one, |joined, rule| with_rule_of(joined, other, *rule))
+}
+
+/// Gives a set with a rule that is in another.
+fn with_rule_of(one: RuleSet, other: &RuleSet, rule: Rule) -> RuleSet
+    ensures { result ≡ (if contains other.now rule then with_rule true one rule else one) }
+{
+    let mut joined = one;
+    if other.contains(rule) {
+        joined.insert(rule);
+    }
+    joined
+}
+
+/// Tells whether a rule is judged of what a unit says.
+fn is_of_units(rule: Rule) -> bool
+    ensures { result ≡ spec.is_of_units rule }
+{
+    matches!(
+        rule,
+        Rule::Garbled
+            | Rule::Disabled
+            | Rule::Anew
+            | Rule::Number
+            | Rule::Acknowledge
+            | Rule::Drift
+    )
+}
+
+/// Tells whether a rule is judged of what the line terminal says.
+fn is_of_terminal(rule: Rule) -> bool
+    ensures { result ≡ spec.is_of_terminal rule }
+{
+    match rule {
+        Rule::Garbled => true,
+        _ => !is_of_units(rule),
+    }
+}
+
+/// Tells whether of a side some rule was judged, but not this one.
+fn lacks(judged: &RuleSet, rule: Rule) -> bool
+    ensures { result ≡ spec.lacks judged.now rule }
+{
+    !judged.is_empty() && !judged.contains(rule)
 }
 
 impl FindingChoice {
-    /// Tells whether one of these rules is told, and judged of something heard, by what is known before it.
-    fn judges_by(&self, these: &[Rule], watch: &PortWatch, heard: &Heard) -> bool
-        ensures { result ≡ spec.judges_by these.now self.now watch.now (heard_of heard.now) }
+    /// Gives a set with the rules that are told and judged of something heard, by what is known before it.
+    fn with_judged(&self, judged: &RuleSet, watch: &PortWatch, heard: &Heard) -> RuleSet
+        ensures { result ≡ spec.judged_with self.now watch.now (heard_of heard.now) judged.now }
     {
-        self.tells_side(heard) && any_judged(&self.rules, these, watch, heard)
-    }
-
-    /// Tells whether a rule that is told is judged of something heard, by what is known before it.
-    fn judges_any(&self, watch: &PortWatch, heard: &Heard) -> bool
-        ensures { result ≡ spec.judges_any self.now watch.now (heard_of heard.now) }
-    {
-        self.judges_by(&RULES, watch, heard)
-    }
-
-    /// Tells whether one is that goes by who holds an ONU-ID.
-    fn judges_holders(&self, watch: &PortWatch, heard: &Heard) -> bool
-        ensures { result ≡ spec.judges_by (spec.holder_rules (heard_of heard.now)) self.now watch.now
-            (heard_of heard.now) }
-    {
-        match heard {
-            Heard::Down(_) | Heard::Grant(_) => {
-                self.judges_by(&TERMINAL_HOLDER_RULES, watch, heard)
-            }
-            Heard::Up { .. } => self.judges_by(&UNIT_HOLDER_RULES, watch, heard),
+        if self.tells_side(heard) {
+            with_heard(judged, &self.rules, watch, heard)
+        } else {
+            *judged
         }
-    }
-
-    /// Tells whether a rule is told that goes by who holds an ONU-ID, and is judged too of a log that begins in the
-    /// middle.
-    pub fn tells_of_holders(&self) -> bool
-        ensures { result ≡ spec.tells_of_holders self.now }
-    {
-        (self.terminal && contains_any(&self.rules, &TERMINAL_HOLDER_RULES))
-            || (self.units && contains_any(&self.rules, &UNIT_HOLDER_RULES))
     }
 
     /// Tells whether something heard is garbled and of a side that is told, though that it is garbled isn't told.
@@ -112,14 +204,13 @@ impl Judged {
         ensures { result ≡ spec.nothing_judged }
     {
         Judged {
-            terminal: false,
-            units: false,
-            holders: false,
+            terminal: RuleSet::none(),
+            units: RuleSet::none(),
             garbled: 0,
         }
     }
 
-    /// Notes something heard, by what is known before it. Rules are looked through only until one is judged.
+    /// Notes something heard, by what is known before it.
     pub(crate) fn note(&mut self, told: &FindingChoice, watch: &PortWatch, heard: &Heard)
         ensures { self.new ≡ spec.judged_after told.now watch.now (heard_of heard.now) self.old }
     {
@@ -128,11 +219,10 @@ impl Judged {
         }
         match heard {
             Heard::Down(_) | Heard::Grant(_) => {
-                self.terminal = self.terminal || told.judges_any(watch, heard);
+                self.terminal = told.with_judged(&self.terminal, watch, heard);
             }
-            Heard::Up { .. } => self.units = self.units || told.judges_any(watch, heard),
+            Heard::Up { .. } => self.units = told.with_judged(&self.units, watch, heard),
         }
-        self.holders = self.holders || (watch.is_midway() && told.judges_holders(watch, heard));
     }
 
     /// Gives what was judged here or there.
@@ -140,15 +230,35 @@ impl Judged {
         ensures { result ≡ spec.judged_on_both self other }
     {
         Judged {
-            terminal: self.terminal || other.terminal,
-            units: self.units || other.units,
-            holders: self.holders || other.holders,
+            terminal: of_both(&self.terminal, &other.terminal),
+            units: of_both(&self.units, &other.units),
             garbled: self.garbled.saturating_add(other.garbled),
         }
     }
+
+    /// Tells whether no rule that is told was judged, of either side.
+    pub fn is_nothing(&self) -> bool
+        ensures { result ≡ spec.is_nothing self.now }
+    {
+        self.terminal.is_empty() && self.units.is_empty()
+    }
+
+    /// Tells whether a rule was missed: it is told, and judged on a side of which others were judged, but it was not.
+    pub fn misses(&self, told: &FindingChoice, rule: Rule) -> bool
+        ensures { result ≡ spec.misses told.now self.now rule }
+    {
+        told.rules.contains(rule)
+            && ((is_of_terminal(rule) && lacks(&self.terminal, rule))
+                || (is_of_units(rule) && lacks(&self.units, rule)))
+    }
 }
 
-/// States that of what no rule that is told is judged of, no finding is told.
-pub fn unjudged_tell_nothing()
-    ensures { spec.UnjudgedTellNothing }
+/// States that of what is heard just the rules that are told and judged of it join those that were judged; so each rule
+/// of which a finding is told was judged. Each is of the side on which it joins them, and of two ports those of either
+/// count.
+pub fn told_are_judged()
+    ensures join { spec.JustTheJudgedJoin }
+    ensures told { spec.ToldAreJudged }
+    ensures either { spec.EitherJudged }
+    ensures sides { spec.RulesHaveSides }
 {}

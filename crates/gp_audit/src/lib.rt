@@ -2,13 +2,13 @@
 //!
 //! Promise: for any input, what is written is what each line breaks, by the definitions, in order, then what was
 //! counted of the units, where that is wanted, and the sum; each line's findings are out before more is waited for
-//! (`audit_log`, `Auditor`); and whether a rule was judged is told (`Auditor::judged`).
+//! (`audit_log`, `Auditor`); and which rules were judged is told (`Auditor::judged`).
 //!
 //! - `options.rt`: `AuditOptions`, what it judges by and tells; `rule_set.rt`: `RuleSet`, some of the rules.
 //! - `rule_names.rt`: `rules_told`, which rules are told, by lists of their names; `delays.rt`: `equalized_delays`, the
 //!   equalized delays of the ports.
 //! - `port.rt`: what is known of one port, and what is told of something that is heard there; `ports.rt`: the ports.
-//! - `judged.rt`: `Judged`, whether a rule was judged, and the law that else nothing is told.
+//! - `judged.rt`: `Judged`, which rules were judged, and the law that each of which a finding is told was.
 //! - `book.rt`: what is said of the line at hand, and the counts. `again.rt`: a line told again, in words.
 //! - `auditor.rt`: `Auditor`, which is given lines one after another; `serving.rt`: as what serves lines. `fault.rt`:
 //!   why nothing is said of a line.
@@ -42,7 +42,7 @@ mod serving;
 pub use auditor::Auditor;
 pub use delays::equalized_delays;
 pub use gp_lines::PORTS;
-pub use judged::{Judged, unjudged_tell_nothing};
+pub use judged::{Judged, told_are_judged};
 pub use listener::Listener;
 pub use options::{AuditForm, AuditOptions, FindingChoice};
 pub use rule_names::rules_told;

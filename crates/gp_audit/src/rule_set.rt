@@ -1,7 +1,7 @@
 //! Some of the rules, as a set: which findings are told.
 ghost use Rattle.std.specs.Prelude.{◌≡◌, ◌<◌, true, false};
 ghost use Rattle.gp_observer.specs.declared.rule.Rule.{Rule as AnyRule};
-ghost use Rattle.gp_audit.specs.RuleSet.{contains, each_rule, rule_place, with_rule};
+ghost use Rattle.gp_audit.specs.RuleSet.{contains, each_rule, is_empty, rule_place, with_rule};
 
 use gp_observer::Rule;
 
@@ -42,6 +42,13 @@ impl RuleSet {
         RuleSet {
             places: [false; RULES],
         }
+    }
+
+    /// Tells whether none is.
+    pub fn is_empty(&self) -> bool
+        ensures { result ≡ is_empty self.now }
+    {
+        !self.places.iter().any(|is_in| *is_in)
     }
 
     /// Tells whether a rule is among them.

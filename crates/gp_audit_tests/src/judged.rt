@@ -1,10 +1,10 @@
-//! What of a log is judged: by which rules, of which side, and which garbled codes are left out.
+//! What of a log is judged: by which rules, of which side, which rules are missed, and which garbled codes are left out.
 use crate::words::{log_of, plain_options};
-use gp_audit::{AuditOptions, Auditor, Judged, RuleSet, audit_log};
+use gp_audit::{AuditOptions, Auditor, FindingChoice, Judged, RuleSet, audit_log};
 use gp_flow::LinesFault;
 use gp_observer::Rule;
 use gp_stream::{Sink, Source};
-use std::alloc::Global;
+use std::alloc::{AllocError, Global};
 use std::test::Fail;
 
 /// A unit asks, is assigned and ranged, and answers with its delay; then comes a garbled code of each side.
@@ -68,7 +68,29 @@ fn rules_judged(
     let mut letters = String::new(alloc);
     for (rule, letter) in rules {
         let found = judged(alloc, &alone(*rule, midway), words)?;
-        if found.terminal || found.units {
+        if !found.is_nothing() {
+            letters.push(*letter)?;
+        }
+    }
+    Ok(letters)
+}
+
+/// Gives the letters of the rules in a set, in the order of `LETTERS`.
+fn letters_of(alloc: Global, set: &RuleSet) -> Result<String, AllocError> {
+    let mut letters = String::new(alloc);
+    for (rule, letter) in LETTERS.iter() {
+        if set.contains(*rule) {
+            letters.push(*letter)?;
+        }
+    }
+    Ok(letters)
+}
+
+/// Gives the letters of the rules that were missed.
+fn missed(alloc: Global, told: &FindingChoice, judged: &Judged) -> Result<String, AllocError> {
+    let mut letters = String::new(alloc);
+    for (rule, letter) in LETTERS.iter() {
+        if judged.misses(told, *rule) {
             letters.push(*letter)?;
         }
     }
@@ -98,20 +120,37 @@ const LETTERS: [(Rule, char); 19] = [
     (Rule::Drift, 'F'),
 ];
 
-/// Gives what is judged of the terminal, of units, and by who holds an ONU-ID, with so many garbled codes left out.
-fn judges(terminal: bool, units: bool, holders: bool, garbled: u64) -> Judged {
-    Judged {
-        terminal,
-        units,
-        holders,
-        garbled,
-    }
+/// Checks which rules were judged of the terminal and of units, by their letters, and how many garbled codes were left
+/// out.
+fn check_judged(
+    rt: HostRuntime,
+    found: &Judged,
+    terminal: &str,
+    units: &str,
+    garbled: u64,
+) -> Result<(), Fail> {
+    assert_eq!(rt; letters_of(rt.alloc(), &found.terminal)?.as_str(), terminal);
+    assert_eq!(rt; letters_of(rt.alloc(), &found.units)?.as_str(), units);
+    assert_eq!(rt; found.garbled, garbled);
+    assert_eq!(rt; found.is_nothing(), terminal.is_empty() && units.is_empty());
+    Ok(())
 }
 
 #[test]
 fn all_of_a_log(rt: HostRuntime) -> Result<(), Fail> {
-    let all = judged(rt.alloc(), &plain_options(), RANGED)?;
-    assert_eq!(rt; all, judges(true, true, false, 0));
+    let options = plain_options();
+    let all = judged(rt.alloc(), &options, RANGED)?;
+    check_judged(rt, &all, "gcrbutenadG", "gDANF", 0)?;
+    assert_eq!(rt; missed(rt.alloc(), &options.told, &all)?.as_str(), "yshK");
+    Ok(())
+}
+
+#[test]
+fn without_delays(rt: HostRuntime) -> Result<(), Fail> {
+    let options = plain_options();
+    let unmeasured = judged(rt.alloc(), &options, UNMEASURED)?;
+    check_judged(rt, &unmeasured, "gcrbutena", "gDAN", 0)?;
+    assert_eq!(rt; missed(rt.alloc(), &options.told, &unmeasured)?.as_str(), "dyshGKF");
     Ok(())
 }
 
@@ -121,11 +160,13 @@ fn one_side_of_a_log(rt: HostRuntime) -> Result<(), Fail> {
     options.told.units = false;
     options.told.rules.remove(Rule::Garbled);
     let terminal = judged(rt.alloc(), &options, RANGED)?;
-    assert_eq!(rt; terminal, judges(true, false, false, 1));
+    check_judged(rt, &terminal, "crbutenadG", "", 1)?;
+    assert_eq!(rt; missed(rt.alloc(), &options.told, &terminal)?.as_str(), "ysh");
     options.told.units = true;
     options.told.terminal = false;
     let silent = judged(rt.alloc(), &options, "3 down Assign_ONU-ID 3 ABCD00000001")?;
-    assert_eq!(rt; silent, judges(false, false, false, 0));
+    check_judged(rt, &silent, "", "", 0)?;
+    assert_eq!(rt; missed(rt.alloc(), &options.told, &silent)?.as_str(), "");
     Ok(())
 }
 
@@ -133,11 +174,21 @@ fn one_side_of_a_log(rt: HostRuntime) -> Result<(), Fail> {
 fn by_one_rule(rt: HostRuntime) -> Result<(), Fail> {
     let alloc = rt.alloc();
     let garbled = judged(alloc, &alone(Rule::Garbled, false), RANGED)?;
-    assert_eq!(rt; garbled, judges(true, true, false, 0));
+    check_judged(rt, &garbled, "g", "g", 0)?;
     let copies = judged(alloc, &alone(Rule::Copies, false), RANGED)?;
-    assert_eq!(rt; copies, judges(true, false, false, 2));
+    check_judged(rt, &copies, "c", "", 2)?;
     let drift = judged(alloc, &alone(Rule::Drift, false), RANGED)?;
-    assert_eq!(rt; drift, judges(false, true, false, 2));
+    check_judged(rt, &drift, "", "F", 2)?;
+    Ok(())
+}
+
+#[test]
+fn garbled_of_one_side(rt: HostRuntime) -> Result<(), Fail> {
+    let options = plain_options();
+    let granted = "1 grant poll 3\n1 up No_message 3 @1001";
+    let found = judged(rt.alloc(), &options, granted)?;
+    check_judged(rt, &found, "G", "gN", 0)?;
+    assert_eq!(rt; missed(rt.alloc(), &options.told, &found)?.as_str(), "gcrbutenadyshDAKF");
     Ok(())
 }
 
@@ -189,24 +240,10 @@ fn who_holds_a_number_midway(rt: HostRuntime) -> Result<(), Fail> {
     options.midway = true;
     let unknown = "1 grant poll 3\n1 up No_message 3 @1001\n3 down Deactivate_ONU-ID 3";
     let judged_of_unknown = judged(rt.alloc(), &options, unknown)?;
-    assert_eq!(rt; judged_of_unknown, judges(true, true, false, 0));
+    check_judged(rt, &judged_of_unknown, "g", "g", 0)?;
     let known = "3 down POPUP 255\n3 down Assign_ONU-ID 3 ABCD00000001\n1 grant range 3";
     let judged_of_known = judged(rt.alloc(), &options, known)?;
-    assert_eq!(rt; judged_of_known, judges(true, false, true, 0));
-    Ok(())
-}
-
-#[test]
-fn which_rules_go_by_holders(rt: HostRuntime) -> Result<(), Fail> {
-    let mut told = alone(Rule::Number, true).told;
-    assert!(rt; told.tells_of_holders());
-    told.units = false;
-    assert!(rt; !told.tells_of_holders());
-    told.rules.insert(Rule::Unasked);
-    told.rules.insert(Rule::Copies);
-    assert!(rt; !told.tells_of_holders());
-    told.rules.insert(Rule::Grant);
-    assert!(rt; told.tells_of_holders());
+    check_judged(rt, &judged_of_known, "gcrG", "", 0)?;
     Ok(())
 }
 
@@ -217,6 +254,6 @@ fn two_ports(rt: HostRuntime) -> Result<(), Fail> {
     let mut options = plain_options();
     options.told.rules.remove(Rule::Garbled);
     let found = judged_log(rt.alloc(), &options, log.as_slice())?;
-    assert_eq!(rt; found, judges(true, false, false, 2));
+    check_judged(rt, &found, "G", "", 2)?;
     Ok(())
 }

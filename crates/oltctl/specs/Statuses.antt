@@ -41,6 +41,7 @@ use Rattle.clap.specs.declared.parser.matches.ArgMatches.{ArgMatches}
 use Rattle.gp_command_line.specs.CommandLine.{IsFaultOf, IsParseOf}
 use Rattle.gp_command_line.specs.Requests.{Asks, AsksNothing}
 use Rattle.gp_audit.specs.declared.options.AuditOptions.{AuditOptions}
+use Rattle.gp_audit.specs.Judging.{is_nothing}
 use Rattle.gp_picture.specs.declared.options.PictureOptions.{PictureOptions}
 use Rattle.gp_waves.specs.declared.options.WavesOptions.{WavesOptions}
 use Rattle.gp_options.specs.Options.{AuditsAs, DrawsAs, DumpsAs, IsBadAudit, IsBadPicture, IsBadWaves}
@@ -148,7 +149,7 @@ abbrev pub audited_status : Audited → ℕ
 audited_status audited =
     if not (audited.sum.errors == 0) then BAD_INPUT
     else if audited.is_silent then BAD_INPUT
-    else if not (audited.judged.terminal || audited.judged.units) then BAD_INPUT
+    else if is_nothing audited.judged then BAD_INPUT
     else if audited.sum.findings == 0 then SUCCESS
     else NOT_A_RUN
 

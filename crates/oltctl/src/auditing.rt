@@ -7,7 +7,7 @@ use crate::progress::Counted;
 use crate::reporting::{refuse_option, report, report_silence};
 use gp_audit::{AuditOptions, Auditor, FindingChoice, Judged, audit_log};
 use gp_command_line::Audit;
-use gp_finding::AuditSum;
+use gp_finding::{AuditSum, RULES, rule_name};
 use gp_flow::LinesFault;
 use gp_options::{audit_options, tells_some};
 use gp_report::{BAD_INPUT, NOT_A_RUN, SUCCESS, input_report};
@@ -93,18 +93,33 @@ fn tells_of_side(options: &AuditOptions, terminal: bool, units: bool) -> bool {
 
 /// Says of which side no rule was judged, though one is told that is judged there.
 fn tell_silent_side<R: Eprint>(rt: &R, options: &AuditOptions, judged: &Judged) {
-    if !judged.terminal && tells_of_side(options, true, false) {
+    if judged.terminal.is_empty() && tells_of_side(options, true, false) {
         let _ = eprintln!(rt; "oltctl: nothing of the terminal was judged");
     }
-    if !judged.units && tells_of_side(options, false, true) {
+    if judged.units.is_empty() && tells_of_side(options, false, true) {
         let _ = eprintln!(rt; "oltctl: nothing of the units was judged");
     }
 }
 
+/// Says which rules were not judged, of those that are told and judged on a side of which others were.
+fn tell_missed<R: Eprint>(rt: &R, options: &AuditOptions, judged: &Judged) {
+    let mut before = "oltctl: nothing was heard that these rules judge:";
+    for rule in RULES.iter() {
+        if judged.misses(&options.told, *rule) {
+            let name = rule_name(*rule);
+            let _ = eprint!(rt; "{before} {name}");
+            before = "";
+        }
+    }
+    if before.is_empty() {
+        let _ = eprintln!(rt; "");
+    }
+}
+
 /// Says what was not judged, though a rule was: garbled codes where they are not told, a side of which nothing is, and
-/// who holds an ONU-ID where none is known.
+/// other rules.
 fn tell_unjudged<R: Eprint>(rt: &R, options: &AuditOptions, judged: &Judged) {
-    if !judged.terminal && !judged.units {
+    if judged.is_nothing() {
         return tell_none_judged(rt, judged);
     }
     if judged.garbled != 0 {
@@ -112,9 +127,7 @@ fn tell_unjudged<R: Eprint>(rt: &R, options: &AuditOptions, judged: &Judged) {
         let _ = eprintln!(rt; "oltctl: codes garbled under this mask, not judged: {codes}");
     }
     tell_silent_side(rt, options, judged);
-    if options.midway && options.told.tells_of_holders() && !judged.holders {
-        let _ = eprintln!(rt; "oltctl: no rule about who holds an ONU-ID was judged (--midway)");
-    }
+    tell_missed(rt, options, judged);
 }
 
 /// Says that a log had lines that were none, nothing that was heard, or something that was not judged, and answers the
@@ -136,7 +149,7 @@ fn end_audited<R: Eprint>(rt: &R, options: &AuditOptions, audited: &Audited) -> 
     if !audited.is_silent {
         tell_unjudged(rt, options, &audited.judged);
     }
-    if errors != 0 || (!audited.judged.terminal && !audited.judged.units) {
+    if errors != 0 || audited.judged.is_nothing() {
         BAD_INPUT
     } else if audited.sum.findings == 0 {
         SUCCESS
