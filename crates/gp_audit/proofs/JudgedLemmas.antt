@@ -4,7 +4,7 @@ use Rattle.std.specs.Prelude.{slice_index_or}
 use Rattle.std.specs.List.{fold, list_all, list_any}
 use Rattle.std.proofs.lemmas.Bool.{cases_Bool, false≢true}
 use Rattle.std.proofs.lemmas.Bool.Decides.{Decides-eqb}
-use Rattle.std.proofs.lemmas.List.{get_or-set_same, get_or-set_other, length-set, set-get_or}
+use Rattle.std.proofs.lemmas.List.{get_or-set_same, get_or-set_other, length-set}
 use Rattle.gp_ploam.specs.declared.message.Down.{Down}
 use Rattle.gp_ploam.specs.declared.message.Down.TheVariants as down
 use Rattle.gp_ploam.specs.declared.message.Up.{Up}
@@ -42,11 +42,6 @@ or_or true b c = refl
 or_or false b c = refl
 
 -- ---- one rule
-
--- a rule that is in a set is put in: the set stays as it is
-pub put_again : (set : RuleSet) (r : Rule) → contains set r ≡ true → with_rule true set r ≡ set
-put_again set r is_in =
-    (λ (i : _). record { places = (ap (λ (b : Bool). slice_set set.places (rule_place r) b) (sym is_in) ∙ set-get_or set.places (rule_place r) false) i })
 
 abbrev is : Rule → Rule → Bool
 is r own = rule_place own == rule_place r
@@ -153,87 +148,87 @@ of_code rule.Acknowledge = inr refl
 of_code rule.Drift = inr refl
 
 of_message : (watch : Watch) (message : Down) (r : Rule) → (list_any (is r) message_rules ≡ true) ⊎ ((judges_garbled r ≡ false) × (message_judges watch message r ≡ false))
-of_message watch message rule.Garbled = inl refl
-of_message watch message rule.Copies = inl refl
-of_message watch message rule.Range = inl refl
-of_message watch message rule.Barred = inl refl
-of_message watch message rule.Unasked = inl refl
-of_message watch message rule.Taken = inl refl
-of_message watch message rule.Renumbered = inl refl
-of_message watch message rule.Nobody = inl refl
-of_message watch message rule.Unranged = inl refl
-of_message watch message rule.Delay = inl refl
-of_message watch message rule.Early = inl refl
-of_message watch message rule.Shared = inl refl
-of_message watch message rule.NotHeld = inl refl
-of_message watch message rule.Grant = inr (refl, refl)
-of_message watch message rule.Disabled = inr (refl, refl)
-of_message watch message rule.Anew = inr (refl, refl)
-of_message watch message rule.Number = inr (refl, refl)
-of_message watch message rule.Acknowledge = inr (refl, refl)
-of_message watch message rule.Drift = inr (refl, refl)
+of_message _ _ rule.Garbled = inl refl
+of_message _ _ rule.Copies = inl refl
+of_message _ _ rule.Range = inl refl
+of_message _ _ rule.Barred = inl refl
+of_message _ _ rule.Unasked = inl refl
+of_message _ _ rule.Taken = inl refl
+of_message _ _ rule.Renumbered = inl refl
+of_message _ _ rule.Nobody = inl refl
+of_message _ _ rule.Unranged = inl refl
+of_message _ _ rule.Delay = inl refl
+of_message _ _ rule.Early = inl refl
+of_message _ _ rule.Shared = inl refl
+of_message _ _ rule.NotHeld = inl refl
+of_message _ _ rule.Grant = inr (refl, refl)
+of_message _ _ rule.Disabled = inr (refl, refl)
+of_message _ _ rule.Anew = inr (refl, refl)
+of_message _ _ rule.Number = inr (refl, refl)
+of_message _ _ rule.Acknowledge = inr (refl, refl)
+of_message _ _ rule.Drift = inr (refl, refl)
 
 of_answer : (watch : Watch) (message : Up) (delay : Option ℕ) (r : Rule) → May unit_rules r (answer_judges watch message delay r)
-of_answer watch message delay rule.Garbled = inl refl
-of_answer watch message delay rule.Copies = inr refl
-of_answer watch message delay rule.Range = inr refl
-of_answer watch message delay rule.Barred = inr refl
-of_answer watch message delay rule.Unasked = inr refl
-of_answer watch message delay rule.Taken = inr refl
-of_answer watch message delay rule.Renumbered = inr refl
-of_answer watch message delay rule.Nobody = inr refl
-of_answer watch message delay rule.Unranged = inr refl
-of_answer watch message delay rule.Delay = inr refl
-of_answer watch message delay rule.Early = inr refl
-of_answer watch message delay rule.Shared = inr refl
-of_answer watch message delay rule.NotHeld = inr refl
-of_answer watch message delay rule.Grant = inr refl
-of_answer watch message delay rule.Disabled = inl refl
-of_answer watch message delay rule.Anew = inl refl
-of_answer watch message delay rule.Number = inl refl
-of_answer watch message delay rule.Acknowledge = inl refl
-of_answer watch message delay rule.Drift = inl refl
+of_answer _ _ _ rule.Garbled = inl refl
+of_answer _ _ _ rule.Copies = inr refl
+of_answer _ _ _ rule.Range = inr refl
+of_answer _ _ _ rule.Barred = inr refl
+of_answer _ _ _ rule.Unasked = inr refl
+of_answer _ _ _ rule.Taken = inr refl
+of_answer _ _ _ rule.Renumbered = inr refl
+of_answer _ _ _ rule.Nobody = inr refl
+of_answer _ _ _ rule.Unranged = inr refl
+of_answer _ _ _ rule.Delay = inr refl
+of_answer _ _ _ rule.Early = inr refl
+of_answer _ _ _ rule.Shared = inr refl
+of_answer _ _ _ rule.NotHeld = inr refl
+of_answer _ _ _ rule.Grant = inr refl
+of_answer _ _ _ rule.Disabled = inl refl
+of_answer _ _ _ rule.Anew = inl refl
+of_answer _ _ _ rule.Number = inl refl
+of_answer _ _ _ rule.Acknowledge = inl refl
+of_answer _ _ _ rule.Drift = inl refl
 
 of_grant : (watch : Watch) (grant : Grant) (r : Rule) → May grant_rules r (grant_judges watch grant r)
-of_grant watch grants.Search r = inr refl
-of_grant watch (grants.Range onu) rule.Garbled = inr refl
-of_grant watch (grants.Range onu) rule.Copies = inr refl
-of_grant watch (grants.Range onu) rule.Range = inr refl
-of_grant watch (grants.Range onu) rule.Barred = inr refl
-of_grant watch (grants.Range onu) rule.Unasked = inr refl
-of_grant watch (grants.Range onu) rule.Taken = inr refl
-of_grant watch (grants.Range onu) rule.Renumbered = inr refl
-of_grant watch (grants.Range onu) rule.Nobody = inr refl
-of_grant watch (grants.Range onu) rule.Unranged = inr refl
-of_grant watch (grants.Range onu) rule.Delay = inr refl
-of_grant watch (grants.Range onu) rule.Early = inr refl
-of_grant watch (grants.Range onu) rule.Shared = inr refl
-of_grant watch (grants.Range onu) rule.NotHeld = inr refl
-of_grant watch (grants.Range onu) rule.Grant = inl refl
-of_grant watch (grants.Range onu) rule.Disabled = inr refl
-of_grant watch (grants.Range onu) rule.Anew = inr refl
-of_grant watch (grants.Range onu) rule.Number = inr refl
-of_grant watch (grants.Range onu) rule.Acknowledge = inr refl
-of_grant watch (grants.Range onu) rule.Drift = inr refl
-of_grant watch (grants.Poll onu) rule.Garbled = inr refl
-of_grant watch (grants.Poll onu) rule.Copies = inr refl
-of_grant watch (grants.Poll onu) rule.Range = inr refl
-of_grant watch (grants.Poll onu) rule.Barred = inr refl
-of_grant watch (grants.Poll onu) rule.Unasked = inr refl
-of_grant watch (grants.Poll onu) rule.Taken = inr refl
-of_grant watch (grants.Poll onu) rule.Renumbered = inr refl
-of_grant watch (grants.Poll onu) rule.Nobody = inr refl
-of_grant watch (grants.Poll onu) rule.Unranged = inr refl
-of_grant watch (grants.Poll onu) rule.Delay = inr refl
-of_grant watch (grants.Poll onu) rule.Early = inr refl
-of_grant watch (grants.Poll onu) rule.Shared = inr refl
-of_grant watch (grants.Poll onu) rule.NotHeld = inr refl
-of_grant watch (grants.Poll onu) rule.Grant = inl refl
-of_grant watch (grants.Poll onu) rule.Disabled = inr refl
-of_grant watch (grants.Poll onu) rule.Anew = inr refl
-of_grant watch (grants.Poll onu) rule.Number = inr refl
-of_grant watch (grants.Poll onu) rule.Acknowledge = inr refl
-of_grant watch (grants.Poll onu) rule.Drift = inr refl
+of_grant _ grants.Search _ = inr refl
+of_grant _ (grants.Range _) rule.Garbled = inr refl
+of_grant _ (grants.Range _) rule.Copies = inr refl
+of_grant _ (grants.Range _) rule.Range = inr refl
+of_grant _ (grants.Range _) rule.Barred = inr refl
+of_grant _ (grants.Range _) rule.Unasked = inr refl
+of_grant _ (grants.Range _) rule.Taken = inr refl
+of_grant _ (grants.Range _) rule.Renumbered = inr refl
+of_grant _ (grants.Range _) rule.Nobody = inr refl
+of_grant _ (grants.Range _) rule.Unranged = inr refl
+of_grant _ (grants.Range _) rule.Delay = inr refl
+of_grant _ (grants.Range _) rule.Early = inr refl
+of_grant _ (grants.Range _) rule.Shared = inr refl
+of_grant _ (grants.Range _) rule.NotHeld = inr refl
+of_grant _ (grants.Range _) rule.Grant = inl refl
+of_grant _ (grants.Range _) rule.Disabled = inr refl
+of_grant _ (grants.Range _) rule.Anew = inr refl
+of_grant _ (grants.Range _) rule.Number = inr refl
+of_grant _ (grants.Range _) rule.Acknowledge = inr refl
+of_grant _ (grants.Range _) rule.Drift = inr refl
+of_grant _ (grants.Poll _) rule.Garbled = inr refl
+of_grant _ (grants.Poll _) rule.Copies = inr refl
+of_grant _ (grants.Poll _) rule.Range = inr refl
+of_grant _ (grants.Poll _) rule.Barred = inr refl
+of_grant _ (grants.Poll _) rule.Unasked = inr refl
+of_grant _ (grants.Poll _) rule.Taken = inr refl
+of_grant _ (grants.Poll _) rule.Renumbered = inr refl
+of_grant _ (grants.Poll _) rule.Nobody = inr refl
+of_grant _ (grants.Poll _) rule.Unranged = inr refl
+of_grant _ (grants.Poll _) rule.Delay = inr refl
+of_grant _ (grants.Poll _) rule.Early = inr refl
+of_grant _ (grants.Poll _) rule.Shared = inr refl
+of_grant _ (grants.Poll _) rule.NotHeld = inr refl
+of_grant _ (grants.Poll _) rule.Grant = inl refl
+of_grant _ (grants.Poll _) rule.Disabled = inr refl
+of_grant _ (grants.Poll _) rule.Anew = inr refl
+of_grant _ (grants.Poll _) rule.Number = inr refl
+of_grant _ (grants.Poll _) rule.Acknowledge = inr refl
+of_grant _ (grants.Poll _) rule.Drift = inr refl
 
 -- a copy, by whether it tells its message
 by_copy : (is_told garbled judged : Bool) (r : Rule) → (list_any (is r) message_rules ≡ true) ⊎ ((garbled ≡ false) × (judged ≡ false)) → May code_rules r garbled

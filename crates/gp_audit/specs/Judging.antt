@@ -95,7 +95,7 @@ abbrev pub of_both : RuleSet → RuleSet → RuleSet
 of_both one other = joined_by (contains other) all_rules one
 
 -- of two ports
-abbrev pub judged_on_both : Judged → Judged → Judged
+unfoldable pub judged_on_both : Judged → Judged → Judged
 judged_on_both one other =
     record {
       terminal = of_both one.terminal other.terminal;

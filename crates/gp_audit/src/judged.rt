@@ -100,6 +100,25 @@ fn is_new(watch: &PortWatch, message: &Down) -> bool
     !watch.passes_over(message) && watch.tells(message)
 }
 
+/// Gives a set with the rules that are told and judged of a message down, which something heard is: of a copy that
+/// doesn't tell it only that its check octet is right.
+fn with_copy(
+    judged: &RuleSet,
+    told: &RuleSet,
+    watch: &PortWatch,
+    heard: &Heard,
+    message: &Down,
+) -> RuleSet
+    ensures { result ≡ spec.joined_by (λ rule. contains told.now rule && judges watch.now (heard_of heard.now) rule)
+        (if spec.is_new watch.now message.now then spec.message_rules else spec.code_rules) judged.now }
+{
+    if is_new(watch, message) {
+        with_these(judged, &MESSAGE_RULES, told, watch, heard)
+    } else {
+        with_these(judged, &CODE_RULES, told, watch, heard)
+    }
+}
+
 /// Gives a set with the rules that are told and judged of something heard, by what is known before it. Only those are
 /// looked at that may be.
 fn with_heard(judged: &RuleSet, told: &RuleSet, watch: &PortWatch, heard: &Heard) -> RuleSet
@@ -110,13 +129,7 @@ fn with_heard(judged: &RuleSet, told: &RuleSet, watch: &PortWatch, heard: &Heard
         Heard::Down(None) | Heard::Down(Some(Down::NoMessage)) => {
             with_these(judged, &CODE_RULES, told, watch, heard)
         }
-        Heard::Down(Some(message)) => {
-            if is_new(watch, message) {
-                with_these(judged, &MESSAGE_RULES, told, watch, heard)
-            } else {
-                with_these(judged, &CODE_RULES, told, watch, heard)
-            }
-        }
+        Heard::Down(Some(message)) => with_copy(judged, told, watch, heard, message),
         Heard::Up { message: None, .. } => with_these(judged, &CODE_RULES, told, watch, heard),
         Heard::Up {
             message: Some(_), ..

@@ -56,6 +56,15 @@ fn open(alloc: Global, midway: bool) -> Result<Vec<Port>, AllocError>
     Ok(ports)
 }
 
+/// Gives what was judged on all of these.
+fn judged_on(ports: &[Port]) -> Judged
+    ensures { result ≡ judged_on ports.now }
+{
+    ports
+        .iter()
+        .fold(Judged::none(), |sum, port| sum.with(port.judged()))
+}
+
 impl Ports {
     /// Nothing was heard on any of them.
     pub(crate) fn begin(alloc: Global, midway: bool) -> Result<Ports, AllocError>
@@ -77,9 +86,7 @@ impl Ports {
     pub(crate) fn judged(&self) -> Judged
         ensures { result ≡ judged_on self.now }
     {
-        self.ports
-            .iter()
-            .fold(Judged::none(), |sum, port| sum.with(port.judged()))
+        judged_on(&self.ports)
     }
 
     /// Tells what was counted of the units of each port on which something was heard.

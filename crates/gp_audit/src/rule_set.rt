@@ -1,5 +1,6 @@
 //! Some of the rules, as a set: which findings are told.
 ghost use Rattle.std.specs.Prelude.{◌≡◌, ◌<◌, true, false};
+ghost use Rattle.std.specs.List.{list_any};
 ghost use Rattle.gp_observer.specs.declared.rule.Rule.{Rule as AnyRule};
 ghost use Rattle.gp_audit.specs.RuleSet.{contains, each_rule, is_empty, rule_place, with_rule};
 
@@ -21,6 +22,13 @@ fn rule_place(rule: Rule) -> usize
     ensures within { result < 19 }
 {
     rule as usize
+}
+
+/// Tells whether a rule is among them, by whether each is.
+fn has_any(places: &[bool]) -> bool
+    ensures { result ≡ list_any (λ is_in. is_in) places.now }
+{
+    places.iter().any(|is_in| *is_in)
 }
 
 impl RuleSet {
@@ -48,7 +56,7 @@ impl RuleSet {
     pub fn is_empty(&self) -> bool
         ensures { result ≡ is_empty self.now }
     {
-        !self.places.iter().any(|is_in| *is_in)
+        !has_any(&self.places)
     }
 
     /// Tells whether a rule is among them.
