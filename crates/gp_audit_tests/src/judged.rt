@@ -5,6 +5,7 @@ use gp_flow::LinesFault;
 use gp_observer::Rule;
 use gp_stream::{Sink, Source};
 use std::alloc::{AllocError, Global};
+use std::process::Abort;
 use std::test::Fail;
 
 /// A unit asks, is assigned and ranged, and answers with its delay; then comes a garbled code of each side.
@@ -123,7 +124,7 @@ const LETTERS: [(Rule, char); 19] = [
 /// Checks which rules were judged of the terminal and of units, by their letters, and how many garbled codes were left
 /// out.
 fn check_judged(
-    rt: HostRuntime,
+    rt: &(impl AllocGlobal + Abort),
     found: &Judged,
     terminal: &str,
     units: &str,
@@ -140,7 +141,7 @@ fn check_judged(
 fn all_of_a_log(rt: HostRuntime) -> Result<(), Fail> {
     let options = plain_options();
     let all = judged(rt.alloc(), &options, RANGED)?;
-    check_judged(rt, &all, "gcrbutenadG", "gDANF", 0)?;
+    check_judged(&rt, &all, "gcrbutenadG", "gDANF", 0)?;
     assert_eq!(rt; missed(rt.alloc(), &options.told, &all)?.as_str(), "yshK");
     Ok(())
 }
@@ -149,7 +150,7 @@ fn all_of_a_log(rt: HostRuntime) -> Result<(), Fail> {
 fn without_delays(rt: HostRuntime) -> Result<(), Fail> {
     let options = plain_options();
     let unmeasured = judged(rt.alloc(), &options, UNMEASURED)?;
-    check_judged(rt, &unmeasured, "gcrbutena", "gDAN", 0)?;
+    check_judged(&rt, &unmeasured, "gcrbutena", "gDAN", 0)?;
     assert_eq!(rt; missed(rt.alloc(), &options.told, &unmeasured)?.as_str(), "dyshGKF");
     Ok(())
 }
@@ -160,12 +161,12 @@ fn one_side_of_a_log(rt: HostRuntime) -> Result<(), Fail> {
     options.told.units = false;
     options.told.rules.remove(Rule::Garbled);
     let terminal = judged(rt.alloc(), &options, RANGED)?;
-    check_judged(rt, &terminal, "crbutenadG", "", 1)?;
+    check_judged(&rt, &terminal, "crbutenadG", "", 1)?;
     assert_eq!(rt; missed(rt.alloc(), &options.told, &terminal)?.as_str(), "ysh");
     options.told.units = true;
     options.told.terminal = false;
     let silent = judged(rt.alloc(), &options, "3 down Assign_ONU-ID 3 ABCD00000001")?;
-    check_judged(rt, &silent, "", "", 0)?;
+    check_judged(&rt, &silent, "", "", 0)?;
     assert_eq!(rt; missed(rt.alloc(), &options.told, &silent)?.as_str(), "");
     Ok(())
 }
@@ -174,11 +175,11 @@ fn one_side_of_a_log(rt: HostRuntime) -> Result<(), Fail> {
 fn by_one_rule(rt: HostRuntime) -> Result<(), Fail> {
     let alloc = rt.alloc();
     let garbled = judged(alloc, &alone(Rule::Garbled, false), RANGED)?;
-    check_judged(rt, &garbled, "g", "g", 0)?;
+    check_judged(&rt, &garbled, "g", "g", 0)?;
     let copies = judged(alloc, &alone(Rule::Copies, false), RANGED)?;
-    check_judged(rt, &copies, "c", "", 2)?;
+    check_judged(&rt, &copies, "c", "", 2)?;
     let drift = judged(alloc, &alone(Rule::Drift, false), RANGED)?;
-    check_judged(rt, &drift, "", "F", 2)?;
+    check_judged(&rt, &drift, "", "F", 2)?;
     Ok(())
 }
 
@@ -187,7 +188,7 @@ fn garbled_of_one_side(rt: HostRuntime) -> Result<(), Fail> {
     let options = plain_options();
     let granted = "1 grant poll 3\n1 up No_message 3 @1001";
     let found = judged(rt.alloc(), &options, granted)?;
-    check_judged(rt, &found, "G", "gN", 0)?;
+    check_judged(&rt, &found, "G", "gN", 0)?;
     assert_eq!(rt; missed(rt.alloc(), &options.told, &found)?.as_str(), "gcrbutenadyshDAKF");
     Ok(())
 }
@@ -240,10 +241,10 @@ fn who_holds_a_number_midway(rt: HostRuntime) -> Result<(), Fail> {
     options.midway = true;
     let unknown = "1 grant poll 3\n1 up No_message 3 @1001\n3 down Deactivate_ONU-ID 3";
     let judged_of_unknown = judged(rt.alloc(), &options, unknown)?;
-    check_judged(rt, &judged_of_unknown, "g", "g", 0)?;
+    check_judged(&rt, &judged_of_unknown, "g", "g", 0)?;
     let known = "3 down POPUP 255\n3 down Assign_ONU-ID 3 ABCD00000001\n1 grant range 3";
     let judged_of_known = judged(rt.alloc(), &options, known)?;
-    check_judged(rt, &judged_of_known, "gcrG", "", 0)?;
+    check_judged(&rt, &judged_of_known, "grG", "", 0)?;
     Ok(())
 }
 
@@ -254,6 +255,6 @@ fn two_ports(rt: HostRuntime) -> Result<(), Fail> {
     let mut options = plain_options();
     options.told.rules.remove(Rule::Garbled);
     let found = judged_log(rt.alloc(), &options, log.as_slice())?;
-    check_judged(rt, &found, "G", "", 2)?;
+    check_judged(&rt, &found, "G", "", 2)?;
     Ok(())
 }
