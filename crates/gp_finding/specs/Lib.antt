@@ -1,6 +1,7 @@
 pub mod Names
 pub mod Piece
 pub mod Hearing
+pub mod Codes
 pub mod Words
 pub mod Why
 pub mod Reason

@@ -2,11 +2,11 @@
 //! on a line of its own.
 //!
 //! Promise: what is told is exactly what the definitions say, and no part of what stood before is lost where memory is
-//! refused (`push_finding`, `push_error`, `push_sum`); a code is heard as it is read (`heard_in`); names of rules are
-//! read back (`rule_name`, `rule_named`).
+//! refused (`push_finding`, `push_error`, `push_sum`); a code is heard as it is read (`heard_in`), and codes are counted,
+//! and those of them that are garbled (`Codes::hear`); names of rules are read back (`rule_name`, `rule_named`).
 //!
 //! - `names.rt`: the names of rules, and whose rule each is. `hearing.rt`: `heard_in`, what is heard where something is
-//!   said.
+//!   said. `codes.rt`: `Codes`, how many codes came, and how many of them are garbled.
 //! - `words.rt`: what is told of what was said: its words, and the unit that it names. `why.rt`: why a rule is broken;
 //!   `reason.rt`: the same as text.
 //! - `text.rt`: what is told as text; `object.rt`: as an object; `push.rt`: in one form or the other.
@@ -18,6 +18,7 @@
 //! `specs/Text.antt`, an object in `specs/Object.antt`.
 #![tactic(auto)]
 
+mod codes;
 mod error;
 mod hearing;
 mod laws;
@@ -30,6 +31,7 @@ mod text;
 mod why;
 mod words;
 
+pub use codes::Codes;
 pub use error::{AuditSum, LineError, push_error, push_sum};
 pub use hearing::heard_in;
 pub use laws::{names_are_read_back, rules_are_listed};
