@@ -132,7 +132,8 @@ fn with_heard(judged: &RuleSet, told: &RuleSet, watch: &PortWatch, heard: &Heard
         Heard::Down(Some(message)) => with_copy(judged, told, watch, heard, message),
         Heard::Up { message: None, .. } => with_these(judged, &CODE_RULES, told, watch, heard),
         Heard::Up {
-            message: Some(_), ..
+            message: Some(_),
+            ..
         } => with_these(judged, &UNIT_RULES, told, watch, heard),
         Heard::Grant(_) => with_these(judged, &GRANT_RULES, told, watch, heard),
     }
@@ -164,12 +165,7 @@ fn is_of_units(rule: Rule) -> bool
 {
     matches!(
         rule,
-        Rule::Garbled
-            | Rule::Disabled
-            | Rule::Anew
-            | Rule::Number
-            | Rule::Acknowledge
-            | Rule::Drift
+        Rule::Garbled | Rule::Disabled | Rule::Anew | Rule::Number | Rule::Acknowledge | Rule::Drift
     )
 }
 

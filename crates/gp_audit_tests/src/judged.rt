@@ -151,7 +151,10 @@ fn without_delays(rt: HostRuntime) -> Result<(), Fail> {
     let options = plain_options();
     let unmeasured = judged(rt.alloc(), &options, UNMEASURED)?;
     check_judged(&rt, &unmeasured, "gcrbutena", "gDAN", 0)?;
-    assert_eq!(rt; missed(rt.alloc(), &options.told, &unmeasured)?.as_str(), "dyshGKF");
+    assert_eq!(rt;
+        missed(rt.alloc(), &options.told, &unmeasured)?.as_str(),
+        "dyshGKF"
+    );
     Ok(())
 }
 
@@ -162,7 +165,10 @@ fn one_side_of_a_log(rt: HostRuntime) -> Result<(), Fail> {
     options.told.rules.remove(Rule::Garbled);
     let terminal = judged(rt.alloc(), &options, RANGED)?;
     check_judged(&rt, &terminal, "crbutenadG", "", 1)?;
-    assert_eq!(rt; missed(rt.alloc(), &options.told, &terminal)?.as_str(), "ysh");
+    assert_eq!(rt;
+        missed(rt.alloc(), &options.told, &terminal)?.as_str(),
+        "ysh"
+    );
     options.told.units = true;
     options.told.terminal = false;
     let silent = judged(rt.alloc(), &options, "3 down Assign_ONU-ID 3 ABCD00000001")?;
@@ -189,7 +195,10 @@ fn garbled_of_one_side(rt: HostRuntime) -> Result<(), Fail> {
     let granted = "1 grant poll 3\n1 up No_message 3 @1001";
     let found = judged(rt.alloc(), &options, granted)?;
     check_judged(&rt, &found, "G", "gN", 0)?;
-    assert_eq!(rt; missed(rt.alloc(), &options.told, &found)?.as_str(), "gcrbutenadyshDAKF");
+    assert_eq!(rt;
+        missed(rt.alloc(), &options.told, &found)?.as_str(),
+        "gcrbutenadyshDAKF"
+    );
     Ok(())
 }
 
