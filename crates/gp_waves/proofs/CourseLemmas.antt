@@ -9,6 +9,9 @@ use Rattle.gp_explain.specs.declared.fault.NoLine.TheVariants.{NotALine, TooLong
 use Rattle.gp_log.specs.Line.{Reads, says_nothing}
 use Rattle.gp_log.specs.declared.line.LogLine.{LogLine}
 use Rattle.gp_waves.specs.Writing.{Grows, Written}
+use Rattle.gp_ploam.specs.declared.check.Mask.{Mask}
+use Rattle.gp_finding.specs.declared.codes.Codes.{Codes}
+use Rattle.gp_finding.specs.Codes.{CodesLead, codes_after}
 use Rattle.gp_times.specs.Lines.{AreRead, IsRead, IsUnread, Lead}
 use Rattle.gp_times.specs.Times.{TimesState, times_after}
 use Rattle.gp_waves.specs.Dumping.{Dumping, SaysFrom, SaysToText, WavesState, ended_by}
@@ -28,6 +31,7 @@ pub record Runs (all : List (Option (List ℕ))) (said : List ℕ) (from to : Wa
   pub lines : to.lines ≡ from.lines + length texts
   pub heard : to.heard ≡ (from.heard || told)
   pub lead : Lead texts from.times to.times
+  pub codes : CodesLead from.mask texts from.codes to.codes
 
 -- why a line ends it
 abbrev pub Fails : NoLine → Option (List ℕ) → Type 0
@@ -79,9 +83,9 @@ parted a b c said first rest p parts q = subst (λ (l : List ℕ). Grows a l c) 
 -- one line more at the head
 onto : (ended : Option NoLine) (a b c : WavesState) (text : List ℕ) (ls : List (Option (List ℕ))) (said first rest : List ℕ) (line : LogLine)
     → Reads text (Ok line) → b.lines ≡ a.lines + 1 → b.heard ≡ (a.heard || not (says_nothing line))
-    → b.times ≡ times_after line a.times → Grows a.written first b.written → said ≡ first ++ rest
-    → Course ended ls rest b c → Course ended (Some text ∷ ls) said a c
-onto None a b c text ls said first rest line reads one heard timed grows parts h = record {
+    → b.times ≡ times_after line a.times → b.mask ≡ a.mask → b.codes ≡ codes_after a.mask line a.codes
+    → Grows a.written first b.written → said ≡ first ++ rest → Course ended ls rest b c → Course ended (Some text ∷ ls) said a c
+onto None a b c text ls said first rest line reads one heard timed masked coded grows parts h = record {
   texts = text ∷ h.texts;
   told = not (says_nothing line) || h.told;
   all_is = ap (λ (l : List (Option (List ℕ))). Some text ∷ l) h.all_is;
@@ -90,8 +94,14 @@ onto None a b c text ls said first rest line reads one heard timed grows parts h
   lines = let many = h.lines in omega (arith, many, one);
   heard = h.heard ∙ ap (λ (t : Bool). t || h.told) heard ∙ or_assoc a.heard (not (says_nothing line)) h.told;
   lead = (line, reads, subst (λ (t : TimesState). Lead h.texts t c.times) timed h.lead);
+  codes = (
+    line,
+    reads,
+    subst (λ (m : Mask). CodesLead m h.texts (codes_after a.mask line a.codes) c.codes) masked
+        (subst (λ (s : Codes). CodesLead b.mask h.texts s c.codes) coded h.codes),
+  );
 }
-onto (Some why) a b c text ls said first rest line reads one heard timed grows parts h = record {
+onto (Some why) a b c text ls said first rest line reads one heard timed masked coded grows parts h = record {
   before = text ∷ h.before;
   line = h.line;
   rest = h.rest;
@@ -112,7 +122,7 @@ text_course text ls old next new said first rest none (inl told) parts h more =
     let is = told.3 in
     let before : Course new.ended ls rest next new = more (ap (λ (s : WavesState). s.ended) is ∙ none) in
     onto new.ended old next new text ls said first rest told.0 told.1 (ap (λ (s : WavesState). s.lines) is) (ap (λ (s : WavesState). s.heard) is)
-    (ap (λ (s : WavesState). s.times) is) told.2 parts before
+    (ap (λ (s : WavesState). s.times) is) (ap (λ (s : WavesState). s.mask) is) (ap (λ (s : WavesState). s.codes) is) told.2 parts before
 text_course text ls old next new said first rest none (inr none_of) parts h more =
     halted (Some text) ls old next new said first rest NotALine none_of.1 none_of.2 (refl, none_of.0) parts h
 
@@ -121,7 +131,17 @@ pub course : (ls : List (Option (List ℕ))) (old new : WavesState) (said : List
 course [] old new said none h =
     let grown : Grows old.written said old.written = subst (λ (l : List ℕ). Grows old.written l old.written) (sym h.0) (grows_none old.written) in
     let there : Course None [] said old old =
-    record { texts = []; told = false; all_is = refl; read = refl; grown = grown; lines = none_done old.lines; heard = sym (or-false old.heard); lead = refl } in
+    record {
+      texts = [];
+      told = false;
+      all_is = refl;
+      read = refl;
+      grown = grown;
+      lines = none_done old.lines;
+      heard = sym (or-false old.heard);
+      lead = refl;
+      codes = refl;
+    } in
     let here : Course old.ended [] said old old = subst (λ (e : Option NoLine). Course e [] said old old) (sym none) there in
     subst (λ (s : WavesState). Course s.ended [] said old s) (sym h.1) here
 course (None ∷ ls) old new said none h =

@@ -23,6 +23,9 @@ use Rattle.gp_explain.specs.declared.fault.NoLine.{NoLine}
 use Rattle.gp_dump.specs.Dump.{DumpState}
 use Rattle.gp_dump.specs.Head.{head_text}
 use Rattle.gp_dump.proofs.PartLemmas.{continues_none}
+use Rattle.gp_ploam.specs.declared.check.Mask.{Mask}
+use Rattle.gp_finding.specs.declared.codes.Codes.{Codes}
+use Rattle.gp_finding.specs.Codes.{CodesLead, no_codes}
 use Rattle.gp_waves.specs.declared.running.WavesSum.{WavesSum}
 use Rattle.gp_times.specs.declared.frames.Frames.{Frames}
 use Rattle.gp_times.specs.Lines.{AreRead, IsUnread, Lead}
@@ -109,16 +112,18 @@ some_dump old new text shut p =
     some_dump_as new.begun old.dump new.dump text (subst (λ (t : Bool). GrowsAs t new.begun old.dump text new.dump) shut p)
 
 -- what is known where it begins
-pub record IsOpened (state : WavesState) : Type 0 where
+pub record IsOpened (mask : Mask) (state : WavesState) : Type 0 where
   pub lines : state.lines ≡ 0
   pub heard : state.heard ≡ false
   pub ended : state.ended ≡ None
   pub times : state.times ≡ times_begun
+  pub mask_is : state.mask ≡ mask
+  pub codes : state.codes ≡ no_codes
   pub begun : state.written.begun ≡ false
 
-started : (old new : WavesState) (ls : List (Option (List ℕ))) (said : List ℕ) → IsOpened old → DoesAll Dumping old ls said new
+started : (mask : Mask) (old new : WavesState) (ls : List (Option (List ℕ))) (said : List ℕ) → IsOpened mask old → DoesAll Dumping old ls said new
     → Course new.ended ls said old new
-started old new ls said o h = course ls old new said o.ended h
+started mask old new ls said o h = course ls old new said o.ended h
 
 course_grows : (ended : Option NoLine) (ls : List (Option (List ℕ))) (said : List ℕ) (from to : WavesState) → Course ended ls said from to
     → Grows from.written said to.written
@@ -127,9 +132,9 @@ course_grows (Some why) ls said from to c = c.grown
 
 -- ---- behind the last line
 
-module _ {R W : Type 0} (frames : Frames) (from to : SourceState R) (before mid after : SinkState W) where
+module _ {R W : Type 0} (frames : Frames) (mask : Mask) (from to : SourceState R) (before mid after : SinkState W) where
   -- the rest was written behind what was said to lines
-  dumped : (old state last : WavesState) (said text : List ℕ) → IsOpened old → Grows old.written said state.written → IsRest state last text
+  dumped : (old state last : WavesState) (said text : List ℕ) → IsOpened mask old → Grows old.written said state.written → IsRest state last text
       → Appends before.held mid.held (before.gathered ++ said) → KeepsNothing mid → WritesWhole {T = Unit {0}} {E = WriteStopped} mid after text (Ok (tt {0}))
       → GetsDump before after
   dumped old state last said text o grown rest written kept w =
@@ -143,7 +148,7 @@ module _ {R W : Type 0} (frames : Frames) (from to : SourceState R) (before mid 
       }
 
   -- or a part of it
-  begun_rest : (old state last : WavesState) (bytes said text : List ℕ) (stopped : WriteStopped) → IsOpened old → Grows old.written said state.written → IsRest state last text
+  begun_rest : (old state last : WavesState) (bytes said text : List ℕ) (stopped : WriteStopped) → IsOpened mask old → Grows old.written said state.written → IsRest state last text
       → Consumes from.remaining to.remaining bytes → Appends before.held mid.held (before.gathered ++ said) → KeepsNothing mid
       → WritesWhole {T = Unit {0}} mid after text (Err stopped) → IsBegun from to before after
   begun_rest old state last bytes said text stopped o grown rest came written kept w =
@@ -162,7 +167,7 @@ module _ {R W : Type 0} (frames : Frames) (from to : SourceState R) (before mid 
       }
 
   -- or nothing of it
-  begun_none : (old state : WavesState) (bytes said : List ℕ) → IsOpened old → Grows old.written said state.written → Consumes from.remaining to.remaining bytes
+  begun_none : (old state : WavesState) (bytes said : List ℕ) → IsOpened mask old → Grows old.written said state.written → Consumes from.remaining to.remaining bytes
       → Appends before.held mid.held (before.gathered ++ said) → after ≡ mid → IsBegun from to before after
   begun_none old state bytes said o grown came written same =
       let some = some_dump old.written state.written said o.begun grown in
@@ -178,9 +183,9 @@ module _ {R W : Type 0} (frames : Frames) (from to : SourceState R) (before mid 
       }
 
   -- the rest could not be written
-  unwritten : (old state last : WavesState) (bytes said : List ℕ) (fault : ExplainFault) → IsOpened old → Grows old.written said state.written
+  unwritten : (old state last : WavesState) (bytes said : List ℕ) (fault : ExplainFault) → IsOpened mask old → Grows old.written said state.written
       → Consumes from.remaining to.remaining bytes → Appends before.held mid.held (before.gathered ++ said) → KeepsNothing mid
-      → WritesRest state last mid after (Err fault) → DumpsWaves frames from to before after (Err fault)
+      → WritesRest state last mid after (Err fault) → DumpsWaves frames mask from to before after (Err fault)
   unwritten old state last bytes said (Refused line why) o grown came written kept w = absurd w
   unwritten old state last bytes said (Lines faults.Read) o grown came written kept w = absurd w
   unwritten old state last bytes said (Lines (faults.Line fault)) o grown came written kept (inl same) =
@@ -208,9 +213,9 @@ module _ {R W : Type 0} (frames : Frames) (from to : SourceState R) (before mid 
       }
 
   -- what was found where an input was read to its end
-  found_whole : (ended : Option NoLine) (old state : WavesState) (text said : List ℕ) (answer : Result WavesSum ExplainFault) → IsOpened old → ReadsWhole from to text
+  found_whole : (ended : Option NoLine) (old state : WavesState) (text said : List ℕ) (answer : Result WavesSum ExplainFault) → IsOpened mask old → ReadsWhole from to text
       → Course ended (map (handed longest_line) (lines_of text)) said old state → GetsDump before after
-      → IsFoundBy frames ended state answer → DumpsWaves frames from to before after answer
+      → IsFoundBy frames ended state answer → DumpsWaves frames mask from to before after answer
   found_whole None old state text said (Ok sum) o read c gets found =
       let same : lines_of text ≡ c.texts = handed_all longest_line (lines_of text) c.texts c.all_is in
       let many = c.lines in
@@ -227,84 +232,90 @@ module _ {R W : Type 0} (frames : Frames) (from to : SourceState R) (before mid 
         count = omega (arith, many, told, long, zero);
         outside = record { times = state.times; lead = lead; is = found.2 };
         fallen = record { times = state.times; lead = lead; is = found.3 };
+        codes = subst (λ (s : Codes). CodesLead mask (lines_of text) no_codes s) (sym found.4)
+            (subst (λ (m : Mask). CodesLead m (lines_of text) no_codes state.codes) o.mask_is
+            (subst (λ (s : Codes). CodesLead old.mask (lines_of text) s state.codes) o.codes
+            (subst (λ (ls : List (List ℕ)). CodesLead old.mask ls old.codes state.codes) (sym same) c.codes)));
         dumped = gets;
       }
   found_whole None old state text said (Err fault) o read c gets found = absurd found
   found_whole (Some why) old state text said answer o read c gets found =
-      subst (λ (a : Result WavesSum ExplainFault). DumpsWaves frames from to before after a) (sym found)
+      subst (λ (a : Result WavesSum ExplainFault). DumpsWaves frames mask from to before after a) (sym found)
       (refused why old state text (lines_of text) [] said read.consumed (sym (append-nil (lines_of text))) o.lines c gets)
 
   -- or until a line ended it
-  found_over : (ended : Option NoLine) (old state : WavesState) (bytes said : List ℕ) (answer : Result WavesSum ExplainFault) → is_some ended ≡ true → IsOpened old
+  found_over : (ended : Option NoLine) (old state : WavesState) (bytes said : List ℕ) (answer : Result WavesSum ExplainFault) → is_some ended ≡ true → IsOpened mask old
       → Consumes from.remaining to.remaining bytes → Course ended (map (handed longest_line) (ended_lines bytes)) said old state
-      → GetsDump before after → IsFoundBy frames ended state answer → DumpsWaves frames from to before after answer
+      → GetsDump before after → IsFoundBy frames ended state answer → DumpsWaves frames mask from to before after answer
   found_over None old state bytes said answer some o came c gets found = absurd (never some)
   found_over (Some why) old state bytes said answer some o came c gets found =
       let e = ended_first bytes [] in
-      subst (λ (a : Result WavesSum ExplainFault). DumpsWaves frames from to before after a) (sym found)
+      subst (λ (a : Result WavesSum ExplainFault). DumpsWaves frames mask from to before after a) (sym found)
       (refused why old state bytes (ended_lines bytes) e.0 said came (ap lines_of (sym (append-nil bytes)) ∙ e.1) o.lines c gets)
 
   -- what was found is found of the state before the rest was written, too
   found_before : (ended same : Option NoLine) (state last : WavesState) (answer : Result WavesSum ExplainFault) → ended ≡ same → last.lines ≡ state.lines
-      → last.heard ≡ state.heard → last.times ≡ state.times → IsFoundBy frames ended last answer → IsFoundBy frames same state answer
-  found_before ended (Some why) state last answer is many heard times found =
+      → last.heard ≡ state.heard → last.times ≡ state.times → last.codes ≡ state.codes → IsFoundBy frames ended last answer
+      → IsFoundBy frames same state answer
+  found_before ended (Some why) state last answer is many heard times codes found =
       subst (λ (n : ℕ). answer ≡ Err (Refused n why)) many (subst (λ (e : Option NoLine). IsFoundBy frames e last answer) is found)
-  found_before ended None state last (Ok sum) is many heard times found =
+  found_before ended None state last (Ok sum) is many heard times codes found =
       let there : IsFoundBy frames None last (Ok sum) = subst (λ (e : Option NoLine). IsFoundBy frames e last (Ok sum)) is found in (
         there.0 ∙ many,
         there.1 ∙ heard,
         there.2 ∙ ap (λ (t : TimesState). outside_of frames t) times,
         there.3 ∙ ap (λ (t : TimesState). t.fallen) times,
+        there.4 ∙ codes,
       )
-  found_before ended None state last (Err fault) is many heard times found = subst (λ (e : Option NoLine). IsFoundBy frames e last (Err fault)) is found
+  found_before ended None state last (Err fault) is many heard times codes found = subst (λ (e : Option NoLine). IsFoundBy frames e last (Err fault)) is found
 
-  pub dumped_as : (end : LinesEnd) (old state last : WavesState) (answer : Result WavesSum ExplainFault) → IsOpened old
+  pub dumped_as : (end : LinesEnd) (old state last : WavesState) (answer : Result WavesSum ExplainFault) → IsOpened mask old
       → ServesTo Dumping has_ended longest_line end from to old state before mid → WritesRest state last mid after (Ok (tt {0})) → IsFound frames last answer
-      → DumpsWaves frames from to before after answer
+      → DumpsWaves frames mask from to before after answer
   dumped_as Whole old state last answer o s w found =
-      let c = started old state (map (handed longest_line) (lines_of s.bytes)) s.said o s.spoken in
+      let c = started mask old state (map (handed longest_line) (lines_of s.bytes)) s.said o s.spoken in
       let grown = course_grows state.ended _ s.said old state c in
       found_whole state.ended old state s.bytes s.said answer o s.read c (dumped old state last s.said w.0 o grown w.1 s.written s.kept w.2)
-      (found_before last.ended state.ended state last answer w.1.ended w.1.lines w.1.heard w.1.times found)
+      (found_before last.ended state.ended state last answer w.1.ended w.1.lines w.1.heard w.1.times w.1.codes found)
   dumped_as Open old state last answer o s w found =
-      let c = started old state (map (handed longest_line) (lines_of s.bytes)) s.said o s.spoken in
+      let c = started mask old state (map (handed longest_line) (lines_of s.bytes)) s.said o s.spoken in
       let grown = course_grows state.ended _ s.said old state c in
       found_whole state.ended old state s.bytes s.said answer o s.read c (dumped old state last s.said w.0 o grown w.1 s.written s.kept w.2)
-      (found_before last.ended state.ended state last answer w.1.ended w.1.lines w.1.heard w.1.times found)
+      (found_before last.ended state.ended state last answer w.1.ended w.1.lines w.1.heard w.1.times w.1.codes found)
   dumped_as Over old state last answer o s w found =
-      let c = started old state (map (handed longest_line) (ended_lines s.0.bytes)) s.0.said o s.0.spoken in
+      let c = started mask old state (map (handed longest_line) (ended_lines s.0.bytes)) s.0.said o s.0.spoken in
       let grown = course_grows state.ended _ s.0.said old state c in
       found_over state.ended old state s.0.bytes s.0.said answer s.1 o s.0.read c (dumped old state last s.0.said w.0 o grown w.1 s.0.written s.0.kept w.2)
-      (found_before last.ended state.ended state last answer w.1.ended w.1.lines w.1.heard w.1.times found)
+      (found_before last.ended state.ended state last answer w.1.ended w.1.lines w.1.heard w.1.times w.1.codes found)
 
   -- the rest could not be written where the input was read
-  unwritten_to : (end : LinesEnd) (old state last : WavesState) (fault : ExplainFault) → IsOpened old
+  unwritten_to : (end : LinesEnd) (old state last : WavesState) (fault : ExplainFault) → IsOpened mask old
       → ServesTo Dumping has_ended longest_line end from to old state before mid → WritesRest state last mid after (Err fault)
-      → DumpsWaves frames from to before after (Err fault)
+      → DumpsWaves frames mask from to before after (Err fault)
   unwritten_to Whole old state last fault o s w =
-      let c = started old state (map (handed longest_line) (lines_of s.bytes)) s.said o s.spoken in
+      let c = started mask old state (map (handed longest_line) (lines_of s.bytes)) s.said o s.spoken in
       unwritten old state last s.bytes s.said fault o (course_grows state.ended _ s.said old state c) s.read.consumed s.written s.kept w
   unwritten_to Open old state last fault o s w =
-      let c = started old state (map (handed longest_line) (lines_of s.bytes)) s.said o s.spoken in
+      let c = started mask old state (map (handed longest_line) (lines_of s.bytes)) s.said o s.spoken in
       unwritten old state last s.bytes s.said fault o (course_grows state.ended _ s.said old state c) s.read.consumed s.written s.kept w
   unwritten_to Over old state last fault o s w =
-      let c = started old state (map (handed longest_line) (ended_lines s.0.bytes)) s.0.said o s.0.spoken in
+      let c = started mask old state (map (handed longest_line) (ended_lines s.0.bytes)) s.0.said o s.0.spoken in
       unwritten old state last s.0.bytes s.0.said fault o (course_grows state.ended _ s.0.said old state c) s.0.read s.0.written s.0.kept w
 
-  pub unwritten_as : (end : LinesEnd) (old state last : WavesState) (fault : ExplainFault) (answer : Result WavesSum ExplainFault) → IsOpened old
+  pub unwritten_as : (end : LinesEnd) (old state last : WavesState) (fault : ExplainFault) (answer : Result WavesSum ExplainFault) → IsOpened mask old
       → ServesTo Dumping has_ended longest_line end from to old state before mid → WritesRest state last mid after (Err fault)
-      → IsErrAnd answer (λ told. told ≡ fault) → DumpsWaves frames from to before after answer
+      → IsErrAnd answer (λ told. told ≡ fault) → DumpsWaves frames mask from to before after answer
   unwritten_as end old state last fault (Ok sum) o s w told = absurd told
   unwritten_as end old state last fault (Err e) o s w told =
-      subst (λ (x : ExplainFault). DumpsWaves frames from to before after (Err x)) (sym told) (unwritten_to end old state last fault o s w)
+      subst (λ (x : ExplainFault). DumpsWaves frames mask from to before after (Err x)) (sym told) (unwritten_to end old state last fault o s w)
 
   -- ---- where the input could not be read
 
-  pub unread : (old state last : WavesState) → IsOpened old → Serves Dumping has_ended longest_line from to old state before mid (Err faults.Read)
-      → WritesRest state last mid after (Ok (tt {0})) → DumpsWaves frames from to before after (Err (Lines faults.Read))
+  pub unread : (old state last : WavesState) → IsOpened mask old → Serves Dumping has_ended longest_line from to old state before mid (Err faults.Read)
+      → WritesRest state last mid after (Ok (tt {0})) → DumpsWaves frames mask from to before after (Err (Lines faults.Read))
   unread old state last o s w =
       let e = s.read refl in
-      let c = started old state (map (handed longest_line) (ended_lines e.bytes)) e.said o e.spoken in
+      let c = started mask old state (map (handed longest_line) (ended_lines e.bytes)) e.said o e.spoken in
       let grown = course_grows state.ended _ e.said old state c in
       record {
         bytes = e.bytes;
@@ -313,31 +324,31 @@ module _ {R W : Type 0} (frames : Frames) (from to : SourceState R) (before mid 
         failed = s.failed refl;
       }
 
-  pub unread_unwritten : (old state last : WavesState) (fault : ExplainFault) (answer : Result WavesSum ExplainFault) → IsOpened old
+  pub unread_unwritten : (old state last : WavesState) (fault : ExplainFault) (answer : Result WavesSum ExplainFault) → IsOpened mask old
       → Serves Dumping has_ended longest_line from to old state before mid (Err faults.Read) → WritesRest state last mid after (Err fault)
-      → IsErrAnd answer (λ told. told ≡ fault) → DumpsWaves frames from to before after answer
+      → IsErrAnd answer (λ told. told ≡ fault) → DumpsWaves frames mask from to before after answer
   unread_unwritten old state last fault (Ok sum) o s w told = absurd told
   unread_unwritten old state last fault (Err x) o s w told =
       let e = s.read refl in
-      let c = started old state (map (handed longest_line) (ended_lines e.bytes)) e.said o e.spoken in
-      subst (λ (f : ExplainFault). DumpsWaves frames from to before after (Err f)) (sym told)
+      let c = started mask old state (map (handed longest_line) (ended_lines e.bytes)) e.said o e.spoken in
+      subst (λ (f : ExplainFault). DumpsWaves frames mask from to before after (Err f)) (sym told)
       (unwritten old state last e.bytes e.said fault o (course_grows state.ended _ e.said old state c) e.read e.written e.kept w)
 
-  pub unread_at : (fault : LinesFault) (old state last : WavesState) → fault ≡ faults.Read → IsOpened old
+  pub unread_at : (fault : LinesFault) (old state last : WavesState) → fault ≡ faults.Read → IsOpened mask old
       → Serves Dumping has_ended longest_line from to old state before mid (Err fault) → WritesRest state last mid after (Ok (tt {0}))
       → IsUnfinished from to before after
   unread_at fault old state last is o s w =
       unread old state last o (subst (λ (f : LinesFault). Serves Dumping has_ended longest_line from to old state before mid (Err f)) is s) w
 
-  pub unwritten_at : (served : LinesFault) (old state last : WavesState) (fault : ExplainFault) (answer : Result WavesSum ExplainFault) → served ≡ faults.Read → IsOpened old
+  pub unwritten_at : (served : LinesFault) (old state last : WavesState) (fault : ExplainFault) (answer : Result WavesSum ExplainFault) → served ≡ faults.Read → IsOpened mask old
       → Serves Dumping has_ended longest_line from to old state before mid (Err served) → WritesRest state last mid after (Err fault)
-      → IsErrAnd answer (λ told. told ≡ fault) → DumpsWaves frames from to before after answer
+      → IsErrAnd answer (λ told. told ≡ fault) → DumpsWaves frames mask from to before after answer
   unwritten_at served old state last fault answer is o s w told =
       unread_unwritten old state last fault answer o (subst (λ (f : LinesFault). Serves Dumping has_ended longest_line from to old state before mid (Err f)) is s) w told
 
-module _ {R W : Type 0} (frames : Frames) (from to : SourceState R) (before after : SinkState W) where
+module _ {R W : Type 0} (frames : Frames) (mask : Mask) (from to : SourceState R) (before after : SinkState W) where
   -- a prefix of what was gathered and of what was said
-  prefix_begun : (old state : WavesState) (bytes said : List ℕ) → IsOpened old → Grows old.written said state.written → Consumes from.remaining to.remaining bytes
+  prefix_begun : (old state : WavesState) (bytes said : List ℕ) → IsOpened mask old → Grows old.written said state.written → Consumes from.remaining to.remaining bytes
       → GetsPrefix before after said → IsBegun from to before after
   prefix_begun old state bytes said o grown came g =
       let all = before.gathered ++ said in
@@ -354,11 +365,11 @@ module _ {R W : Type 0} (frames : Frames) (from to : SourceState R) (before afte
         appended = g.written;
       }
 
-  all_begun : (old state : WavesState) (bytes said : List ℕ) → IsOpened old → Grows old.written said state.written → Consumes from.remaining to.remaining bytes
+  all_begun : (old state : WavesState) (bytes said : List ℕ) → IsOpened mask old → Grows old.written said state.written → Consumes from.remaining to.remaining bytes
       → GetsAll before after said → IsBegun from to before after
-  all_begun old state bytes said o grown came g = begun_none frames from to before after after old state bytes said o grown came g.written refl
+  all_begun old state bytes said o grown came g = begun_none frames mask from to before after after old state bytes said o grown came g.written refl
 
-  leaves_begun : (fault : Unanswered) (old state : WavesState) (bytes said : List ℕ) → IsOpened old → Grows old.written said state.written
+  leaves_begun : (fault : Unanswered) (old state : WavesState) (bytes said : List ℕ) → IsOpened mask old → Grows old.written said state.written
       → Consumes from.remaining to.remaining bytes → Leaves fault before after said → IsBegun from to before after
   leaves_begun Write old state bytes said o grown came g = prefix_begun old state bytes said o grown came g
   leaves_begun OutOfMemory old state bytes said o grown came (inl g) = all_begun old state bytes said o grown came g
@@ -367,22 +378,22 @@ module _ {R W : Type 0} (frames : Frames) (from to : SourceState R) (before afte
   leaves_begun Full old state bytes said o grown came (inr g) = prefix_begun old state bytes said o grown came g.0
 
   -- a line could not be dumped
-  pub line_fault : (fault : Unanswered) (old state : WavesState) → IsOpened old → Serves Dumping has_ended longest_line from to old state before after (Err (faults.Line fault))
-      → DumpsWaves frames from to before after (Err (Lines (faults.Line fault)))
+  pub line_fault : (fault : Unanswered) (old state : WavesState) → IsOpened mask old → Serves Dumping has_ended longest_line from to old state before after (Err (faults.Line fault))
+      → DumpsWaves frames mask from to before after (Err (Lines (faults.Line fault)))
   line_fault fault old state o s =
       let e = s.fault fault refl in
       let whole = all_of_some IsFull Says old e.begun e.said e.spoken in
-      let c = started old whole.0 e.begun e.said o whole.1 in
+      let c = started mask old whole.0 e.begun e.said o whole.1 in
       inl (leaves_begun fault old whole.0 e.bytes e.said o (course_grows whole.0.ended e.begun e.said old whole.0 c) e.read e.written)
 
-  pub line_fault_at : (told : LinesFault) (fault : Unanswered) (old state : WavesState) → told ≡ faults.Line fault → IsOpened old
-      → Serves Dumping has_ended longest_line from to old state before after (Err told) → DumpsWaves frames from to before after (Err (Lines (faults.Line fault)))
+  pub line_fault_at : (told : LinesFault) (fault : Unanswered) (old state : WavesState) → told ≡ faults.Line fault → IsOpened mask old
+      → Serves Dumping has_ended longest_line from to old state before after (Err told) → DumpsWaves frames mask from to before after (Err (Lines (faults.Line fault)))
   line_fault_at told fault old state is o s =
       line_fault fault old state o (subst (λ (f : LinesFault). Serves Dumping has_ended longest_line from to old state before after (Err f)) is s)
 
 -- nothing was read, for want of memory
-pub unbegun : {R W : Type 0} (frames : Frames) (from : SourceState R) (before : SinkState W) (answer : Result WavesSum ExplainFault)
-    → IsErrAnd answer (λ told. told ≡ Lines (faults.Line OutOfMemory)) → DumpsWaves frames from from before before answer
-unbegun frames from before (Ok sum) told = absurd told
-unbegun frames from before (Err e) told =
-    subst (λ (x : ExplainFault). DumpsWaves frames from from before before (Err x)) (sym told) (inr (refl, refl, refl))
+pub unbegun : {R W : Type 0} (frames : Frames) (mask : Mask) (from : SourceState R) (before : SinkState W) (answer : Result WavesSum ExplainFault)
+    → IsErrAnd answer (λ told. told ≡ Lines (faults.Line OutOfMemory)) → DumpsWaves frames mask from from before before answer
+unbegun frames mask from before (Ok sum) told = absurd told
+unbegun frames mask from before (Err e) told =
+    subst (λ (x : ExplainFault). DumpsWaves frames mask from from before before (Err x)) (sym told) (inr (refl, refl, refl))

@@ -3,19 +3,25 @@ use Rattle.std.specs.Prelude.{◌≡◌, ℕ, ◌+◌, ◌⊎◌, ◌||◌, not,
 use Rattle.gp_flow.specs.Lines.{Speech, WholeLines, most_lines}
 use Rattle.gp_explain.specs.declared.fault.NoLine.{NoLine}
 use Rattle.gp_explain.specs.declared.fault.NoLine.TheVariants.{NotALine, TooLong}
+use Rattle.gp_ploam.specs.declared.check.Mask.{Mask}
 use Rattle.gp_log.specs.declared.line.LogLine.{LogLine}
 use Rattle.gp_log.specs.Line.{Reads, says_nothing}
+use Rattle.gp_finding.specs.declared.codes.Codes.{Codes}
+use Rattle.gp_finding.specs.Codes.{codes_after}
 use Rattle.gp_times.specs.Times.{TimesState, times_after}
 use Rattle.gp_times.specs.Lines.{IsRead, IsUnread}
 use Rattle.gp_waves.specs.Writing.{Grows, Written}
 
 -- how many lines came, whether one of them says anything, why the last of them ended it, if it did, the times of the
--- ports, with how many lines fell, and what is written
+-- ports, with how many lines fell, the mask of the codes, how many codes came, with how many of them are garbled, and
+-- what is written
 pub record WavesState : Type 0 where
   pub lines : ℕ
   pub heard : Bool
   pub ended : Option NoLine
   pub times : TimesState
+  pub mask : Mask
+  pub codes : Codes
   pub written : Written
 
 -- one line more came, which says this, and this is written by now
@@ -25,6 +31,7 @@ counted line written state =
       lines = state.lines + 1;
       heard = state.heard || not (says_nothing line);
       times = times_after line state.times;
+      codes = codes_after state.mask line state.codes;
       written = written;
     }
 

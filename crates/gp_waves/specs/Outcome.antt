@@ -13,6 +13,8 @@ use Rattle.gp_explain.specs.declared.fault.ExplainFault.TheVariants.{Refused, Li
 use Rattle.gp_explain.specs.declared.fault.NoLine.{NoLine}
 use Rattle.gp_explain.specs.declared.fault.NoLine.TheVariants.{NotALine, TooLong}
 use Rattle.gp_dump.specs.Dump.{IsDumpTo}
+use Rattle.gp_ploam.specs.declared.check.Mask.{Mask}
+use Rattle.gp_finding.specs.Codes.{HaveCodes}
 use Rattle.gp_waves.specs.declared.running.WavesSum.{WavesSum}
 use Rattle.gp_times.specs.declared.frames.Frames.{Frames}
 use Rattle.gp_times.specs.Lines.{AreRead, HaveFallen, IsRead, IsUnread, IsWhere}
@@ -32,7 +34,7 @@ pub record GetsDump {W : Type 0} (before after : SinkState W) : Type 0 where
   pub kept : KeepsNothing after
 
 -- the whole input was read, each of its lines is read, and the writer got one dump
-pub record IsDumped {R W : Type 0} (frames : Frames) (from to : SourceState R) (before after : SinkState W)
+pub record IsDumped {R W : Type 0} (frames : Frames) (mask : Mask) (from to : SourceState R) (before after : SinkState W)
     (sum : WavesSum) : Type 0 where
   pub text : List ℕ
   pub read : ReadsWhole from to text
@@ -40,6 +42,7 @@ pub record IsDumped {R W : Type 0} (frames : Frames) (from to : SourceState R) (
   pub count : length (lines_of text) ≡ sum.lines
   pub outside : IsWhere frames (lines_of text) sum.outside
   pub fallen : HaveFallen (lines_of text) sum.fallen
+  pub codes : HaveCodes mask (lines_of text) sum.codes
   pub dumped : GetsDump before after
 
 -- why a text is no line of a trace or a log
@@ -82,12 +85,12 @@ pub record IsBegun {R W : Type 0} (from to : SourceState R) (before after : Sink
   pub appended : Appends before.held after.held written
 
 -- how it may end; a failed read, and the bound of reads, are told as such. Memory may run out before anything was read.
-abbrev pub DumpsWaves : {R W : Type 0} → Frames → SourceState R → SourceState R → SinkState W → SinkState W
+abbrev pub DumpsWaves : {R W : Type 0} → Frames → Mask → SourceState R → SourceState R → SinkState W → SinkState W
     → Result WavesSum ExplainFault → Type 0
-DumpsWaves frames from to before after (Ok sum) = IsDumped frames from to before after sum
-DumpsWaves frames from to before after (Err (Refused line why)) = IsRefused from to before after line why
-DumpsWaves frames from to before after (Err (Lines faults.Read)) = IsUnfinished from to before after
-DumpsWaves frames from to before after (Err (Lines (faults.Line fault))) =
+DumpsWaves frames mask from to before after (Ok sum) = IsDumped frames mask from to before after sum
+DumpsWaves frames mask from to before after (Err (Refused line why)) = IsRefused from to before after line why
+DumpsWaves frames mask from to before after (Err (Lines faults.Read)) = IsUnfinished from to before after
+DumpsWaves frames mask from to before after (Err (Lines (faults.Line fault))) =
     IsBegun from to before after ⊎ ((fault ≡ OutOfMemory) × (to ≡ from) × (after ≡ before))
 
 -- the rest of a dump behind what is written
@@ -98,6 +101,7 @@ pub record IsRest (old new : WavesState) (text : List ℕ) : Type 0 where
   pub heard : new.heard ≡ old.heard
   pub ended : new.ended ≡ old.ended
   pub times : new.times ≡ old.times
+  pub codes : new.codes ≡ old.codes
 
 -- how the rest is written, if it is
 abbrev pub WritesRest : {W : Type 0} → WavesState → WavesState → SinkState W → SinkState W
@@ -116,7 +120,7 @@ abbrev pub IsFoundBy : Frames → Option NoLine → WavesState → Result WavesS
 IsFoundBy frames (Some why) state answer = answer ≡ Err (Refused state.lines why)
 IsFoundBy frames None state (Ok sum) =
     (sum.lines ≡ state.lines) × (sum.heard ≡ state.heard) × (sum.outside ≡ outside_of frames state.times)
-    × (sum.fallen ≡ state.times.fallen)
+    × (sum.fallen ≡ state.times.fallen) × (sum.codes ≡ state.codes)
 IsFoundBy frames None state (Err fault) = ⊥
 
 abbrev pub IsFound : Frames → WavesState → Result WavesSum ExplainFault → Type 0

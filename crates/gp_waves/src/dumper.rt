@@ -1,22 +1,27 @@
 //! The lines of a trace or a log, one after another.
 ghost use Rattle.std.specs.Prelude.{◌≡◌, IfOk, None, false};
+ghost use Rattle.gp_finding.specs.Codes.{no_codes};
 ghost use Rattle.gp_times.specs.Times.{times_begun};
 
 use crate::hearing::Waves;
 use crate::options::WavesOptions;
 use crate::writing::Writing;
 use gp_explain::NoLine;
+use gp_finding::Codes;
+use gp_ploam::Mask;
 use gp_times::PortTimes;
 use std::alloc::{AllocError, Global};
 use std::marker::Model;
 
 /// Is given the lines of a trace or a log, one after another. The first line that is none ends it. Contracts see how
 /// many lines came, whether one of them says anything, what ended it, the times of the ports, with how many lines fell,
-/// and what is written of the dump.
+/// the mask of the codes, how many codes came, with how many of them are garbled, and what is written of the dump.
 #[derive(Drop)]
 pub struct Dumper {
     pub(crate) waves: Waves,
     pub(crate) times: PortTimes,
+    pub(crate) mask: Mask,
+    pub(crate) codes: Codes,
     pub(crate) writing: Writing,
     pub(crate) buffer: Vec<u8>,
     pub(crate) lines: u64,
@@ -34,6 +39,8 @@ impl Model for Dumper {
       heard = s.heard;
       ended = s.ended;
       times = s.times;
+      mask = s.mask;
+      codes = s.codes;
       written = s.writing;
     } };
 }
@@ -45,11 +52,15 @@ impl Dumper {
         ensures heard { IfOk result (λ dumper. dumper.heard ≡ false) }
         ensures ended { IfOk result (λ dumper. dumper.ended ≡ None) }
         ensures times { IfOk result (λ dumper. dumper.times ≡ times_begun) }
+        ensures mask { IfOk result (λ dumper. dumper.mask ≡ options.now.mask) }
+        ensures codes { IfOk result (λ dumper. dumper.codes ≡ no_codes) }
         ensures written { IfOk result (λ dumper. dumper.written.begun ≡ false) }
     {
         Ok(Dumper {
             waves: Waves::begin(alloc, options)?,
             times: PortTimes::begin(),
+            mask: options.mask,
+            codes: Codes::none(),
             writing: Writing::new(),
             buffer: Vec::new(alloc),
             lines: 0,

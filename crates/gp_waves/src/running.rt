@@ -5,6 +5,7 @@ ghost use Rattle.gp_waves.specs.Outcome as spec;
 use crate::dumper::Dumper;
 use crate::options::WavesOptions;
 use gp_explain::ExplainFault;
+use gp_finding::Codes;
 use gp_flow::{LinesFault, Unanswered, run_lines};
 use gp_stream::{Sink, Source};
 use gp_times::Outside;
@@ -20,6 +21,9 @@ pub struct WavesSum {
     pub heard: bool,
     /// How many lines of a log were not heard, since their time is before that of their port.
     pub fallen: u64,
+    /// How many codes came, and how many of them are garbled under the mask, of which nothing is heard but that: of all
+    /// lines, whatever their times, also of those that fell or are in none of the frames that are dumped.
+    pub codes: Codes,
     /// How many changes stand at a later time than theirs, since their port was too far behind the others.
     pub late: u64,
     /// Where all that was heard is, if all of it is before the first of the frames that are dumped, or all of it behind
@@ -41,7 +45,7 @@ pub fn dump_waves<R: Read, W: Write>(
     sink: &mut Sink<W>,
 ) -> Result<WavesSum, ExplainFault>
     requires { sink.old.flushed ≡ true }
-    ensures { spec.DumpsWaves options.now.frames source.old source.new sink.old sink.new result }
+    ensures { spec.DumpsWaves options.now.frames options.now.mask source.old source.new sink.old sink.new result }
 {
     let mut dumper = Dumper::begin(alloc, options)?;
     match run_lines(alloc, source, sink, &mut dumper) {
@@ -90,6 +94,7 @@ fn finding(options: &WavesOptions, dumper: &Dumper) -> Result<WavesSum, ExplainF
             lines: dumper.lines,
             heard: dumper.heard,
             fallen: dumper.times.fallen(),
+            codes: dumper.codes,
             late: dumper.writing.late,
             outside: dumper.times.outside(&options.frames),
         }),
