@@ -8,6 +8,9 @@ use Rattle.gp_explain.specs.declared.fault.NoLine.{NoLine}
 use Rattle.gp_explain.specs.declared.fault.NoLine.TheVariants.{NotALine, TooLong}
 use Rattle.gp_log.specs.Line.{Reads, says_nothing}
 use Rattle.gp_log.specs.declared.line.LogLine.{LogLine}
+use Rattle.gp_ploam.specs.declared.check.Mask.{Mask}
+use Rattle.gp_finding.specs.declared.codes.Codes.{Codes}
+use Rattle.gp_finding.specs.Codes.{CodesLead, codes_after}
 use Rattle.gp_times.specs.Lines.{AreRead, IsRead, IsUnread, Lead}
 use Rattle.gp_times.specs.Times.{TimesState, times_after}
 use Rattle.gp_picture.specs.Drawing.{DrawState, Drawing, DrawsFrom, DrawsText, ended_by}
@@ -26,6 +29,7 @@ pub record Runs (all : List (Option (List ℕ))) (said : List ℕ) (from to : Dr
   pub lines : to.lines ≡ from.lines + length texts
   pub heard : to.heard ≡ (from.heard || told)
   pub lead : Lead texts from.times to.times
+  pub codes : CodesLead from.mask texts from.codes to.codes
 
 -- why a line ends it
 abbrev pub Fails : NoLine → Option (List ℕ) → Type 0
@@ -75,9 +79,9 @@ halted line ls state next new said first rest why nothing is fails parts h =
 -- one line more at the head
 onto : (ended : Option NoLine) (text : List ℕ) (ls : List (Option (List ℕ))) (said first rest : List ℕ) (from next to : DrawState) (line : LogLine)
     → Reads text (Ok line) → next.lines ≡ from.lines + 1 → next.heard ≡ (from.heard || not (says_nothing line))
-    → next.times ≡ times_after line from.times → first ≡ [] → said ≡ first ++ rest
-    → Course ended ls rest next to → Course ended (Some text ∷ ls) said from to
-onto None text ls said first rest from next to line reads one heard timed nothing parts c = record {
+    → next.times ≡ times_after line from.times → next.mask ≡ from.mask → next.codes ≡ codes_after from.mask line from.codes
+    → first ≡ [] → said ≡ first ++ rest → Course ended ls rest next to → Course ended (Some text ∷ ls) said from to
+onto None text ls said first rest from next to line reads one heard timed masked coded nothing parts c = record {
   texts = text ∷ c.texts;
   told = not (says_nothing line) || c.told;
   all_is = ap (λ (l : List (Option (List ℕ))). Some text ∷ l) c.all_is;
@@ -86,8 +90,14 @@ onto None text ls said first rest from next to line reads one heard timed nothin
   lines = let many = c.lines in omega (arith, many, one);
   heard = c.heard ∙ ap (λ (b : Bool). b || c.told) heard ∙ or_assoc from.heard (not (says_nothing line)) c.told;
   lead = (line, reads, subst (λ (t : TimesState). Lead c.texts t to.times) timed c.lead);
+  codes = (
+    line,
+    reads,
+    subst (λ (m : Mask). CodesLead m c.texts (codes_after from.mask line from.codes) to.codes) masked
+        (subst (λ (s : Codes). CodesLead next.mask c.texts s to.codes) coded c.codes),
+  );
 }
-onto (Some why) text ls said first rest from next to line reads one heard timed nothing parts c = record {
+onto (Some why) text ls said first rest from next to line reads one heard timed masked coded nothing parts c = record {
   before = text ∷ c.before;
   line = c.line;
   rest = c.rest;
@@ -108,7 +118,7 @@ text_course text ls old next new said first rest none nothing (inl drawn) parts 
     let is = drawn.2 in
     let before : Course new.ended ls rest next new = more (ap (λ (s : DrawState). s.ended) is ∙ none) in
     onto new.ended text ls said first rest old next new drawn.0 drawn.1 (ap (λ (s : DrawState). s.lines) is) (ap (λ (s : DrawState). s.heard) is)
-    (ap (λ (s : DrawState). s.times) is) nothing parts before
+    (ap (λ (s : DrawState). s.times) is) (ap (λ (s : DrawState). s.mask) is) (ap (λ (s : DrawState). s.codes) is) nothing parts before
 text_course text ls old next new said first rest none nothing (inr unread) parts h more =
     halted (Some text) ls old next new said first rest NotALine nothing unread.1 (refl, unread.0) parts h
 
@@ -116,7 +126,17 @@ pub course : (ls : List (Option (List ℕ))) (old new : DrawState) (said : List 
     → Course new.ended ls said old new
 course [] old new said none h =
     let there : Course None [] said old old =
-    record { texts = []; told = false; all_is = refl; read = refl; silent = h.0; lines = none_done old.lines; heard = sym (or-false old.heard); lead = refl } in
+    record {
+      texts = [];
+      told = false;
+      all_is = refl;
+      read = refl;
+      silent = h.0;
+      lines = none_done old.lines;
+      heard = sym (or-false old.heard);
+      lead = refl;
+      codes = refl;
+    } in
     let here : Course old.ended [] said old old = subst (λ (e : Option NoLine). Course e [] said old old) (sym none) there in
     subst (λ (s : DrawState). Course s.ended [] said old s) (sym h.1) here
 course (None ∷ ls) old new said none h =

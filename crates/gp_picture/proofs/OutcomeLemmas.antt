@@ -18,6 +18,9 @@ use Rattle.gp_stream.proofs.SinkLemmas.{takes_whole}
 use Rattle.gp_explain.specs.declared.fault.ExplainFault.{ExplainFault}
 use Rattle.gp_explain.specs.declared.fault.ExplainFault.TheVariants.{Refused, Lines}
 use Rattle.gp_explain.specs.declared.fault.NoLine.{NoLine}
+use Rattle.gp_ploam.specs.declared.check.Mask.{Mask}
+use Rattle.gp_finding.specs.declared.codes.Codes.{Codes}
+use Rattle.gp_finding.specs.Codes.{CodesLead, no_codes}
 use Rattle.gp_picture.specs.declared.running.PictureSum.{PictureSum}
 use Rattle.gp_times.specs.declared.frames.Frames.{Frames}
 use Rattle.gp_times.specs.Lines.{AreRead, IsUnread, Lead}
@@ -85,20 +88,21 @@ silent_some [] old said h = h
 silent_some (line ∷ ls) old said (inl h) = h.5 ∙ ap (λ (l : List ℕ). l ++ h.1) h.3.0 ∙ silent_some ls h.2 h.1 h.4
 silent_some (line ∷ ls) old said (inr h) = absurd h.2
 
-started : (new : DrawState) (ls : List (Option (List ℕ))) (said : List ℕ) → DoesAll Drawing opened ls said new → Course new.ended ls said opened new
-started new ls said h = course ls opened new said refl h
+started : (mask : Mask) (new : DrawState) (ls : List (Option (List ℕ))) (said : List ℕ) → DoesAll Drawing (opened mask) ls said new
+    → Course new.ended ls said (opened mask) new
+started mask new ls said h = course ls (opened mask) new said refl h
 
 -- ---- behind the last line
 
-module _ {R W : Type 0} (frames : Frames) (from to : SourceState R) (before mid after : SinkState W) where
+module _ {R W : Type 0} (frames : Frames) (mask : Mask) (from to : SourceState R) (before mid after : SinkState W) where
   -- what was gathered before is written, and nothing else
   only_gathered : (said : List ℕ) → said ≡ [] → Appends before.held mid.held (before.gathered ++ said) → Appends before.held mid.held before.gathered
   only_gathered said none h = subst (λ (l : List ℕ). Appends before.held mid.held l) (ap (λ (l : List ℕ). before.gathered ++ l) none ∙ append-nil before.gathered) h
 
   refused : (why : NoLine) (new : DrawState) (bytes : List ℕ) (ls others : List (List ℕ)) (said : List ℕ) (answer : Result PictureSum ExplainFault)
-      → Consumes from.remaining to.remaining bytes → lines_of bytes ≡ ls ++ others → Halts why (map (handed longest_line) ls) said opened new
+      → Consumes from.remaining to.remaining bytes → lines_of bytes ≡ ls ++ others → Halts why (map (handed longest_line) ls) said (opened mask) new
       → Appends before.held mid.held (before.gathered ++ said) → KeepsNothing mid → (answer ≡ Err (Refused new.lines why)) × (after ≡ mid)
-      → DrawsTrace frames from to before after answer
+      → DrawsTrace frames mask from to before after answer
   refused why new bytes ls others said answer came is halts written kept ends =
       let p = parted longest_line ls halts.before halts.line halts.rest halts.all_is in
       let many = halts.lines in
@@ -116,11 +120,11 @@ module _ {R W : Type 0} (frames : Frames) (from to : SourceState R) (before mid 
         kept = kept;
       } in
       let here : IsRefused from to before after new.lines why = subst (λ (s : SinkState W). IsRefused from to before s new.lines why) (sym ends.1) there in
-      subst (λ (a : Result PictureSum ExplainFault). DrawsTrace frames from to before after a) (sym ends.0) here
+      subst (λ (a : Result PictureSum ExplainFault). DrawsTrace frames mask from to before after a) (sym ends.0) here
 
   whole : (new : DrawState) (text said : List ℕ) (answer : Result PictureSum ExplainFault) → ReadsWhole from to text
-      → Runs (map (handed longest_line) (lines_of text)) said opened new → Appends before.held mid.held (before.gathered ++ said) → KeepsNothing mid
-      → EndsAs frames None new mid after answer → DrawsTrace frames from to before after answer
+      → Runs (map (handed longest_line) (lines_of text)) said (opened mask) new → Appends before.held mid.held (before.gathered ++ said) → KeepsNothing mid
+      → EndsAs frames None new mid after answer → DrawsTrace frames mask from to before after answer
   whole new text said (Ok sum) read runs written kept ends =
       let first = only_gathered said runs.silent written in
       let same : lines_of text ≡ runs.texts = handed_all longest_line (lines_of text) runs.texts runs.all_is in
@@ -128,18 +132,20 @@ module _ {R W : Type 0} (frames : Frames) (from to : SourceState R) (before mid 
       let told = ends.0 in
       let long : length (lines_of text) ≡ length runs.texts = ap length same in
       let heard : sum.heard ≡ runs.told = ends.1 ∙ runs.heard in
-      let w = ends.4.2 in
+      let w = ends.5.2 in
       let lead = subst (λ (ls : List (List ℕ)). Lead ls times_begun new.times) (sym same) runs.lead in
       record {
         text = text;
         read = read;
         outside = record { times = new.times; lead = lead; is = ends.2 };
         fallen = record { times = new.times; lead = lead; is = ends.3 };
+        codes = subst (λ (s : Codes). CodesLead mask (lines_of text) no_codes s) (sym ends.4)
+            (subst (λ (ls : List (List ℕ)). CodesLead mask ls no_codes new.codes) (sym same) runs.codes);
         all = subst (λ (b : Bool). AreRead (lines_of text) b) (sym heard) (subst (λ (ls : List (List ℕ)). AreRead ls runs.told) (sym same) runs.read);
         count = omega (arith, many, told, long);
-        picture = ends.4.0;
-        svg = ends.4.1;
-        written = Appends-trans before.held mid.held after.held before.gathered ends.4.0 first (takes_whole mid after ends.4.0 w.gives.ok kept.0 w.empty);
+        picture = ends.5.0;
+        svg = ends.5.1;
+        written = Appends-trans before.held mid.held after.held before.gathered ends.5.0 first (takes_whole mid after ends.5.0 w.gives.ok kept.0 w.empty);
         kept = (w.empty, w.gives.flushed kept.1);
       }
   whole new text said (Err (Refused line why)) read runs written kept ends = absurd ends
@@ -176,36 +182,36 @@ module _ {R W : Type 0} (frames : Frames) (from to : SourceState R) (before mid 
       )
 
   ended_whole : (ended : Option NoLine) (new : DrawState) (text said : List ℕ) (answer : Result PictureSum ExplainFault) → ReadsWhole from to text
-      → Course ended (map (handed longest_line) (lines_of text)) said opened new → Appends before.held mid.held (before.gathered ++ said) → KeepsNothing mid
-      → EndsAs frames ended new mid after answer → DrawsTrace frames from to before after answer
+      → Course ended (map (handed longest_line) (lines_of text)) said (opened mask) new → Appends before.held mid.held (before.gathered ++ said) → KeepsNothing mid
+      → EndsAs frames ended new mid after answer → DrawsTrace frames mask from to before after answer
   ended_whole None new text said answer read c written kept ends = whole new text said answer read c written kept ends
   ended_whole (Some why) new text said answer read c written kept ends =
       refused why new text (lines_of text) [] said answer read.consumed (sym (append-nil (lines_of text))) c written kept ends
 
   ended_over : (ended : Option NoLine) (new : DrawState) (bytes said : List ℕ) (answer : Result PictureSum ExplainFault) → is_some ended ≡ true
-      → Consumes from.remaining to.remaining bytes → Course ended (map (handed longest_line) (ended_lines bytes)) said opened new
-      → Appends before.held mid.held (before.gathered ++ said) → KeepsNothing mid → EndsAs frames ended new mid after answer → DrawsTrace frames from to before after answer
+      → Consumes from.remaining to.remaining bytes → Course ended (map (handed longest_line) (ended_lines bytes)) said (opened mask) new
+      → Appends before.held mid.held (before.gathered ++ said) → KeepsNothing mid → EndsAs frames ended new mid after answer → DrawsTrace frames mask from to before after answer
   ended_over None new bytes said answer some came c written kept ends = absurd (never some)
   ended_over (Some why) new bytes said answer some came c written kept ends =
       let e = ended_first bytes [] in
       refused why new bytes (ended_lines bytes) e.0 said answer came (ap lines_of (sym (append-nil bytes)) ∙ e.1) c written kept ends
 
-  drawn : (end : LinesEnd) (new : DrawState) (answer : Result PictureSum ExplainFault) → ServesTo Drawing has_ended longest_line end from to opened new before mid → Ends frames new mid after answer
-      → DrawsTrace frames from to before after answer
+  drawn : (end : LinesEnd) (new : DrawState) (answer : Result PictureSum ExplainFault) → ServesTo Drawing has_ended longest_line end from to (opened mask) new before mid → Ends frames new mid after answer
+      → DrawsTrace frames mask from to before after answer
   drawn Whole new answer s ends =
-      ended_whole new.ended new s.bytes s.said answer s.read (started new (map (handed longest_line) (lines_of s.bytes)) s.said s.spoken) s.written s.kept ends
+      ended_whole new.ended new s.bytes s.said answer s.read (started mask new (map (handed longest_line) (lines_of s.bytes)) s.said s.spoken) s.written s.kept ends
   drawn Open new answer s ends =
-      ended_whole new.ended new s.bytes s.said answer s.read (started new (map (handed longest_line) (lines_of s.bytes)) s.said s.spoken) s.written s.kept ends
+      ended_whole new.ended new s.bytes s.said answer s.read (started mask new (map (handed longest_line) (lines_of s.bytes)) s.said s.spoken) s.written s.kept ends
   drawn Over new answer s ends =
-      ended_over new.ended new s.0.bytes s.0.said answer s.1 s.0.read (started new (map (handed longest_line) (ended_lines s.0.bytes)) s.0.said s.0.spoken) s.0.written s.0.kept ends
+      ended_over new.ended new s.0.bytes s.0.said answer s.1 s.0.read (started mask new (map (handed longest_line) (ended_lines s.0.bytes)) s.0.said s.0.spoken) s.0.written s.0.kept ends
 
-  pub drawn_as : (end : LinesEnd) (old new : DrawState) (answer : Result PictureSum ExplainFault) → old ≡ opened
-      → ServesTo Drawing has_ended longest_line end from to old new before mid → Ends frames new mid after answer → DrawsTrace frames from to before after answer
+  pub drawn_as : (end : LinesEnd) (old new : DrawState) (answer : Result PictureSum ExplainFault) → old ≡ opened mask
+      → ServesTo Drawing has_ended longest_line end from to old new before mid → Ends frames new mid after answer → DrawsTrace frames mask from to before after answer
   drawn_as end old new answer opens s ends = drawn end new answer (subst (λ (o : DrawState). ServesTo Drawing has_ended longest_line end from to o new before mid) opens s) ends
 
 -- ---- where it was not read, or a line not drawn
 
-module _ {R W : Type 0} (frames : Frames) (from to : SourceState R) (before after : SinkState W) where
+module _ {R W : Type 0} (frames : Frames) (mask : Mask) (from to : SourceState R) (before after : SinkState W) where
   begun_prefix : (bytes said : List ℕ) → said ≡ [] → Consumes from.remaining to.remaining bytes → GetsPrefix before after said → IsBegun from to before after
   begun_prefix bytes said none came p = record {
     bytes = bytes;
@@ -240,34 +246,34 @@ module _ {R W : Type 0} (frames : Frames) (from to : SourceState R) (before afte
   begun_by OutOfMemory bytes said none came left = begun_either bytes said none came left
   begun_by Full bytes said none came left = begun_either bytes said none came left
 
-  unread : (fault : LinesFault) (new : DrawState) → Serves Drawing has_ended longest_line from to opened new before after (Err fault)
-      → DrawsTrace frames from to before after (Err (Lines fault))
+  unread : (fault : LinesFault) (new : DrawState) → Serves Drawing has_ended longest_line from to (opened mask) new before after (Err fault)
+      → DrawsTrace frames mask from to before after (Err (Lines fault))
   unread faults.Read new s =
       let e = s.read refl in
-      (begun_all e.bytes e.said (silent (map (handed longest_line) (ended_lines e.bytes)) opened new e.said e.spoken) e.read e.written, s.failed refl)
+      (begun_all e.bytes e.said (silent (map (handed longest_line) (ended_lines e.bytes)) (opened mask) new e.said e.spoken) e.read e.written, s.failed refl)
   unread (faults.Line fault) new s =
       let e = s.fault fault refl in (
-        inl (begun_by fault e.bytes e.said (silent_some e.begun opened e.said e.spoken) e.read e.written),
+        inl (begun_by fault e.bytes e.said (silent_some e.begun (opened mask) e.said e.spoken) e.read e.written),
         λ is. s.full (ap (λ (f : Unanswered). let r : Result LinesEnd LinesFault = Err (faults.Line f) in r) is),
       )
 
-  pub unread_as : (fault : LinesFault) (old new : DrawState) (answer : Result PictureSum ExplainFault) → old ≡ opened
-      → IsErrAnd answer (λ told. told ≡ Lines fault) → Serves Drawing has_ended longest_line from to old new before after (Err fault) → DrawsTrace frames from to before after answer
+  pub unread_as : (fault : LinesFault) (old new : DrawState) (answer : Result PictureSum ExplainFault) → old ≡ opened mask
+      → IsErrAnd answer (λ told. told ≡ Lines fault) → Serves Drawing has_ended longest_line from to old new before after (Err fault) → DrawsTrace frames mask from to before after answer
   unread_as fault old new (Ok lines) opens told s = absurd told
   unread_as fault old new (Err e) opens told s =
-      subst (λ (x : ExplainFault). DrawsTrace frames from to before after (Err x)) (sym told)
+      subst (λ (x : ExplainFault). DrawsTrace frames mask from to before after (Err x)) (sym told)
       (unread fault new (subst (λ (o : DrawState). Serves Drawing has_ended longest_line from to o new before after (Err fault)) opens s))
 
 -- nothing was read, for want of memory
-pub unbegun : {R W : Type 0} (frames : Frames) (from : SourceState R) (before : SinkState W) (answer : Result PictureSum ExplainFault)
-    → IsErrAnd answer (λ told. told ≡ Lines (faults.Line OutOfMemory)) → DrawsTrace frames from from before before answer
-unbegun frames from before (Ok lines) told = absurd told
-unbegun frames from before (Err e) told =
-    subst (λ (x : ExplainFault). DrawsTrace frames from from before before (Err x)) (sym told) (inr (refl, refl, refl), λ is. absurd (cc))
+pub unbegun : {R W : Type 0} (frames : Frames) (mask : Mask) (from : SourceState R) (before : SinkState W) (answer : Result PictureSum ExplainFault)
+    → IsErrAnd answer (λ told. told ≡ Lines (faults.Line OutOfMemory)) → DrawsTrace frames mask from from before before answer
+unbegun frames mask from before (Ok lines) told = absurd told
+unbegun frames mask from before (Err e) told =
+    subst (λ (x : ExplainFault). DrawsTrace frames mask from from before before (Err x)) (sym told) (inr (refl, refl, refl), λ is. absurd (cc))
 
 -- behind the last line the picture was written
 pub ends_whole : {W : Type 0} (frames : Frames) (drawn : DrawState) (sum : PictureSum) (before after : SinkState W) → drawn.ended ≡ None → sum.lines ≡ drawn.lines
     → sum.heard ≡ drawn.heard → sum.outside ≡ outside_of frames drawn.times → sum.fallen ≡ drawn.times.fallen
-    → WritesPicture before after (Ok (tt {0})) → Ends frames drawn before after (Ok sum)
-ends_whole frames drawn sum before after none many heard outside fallen written =
-    subst (λ (e : Option NoLine). EndsAs frames e drawn before after (Ok sum)) (sym none) (many, heard, outside, fallen, written)
+    → sum.codes ≡ drawn.codes → WritesPicture before after (Ok (tt {0})) → Ends frames drawn before after (Ok sum)
+ends_whole frames drawn sum before after none many heard outside fallen coded written =
+    subst (λ (e : Option NoLine). EndsAs frames e drawn before after (Ok sum)) (sym none) (many, heard, outside, fallen, coded, written)

@@ -3,31 +3,41 @@ use Rattle.std.specs.Prelude.{◌≡◌, ℕ, ◌+◌, ◌⊎◌, ◌||◌, not,
 use Rattle.gp_flow.specs.Lines.{Speech, WholeLines, most_lines}
 use Rattle.gp_explain.specs.declared.fault.NoLine.{NoLine}
 use Rattle.gp_explain.specs.declared.fault.NoLine.TheVariants.{NotALine, TooLong}
+use Rattle.gp_ploam.specs.declared.check.Mask.{Mask}
 use Rattle.gp_log.specs.declared.line.LogLine.{LogLine}
 use Rattle.gp_log.specs.declared.line.LogLine.TheVariants as line
 use Rattle.gp_log.specs.declared.said.Said.{Said}
 use Rattle.gp_log.specs.declared.said.Said.TheVariants as said
 use Rattle.gp_log.specs.Line.{Reads, says_nothing}
+use Rattle.gp_finding.specs.declared.codes.Codes.{Codes}
+use Rattle.gp_finding.specs.Codes.{codes_after, no_codes}
 use Rattle.gp_times.specs.Times.{TimesState, times_after, times_begun}
 use Rattle.gp_times.specs.Lines.{IsUnread}
 
--- how many lines came, whether one of them says anything, why the last of them ended it, if it did, and the times of
--- the ports, with how many lines fell
+-- how many lines came, whether one of them says anything, why the last of them ended it, if it did, the times of the
+-- ports, with how many lines fell, the mask of the codes, and how many codes came, with how many of them are garbled
 pub record DrawState : Type 0 where
   pub lines : ℕ
   pub heard : Bool
   pub ended : Option NoLine
   pub times : TimesState
+  pub mask : Mask
+  pub codes : Codes
 
 -- before the first line
-abbrev pub opened : DrawState
-opened = record { lines = 0; heard = false; ended = None; times = times_begun }
+abbrev pub opened : Mask → DrawState
+opened mask =
+    record { lines = 0; heard = false; ended = None; times = times_begun; mask = mask; codes = no_codes }
 
 -- one line more came, which says this
 abbrev pub counted : LogLine → DrawState → DrawState
 counted line state =
-    record state
-    { lines = state.lines + 1; heard = state.heard || not (says_nothing line); times = times_after line state.times }
+    record state {
+      lines = state.lines + 1;
+      heard = state.heard || not (says_nothing line);
+      times = times_after line state.times;
+      codes = codes_after state.mask line state.codes;
+    }
 
 -- one line more came, and ended it
 abbrev pub ended_by : NoLine → DrawState → DrawState

@@ -12,6 +12,8 @@ use Rattle.gp_explain.specs.declared.fault.ExplainFault.{ExplainFault}
 use Rattle.gp_explain.specs.declared.fault.ExplainFault.TheVariants.{Refused, Lines}
 use Rattle.gp_explain.specs.declared.fault.NoLine.{NoLine}
 use Rattle.gp_explain.specs.declared.fault.NoLine.TheVariants.{NotALine, TooLong}
+use Rattle.gp_ploam.specs.declared.check.Mask.{Mask}
+use Rattle.gp_finding.specs.Codes.{HaveCodes}
 use Rattle.gp_picture.specs.declared.running.PictureSum.{PictureSum}
 use Rattle.gp_times.specs.declared.frames.Frames.{Frames}
 use Rattle.gp_times.specs.Lines.{AreRead, HaveFallen, IsRead, IsUnread, IsWhere}
@@ -23,7 +25,7 @@ abbrev pub IsSvg : List ℕ → Type 0
 IsSvg text = (inside : List ℕ) × (text ≡ codes "<svg " ++ inside ++ codes "</svg>\n")
 
 -- the whole input was read, each of its lines is read, and the writer got one picture
-pub record IsDrawn {R W : Type 0} (frames : Frames) (from to : SourceState R) (before after : SinkState W)
+pub record IsDrawn {R W : Type 0} (frames : Frames) (mask : Mask) (from to : SourceState R) (before after : SinkState W)
     (sum : PictureSum) : Type 0 where
   pub text : List ℕ
   pub read : ReadsWhole from to text
@@ -31,6 +33,7 @@ pub record IsDrawn {R W : Type 0} (frames : Frames) (from to : SourceState R) (b
   pub count : length (lines_of text) ≡ sum.lines
   pub outside : IsWhere frames (lines_of text) sum.outside
   pub fallen : HaveFallen (lines_of text) sum.fallen
+  pub codes : HaveCodes mask (lines_of text) sum.codes
   -- the writer got all of it, and keeps nothing back
   pub picture : List ℕ
   pub svg : IsSvg picture
@@ -72,15 +75,15 @@ pub record IsBegun {R W : Type 0} (from to : SourceState R) (before after : Sink
 
 -- how it may end; a failed read, and the bound of reads, are told as such. Memory may run out before anything was read.
 -- That no more lines can be taken is told only where one of the lines is why.
-abbrev pub DrawsTrace : {R W : Type 0} → Frames → SourceState R → SourceState R → SinkState W → SinkState W
+abbrev pub DrawsTrace : {R W : Type 0} → Frames → Mask → SourceState R → SourceState R → SinkState W → SinkState W
     → Result PictureSum ExplainFault → Type 0
-DrawsTrace frames from to before after (Ok sum) = IsDrawn frames from to before after sum
-DrawsTrace frames from to before after (Err (Refused line why)) = IsRefused from to before after line why
-DrawsTrace frames from to before after (Err (Lines faults.Read)) =
+DrawsTrace frames mask from to before after (Ok sum) = IsDrawn frames mask from to before after sum
+DrawsTrace frames mask from to before after (Err (Refused line why)) = IsRefused from to before after line why
+DrawsTrace frames mask from to before after (Err (Lines faults.Read)) =
     IsBegun from to before after × ((to.failed ≡ true) ⊎ (to.left ≡ 0))
-DrawsTrace frames from to before after (Err (Lines (faults.Line fault))) =
+DrawsTrace frames mask from to before after (Err (Lines (faults.Line fault))) =
     (IsBegun from to before after ⊎ ((fault ≡ OutOfMemory) × (to ≡ from) × (after ≡ before)))
-    × (fault ≡ Full → ServesFull Drawing longest_line from to opened)
+    × (fault ≡ Full → ServesFull Drawing longest_line from to (opened mask))
 
 -- how a picture is written, if it is
 abbrev pub WritesPicture : {W : Type 0} → SinkState W → SinkState W → Result (Unit {0}) ExplainFault → Type 0
@@ -101,7 +104,7 @@ abbrev pub EndsAs : {W : Type 0} → Frames → Option NoLine → DrawState → 
 EndsAs frames (Some why) drawn before after answer = (answer ≡ Err (Refused drawn.lines why)) × (after ≡ before)
 EndsAs frames None drawn before after (Ok sum) =
     (sum.lines ≡ drawn.lines) × (sum.heard ≡ drawn.heard) × (sum.outside ≡ outside_of frames drawn.times)
-    × (sum.fallen ≡ drawn.times.fallen) × WritesPicture before after (Ok (tt {0}))
+    × (sum.fallen ≡ drawn.times.fallen) × (sum.codes ≡ drawn.codes) × WritesPicture before after (Ok (tt {0}))
 EndsAs frames None drawn before after (Err fault) = WritesPicture before after (Err fault)
 
 abbrev pub Ends : {W : Type 0} → Frames → DrawState → SinkState W → SinkState W → Result PictureSum ExplainFault → Type 0

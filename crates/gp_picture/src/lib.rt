@@ -2,8 +2,8 @@
 //! fibre.
 //!
 //! Promise: any input is read to its end or to its first line that is none, nothing else is written than one picture,
-//! and how it ended, how many lines fell, and whether all that was heard is outside of it is told exactly
-//! (`draw_trace`). What is drawn is tested.
+//! and how it ended, how many lines fell, how many codes came and are garbled, and whether all that was heard is outside
+//! of it is told exactly (`draw_trace`). What is drawn is tested.
 //!
 //! - `options.rt`: `PictureOptions`, the frames that are drawn, and what is heard is judged by. `moment.rt`: a line and
 //!   its frame.
@@ -43,6 +43,7 @@ mod touched;
 mod whole;
 mod windows;
 
+pub use gp_finding::Codes;
 pub use gp_times::{Frames, Outside};
 pub use options::{PORTS, PictureOptions};
 pub use running::{PictureSum, draw_trace};

@@ -8,6 +8,7 @@ use crate::options::PictureOptions;
 use crate::picture::Picture;
 use crate::whole::picture_text;
 use gp_explain::ExplainFault;
+use gp_finding::Codes;
 use gp_flow::{LinesFault, Unanswered, run_lines};
 use gp_stream::{Sink, Source};
 use gp_times::{Outside, PortTimes};
@@ -23,6 +24,9 @@ pub struct PictureSum {
     pub heard: bool,
     /// How many lines of a log were not heard, since their time is before that of their port.
     pub fallen: u64,
+    /// How many codes came, and how many of them are garbled under the mask, of which nothing is drawn but that: of all
+    /// lines, whatever their times, also of those that fell or are in none of the frames that are drawn.
+    pub codes: Codes,
     /// Where all that was heard is, if all of it is before the first of the frames that are drawn, or all of it behind
     /// the last.
     pub outside: Option<Outside>,
@@ -40,7 +44,7 @@ pub fn draw_trace<R: Read, W: Write>(
     sink: &mut Sink<W>,
 ) -> Result<PictureSum, ExplainFault>
     requires { sink.old.flushed ≡ true }
-    ensures { spec.DrawsTrace options.now.frames source.old source.new sink.old sink.new result }
+    ensures { spec.DrawsTrace options.now.frames options.now.mask source.old source.new sink.old sink.new result }
 {
     let mut drawer = Drawer::begin(alloc, options)?;
     run_lines(alloc, source, sink, &mut drawer)?;
@@ -67,6 +71,7 @@ fn finish<W: Write>(
                 lines: drawer.lines,
                 heard: drawer.heard,
                 fallen: drawer.times.fallen(),
+                codes: drawer.codes,
                 outside: drawer.times.outside(&options.frames),
             })
         }

@@ -32,6 +32,7 @@ impl LineWork for Drawer {
         };
         let number = self.lines + 1;
         let falls = self.times.hear(&read);
+        self.codes.hear(self.mask, &read);
         let line = LineText { number, text };
         self.picture.line(&line, &read, &self.times, falls)?;
         self.lines = number;
