@@ -1,7 +1,8 @@
 //! Every span and mark stands for something that a line says, and none is left out: counted against the input.
-use crate::drawn::{ALL, count_of, drawn, drawn_with_sum};
+use crate::drawn::{ALL, codes_of, count_of, drawn, drawn_with_sum};
 use gp_explain::ExplainFault;
-use gp_picture::Frames;
+use gp_picture::{Codes, Frames};
+use gp_ploam::Mask;
 use std::alloc::{AllocError, Global};
 
 /// The trace of a unit that is lost with LOS, found again, and gasps with a burst.
@@ -101,6 +102,15 @@ const FALLS: &'static str = "\
 1 2 down ff010000000000000000000058\n\
 ";
 
+/// The code of the first line is right under mask 85 alone, that of the second under none, and that of the last under 0.
+const MIXED: &'static str = "\
+0 0 frame = ok sent ff01000000000000000000000d\n\
+0 1 burst 100000 ff01414243440000000100002d = refused 2 garbled\n\
+# a remark\n\
+0 2 frame = ok grant search\n\
+0 3 frame = ok sent ff010000000000000000000058 grant search\n\
+";
+
 /// Gives how many lines of a text hold these words.
 fn lines_with(text: &str, words: &str) -> u64 {
     let mut count = 0u64;
@@ -154,6 +164,23 @@ fn times_that_fall(rt: HostRuntime) -> Result<(), ExplainFault> {
     // those that are not drawn are counted too
     assert_eq!(rt; count_of(cut.as_slice(), "f"), 1);
     assert_eq!(rt; [sum.lines, sum.fallen], [6, 3]);
+    Ok(())
+}
+
+#[test]
+fn codes_that_are_garbled(rt: HostRuntime) -> Result<(), ExplainFault> {
+    // each code counts: of lines that fall, and of frames that are not drawn
+    let none = codes_of(rt.alloc(), FALLS, ALL, Mask::Plain)?;
+    assert_eq!(rt; none, Codes { came: 5, garbled: 0 });
+    let later = Frames { from: 20, to: 30 };
+    let all = codes_of(rt.alloc(), FALLS, later, Mask::Coset)?;
+    assert_eq!(rt; all, Codes { came: 5, garbled: 5 });
+    for mask in [Mask::Plain, Mask::Coset] {
+        let some = codes_of(rt.alloc(), MIXED, ALL, mask)?;
+        assert_eq!(rt; some, Codes { came: 3, garbled: 2 });
+    }
+    let grants = codes_of(rt.alloc(), "1 grant search\n", ALL, Mask::Coset)?;
+    assert_eq!(rt; grants, Codes::none());
     Ok(())
 }
 

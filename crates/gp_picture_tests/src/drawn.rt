@@ -1,6 +1,6 @@
 //! Pictures of texts.
 use gp_explain::ExplainFault;
-use gp_picture::{Frames, PORTS, PictureOptions, PictureSum, draw_trace};
+use gp_picture::{Codes, Frames, PORTS, PictureOptions, PictureSum, draw_trace};
 use gp_ploam::Mask;
 use gp_stream::{Sink, Source};
 use std::alloc::Global;
@@ -32,6 +32,23 @@ pub(crate) fn drawn_with_sum(
     let mut sink = Sink::new(alloc, Vec::new(alloc))?;
     let sum = draw_trace(alloc, &options(frames), &mut source, &mut sink)?;
     Ok((sink.into_inner(), sum))
+}
+
+/// Gives how many codes of a text came, and how many of them are garbled under a mask.
+pub(crate) fn codes_of(
+    alloc: Global,
+    text: &str,
+    frames: Frames,
+    mask: Mask,
+) -> Result<Codes, ExplainFault> {
+    let mut source = Source::endless(text.as_bytes());
+    let mut sink = Sink::new(alloc, Vec::new(alloc))?;
+    let options = PictureOptions {
+        mask,
+        ..options(frames)
+    };
+    let sum = draw_trace(alloc, &options, &mut source, &mut sink)?;
+    Ok(sum.codes)
 }
 
 /// Gives the picture of a text.

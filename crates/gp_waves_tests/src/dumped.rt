@@ -3,7 +3,7 @@ use crate::parsed::{Wanted, parse};
 use gp_explain::ExplainFault;
 use gp_ploam::Mask;
 use gp_stream::{Sink, Source};
-use gp_waves::{Frames, WavesOptions, WavesSum, dump_waves};
+use gp_waves::{Codes, Frames, WavesOptions, WavesSum, dump_waves};
 use std::alloc::{AllocError, Global};
 use std::io::{Read, Write};
 
@@ -66,6 +66,23 @@ pub(crate) fn dumped_to<W: Write + Drop>(
     let mut sink = Sink::new(alloc, writer)?;
     let outcome = dump_waves(alloc, &options(ALL), &mut source, &mut sink);
     Ok((outcome, sink.into_inner()))
+}
+
+/// Gives how many codes of a text came, and how many of them are garbled under a mask.
+pub(crate) fn codes_of(
+    alloc: Global,
+    text: &str,
+    frames: Frames,
+    mask: Mask,
+) -> Result<Codes, ExplainFault> {
+    let mut source = Source::endless(text.as_bytes());
+    let mut sink = Sink::new(alloc, Vec::new(alloc))?;
+    let options = WavesOptions {
+        mask,
+        ..options(frames)
+    };
+    let sum = dump_waves(alloc, &options, &mut source, &mut sink)?;
+    Ok(sum.codes)
 }
 
 /// Tells whether a dump ended behind so many lines, of which so many fell, and none of its changes is late.

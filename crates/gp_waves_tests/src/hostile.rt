@@ -1,12 +1,13 @@
 //! Lines that are none, times that fall, readers and writers that fail, and memory that is refused.
 use crate::dumped::{
-    ALL, Count, DumpText, dumped, dumped_from, dumped_to, has_count, is_dump_with, is_sum,
+    ALL, Count, DumpText, codes_of, dumped, dumped_from, dumped_to, has_count, is_dump_with, is_sum,
 };
 use crate::parsed::Wanted;
 use crate::run::{DUMP, RUN};
 use gp_explain::{ExplainFault, NoLine};
 use gp_flow::{LinesFault, Unanswered};
-use gp_waves::WavesSum;
+use gp_ploam::Mask;
+use gp_waves::{Codes, Frames, WavesSum};
 use std::alloc::{AllocError, Global};
 use std::io;
 use std::io::{ErrorKind, Read, Write};
@@ -85,6 +86,34 @@ fn times_that_fall(rt: HostRuntime) {
             row.1
         );
     }
+}
+
+/// The code of the first line is right under mask 85 alone, that of the second under none, and that of the last under 0.
+const MIXED: &'static str = "\
+0 0 frame = ok sent ff01000000000000000000000d\n\
+0 1 burst 100000 ff01414243440000000100002d = refused 2 garbled\n\
+# a remark\n\
+0 2 frame = ok grant search\n\
+0 3 frame = ok sent ff010000000000000000000058 grant search\n\
+";
+
+#[test]
+fn codes_that_are_garbled(rt: HostRuntime) -> Result<(), ExplainFault> {
+    // each code counts: of lines that fall, and of frames that are not dumped
+    let none = codes_of(rt.alloc(), RUN, ALL, Mask::Plain)?;
+    assert_eq!(rt; none, Codes { came: 5, garbled: 0 });
+    let some = codes_of(rt.alloc(), FALLS, ALL, Mask::Plain)?;
+    assert_eq!(rt; some, Codes { came: 3, garbled: 2 });
+    let later = Frames { from: 20, to: 30 };
+    let all = codes_of(rt.alloc(), FALLS, later, Mask::Coset)?;
+    assert_eq!(rt; all, Codes { came: 3, garbled: 3 });
+    for mask in [Mask::Plain, Mask::Coset] {
+        let mixed = codes_of(rt.alloc(), MIXED, ALL, mask)?;
+        assert_eq!(rt; mixed, Codes { came: 3, garbled: 2 });
+    }
+    let grants = codes_of(rt.alloc(), "1 grant search\n", ALL, Mask::Coset)?;
+    assert_eq!(rt; grants, Codes::none());
+    Ok(())
 }
 
 /// Fails at each read.

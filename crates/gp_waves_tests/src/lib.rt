@@ -5,7 +5,8 @@
 //!   `texts.rt`: a trace and a log.
 //! - `run.rt`: a short run, change by change, and some of its frames. `counts.rt`: changes, counted against the input,
 //!   and their values and times. `ports.rt`: ports that are not in step. `lanes.rt`: more units than lanes.
-//! - `hostile.rt`: lines that are none, times that fall, readers and writers that fail, memory that is refused.
+//! - `hostile.rt`: lines that are none, times that fall, garbled codes, readers and writers that fail, memory that is
+//!   refused.
 #![tactic(auto)]
 
 #[cfg(test)]
