@@ -257,7 +257,8 @@ pub const PICTURE_HELP: &str = "\
 LOG is a log of messages or a trace, as for audit, but the first line that is neither
 ends it, and nothing is drawn; put # before the heading of a table, and it is passed over.
 A chart is drawn for each port, with a lane for each unit; findings are marked as audit
-tells them.
+tells them. Of codes that are garbled under --mask nothing else is drawn; standard error
+says how many of all codes they are.
 
 Examples:
   oltctl picture lab.log > lab.svg
@@ -266,8 +267,8 @@ Examples:
 
 Exit status:
   0  the picture was written
-  1  a line is neither one of a log nor of a trace, nothing was heard, or all of it is
-     before --from, or all behind --to, or LOG was not read
+  1  a line is neither one of a log nor of a trace, nothing was heard, all of it is before
+     --from, or all behind --to, all codes are garbled under --mask, or LOG was not read
   2  the command line is wrong
   3  out of memory
   4  the output takes no more";
@@ -278,7 +279,8 @@ LOG is a log of messages or a trace, as for audit, but the first line that is ne
 ends the dump, behind what was before it; put # before the heading of a table, and it is
 passed over. A dump is for gtkwave, surfer or a simulator: for each port the code sent,
 the grant, the window, the burst and the alarm, for each unit its serial number, state,
-ONU-ID and delay. Times are in nanoseconds.
+ONU-ID and delay. Times are in nanoseconds. Of codes that are garbled under --mask only
+the octets are told; standard error says how many of all codes they are.
 
 Examples:
   oltctl waves lab.log > lab.vcd
@@ -287,8 +289,8 @@ Examples:
 
 Exit status:
   0  the dump was written
-  1  a line is neither one of a log nor of a trace, nothing was heard, or all of it is
-     before --from, or all behind --to, or LOG was not read
+  1  a line is neither one of a log nor of a trace, nothing was heard, all of it is before
+     --from, or all behind --to, all codes are garbled under --mask, or LOG was not read
   2  the command line is wrong
   3  out of memory
   4  the output takes no more";

@@ -171,13 +171,31 @@ fn times_that_fall(rt: HostRuntime) -> Result<(), ExplainFault> {
 fn codes_that_are_garbled(rt: HostRuntime) -> Result<(), ExplainFault> {
     // each code counts: of lines that fall, and of frames that are not drawn
     let none = codes_of(rt.alloc(), FALLS, ALL, Mask::Plain)?;
-    assert_eq!(rt; none, Codes { came: 5, garbled: 0 });
+    assert_eq!(rt;
+        none,
+        Codes {
+            came: 5,
+            garbled: 0
+        }
+    );
     let later = Frames { from: 20, to: 30 };
     let all = codes_of(rt.alloc(), FALLS, later, Mask::Coset)?;
-    assert_eq!(rt; all, Codes { came: 5, garbled: 5 });
+    assert_eq!(rt;
+        all,
+        Codes {
+            came: 5,
+            garbled: 5
+        }
+    );
     for mask in [Mask::Plain, Mask::Coset] {
         let some = codes_of(rt.alloc(), MIXED, ALL, mask)?;
-        assert_eq!(rt; some, Codes { came: 3, garbled: 2 });
+        assert_eq!(rt;
+            some,
+            Codes {
+                came: 3,
+                garbled: 2
+            }
+        );
     }
     let grants = codes_of(rt.alloc(), "1 grant search\n", ALL, Mask::Coset)?;
     assert_eq!(rt; grants, Codes::none());

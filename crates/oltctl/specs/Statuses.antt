@@ -18,6 +18,8 @@ use Rattle.gp_flow.specs.declared.fault.Unanswered.{Unanswered}
 use Rattle.gp_flow.specs.declared.fault.LinesFault.{LinesFault}
 use Rattle.gp_flow.specs.declared.fault.LinesFault.TheVariants.{Line}
 use Rattle.gp_replay.specs.declared.fault.RunFault.{RunFault}
+use Rattle.gp_finding.specs.declared.codes.Codes.{Codes}
+use Rattle.gp_finding.specs.Codes.{are_all_garbled}
 use Rattle.gp_picture.specs.declared.running.PictureSum.{PictureSum}
 use Rattle.gp_waves.specs.declared.running.WavesSum.{WavesSum}
 use Rattle.gp_replay.specs.declared.fault.RunFault.TheVariants as run
@@ -220,15 +222,16 @@ pub record IsToldAs (wanted : Explanation) (told : ToldTrace) : Type 0 where
 abbrev pub IsExplained : Explanation → ℕ → Type 0
 IsExplained wanted status = (told : ToldTrace) × IsToldAs wanted told × (status ≡ told_status told)
 
--- the status after a log was drawn or dumped, by whether one of its lines says anything, and by where all that was
--- heard is, if it is in none of the frames that are wanted
-abbrev pub heard_status : {T : Type 0} → Bool → Option T → ℕ
-heard_status heard None = if heard then SUCCESS else BAD_INPUT
-heard_status heard (Some outside) = BAD_INPUT
+-- the status after a log was drawn or dumped, by whether one of its lines says anything, by where all that was heard is,
+-- if it is in none of the frames that are wanted, and by how many codes came, and how many of them are garbled
+abbrev pub heard_status : {T : Type 0} → Bool → Option T → Codes → ℕ
+heard_status heard None codes =
+    if are_all_garbled codes then BAD_INPUT else (if heard then SUCCESS else BAD_INPUT)
+heard_status heard (Some outside) codes = BAD_INPUT
 
 -- the status after a log was drawn
 abbrev pub drawn_status : Result PictureSum ExplainFault → ℕ
-drawn_status (Ok sum) = heard_status sum.heard sum.outside
+drawn_status (Ok sum) = heard_status sum.heard sum.outside sum.codes
 drawn_status (Err fault) = explain_status fault
 
 -- the status after a log was to be drawn: an option can't be read; or it is drawn as is asked for, likewise
@@ -240,7 +243,7 @@ IsPictured wanted status =
 
 -- the status after a log was dumped, likewise
 abbrev pub waves_status : Result WavesSum ExplainFault → ℕ
-waves_status (Ok sum) = heard_status sum.heard sum.outside
+waves_status (Ok sum) = heard_status sum.heard sum.outside sum.codes
 waves_status (Err fault) = explain_status fault
 
 -- the status after a log was to be dumped: an option can't be; or it is dumped as is asked for, likewise

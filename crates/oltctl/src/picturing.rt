@@ -3,13 +3,15 @@ ghost use Rattle.std.specs.Prelude.{◌≡◌};
 ghost use Rattle.oltctl.specs.Statuses.{IsPictured, drawn_status, heard_status};
 
 use crate::observed::{Observed, Seen};
-use crate::reporting::{refuse_option, report_before, report_behind, report_silence, tell_fallen};
+use crate::reporting::{
+    refuse_option, report_before, report_behind, report_silence, tell_fallen, tell_garbled,
+};
 use gp_command_line::Drawing;
 use gp_explain::ExplainFault;
 use gp_flow::LinesFault;
 use gp_options::picture_options;
 use gp_picture::{Outside, PictureOptions, PictureSum, draw_trace};
-use gp_report::SUCCESS;
+use gp_report::{BAD_INPUT, SUCCESS};
 use gp_stream::{Sink, Source};
 use std::io;
 use std::io::Read;
@@ -45,13 +47,15 @@ fn draw_file<R: AllocGlobal + Files + Print + Input>(
     }
 }
 
-/// Says that nothing was heard, or nothing in the frames that are drawn, and answers the exit status.
+/// Says that nothing was heard, or nothing in the frames that are drawn, and answers the exit status: of codes that are
+/// all garbled, which is told already, it is that of nothing that was heard.
 fn end_drawn<R: Eprint>(rt: &R, options: &PictureOptions, sum: &PictureSum) -> u8
-    ensures { result ≡ heard_status sum.now.heard sum.now.outside }
+    ensures { result ≡ heard_status sum.now.heard sum.now.outside sum.now.codes }
 {
     match sum.outside {
         Some(Outside::Before { last }) => report_before(rt, options.frames.from, last),
         Some(Outside::Behind { first }) => report_behind(rt, options.frames.to, first),
+        None if sum.codes.are_all_garbled() => BAD_INPUT,
         None if sum.heard => SUCCESS,
         None => report_silence(rt),
     }
@@ -69,6 +73,7 @@ fn end_picture<R: AllocGlobal + Eprint>(
     match outcome {
         Ok(sum) => {
             tell_fallen(rt, sum.fallen);
+            tell_garbled(rt, &sum.codes);
             end_drawn(rt, options, sum)
         }
         Err(fault) => seen.end_log(rt, fault),

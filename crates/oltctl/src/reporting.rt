@@ -3,6 +3,7 @@ ghost use Rattle.std.specs.Prelude.{◌≡◌};
 ghost use Rattle.oltctl.specs.Statuses.{end_status};
 
 use gp_check::{Purpose, placed_line};
+use gp_finding::Codes;
 use gp_options::BadOption;
 use gp_replay::RunFault;
 use gp_report::{BAD_ARGUMENTS, BAD_INPUT, SUCCESS, run_report};
@@ -84,6 +85,15 @@ pub(crate) fn refuse_option<R: Eprint>(rt: &R, option: BadOption<'_>) -> u8
 pub(crate) fn tell_fallen<R: Eprint>(rt: &R, fallen: u64) {
     if fallen > 0 {
         let _ = eprintln!(rt; "oltctl: lines whose time falls, not heard: {fallen}");
+    }
+}
+
+/// Says on standard error how many of the codes that came are garbled under the mask, if any are: nothing was heard of
+/// those.
+pub(crate) fn tell_garbled<R: Eprint>(rt: &R, codes: &Codes) {
+    let Codes { came, garbled } = *codes;
+    if garbled > 0 {
+        let _ = eprintln!(rt; "oltctl: codes garbled under this mask: {garbled} of {came}");
     }
 }
 

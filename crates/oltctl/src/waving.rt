@@ -3,12 +3,14 @@ ghost use Rattle.std.specs.Prelude.{◌≡◌};
 ghost use Rattle.oltctl.specs.Statuses.{IsDumped, heard_status, waves_status};
 
 use crate::observed::{Observed, Seen};
-use crate::reporting::{refuse_option, report_before, report_behind, report_silence, tell_fallen};
+use crate::reporting::{
+    refuse_option, report_before, report_behind, report_silence, tell_fallen, tell_garbled,
+};
 use gp_command_line::Dumping;
 use gp_explain::ExplainFault;
 use gp_flow::LinesFault;
 use gp_options::waves_options;
-use gp_report::SUCCESS;
+use gp_report::{BAD_INPUT, SUCCESS};
 use gp_stream::{Sink, Source};
 use gp_waves::{Outside, WavesOptions, WavesSum, dump_waves};
 use std::io;
@@ -45,10 +47,12 @@ fn dump_file<R: AllocGlobal + Files + Print + Input>(
     }
 }
 
-/// Says how many lines were not heard, and how many changes stand at a later time than theirs, if any do.
+/// Says how many lines were not heard, how many codes are garbled, and how many changes stand at a later time than
+/// theirs, if any do.
 fn tell_sum<R: Eprint>(rt: &R, sum: &WavesSum) {
     let WavesSum { fallen, late, .. } = *sum;
     tell_fallen(rt, fallen);
+    tell_garbled(rt, &sum.codes);
     if late > 0 {
         let _ = eprintln!(rt;
             "oltctl: changes of ports that are far behind, at a later time than theirs: {late}"
@@ -56,13 +60,15 @@ fn tell_sum<R: Eprint>(rt: &R, sum: &WavesSum) {
     }
 }
 
-/// Says that nothing was heard, or nothing in the frames that are dumped, and answers the exit status.
+/// Says that nothing was heard, or nothing in the frames that are dumped, and answers the exit status: of codes that are
+/// all garbled, which is told already, it is that of nothing that was heard.
 fn end_dumped<R: Eprint>(rt: &R, options: &WavesOptions, sum: &WavesSum) -> u8
-    ensures { result ≡ heard_status sum.now.heard sum.now.outside }
+    ensures { result ≡ heard_status sum.now.heard sum.now.outside sum.now.codes }
 {
     match sum.outside {
         Some(Outside::Before { last }) => report_before(rt, options.frames.from, last),
         Some(Outside::Behind { first }) => report_behind(rt, options.frames.to, first),
+        None if sum.codes.are_all_garbled() => BAD_INPUT,
         None if sum.heard => SUCCESS,
         None => report_silence(rt),
     }
