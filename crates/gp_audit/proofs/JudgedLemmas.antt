@@ -1,7 +1,7 @@
 -- Which rules are in a set behind something that was heard, and that each of which a finding is told is.
-use Rattle.std.proofs.Common.{◌≡◌, ◌==◌, ◌<◌, ◌⊎◌, ◌&&◌, ◌||◌, if◌then◌else◌, not, ℕ, Bool, true, false, List, [], ◌∷◌, Option, None, Some, filter, length, refl, sym, ap, ◌∙◌, inl, inr, arith, slice_set}
+use Rattle.std.proofs.Common.{◌≡◌, ◌==◌, ◌⊎◌, ◌&&◌, ◌||◌, if◌then◌else◌, not, ℕ, Bool, true, false, List, [], ◌∷◌, Option, None, Some, filter, length, refl, sym, ap, ◌∙◌, inl, inr, arith}
 use Rattle.std.specs.Prelude.{slice_index_or}
-use Rattle.std.specs.List.{fold, list_all, list_any}
+use Rattle.std.specs.List.{list_all, list_any}
 use Rattle.std.proofs.lemmas.Bool.{cases_Bool, false≢true}
 use Rattle.std.proofs.lemmas.Bool.Decides.{Decides-eqb}
 use Rattle.std.proofs.lemmas.List.{get_or-set_same, get_or-set_other, length-set}
@@ -19,7 +19,8 @@ use Rattle.gp_observer.proofs.Judged.{heard_judged}
 use Rattle.gp_finding.specs.Names.{rules as all_rules}
 use Rattle.gp_audit.specs.declared.rule_set.RuleSet.{RuleSet}
 use Rattle.gp_audit.specs.declared.options.FindingChoice.{FindingChoice}
-use Rattle.gp_audit.specs.Judging.{EitherJudged, JustTheJudgedJoin, RulesHaveSides, ToldAreJudged, code_rules, grant_rules, is_new, is_of_terminal, is_of_units, joined_by, judged_with, message_rules, rules_of, unit_rules}
+use Rattle.gp_audit.specs.Judging.{AreWhole, EitherJudged, JustTheJudged, JustTheJudgedJoin, RulesHaveSides, code_rules, down_rules, grant_rules, is_new, joined_by, judged_after, judged_on_both, judged_with, of_both, rules_of, unit_rules, was_judged}
+use Rattle.gp_audit.specs.declared.judged.Judged.{Judged}
 use Rattle.gp_audit.specs.RuleSet.{contains, is_side_told, is_told, rule_place, with_rule}
 use Rattle.gp_audit.proofs.ChosenLemmas.{below, same_place}
 
@@ -147,7 +148,7 @@ of_code rule.Number = inr refl
 of_code rule.Acknowledge = inr refl
 of_code rule.Drift = inr refl
 
-of_message : (watch : Watch) (message : Down) (r : Rule) → (list_any (is r) message_rules ≡ true) ⊎ ((judges_garbled r ≡ false) × (message_judges watch message r ≡ false))
+of_message : (watch : Watch) (message : Down) (r : Rule) → (list_any (is r) down_rules ≡ true) ⊎ ((judges_garbled r ≡ false) × (message_judges watch message r ≡ false))
 of_message _ _ rule.Garbled = inl refl
 of_message _ _ rule.Copies = inl refl
 of_message _ _ rule.Range = inl refl
@@ -231,15 +232,15 @@ of_grant _ (grants.Poll _) rule.Acknowledge = inr refl
 of_grant _ (grants.Poll _) rule.Drift = inr refl
 
 -- a copy, by whether it tells its message
-by_copy : (is_told garbled judged : Bool) (r : Rule) → (list_any (is r) message_rules ≡ true) ⊎ ((garbled ≡ false) × (judged ≡ false)) → May code_rules r garbled
-    → May (if is_told then message_rules else code_rules) r (garbled || (is_told && judged))
+by_copy : (is_told garbled judged : Bool) (r : Rule) → (list_any (is r) down_rules ≡ true) ⊎ ((garbled ≡ false) × (judged ≡ false)) → May code_rules r garbled
+    → May (if is_told then down_rules else code_rules) r (garbled || (is_told && judged))
 by_copy true garbled judged r (inl among) code = inl among
 by_copy true garbled judged r (inr none) code = inr (ap (λ (b : Bool). b || judged) none.0 ∙ none.1)
 by_copy false garbled judged r message (inl among) = inl among
 by_copy false garbled judged r message (inr none) = inr (ap (λ (b : Bool). b || false) none)
 
 of_copy : (watch : Watch) (message : Down) (r : Rule)
-    → May (if is_new watch message then message_rules else code_rules) r (judges_garbled r || copy_judges watch message r)
+    → May (if is_new watch message then down_rules else code_rules) r (judges_garbled r || copy_judges watch message r)
 of_copy watch message r = by_copy (is_new watch message) (judges_garbled r) (message_judges watch message r) r (of_message watch message r) (of_code r)
 
 of_heard : (watch : Watch) (heard : Heard) (r : Rule) → May (rules_of watch heard) r (judges watch heard r)
@@ -283,8 +284,35 @@ by_side true told watch heard set r long =
     ∙ ap (λ (b : Bool). contains set r || b) (passed_in told watch heard r)
 by_side false told watch heard set r long = or_false (contains set r)
 
-pub judged_join : JustTheJudgedJoin
-judged_join told watch heard set r long = by_side (is_side_told told heard) told watch heard set r long
+-- of a side, or not
+of_side : (here : Bool) (told : FindingChoice) (watch : Watch) (heard : Heard) (set : RuleSet) (r : Rule) → length set.places ≡ 19
+    → contains (if here then judged_with told watch heard set else set) r
+    ≡ (contains set r || (here && is_told told heard r && judges watch heard r))
+of_side true told watch heard set r long = by_side (is_side_told told heard) told watch heard set r long
+of_side false told watch heard set r long = or_false (contains set r)
+
+of_other : (here : Bool) (told : FindingChoice) (watch : Watch) (heard : Heard) (set : RuleSet) (r : Rule) → length set.places ≡ 19
+    → contains (if here then set else judged_with told watch heard set) r
+    ≡ (contains set r || (not here && is_told told heard r && judges watch heard r))
+of_other true told watch heard set r long = or_false (contains set r)
+of_other false told watch heard set r long = by_side (is_side_told told heard) told watch heard set r long
+
+-- ---- places
+
+all_long : (passes : Rule → Bool) (these : List Rule) (set : RuleSet) → length set.places ≡ 19 → length (joined_by passes these set).places ≡ 19
+all_long passes [] set long = long
+all_long passes (own ∷ these) set long = all_long passes these (joined (passes own) set own) (stays_long (passes own) set own long)
+
+if_long : (here : Bool) (one other : RuleSet) → length one.places ≡ 19 → length other.places ≡ 19 → length (if here then one else other).places ≡ 19
+if_long true one other one_long other_long = one_long
+if_long false one other one_long other_long = other_long
+
+with_long : (told : FindingChoice) (watch : Watch) (heard : Heard) (set : RuleSet) → length set.places ≡ 19 → length (judged_with told watch heard set).places ≡ 19
+with_long told watch heard set long =
+    if_long (is_side_told told heard) (joined_by (passes_in told watch heard) (rules_of watch heard) set) set
+    (all_long (passes_in told watch heard) (rules_of watch heard) set long) long
+
+-- ---- what was judged
 
 first : (b c : Bool) → (b && c) ≡ true → b ≡ true
 first true c h = refl
@@ -302,17 +330,46 @@ told_in is_in is_told_of judged before (r ∷ broken) goes all =
     let rest = told_in is_in is_told_of judged before broken goes (second (judged r) (list_all judged broken) all) in
     elim (cases_Bool (is_told_of r)) [
       | inl told ↦
-          let is : is_in r ≡ true =
+          let there : is_in r ≡ true =
           goes r ∙ ap (λ (b : Bool). before r || (b && judged r)) told
           ∙ ap (λ (b : Bool). before r || b) (first (judged r) (list_all judged broken) all) ∙ sym (or_true (before r)) in
-          rw told (ap (λ (b : Bool). b && list_all is_in (filter is_told_of broken)) is ∙ rest)
+          rw told (ap (λ (b : Bool). b && list_all is_in (filter is_told_of broken)) there ∙ rest)
       | inr other ↦ rw other rest
     ]
 
-pub told_judged : ToldAreJudged
-told_judged told settings watch heard set long =
-    told_in (contains (judged_with told watch heard set)) (is_told told heard) (judges watch heard) (contains set) (breaks settings watch heard)
-    (λ r. judged_join told watch heard set r long) (heard_judged settings watch heard)
+-- what joins one of two sets joins them together
+joins_either : (here terminal units told judged : Bool)
+    → ((terminal || (here && told && judged)) || (units || (not here && told && judged))) ≡ ((terminal || units) || (told && judged))
+joins_either true true units told judged = refl
+joins_either false true units told judged = refl
+joins_either true false true told judged = sym (or_true (told && judged))
+joins_either true false false told judged = sym (or_false (told && judged))
+joins_either false false true told judged = refl
+joins_either false false false told judged = refl
+
+after_heard : (told : FindingChoice) (watch : Watch) (heard : Heard) (before : Judged) → AreWhole before
+    → JustTheJudged told watch heard before (judged_after told watch heard before)
+after_heard told watch heard before whole =
+    let of_terminal = λ (r : Rule). of_side (is_terminals heard) told watch heard before.terminal r whole.0 in
+    let of_units = λ (r : Rule). of_other (is_terminals heard) told watch heard before.units r whole.1 in
+    record {
+      whole = (
+        if_long (is_terminals heard) (judged_with told watch heard before.terminal) before.terminal (with_long told watch heard before.terminal whole.0) whole.0,
+        if_long (is_terminals heard) before.units (judged_with told watch heard before.units) whole.1 (with_long told watch heard before.units whole.1),
+      );
+      terminal = of_terminal;
+      units = of_units;
+      found = λ settings. told_in (was_judged (judged_after told watch heard before)) (is_told told heard) (judges watch heard) (was_judged before) (breaks settings watch heard)
+          (λ r.
+          (λ i. of_terminal r i || of_units r i)
+          ∙ joins_either (is_terminals heard) (contains before.terminal r) (contains before.units r) (is_told told heard r) (judges watch heard r))
+          (heard_judged settings watch heard);
+    }
+
+pub judged_join : JustTheJudgedJoin
+judged_join = ((refl, refl), after_heard)
+
+-- ---- of two ports
 
 of_all : (r : Rule) → list_any (is r) all_rules ≡ true
 of_all rule.Garbled = refl
@@ -335,27 +392,18 @@ of_all rule.Number = refl
 of_all rule.Acknowledge = refl
 of_all rule.Drift = refl
 
-pub either_judged : EitherJudged
-either_judged one other r long =
+in_both : (one other : RuleSet) (r : Rule) → length one.places ≡ 19 → contains (of_both one other) r ≡ (contains one r || contains other r)
+in_both one other r long =
     all_join (contains other) all_rules one r long ∙ ap (λ (b : Bool). contains one r || b) (passed_of (contains other) r all_rules (of_all r))
 
-copy_sides : (told : Bool) → list_all is_of_terminal (if told then message_rules else code_rules) ≡ true
-copy_sides true = refl
-copy_sides false = refl
+pub either_judged : EitherJudged
+unfolding judged_on_both
+either_judged one other whole =
+    record {
+      whole = (all_long (contains other.terminal) all_rules one.terminal whole.0, all_long (contains other.units) all_rules one.units whole.1);
+      terminal = λ r. in_both one.terminal other.terminal r whole.0;
+      units = λ r. in_both one.units other.units r whole.1;
+    }
 
 pub have_sides : RulesHaveSides
-have_sides watch (HeardDown None) = refl
-have_sides watch (HeardDown (Some down.NoMessage)) = refl
-have_sides watch (HeardDown (Some (down.UpstreamOverhead burst))) = copy_sides (is_new watch (down.UpstreamOverhead burst))
-have_sides watch (HeardDown (Some (down.AssignOnu onu serial))) = copy_sides (is_new watch (down.AssignOnu onu serial))
-have_sides watch (HeardDown (Some (down.RangingTime onu eqd))) = copy_sides (is_new watch (down.RangingTime onu eqd))
-have_sides watch (HeardDown (Some (down.Deactivate onu))) = copy_sides (is_new watch (down.Deactivate onu))
-have_sides watch (HeardDown (Some (down.DisableSerial serial))) = copy_sides (is_new watch (down.DisableSerial serial))
-have_sides watch (HeardDown (Some (down.EnableSerial serial))) = copy_sides (is_new watch (down.EnableSerial serial))
-have_sides watch (HeardDown (Some down.EnableAll)) = copy_sides (is_new watch down.EnableAll)
-have_sides watch (HeardDown (Some (down.AssignAlloc onu alloc keep))) = copy_sides (is_new watch (down.AssignAlloc onu alloc keep))
-have_sides watch (HeardDown (Some (down.Popup onu))) = copy_sides (is_new watch (down.Popup onu))
-have_sides watch (HeardDown (Some (down.Other id octet1 body))) = copy_sides (is_new watch (down.Other id octet1 body))
-have_sides watch (HeardUp None delay) = refl
-have_sides watch (HeardUp (Some message) delay) = refl
-have_sides watch (HeardGrant grant) = refl
+have_sides = (refl, refl)

@@ -1,6 +1,6 @@
 -- Which rules that are told are judged of what is heard, on each side, and which garbled codes are left out (this
 -- profile's own rule).
-use Rattle.std.specs.Prelude.{◌≡◌, ◌+◌, ◌^◌, ◌-◌, ℕ, Bool, true, false, not, ◌&&◌, ◌||◌, if◌then◌else◌, List, [], ◌∷◌, filter, length, min, Option, None, Some}
+use Rattle.std.specs.Prelude.{◌≡◌, ◌+◌, ◌^◌, ◌-◌, ℕ, Bool, true, false, not, ◌&&◌, ◌||◌, if◌then◌else◌, List, [], ◌∷◌, ◌++◌, filter, length, min, None, Some}
 use Rattle.std.specs.List.{fold, list_all}
 use Rattle.gp_ploam.specs.declared.message.Down.{Down}
 use Rattle.gp_ploam.specs.declared.message.Down.TheVariants.{NoMessage}
@@ -12,6 +12,7 @@ use Rattle.gp_observer.specs.Rules.{Settings}
 use Rattle.gp_observer.specs.Watch.{Watch, passes_over, tells}
 use Rattle.gp_finding.specs.Names.{rules as all_rules}
 use Rattle.gp_audit.specs.declared.judged.Judged.{Judged}
+use Rattle.gp_audit.specs.declared.options.AuditOptions.{AuditOptions}
 use Rattle.gp_audit.specs.declared.options.FindingChoice.{FindingChoice}
 use Rattle.gp_audit.specs.declared.rule_set.RuleSet.{RuleSet}
 use Rattle.gp_audit.specs.RuleSet.{contains, each_rule, is_empty, is_side_told, is_told, rules as rules_there_are, with_rule}
@@ -21,8 +22,8 @@ use Rattle.gp_audit.specs.RuleSet.{contains, each_rule, is_empty, is_side_told, 
 abbrev pub code_rules : List Rule
 code_rules = rule.Garbled ∷ []
 
-abbrev pub message_rules : List Rule
-message_rules =
+abbrev pub down_rules : List Rule
+down_rules =
     rule.Garbled ∷ rule.Copies ∷ rule.Range ∷ rule.Barred ∷ rule.Unasked ∷ rule.Taken ∷ rule.Renumbered ∷ rule.Nobody
     ∷ rule.Unranged ∷ rule.Delay ∷ rule.Early ∷ rule.Shared ∷ rule.NotHeld ∷ []
 
@@ -36,12 +37,12 @@ grant_rules = rule.Grant ∷ []
 abbrev pub is_new : Watch → Down → Bool
 is_new watch message = not (passes_over watch message) && tells watch message
 
--- of what is heard, by what is known before it: a message down is judged with the copy that tells it
+-- those that may be judged of what is heard, by what is known before it: of a message down with the copy that tells it
 abbrev pub rules_of : Watch → Heard → List Rule
 rules_of watch (HeardDown None) = code_rules
 rules_of watch (HeardDown (Some NoMessage)) = code_rules
 rules_of watch (HeardDown (Some message)) =
-    if is_new watch message then message_rules else code_rules
+    if is_new watch message then down_rules else code_rules
 rules_of watch (HeardUp None delay) = code_rules
 rules_of watch (HeardUp (Some message) delay) = unit_rules
 rules_of watch (HeardGrant grant) = grant_rules
@@ -109,6 +110,10 @@ judged_on_both one other =
 abbrev pub is_nothing : Judged → Bool
 is_nothing judged = is_empty judged.terminal && is_empty judged.units
 
+-- the rule was judged, on either side
+abbrev pub was_judged : Judged → Rule → Bool
+was_judged judged rule = contains judged.terminal rule || contains judged.units rule
+
 -- it is judged of what a unit says
 abbrev pub is_of_units : Rule → Bool
 is_of_units rule.Garbled = true
@@ -124,43 +129,60 @@ abbrev pub is_of_terminal : Rule → Bool
 is_of_terminal rule.Garbled = true
 is_of_terminal rule = not (is_of_units rule)
 
--- of a side some rule was judged, but not this one
-abbrev pub lacks : RuleSet → Rule → Bool
-lacks judged rule = not (is_empty judged) && not (contains judged rule)
+-- it is judged only of a log that doesn't begin in the middle
+abbrev pub is_of_whole : Rule → Bool
+is_of_whole rule.Unasked = true
+is_of_whole _ = false
 
--- the rule is told, and judged on a side of which something was judged, but it was not
-abbrev pub misses : FindingChoice → Judged → Rule → Bool
-misses told judged rule =
-    contains told.rules rule
-    && ((is_of_terminal rule && lacks judged.terminal rule) || (is_of_units rule && lacks judged.units rule))
+-- it is told, and may be judged of such a log
+abbrev pub may_be_judged : AuditOptions → Rule → Bool
+may_be_judged options rule = contains options.told.rules rule && not (options.midway && is_of_whole rule)
+
+-- it is judged on a side that is told, of which something was judged
+abbrev pub is_of_heard : FindingChoice → Judged → Rule → Bool
+is_of_heard told judged rule =
+    (told.terminal && is_of_terminal rule && not (is_empty judged.terminal))
+    || (told.units && is_of_units rule && not (is_empty judged.units))
+
+-- it was missed: it may be judged, on a side of which something was judged, but it was not
+abbrev pub misses : AuditOptions → Judged → Rule → Bool
+misses options judged rule =
+    may_be_judged options rule && is_of_heard options.told judged rule && not (was_judged judged rule)
 
 -- ---- laws
 
--- just the rules that are told and judged of what is heard join those that were judged before
+-- both sets have a place for each rule
+abbrev pub AreWhole : Judged → Type 0
+AreWhole judged =
+    (length judged.terminal.places ≡ rules_there_are) × (length judged.units.places ≡ rules_there_are)
+
+-- behind something that is heard just the rules that are told and judged of it join those of its side; so each rule of
+-- which a finding is told was judged
+pub record JustTheJudged (told : FindingChoice) (watch : Watch) (heard : Heard) (before after : Judged) : Type 0 where
+  pub whole : AreWhole after
+  pub terminal : (rule : Rule) → contains after.terminal rule
+      ≡ (contains before.terminal rule || (is_terminals heard && is_told told heard rule && judges watch heard rule))
+  pub units : (rule : Rule) → contains after.units rule
+      ≡ (contains before.units rule || (not (is_terminals heard) && is_told told heard rule && judges watch heard rule))
+  pub found : (settings : Settings)
+      → list_all (was_judged after) (filter (is_told told heard) (breaks settings watch heard)) ≡ true
+
 abbrev pub JustTheJudgedJoin : Type 0
 JustTheJudgedJoin =
-    (told : FindingChoice) (watch : Watch) (heard : Heard) (judged : RuleSet) (rule : Rule)
-    → length judged.places ≡ rules_there_are
-    → contains (judged_with told watch heard judged) rule
-    ≡ (contains judged rule || (is_told told heard rule && judges watch heard rule))
+    AreWhole nothing_judged
+    × ((told : FindingChoice) (watch : Watch) (heard : Heard) (before : Judged) → AreWhole before
+    → JustTheJudged told watch heard before (judged_after told watch heard before))
 
--- each rule of which a finding is told is among those that were judged then
-abbrev pub ToldAreJudged : Type 0
-ToldAreJudged =
-    (told : FindingChoice) (settings : Settings) (watch : Watch) (heard : Heard) (judged : RuleSet)
-    → length judged.places ≡ rules_there_are
-    → list_all (contains (judged_with told watch heard judged))
-    (filter (is_told told heard) (breaks settings watch heard))
-    ≡ true
+-- of two ports just what was judged on one of them
+pub record OfEither (one other both : Judged) : Type 0 where
+  pub whole : AreWhole both
+  pub terminal : (rule : Rule) → contains both.terminal rule ≡ (contains one.terminal rule || contains other.terminal rule)
+  pub units : (rule : Rule) → contains both.units rule ≡ (contains one.units rule || contains other.units rule)
 
--- a rule was judged on one of two ports
 abbrev pub EitherJudged : Type 0
-EitherJudged =
-    (one other : RuleSet) (rule : Rule) → length one.places ≡ rules_there_are
-    → contains (of_both one other) rule ≡ (contains one rule || contains other rule)
+EitherJudged = (one other : Judged) → AreWhole one → OfEither one other (judged_on_both one other)
 
--- what may be judged of something is judged on its side
+-- the rules of each side are those that may be judged there
 abbrev pub RulesHaveSides : Type 0
 RulesHaveSides =
-    (watch : Watch) (heard : Heard)
-    → list_all (if is_terminals heard then is_of_terminal else is_of_units) (rules_of watch heard) ≡ true
+    (filter is_of_terminal all_rules ≡ down_rules ++ grant_rules) × (filter is_of_units all_rules ≡ unit_rules)

@@ -1,4 +1,5 @@
--- Which rules are told (this profile's own rule).
+-- Some of the rules, as those that are told or those that were judged, and which findings are told (this profile's own
+-- rule).
 use Rattle.std.specs.Prelude.{ℕ, Bool, false, not, ◌&&◌, replicate, slice_index_or, slice_set}
 use Rattle.std.specs.List.{list_any}
 use Rattle.gp_observer.specs.declared.rule.Rule.{Rule}

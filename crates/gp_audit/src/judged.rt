@@ -6,7 +6,7 @@ ghost use Rattle.gp_audit.specs.Judging as spec;
 ghost use Rattle.gp_audit.specs.RuleSet.{contains, with_rule};
 ghost use Rattle.gp_watch.specs.Heard.{heard_of};
 
-use crate::options::FindingChoice;
+use crate::options::{AuditOptions, FindingChoice};
 use crate::rule_set::RuleSet;
 use gp_finding::RULES;
 use gp_observer::Rule;
@@ -17,7 +17,7 @@ use gp_watch::{Heard, PortWatch};
 const CODE_RULES: [Rule; 1] = [Rule::Garbled];
 
 /// Those that are judged of a message down.
-const MESSAGE_RULES: [Rule; 13] = [
+const DOWN_RULES: [Rule; 13] = [
     Rule::Garbled,
     Rule::Copies,
     Rule::Range,
@@ -110,10 +110,10 @@ fn with_copy(
     message: &Down,
 ) -> RuleSet
     ensures { result ≡ spec.joined_by (λ rule. contains told.now rule && judges watch.now (heard_of heard.now) rule)
-        (if spec.is_new watch.now message.now then spec.message_rules else spec.code_rules) judged.now }
+        (if spec.is_new watch.now message.now then spec.down_rules else spec.code_rules) judged.now }
 {
     if is_new(watch, message) {
-        with_these(judged, &MESSAGE_RULES, told, watch, heard)
+        with_these(judged, &DOWN_RULES, told, watch, heard)
     } else {
         with_these(judged, &CODE_RULES, told, watch, heard)
     }
@@ -179,11 +179,18 @@ fn is_of_terminal(rule: Rule) -> bool
     }
 }
 
-/// Tells whether of a side some rule was judged, but not this one.
-fn lacks(judged: &RuleSet, rule: Rule) -> bool
-    ensures { result ≡ spec.lacks judged.now rule }
+/// Tells whether a rule is judged only of a log that doesn't begin in the middle.
+fn is_of_whole(rule: Rule) -> bool
+    ensures { result ≡ spec.is_of_whole rule }
 {
-    !judged.is_empty() && !judged.contains(rule)
+    matches!(rule, Rule::Unasked)
+}
+
+/// Tells whether a rule is told, and may be judged of a log that begins so.
+fn may_be_judged(options: &AuditOptions, rule: Rule) -> bool
+    ensures { result ≡ spec.may_be_judged options.now rule }
+{
+    options.told.rules.contains(rule) && !(options.midway && is_of_whole(rule))
 }
 
 impl FindingChoice {
@@ -252,22 +259,35 @@ impl Judged {
         self.terminal.is_empty() && self.units.is_empty()
     }
 
-    /// Tells whether a rule was missed: it is told, and judged on a side of which others were judged, but it was not.
-    pub fn misses(&self, told: &FindingChoice, rule: Rule) -> bool
-        ensures { result ≡ spec.misses told.now self.now rule }
+    /// Tells whether a rule was judged, on either side.
+    fn has(&self, rule: Rule) -> bool
+        ensures { result ≡ spec.was_judged self.now rule }
     {
-        told.rules.contains(rule)
-            && ((is_of_terminal(rule) && lacks(&self.terminal, rule))
-                || (is_of_units(rule) && lacks(&self.units, rule)))
+        self.terminal.contains(rule) || self.units.contains(rule)
+    }
+
+    /// Tells whether a rule is judged on a side that is told, of which something was judged.
+    fn is_of_heard(&self, told: &FindingChoice, rule: Rule) -> bool
+        ensures { result ≡ spec.is_of_heard told.now self.now rule }
+    {
+        (told.terminal && is_of_terminal(rule) && !self.terminal.is_empty())
+            || (told.units && is_of_units(rule) && !self.units.is_empty())
+    }
+
+    /// Tells whether a rule was missed in an audit by these options: it is told, and others were judged of a side on
+    /// which it is judged, but it was not. Of a log that begins in the middle `unasked` isn't missed.
+    pub fn misses(&self, options: &AuditOptions, rule: Rule) -> bool
+        ensures { result ≡ spec.misses options.now self.now rule }
+    {
+        may_be_judged(options, rule) && self.is_of_heard(&options.told, rule) && !self.has(rule)
     }
 }
 
-/// States that of what is heard just the rules that are told and judged of it join those that were judged; so each rule
-/// of which a finding is told was judged. Each is of the side on which it joins them, and of two ports those of either
-/// count.
+/// States that of what is heard just the rules that are told and judged of it join those that were judged on its side;
+/// so each rule of which a finding is told was judged. Of two ports those of either count. The rules of each side are
+/// those that may be judged there.
 pub fn told_are_judged()
     ensures join { spec.JustTheJudgedJoin }
-    ensures told { spec.ToldAreJudged }
     ensures either { spec.EitherJudged }
     ensures sides { spec.RulesHaveSides }
 {}

@@ -1,4 +1,4 @@
-//! Some of the rules, as a set: which findings are told.
+//! Some of the rules, as a set: those of which findings are told, or those that were judged.
 ghost use Rattle.std.specs.Prelude.{◌≡◌, ◌<◌, true, false};
 ghost use Rattle.std.specs.List.{list_any};
 ghost use Rattle.gp_observer.specs.declared.rule.Rule.{Rule as AnyRule};
@@ -52,7 +52,7 @@ impl RuleSet {
         }
     }
 
-    /// Tells whether none is.
+    /// Tells whether no rule is among them.
     pub fn is_empty(&self) -> bool
         ensures { result ≡ is_empty self.now }
     {

@@ -232,9 +232,9 @@ Rules of the terminal: garbled copies range barred unasked taken renumbered nobo
 unranged delay early shared not-held grant; of units: garbled disabled anew number
 acknowledge drift. RULES are some of these, with commas between. One has to be left to
 tell: with --side, one that is judged on that side; with --midway, one other than unasked.
-A rule is judged only where it is known what it asks for. Standard error names those of
-RULES of which nothing was heard, as drift where no delay was measured, or says that none
-was judged, or none of a side, and where garbled codes were left out.
+A rule is judged only where it is known what it asks for. Standard error names the rules
+that are told but were not judged of anything, as drift where no delay was measured, or
+says that none was judged, or none of a side, and where garbled codes were left out.
 
 Examples:
   oltctl audit lab.log

@@ -78,7 +78,7 @@ impl Codes {
         }
     }
 
-    /// Tells whether there are codes, and all of them are garbled: under this mask nothing was heard but grants.
+    /// Tells whether there are codes, and all of them are garbled: under this mask no message was heard.
     pub fn are_all_garbled(&self) -> bool
         ensures { result ≡ spec.are_all_garbled self.now }
     {
