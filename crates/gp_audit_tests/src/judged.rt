@@ -1,6 +1,6 @@
 //! What of a log is judged: by which rules, of which side, which rules are missed, and which garbled codes are left out.
 use crate::words::{log_of, plain_options};
-use gp_audit::{AuditOptions, Auditor, FindingChoice, Judged, RuleSet, audit_log};
+use gp_audit::{AuditOptions, Auditor, Judged, RuleSet, audit_log};
 use gp_flow::LinesFault;
 use gp_observer::Rule;
 use gp_stream::{Sink, Source};
@@ -59,15 +59,10 @@ fn alone(rule: Rule, midway: bool) -> AuditOptions {
     options
 }
 
-/// Gives the letters of the rules that are judged of a log, each told alone, of those in a list.
-fn rules_judged(
-    alloc: Global,
-    rules: &[(Rule, char)],
-    midway: bool,
-    words: &str,
-) -> Result<String, LinesFault> {
+/// Gives the letters of the rules that are judged of a log, each told alone.
+fn rules_judged(alloc: Global, midway: bool, words: &str) -> Result<String, LinesFault> {
     let mut letters = String::new(alloc);
-    for (rule, letter) in rules {
+    for (rule, letter) in LETTERS.iter() {
         let found = judged(alloc, &alone(*rule, midway), words)?;
         if !found.is_nothing() {
             letters.push(*letter)?;
@@ -88,10 +83,10 @@ fn letters_of(alloc: Global, set: &RuleSet) -> Result<String, AllocError> {
 }
 
 /// Gives the letters of the rules that were missed.
-fn missed(alloc: Global, told: &FindingChoice, judged: &Judged) -> Result<String, AllocError> {
+fn missed(alloc: Global, options: &AuditOptions, judged: &Judged) -> Result<String, AllocError> {
     let mut letters = String::new(alloc);
     for (rule, letter) in LETTERS.iter() {
-        if judged.misses(told, *rule) {
+        if judged.misses(options, *rule) {
             letters.push(*letter)?;
         }
     }
@@ -142,7 +137,7 @@ fn all_of_a_log(rt: HostRuntime) -> Result<(), Fail> {
     let options = plain_options();
     let all = judged(rt.alloc(), &options, RANGED)?;
     check_judged(&rt, &all, "gcrbutenadG", "gDANF", 0)?;
-    assert_eq!(rt; missed(rt.alloc(), &options.told, &all)?.as_str(), "yshK");
+    assert_eq!(rt; missed(rt.alloc(), &options, &all)?.as_str(), "yshK");
     Ok(())
 }
 
@@ -152,7 +147,7 @@ fn without_delays(rt: HostRuntime) -> Result<(), Fail> {
     let unmeasured = judged(rt.alloc(), &options, UNMEASURED)?;
     check_judged(&rt, &unmeasured, "gcrbutena", "gDAN", 0)?;
     assert_eq!(rt;
-        missed(rt.alloc(), &options.told, &unmeasured)?.as_str(),
+        missed(rt.alloc(), &options, &unmeasured)?.as_str(),
         "dyshGKF"
     );
     Ok(())
@@ -165,15 +160,12 @@ fn one_side_of_a_log(rt: HostRuntime) -> Result<(), Fail> {
     options.told.rules.remove(Rule::Garbled);
     let terminal = judged(rt.alloc(), &options, RANGED)?;
     check_judged(&rt, &terminal, "crbutenadG", "", 1)?;
-    assert_eq!(rt;
-        missed(rt.alloc(), &options.told, &terminal)?.as_str(),
-        "ysh"
-    );
+    assert_eq!(rt; missed(rt.alloc(), &options, &terminal)?.as_str(), "ysh");
     options.told.units = true;
     options.told.terminal = false;
     let silent = judged(rt.alloc(), &options, "3 down Assign_ONU-ID 3 ABCD00000001")?;
     check_judged(&rt, &silent, "", "", 0)?;
-    assert_eq!(rt; missed(rt.alloc(), &options.told, &silent)?.as_str(), "");
+    assert_eq!(rt; missed(rt.alloc(), &options, &silent)?.as_str(), "");
     Ok(())
 }
 
@@ -196,8 +188,8 @@ fn garbled_of_one_side(rt: HostRuntime) -> Result<(), Fail> {
     let found = judged(rt.alloc(), &options, granted)?;
     check_judged(&rt, &found, "G", "gN", 0)?;
     assert_eq!(rt;
-        missed(rt.alloc(), &options.told, &found)?.as_str(),
-        "gcrbutenadyshDAKF"
+        missed(rt.alloc(), &options, &found)?.as_str(),
+        "crbutenadyshDAKF"
     );
     Ok(())
 }
@@ -205,11 +197,11 @@ fn garbled_of_one_side(rt: HostRuntime) -> Result<(), Fail> {
 #[test]
 fn rules_that_are_judged(rt: HostRuntime) -> Result<(), Fail> {
     let alloc = rt.alloc();
-    let ranged = rules_judged(alloc, &LETTERS, false, RANGED)?;
+    let ranged = rules_judged(alloc, false, RANGED)?;
     assert_eq!(rt; ranged.as_str(), "gcrbutenadGDANF");
-    let unmeasured = rules_judged(alloc, &LETTERS, false, UNMEASURED)?;
+    let unmeasured = rules_judged(alloc, false, UNMEASURED)?;
     assert_eq!(rt; unmeasured.as_str(), "gcrbutenaDAN");
-    let allocs = rules_judged(alloc, &LETTERS, false, ALLOCS)?;
+    let allocs = rules_judged(alloc, false, ALLOCS)?;
     assert_eq!(rt; allocs.as_str(), "gcrbutenyshNK");
     Ok(())
 }
@@ -217,18 +209,13 @@ fn rules_that_are_judged(rt: HostRuntime) -> Result<(), Fail> {
 #[test]
 fn one_message_alone(rt: HostRuntime) -> Result<(), Fail> {
     let alloc = rt.alloc();
-    let nothing = rules_judged(alloc, &LETTERS, false, "1 down No_message")?;
+    let nothing = rules_judged(alloc, false, "1 down No_message")?;
     assert_eq!(rt; nothing.as_str(), "g");
-    let first = rules_judged(alloc, &LETTERS, false, "1 down Deactivate_ONU-ID 3")?;
+    let first = rules_judged(alloc, false, "1 down Deactivate_ONU-ID 3")?;
     assert_eq!(rt; first.as_str(), "gn");
-    let search = rules_judged(alloc, &LETTERS, false, "1 grant search")?;
+    let search = rules_judged(alloc, false, "1 grant search")?;
     assert_eq!(rt; search.as_str(), "");
-    let ask = rules_judged(
-        alloc,
-        &LETTERS,
-        false,
-        "1 up Serial_Number_ONU 255 ABCD00000001 0 0",
-    )?;
+    let ask = rules_judged(alloc, false, "1 up Serial_Number_ONU 255 ABCD00000001 0 0")?;
     assert_eq!(rt; ask.as_str(), "gDA");
     Ok(())
 }
@@ -236,10 +223,10 @@ fn one_message_alone(rt: HostRuntime) -> Result<(), Fail> {
 #[test]
 fn midway(rt: HostRuntime) -> Result<(), Fail> {
     let alloc = rt.alloc();
-    let ranged = rules_judged(alloc, &LETTERS, true, RANGED)?;
+    let ranged = rules_judged(alloc, true, RANGED)?;
     // the assignment stands first and is passed over; what is said to its unit isn't known then
     assert_eq!(rt; ranged.as_str(), "gF");
-    let allocs = rules_judged(alloc, &LETTERS, true, ALLOCS)?;
+    let allocs = rules_judged(alloc, true, ALLOCS)?;
     assert_eq!(rt; allocs.as_str(), "gcr");
     Ok(())
 }
@@ -251,6 +238,11 @@ fn who_holds_a_number_midway(rt: HostRuntime) -> Result<(), Fail> {
     let unknown = "1 grant poll 3\n1 up No_message 3 @1001\n3 down Deactivate_ONU-ID 3";
     let judged_of_unknown = judged(rt.alloc(), &options, unknown)?;
     check_judged(&rt, &judged_of_unknown, "g", "g", 0)?;
+    // who asked before isn't known, so that nobody asked is judged of no log that begins in the middle
+    assert_eq!(rt;
+        missed(rt.alloc(), &options, &judged_of_unknown)?.as_str(),
+        "crbtenadyshGDANKF"
+    );
     let known = "3 down POPUP 255\n3 down Assign_ONU-ID 3 ABCD00000001\n1 grant range 3";
     let judged_of_known = judged(rt.alloc(), &options, known)?;
     check_judged(&rt, &judged_of_known, "grG", "", 0)?;
@@ -265,5 +257,9 @@ fn two_ports(rt: HostRuntime) -> Result<(), Fail> {
     options.told.rules.remove(Rule::Garbled);
     let found = judged_log(rt.alloc(), &options, log.as_slice())?;
     check_judged(&rt, &found, "G", "", 2)?;
+    let other =
+        b"1 7 grant poll 3\n2 7 up 00000000000000000000000002\n7 7 down ff010000000000000000000058\n";
+    let both = judged_log(rt.alloc(), &plain_options(), other.as_slice())?;
+    check_judged(&rt, &both, "gG", "g", 0)?;
     Ok(())
 }

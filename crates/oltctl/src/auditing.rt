@@ -101,11 +101,14 @@ fn tell_silent_side<R: Eprint>(rt: &R, options: &AuditOptions, judged: &Judged) 
     }
 }
 
-/// Says which rules were not judged, of those that are told and judged on a side of which others were.
+/// Says which rules were missed, if any were: those that are told, but were not judged of anything.
 fn tell_missed<R: Eprint>(rt: &R, options: &AuditOptions, judged: &Judged) {
-    let mut before = "oltctl: nothing was heard that these rules judge:";
+    let mut before = match options.midway {
+        false => "oltctl: rules that were not judged of anything:",
+        true => "oltctl: rules that were not judged of anything (--midway):",
+    };
     for rule in RULES.iter() {
-        if judged.misses(&options.told, *rule) {
+        if judged.misses(options, *rule) {
             let name = rule_name(*rule);
             let _ = eprint!(rt; "{before} {name}");
             before = "";
@@ -117,7 +120,7 @@ fn tell_missed<R: Eprint>(rt: &R, options: &AuditOptions, judged: &Judged) {
 }
 
 /// Says what was not judged, though a rule was: garbled codes where they are not told, a side of which nothing is, and
-/// other rules.
+/// rules that were missed.
 fn tell_unjudged<R: Eprint>(rt: &R, options: &AuditOptions, judged: &Judged) {
     if judged.is_nothing() {
         return tell_none_judged(rt, judged);
