@@ -4,7 +4,7 @@ ghost use Rattle.std.specs.Prelude.{◌≡◌, IsSome, None, OnOk};
 ghost use Rattle.oltctl.specs.Statuses.{IsExplained, IsToldAs, is_counted, lines_told_status, told_status};
 
 use crate::observed::{Observed, Seen};
-use crate::reporting::{report, report_at, report_silence};
+use crate::reporting::{mask_number, report, report_at, report_silence};
 use gp_command_line::{Explanation, TraceForm};
 use gp_explain::{ExplainFault, Telling, explain_trace};
 use gp_flow::LinesFault;
@@ -110,10 +110,7 @@ fn explain_file<R: AllocGlobal + Files + Print + Input>(
 fn tell_garbled<R: Eprint>(rt: &R, mask: Mask, codes: HeardCodes) {
     let garbled = codes.garbled;
     if garbled > 0 {
-        let mask = match mask {
-            Mask::Plain => 0,
-            Mask::Coset => 85,
-        };
+        let mask = mask_number(mask);
         let _ = eprintln!(rt;
             "oltctl: codes whose check octet is wrong under mask {mask} (--mask), not heard: {garbled}"
         );

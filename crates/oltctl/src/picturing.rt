@@ -73,7 +73,7 @@ fn end_picture<R: AllocGlobal + Eprint>(
     match outcome {
         Ok(sum) => {
             tell_fallen(rt, sum.fallen);
-            tell_garbled(rt, &sum.codes);
+            tell_garbled(rt, options.mask, &sum.codes);
             end_drawn(rt, options, sum)
         }
         Err(fault) => seen.end_log(rt, fault),

@@ -5,6 +5,7 @@ ghost use Rattle.oltctl.specs.Statuses.{end_status};
 use gp_check::{Purpose, placed_line};
 use gp_finding::Codes;
 use gp_options::BadOption;
+use gp_ploam::Mask;
 use gp_replay::RunFault;
 use gp_report::{BAD_ARGUMENTS, BAD_INPUT, SUCCESS, run_report};
 use std::alloc::{AllocError, Global};
@@ -88,12 +89,23 @@ pub(crate) fn tell_fallen<R: Eprint>(rt: &R, fallen: u64) {
     }
 }
 
+/// Gives the number of a mask, as `--mask` has it.
+pub(crate) fn mask_number(mask: Mask) -> u8 {
+    match mask {
+        Mask::Plain => 0,
+        Mask::Coset => 85,
+    }
+}
+
 /// Says on standard error how many of the codes that came are garbled under the mask, if any are: nothing was heard of
 /// those.
-pub(crate) fn tell_garbled<R: Eprint>(rt: &R, codes: &Codes) {
+pub(crate) fn tell_garbled<R: Eprint>(rt: &R, mask: Mask, codes: &Codes) {
     let Codes { came, garbled } = *codes;
     if garbled > 0 {
-        let _ = eprintln!(rt; "oltctl: codes garbled under this mask: {garbled} of {came}");
+        let mask = mask_number(mask);
+        let _ = eprintln!(rt;
+            "oltctl: codes garbled under mask {mask} (--mask): {garbled} of {came}"
+        );
     }
 }
 

@@ -49,10 +49,10 @@ fn dump_file<R: AllocGlobal + Files + Print + Input>(
 
 /// Says how many lines were not heard, how many codes are garbled, and how many changes stand at a later time than
 /// theirs, if any do.
-fn tell_sum<R: Eprint>(rt: &R, sum: &WavesSum) {
+fn tell_sum<R: Eprint>(rt: &R, options: &WavesOptions, sum: &WavesSum) {
     let WavesSum { fallen, late, .. } = *sum;
     tell_fallen(rt, fallen);
-    tell_garbled(rt, &sum.codes);
+    tell_garbled(rt, options.mask, &sum.codes);
     if late > 0 {
         let _ = eprintln!(rt;
             "oltctl: changes of ports that are far behind, at a later time than theirs: {late}"
@@ -85,7 +85,7 @@ fn end_waves<R: AllocGlobal + Eprint>(
 {
     match outcome {
         Ok(sum) => {
-            tell_sum(rt, sum);
+            tell_sum(rt, options, sum);
             end_dumped(rt, options, sum)
         }
         Err(fault) => seen.end_log(rt, fault),
