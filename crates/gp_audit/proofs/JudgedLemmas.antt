@@ -1,10 +1,10 @@
 -- Which rules are in a set behind something that was heard, and that each of which a finding is told is.
-use Rattle.std.proofs.Common.{◌≡◌, ◌==◌, ◌⊎◌, ◌&&◌, ◌||◌, if◌then◌else◌, not, ℕ, Bool, true, false, List, [], ◌∷◌, Option, None, Some, filter, length, refl, sym, ap, ◌∙◌, inl, inr, arith}
+use Rattle.std.proofs.Common.{◌≡◌, ◌==◌, ◌⊎◌, ◌&&◌, ◌||◌, if◌then◌else◌, not, ℕ, Bool, true, false, List, [], ◌∷◌, Option, None, Some, filter, length, refl, sym, ap, ◌∙◌, inl, inr, arith, slice_set}
 use Rattle.std.specs.Prelude.{slice_index_or}
 use Rattle.std.specs.List.{list_all, list_any}
 use Rattle.std.proofs.lemmas.Bool.{cases_Bool, false≢true}
 use Rattle.std.proofs.lemmas.Bool.Decides.{Decides-eqb}
-use Rattle.std.proofs.lemmas.List.{get_or-set_same, get_or-set_other, length-set}
+use Rattle.std.proofs.lemmas.List.{get_or-set_same, get_or-set_other, length-set, set-get_or}
 use Rattle.gp_ploam.specs.declared.message.Down.{Down}
 use Rattle.gp_ploam.specs.declared.message.Down.TheVariants as down
 use Rattle.gp_ploam.specs.declared.message.Up.{Up}
@@ -43,6 +43,12 @@ or_or true b c = refl
 or_or false b c = refl
 
 -- ---- one rule
+
+-- a rule that is in a set is put in, or isn't: the set stays as it is
+pub stays_in : (b : Bool) (set : RuleSet) (r : Rule) → contains set r ≡ true → set ≡ (if b then with_rule true set r else set)
+stays_in true set r within =
+    λ i. record { places = (sym (ap (λ (b : Bool). slice_set set.places (rule_place r) b) (sym within) ∙ set-get_or set.places (rule_place r) false)) i }
+stays_in false set r within = refl
 
 abbrev is : Rule → Rule → Bool
 is r own = rule_place own == rule_place r

@@ -12,7 +12,6 @@ use Rattle.gp_observer.specs.Rules.{Settings}
 use Rattle.gp_observer.specs.Watch.{Watch, passes_over, tells}
 use Rattle.gp_finding.specs.Names.{rules as all_rules}
 use Rattle.gp_audit.specs.declared.judged.Judged.{Judged}
-use Rattle.gp_audit.specs.declared.options.AuditOptions.{AuditOptions}
 use Rattle.gp_audit.specs.declared.options.FindingChoice.{FindingChoice}
 use Rattle.gp_audit.specs.declared.rule_set.RuleSet.{RuleSet}
 use Rattle.gp_audit.specs.RuleSet.{contains, each_rule, is_empty, is_side_told, is_told, rules as rules_there_are, with_rule}
@@ -68,9 +67,9 @@ is_garbled (HeardDown None) = true
 is_garbled (HeardUp None delay) = true
 is_garbled _ = false
 
--- it is garbled and of a side that is told, but that it is garbled isn't told
+-- it is garbled, and no finding tells so: whatever side is told, less is known of it then
 abbrev pub leaves_garbled : FindingChoice → Heard → Bool
-leaves_garbled told heard = is_garbled heard && is_side_told told heard && not (contains told.rules rule.Garbled)
+leaves_garbled told heard = is_garbled heard && not (is_told told heard rule.Garbled)
 
 -- what is counted, as far as 64 bits go
 abbrev pub added : ℕ → ℕ → ℕ
@@ -129,25 +128,13 @@ abbrev pub is_of_terminal : Rule → Bool
 is_of_terminal rule.Garbled = true
 is_of_terminal rule = not (is_of_units rule)
 
--- it is judged only of a log that doesn't begin in the middle
-abbrev pub is_of_whole : Rule → Bool
-is_of_whole rule.Unasked = true
-is_of_whole _ = false
+-- it is judged on a side that is told
+abbrev pub is_of_told : FindingChoice → Rule → Bool
+is_of_told told rule = (told.terminal && is_of_terminal rule) || (told.units && is_of_units rule)
 
--- it is told, and may be judged of such a log
-abbrev pub may_be_judged : AuditOptions → Rule → Bool
-may_be_judged options rule = contains options.told.rules rule && not (options.midway && is_of_whole rule)
-
--- it is judged on a side that is told, of which something was judged
-abbrev pub is_of_heard : FindingChoice → Judged → Rule → Bool
-is_of_heard told judged rule =
-    (told.terminal && is_of_terminal rule && not (is_empty judged.terminal))
-    || (told.units && is_of_units rule && not (is_empty judged.units))
-
--- it was missed: it may be judged, on a side of which something was judged, but it was not
-abbrev pub misses : AuditOptions → Judged → Rule → Bool
-misses options judged rule =
-    may_be_judged options rule && is_of_heard options.told judged rule && not (was_judged judged rule)
+-- it was missed: it is told, but was not judged
+abbrev pub misses : FindingChoice → Judged → Rule → Bool
+misses told judged rule = contains told.rules rule && is_of_told told rule && not (was_judged judged rule)
 
 -- ---- laws
 

@@ -6,7 +6,7 @@ ghost use Rattle.gp_audit.specs.Judging as spec;
 ghost use Rattle.gp_audit.specs.RuleSet.{contains, with_rule};
 ghost use Rattle.gp_watch.specs.Heard.{heard_of};
 
-use crate::options::{AuditOptions, FindingChoice};
+use crate::options::FindingChoice;
 use crate::rule_set::RuleSet;
 use gp_finding::RULES;
 use gp_observer::Rule;
@@ -54,43 +54,38 @@ pub struct Judged {
     pub terminal: RuleSet,
     /// Those that were judged of something that a unit said.
     pub units: RuleSet,
-    /// How many codes of a side that is told were garbled where that isn't told: nothing is judged of them. As far as
-    /// 64 bits go.
+    /// How many codes were garbled of which no finding tells so, on either side: nothing is judged of them. As far as 64
+    /// bits go.
     pub garbled: u64,
 }
 
-/// Gives a set with a rule that is told and judged of something heard. Whether it is isn't asked of one that is in it.
-fn with_judged(
-    judged: RuleSet,
-    told: &RuleSet,
-    watch: &PortWatch,
-    heard: &Heard,
-    rule: Rule,
-) -> RuleSet
-    ensures { result ≡ (if contains told.now rule && judges watch.now (heard_of heard.now) rule
-        then with_rule true judged rule else judged) }
+/// Puts a rule in, if it is told and judged of something heard. Whether it is isn't asked of one that is in.
+fn join_rule(judged: &mut RuleSet, told: &RuleSet, watch: &PortWatch, heard: &Heard, rule: Rule)
+    ensures { judged.new ≡ (if contains told.now rule && judges watch.now (heard_of heard.now) rule
+        then with_rule true judged.old rule else judged.old) }
 {
-    let mut joined = judged;
-    if told.contains(rule) && !judged.contains(rule) && watch.judges(heard, rule) {
-        joined.insert(rule);
+    if judged.contains(rule) {
+        return;
     }
-    joined
+    if told.contains(rule) && watch.judges(heard, rule) {
+        judged.insert(rule);
+    }
 }
 
-/// Gives a set with those of these rules that are told and judged of something heard.
-fn with_these(
-    judged: &RuleSet,
+/// Puts those of these rules in that are told and judged of something heard.
+fn join_these(
+    judged: &mut RuleSet,
     these: &[Rule],
     told: &RuleSet,
     watch: &PortWatch,
     heard: &Heard,
-) -> RuleSet
-    ensures { result ≡ spec.joined_by (λ rule. contains told.now rule && judges watch.now (heard_of heard.now) rule)
-        these.now judged.now }
+)
+    ensures { judged.new ≡ spec.joined_by (λ rule. contains told.now rule && judges watch.now (heard_of heard.now) rule)
+        these.now judged.old }
 {
-    these.iter().fold(*judged, |joined, rule| {
-        with_judged(joined, told, watch, heard, *rule)
-    })
+    'rules: for rule in these {
+        join_rule(judged, told, watch, heard, *rule);
+    }
 }
 
 /// Tells whether a message down is told with this copy.
@@ -100,42 +95,36 @@ fn is_new(watch: &PortWatch, message: &Down) -> bool
     !watch.passes_over(message) && watch.tells(message)
 }
 
-/// Gives a set with the rules that are told and judged of a message down, which something heard is: of a copy that
-/// doesn't tell it only that its check octet is right.
-fn with_copy(
-    judged: &RuleSet,
-    told: &RuleSet,
-    watch: &PortWatch,
-    heard: &Heard,
-    message: &Down,
-) -> RuleSet
-    ensures { result ≡ spec.joined_by (λ rule. contains told.now rule && judges watch.now (heard_of heard.now) rule)
-        (if spec.is_new watch.now message.now then spec.down_rules else spec.code_rules) judged.now }
+/// Puts the rules in that are told and judged of a message down, which something heard is: of a copy that doesn't tell
+/// it only that its check octet is right.
+fn join_copy(judged: &mut RuleSet, told: &RuleSet, watch: &PortWatch, heard: &Heard, message: &Down)
+    ensures { judged.new ≡ spec.joined_by (λ rule. contains told.now rule && judges watch.now (heard_of heard.now) rule)
+        (if spec.is_new watch.now message.now then spec.down_rules else spec.code_rules) judged.old }
 {
     if is_new(watch, message) {
-        with_these(judged, &DOWN_RULES, told, watch, heard)
+        join_these(judged, &DOWN_RULES, told, watch, heard);
     } else {
-        with_these(judged, &CODE_RULES, told, watch, heard)
+        join_these(judged, &CODE_RULES, told, watch, heard);
     }
 }
 
-/// Gives a set with the rules that are told and judged of something heard, by what is known before it. Only those are
-/// looked at that may be.
-fn with_heard(judged: &RuleSet, told: &RuleSet, watch: &PortWatch, heard: &Heard) -> RuleSet
-    ensures { result ≡ spec.joined_by (λ rule. contains told.now rule && judges watch.now (heard_of heard.now) rule)
-        (spec.rules_of watch.now (heard_of heard.now)) judged.now }
+/// Puts the rules in that are told and judged of something heard, by what is known before it. Only those are looked at
+/// that may be.
+fn join_heard(judged: &mut RuleSet, told: &RuleSet, watch: &PortWatch, heard: &Heard)
+    ensures { judged.new ≡ spec.joined_by (λ rule. contains told.now rule && judges watch.now (heard_of heard.now) rule)
+        (spec.rules_of watch.now (heard_of heard.now)) judged.old }
 {
     match heard {
         Heard::Down(None) | Heard::Down(Some(Down::NoMessage)) => {
-            with_these(judged, &CODE_RULES, told, watch, heard)
+            join_these(judged, &CODE_RULES, told, watch, heard)
         }
-        Heard::Down(Some(message)) => with_copy(judged, told, watch, heard, message),
-        Heard::Up { message: None, .. } => with_these(judged, &CODE_RULES, told, watch, heard),
+        Heard::Down(Some(message)) => join_copy(judged, told, watch, heard, message),
+        Heard::Up { message: None, .. } => join_these(judged, &CODE_RULES, told, watch, heard),
         Heard::Up {
             message: Some(_),
             ..
-        } => with_these(judged, &UNIT_RULES, told, watch, heard),
-        Heard::Grant(_) => with_these(judged, &GRANT_RULES, told, watch, heard),
+        } => join_these(judged, &UNIT_RULES, told, watch, heard),
+        Heard::Grant(_) => join_these(judged, &GRANT_RULES, told, watch, heard),
     }
 }
 
@@ -179,38 +168,29 @@ fn is_of_terminal(rule: Rule) -> bool
     }
 }
 
-/// Tells whether a rule is judged only of a log that doesn't begin in the middle.
-fn is_of_whole(rule: Rule) -> bool
-    ensures { result ≡ spec.is_of_whole rule }
-{
-    matches!(rule, Rule::Unasked)
-}
-
-/// Tells whether a rule is told, and may be judged of a log that begins so.
-fn may_be_judged(options: &AuditOptions, rule: Rule) -> bool
-    ensures { result ≡ spec.may_be_judged options.now rule }
-{
-    options.told.rules.contains(rule) && !(options.midway && is_of_whole(rule))
-}
-
 impl FindingChoice {
-    /// Gives a set with the rules that are told and judged of something heard, by what is known before it.
-    fn with_judged(&self, judged: &RuleSet, watch: &PortWatch, heard: &Heard) -> RuleSet
-        ensures { result ≡ spec.judged_with self.now watch.now (heard_of heard.now) judged.now }
+    /// Puts the rules in that are told and judged of something heard, by what is known before it.
+    fn join_judged(&self, judged: &mut RuleSet, watch: &PortWatch, heard: &Heard)
+        ensures { judged.new ≡ spec.judged_with self.now watch.now (heard_of heard.now) judged.old }
     {
         if self.tells_side(heard) {
-            with_heard(judged, &self.rules, watch, heard)
-        } else {
-            *judged
+            join_heard(judged, &self.rules, watch, heard);
         }
     }
 
-    /// Tells whether something heard is garbled and of a side that is told, though that it is garbled isn't told.
+    /// Tells whether something heard is garbled, though no finding tells so.
     fn leaves_garbled(&self, heard: &Heard) -> bool
         ensures { result ≡ spec.leaves_garbled self.now (heard_of heard.now) }
     {
         let is_garbled = matches!(heard, Heard::Down(None) | Heard::Up { message: None, .. });
-        is_garbled && self.tells_side(heard) && !self.rules.contains(Rule::Garbled)
+        is_garbled && !self.tells(heard, Rule::Garbled)
+    }
+
+    /// Tells whether a rule is judged on a side that is told.
+    fn is_of_told(&self, rule: Rule) -> bool
+        ensures { result ≡ spec.is_of_told self.now rule }
+    {
+        (self.terminal && is_of_terminal(rule)) || (self.units && is_of_units(rule))
     }
 }
 
@@ -235,9 +215,9 @@ impl Judged {
         }
         match heard {
             Heard::Down(_) | Heard::Grant(_) => {
-                self.terminal = told.with_judged(&self.terminal, watch, heard);
+                told.join_judged(&mut self.terminal, watch, heard);
             }
-            Heard::Up { .. } => self.units = told.with_judged(&self.units, watch, heard),
+            Heard::Up { .. } => told.join_judged(&mut self.units, watch, heard),
         }
     }
 
@@ -266,20 +246,11 @@ impl Judged {
         self.terminal.contains(rule) || self.units.contains(rule)
     }
 
-    /// Tells whether a rule is judged on a side that is told, of which something was judged.
-    fn is_of_heard(&self, told: &FindingChoice, rule: Rule) -> bool
-        ensures { result ≡ spec.is_of_heard told.now self.now rule }
+    /// Tells whether a rule was missed: it is told, but was not judged.
+    pub fn misses(&self, told: &FindingChoice, rule: Rule) -> bool
+        ensures { result ≡ spec.misses told.now self.now rule }
     {
-        (told.terminal && is_of_terminal(rule) && !self.terminal.is_empty())
-            || (told.units && is_of_units(rule) && !self.units.is_empty())
-    }
-
-    /// Tells whether a rule was missed in an audit by these options: it is told, and others were judged of a side on
-    /// which it is judged, but it was not. Of a log that begins in the middle `unasked` isn't missed.
-    pub fn misses(&self, options: &AuditOptions, rule: Rule) -> bool
-        ensures { result ≡ spec.misses options.now self.now rule }
-    {
-        may_be_judged(options, rule) && self.is_of_heard(&options.told, rule) && !self.has(rule)
+        told.rules.contains(rule) && told.is_of_told(rule) && !self.has(rule)
     }
 }
 

@@ -1,6 +1,6 @@
 //! What of a log is judged: by which rules, of which side, which rules are missed, and which garbled codes are left out.
 use crate::words::{log_of, plain_options};
-use gp_audit::{AuditOptions, Auditor, Judged, RuleSet, audit_log};
+use gp_audit::{AuditOptions, Auditor, FindingChoice, Judged, RuleSet, audit_log};
 use gp_flow::LinesFault;
 use gp_observer::Rule;
 use gp_stream::{Sink, Source};
@@ -83,10 +83,10 @@ fn letters_of(alloc: Global, set: &RuleSet) -> Result<String, AllocError> {
 }
 
 /// Gives the letters of the rules that were missed.
-fn missed(alloc: Global, options: &AuditOptions, judged: &Judged) -> Result<String, AllocError> {
+fn missed(alloc: Global, told: &FindingChoice, judged: &Judged) -> Result<String, AllocError> {
     let mut letters = String::new(alloc);
     for (rule, letter) in LETTERS.iter() {
-        if judged.misses(options, *rule) {
+        if judged.misses(told, *rule) {
             letters.push(*letter)?;
         }
     }
@@ -137,7 +137,7 @@ fn all_of_a_log(rt: HostRuntime) -> Result<(), Fail> {
     let options = plain_options();
     let all = judged(rt.alloc(), &options, RANGED)?;
     check_judged(&rt, &all, "gcrbutenadG", "gDANF", 0)?;
-    assert_eq!(rt; missed(rt.alloc(), &options, &all)?.as_str(), "yshK");
+    assert_eq!(rt; missed(rt.alloc(), &options.told, &all)?.as_str(), "yshK");
     Ok(())
 }
 
@@ -147,7 +147,7 @@ fn without_delays(rt: HostRuntime) -> Result<(), Fail> {
     let unmeasured = judged(rt.alloc(), &options, UNMEASURED)?;
     check_judged(&rt, &unmeasured, "gcrbutena", "gDAN", 0)?;
     assert_eq!(rt;
-        missed(rt.alloc(), &options, &unmeasured)?.as_str(),
+        missed(rt.alloc(), &options.told, &unmeasured)?.as_str(),
         "dyshGKF"
     );
     Ok(())
@@ -159,13 +159,19 @@ fn one_side_of_a_log(rt: HostRuntime) -> Result<(), Fail> {
     options.told.units = false;
     options.told.rules.remove(Rule::Garbled);
     let terminal = judged(rt.alloc(), &options, RANGED)?;
-    check_judged(&rt, &terminal, "crbutenadG", "", 1)?;
-    assert_eq!(rt; missed(rt.alloc(), &options, &terminal)?.as_str(), "ysh");
+    check_judged(&rt, &terminal, "crbutenadG", "", 2)?;
+    assert_eq!(rt;
+        missed(rt.alloc(), &options.told, &terminal)?.as_str(),
+        "ysh"
+    );
     options.told.units = true;
     options.told.terminal = false;
     let silent = judged(rt.alloc(), &options, "3 down Assign_ONU-ID 3 ABCD00000001")?;
     check_judged(&rt, &silent, "", "", 0)?;
-    assert_eq!(rt; missed(rt.alloc(), &options, &silent)?.as_str(), "");
+    assert_eq!(rt;
+        missed(rt.alloc(), &options.told, &silent)?.as_str(),
+        "DANKF"
+    );
     Ok(())
 }
 
@@ -188,7 +194,7 @@ fn garbled_of_one_side(rt: HostRuntime) -> Result<(), Fail> {
     let found = judged(rt.alloc(), &options, granted)?;
     check_judged(&rt, &found, "G", "gN", 0)?;
     assert_eq!(rt;
-        missed(rt.alloc(), &options, &found)?.as_str(),
+        missed(rt.alloc(), &options.told, &found)?.as_str(),
         "crbutenadyshDAKF"
     );
     Ok(())
@@ -238,10 +244,9 @@ fn who_holds_a_number_midway(rt: HostRuntime) -> Result<(), Fail> {
     let unknown = "1 grant poll 3\n1 up No_message 3 @1001\n3 down Deactivate_ONU-ID 3";
     let judged_of_unknown = judged(rt.alloc(), &options, unknown)?;
     check_judged(&rt, &judged_of_unknown, "g", "g", 0)?;
-    // who asked before isn't known, so that nobody asked is judged of no log that begins in the middle
     assert_eq!(rt;
-        missed(rt.alloc(), &options, &judged_of_unknown)?.as_str(),
-        "crbtenadyshGDANKF"
+        missed(rt.alloc(), &options.told, &judged_of_unknown)?.as_str(),
+        "crbutenadyshGDANKF"
     );
     let known = "3 down POPUP 255\n3 down Assign_ONU-ID 3 ABCD00000001\n1 grant range 3";
     let judged_of_known = judged(rt.alloc(), &options, known)?;

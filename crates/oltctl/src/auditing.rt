@@ -4,7 +4,7 @@ ghost use Rattle.oltctl.specs.Statuses.{IsAudited, audit_status, audited_status}
 
 use crate::observed::{Observed, Seen};
 use crate::progress::Counted;
-use crate::reporting::{refuse_option, report, report_silence};
+use crate::reporting::{mask_number, refuse_option, report, report_silence};
 use gp_audit::{AuditOptions, Auditor, FindingChoice, Judged, audit_log};
 use gp_command_line::Audit;
 use gp_finding::{AuditSum, RULES, rule_name};
@@ -72,11 +72,12 @@ fn audit_file<R: AllocGlobal + Files + Print + Eprint + Input + Clock>(
 }
 
 /// Says that no rule was judged of what was heard.
-fn tell_none_judged<R: Eprint>(rt: &R, judged: &Judged) {
+fn tell_none_judged<R: Eprint>(rt: &R, options: &AuditOptions, judged: &Judged) {
+    let mask = mask_number(options.mask);
     let _ = match judged.garbled {
         0 => eprintln!(rt; "oltctl: nothing was heard that these rules judge"),
         codes => eprintln!(rt;
-            "oltctl: nothing was heard that these rules judge; codes garbled under this mask: {codes}"
+            "oltctl: nothing was heard that these rules judge; codes garbled under mask {mask} (--mask): {codes}"
         ),
     };
 }
@@ -108,7 +109,7 @@ fn tell_missed<R: Eprint>(rt: &R, options: &AuditOptions, judged: &Judged) {
         true => "oltctl: rules that were not judged of anything (--midway):",
     };
     for rule in RULES.iter() {
-        if judged.misses(options, *rule) {
+        if judged.misses(&options.told, *rule) {
             let name = rule_name(*rule);
             let _ = eprint!(rt; "{before} {name}");
             before = "";
@@ -123,11 +124,14 @@ fn tell_missed<R: Eprint>(rt: &R, options: &AuditOptions, judged: &Judged) {
 /// rules that were missed.
 fn tell_unjudged<R: Eprint>(rt: &R, options: &AuditOptions, judged: &Judged) {
     if judged.is_nothing() {
-        return tell_none_judged(rt, judged);
+        return tell_none_judged(rt, options, judged);
     }
     if judged.garbled != 0 {
         let codes = judged.garbled;
-        let _ = eprintln!(rt; "oltctl: codes garbled under this mask, not judged: {codes}");
+        let mask = mask_number(options.mask);
+        let _ = eprintln!(rt;
+            "oltctl: codes garbled under mask {mask} (--mask), not judged: {codes}"
+        );
     }
     tell_silent_side(rt, options, judged);
     tell_missed(rt, options, judged);
