@@ -1,5 +1,5 @@
 -- What is said to the lines of a log, one after another (this profile's own rule).
-use Rattle.std.specs.Prelude.{◌≡◌, ◌⊎◌, ℕ, ◌+◌, Bool, false, List, [], ◌++◌, replicate, Option, None, Some, Result, Err}
+use Rattle.std.specs.Prelude.{◌≡◌, ◌⊎◌, ℕ, ◌+◌, Bool, false, if◌then◌else◌, List, [], ◌++◌, replicate, Option, None, Some, Result, Err}
 use Rattle.std.specs.List.{fold, list_all}
 use Rattle.gp_flow.specs.Lines.{Speech, WholeLines, most_lines}
 use Rattle.gp_log.specs.declared.fault.LogFault.{LogFault}
@@ -15,7 +15,7 @@ use Rattle.gp_watch.specs.declared.fault.WatchFault.TheVariants as watches
 use Rattle.gp_audit.specs.Failing.{LineFails, Overcounts}
 use Rattle.gp_audit.specs.Hearing.{ports_after, told_of}
 use Rattle.gp_audit.specs.Notice.{Notice, notices_text, sum_behind, sum_with}
-use Rattle.gp_audit.specs.Port.{PortState, port_begun}
+use Rattle.gp_audit.specs.Port.{PortState, port_begun, port_of}
 use Rattle.gp_audit.specs.Port as port
 
 -- how many ports a log may tell of
@@ -44,6 +44,13 @@ is_silent state = list_all port.is_silent state.ports
 -- what was judged on all ports
 abbrev pub judged_on : List PortState → Judged
 judged_on ports = fold (λ sum (at : PortState). judged_on_both sum at.judged) nothing_judged ports
+
+-- what was judged on one, where something was heard there
+abbrev pub judged_there : PortState → Option Judged
+judged_there at = if port.is_silent at then None else Some at.judged
+
+abbrev pub judged_at : List PortState → ℕ → Option Judged
+judged_at ports port = judged_there (port_of ports port)
 
 -- ---- a line that was read
 

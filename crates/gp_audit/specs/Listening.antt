@@ -1,5 +1,5 @@
 -- What is known of the ports by the lines of a log of which nothing is told (this profile's own rule).
-use Rattle.std.specs.Prelude.{◌≡◌, ℕ, true, false, List, replicate, slice_index_or, Result}
+use Rattle.std.specs.Prelude.{◌≡◌, ℕ, true, false, List, replicate, Result}
 use Rattle.gp_ploam.specs.declared.check.Mask.{Mask}
 use Rattle.gp_log.specs.declared.fault.LogFault.{LogFault}
 use Rattle.gp_log.specs.declared.line.LogLine.{LogLine}
@@ -34,10 +34,6 @@ listening mask =
 -- nothing was heard on any port
 abbrev pub none_heard : List PortState
 none_heard = replicate most_ports (port_begun false)
-
--- what is known of a port
-abbrev pub port_of : List PortState → ℕ → PortState
-port_of ports port = slice_index_or ports port (port_begun false)
 
 -- a line is heard as an audit hears it, by what is read of it
 pub record HearsLine (mask : Mask) (line : List ℕ) (old new : List PortState) : Type 0 where

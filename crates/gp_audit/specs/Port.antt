@@ -1,5 +1,5 @@
 -- What is known of one port (this profile's own rule).
-use Rattle.std.specs.Prelude.{ℕ, ◌+◌, ◌-◌, ◌==◌, ◌^◌, Bool, true, false, min}
+use Rattle.std.specs.Prelude.{ℕ, ◌+◌, ◌-◌, ◌==◌, ◌^◌, Bool, true, false, List, slice_index_or, min}
 use Rattle.gp_observer.specs.Watch.{Watch, watch_begun}
 use Rattle.gp_census.specs.Census.{Census, census_begun}
 use Rattle.gp_audit.specs.declared.judged.Judged.{Judged}
@@ -30,6 +30,10 @@ port_begun midway =
       judged = nothing_judged;
       census = census_begun;
     }
+
+-- what is known of one of several ports
+abbrev pub port_of : List PortState → ℕ → PortState
+port_of ports port = slice_index_or ports port (port_begun false)
 
 -- nothing was heard
 abbrev pub is_silent : PortState → Bool

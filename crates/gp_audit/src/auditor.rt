@@ -1,7 +1,7 @@
 //! `Auditor`, which is given the lines of a log one after another, and tells of each what it breaks and at the end what
 //! was counted.
-ghost use Rattle.std.specs.Prelude.{◌≡◌, IfOk};
-ghost use Rattle.gp_audit.specs.Audit.{audit_begun, is_silent, judged_on};
+ghost use Rattle.std.specs.Prelude.{◌≡◌, ◌<◌, IfOk};
+ghost use Rattle.gp_audit.specs.Audit.{audit_begun, is_silent, judged_at, judged_on};
 ghost use Rattle.gp_audit.specs.Outcome.{TellsEnd};
 
 use crate::again::Again;
@@ -80,12 +80,20 @@ impl Auditor {
         self.ports.are_silent()
     }
 
-    /// Whether something was heard of which a rule that is told is judged, on any port, and how many garbled codes were
-    /// passed over.
+    /// Which of the rules that are told were judged of what was heard, on any port, and how many garbled codes no
+    /// finding tells of.
     pub fn judged(&self) -> Judged
         ensures { result ≡ judged_on self.now.ports }
     {
         self.ports.judged()
+    }
+
+    /// The same of one port, 0 to 15; None where nothing was heard there.
+    pub fn judged_at(&self, port: u8) -> Option<Judged>
+        requires { port < 16 }
+        ensures { result ≡ judged_at self.now.ports port }
+    {
+        self.ports.judged_at(port)
     }
 
     /// Writes what was counted of the units, where that is wanted, and the sum.

@@ -13,39 +13,6 @@ use gp_observer::Rule;
 use gp_ploam::Down;
 use gp_watch::{Heard, PortWatch};
 
-/// The rule that is judged of each code.
-const CODE_RULES: [Rule; 1] = [Rule::Garbled];
-
-/// Those that are judged of a message down.
-const DOWN_RULES: [Rule; 13] = [
-    Rule::Garbled,
-    Rule::Copies,
-    Rule::Range,
-    Rule::Barred,
-    Rule::Unasked,
-    Rule::Taken,
-    Rule::Renumbered,
-    Rule::Nobody,
-    Rule::Unranged,
-    Rule::Delay,
-    Rule::Early,
-    Rule::Shared,
-    Rule::NotHeld,
-];
-
-/// Those that are judged of a message up.
-const UNIT_RULES: [Rule; 6] = [
-    Rule::Garbled,
-    Rule::Disabled,
-    Rule::Anew,
-    Rule::Number,
-    Rule::Acknowledge,
-    Rule::Drift,
-];
-
-/// The one that is judged of a grant.
-const GRANT_RULES: [Rule; 1] = [Rule::Grant];
-
 /// Which rules that are told were judged of what was heard. A rule is judged of what can break it or keep it, by what is
 /// known before it.
 #[derive(Clone, Copy, Debug, PartialEq, Eq)]
@@ -59,7 +26,20 @@ pub struct Judged {
     pub garbled: u64,
 }
 
-/// Puts a rule in, if it is told and judged of something heard. Whether it is isn't asked of one that is in.
+/// Puts a rule in that isn't in yet, if it is told and judged of something heard.
+// Kept out of line, so that whether a rule is in is looked at where `join_rule` is called.
+#[inline(never)]
+fn join_missing(judged: &mut RuleSet, told: &RuleSet, watch: &PortWatch, heard: &Heard, rule: Rule)
+    ensures { judged.new ≡ (if contains told.now rule && judges watch.now (heard_of heard.now) rule
+        then with_rule true judged.old rule else judged.old) }
+{
+    if told.contains(rule) && watch.judges(heard, rule) {
+        judged.insert(rule);
+    }
+}
+
+/// Puts a rule in, if it is told and judged of something heard. Whether it is isn't asked of one that is in, as most are
+/// most of the time.
 fn join_rule(judged: &mut RuleSet, told: &RuleSet, watch: &PortWatch, heard: &Heard, rule: Rule)
     ensures { judged.new ≡ (if contains told.now rule && judges watch.now (heard_of heard.now) rule
         then with_rule true judged.old rule else judged.old) }
@@ -67,25 +47,40 @@ fn join_rule(judged: &mut RuleSet, told: &RuleSet, watch: &PortWatch, heard: &He
     if judged.contains(rule) {
         return;
     }
-    if told.contains(rule) && watch.judges(heard, rule) {
-        judged.insert(rule);
-    }
+    join_missing(judged, told, watch, heard, rule);
 }
 
-/// Puts those of these rules in that are told and judged of something heard.
-fn join_these(
-    judged: &mut RuleSet,
-    these: &[Rule],
-    told: &RuleSet,
-    watch: &PortWatch,
-    heard: &Heard,
-)
+/// Puts the rules in that are told and judged of a message down that is told, which something heard is.
+fn join_told(judged: &mut RuleSet, told: &RuleSet, watch: &PortWatch, heard: &Heard)
     ensures { judged.new ≡ spec.joined_by (λ rule. contains told.now rule && judges watch.now (heard_of heard.now) rule)
-        these.now judged.old }
+        spec.down_rules judged.old }
 {
-    'rules: for rule in these {
-        join_rule(judged, told, watch, heard, *rule);
-    }
+    join_rule(judged, told, watch, heard, Rule::Garbled);
+    join_rule(judged, told, watch, heard, Rule::Copies);
+    join_rule(judged, told, watch, heard, Rule::Range);
+    join_rule(judged, told, watch, heard, Rule::Barred);
+    join_rule(judged, told, watch, heard, Rule::Unasked);
+    join_rule(judged, told, watch, heard, Rule::Taken);
+    join_rule(judged, told, watch, heard, Rule::Renumbered);
+    join_rule(judged, told, watch, heard, Rule::Nobody);
+    join_rule(judged, told, watch, heard, Rule::Unranged);
+    join_rule(judged, told, watch, heard, Rule::Delay);
+    join_rule(judged, told, watch, heard, Rule::Early);
+    join_rule(judged, told, watch, heard, Rule::Shared);
+    join_rule(judged, told, watch, heard, Rule::NotHeld);
+}
+
+/// Puts the rules in that are told and judged of a message up, which something heard is.
+fn join_answer(judged: &mut RuleSet, told: &RuleSet, watch: &PortWatch, heard: &Heard)
+    ensures { judged.new ≡ spec.joined_by (λ rule. contains told.now rule && judges watch.now (heard_of heard.now) rule)
+        spec.unit_rules judged.old }
+{
+    join_rule(judged, told, watch, heard, Rule::Garbled);
+    join_rule(judged, told, watch, heard, Rule::Disabled);
+    join_rule(judged, told, watch, heard, Rule::Anew);
+    join_rule(judged, told, watch, heard, Rule::Number);
+    join_rule(judged, told, watch, heard, Rule::Acknowledge);
+    join_rule(judged, told, watch, heard, Rule::Drift);
 }
 
 /// Tells whether a message down is told with this copy.
@@ -102,9 +97,9 @@ fn join_copy(judged: &mut RuleSet, told: &RuleSet, watch: &PortWatch, heard: &He
         (if spec.is_new watch.now message.now then spec.down_rules else spec.code_rules) judged.old }
 {
     if is_new(watch, message) {
-        join_these(judged, &DOWN_RULES, told, watch, heard);
+        join_told(judged, told, watch, heard);
     } else {
-        join_these(judged, &CODE_RULES, told, watch, heard);
+        join_rule(judged, told, watch, heard, Rule::Garbled);
     }
 }
 
@@ -115,16 +110,16 @@ fn join_heard(judged: &mut RuleSet, told: &RuleSet, watch: &PortWatch, heard: &H
         (spec.rules_of watch.now (heard_of heard.now)) judged.old }
 {
     match heard {
-        Heard::Down(None) | Heard::Down(Some(Down::NoMessage)) => {
-            join_these(judged, &CODE_RULES, told, watch, heard)
-        }
-        Heard::Down(Some(message)) => join_copy(judged, told, watch, heard, message),
-        Heard::Up { message: None, .. } => join_these(judged, &CODE_RULES, told, watch, heard),
+        Heard::Grant(_) => join_rule(judged, told, watch, heard, Rule::Grant),
         Heard::Up {
             message: Some(_),
             ..
-        } => join_these(judged, &UNIT_RULES, told, watch, heard),
-        Heard::Grant(_) => join_these(judged, &GRANT_RULES, told, watch, heard),
+        } => join_answer(judged, told, watch, heard),
+        Heard::Up { message: None, .. } => join_rule(judged, told, watch, heard, Rule::Garbled),
+        Heard::Down(None) | Heard::Down(Some(Down::NoMessage)) => {
+            join_rule(judged, told, watch, heard, Rule::Garbled)
+        }
+        Heard::Down(Some(message)) => join_copy(judged, told, watch, heard, message),
     }
 }
 
@@ -186,8 +181,8 @@ impl FindingChoice {
         is_garbled && !self.tells(heard, Rule::Garbled)
     }
 
-    /// Tells whether a rule is judged on a side that is told.
-    fn is_of_told(&self, rule: Rule) -> bool
+    /// Tells whether a rule is judged on a side that is told, whether the rule is told or not.
+    pub fn is_of_told(&self, rule: Rule) -> bool
         ensures { result ≡ spec.is_of_told self.now rule }
     {
         (self.terminal && is_of_terminal(rule)) || (self.units && is_of_units(rule))

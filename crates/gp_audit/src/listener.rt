@@ -1,7 +1,8 @@
 //! `Listener`, which is given the lines of a log or of a trace, and tells nothing of them: what they let one know of
 //! each port stands in it.
 ghost use Rattle.std.specs.Prelude.{◌≡◌, ◌<◌, IfErr, IfOk, OnOk};
-ghost use Rattle.gp_audit.specs.Listening.{HearsLine, FailsOnLine, listening, none_heard, port_of};
+ghost use Rattle.gp_audit.specs.Listening.{HearsLine, FailsOnLine, listening, none_heard};
+ghost use Rattle.gp_audit.specs.Port.{port_of};
 
 use crate::options::{AuditForm, AuditOptions, FindingChoice};
 use crate::ports::Ports;

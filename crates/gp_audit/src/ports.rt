@@ -1,12 +1,11 @@
 //! What is known of each of sixteen ports, and a line heard on its own: judged, or noted alone.
 ghost use Rattle.std.specs.Prelude.{◌≡◌, ◌<◌, ◌++◌, IfErr, IfOk, OnOk, replicate, length, slice_set};
 ghost use Rattle.gp_audit.specs.Book.{TellingFails, TellsNotices};
-ghost use Rattle.gp_audit.specs.Audit.{judged_on, most_ports};
+ghost use Rattle.gp_audit.specs.Audit.{judged_at, judged_on, most_ports};
 ghost use Rattle.gp_audit.specs.Ending.{first_units};
 ghost use Rattle.gp_audit.specs.Hearing.{log_told, port_at, port_logged, port_ticked, port_traced, ports_after, told_of, trace_told};
-ghost use Rattle.gp_audit.specs.Port.{is_silent, port_begun};
+ghost use Rattle.gp_audit.specs.Port.{is_silent, port_begun, port_of};
 ghost use Rattle.std.specs.List.{list_all};
-ghost use Rattle.gp_audit.specs.Listening.{port_of};
 ghost use Rattle.gp_audit.specs.Places.{IsNear};
 ghost use Rattle.gp_audit.specs.Failing.{LineFails, LogFails, TraceFails};
 
@@ -87,6 +86,18 @@ impl Ports {
         ensures { result ≡ judged_on self.now }
     {
         judged_on(&self.ports)
+    }
+
+    /// Gives what was judged on a port, where something was heard there.
+    pub(crate) fn judged_at(&self, port: u8) -> Option<Judged>
+        requires { port < 16 }
+        ensures { result ≡ judged_at self.now port }
+    {
+        let port = &self.ports[usize::from(port)];
+        if port.is_silent() {
+            return None;
+        }
+        Some(port.judged())
     }
 
     /// Tells what was counted of the units of each port on which something was heard.

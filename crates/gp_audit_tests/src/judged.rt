@@ -41,12 +41,18 @@ fn judged(alloc: Global, options: &AuditOptions, words: &str) -> Result<Judged, 
     judged_log(alloc, options, log.as_slice())
 }
 
-/// Gives what was judged of the octets of a log.
-fn judged_log(alloc: Global, options: &AuditOptions, log: &[u8]) -> Result<Judged, LinesFault> {
+/// Audits the octets of a log.
+fn audited(alloc: Global, options: &AuditOptions, log: &[u8]) -> Result<Auditor, LinesFault> {
     let mut source = Source::endless(log);
     let mut sink = Sink::new(alloc, Vec::new(alloc))?;
     let mut auditor = Auditor::begin(alloc, options)?;
     audit_log(alloc, &mut source, &mut sink, &mut auditor)?;
+    Ok(auditor)
+}
+
+/// Gives what was judged of the octets of a log.
+fn judged_log(alloc: Global, options: &AuditOptions, log: &[u8]) -> Result<Judged, LinesFault> {
+    let auditor = audited(alloc, options, log)?;
     Ok(auditor.judged())
 }
 
@@ -266,5 +272,28 @@ fn two_ports(rt: HostRuntime) -> Result<(), Fail> {
         b"1 7 grant poll 3\n2 7 up 00000000000000000000000002\n7 7 down ff010000000000000000000058\n";
     let both = judged_log(rt.alloc(), &plain_options(), other.as_slice())?;
     check_judged(&rt, &both, "gG", "g", 0)?;
+    Ok(())
+}
+
+#[test]
+fn each_of_two_ports(rt: HostRuntime) -> Result<(), Fail> {
+    let log =
+        b"7 1 grant poll 3\n7 2 up 00000000000000000000000002\n7 7 grant search\n5 7 grant search\n";
+    let mut options = plain_options();
+    options.told.rules.remove(Rule::Garbled);
+    let auditor = audited(rt.alloc(), &options, log.as_slice())?;
+    let seventh = auditor.judged_at(7);
+    assert!(rt; seventh.is_some());
+    if let Some(found) = seventh {
+        check_judged(&rt, &found, "G", "", 1)?;
+    }
+    let fifth = auditor.judged_at(5);
+    assert!(rt; fifth.is_some());
+    if let Some(found) = fifth {
+        check_judged(&rt, &found, "", "", 0)?;
+    }
+    assert_eq!(rt; auditor.judged_at(0), None);
+    assert_eq!(rt; auditor.judged_at(6), None);
+    assert_eq!(rt; auditor.judged_at(15), None);
     Ok(())
 }

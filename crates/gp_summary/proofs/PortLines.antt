@@ -7,7 +7,7 @@ use Rattle.gp_machine.specs.State.{PortState}
 use Rattle.gp_tally.specs.Tally.{PortTally}
 use Rattle.gp_summary.specs.declared.form.SummaryForm.{SummaryForm}
 use Rattle.gp_tally.specs.Text.{AreTallies}
-use Rattle.gp_audit.specs.Listening.{port_of}
+use Rattle.gp_audit.specs.Port.{port_of}
 use Rattle.gp_audit.specs.Port as audit
 use Rattle.gp_summary.specs.Heard.{HeardText, heard_lines}
 use Rattle.gp_summary.specs.Summary.{SaysCounted}

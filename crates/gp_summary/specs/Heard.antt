@@ -12,7 +12,7 @@ use Rattle.gp_census.specs.declared.pushing.CensusForm.TheVariants as censuses
 use Rattle.gp_census.specs.declared.sighting.Sighting.{Sighting}
 use Rattle.gp_census.specs.Census.{Census, sighting_of}
 use Rattle.gp_census.specs.Text.{front_line}
-use Rattle.gp_audit.specs.Listening.{port_of}
+use Rattle.gp_audit.specs.Port.{port_of}
 use Rattle.gp_audit.specs.Port.{PortState}
 use Rattle.gp_tally.specs.declared.counts.PortCounts.{PortCounts}
 use Rattle.gp_tally.specs.declared.counts.UnitCounts.{UnitCounts}

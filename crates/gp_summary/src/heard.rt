@@ -4,7 +4,7 @@ ghost use Rattle.std.specs.FinMap.{entries, get};
 ghost use Rattle.std.specs.List.{flat_map};
 ghost use Rattle.gp_census.specs.Census.{sighting_of};
 ghost use Rattle.gp_census.specs.Text.{front_line};
-ghost use Rattle.gp_audit.specs.Listening.{port_of};
+ghost use Rattle.gp_audit.specs.Port.{port_of};
 ghost use Rattle.gp_summary.specs.Heard as spec;
 
 use crate::form::SummaryForm;

@@ -1,7 +1,7 @@
 -- How many codes of a trace can't be read under the mask, and whether one can (this profile's own rule).
 use Rattle.std.specs.Prelude.{ℕ, zero, suc, ◌+◌, ◌-◌, ◌^◌, nat_lt, ◌==◌, ◌||◌, not, false, List, min}
 use Rattle.gp_census.specs.declared.sighting.PortCounts.{PortCounts}
-use Rattle.gp_audit.specs.Listening.{port_of}
+use Rattle.gp_audit.specs.Port.{port_of}
 use Rattle.gp_audit.specs.Port.{PortState}
 use Rattle.gp_summed.specs.declared.codes.HeardCodes.{HeardCodes}
 
