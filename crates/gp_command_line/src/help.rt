@@ -232,9 +232,15 @@ Rules of the terminal: garbled copies range barred unasked taken renumbered nobo
 unranged delay early shared not-held grant; of units: garbled disabled anew number
 acknowledge drift. RULES are some of these, with commas between. One has to be left to
 tell: with --side, one that is judged on that side; with --midway, one other than unasked.
-A rule is judged only where it is known what it asks for. Standard error names the rules
-that are told but were not judged of anything, as drift where no delay was measured, or
-says that none was judged, or none of a side, and where garbled codes were left out.
+Rules that --only names, but of the other side, are named on standard error.
+
+A rule is judged only where it is known what it asks for: delay and drift want delays,
+grant a range or poll grant, early an Assign_Alloc-ID or POPUP, shared and not-held an
+Assign_Alloc-ID that gives or takes back, acknowledge an Acknowledge of one. Standard
+error names the rules that are told but were not judged of anything, and of several ports
+those that were judged, but not on one of them; or it says that none was judged, or none
+of a side. It counts garbled codes of which no finding tells: nothing else is known of
+them, so findings behind one on its port may come of it.
 
 Examples:
   oltctl audit lab.log
@@ -245,8 +251,8 @@ Examples:
 
 Exit status:
   0  no rule that is told is broken
-  1  a line is answered by an error, nothing was heard, no rule that is told was judged,
-     or the log was not read; this comes before 7
+  1  a line is answered by an error, nothing was heard, no rule that is told was judged
+     on any port, or the log was not read; this comes before 7
   2  the command line is wrong, or leaves no rule to tell
   3  out of memory
   4  the output takes no more

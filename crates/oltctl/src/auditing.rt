@@ -5,7 +5,7 @@ ghost use Rattle.oltctl.specs.Statuses.{IsAudited, audit_status, audited_status}
 use crate::observed::{Observed, Seen};
 use crate::progress::Counted;
 use crate::reporting::{mask_number, refuse_option, report, report_silence};
-use gp_audit::{AuditOptions, Auditor, FindingChoice, Judged, audit_log};
+use gp_audit::{AuditOptions, Auditor, FindingChoice, Judged, PORTS, RuleSet, audit_log};
 use gp_command_line::Audit;
 use gp_finding::{AuditSum, RULES, rule_name};
 use gp_flow::LinesFault;
@@ -23,8 +23,19 @@ pub(crate) struct Audited {
     sum: AuditSum,
     /// Neither a message nor a grant was heard.
     is_silent: bool,
-    /// What was judged of what was heard.
+    /// What was judged of what was heard, on any port.
     judged: Judged,
+    /// What was judged on each port; None where nothing was heard.
+    ports: [Option<Judged>; PORTS],
+}
+
+/// Gives what was judged on each port.
+fn judged_on_ports(auditor: &Auditor) -> [Option<Judged>; PORTS] {
+    let mut ports = [None; PORTS];
+    for port in 0..PORTS {
+        ports[port] = auditor.judged_at(port as u8);
+    }
+    ports
 }
 
 /// Audits the log that a reader gives. What is found goes to standard output.
@@ -41,6 +52,7 @@ fn audit_from<R: AllocGlobal + Print, T: Read + Drop>(
         sum,
         is_silent: auditor.is_silent(),
         judged: auditor.judged(),
+        ports: judged_on_ports(&auditor),
     })
 }
 
@@ -71,14 +83,23 @@ fn audit_file<R: AllocGlobal + Files + Print + Eprint + Input + Clock>(
     }
 }
 
-/// Says that no rule was judged of what was heard.
-fn tell_none_judged<R: Eprint>(rt: &R, options: &AuditOptions, judged: &Judged) {
+/// Says that no rule was judged of what was heard, on any port or on one.
+fn tell_none_judged<R: Eprint>(
+    rt: &R,
+    options: &AuditOptions,
+    judged: &Judged,
+    port: Option<usize>,
+) {
+    let _ = match port {
+        None => eprint!(rt; "oltctl: nothing was heard that these rules judge"),
+        Some(port) => eprint!(rt;
+            "oltctl: nothing was heard on port {port} that these rules judge"
+        ),
+    };
     let mask = mask_number(options.mask);
     let _ = match judged.garbled {
-        0 => eprintln!(rt; "oltctl: nothing was heard that these rules judge"),
-        codes => eprintln!(rt;
-            "oltctl: nothing was heard that these rules judge; codes garbled under mask {mask} (--mask): {codes}"
-        ),
+        0 => eprintln!(rt; ""),
+        codes => eprintln!(rt; "; codes garbled under mask {mask} (--mask): {codes}"),
     };
 }
 
@@ -92,49 +113,140 @@ fn tells_of_side(options: &AuditOptions, terminal: bool, units: bool) -> bool {
     tells_some(options.midway, &told)
 }
 
-/// Says of which side no rule was judged, though one is told that is judged there.
-fn tell_silent_side<R: Eprint>(rt: &R, options: &AuditOptions, judged: &Judged) {
+/// Says that no rule was judged of a side, on any port or on one.
+fn tell_silent_side<R: Eprint>(rt: &R, side: &str, port: Option<usize>) {
+    let _ = match port {
+        None => eprintln!(rt; "oltctl: nothing of the {side} was judged"),
+        Some(port) => eprintln!(rt; "oltctl: nothing of the {side} was judged on port {port}"),
+    };
+}
+
+/// Says of which side no rule was judged on any port, though one is told that is judged there.
+fn tell_silent_sides<R: Eprint>(rt: &R, options: &AuditOptions, judged: &Judged) {
     if judged.terminal.is_empty() && tells_of_side(options, true, false) {
-        let _ = eprintln!(rt; "oltctl: nothing of the terminal was judged");
+        tell_silent_side(rt, "terminal", None);
     }
     if judged.units.is_empty() && tells_of_side(options, false, true) {
-        let _ = eprintln!(rt; "oltctl: nothing of the units was judged");
+        tell_silent_side(rt, "units", None);
     }
 }
 
-/// Says which rules were missed, if any were: those that are told, but were not judged of anything.
-fn tell_missed<R: Eprint>(rt: &R, options: &AuditOptions, judged: &Judged) {
-    let mut before = match options.midway {
-        false => "oltctl: rules that were not judged of anything:",
-        true => "oltctl: rules that were not judged of anything (--midway):",
+/// Says how many codes were garbled of which no finding tells so, if any were, on all ports or on one.
+fn tell_left<R: Eprint>(rt: &R, options: &AuditOptions, judged: &Judged, port: Option<usize>) {
+    let Judged { garbled, .. } = *judged;
+    if garbled == 0 {
+        return;
+    }
+    let mask = mask_number(options.mask);
+    let _ = match port {
+        None => eprintln!(rt;
+            "oltctl: codes garbled under mask {mask} (--mask), not judged: {garbled}"
+        ),
+        Some(port) => eprintln!(rt;
+            "oltctl: codes garbled under mask {mask} (--mask) on port {port}, not judged: {garbled}"
+        ),
+    };
+}
+
+/// Says a line of rules behind its head, and the port that ends it, if one does; nothing where there is no rule.
+fn tell_rules<R: Eprint>(rt: &R, head: &str, port: Option<usize>, rules: &RuleSet) {
+    if rules.is_empty() {
+        return;
+    }
+    let _ = match port {
+        None => eprint!(rt; "oltctl: {head}:"),
+        Some(port) => eprint!(rt; "oltctl: {head} {port}:"),
     };
     for rule in RULES.iter() {
-        if judged.misses(&options.told, *rule) {
+        if rules.contains(*rule) {
             let name = rule_name(*rule);
-            let _ = eprint!(rt; "{before} {name}");
-            before = "";
+            let _ = eprint!(rt; " {name}");
         }
     }
-    if before.is_empty() {
-        let _ = eprintln!(rt; "");
+    let _ = eprintln!(rt; "");
+}
+
+/// Gives the rules that were missed: they are told, but were not judged of anything.
+fn missed(options: &AuditOptions, judged: &Judged) -> RuleSet {
+    let mut rules = RuleSet::none();
+    for rule in RULES.iter() {
+        if judged.misses(&options.told, *rule) {
+            rules.insert(*rule);
+        }
+    }
+    rules
+}
+
+/// Gives those that were missed on a port, though they were judged on another.
+fn missed_there(options: &AuditOptions, on_all: &Judged, there: &Judged) -> RuleSet {
+    let mut rules = missed(options, there);
+    for rule in RULES.iter() {
+        if on_all.misses(&options.told, *rule) {
+            rules.remove(*rule);
+        }
+    }
+    rules
+}
+
+/// Says what was not judged on a port: garbled codes of which no finding tells so, and a side and rules of which
+/// something was judged on another.
+fn tell_port<R: Eprint>(
+    rt: &R,
+    options: &AuditOptions,
+    on_all: &Judged,
+    there: &Judged,
+    port: usize,
+) {
+    if there.is_nothing() {
+        return tell_none_judged(rt, options, there, Some(port));
+    }
+    tell_left(rt, options, there, Some(port));
+    if there.terminal.is_empty() && !on_all.terminal.is_empty() {
+        tell_silent_side(rt, "terminal", Some(port));
+    }
+    if there.units.is_empty() && !on_all.units.is_empty() {
+        tell_silent_side(rt, "units", Some(port));
+    }
+    let rules = missed_there(options, on_all, there);
+    tell_rules(
+        rt,
+        "rules that were judged, but not on port",
+        Some(port),
+        &rules,
+    );
+}
+
+/// Says of each port on which something was heard what was not judged there.
+fn tell_ports<R: Eprint>(rt: &R, options: &AuditOptions, audited: &Audited) {
+    for port in 0..PORTS {
+        if let Some(there) = &audited.ports[port] {
+            tell_port(rt, options, &audited.judged, there, port);
+        }
     }
 }
 
-/// Says what was not judged, though a rule was: garbled codes where they are not told, a side of which nothing is, and
-/// rules that were missed.
-fn tell_unjudged<R: Eprint>(rt: &R, options: &AuditOptions, judged: &Judged) {
+/// Says what was not judged: nothing at all, or garbled codes of which no finding tells so, a side of which nothing was,
+/// and rules that were missed; where something was heard on several ports, that of each too.
+fn tell_unjudged<R: Eprint>(rt: &R, options: &AuditOptions, audited: &Audited) {
+    let judged = &audited.judged;
     if judged.is_nothing() {
-        return tell_none_judged(rt, options, judged);
+        return tell_none_judged(rt, options, judged, None);
     }
-    if judged.garbled != 0 {
-        let codes = judged.garbled;
-        let mask = mask_number(options.mask);
+    tell_left(rt, options, judged, None);
+    if judged.garbled != 0 && audited.sum.findings != 0 {
         let _ = eprintln!(rt;
-            "oltctl: codes garbled under mask {mask} (--mask), not judged: {codes}"
+            "oltctl: findings behind such a code on its port may come of it; see oltctl audit --help"
         );
     }
-    tell_silent_side(rt, options, judged);
-    tell_missed(rt, options, judged);
+    tell_silent_sides(rt, options, judged);
+    let head = match options.midway {
+        false => "rules that were not judged of anything",
+        true => "rules that were not judged of anything (--midway)",
+    };
+    tell_rules(rt, head, None, &missed(options, judged));
+    if audited.ports.iter().filter(|port| port.is_some()).count() > 1 {
+        tell_ports(rt, options, audited);
+    }
 }
 
 /// Says that a log had lines that were none, nothing that was heard, or something that was not judged, and answers the
@@ -154,7 +266,7 @@ fn end_audited<R: Eprint>(rt: &R, options: &AuditOptions, audited: &Audited) -> 
         return report_silence(rt);
     }
     if !audited.is_silent {
-        tell_unjudged(rt, options, &audited.judged);
+        tell_unjudged(rt, options, audited);
     }
     if errors != 0 || audited.judged.is_nothing() {
         BAD_INPUT
@@ -181,7 +293,22 @@ fn end_audit<R: AllocGlobal + Eprint>(
     }
 }
 
-/// Audits a log, says how that ended, and answers the exit status.
+/// Says which rules are asked for by name, though no side that is told is judged by them.
+fn tell_untold_side<R: Eprint>(rt: &R, options: &AuditOptions, wanted: &Audit<'_, '_>) {
+    if wanted.only.is_none() {
+        return;
+    }
+    let mut rules = options.told.rules;
+    for rule in RULES.iter() {
+        if options.told.is_of_told(*rule) {
+            rules.remove(*rule);
+        }
+    }
+    tell_rules(rt, "rules of a side that isn't told (--side)", None, &rules);
+}
+
+/// Says which rules are asked for of a side that isn't told, audits a log, says how that ended, and answers the exit
+/// status.
 pub(crate) fn audit<R: AllocGlobal + Files + Print + Eprint + Input + Clock>(
     rt: &R,
     wanted: &Audit<'_, '_>,
@@ -191,6 +318,7 @@ pub(crate) fn audit<R: AllocGlobal + Files + Print + Eprint + Input + Clock>(
     match audit_options(wanted) {
         Err(option) => refuse_option(rt, option),
         Ok(options) => {
+            tell_untold_side(rt, &options, wanted);
             let mut seen = Seen::new(wanted.log);
             let outcome = audit_file(rt, &options, wanted, &mut seen);
             end_audit(rt, &options, &outcome, &seen)
