@@ -44,6 +44,7 @@ mod whole;
 mod windows;
 
 pub use gp_finding::Codes;
+pub use gp_lines::PORTS;
 pub use gp_times::{Frames, Outside};
-pub use options::{PORTS, PictureOptions};
+pub use options::PictureOptions;
 pub use running::{PictureSum, draw_trace};

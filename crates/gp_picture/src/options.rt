@@ -1,11 +1,9 @@
 //! Which frames are drawn, and what is heard is judged by.
 
+use gp_lines::PORTS;
 use gp_ploam::Mask;
 use gp_times::Frames;
 use gp_watch::Settings;
-
-/// How many ports an input may tell of.
-pub const PORTS: usize = 16;
 
 /// Which frames are drawn, and what is heard is judged by.
 #[derive(Clone, Copy, Debug, PartialEq, Eq)]

@@ -5,9 +5,10 @@ ghost use Rattle.gp_picture.specs.Faults.{DrawingFails};
 
 use crate::fault::PictureFault;
 use crate::moment::{LineText, Place};
-use crate::options::{PORTS, PictureOptions};
+use crate::options::PictureOptions;
 use crate::port::Port;
 use crate::room::Room;
+use gp_lines::PORTS;
 use gp_log::LogLine;
 use gp_times::PortTimes;
 use std::alloc::{AllocError, Global};
