@@ -1,6 +1,7 @@
 -- What is said to the lines of a log, one after another (this profile's own rule).
 use Rattle.std.specs.Prelude.{◌≡◌, ◌⊎◌, ℕ, ◌+◌, Bool, false, if◌then◌else◌, List, [], ◌++◌, replicate, Option, None, Some, Result, Err}
 use Rattle.std.specs.List.{fold, list_all}
+use Rattle.gp_machine.specs.Config.{max_ports}
 use Rattle.gp_flow.specs.Lines.{Speech, WholeLines, most_lines}
 use Rattle.gp_log.specs.declared.fault.LogFault.{LogFault}
 use Rattle.gp_log.specs.declared.fault.LogFault.TheVariants as faults
@@ -18,10 +19,6 @@ use Rattle.gp_audit.specs.Notice.{Notice, notices_text, sum_behind, sum_with}
 use Rattle.gp_audit.specs.Port.{PortState, port_begun, port_of}
 use Rattle.gp_audit.specs.Port as port
 
--- how many ports a log may tell of
-abbrev pub most_ports : ℕ
-most_ports = 16
-
 -- where it stands: what is known of each port, and how many lines, findings and errors there were
 pub record AuditState : Type 0 where
   pub options : AuditOptions
@@ -33,7 +30,7 @@ abbrev pub audit_begun : AuditOptions → AuditState
 audit_begun options =
     record {
       options = options;
-      ports = replicate most_ports (port_begun options.midway);
+      ports = replicate max_ports (port_begun options.midway);
       sum = record { lines = 0; findings = 0; errors = 0 };
     }
 

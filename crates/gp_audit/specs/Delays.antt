@@ -1,8 +1,10 @@
 -- The equalized delays of the ports, as they are given (this profile's own rule).
 use Rattle.std.specs.Prelude.{ℕ, ◌==◌, Bool, List, [], ◌∷◌, length, Option, None, Some, Result, Ok, Err, if◌then◌else◌, replicate, slice_set}
 use Rattle.std.specs.List.{after_first, before_first, position_or_len}
+use Rattle.gp_machine.specs.Config.{max_ports}
 use Rattle.gp_lines.specs.declared.fault.LineFault.{LineFault}
 use Rattle.gp_lines.specs.Reading.{number_in}
+use Rattle.gp_lines.specs.Spelling.{last_port}
 use Rattle.gp_audit.specs.Texts.{Text}
 
 abbrev pub ok_of : Result ℕ LineFault → Option ℕ
@@ -10,7 +12,7 @@ ok_of (Ok number) = Some number
 ok_of (Err fault) = None
 
 abbrev pub port_in : Text → Option ℕ
-port_in text = ok_of (number_in 0 15 text)
+port_in text = ok_of (number_in 0 last_port text)
 
 -- a delay, in bit times
 abbrev pub delay_in : Text → Option ℕ
@@ -29,7 +31,7 @@ None >>= f = None
 abbrev pub delay_of_all : Text → Option (List ℕ)
 delay_of_all text = do
   delay ← delay_in text
-  Some (replicate 16 delay)
+  Some (replicate max_ports delay)
 
 -- the delays with another one of one port
 abbrev pub delay_of_port : List ℕ → Text → Text → Option (List ℕ)
@@ -56,4 +58,4 @@ delays_after delays (text ∷ texts) = told_or text (delays_set delays text) (λ
 
 -- the equalized delays of the ports, in bit times: 311,040 where none is given
 abbrev pub equalized_delays : List Text → Result (List ℕ) Text
-equalized_delays texts = delays_after (replicate 16 311040) texts
+equalized_delays texts = delays_after (replicate max_ports 311040) texts

@@ -1,6 +1,7 @@
 -- What is told when a log has ended: what was counted of its units, where that is wanted, and the sum (this profile's
 -- own rule).
 use Rattle.std.specs.Prelude.{ℕ, zero, suc, Bool, true, false, List, [], ◌++◌, if◌then◌else◌}
+use Rattle.gp_machine.specs.Config.{max_ports}
 use Rattle.gp_census.specs.declared.pushing.CensusForm.{CensusForm}
 use Rattle.gp_census.specs.declared.pushing.CensusForm.TheVariants as censuses
 use Rattle.gp_census.specs.Text.{told_census}
@@ -8,7 +9,7 @@ use Rattle.gp_finding.specs.Told.{told_sum}
 use Rattle.gp_audit.specs.declared.options.AuditForm.{AuditForm}
 use Rattle.gp_audit.specs.declared.options.AuditForm.TheVariants as forms
 use Rattle.gp_audit.specs.declared.options.AuditOptions.{AuditOptions}
-use Rattle.gp_audit.specs.Audit.{AuditState, most_ports}
+use Rattle.gp_audit.specs.Audit.{AuditState}
 use Rattle.gp_audit.specs.Hearing.{port_at}
 use Rattle.gp_audit.specs.Notice.{finding_form}
 use Rattle.gp_audit.specs.Port.{PortState, is_silent}
@@ -33,7 +34,7 @@ first_units options ports (suc number) =
 -- those of all ports, where that is wanted
 abbrev pub units_text : Bool → AuditOptions → List PortState → List ℕ
 units_text false options ports = []
-units_text true options ports = first_units options ports most_ports
+units_text true options ports = first_units options ports max_ports
 
 -- what is told at the end
 abbrev pub end_text : AuditState → List ℕ

@@ -1,13 +1,13 @@
 -- What is known of the ports by the lines of a log of which nothing is told (this profile's own rule).
 use Rattle.std.specs.Prelude.{◌≡◌, ℕ, true, false, List, replicate, Result}
 use Rattle.gp_ploam.specs.declared.check.Mask.{Mask}
+use Rattle.gp_machine.specs.Config.{max_ports}
 use Rattle.gp_log.specs.declared.fault.LogFault.{LogFault}
 use Rattle.gp_log.specs.declared.line.LogLine.{LogLine}
 use Rattle.gp_log.specs.Line.{Reads}
 use Rattle.gp_watch.specs.declared.fault.WatchFault.{WatchFault}
 use Rattle.gp_audit.specs.declared.options.AuditForm.TheVariants.{Text}
 use Rattle.gp_audit.specs.declared.options.AuditOptions.{AuditOptions}
-use Rattle.gp_audit.specs.Audit.{most_ports}
 use Rattle.gp_audit.specs.Hearing.{ports_after}
 use Rattle.gp_audit.specs.Port.{PortState, port_begun}
 use Rattle.gp_audit.specs.RuleSet.{each_rule}
@@ -23,7 +23,7 @@ abbrev pub listening : Mask → AuditOptions
 listening mask =
     record {
       mask = mask;
-      teqd = replicate most_ports 0;
+      teqd = replicate max_ports 0;
       drift = 0;
       midway = false;
       told = record { terminal = false; units = false; rules = each_rule false };
@@ -33,7 +33,7 @@ listening mask =
 
 -- nothing was heard on any port
 abbrev pub none_heard : List PortState
-none_heard = replicate most_ports (port_begun false)
+none_heard = replicate max_ports (port_begun false)
 
 -- a line is heard as an audit hears it, by what is read of it
 pub record HearsLine (mask : Mask) (line : List ℕ) (old new : List PortState) : Type 0 where

@@ -1,6 +1,7 @@
 //! `Auditor`, which is given the lines of a log one after another, and tells of each what it breaks and at the end what
 //! was counted.
 ghost use Rattle.std.specs.Prelude.{◌≡◌, ◌<◌, IfOk};
+ghost use Rattle.gp_machine.specs.Config.{max_ports};
 ghost use Rattle.gp_audit.specs.Audit.{audit_begun, is_silent, judged_at, judged_on};
 ghost use Rattle.gp_audit.specs.Outcome.{TellsEnd};
 
@@ -90,7 +91,7 @@ impl Auditor {
 
     /// The same of one port, 0 to 15; None where nothing was heard there.
     pub fn judged_at(&self, port: u8) -> Option<Judged>
-        requires { port < 16 }
+        requires { port < max_ports }
         ensures { result ≡ judged_at self.now.ports port }
     {
         self.ports.judged_at(port)

@@ -1,5 +1,6 @@
 //! What is said of the line at hand, and the counts.
 ghost use Rattle.std.specs.Prelude.{◌≡◌, ◌+◌, ◌<◌, [], ◌∷◌, IfErr, IfOk, OnErr, OnOk};
+ghost use Rattle.gp_machine.specs.Config.{max_ports};
 ghost use Rattle.gp_flow.specs.Lines.{most_lines};
 ghost use Rattle.gp_watch.specs.Heard.{settings_of};
 ghost use Rattle.gp_audit.specs.Book.{TellingFails, TellsNotices};
@@ -44,7 +45,7 @@ impl Book {
         said: &Said,
         rule: Rule,
     ) -> Result<(), AuditFault>
-        requires { place.now.port < 16 }
+        requires { place.now.port < max_ports }
         ensures told { OnOk result (TellsNotices options.now
             (Finding watch.now place.now said.now rule ∷ []) self.old self.new) }
         ensures fault { IfErr result (TellingFails self.old.sum

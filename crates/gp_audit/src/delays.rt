@@ -1,5 +1,6 @@
 //! The equalized delays of the ports, as they are given.
 ghost use Rattle.std.specs.Prelude.{◌≡◌, Ok, Err, None, Some, MatchResult, IfSome, ◌<◌};
+ghost use Rattle.gp_machine.specs.Config.{max_ports};
 ghost use Rattle.gp_audit.specs.Delays as spec;
 ghost use Rattle.gp_audit.specs.Texts.{given, texts};
 
@@ -21,7 +22,7 @@ fn delay_in(text: &str) -> Option<u32>
 /// Reads a port.
 fn port_in(text: &str) -> Option<u8>
     ensures value { result ≡ spec.port_in text.now }
-    ensures within { IfSome result (λ port. port < 16) }
+    ensures within { IfSome result (λ port. port < max_ports) }
 {
     match number_in(0, u64::from(LAST_PORT), text.as_bytes()) {
         Ok(port) => Some(port as u8),

@@ -1,6 +1,7 @@
 //! `Listener`, which is given the lines of a log or of a trace, and tells nothing of them: what they let one know of
 //! each port stands in it.
 ghost use Rattle.std.specs.Prelude.{◌≡◌, ◌<◌, IfErr, IfOk, OnOk};
+ghost use Rattle.gp_machine.specs.Config.{max_ports};
 ghost use Rattle.gp_audit.specs.Listening.{HearsLine, FailsOnLine, listening, none_heard};
 ghost use Rattle.gp_audit.specs.Port.{port_of};
 
@@ -16,7 +17,7 @@ use std::alloc::{AllocError, Global};
 use std::marker::Model;
 
 /// Hears the lines of a log, one after another, and tells nothing of them. Contracts see the mask of their codes, and
-/// what is known of each of sixteen ports.
+/// what is known of each port.
 #[derive(Drop)]
 pub struct Listener {
     options: AuditOptions,
@@ -83,7 +84,7 @@ impl Listener {
 
     /// Gives what the messages on a port told.
     pub fn watch(&self, port: u8) -> &PortWatch
-        requires { port < 16 }
+        requires { port < max_ports }
         ensures { result.now ≡ (port_of self.now.ports port).watch }
     {
         self.ports.watch(port)
@@ -91,7 +92,7 @@ impl Listener {
 
     /// Gives what was counted of the units of a port.
     pub fn census(&self, port: u8) -> &Census
-        requires { port < 16 }
+        requires { port < max_ports }
         ensures { result.now ≡ (port_of self.now.ports port).census }
     {
         self.ports.census(port)

@@ -1,5 +1,6 @@
 //! What a log is judged by, and what is told.
 ghost use Rattle.std.specs.Prelude.{◌≡◌, ◌<◌};
+ghost use Rattle.gp_machine.specs.Config.{max_ports};
 ghost use Rattle.gp_watch.specs.Heard.{heard_of, settings_of};
 ghost use Rattle.gp_audit.specs.Ending.{census_form};
 ghost use Rattle.gp_audit.specs.Notice.{finding_form, settings_at};
@@ -77,7 +78,7 @@ pub struct AuditOptions {
 impl AuditOptions {
     /// Gives what a port's delays are judged by.
     pub(crate) fn settings(&self, port: u8) -> Settings
-        requires { port < 16 }
+        requires { port < max_ports }
         ensures { settings_of result ≡ settings_at self.now port }
     {
         Settings {

@@ -1,6 +1,7 @@
 //! What is known of one port, and what is told of something that is heard there; or nothing is told, and it is noted
 //! alone.
 ghost use Rattle.std.specs.Prelude.{◌≡◌, ◌<◌, ◌||◌, [], ◌∷◌, ◌++◌, if◌then◌else◌, IfErr, IfOk, OnErr, OnOk};
+ghost use Rattle.gp_machine.specs.Config.{max_ports};
 ghost use Rattle.gp_watch.specs.Heard.{followed_down, followed_up, heard_of, IsFitting};
 ghost use Rattle.gp_audit.specs.Book.{TellingFails, TellsNotices};
 ghost use Rattle.gp_audit.specs.Ending.{units_of};
@@ -132,7 +133,7 @@ impl Port {
         heard: &Heard,
         rule: Rule,
     ) -> Result<(), AuditFault>
-        requires { place.now.port < 16 }
+        requires { place.now.port < max_ports }
         ensures told { OnOk result (TellsNotices options.now (findings_of self.now.watch place.now said.now
             (if is_told options.now.told (heard_of heard.now) rule then rule ∷ [] else [])) book.old book.new) }
         ensures fault { IfErr result (TellingFails book.old.sum (findings_of self.now.watch place.now said.now
@@ -153,7 +154,7 @@ impl Port {
         said: &Said,
         heard: &Heard,
     ) -> Result<(), AuditFault>
-        requires { place.now.port < 16 }
+        requires { place.now.port < max_ports }
         ensures told { OnOk result (TellsNotices options.now (findings_of self.now.watch place.now said.now
             (told_rules options.now place.now.port self.now.watch (heard_of heard.now))) book.old book.new) }
         ensures fault { IfErr result (TellingFails book.old.sum (findings_of self.now.watch place.now said.now
@@ -238,7 +239,7 @@ impl Port {
         said: &Said,
         heard: &Heard,
     ) -> Result<(), AuditFault>
-        requires port { place.now.port < 16 }
+        requires port { place.now.port < max_ports }
         requires fits { IsFitting heard.now }
         ensures told { OnOk result (TellsNotices options.now
             (heard_told options.now place.now self.old said.now (heard_of heard.now)) book.old book.new) }
@@ -262,7 +263,7 @@ impl Port {
         place: &Place,
         said: &Said,
     ) -> Result<(), AuditFault>
-        requires { place.now.port < 16 }
+        requires { place.now.port < max_ports }
         ensures told { OnOk result (TellsNotices options.now (said_told options.now place.now self.old said.now)
             book.old book.new) }
         ensures fault { IfErr result (TellingFails book.old.sum
@@ -282,7 +283,7 @@ impl Port {
         place: &Place,
         said: &Option<Said>,
     ) -> Result<(), AuditFault>
-        requires { place.now.port < 16 }
+        requires { place.now.port < max_ports }
         ensures told { OnOk result (TellsNotices options.now (maybe_told options.now place.now self.old said.now)
             book.old book.new) }
         ensures fault { IfErr result (TellingFails book.old.sum
@@ -305,7 +306,7 @@ impl Port {
         time: u64,
         said: &Said,
     ) -> Result<(), AuditFault>
-        requires { place.now.port < 16 }
+        requires { place.now.port < max_ports }
         ensures told { OnOk result (TellsNotices options.now (log_told options.now place.now self.old time said.now)
             book.old book.new) }
         ensures fault { IfErr result (TellingFails book.old.sum
@@ -339,7 +340,7 @@ impl Port {
         first: &Option<Said>,
         second: &Option<Said>,
     ) -> Result<(), AuditFault>
-        requires { place.now.port < 16 }
+        requires { place.now.port < max_ports }
         ensures told { OnOk result (TellsNotices options.now
             (trace_told options.now place.now (port_ticked self.old is_frame) first.now second.now) book.old book.new) }
         ensures fault { IfErr result (TellingFails book.old.sum

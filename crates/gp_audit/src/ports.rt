@@ -1,7 +1,8 @@
-//! What is known of each of sixteen ports, and a line heard on its own: judged, or noted alone.
+//! What is known of each port, and a line heard on its own: judged, or noted alone.
 ghost use Rattle.std.specs.Prelude.{◌≡◌, ◌<◌, ◌++◌, IfErr, IfOk, OnOk, replicate, length, slice_set};
+ghost use Rattle.gp_machine.specs.Config.{max_ports};
 ghost use Rattle.gp_audit.specs.Book.{TellingFails, TellsNotices};
-ghost use Rattle.gp_audit.specs.Audit.{judged_at, judged_on, most_ports};
+ghost use Rattle.gp_audit.specs.Audit.{judged_at, judged_on};
 ghost use Rattle.gp_audit.specs.Ending.{first_units};
 ghost use Rattle.gp_audit.specs.Hearing.{log_told, port_at, port_logged, port_ticked, port_traced, ports_after, told_of, trace_told};
 ghost use Rattle.gp_audit.specs.Port.{is_silent, port_begun, port_of};
@@ -22,7 +23,7 @@ use gp_watch::{PortWatch, WatchFault};
 use std::alloc::{AllocError, Global};
 use std::marker::Model;
 
-/// What is known of each of sixteen ports.
+/// What is known of each port.
 #[derive(Drop)]
 pub(crate) struct Ports {
     ports: Vec<Port>,
@@ -31,6 +32,7 @@ pub(crate) struct Ports {
 impl Model for Ports {
     ghost use Rattle.std.specs.Prelude.{◌≡◌, List, length};
     ghost use Rattle.std.specs.Coded.{codes};
+    ghost use Rattle.gp_machine.specs.Config.{max_ports};
     ghost use Rattle.gp_census.specs.Kept.{census_code};
     ghost use Rattle.gp_watch.specs.Kept.{watch_code};
     ghost use Rattle.gp_audit.specs.Port.{PortState};
@@ -41,12 +43,12 @@ impl Model for Ports {
 
     ghost view = { λ p. p.ports.items };
 
-    ghost invariant = { λ p. length p.ports.items ≡ 16 };
+    ghost invariant = { λ p. length p.ports.items ≡ max_ports };
 }
 
 /// Opens each port: nothing was heard.
 fn open(alloc: Global, midway: bool) -> Result<Vec<Port>, AllocError>
-    ensures { IfOk result (λ ports. ports.items ≡ replicate 16 (port_begun midway)) }
+    ensures { IfOk result (λ ports. ports.items ≡ replicate max_ports (port_begun midway)) }
 {
     let mut ports = Vec::with_capacity(alloc, PORTS)?;
     for _ in 0..PORTS {
@@ -67,7 +69,7 @@ fn judged_on(ports: &[Port]) -> Judged
 impl Ports {
     /// Nothing was heard on any of them.
     pub(crate) fn begin(alloc: Global, midway: bool) -> Result<Ports, AllocError>
-        ensures { IfOk result (λ ports. ports ≡ replicate 16 (port_begun midway)) }
+        ensures { IfOk result (λ ports. ports ≡ replicate max_ports (port_begun midway)) }
     {
         Ok(Ports {
             ports: open(alloc, midway)?,
@@ -90,7 +92,7 @@ impl Ports {
 
     /// Gives what was judged on a port, where something was heard there.
     pub(crate) fn judged_at(&self, port: u8) -> Option<Judged>
-        requires { port < 16 }
+        requires { port < max_ports }
         ensures { result ≡ judged_at self.now port }
     {
         let port = &self.ports[usize::from(port)];
@@ -106,7 +108,7 @@ impl Ports {
         out: &mut Vec<u8>,
         options: &AuditOptions,
     ) -> Result<(), AllocError>
-        ensures { OnOk result (out.new.items ≡ out.old.items ++ first_units options.now self.now most_ports) }
+        ensures { OnOk result (out.new.items ≡ out.old.items ++ first_units options.now self.now max_ports) }
     {
         for place in 0..PORTS {
             self.ports[place].push_units(out, options, place as u8)?;
@@ -123,7 +125,7 @@ impl Ports {
         time: u64,
         said: &Said,
     ) -> Result<(), AuditFault>
-        requires { place.now.port < 16 }
+        requires { place.now.port < max_ports }
         ensures told { OnOk result (TellsNotices options.now (log_told options.now place.now
             (port_at options.now self.old place.now.port) time said.now) book.old book.new) }
         ensures fault { IfErr result (TellingFails book.old.sum (log_told options.now place.now
@@ -146,7 +148,7 @@ impl Ports {
         first: &Option<Said>,
         second: &Option<Said>,
     ) -> Result<(), AuditFault>
-        requires { place.now.port < 16 }
+        requires { place.now.port < max_ports }
         ensures told { OnOk result (TellsNotices options.now (trace_told options.now place.now
             (port_ticked (port_at options.now self.old place.now.port) is_frame) first.now second.now)
             book.old book.new) }
@@ -205,7 +207,7 @@ impl Ports {
         time: u64,
         said: &Said,
     ) -> Result<(), WatchFault>
-        requires { port < 16 }
+        requires { port < max_ports }
         ensures noted { OnOk result (self.new ≡ slice_set self.old port
             (port_logged options.now (port_at options.now self.old port) time said.now)) }
         ensures fault { IfErr result
@@ -224,7 +226,7 @@ impl Ports {
         first: &Option<Said>,
         second: &Option<Said>,
     ) -> Result<(), WatchFault>
-        requires { port < 16 }
+        requires { port < max_ports }
         ensures noted { OnOk result (self.new ≡ slice_set self.old port (port_traced options.now
             (port_ticked (port_at options.now self.old port) is_frame) first.now second.now)) }
         ensures fault { IfErr result (TraceFails options.now
@@ -260,7 +262,7 @@ impl Ports {
 
     /// Gives what the messages on a port told.
     pub(crate) fn watch(&self, port: u8) -> &PortWatch
-        requires { port < 16 }
+        requires { port < max_ports }
         ensures { result.now ≡ (port_of self.now port).watch }
     {
         self.ports[usize::from(port)].watch()
@@ -268,7 +270,7 @@ impl Ports {
 
     /// Gives what was counted of the units of a port.
     pub(crate) fn census(&self, port: u8) -> &Census
-        requires { port < 16 }
+        requires { port < max_ports }
         ensures { result.now ≡ (port_of self.now port).census }
     {
         self.ports[usize::from(port)].census()

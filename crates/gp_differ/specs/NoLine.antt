@@ -4,6 +4,7 @@ use Rattle.gp_machine.specs.declared.event.Event.{Event}
 use Rattle.gp_lines.specs.declared.fault.LineFault.{LineFault}
 use Rattle.gp_lines.specs.declared.fault.LineFault.TheVariants as fault
 use Rattle.gp_lines.specs.Reading.{event_of, number_in}
+use Rattle.gp_lines.specs.Spelling.{last_port}
 use Rattle.gp_differ.specs.Parts.{Spelled, spelled}
 
 -- what an event has to be, by the first fault of one
@@ -33,7 +34,7 @@ why_port (Ok port) number event = why_number (number_in 0 18446744073709551615 n
 why_port (Err fault) number event = codes "the port: a line begins with one, 0 to 15"
 
 abbrev pub why_parts : Spelled → List ℕ
-why_parts parts = why_port (number_in 0 15 parts.port) parts.number parts.event
+why_parts parts = why_port (number_in 0 last_port parts.port) parts.number parts.event
 
 -- why a text is no line
 abbrev pub why_no_line : List ℕ → List ℕ

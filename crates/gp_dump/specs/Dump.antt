@@ -1,6 +1,7 @@
 -- A dump: declarations, and then times and the changes at each (this profile's own rule).
 use Rattle.std.specs.Prelude.{◌≡◌, ◌<◌, ℕ, Bool, true, false, List, [], ◌∷◌, ◌++◌, Option, None, Some, codes, decimal, if◌then◌else◌, nat_lt, max, is_some, slice_index_or, ⊤}
 use Rattle.std.specs.List.{flat_map}
+use Rattle.gp_machine.specs.Config.{max_ports}
 use Rattle.gp_dump.specs.declared.change.Change.{Change}
 use Rattle.gp_dump.specs.declared.change.Change.TheVariants as change
 use Rattle.gp_dump.specs.Text.{change_text}
@@ -13,9 +14,9 @@ pub record DumpState : Type 0 where
   pub ports : List (Option ℕ)
   pub last : Option ℕ
 
--- how many lanes a port has, if it is declared; there are sixteen
+-- how many lanes a port has, if it is declared
 abbrev pub lanes_of : List (Option ℕ) → ℕ → Option ℕ
-lanes_of ports number = if nat_lt number 16 then slice_index_or ports number None else None
+lanes_of ports number = if nat_lt number max_ports then slice_index_or ports number None else None
 
 -- the port whose variable, or whose unit's, a change is of
 abbrev pub port_of : Change → ℕ

@@ -1,15 +1,17 @@
 //! What is declared, the last time, and what is put behind that.
 ghost use Rattle.std.specs.Prelude.{◌≡◌, ◌<◌, ◌++◌, IfOk, IfSome, None, Some, true, false};
+ghost use Rattle.gp_machine.specs.Config.{max_ports};
 ghost use Rattle.gp_dump.specs.Dump as spec;
 ghost use Rattle.gp_dump.specs.Text.{change_text};
 
 use crate::change::Change;
 use crate::text::{push_port_change, push_time, push_unit_change};
+use gp_machine::MAX_PORTS;
 use std::alloc::AllocError;
 use std::marker::Model;
 
 /// How many ports there are.
-pub const PORTS: usize = 16;
+pub const PORTS: usize = MAX_PORTS as usize;
 
 /// Which ports are declared, each with how many lanes, and the last time that was written. Contracts see just that.
 #[derive(Drop)]
@@ -47,7 +49,7 @@ impl Dump {
     /// Gives how many lanes a port has, if it is declared.
     fn lanes_of(&self, port: u8) -> Option<u16>
         ensures value { result ≡ spec.lanes_of self.now.ports port }
-        ensures near { IfSome result (λ _. port < 16) }
+        ensures near { IfSome result (λ _. port < max_ports) }
     {
         let place = usize::from(port);
         if place < PORTS {
@@ -60,7 +62,7 @@ impl Dump {
     /// Tells whether the variable of a change is declared. No port but 0 to 15 is.
     pub fn declares(&self, change: &Change) -> bool
         ensures value { result ≡ spec.is_declared self.now.ports change.now }
-        ensures near { result ≡ true → spec.port_of change.now < 16 }
+        ensures near { result ≡ true → spec.port_of change.now < max_ports }
     {
         match change {
             Change::Port { number, .. } => self.lanes_of(*number).is_some(),

@@ -1,6 +1,7 @@
 //! The declarations of a dump: what times are counted in, what numbers stand for, and the variables of each port and of
 //! each of its lanes.
 ghost use Rattle.std.specs.Prelude.{◌≡◌, ◌<◌, ◌++◌, OnOk, Some, length};
+ghost use Rattle.gp_machine.specs.Config.{max_ports};
 ghost use Rattle.gp_dump.specs.Head as spec;
 ghost use Rattle.gp_dump.specs.Text.{port_id, unit_id};
 
@@ -37,7 +38,7 @@ fn push_port_variable(
     letter: u8,
     name: &str,
 ) -> Result<(), AllocError>
-    requires { port < 16 }
+    requires { port < max_ports }
     ensures { OnOk result (out.new.items ≡ out.old.items
         ++ spec.variable_text kind.now (port_id port letter) name.now) }
 {
@@ -58,7 +59,7 @@ fn push_unit_variable(
     lane: u16,
     name: &str,
 ) -> Result<(), AllocError>
-    requires { port < 16 }
+    requires { port < max_ports }
     ensures { OnOk result (out.new.items ≡ out.old.items
         ++ spec.variable_text kind.now (unit_id port letter lane) name.now) }
 {
@@ -106,7 +107,7 @@ fn push_end(out: &mut Vec<u8>) -> Result<(), AllocError>
 /// Appends what is sent on a port, and what is granted.
 #[tactic(auto, unfolding(crate::specs::Head::down_text))]
 fn push_down(out: &mut Vec<u8>, port: u8) -> Result<(), AllocError>
-    requires { port < 16 }
+    requires { port < max_ports }
     ensures { OnOk result (out.new.items ≡ out.old.items ++ spec.down_text port) }
 {
     push_port_variable(out, "wire 1 ", port, b'f', " frame")?;
@@ -118,7 +119,7 @@ fn push_down(out: &mut Vec<u8>, port: u8) -> Result<(), AllocError>
 /// Appends what comes back.
 #[tactic(auto, unfolding(crate::specs::Head::up_text))]
 fn push_up(out: &mut Vec<u8>, port: u8) -> Result<(), AllocError>
-    requires { port < 16 }
+    requires { port < max_ports }
     ensures { OnOk result (out.new.items ≡ out.old.items ++ spec.up_text port) }
 {
     push_port_variable(out, "reg 8 ", port, b'w', " window")?;
@@ -130,7 +131,7 @@ fn push_up(out: &mut Vec<u8>, port: u8) -> Result<(), AllocError>
 /// Appends what is known of a unit.
 #[tactic(auto, unfolding(crate::specs::Head::unit_text))]
 fn push_unit(out: &mut Vec<u8>, port: u8, lane: u16) -> Result<(), AllocError>
-    requires { port < 16 }
+    requires { port < max_ports }
     ensures { OnOk result (out.new.items ≡ out.old.items ++ spec.unit_text port lane) }
 {
     push_unit_variable(out, "reg 64 ", port, b'n', lane, " serial")?;
@@ -142,7 +143,7 @@ fn push_unit(out: &mut Vec<u8>, port: u8, lane: u16) -> Result<(), AllocError>
 /// Appends a lane.
 #[tactic(auto, unfolding(crate::specs::Head::lane_text))]
 fn push_lane(out: &mut Vec<u8>, port: u8, lane: u16) -> Result<(), AllocError>
-    requires { port < 16 }
+    requires { port < max_ports }
     ensures { OnOk result (out.new.items ≡ out.old.items ++ spec.lane_text port lane) }
 {
     push_unit_scope(out, lane)?;
@@ -152,7 +153,7 @@ fn push_lane(out: &mut Vec<u8>, port: u8, lane: u16) -> Result<(), AllocError>
 
 /// Appends so many lanes.
 fn push_lanes(out: &mut Vec<u8>, port: u8, lanes: u16) -> Result<(), AllocError>
-    requires { port < 16 }
+    requires { port < max_ports }
     ensures { OnOk result (out.new.items ≡ out.old.items ++ spec.lanes_text port lanes) }
 {
     'lanes: for lane in 0..lanes {
@@ -164,7 +165,7 @@ fn push_lanes(out: &mut Vec<u8>, port: u8, lanes: u16) -> Result<(), AllocError>
 /// Appends a port.
 #[tactic(auto, unfolding(crate::specs::Head::port_text))]
 fn push_port(out: &mut Vec<u8>, port: u8, lanes: u16) -> Result<(), AllocError>
-    requires { port < 16 }
+    requires { port < max_ports }
     ensures { OnOk result (out.new.items ≡ out.old.items ++ spec.port_text port lanes) }
 {
     push_port_scope(out, port)?;
@@ -176,7 +177,7 @@ fn push_port(out: &mut Vec<u8>, port: u8, lanes: u16) -> Result<(), AllocError>
 
 /// Appends a port, if it is declared.
 fn push_port_if(out: &mut Vec<u8>, port: u8, lanes: Option<u16>) -> Result<(), AllocError>
-    requires { port < 16 }
+    requires { port < max_ports }
     ensures { OnOk result (out.new.items ≡ out.old.items ++ spec.port_if port lanes) }
 {
     match lanes {

@@ -1,6 +1,7 @@
 //! The pieces that lines are made of: identifiers of variables, and values, as levels or as binary digits.
 ghost use Rattle.std.specs.Prelude.{◌≡◌, ◌<◌, ◌++◌, OnOk, decimal};
 ghost use Rattle.std.specs.List.{flat_map};
+ghost use Rattle.gp_machine.specs.Config.{max_ports};
 ghost use Rattle.gp_dump.specs.Text as spec;
 
 use crate::change::WindowKind;
@@ -19,7 +20,7 @@ pub(crate) fn push_number(out: &mut Vec<u8>, number: u64) -> Result<(), AllocErr
 
 /// Appends the identifier of a variable of a port.
 pub(crate) fn push_port_id(out: &mut Vec<u8>, port: u8, letter: u8) -> Result<(), AllocError>
-    requires { port < 16 }
+    requires { port < max_ports }
     ensures { OnOk result (out.new.items ≡ out.old.items ++ spec.port_id port letter) }
 {
     out.extend_from_slice(&[b'a' + port, letter])
@@ -32,7 +33,7 @@ pub(crate) fn push_unit_id(
     letter: u8,
     lane: u16,
 ) -> Result<(), AllocError>
-    requires { port < 16 }
+    requires { port < max_ports }
     ensures { OnOk result (out.new.items ≡ out.old.items ++ spec.unit_id port letter lane) }
 {
     push_port_id(out, port, letter)?;

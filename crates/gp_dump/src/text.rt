@@ -1,6 +1,7 @@
 //! The line of a change: the value of a variable, and its identifier; and the line of a time, which stands there only
 //! where it is behind the last one.
 ghost use Rattle.std.specs.Prelude.{◌≡◌, ◌<◌, ◌++◌, OnOk, codes, decimal};
+ghost use Rattle.gp_machine.specs.Config.{max_ports};
 ghost use Rattle.gp_dump.specs.Dump as dump;
 ghost use Rattle.gp_dump.specs.Text as spec;
 
@@ -74,7 +75,7 @@ pub(crate) fn push_port_change(
     number: u8,
     what: &PortChange,
 ) -> Result<(), AllocError>
-    requires { number < 16 }
+    requires { number < max_ports }
     ensures { OnOk result (out.new.items ≡ out.old.items
         ++ (spec.port_value what.now ++ spec.port_id number (spec.letter_of_port what.now) ++ codes "\n")) }
 {
@@ -90,7 +91,7 @@ pub(crate) fn push_unit_change(
     lane: u16,
     what: &UnitChange,
 ) -> Result<(), AllocError>
-    requires { number < 16 }
+    requires { number < max_ports }
     ensures { OnOk result (out.new.items ≡ out.old.items
         ++ (spec.unit_value what.now ++ spec.unit_id number (spec.letter_of_unit what.now) lane ++ codes "\n")) }
 {

@@ -35,7 +35,7 @@ lines_of (b ∷ bytes) = if b == 10 then [] ∷ lines_of bytes else onto_line b 
 abbrev pub with_feeds : List (List ℕ) → List ℕ
 with_feeds lines = flat_map (λ (line : List ℕ). line ++ 10 ∷ []) lines
 
--- the most octets of a line that is handed on: `MAX_LINE_BYTES`
+-- the most octets of a line that is handed on
 abbrev pub longest_line : ℕ
 longest_line = 4096
 

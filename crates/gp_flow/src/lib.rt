@@ -19,6 +19,6 @@ mod open_line;
 mod work;
 
 pub use fault::{LinesFault, Unanswered};
-pub use lines::{LinesEnd, MAX_LINE_BYTES, run_lines};
+pub use lines::{LinesEnd, MAX_LINE_BYTES, lines_are_limited, run_lines};
 pub use open_line::OpenLine;
 pub use work::LineWork;

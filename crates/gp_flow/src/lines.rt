@@ -3,7 +3,7 @@ ghost use Rattle.std.specs.Prelude.{◌≡◌, ◌<◌, true};
 ghost use Rattle.gp_stream.specs.Sink.{KeepsNothing};
 ghost use Rattle.gp_stream.specs.Source.{Reads};
 ghost use Rattle.gp_flow.specs.Gathering.{ServesGathered, WritesOut};
-ghost use Rattle.gp_flow.specs.Lines.{Serves, end_of_input};
+ghost use Rattle.gp_flow.specs.Lines.{Serves, end_of_input, longest_line};
 
 use crate::fault::{LinesFault, Unanswered};
 use crate::open_line::OpenLine;
@@ -15,6 +15,11 @@ use std::io::{Read, Write};
 
 /// The most octets that a line may have. Of a longer one nothing is handed on.
 pub const MAX_LINE_BYTES: usize = 4_096;
+
+/// States that `MAX_LINE_BYTES` is the number that contracts have for it.
+pub fn lines_are_limited()
+    ensures { MAX_LINE_BYTES ≡ longest_line }
+{}
 
 /// How many bytes are asked for in one read.
 const PIECE_BYTES: usize = 65_536;

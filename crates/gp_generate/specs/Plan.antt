@@ -2,6 +2,7 @@
 use Rattle.std.specs.Prelude.{ℕ, ◌≡◌, ◌+◌, ◌%◌, ◌≤◌, ◌<◌, ◌==◌, ◌&&◌, ◌||◌, if◌then◌else◌, Option, None, Some, nat_lt, min, unwrap_or}
 use Rattle.gp_ploam.specs.declared.check.Mask.{Mask}
 use Rattle.gp_ploam.specs.declared.check.Mask.TheVariants as masks
+use Rattle.gp_machine.specs.Config.{max_ports}
 use Rattle.gp_generate.specs.declared.plan.Asked.{Asked}
 use Rattle.gp_generate.specs.declared.plan.Wish.{Wish}
 use Rattle.gp_generate.specs.declared.plan.PlanFault.{PlanFault}
@@ -22,7 +23,7 @@ wish_of asked =
 -- there is such a script
 pub record IsPlan (wish : Wish) : Type 0 where
   pub some_ports : 1 ≤ wish.ports
-  pub few_ports : wish.ports ≤ 16
+  pub few_ports : wish.ports ≤ max_ports
   pub few_units : wish.units ≤ 1024
   -- units stand beside one port
   pub alone : 0 < wish.units → wish.ports ≡ 1
@@ -33,7 +34,7 @@ pub record IsPlan (wish : Wish) : Type 0 where
 -- why there is none
 abbrev pub fault_of : Wish → Option PlanFault
 fault_of wish =
-    if (wish.ports == 0) || nat_lt 16 wish.ports then Some Ports
+    if (wish.ports == 0) || nat_lt max_ports wish.ports then Some Ports
     else if nat_lt 1024 wish.units then Some Units
     else if nat_lt 0 wish.units && nat_lt 1 wish.ports then Some UnitsBesidePorts
     else if nat_lt 10000 wish.events then Some Events

@@ -1,13 +1,13 @@
 //! What script is asked for, and whether there is such a one.
 ghost use Rattle.std.specs.Prelude.{◌≡◌, ◌≤◌, IfErr, IfOk, None, Some};
+ghost use Rattle.gp_machine.specs.Config.{max_ports};
 ghost use Rattle.gp_generate.specs.Plan as spec;
 
+use gp_machine::MAX_PORTS;
 use gp_ploam::Mask;
 use std::marker::Model;
 use thiserror::Error;
 
-/// How many ports a script has at most.
-const MAX_PORTS: u64 = 16;
 /// How many simulated units.
 const MAX_UNITS: u64 = 1024;
 /// How many events.
@@ -104,7 +104,7 @@ fn fault_of(wish: &Wish) -> Option<PlanFault>
     ensures value { result ≡ spec.fault_of wish.now }
     ensures plan { result ≡ None → spec.IsPlan wish.now }
 {
-    if wish.ports == 0 || wish.ports > MAX_PORTS {
+    if wish.ports == 0 || wish.ports > u64::from(MAX_PORTS) {
         Some(PlanFault::Ports)
     } else if wish.units > MAX_UNITS {
         Some(PlanFault::Units)
@@ -142,7 +142,7 @@ impl Plan {
     pub(crate) fn ports(&self) -> u8
         ensures value { result ≡ self.now.ports }
         ensures some { 1 ≤ result }
-        ensures few { result ≤ 16 }
+        ensures few { result ≤ max_ports }
     {
         self.wish.ports as u8
     }

@@ -5,6 +5,7 @@ use Rattle.gp_ploam.specs.declared.check.Mask.{Mask}
 use Rattle.gp_ranging.specs.declared.grant.Grant.{Grant}
 use Rattle.gp_ranging.specs.declared.grant.Grant.TheVariants as grants
 use Rattle.gp_machine.specs.declared.event.Event.{Event}
+use Rattle.gp_flow.specs.Lines.{longest_line}
 use Rattle.gp_trace.specs.Reply.{numbered}
 use Rattle.gp_trace.specs.Text.{event_text}
 use Rattle.gp_lines.specs.declared.turn.Asked.{Asked}
@@ -15,10 +16,6 @@ use Rattle.gp_lines.specs.Parts.{parts_of}
 use Rattle.gp_lines.specs.Spelling.{last_port, SpellsNumber, SpellsParts}
 use Rattle.gp_lines.specs.Say.{SpellsSaid}
 use Rattle.gp_lines.specs.Told.{IsTold}
-
--- the most octets that a line has before its line feed
-abbrev pub longest_line : ℕ
-longest_line = 4096
 
 -- the most frames that one line asks for
 abbrev pub most_frames : ℕ

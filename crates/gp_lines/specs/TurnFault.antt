@@ -2,6 +2,7 @@
 use Rattle.std.specs.Prelude.{◌≡◌, ℕ, ◌<◌, ◌≤◌, Bool, true, false, List, [], ◌∷◌, length, Option, None, Some, ◌⊎◌, codes}
 use Rattle.std.specs.Str.Parse.{IsNumeral, digits_value}
 use Rattle.gp_ploam.specs.OnuIds.{last_onu}
+use Rattle.gp_flow.specs.Lines.{longest_line}
 use Rattle.gp_lines.specs.declared.fault.LineFault.{LineFault}
 use Rattle.gp_lines.specs.declared.fault.LineFault.TheVariants as fault
 use Rattle.gp_lines.specs.declared.word.UnitWord.{UnitWord}
@@ -9,7 +10,7 @@ use Rattle.gp_lines.specs.Parts.{parts_of, has_space_too_many}
 use Rattle.gp_lines.specs.Spelling.{last_port}
 use Rattle.gp_lines.specs.Fault.{HavePartsFault, HasNumberFault}
 use Rattle.gp_lines.specs.SayFault.{HaveSayFault}
-use Rattle.gp_lines.specs.Turn.{longest_line, most_frames, last_unit, without_return, is_remark, unit_word}
+use Rattle.gp_lines.specs.Turn.{most_frames, last_unit, without_return, is_remark, unit_word}
 
 -- the fault of parts that have to be one such number
 abbrev pub HaveOneFault : ℕ → ℕ → List (List ℕ) → LineFault → Type 0

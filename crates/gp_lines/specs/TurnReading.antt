@@ -4,6 +4,7 @@ use Rattle.std.specs.Str.{bytes_eq}
 use Rattle.gp_ploam.specs.declared.check.Mask.{Mask}
 use Rattle.gp_ranging.specs.declared.grant.Grant.{Grant}
 use Rattle.gp_ranging.specs.declared.grant.Grant.TheVariants as grants
+use Rattle.gp_flow.specs.Lines.{longest_line}
 use Rattle.gp_lines.specs.declared.fault.LineFault.{LineFault}
 use Rattle.gp_lines.specs.declared.fault.LineFault.TheVariants as fault
 use Rattle.gp_lines.specs.declared.turn.Asked.{Asked}
@@ -13,6 +14,7 @@ use Rattle.gp_lines.specs.declared.word.UnitWord.TheVariants as words
 use Rattle.gp_lines.specs.Parts.{parts_of, has_space_too_many}
 use Rattle.gp_lines.specs.Reading.{◌>>=◌, number_in, one_of, two_of, event_of_parts}
 use Rattle.gp_lines.specs.SayReading.{say_event}
+use Rattle.gp_lines.specs.Spelling.{last_port}
 use Rattle.gp_lines.specs.Turn.{without_return, is_remark, asked_of_unit}
 
 -- a number that stands alone
@@ -118,7 +120,7 @@ behind_turn mask port (word ∷ next ∷ others) = worded_turn mask port word (n
 -- a port, and what it is asked for
 unfoldable pub port_turn : Mask → List ℕ → List (List ℕ) → Result Asked LineFault
 port_turn mask digits parts = do
-  port ← number_in 0 15 digits
+  port ← number_in 0 last_port digits
   behind_turn mask port parts
 
 -- what is asked of a unit
@@ -156,4 +158,4 @@ asked_of mask text = if is_remark text then Ok asked.Nothing else spaced_turn ma
 
 -- what a line asks for
 abbrev pub turn_of : Mask → List ℕ → Result Asked LineFault
-turn_of mask line = if nat_le (length line) 4096 then asked_of mask (without_return line) else Err fault.Long
+turn_of mask line = if nat_le (length line) longest_line then asked_of mask (without_return line) else Err fault.Long

@@ -9,8 +9,8 @@
 //! - `traced.rt`: `split_line`, a line of a trace cut into its parts. `leading.rt`: what a text begins with,
 //!   read in one pass.
 //! - `picks.rt`: `picked`, the number that an answer picks.
-//! - `laws.rt`, `told.rt`, `short.rt`: what `gp_trace` writes is read back, a text tells one thing at most, and a
-//!   line of a trace has no line feed but the one that ends it, and is not too long.
+//! - `laws.rt`, `told.rt`, `short.rt`: what `gp_trace` writes is read back, a text tells one thing at most, a line of a
+//!   trace has no line feed but the one that ends it, and is not too long; the limits are those of contracts.
 //! - `word.rt`: the words that events begin with, and those of a simulated unit. `fields.rt`: numbers, serial numbers,
 //!   and codes, whose digits `gp_code` reads. `parts.rt`: what stands between the spaces of a text. `fault.rt`: what is
 //!   wrong with a line.
@@ -43,7 +43,7 @@ pub use fields::{number_in, serial_in};
 pub use laws::{
     events_are_read, one_cut, one_event, one_turn, picks_are_read, told_events_are_read,
     told_picks_are_read, told_turns_are_read, traced_lines_are_cut, traced_lines_are_short,
-    traced_lines_end_once, turns_are_read,
+    traced_lines_end_once, turns_are_limited, turns_are_read,
 };
 pub use parts::cut;
 pub use picks::picked;

@@ -18,15 +18,16 @@ use crate::leading::{leading_burst, leading_number};
 use crate::parts::{cut, has_space_too_many, is_word, two_parts};
 use crate::say::say_event;
 use crate::word::UnitWord;
-use gp_machine::Event;
+use gp_flow::MAX_LINE_BYTES;
+use gp_machine::{Event, MAX_PORTS};
 use gp_ploam::Mask;
 use gp_ranging::Grant;
 
 /// The greatest port.
-pub const LAST_PORT: u8 = 15;
+pub const LAST_PORT: u8 = MAX_PORTS - 1;
 
 /// How many ports a trace may tell of: 0 to [`LAST_PORT`].
-pub const PORTS: usize = 16;
+pub const PORTS: usize = MAX_PORTS as usize;
 
 /// The most frames that one line asks for.
 pub const MOST_FRAMES: u32 = 1_000_000;
@@ -35,7 +36,7 @@ pub const MOST_FRAMES: u32 = 1_000_000;
 pub const LAST_UNIT: u16 = 1023;
 
 /// The most octets that a line has before its line feed.
-pub const LONGEST_LINE: usize = 4096;
+pub const LONGEST_LINE: usize = MAX_LINE_BYTES;
 
 /// What a line asks for.
 #[derive(Clone, Copy, Debug, PartialEq, Eq)]

@@ -1,8 +1,9 @@
 -- What a line says: one of a log, or one of a trace (this profile's own rule). It comes without its line feed.
 use Rattle.std.specs.Prelude.{◌≡◌, ℕ, ◌<◌, ◌≤◌, ◌==◌, ◌&&◌, Bool, true, false, List, [], ◌∷◌, length, ◌⊎◌, Result, Ok, Err, if◌then◌else◌}
 use Rattle.gp_machine.specs.declared.event.Event.{Event}
+use Rattle.gp_flow.specs.Lines.{longest_line}
 use Rattle.gp_lines.specs.Trace.{SplitsLine}
-use Rattle.gp_lines.specs.Turn.{longest_line, is_remark, without_return}
+use Rattle.gp_lines.specs.Turn.{is_remark, without_return}
 use Rattle.gp_log.specs.declared.fault.LogFault.{LogFault}
 use Rattle.gp_log.specs.declared.fault.LogFault.TheVariants as fault
 use Rattle.gp_log.specs.declared.line.LogLine.{LogLine}

@@ -1,6 +1,7 @@
 -- A line of a log, `[PORT] TIME down CODE`, `[PORT] TIME up CODE [DELAY]` or `[PORT] TIME grant GRANT` (this profile's
 -- own rule).
 use Rattle.std.specs.Prelude.{ℕ, List, Option, None, Some, Result, Ok, Err}
+use Rattle.gp_lines.specs.Spelling.{last_port}
 use Rattle.gp_log.specs.declared.fault.LogFault.{LogFault}
 use Rattle.gp_log.specs.declared.fault.LogFault.TheVariants as fault
 use Rattle.gp_log.specs.declared.line.LogLine.{LogLine}
@@ -17,10 +18,10 @@ entry_of port time kind text = do
   said ← said_of kind text
   Ok (line.Log port at said)
 
--- the same where the port is told: it is from 0 to 15
+-- the same where the port is told
 unfoldable pub ported_entry : List ℕ → List ℕ → Kind → List ℕ → Result LogLine LogFault
 ported_entry digits time kind text = do
-  port ← number_in fault.Number 15 digits
+  port ← number_in fault.Number last_port digits
   entry_of port time kind text
 
 abbrev pub third_entry : List ℕ → List ℕ → Option Kind → List ℕ → Result LogLine LogFault

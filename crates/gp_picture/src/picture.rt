@@ -21,7 +21,7 @@ const MOST_WIDENINGS: usize = 64;
 pub(crate) struct Picture {
     pub(crate) options: PictureOptions,
     pub(crate) room: Room,
-    /// The sixteen ports.
+    /// The ports that there may be.
     pub(crate) ports: Vec<Port>,
 }
 

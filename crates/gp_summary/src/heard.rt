@@ -2,6 +2,7 @@
 ghost use Rattle.std.specs.Prelude.{◌≡◌, ◌<◌, ◌≤◌, ◌++◌, ℕ, List, IfOk, OnOk, length};
 ghost use Rattle.std.specs.FinMap.{entries, get};
 ghost use Rattle.std.specs.List.{flat_map};
+ghost use Rattle.gp_machine.specs.Config.{max_ports};
 ghost use Rattle.gp_census.specs.Census.{sighting_of};
 ghost use Rattle.gp_census.specs.Text.{front_line};
 ghost use Rattle.gp_audit.specs.Port.{port_of};
@@ -182,7 +183,7 @@ fn push_listened(
     listener: &Listener,
     tally: &PortTally,
 ) -> Result<(), AllocError>
-    requires { number < 16 }
+    requires { number < max_ports }
     ensures { OnOk result (out.new.items ≡ out.old.items ++ spec.heard_lines form number
         (port_of listener.now.ports number).watch (port_of listener.now.ports number).census tally.now) }
 {
@@ -198,7 +199,7 @@ fn push_ports(
     listener: &Listener,
     tallies: &[PortTally],
 ) -> Result<(), AllocError>
-    requires { length tallies.now ≤ 16 }
+    requires { length tallies.now ≤ max_ports }
     ensures { OnOk result ((text : List ℕ)
         × spec.HeardText form (length tallies.now) listener.now.ports tallies.now text
         × (out.new.items ≡ out.old.items ++ text)) }
@@ -218,7 +219,7 @@ pub fn heard_summary(
     counter: &Counter,
     listener: &Listener,
 ) -> Result<Vec<u8>, AllocError>
-    requires { length counter.now.ports ≤ 16 }
+    requires { length counter.now.ports ≤ max_ports }
     ensures { IfOk result (λ text. spec.TellsHeard form counter.now.mask counter.now.taken
         (length counter.now.ports) listener.now.ports text.items) }
 {

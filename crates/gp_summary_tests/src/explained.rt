@@ -1,7 +1,7 @@
 //! Traces that are told again, and what was counted and heard of them.
 ghost use Rattle.std.specs.Prelude.{◌≡◌};
 ghost use Rattle.gp_ploam.specs.declared.check.Mask.TheVariants.{Plain};
-ghost use Rattle.gp_summed.specs.Explaining.{trace_ports};
+ghost use Rattle.gp_machine.specs.Config.{max_ports};
 
 use crate::compared::{Field, Wanted, has_field, is_text, is_text_or_refused};
 use gp_explain::{ExplainFault, NoLine};
@@ -108,7 +108,7 @@ fn told_by<B: Began, W: Write + Drop>(
 ) -> Result<Told<W>, AllocError>
     requires held { W.contents writer ≡ B.held }
     requires mask { B.mask ≡ Plain }
-    requires ports { B.ports ≡ trace_ports }
+    requires ports { B.ports ≡ max_ports }
 {
     let mut source = Source::new(trace);
     let Explained {

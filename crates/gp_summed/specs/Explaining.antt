@@ -4,6 +4,7 @@ use Rattle.std.specs.declared.alloc.AllocError.{AllocError}
 use Rattle.std.specs.declared.alloc.Global.{Global}
 use Rattle.std.specs.declared.vec.Vec.{Vec}
 use Rattle.gp_ploam.specs.declared.check.Mask.{Mask}
+use Rattle.gp_machine.specs.Config.{max_ports}
 use Rattle.gp_explain.specs.declared.fault.ExplainFault.{ExplainFault}
 use Rattle.gp_explain.specs.declared.form.Form.TheVariants.{Plain}
 use Rattle.gp_explain.specs.Outcome.{ExplainsTrace}
@@ -18,10 +19,6 @@ use Rattle.gp_audit.specs.Port.{PortState}
 use Rattle.gp_summed.specs.declared.codes.HeardCodes.{HeardCodes}
 use Rattle.gp_summed.specs.Codes.{codes_of}
 use Rattle.gp_summed.specs.Hearing.{AreHeard, HearingState}
-
--- how many ports a trace may tell of
-abbrev pub trace_ports : ℕ
-trace_ports = 16
 
 -- lines are told as they are
 abbrev pub as_they_are : Mask → Manner
@@ -39,9 +36,9 @@ pub record ExplainsSummed {R W : Type 0} (form : SummaryForm) (mask : Mask) (fro
   pub writer : counting ≡ after.writer.counting
   pub took : after.held ≡ Some counting.counter.taken
   pub tells : IfOk summary (λ text. (ports : List PortState) × AreHeard mask counting.counter.taken ports
-      × TellsHeard form mask counting.counter.taken trace_ports ports text.items)
+      × TellsHeard form mask counting.counter.taken max_ports ports text.items)
 
 -- what is told of the codes is what was heard of these octets
 abbrev pub HasCodes : Mask → List ℕ → Result HeardCodes AllocError → Type 0
 HasCodes mask taken codes =
-    IfOk codes (λ heard. (ports : List PortState) × AreHeard mask taken ports × (heard ≡ codes_of ports trace_ports))
+    IfOk codes (λ heard. (ports : List PortState) × AreHeard mask taken ports × (heard ≡ codes_of ports max_ports))

@@ -1,10 +1,11 @@
 //! How many codes of a trace can't be read under the mask, and whether one can.
 ghost use Rattle.std.specs.Prelude.{◌≡◌};
+ghost use Rattle.gp_machine.specs.Config.{max_ports};
 ghost use Rattle.gp_summed.specs.Codes.{codes_of, no_codes, with_port};
 
-use crate::explaining::TRACE_PORTS;
 use gp_audit::Listener;
 use gp_census::PortCounts;
+use gp_lines::PORTS;
 
 /// The codes that were heard of a trace.
 #[derive(Clone, Copy, Debug, PartialEq, Eq)]
@@ -41,10 +42,10 @@ impl HeardCodes {
 
 /// Counts the codes that were heard on all ports.
 pub(crate) fn codes_of(listener: &Listener) -> HeardCodes
-    ensures { result ≡ codes_of listener.now.ports 16 }
+    ensures { result ≡ codes_of listener.now.ports max_ports }
 {
     let mut codes = HeardCodes::none();
-    'ports: for port in 0..TRACE_PORTS as u8 {
+    'ports: for port in 0..PORTS as u8 {
         codes = codes.with_port(listener.census(port).port());
     }
     codes

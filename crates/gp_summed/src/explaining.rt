@@ -1,5 +1,6 @@
 //! A trace that is told again while its lines are counted and heard.
 ghost use Rattle.std.specs.Prelude.{◌≡◌, ◌≤◌, List, IfOk, OnErr, length};
+ghost use Rattle.gp_machine.specs.Config.{max_ports};
 ghost use Rattle.gp_audit.specs.Port.{PortState};
 ghost use Rattle.gp_summary.specs.Heard.{TellsHeard};
 ghost use Rattle.gp_summed.specs.Codes.{codes_of};
@@ -10,15 +11,13 @@ use crate::codes::{HeardCodes, codes_of};
 use crate::hearer::Hearer;
 use crate::hearing::Hearing;
 use gp_explain::{ExplainFault, Form, Telling, explain_trace};
+use gp_lines::PORTS;
 use gp_ploam::Mask;
 use gp_stream::{Sink, Source};
 use gp_summary::{SummaryForm, heard_summary};
 use gp_tally::{Began, Counter, Counting};
 use std::alloc::{AllocError, Global};
 use std::io::{Read, Write};
-
-/// How many ports a trace may tell of.
-pub const TRACE_PORTS: usize = 16;
 
 /// A trace that was told again, as far as its lines are those of a trace, and the writer that they went to.
 #[derive(Drop)]
@@ -40,7 +39,7 @@ fn summary_of(
     counter: &Counter,
     hearer: &Hearer,
 ) -> Result<Vec<u8>, AllocError>
-    requires { length counter.now.ports ≤ 16 }
+    requires { length counter.now.ports ≤ max_ports }
     ensures { IfOk result (λ text. (ports : List PortState) × AreHeard hearer.now.mask hearer.now.taken ports
         × TellsHeard form counter.now.mask counter.now.taken (length counter.now.ports) ports text.items) }
 {
@@ -51,7 +50,7 @@ fn summary_of(
 /// Gives how many codes can't be read, unless memory was refused for what was heard.
 fn heard_codes(hearer: &Hearer) -> Result<HeardCodes, AllocError>
     ensures { IfOk result (λ codes. (ports : List PortState) × AreHeard hearer.now.mask hearer.now.taken ports
-        × (codes ≡ codes_of ports 16)) }
+        × (codes ≡ codes_of ports max_ports)) }
 {
     Ok(codes_of(hearer.listener()?))
 }
@@ -72,13 +71,13 @@ pub fn explain_summed<B: Began, R: Read, W: Write + Drop>(
 ) -> Result<Explained<B, W>, AllocError>
     requires held { W.contents writer ≡ B.held }
     requires mask { B.mask ≡ mask }
-    requires ports { B.ports ≡ TRACE_PORTS }
+    requires ports { B.ports ≡ max_ports }
     ensures explained { IfOk result (λ explained.
         ExplainsSummed form mask source.old source.new explained.counting explained.told explained.summary) }
     ensures codes { IfOk result (λ explained. HasCodes mask explained.counting.counter.taken explained.codes) }
     ensures unread { OnErr result (source.new ≡ source.old) }
 {
-    let counter = Counter::new(alloc, mask, TRACE_PORTS)?;
+    let counter = Counter::new(alloc, mask, PORTS)?;
     let hearer = Hearer::new(alloc, mask)?;
     let hearing = Hearing::new(Counting::<B, W>::new(counter, writer), hearer);
     let mut sink = Sink::new(alloc, hearing)?;

@@ -29,7 +29,7 @@ mod verifying;
 
 pub use codes::HeardCodes;
 pub use driving::{DriveEnded, DriveSummed, drive_summed};
-pub use explaining::{Explained, TRACE_PORTS, explain_summed};
+pub use explaining::{Explained, explain_summed};
 pub use laws::lights_count_for_nothing;
 pub use reach::summary_form;
 pub use verifying::{Verified, verify_summed};

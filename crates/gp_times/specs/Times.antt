@@ -3,6 +3,7 @@
 -- own rule).
 use Rattle.std.specs.Prelude.{ℕ, ◌+◌, ◌-◌, ◌*◌, ◌/◌, ◌^◌, Bool, true, false, if◌then◌else◌, nat_lt, min, max, List, Option, None, Some, replicate, slice_index_or, slice_set}
 use Rattle.std.specs.List.{fold}
+use Rattle.gp_machine.specs.Config.{max_ports}
 use Rattle.gp_log.specs.declared.line.LogLine.{LogLine}
 use Rattle.gp_log.specs.declared.line.LogLine.TheVariants as line
 use Rattle.gp_log.specs.Time.{frame_time}
@@ -44,13 +45,13 @@ abbrev pub traced : Bool → PortTime → PortTime
 traced false port = told_at port.time port
 traced true port = told_at (held_time (port.time + frame_time)) port
 
--- of each of sixteen ports, and how many lines fell: their time was before that of their port
+-- of each port, and how many lines fell: their time was before that of their port
 pub record TimesState : Type 0 where
   pub ports : List PortTime
   pub fallen : ℕ
 
 abbrev pub times_begun : TimesState
-times_begun = record { ports = replicate 16 untold; fallen = 0 }
+times_begun = record { ports = replicate max_ports untold; fallen = 0 }
 
 abbrev pub time_of : TimesState → ℕ → PortTime
 time_of times port = slice_index_or times.ports port untold

@@ -6,7 +6,7 @@
 //! behind the wanted frames exactly where that is (`PortTimes::hear`, `fallen`, `outside`).
 //!
 //! - `frames.rt`: `Frames`, the frames that are wanted, and `Outside`, where all is that was heard.
-//! - `times.rt`: `PortTimes`, the times of sixteen ports and how many lines fell, and `PortTime`, the time of one.
+//! - `times.rt`: `PortTimes`, the times of the ports and how many lines fell, and `PortTime`, the time of one.
 //!
 //! Where to make which change: what a line does to the time of its port stands in `specs/Times.antt`, what is read of a
 //! line in `gp_log`. Which lines of an input are read, and what that does to the times, is said in `specs/Lines.antt`

@@ -1,4 +1,4 @@
-//! The times of sixteen ports, by the lines of a trace or a log that tell of them, and how many lines fell.
+//! The times of the ports, by the lines of a trace or a log that tell of them, and how many lines fell.
 ghost use Rattle.std.specs.Prelude.{◌≡◌, replicate};
 ghost use Rattle.gp_times.specs.Times as spec;
 
@@ -70,7 +70,7 @@ fn earlier(one: Option<u64>, other: Option<u64>) -> Option<u64>
     }
 }
 
-/// The times of sixteen ports, and how many lines fell: their time was before that of their port. Contracts see a list
+/// The times of the ports, and how many lines fell: their time was before that of their port. Contracts see a list
 /// of the times, and the count.
 #[derive(Drop)]
 pub struct PortTimes {
@@ -80,13 +80,14 @@ pub struct PortTimes {
 
 impl Model for PortTimes {
     ghost use Rattle.std.specs.Prelude.{◌≡◌, length};
+    ghost use Rattle.gp_machine.specs.Config.{max_ports};
     ghost use Rattle.gp_times.specs.Times.{TimesState};
 
     ghost Value = { TimesState };
 
     ghost view = { λ t. record { ports = t.ports; fallen = t.fallen } };
 
-    ghost invariant = { λ t. length t.ports ≡ 16 };
+    ghost invariant = { λ t. length t.ports ≡ max_ports };
 }
 
 impl PortTimes {

@@ -10,6 +10,7 @@ use Rattle.gp_explain.specs.declared.form.Form.TheVariants.{Plain, Words, Json}
 use Rattle.gp_explain.specs.Telling.{Manner, TellsOneLine as TellsBy, no_frames}
 use Rattle.gp_lines.specs.Parts.{parts_of}
 use Rattle.gp_lines.specs.Reading.{number_in}
+use Rattle.gp_lines.specs.Spelling.{last_port}
 use Rattle.gp_lines.specs.Trace.{is_equals}
 use Rattle.gp_replay.specs.Chassis.{PlayState, copies_owed}
 use Rattle.gp_verify.specs.declared.verdict.Verdict.{Verdict}
@@ -47,7 +48,7 @@ without_feed said = take (length said - 1) said
 -- the port that a line begins with
 abbrev pub port_of_parts : List (List ℕ) → Option ℕ
 port_of_parts [] = None
-port_of_parts (digits ∷ parts) = result_ok (number_in 0 15 digits)
+port_of_parts (digits ∷ parts) = result_ok (number_in 0 last_port digits)
 
 abbrev pub port_of : List ℕ → Option ℕ
 port_of line = port_of_parts (parts_of line)

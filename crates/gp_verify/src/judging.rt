@@ -1,5 +1,6 @@
 //! Whether a line is that of the turn that it tells of.
 ghost use Rattle.std.specs.Prelude.{◌≡◌, ◌<◌, ◌≤◌, ◌+◌, ◌↔◌, ◌++◌, ℕ, codes, All, IfOk, OnErr, IsTrue, length};
+ghost use Rattle.gp_machine.specs.Config.{max_ports};
 ghost use Rattle.gp_lines.specs.Trace.{SplitsLine};
 ghost use Rattle.gp_replay.specs.Chassis.{HasRoom};
 ghost use Rattle.gp_verify.specs.Ports.{IsOrderlyPort};
@@ -32,7 +33,7 @@ fn judge_turn<L: Ledger>(
     line: TraceLine<'_>,
 ) -> Result<Verdict, AllocError>
     requires port { line.port < length player.old.next }
-    requires few { length player.old.next ≤ 16 }
+    requires few { length player.old.next ≤ max_ports }
     requires room { HasRoom 1 player.old }
     requires split { SplitsLine text.now line.port line.number line.event line.answer.now }
     ensures judged { IfOk result (λ verdict. Judges verdict mask player.old text.now player.new buffer.new) }
@@ -66,7 +67,7 @@ pub(crate) fn judge_line<L: Ledger>(
     mask: Mask,
     text: &[u8],
 ) -> Result<Verdict, AllocError>
-    requires few { length player.old.next ≤ 16 }
+    requires few { length player.old.next ≤ max_ports }
     requires room { HasRoom 1 player.old }
     ensures judged { IfOk result (λ verdict. Judges verdict mask player.old text.now player.new buffer.new) }
     ensures moved { IfOk result (λ verdict. Moves verdict mask text.now player.old player.new buffer.new) }

@@ -1,5 +1,6 @@
 //! Where a verification stands between two lines, and what it does with one.
 ghost use Rattle.std.specs.Prelude.{◌≡◌, ◌+◌, ◌≤◌, All, None, Some, Ok, Err, IfOk, OnErr, length};
+ghost use Rattle.gp_machine.specs.Config.{max_ports};
 ghost use Rattle.gp_chassis.specs.Limits.{IsWithin};
 ghost use Rattle.gp_chassis.specs.World.{IsBalanced};
 ghost use Rattle.gp_replay.specs.Chassis.{HasRoom};
@@ -45,6 +46,7 @@ pub struct Verifier<L: Ledger> {
 impl<L: Ledger> Model for Verifier<L> {
     ghost use Rattle.std.specs.Prelude.{◌≤◌, ◌-◌, All, length};
     ghost use Rattle.gp_machine.specs.Codes.{port_codes};
+    ghost use Rattle.gp_machine.specs.Config.{max_ports};
     ghost use Rattle.gp_replay.specs.Chassis.{HasRoom};
     ghost use Rattle.gp_verify.specs.Ports.{IsOrderlyPort};
     ghost use Rattle.gp_verify.specs.Verdicts.{VerifyState, most_lines};
@@ -62,7 +64,7 @@ impl<L: Ledger> Model for Verifier<L> {
       ended = v.ended;
     } };
 
-    ghost invariant = { λ v. (length v.player.next ≤ 16) × HasRoom (most_lines - v.lines) v.player
+    ghost invariant = { λ v. (length v.player.next ≤ max_ports) × HasRoom (most_lines - v.lines) v.player
         × All IsOrderlyPort v.player.world.ports };
 }
 
@@ -94,7 +96,7 @@ impl<L: Ledger> Verifier<L> {
         buffer: LineBuffer,
         mask: Mask,
     ) -> Verifier<L>
-        requires few { length player.next ≤ 16 }
+        requires few { length player.next ≤ max_ports }
         requires room { HasRoom most_lines player }
         requires orderly { All IsOrderlyPort player.world.ports }
         ensures { result ≡ record { mask = mask; form = form; play = player; lines = 0; said = buffer; ended = None } }

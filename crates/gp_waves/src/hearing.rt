@@ -13,7 +13,7 @@ use std::alloc::{AllocError, Global};
 #[derive(Drop)]
 pub(crate) struct Waves {
     options: WavesOptions,
-    /// The sixteen ports.
+    /// The ports that there may be.
     ports: Vec<Port>,
     held: Held,
 }

@@ -3,7 +3,7 @@ ghost use Rattle.std.specs.Prelude.{◌≡◌, ◌⊎◌, [], IfOk, IsSome, OnEr
 ghost use Rattle.gp_explain.specs.Telling.{no_frames};
 ghost use Rattle.gp_flow.specs.declared.fault.LinesFault.TheVariants.{Line};
 ghost use Rattle.gp_flow.specs.declared.fault.Unanswered.TheVariants.{OutOfMemory};
-ghost use Rattle.gp_summed.specs.Explaining.{trace_ports};
+ghost use Rattle.gp_machine.specs.Config.{max_ports};
 ghost use Rattle.gp_summed.specs.Verifying.{summary_form};
 ghost use Rattle.gp_with_units.specs.Behind.{TellsThen};
 ghost use Rattle.gp_with_units.specs.Explaining.{ExplainsForSummary, ExplainsWithUnits, SumsTrace, told_with, trace_ended_by, untold};
@@ -134,7 +134,7 @@ fn explain_by<B: Began, T: TellingBegan, S: Read, W: Write + Drop>(
 ) -> Result<TraceWritten<W>, AllocError>
     requires held { B.held ≡ Some [] }
     requires mask { B.mask ≡ mask }
-    requires ports { B.ports ≡ trace_ports }
+    requires ports { B.ports ≡ max_ports }
     requires manner { telling ≡ T.manner }
     requires under { T.manner.mask ≡ mask }
     requires below { W.contents writer ≡ T.held }
@@ -208,7 +208,7 @@ fn explain_unwritten<B: Began, S: Read, T: Write + Drop, W: Write>(
 ) -> ToldTrace
     requires held { T.contents lines ≡ B.held }
     requires mask { B.mask ≡ mask }
-    requires ports { B.ports ≡ trace_ports }
+    requires ports { B.ports ≡ max_ports }
     ensures { ((result ≡ untold (Line OutOfMemory)) × (source.new ≡ source.old) × (writer.new ≡ writer.old))
         ⊎ ExplainsForSummary S T form mask source.old source.new (W.contents writer.old)
         (W.contents writer.new) result }

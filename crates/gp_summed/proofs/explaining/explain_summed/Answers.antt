@@ -1,11 +1,11 @@
 use Rattle.std.proofs.Common.{◌≡◌, ◌∙◌, IfOk, List, ℕ, Some, ap, length, rules, subst, sym}
 use Rattle.gp_ploam.specs.declared.check.Mask.{Mask}
+use Rattle.gp_machine.specs.Config.{max_ports}
 use Rattle.gp_audit.specs.Port.{PortState}
 use Rattle.gp_summary.specs.Heard.{TellsHeard}
 use Rattle.gp_summary.specs.Summary.{IsFresh}
 use Rattle.gp_tally.specs.Counting.{CountingState}
 use Rattle.gp_summed.specs.Codes.{codes_of}
-use Rattle.gp_summed.specs.Explaining.{trace_ports}
 use Rattle.gp_summed.specs.Hearing.{AreHeard, HearerState, HearingState}
 use Rattle.gp_summed.proofs.explaining.explain_summed.Goals as goal
 
@@ -31,7 +31,7 @@ returns-clause-explained g c =
     (c.counter-2.ensures.mask ∙ c.requires.mask) masked in
     let wide = subst (λ (n : ℕ). IfOk summary (λ text. (ports : List PortState) × AreHeard mask hearer.taken ports × TellsHeard form mask counter.taken n ports text.items))
     (c.counter-2.ensures.ports ∙ c.requires.ports) counted in
-    let heard = subst (λ (t : List ℕ). IfOk summary (λ text. (ports : List PortState) × AreHeard mask t ports × TellsHeard form mask counter.taken trace_ports ports text.items)) taken wide in
+    let heard = subst (λ (t : List ℕ). IfOk summary (λ text. (ports : List PortState) × AreHeard mask t ports × TellsHeard form mask counter.taken max_ports ports text.items)) taken wide in
     record {
       before = c.in_ok-sink.sink;
       after = c.explain_trace-told.new.sink;
@@ -39,7 +39,7 @@ returns-clause-explained g c =
       explains = rw (c.new-telling.ensures) at c.explain_trace-told.ensures;
       writer = counts ∙ ap (λ (h : HearingState W). h.counting) c.into_inner.ensures.writer;
       took = sym c.into_inner.ensures.held ∙ ap (λ (k : CountingState W). Some k.counter.taken) (sym counts);
-      tells = subst (λ (t : List ℕ). IfOk summary (λ text. (ports : List PortState) × AreHeard mask counting.counter.taken ports × TellsHeard form mask t trace_ports ports text.items))
+      tells = subst (λ (t : List ℕ). IfOk summary (λ text. (ports : List PortState) × AreHeard mask counting.counter.taken ports × TellsHeard form mask t max_ports ports text.items))
           (ap (λ s. s.taken) c.counter-2.ensures.counter) heard;
     }
 
