@@ -1,7 +1,7 @@
 -- Which rules that are told are judged of what is heard, on each side, and which garbled codes are left out (this
 -- profile's own rule).
-use Rattle.std.specs.Prelude.{◌≡◌, ◌+◌, ◌^◌, ◌-◌, ℕ, Bool, true, false, not, ◌&&◌, ◌||◌, if◌then◌else◌, List, [], ◌∷◌, ◌++◌, filter, length, min, None, Some}
-use Rattle.std.specs.List.{fold, list_all}
+use Rattle.std.specs.Prelude.{◌≡◌, ◌+◌, ◌^◌, ◌-◌, ◌==◌, ℕ, Bool, true, false, not, ◌&&◌, ◌||◌, if◌then◌else◌, List, [], ◌∷◌, ◌++◌, filter, length, min, None, Some}
+use Rattle.std.specs.List.{fold, list_all, list_any}
 use Rattle.gp_ploam.specs.declared.message.Down.{Down}
 use Rattle.gp_ploam.specs.declared.message.Down.TheVariants.{NoMessage}
 use Rattle.gp_observer.specs.declared.rule.Rule.{Rule}
@@ -135,6 +135,17 @@ is_of_told told rule = (told.terminal && is_of_terminal rule) || (told.units && 
 -- it was missed: it is told, but was not judged
 abbrev pub misses : FindingChoice → Judged → Rule → Bool
 misses told judged rule = contains told.rules rule && is_of_told told rule && not (was_judged judged rule)
+
+-- nothing was judged of a side that is told, though `garbled` is told, which alone is judged on both
+abbrev pub misses_side : FindingChoice → Judged → Bool
+misses_side told judged =
+    contains told.rules rule.Garbled
+    && ((told.terminal && is_empty judged.terminal) || (told.units && is_empty judged.units))
+
+-- not all was judged: a rule was missed, or a side, or a code was garbled of which no finding tells so
+abbrev pub leaves_some : FindingChoice → Judged → Bool
+leaves_some told judged =
+    not (judged.garbled == 0) || misses_side told judged || list_any (misses told judged) all_rules
 
 -- ---- laws
 

@@ -1,6 +1,6 @@
 //! Which rules that are told were judged of what was heard, on each side, and how many garbled codes were left out.
 ghost use Rattle.std.specs.Prelude.{◌≡◌, ◌&&◌, if◌then◌else◌, true};
-ghost use Rattle.std.specs.List.{fold};
+ghost use Rattle.std.specs.List.{fold, list_any};
 ghost use Rattle.gp_observer.specs.Judged.{judges};
 ghost use Rattle.gp_audit.specs.Judging as spec;
 ghost use Rattle.gp_audit.specs.RuleSet.{contains, with_rule};
@@ -246,6 +246,30 @@ impl Judged {
         ensures { result ≡ spec.misses told.now self.now rule }
     {
         told.rules.contains(rule) && told.is_of_told(rule) && !self.has(rule)
+    }
+
+    /// Tells whether nothing was judged of a side that is told, though `garbled` is told, which alone is judged on both.
+    fn misses_side(&self, told: &FindingChoice) -> bool
+        ensures { result ≡ spec.misses_side told.now self.now }
+    {
+        told.rules.contains(Rule::Garbled)
+            && ((told.terminal && self.terminal.is_empty())
+                || (told.units && self.units.is_empty()))
+    }
+
+    /// Tells whether one of these rules was missed.
+    fn misses_any(&self, told: &FindingChoice, rules: &[Rule]) -> bool
+        ensures { result ≡ list_any (spec.misses told.now self.now) rules.now }
+    {
+        rules.iter().any(|rule| self.misses(told, *rule))
+    }
+
+    /// Tells whether not all was judged: a rule was missed, or a side, or a code was garbled of which no finding tells
+    /// so.
+    pub fn leaves_some(&self, told: &FindingChoice) -> bool
+        ensures { result ≡ spec.leaves_some told.now self.now }
+    {
+        self.garbled != 0 || self.misses_side(told) || self.misses_any(told, &RULES)
     }
 }
 

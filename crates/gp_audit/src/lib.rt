@@ -3,7 +3,7 @@
 //! Promise: for any input, what is written is what each line breaks, by the definitions, in order, then what was
 //! counted of the units, where that is wanted, and the sum; each line's findings are out before more is waited for
 //! (`audit_log`, `Auditor`); and which of the rules that are told were judged, on all ports and on each
-//! (`Auditor::judged`, `judged_at`).
+//! (`Auditor::judged`, `judged_at`), and whether that is all (`Judged::leaves_some`).
 //!
 //! - `options.rt`: `AuditOptions`, what it judges by and tells; `rule_set.rt`: `RuleSet`, some of the rules.
 //! - `rule_names.rt`: `rules_told`, which rules are told, by lists of their names; `delays.rt`: `equalized_delays`, the

@@ -297,3 +297,24 @@ fn each_of_two_ports(rt: HostRuntime) -> Result<(), Fail> {
     assert_eq!(rt; auditor.judged_at(15), None);
     Ok(())
 }
+
+#[test]
+fn something_is_left(rt: HostRuntime) -> Result<(), Fail> {
+    let codes = alone(Rule::Garbled, false);
+    let down = judged(rt.alloc(), &codes, "3 down POPUP 255")?;
+    assert!(rt; down.leaves_some(&codes.told));
+    let mut terminal = alone(Rule::Garbled, false);
+    terminal.told.units = false;
+    let of_terminal = judged(rt.alloc(), &terminal, "3 down POPUP 255")?;
+    assert!(rt; !of_terminal.leaves_some(&terminal.told));
+    let nobody = alone(Rule::Nobody, false);
+    let to_all = judged(rt.alloc(), &nobody, "3 down POPUP 255")?;
+    assert!(rt; to_all.leaves_some(&nobody.told));
+    let grants = alone(Rule::Grant, false);
+    let granted = judged(rt.alloc(), &grants, "1 grant range 3")?;
+    assert!(rt; !granted.leaves_some(&grants.told));
+    let garbled = b"1 grant range 3\n1 up 00000000000000000000000001\n";
+    let granted_too = judged_log(rt.alloc(), &grants, garbled.as_slice())?;
+    assert!(rt; granted_too.leaves_some(&grants.told));
+    Ok(())
+}

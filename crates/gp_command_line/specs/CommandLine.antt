@@ -8,7 +8,7 @@
 -- `oltctl generate [--seed N] [--ports P] [--units U] [--events E] [--mistakes K]`
 -- `oltctl verify [--explain] [--at-least N] [--progress] [--words] [--units] [--format text|json]
 -- FILE [TRACE]`
--- `oltctl audit [JUDGED] [--side terminal|units] [--only RULES].. [--without RULES].. [--words] [--units]
+-- `oltctl audit [JUDGED] [--side terminal|units] [--only RULES].. [--without RULES].. [--strict] [--words] [--units]
 -- [--format text|json] [--progress] [LOG]`
 -- `oltctl picture [--from FRAME] [--to FRAME] [JUDGED] [LOG]`
 -- `oltctl waves [--from FRAME] [--to FRAME] [--midway] [--mask MASK] [LOG]`
@@ -148,7 +148,7 @@ abbrev pub audit_rules : Choices → List Rule
 audit_rules choices =
     repeated_rule (codes "teqd") ∷ number_rule (codes "drift") ∷ flag_rule (codes "midway") ∷ mask_rule choices.masks
     ∷ choice_rule (codes "side") choices.sides ∷ repeated_rule (codes "only") ∷ repeated_rule (codes "without")
-    ∷ flag_rule (codes "words") ∷ flag_rule (codes "units") ∷ format_rule choices.formats
+    ∷ flag_rule (codes "strict") ∷ flag_rule (codes "words") ∷ flag_rule (codes "units") ∷ format_rule choices.formats
     ∷ flag_rule (codes "progress") ∷ positional_rule (codes "log") ∷ []
 
 abbrev pub picture_rules : Names → List Rule

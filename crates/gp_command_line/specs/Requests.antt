@@ -154,6 +154,7 @@ pub record AsksForAudit (rows : List Row) (wanted : WantedAudit) : Type 0 where
   pub side : name_in wanted.side ≡ first_of (codes "side") rows
   pub only : option_map texts wanted.only ≡ all_of (codes "only") rows
   pub without : option_map texts wanted.without ≡ all_of (codes "without") rows
+  pub strict : IsFlag rows (codes "strict") wanted.strict
   pub words : IsFlag rows (codes "words") wanted.words
   pub units : IsFlag rows (codes "units") wanted.units
   pub json : wanted.json ≡ is_json (first_of (codes "format") rows)

@@ -265,6 +265,16 @@ pub(crate) fn midway<'a>(alloc: Global) -> Arg<'a>
     )
 }
 
+pub(crate) fn strict<'a>(alloc: Global) -> Arg<'a>
+    ensures { HasRule (flag_rule (codes "strict")) result }
+{
+    flag(
+        alloc,
+        "strict",
+        "Fails where standard error says that something was not judged",
+    )
+}
+
 pub(crate) fn up<'a>(alloc: Global) -> Arg<'a>
     ensures { HasRule (flag_rule (codes "up")) result }
 {

@@ -7,7 +7,7 @@ ghost use Rattle.std.specs.String.{string_bytes};
 use crate::arguments::{
     at_least, drift, explained, explained_always, file, files, flag, folders, form, format,
     in_words, log, mask, midway, number, only, only_failed, progress, quiet, required, several,
-    side, summary, teqd, timed, trace, units_told, up, valued, without,
+    side, strict, summary, teqd, timed, trace, units_told, up, valued, without,
 };
 use crate::help::{
     ABOUT_HELP, AUDIT_HELP, CHECK_HELP, DECODE_HELP, DRIVE_HELP, ENCODE_HELP, EXPLAIN_HELP,
@@ -27,7 +27,7 @@ static MASKS: [&str; 3] = ["0", "85", "0x55"];
 static SIDES: [&str; 2] = ["terminal", "units"];
 
 /// The version of the program, and of all crates of this repository.
-pub const VERSION: &str = "1.9.0";
+pub const VERSION: &str = "1.10.0";
 
 fn replay<'a>(alloc: Global, formats: &'a [&'a str]) -> Result<Command<'a>, AllocError>
     ensures { IfOk result (ReadsAs (spec_command (codes "replay") (replay_rules formats.entry))) }
@@ -277,6 +277,7 @@ fn audit<'a>(
         side(alloc, sides),
         only(alloc),
         without(alloc),
+        strict(alloc),
         words,
         units,
         format,

@@ -9,7 +9,7 @@ Examples:
 Exit status:
   0  done, or help that was asked for
   1  the input was not read, is too long, or is no script, turn, code, words,
-     trace or log
+     trace or log; or audit judged nothing, or with --strict not all
   2  the command line is wrong
   3  out of memory
   4  the output takes no more
@@ -242,17 +242,29 @@ those that were judged, but not on one of them; or it says that none was judged,
 of a side. It counts garbled codes of which no finding tells: nothing else is known of
 them, so findings behind one on its port may come of it.
 
+Ports of which the same is said share a line. A rule counts as judged on a port once it
+was judged there, whatever else was not; a port of which nothing was heard isn't named:
+--units has a line of each that was. unasked and unranged go by what units said: leave
+them out where that wasn't captured.
+
+With --strict the status is 1 where standard error says any of this, or names a rule of
+the other side. Few logs judge all rules: name those that matter with --only, and garbled
+too; that is of both sides, so add --side where one was captured. With --midway unasked is
+never judged. Leave idle ports out of LOG, as by: grep -v '^3 '
+
 Examples:
   oltctl audit lab.log
   oltctl audit --words --units lab.log
   oltctl audit --midway --without drift < capture.log
   oltctl audit --teqd 1=250000 two-ports.trace
   oltctl audit --side terminal --format json lab.log
+  oltctl audit --strict --only garbled,taken,unasked lab.log
 
 Exit status:
   0  no rule that is told is broken
   1  a line is answered by an error, nothing was heard, no rule that is told was judged
-     on any port, or the log was not read; this comes before 7
+     on any port, or the log was not read; with --strict also where something was not
+     judged; this comes before 7
   2  the command line is wrong, or leaves no rule to tell
   3  out of memory
   4  the output takes no more

@@ -116,6 +116,8 @@ pub struct Audit<'m, 'a> {
     pub only: Option<&'m [&'a str]>,
     /// Rules that are not told.
     pub without: Option<&'m [&'a str]>,
+    /// It fails where something was not judged.
+    pub strict: bool,
     /// Each line is told too, with its code in words.
     pub words: bool,
     /// What was heard of each unit is told at the end.
@@ -440,6 +442,7 @@ fn audit_of<'m, 'a>(found: &'m ArgMatches<'a>) -> Request<'m, 'a>
         side: found.get_str("side"),
         only: found.get_strs("only"),
         without: found.get_strs("without"),
+        strict: found.get_flag("strict"),
         words: found.get_flag("words"),
         units: found.get_flag("units"),
         json: is_json(found.get_str("format")),

@@ -1,5 +1,5 @@
 -- The exit statuses of the program (this profile's own rule).
-use Rattle.std.specs.Prelude.{◌≡◌, ◌≢◌, ◌<◌, ◌≤◌, ◌==◌, ◌↔◌, ◌&&◌, ◌||◌, not, if◌then◌else◌, ℕ, Bool, true, false, List, ◌⊎◌, Option, None, Some, IsSome, Result, Ok, Err, IfOk, OnOk}
+use Rattle.std.specs.Prelude.{◌≡◌, ◌≢◌, ◌<◌, ◌≤◌, ◌==◌, ◌↔◌, ◌&&◌, ◌||◌, not, if◌then◌else◌, ℕ, Bool, true, false, List, ◌⊎◌, Option, None, Some, IsSome, is_some, Result, Ok, Err, IfOk, OnOk}
 use Rattle.std.specs.List.{list_any}
 use Rattle.std.specs.declared.io.ErrorKind.{ErrorKind as IoErrorKind}
 use Rattle.std.specs.declared.io.ErrorKind.TheVariants as io_error
@@ -20,6 +20,9 @@ use Rattle.gp_flow.specs.declared.fault.LinesFault.TheVariants.{Line}
 use Rattle.gp_replay.specs.declared.fault.RunFault.{RunFault}
 use Rattle.gp_finding.specs.declared.codes.Codes.{Codes}
 use Rattle.gp_finding.specs.Codes.{are_all_garbled}
+use Rattle.gp_finding.specs.Names.{rules as all_rules}
+use Rattle.gp_observer.specs.Observer.{some_passes}
+use Rattle.gp_observer.specs.declared.rule.Rule.{Rule}
 use Rattle.gp_picture.specs.declared.running.PictureSum.{PictureSum}
 use Rattle.gp_waves.specs.declared.running.WavesSum.{WavesSum}
 use Rattle.gp_replay.specs.declared.fault.RunFault.TheVariants as run
@@ -43,7 +46,9 @@ use Rattle.clap.specs.declared.parser.matches.ArgMatches.{ArgMatches}
 use Rattle.gp_command_line.specs.CommandLine.{IsFaultOf, IsParseOf}
 use Rattle.gp_command_line.specs.Requests.{Asks, AsksNothing}
 use Rattle.gp_audit.specs.declared.options.AuditOptions.{AuditOptions}
-use Rattle.gp_audit.specs.Judging.{is_nothing}
+use Rattle.gp_audit.specs.declared.options.FindingChoice.{FindingChoice}
+use Rattle.gp_audit.specs.Judging.{is_nothing, is_of_told, leaves_some}
+use Rattle.gp_audit.specs.RuleSet.{contains}
 use Rattle.gp_picture.specs.declared.options.PictureOptions.{PictureOptions}
 use Rattle.gp_waves.specs.declared.options.WavesOptions.{WavesOptions}
 use Rattle.gp_options.specs.Options.{AuditsAs, DrawsAs, DumpsAs, IsBadAudit, IsBadPicture, IsBadWaves}
@@ -145,27 +150,38 @@ IsVerifyStatus at_least (Err (check.Trace fault)) status = status ≡ verify_sta
 abbrev pub IsVerified : Option ℕ → ℕ → Type 0
 IsVerified at_least status = (outcome : Result ℕ CheckFault) × IsVerifyStatus at_least outcome status
 
--- the status after a log was audited to its end: where a line was none, or nothing was heard, or nothing that is
--- judged, not all was looked at; else it tells whether a rule is broken
-abbrev pub audited_status : Audited → ℕ
-audited_status audited =
+-- a rule is asked for by name, though it is judged on no side that is told
+abbrev pub names_untold : WantedAudit → FindingChoice → Bool
+names_untold wanted told =
+    is_some wanted.only && list_any (λ (rule : Rule). contains told.rules rule && not (is_of_told told rule)) all_rules
+
+-- where all has to be judged, something was left: a rule that is asked for, or something that was heard on a port
+abbrev pub leaves_strict : WantedAudit → FindingChoice → Audited → Bool
+leaves_strict wanted told audited =
+    wanted.strict && (names_untold wanted told || list_any (some_passes (leaves_some told)) audited.ports)
+
+-- the status after a log was audited to its end: not all was looked at where a line was none, nothing was heard, nothing
+-- was judged, or something was left and must not be; else it tells whether a rule is broken
+abbrev pub audited_status : WantedAudit → FindingChoice → Audited → ℕ
+audited_status wanted told audited =
     if not (audited.sum.errors == 0) then BAD_INPUT
     else if audited.is_silent then BAD_INPUT
     else if is_nothing audited.judged then BAD_INPUT
+    else if leaves_strict wanted told audited then BAD_INPUT
     else if audited.sum.findings == 0 then SUCCESS
     else NOT_A_RUN
 
 -- the status after an audit
-abbrev pub audit_status : Result Audited LinesFault → ℕ
-audit_status (Ok audited) = audited_status audited
-audit_status (Err fault) = input_status fault
+abbrev pub audit_status : WantedAudit → FindingChoice → Result Audited LinesFault → ℕ
+audit_status wanted told (Ok audited) = audited_status wanted told audited
+audit_status wanted told (Err fault) = input_status fault
 
 -- an option can't be read; or a log is judged as is asked for, which no contract can tell, so it is that of some log
 abbrev pub IsAudited : WantedAudit → ℕ → Type 0
 IsAudited wanted status =
     ((bad : BadOption) × IsBadAudit wanted bad × (status ≡ BAD_ARGUMENTS))
     ⊎ ((options : AuditOptions) × AuditsAs wanted options
-    × (outcome : Result Audited LinesFault) × (status ≡ audit_status outcome))
+    × (outcome : Result Audited LinesFault) × (status ≡ audit_status wanted options.told outcome))
 
 -- the status after lines were decoded: that of the first fault, if one had a fault
 abbrev pub lines_status : Result (Option FaultAt) LinesFault → ℕ

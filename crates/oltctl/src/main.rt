@@ -18,8 +18,9 @@
 //!   `replacing.rt`: JUnit's file.
 //! - `observed.rt`: an input, and what is remembered of it. `joined.rt`: words as one text, as they are decoded or
 //!   encoded. `descriptors.rt`: what is held where a standard stream is closed.
-//! - `reporting.rt`: what goes to standard error, with the exit status. `progress.rt`: lines that went by, told once a
-//!   second; `ticking.rt`: seconds that went by, where no lines are counted.
+//! - `reporting.rt`: what goes to standard error, with the exit status. `unjudged.rt`: what an audit did not judge.
+//! - `progress.rt`: lines that went by, told once a second; `ticking.rt`: seconds that went by, where no lines are
+//!   counted.
 #![tactic(auto)]
 
 ghost use Rattle.std.specs.Prelude.{◌≡◌, ◌≤◌, map};
@@ -50,6 +51,7 @@ mod storming;
 mod telling;
 mod testing;
 mod ticking;
+mod unjudged;
 mod verifying;
 mod waving;
 
@@ -87,7 +89,8 @@ fn serve<R: AllocGlobal + Files + Print + Eprint + Input + Clock + Threads + Wai
     host: &HostRuntime,
     request: Request<'_, '_>,
 ) -> u8
-    ensures { IsServed request.entry result }
+    ensures served { IsServed request.entry result }
+    ensures bound { result ≤ greatest_status }
 {
     match request {
         Request::Replay { file, play } => replay(rt, file, play),

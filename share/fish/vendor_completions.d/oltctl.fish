@@ -60,6 +60,7 @@ complete -c oltctl -n '__fish_seen_subcommand_from audit' -l mask -x -a '0 85 0x
 complete -c oltctl -n '__fish_seen_subcommand_from audit' -l side -x -a 'terminal units' -d 'Whose rules are told; both if left out'
 complete -c oltctl -n '__fish_seen_subcommand_from audit' -l only -r -d 'Tells of these rules alone, as: taken,drift'
 complete -c oltctl -n '__fish_seen_subcommand_from audit' -l without -r -d 'Tells of all rules but these'
+complete -c oltctl -n '__fish_seen_subcommand_from audit' -l strict -d 'Fails where standard error says that something was not judged'
 complete -c oltctl -n '__fish_seen_subcommand_from audit' -l words -d 'Tells each line too, with its code in words, before its findings'
 complete -c oltctl -n '__fish_seen_subcommand_from audit' -l units -d 'Tells at the end what was heard of each port and of each unit, in a line each'
 complete -c oltctl -n '__fish_seen_subcommand_from audit' -l format -x -a 'text json' -d 'How findings are told; json: one object a line [default: text]'
