@@ -14,12 +14,12 @@ use Rattle.gp_observer.specs.declared.rule.Rule.{Rule}
 use Rattle.gp_observer.specs.declared.rule.Rule.TheVariants as rule
 use Rattle.gp_observer.specs.Heard.{Heard, HeardDown, HeardUp, HeardGrant, breaks, is_terminals}
 use Rattle.gp_observer.specs.Judged.{answer_judges, copy_judges, grant_judges, judges, judges_garbled, message_judges}
-use Rattle.gp_observer.specs.Watch.{Watch}
+use Rattle.gp_observer.specs.Watch.{Watch, is_new}
 use Rattle.gp_observer.proofs.Judged.{heard_judged}
 use Rattle.gp_finding.specs.Names.{rules as all_rules}
 use Rattle.gp_audit.specs.declared.rule_set.RuleSet.{RuleSet}
 use Rattle.gp_audit.specs.declared.options.FindingChoice.{FindingChoice}
-use Rattle.gp_audit.specs.Judging.{AreWhole, EitherJudged, JustTheJudged, JustTheJudgedJoin, RulesHaveSides, code_rules, down_rules, grant_rules, is_new, joined_by, judged_after, judged_on_both, judged_with, of_both, rules_of, unit_rules, was_judged}
+use Rattle.gp_audit.specs.Judging.{AreWhole, EitherJudged, JustTheJudged, JustTheJudgedJoin, RulesHaveSides, code_rules, down_rules, grant_rules, joined_by, judged_after, judged_on_both, judged_with, of_both, rules_of, unit_rules, was_judged}
 use Rattle.gp_audit.specs.declared.judged.Judged.{Judged}
 use Rattle.gp_audit.specs.RuleSet.{contains, is_side_told, is_told, rule_place, with_rule}
 use Rattle.gp_audit.proofs.ChosenLemmas.{below, same_place}

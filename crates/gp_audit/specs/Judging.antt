@@ -9,7 +9,7 @@ use Rattle.gp_observer.specs.declared.rule.Rule.TheVariants as rule
 use Rattle.gp_observer.specs.Heard.{Heard, HeardDown, HeardUp, HeardGrant, breaks, is_terminals}
 use Rattle.gp_observer.specs.Judged.{judges}
 use Rattle.gp_observer.specs.Rules.{Settings}
-use Rattle.gp_observer.specs.Watch.{Watch, passes_over, tells}
+use Rattle.gp_observer.specs.Watch.{Watch, is_new}
 use Rattle.gp_finding.specs.Names.{rules as all_rules}
 use Rattle.gp_audit.specs.declared.judged.Judged.{Judged}
 use Rattle.gp_audit.specs.declared.options.FindingChoice.{FindingChoice}
@@ -31,10 +31,6 @@ unit_rules = rule.Garbled ∷ rule.Disabled ∷ rule.Anew ∷ rule.Number ∷ ru
 
 abbrev pub grant_rules : List Rule
 grant_rules = rule.Grant ∷ []
-
--- a message down is told with this copy
-abbrev pub is_new : Watch → Down → Bool
-is_new watch message = not (passes_over watch message) && tells watch message
 
 -- those that may be judged of what is heard, by what is known before it: of a message down with the copy that tells it
 abbrev pub rules_of : Watch → Heard → List Rule

@@ -2,6 +2,7 @@
 ghost use Rattle.std.specs.Prelude.{◌≡◌, ◌&&◌, if◌then◌else◌, true};
 ghost use Rattle.std.specs.List.{fold, list_any};
 ghost use Rattle.gp_observer.specs.Judged.{judges};
+ghost use Rattle.gp_observer.specs.Watch.{is_new};
 ghost use Rattle.gp_audit.specs.Judging as spec;
 ghost use Rattle.gp_audit.specs.RuleSet.{contains, with_rule};
 ghost use Rattle.gp_watch.specs.Heard.{heard_of};
@@ -83,20 +84,13 @@ fn join_answer(judged: &mut RuleSet, told: &RuleSet, watch: &PortWatch, heard: &
     join_rule(judged, told, watch, heard, Rule::Drift);
 }
 
-/// Tells whether a message down is told with this copy.
-fn is_new(watch: &PortWatch, message: &Down) -> bool
-    ensures { result ≡ spec.is_new watch.now message.now }
-{
-    !watch.passes_over(message) && watch.tells(message)
-}
-
 /// Puts the rules in that are told and judged of a message down, which something heard is: of a copy that doesn't tell
 /// it only that its check octet is right.
 fn join_copy(judged: &mut RuleSet, told: &RuleSet, watch: &PortWatch, heard: &Heard, message: &Down)
     ensures { judged.new ≡ spec.joined_by (λ rule. contains told.now rule && judges watch.now (heard_of heard.now) rule)
-        (if spec.is_new watch.now message.now then spec.down_rules else spec.code_rules) judged.old }
+        (if is_new watch.now message.now then spec.down_rules else spec.code_rules) judged.old }
 {
-    if is_new(watch, message) {
+    if watch.is_new(message) {
         join_told(judged, told, watch, heard);
     } else {
         join_rule(judged, told, watch, heard, Rule::Garbled);

@@ -12,7 +12,7 @@ use Rattle.gp_ploam.specs.OnuIds.{onu_ids, broadcast_onu}
 use Rattle.gp_ploam.specs.Serials.{serial_cmp}
 use Rattle.gp_ploam.specs.Up.{octet1_of}
 use Rattle.gp_observer.specs.Observer.{is_of, is_unit_number}
-use Rattle.gp_observer.specs.Watch.{Watch, can_follow, passes_over, tells}
+use Rattle.gp_observer.specs.Watch.{Watch, can_follow, is_new}
 use Rattle.gp_observer.specs.Rules.{holds_one, is_anothers}
 use Rattle.gp_observer.specs.Heard.{Heard, HeardDown, HeardUp, HeardGrant}
 use Rattle.gp_census.specs.declared.sighting.Sighting.{Sighting}
@@ -106,9 +106,7 @@ message_noted census watch message time =
 -- the copies of a message count once, with the one that tells it
 abbrev pub copy_noted : Census → Watch → Down → ℕ → Census
 copy_noted census watch message time =
-    if passes_over watch message then census
-    else if tells watch message then message_noted census watch message time
-    else census
+    if is_new watch message then message_noted census watch message time else census
 
 abbrev pub down_noted : Census → Watch → Option Down → ℕ → Census
 down_noted census watch None time =
@@ -158,8 +156,7 @@ counted_by_message _ = None
 
 -- with this copy: copies that tell a message no more count nothing
 abbrev pub counted_by_copy : Watch → Down → Option Serial
-counted_by_copy watch message =
-    if not (passes_over watch message) && tells watch message then counted_by_message message else None
+counted_by_copy watch message = if is_new watch message then counted_by_message message else None
 
 abbrev pub counted_by_down : Watch → Option Down → Option Serial
 counted_by_down watch None = None

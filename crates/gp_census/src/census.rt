@@ -1,7 +1,7 @@
 //! What was counted of a port and of its units.
 ghost use Rattle.std.specs.Prelude.{◌≡◌, OnOk, OnErr, Some};
 ghost use Rattle.std.specs.FinMap as map;
-ghost use Rattle.gp_observer.specs.Watch.{passes_over, tells};
+ghost use Rattle.gp_observer.specs.Watch.{is_new};
 ghost use Rattle.gp_watch.specs.Heard.{heard_of};
 ghost use Rattle.gp_census.specs.Counts.{one_more};
 ghost use Rattle.gp_census.specs.Census.{IsNewTo, census_begun, copy_noted, counted_by, counted_by_copy, counted_by_down, counted_by_message, down_noted, message_noted, noted, port_heard, sighting_of};
@@ -107,7 +107,7 @@ impl Census {
         ensures same { OnErr result (self.new ≡ self.old) }
         ensures new { OnErr result (IsNewTo watch.now self.old.units (counted_by_copy watch.now message.now)) }
     {
-        if !watch.passes_over(message) && watch.tells(message) {
+        if watch.is_new(message) {
             self.note_message(watch, message, time)?;
         }
         Ok(())

@@ -18,7 +18,7 @@ use Rattle.gp_observer.specs.Judged as judged
 use Rattle.gp_observer.specs.Observer.{is_of, some_passes}
 use Rattle.gp_observer.specs.Rules as rules
 use Rattle.gp_observer.specs.UnitRules as units
-use Rattle.gp_observer.specs.Watch.{Answers, Watch, passes_over, tells}
+use Rattle.gp_observer.specs.Watch.{Answers, Watch, is_new}
 
 -- ---- tests
 
@@ -79,12 +79,11 @@ passes_or : (test other : Rule → Bool) (rules : List (Bool × Rule)) → EachP
 passes_or test other [] h = tt
 passes_or test other ((broken, r) ∷ rules) h = (λ b. or_right (other r) (test r) (h.0 b), passes_or test other rules h.1)
 
--- a copy of a message, by whether it is passed over and whether it tells the message
-copy_judged : (passed told : Bool) (test : Rule → Bool) (rules : List (Bool × Rule)) → EachPasses test rules
-    → list_all (λ r. judged.judges_garbled r || (not passed && told && test r)) (cond passed [] (cond told (broken_of rules) [])) ≡ true
-copy_judged true told test rules h = refl
-copy_judged false false test rules h = refl
-copy_judged false true test rules h = all_pass (λ r. judged.judges_garbled r || test r) rules (passes_or test judged.judges_garbled rules h)
+-- a copy of a message, by whether it tells the message
+copy_judged : (told : Bool) (test : Rule → Bool) (rules : List (Bool × Rule)) → EachPasses test rules
+    → list_all (λ r. judged.judges_garbled r || (told && test r)) (cond told (broken_of rules) []) ≡ true
+copy_judged false test rules h = refl
+copy_judged true test rules h = all_pass (λ r. judged.judges_garbled r || test r) rules (passes_or test judged.judges_garbled rules h)
 
 -- ---- a message down
 
@@ -152,7 +151,7 @@ module _ (settings : rules.Settings) (watch : Watch) where
   told_judged : (message : Down)
       → list_all (λ r. judged.judges_garbled r || judged.copy_judges watch message r) (copy_breaks settings watch message) ≡ true
   told_judged message =
-      copy_judged (passes_over watch message) (tells watch message) (judged.message_judges watch message) (message_rules settings watch message) (message_judged message)
+      copy_judged (is_new watch message) (judged.message_judges watch message) (message_rules settings watch message) (message_judged message)
 
   down_judged : (message : Option Down) → list_all (judged.down_judges watch message) (down_breaks settings watch message) ≡ true
   down_judged None = refl

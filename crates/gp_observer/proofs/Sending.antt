@@ -46,7 +46,7 @@ module _ (settings : Settings) (first : Bool) (p : PortState) (w : Watch) (s : O
     passed_heard = ap (λ b. cond b (record w { last = m }) (cond (tells w m) (record (noted w m) { last = m; to_come = 2; cut = false }) (record w { to_come = w.to_come - 1 }))) passes
 
     passed_breaks : copy_breaks settings w m ≡ []
-    passed_breaks = ap (λ b. cond b [] (cond (tells w m) (broken_of (message_rules settings w m)) [])) passes
+    passed_breaks = ap (λ b. cond (not b && tells w m) (broken_of (message_rules settings w m)) []) passes
 
     passed_again : w.cut ≡ true → passes_over (record w { last = m }) m ≡ true
     passed_again cut = ap (λ b. b && (same_message m NoMessage || same_message m m)) cut ∙ ap (λ b. same_message m NoMessage || b) (message_same m) ∙ or_true (same_message m NoMessage)
@@ -63,7 +63,7 @@ module _ (settings : Settings) (first : Bool) (p : PortState) (w : Watch) (s : O
         ∙ ap (λ c. cond c (record (noted w m) { last = m; to_come = 2; cut = false }) (record w { to_come = w.to_come - 1 })) is
 
     told_breaks : (b : Bool) → tells w m ≡ b → copy_breaks settings w m ≡ cond b (broken_of (message_rules settings w m)) []
-    told_breaks b is = ap (λ c. cond c [] (cond (tells w m) (broken_of (message_rules settings w m)) [])) passes ∙ ap (λ c. cond c (broken_of (message_rules settings w m)) []) is
+    told_breaks b is = ap (λ c. cond (not c && tells w m) (broken_of (message_rules settings w m)) []) passes ∙ ap (λ c. cond c (broken_of (message_rules settings w m)) []) is
 
   not_cut : (m : Down) → w.cut ≡ false → passes_over w m ≡ false
   not_cut m cut = ap (λ b. b && (same_message w.last NoMessage || same_message w.last m)) cut

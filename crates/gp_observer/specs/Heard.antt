@@ -7,7 +7,7 @@ use Rattle.gp_ploam.specs.declared.message.Up.{Up}
 use Rattle.gp_ranging.specs.declared.grant.Grant.{Grant}
 use Rattle.gp_observer.specs.declared.rule.Rule.{Rule}
 use Rattle.gp_observer.specs.declared.rule.Rule.TheVariants as rule
-use Rattle.gp_observer.specs.Watch.{Watch, passes_over, tells, after_down, after_up}
+use Rattle.gp_observer.specs.Watch.{Watch, is_new, after_down, after_up}
 use Rattle.gp_observer.specs.Rules.{Settings, breaks_copies, breaks_range, breaks_barred, breaks_unasked, breaks_taken, breaks_renumbered, breaks_nobody, breaks_unranged, breaks_delay, breaks_early, breaks_shared, breaks_not_held, breaks_grant}
 use Rattle.gp_observer.specs.UnitRules.{breaks_disabled, breaks_anew, breaks_number, breaks_acknowledge, breaks_drift}
 
@@ -55,9 +55,7 @@ answer_rules settings watch message delay =
 -- a message down is judged with the copy that tells it
 abbrev pub copy_breaks : Settings → Watch → Down → List Rule
 copy_breaks settings watch message =
-    if passes_over watch message then []
-    else if tells watch message then broken_of (message_rules settings watch message)
-    else []
+    if is_new watch message then broken_of (message_rules settings watch message) else []
 
 abbrev pub down_breaks : Settings → Watch → Option Down → List Rule
 down_breaks settings watch None = rule.Garbled ∷ []

@@ -19,7 +19,7 @@ use Rattle.gp_observer.specs.Heard.{Heard, HeardDown, HeardUp, HeardGrant, break
 use Rattle.gp_observer.specs.Observer.{some_passes}
 use Rattle.gp_observer.specs.Rules.{Settings, holds_one, is_held, is_judged, unit_told}
 use Rattle.gp_observer.specs.UnitRules.{breaks_number}
-use Rattle.gp_observer.specs.Watch.{Answers, Watch, can_follow, passes_over, same_message, tells}
+use Rattle.gp_observer.specs.Watch.{Answers, Watch, can_follow, is_new, same_message}
 
 -- ---- what is known
 
@@ -169,8 +169,7 @@ judges_garbled _ = false
 
 -- a message down is judged with the copy that tells it
 abbrev pub copy_judges : Watch → Down → Rule → Bool
-copy_judges watch message rule =
-    not (passes_over watch message) && tells watch message && message_judges watch message rule
+copy_judges watch message rule = is_new watch message && message_judges watch message rule
 
 abbrev pub down_judges : Watch → Option Down → Rule → Bool
 down_judges watch None rule = judges_garbled rule

@@ -155,6 +155,10 @@ passes_over watch message =
 abbrev pub tells : Watch → Down → Bool
 tells watch message = watch.to_come == 0 || not (same_message watch.last message)
 
+-- a message is told with this copy, which isn't passed over
+abbrev pub is_new : Watch → Down → Bool
+is_new watch message = not (passes_over watch message) && tells watch message
+
 -- a copy was heard
 abbrev pub copy_heard : Watch → Down → Watch
 copy_heard watch message =

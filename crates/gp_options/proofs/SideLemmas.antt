@@ -1,5 +1,5 @@
 -- What is told of a choice that leaves no rule.
-use Rattle.std.proofs.Common.{◌≡◌, ◌∙◌, Bool, true, false, not, ◌&&◌, ◌||◌, cond, ◌==◌, List, [], ◌∷◌, ◌++◌, Option, None, Some, ℕ, map, refl, sym, ap}
+use Rattle.std.proofs.Common.{◌≡◌, ◌∙◌, Bool, true, false, not, ◌&&◌, ◌||◌, cond, ◌==◌, List, [], ◌∷◌, ◌++◌, Option, None, Some, ℕ, filter, map, refl, sym, ap}
 use Rattle.std.specs.List.{list_any}
 use Rattle.std.proofs.lemmas.List.Folds.{list_any-append}
 use Rattle.std.proofs.lemmas.Bool.{false≢true}
@@ -11,10 +11,12 @@ use Rattle.gp_observer.specs.declared.rule.Rule.TheVariants as rule
 use Rattle.gp_observer.specs.Heard.{HeardDown, HeardUp, HeardGrant, answer_rules, broken_of, copy_breaks, down_breaks, message_rules, up_breaks}
 use Rattle.gp_observer.specs.Observer.{some_passes}
 use Rattle.gp_observer.specs.Rules.{Settings, breaks_barred, breaks_copies, breaks_delay, breaks_early, breaks_grant, breaks_nobody, breaks_not_held, breaks_range, breaks_renumbered, breaks_shared, breaks_taken, breaks_unasked, breaks_unranged, is_judged}
-use Rattle.gp_observer.specs.Watch.{Watch, asks_left, passes_over, tells}
+use Rattle.gp_observer.specs.Watch.{Watch, asks_left, is_new}
 use Rattle.gp_audit.specs.RuleSet.{contains, is_told}
 use Rattle.gp_audit.specs.declared.options.FindingChoice.{FindingChoice}
-use Rattle.gp_options.specs.Sides.{NoneTellsNothing, SidesAreJudged, tells_some, terminal_rules, unit_rules}
+use Rattle.gp_finding.specs.Names.{rules}
+use Rattle.gp_audit.specs.Judging.{is_of_terminal, is_of_units}
+use Rattle.gp_options.specs.Sides.{NoneTellsNothing, SidesAreJudged, is_of_whole, may_be_judged, tells_some}
 
 or_first : (a b : Bool) → a || b ≡ false → a ≡ false
 or_first false b none = refl
@@ -24,12 +26,51 @@ or_second : (a b : Bool) → a || b ≡ false → b ≡ false
 or_second false b none = none
 or_second true b none = absurd (false≢true (sym none))
 
--- on a side whose rules are none of these nothing is told
-on_side : (side : Bool) (these : Rule → Bool) (rules : List Rule) → side && list_any these rules ≡ false
-    → list_any (λ r. side && these r) rules ≡ false
-on_side true these rules none = none
-on_side false these [] none = refl
-on_side false these (r ∷ rules) none = on_side false these rules refl
+-- of the rules that are kept none is told, where for each of them that follows from what none of all passes
+kept_first : (kept : Bool) (r : Rule) (told : Rule → Bool) (these : List Rule) → (kept ≡ true → told r ≡ false) → list_any told these ≡ false
+    → list_any told (cond kept (r ∷ these) these) ≡ false
+kept_first true r told these first rest = ap (λ (b : Bool). b || list_any told these) (first refl) ∙ rest
+kept_first false r told these first rest = rest
+
+none_kept : (keep passes told : Rule → Bool) (these : List Rule) → ((r : Rule) → keep r ≡ true → passes r ≡ false → told r ≡ false)
+    → list_any passes these ≡ false → list_any told (filter keep these) ≡ false
+none_kept keep passes told [] each none = refl
+none_kept keep passes told (r ∷ these) each none =
+    kept_first (keep r) r told (filter keep these) (λ keeps. each r keeps (or_first (passes r) (list_any passes these) none))
+    (none_kept keep passes told these each (or_second (passes r) (list_any passes these) none))
+
+-- of a rule that is judged on the first side, or on the other, wherever a log begins
+on_first : (first other this that midway whole : Bool) (told : Bool) → this && not whole ≡ true
+    → told && (((first && this) || (other && that)) && not (midway && whole)) ≡ false → first && told ≡ false
+on_first false other this that midway whole told is none = refl
+on_first true other this that midway whole false is none = refl
+on_first true other false that midway whole true is none = absurd (false≢true is)
+on_first true other true that midway true true is none = absurd (false≢true is)
+on_first true other true that true false true is none = none
+on_first true other true that false false true is none = none
+
+on_second : (first other this that midway whole : Bool) (told : Bool) → that && not whole ≡ true
+    → told && (((first && this) || (other && that)) && not (midway && whole)) ≡ false → other && told ≡ false
+on_second first false this that midway whole told is none = refl
+on_second first true this that midway whole false is none = refl
+on_second first true this false midway whole true is none = absurd (false≢true is)
+on_second first true this true midway true true is none = absurd (false≢true is)
+on_second false true this true true false true is none = none
+on_second false true this true false false true is none = none
+on_second true true false true true false true is none = none
+on_second true true false true false false true is none = none
+on_second true true true true true false true is none = none
+on_second true true true true false false true is none = none
+
+-- of one that is judged on the first side where a log doesn't begin in the middle
+on_whole : (first other this that midway whole : Bool) (told : Bool) → this && whole ≡ true
+    → told && (((first && this) || (other && that)) && not (midway && whole)) ≡ false → not midway && (first && told) ≡ false
+on_whole first other this that true whole told is none = refl
+on_whole false other this that false whole told is none = refl
+on_whole true other this that false whole false is none = refl
+on_whole true other false that false whole true is none = absurd (false≢true is)
+on_whole true other true that false false true is none = absurd (false≢true is)
+on_whole true other true that false true true is none = none
 
 -- what is broken of rules none of which is both broken and told
 none_broken : (told : Rule → Bool) (rules : List (Bool × Rule)) → list_any (λ it. it.0 && told it.1) rules ≡ false → list_any told (broken_of rules) ≡ false
@@ -49,10 +90,9 @@ none_told told ((broken, r) ∷ rules) none =
     ap (λ (first : Bool). first || list_any (λ it. it.0 && told it.1) rules) (not_both broken (told r) (or_first (told r) (list_any told (map (λ it. it.1) rules)) none))
     ∙ none_told told rules (or_second (told r) (list_any told (map (λ it. it.1) rules)) none)
 
-none_either : (told : Rule → Bool) (first : Bool) (these those : List Rule) → list_any told these ≡ false → list_any told those ≡ false
-    → list_any told (cond first these those) ≡ false
-none_either told true these those none none_of_those = none
-none_either told false these those none none_of_those = none_of_those
+none_if : (told : Rule → Bool) (these : List Rule) (new : Bool) → list_any told these ≡ false → list_any told (cond new these []) ≡ false
+none_if told these true none = none
+none_if told these false none = refl
 
 -- where a log begins in the middle, nobody gets a number unasked
 unasked_midway : (watch : Watch) (message : Down) → watch.midway ≡ true → breaks_unasked watch message ≡ false
@@ -63,6 +103,15 @@ unasked_not : (told : Rule → Bool) (watch : Watch) (message : Down) (midway : 
     → breaks_unasked watch message && told rule.Unasked ≡ false
 unasked_not told watch message true is none = ap (λ (broken : Bool). broken && told rule.Unasked) (unasked_midway watch message is)
 unasked_not told watch message false is none = not_both (breaks_unasked watch message) (told rule.Unasked) none
+
+-- those that are judged of the terminal, wherever a log begins, and those of a unit
+abbrev terminal_rules : List Rule
+terminal_rules =
+    rule.Garbled ∷ rule.Copies ∷ rule.Range ∷ rule.Barred ∷ rule.Taken ∷ rule.Renumbered ∷ rule.Nobody ∷ rule.Unranged
+    ∷ rule.Delay ∷ rule.Early ∷ rule.Shared ∷ rule.NotHeld ∷ rule.Grant ∷ []
+
+abbrev unit_rules : List Rule
+unit_rules = rule.Garbled ∷ rule.Disabled ∷ rule.Anew ∷ rule.Number ∷ rule.Acknowledge ∷ rule.Drift ∷ []
 
 -- of a message down
 of_message : (told : Rule → Bool) (settings : Settings) (watch : Watch) (message : Down) → list_any told terminal_rules ≡ false
@@ -96,8 +145,7 @@ by_copy : (told : Rule → Bool) (settings : Settings) (watch : Watch) (message 
 by_copy told settings watch message none unasked =
     let judged : list_any told (broken_of (message_rules settings watch message)) ≡ false =
     none_broken told (message_rules settings watch message) (of_message told settings watch message none unasked) in
-    none_either told (passes_over watch message) [] (cond (tells watch message) (broken_of (message_rules settings watch message)) []) refl
-    (none_either told (tells watch message) (broken_of (message_rules settings watch message)) [] judged refl)
+    none_if told (broken_of (message_rules settings watch message)) (is_new watch message) judged
 
 by_garbled : (told : Rule → Bool) (others : List Rule) → list_any told (rule.Garbled ∷ others) ≡ false → list_any told (rule.Garbled ∷ []) ≡ false
 by_garbled told others none = ap (λ (first : Bool). first || false) (or_first (told rule.Garbled) (list_any told others) none)
@@ -135,43 +183,39 @@ by_grant told broken none =
     none_broken told ((broken, rule.Grant) ∷ []) (none_told told ((broken, rule.Grant) ∷ []) (
     or_second (list_any told others) (list_any told (rule.Grant ∷ [])) (sym (list_any-append told others (rule.Grant ∷ [])) ∙ none)))
 
--- the terminal's part of what is left, by what is told of it
-and_or : (side these one : Bool) → side && (these || one) ≡ false → (side && these ≡ false) × (side && one ≡ false)
-and_or true these one none = (or_first these one none, or_second these one none)
-and_or false these one none = (refl, refl)
-
-and_swap : (side first these : Bool) → side && (first && these) ≡ false → first && (side && these) ≡ false
-and_swap true first these none = none
-and_swap false true these none = refl
-and_swap false false these none = refl
+-- what a choice leaves is false of each rule: so none is told that is judged of a message down, wherever a log begins, nor
+-- where it doesn't begin in the middle
+abbrev passes_of : Bool → FindingChoice → Rule → Bool
+passes_of midway choice r = contains choice.rules r && may_be_judged midway choice r
 
 of_terminal : (choice : FindingChoice) (midway : Bool) → tells_some midway choice ≡ false
     → (list_any (λ r. choice.terminal && contains choice.rules r) terminal_rules ≡ false) × (not midway && (choice.terminal && contains choice.rules rule.Unasked) ≡ false)
 of_terminal choice midway none =
-    let these : Bool = list_any (λ (r : Rule). contains choice.rules r) terminal_rules in
-    let one : Bool = not midway && contains choice.rules rule.Unasked in
-    let units : Bool = choice.units && list_any (λ (r : Rule). contains choice.rules r) unit_rules in
-    let both = and_or choice.terminal these one (or_first (choice.terminal && (these || one)) units none) in (
-      on_side choice.terminal (λ (r : Rule). contains choice.rules r) terminal_rules both.0,
-      and_swap choice.terminal (not midway) (contains choice.rules rule.Unasked) both.1,
-    )
+    let wherever : list_any (λ r. choice.terminal && contains choice.rules r) terminal_rules ≡ false =
+    none_kept (λ r. is_of_terminal r && not (is_of_whole r)) (passes_of midway choice) (λ r. choice.terminal && contains choice.rules r) rules
+    (λ r keeps fails. on_first choice.terminal choice.units (is_of_terminal r) (is_of_units r) midway (is_of_whole r) (contains choice.rules r) keeps fails) none in
+    let whole : list_any (λ r. not midway && (choice.terminal && contains choice.rules r)) (rule.Unasked ∷ []) ≡ false =
+    none_kept (λ r. is_of_terminal r && is_of_whole r) (passes_of midway choice) (λ r. not midway && (choice.terminal && contains choice.rules r)) rules
+    (λ r keeps fails. on_whole choice.terminal choice.units (is_of_terminal r) (is_of_units r) midway (is_of_whole r) (contains choice.rules r) keeps fails) none in
+    (wherever, or_first (not midway && (choice.terminal && contains choice.rules rule.Unasked)) false whole)
+
+of_units : (choice : FindingChoice) (midway : Bool) → tells_some midway choice ≡ false
+    → list_any (λ r. choice.units && contains choice.rules r) unit_rules ≡ false
+of_units choice midway none =
+    none_kept (λ r. is_of_units r && not (is_of_whole r)) (passes_of midway choice) (λ r. choice.units && contains choice.rules r) rules
+    (λ r keeps fails. on_second choice.terminal choice.units (is_of_terminal r) (is_of_units r) midway (is_of_whole r) (contains choice.rules r) keeps fails) none
 
 pub tells_nothing : NoneTellsNothing
 tells_nothing choice settings watch (HeardDown message) none =
     let left = of_terminal choice watch.midway none in
     by_down (is_told choice (HeardDown message)) settings watch message left.0 left.1
 tells_nothing choice settings watch (HeardUp message delay) none =
-    let terminal : Bool = choice.terminal && (list_any (λ (r : Rule). contains choice.rules r) terminal_rules || (not watch.midway && contains choice.rules rule.Unasked)) in
-    let units : Bool = choice.units && list_any (λ (r : Rule). contains choice.rules r) unit_rules in
-    by_up (is_told choice (HeardUp message delay)) settings watch message delay (
-    on_side choice.units (λ (r : Rule). contains choice.rules r) unit_rules (or_second terminal units none))
+    by_up (is_told choice (HeardUp message delay)) settings watch message delay (of_units choice watch.midway none)
 tells_nothing choice settings watch (HeardGrant grant) none =
-    let left = of_terminal choice watch.midway none in
-    by_grant (is_told choice (HeardGrant grant)) (breaks_grant watch grant) left.0
+    by_grant (is_told choice (HeardGrant grant)) (breaks_grant watch grant) (of_terminal choice watch.midway none).0
 
 pub are_judged : SidesAreJudged
 are_judged = record {
   terminal = λ settings watch message. refl;
-  whole = λ settings watch message. refl;
   units = λ settings watch message delay. refl;
 }

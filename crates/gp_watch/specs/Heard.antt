@@ -10,7 +10,7 @@ use Rattle.gp_ploam.specs.OnuIds.{broadcast_onu}
 use Rattle.gp_ploam.specs.Down.{IsFittingDown}
 use Rattle.gp_observer.specs.Heard as observer
 use Rattle.gp_observer.specs.Rules as rules
-use Rattle.gp_observer.specs.Watch.{Watch, can_follow, passes_over, tells}
+use Rattle.gp_observer.specs.Watch.{Watch, can_follow, is_new}
 use Rattle.gp_watch.specs.declared.fault.WatchFault.{WatchFault}
 use Rattle.gp_watch.specs.declared.fault.WatchFault.TheVariants.{OutOfMemory, Full}
 use Rattle.gp_watch.specs.declared.heard.Heard.{Heard}
@@ -71,8 +71,7 @@ asking_heard _ = None
 
 -- the serial number that a message down has followed with this copy: copies that tell it no more change nothing of that
 abbrev pub followed_by_copy : Watch → Down → Option Serial
-followed_by_copy watch message =
-    if not (passes_over watch message) && tells watch message then followed_by message else None
+followed_by_copy watch message = if is_new watch message then followed_by message else None
 
 abbrev pub followed_now : Watch → Heard → Option Serial
 followed_now watch (heard.Down None) = None

@@ -196,7 +196,7 @@ impl PortWatch {
     fn copy_judges(&self, message: &Down, rule: Rule) -> bool
         ensures { result ≡ spec.copy_judges self.now message.now rule }
     {
-        !self.passes_over(message) && self.tells(message) && self.message_judges(message, rule)
+        self.is_new(message) && self.message_judges(message, rule)
     }
 
     /// Tells whether a rule is judged of a code down; None where its check octet is wrong.

@@ -5,7 +5,7 @@ ghost use Rattle.gp_ploam.specs.declared.message.Down.TheVariants.{AssignOnu, Ra
 ghost use Rattle.gp_ploam.specs.Down.{IsFittingDown};
 ghost use Rattle.gp_ploam.specs.OnuIds.{last_onu, broadcast_onu};
 ghost use Rattle.gp_pools.specs.Limits.{last_alloc_id};
-ghost use Rattle.gp_observer.specs.Watch.{noted, passes_over, tells, copy_heard, after_down, after_up, serial_heard};
+ghost use Rattle.gp_observer.specs.Watch.{noted, is_new, passes_over, tells, copy_heard, after_down, after_up, serial_heard};
 ghost use Rattle.gp_observer.specs.Heard.{watch_after};
 ghost use Rattle.gp_watch.specs.Changes.{watch_assigned};
 ghost use Rattle.gp_watch.specs.declared.heard.Heard.TheVariants as heards;
@@ -144,6 +144,13 @@ impl PortWatch {
         ensures { result ≡ tells self.now message.now }
     {
         self.to_come() == 0 || self.last() != *message
+    }
+
+    /// Tells whether a message down is told with this copy, which isn't passed over.
+    pub fn is_new(&self, message: &Down) -> bool
+        ensures { result ≡ is_new self.now message.now }
+    {
+        !self.passes_over(message) && self.tells(message)
     }
 
     /// Notes a copy of a message down.

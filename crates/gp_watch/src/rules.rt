@@ -266,14 +266,11 @@ impl PortWatch {
         ])
     }
 
-    /// Gives the rules that a copy of a message down breaks: those of the message, if it is told with this copy, and
-    /// isn't passed over.
+    /// Gives the rules that a copy of a message down breaks: those of the message, if it is told with this copy.
     fn broken_by_copy(&self, settings: &Settings, message: &Down) -> BrokenRules
         ensures { result ≡ copy_breaks (settings_of settings.now) self.now message.now }
     {
-        if self.passes_over(message) {
-            BrokenRules::none()
-        } else if self.tells(message) {
+        if self.is_new(message) {
             self.broken_by_message(settings, message)
         } else {
             BrokenRules::none()

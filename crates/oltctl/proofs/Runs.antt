@@ -1,5 +1,5 @@
 -- What a run found in its input, from how it ended.
-use Rattle.std.proofs.Common.{◌≡◌, ℕ, List, [], Option, None, Some, Result, Ok, Err, OnOk, IfOk, IsErrAnd, inl, inr, subst, sym, refl, ap, ◌∙◌}
+use Rattle.std.proofs.Common.{◌≡◌, ℕ, List, [], Option, None, Some, Result, Ok, Err, OnOk, IfOk, IsErrAnd, subst, sym, refl, ap, ◌∙◌}
 use Rattle.gp_script.specs.declared.fault.ScriptFault.{ScriptFault}
 use Rattle.gp_script.specs.Script.{ScriptView, script_of}
 use Rattle.gp_stream.specs.Source.{SourceState, ReadsTooMuch, max_bytes}
