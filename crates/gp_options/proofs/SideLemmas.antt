@@ -15,7 +15,7 @@ use Rattle.gp_observer.specs.Watch.{Watch, asks_left, is_new}
 use Rattle.gp_audit.specs.RuleSet.{contains, is_told}
 use Rattle.gp_audit.specs.declared.options.FindingChoice.{FindingChoice}
 use Rattle.gp_finding.specs.Names.{rules}
-use Rattle.gp_audit.specs.Judging.{is_of_terminal, is_of_units}
+use Rattle.gp_audit.specs.Judging.{is_of_terminal, is_of_units, unit_rules}
 use Rattle.gp_options.specs.Sides.{NoneTellsNothing, SidesAreJudged, is_of_whole, may_be_judged, tells_some}
 
 or_first : (a b : Bool) → a || b ≡ false → a ≡ false
@@ -104,14 +104,11 @@ unasked_not : (told : Rule → Bool) (watch : Watch) (message : Down) (midway : 
 unasked_not told watch message true is none = ap (λ (broken : Bool). broken && told rule.Unasked) (unasked_midway watch message is)
 unasked_not told watch message false is none = not_both (breaks_unasked watch message) (told rule.Unasked) none
 
--- those that are judged of the terminal, wherever a log begins, and those of a unit
+-- those that are judged of the terminal, wherever a log begins
 abbrev terminal_rules : List Rule
 terminal_rules =
     rule.Garbled ∷ rule.Copies ∷ rule.Range ∷ rule.Barred ∷ rule.Taken ∷ rule.Renumbered ∷ rule.Nobody ∷ rule.Unranged
     ∷ rule.Delay ∷ rule.Early ∷ rule.Shared ∷ rule.NotHeld ∷ rule.Grant ∷ []
-
-abbrev unit_rules : List Rule
-unit_rules = rule.Garbled ∷ rule.Disabled ∷ rule.Anew ∷ rule.Number ∷ rule.Acknowledge ∷ rule.Drift ∷ []
 
 -- of a message down
 of_message : (told : Rule → Bool) (settings : Settings) (watch : Watch) (message : Down) → list_any told terminal_rules ≡ false

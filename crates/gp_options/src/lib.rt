@@ -8,8 +8,9 @@
 //! - `sides.rt`: whether a choice of rules leaves one to tell.
 //! - `judged.rt`: what these have in common. `bad_option.rt`: an option that can't be read, in words.
 //!
-//! Where to make which change: what is asked for stands in `gp_command_line`, how names of rules and delays are read in
-//! `gp_audit`, which rules are of which side in `specs/Sides.antt`, and what becomes of them in `specs/Options.antt`.
+//! Where to make which change: what is asked for stands in `gp_command_line`; how names of rules and delays are read,
+//! and which rules are of which side, in `gp_audit`; which rule isn't judged of a log that begins in the middle in
+//! `specs/Sides.antt`; and what becomes of all these in `specs/Options.antt`.
 #![tactic(auto)]
 
 mod audit;

@@ -8,7 +8,7 @@ use gp_audit::FindingChoice;
 use gp_finding::RULES;
 use gp_observer::Rule;
 
-/// Tells whether a choice tells of a rule, which is judged on a side of which it tells. Who asked before a log that
+/// Tells whether a choice leaves this rule, and it is judged on a side of which it tells. Who asked before a log that
 /// begins in the middle isn't known, so there `unasked` isn't judged.
 fn tells(midway: bool, choice: &FindingChoice, rule: Rule) -> bool
     ensures { result ≡ (contains choice.now.rules rule && may_be_judged midway choice.now rule) }
@@ -17,9 +17,10 @@ fn tells(midway: bool, choice: &FindingChoice, rule: Rule) -> bool
     choice.rules.contains(rule) && choice.is_of_told(rule) && !is_unknown
 }
 
-/// Tells whether a choice tells of one of these rules.
+/// Tells whether a choice leaves one of these rules that is judged on a side of which it tells.
 fn tells_any(midway: bool, choice: &FindingChoice, rules: &[Rule]) -> bool
-    ensures { result ≡ list_any (λ rule. contains choice.now.rules rule && may_be_judged midway choice.now rule) rules.now }
+    ensures { result
+        ≡ list_any (λ rule. contains choice.now.rules rule && may_be_judged midway choice.now rule) rules.now }
 {
     rules.iter().any(|rule| tells(midway, choice, *rule))
 }

@@ -139,14 +139,15 @@ impl PortWatch {
         self.is_cut() && (self.last() == Down::NoMessage || self.last() == *message)
     }
 
-    /// Tells whether a message down is told with this copy: it is the first one, or the first behind three others.
+    /// Tells whether a copy of a message down begins three: it is the first one, the first behind three others, or
+    /// one of another message. In the middle it may be passed over all the same.
     pub fn tells(&self, message: &Down) -> bool
         ensures { result ≡ tells self.now message.now }
     {
         self.to_come() == 0 || self.last() != *message
     }
 
-    /// Tells whether a message down is told with this copy, which isn't passed over.
+    /// Tells whether a message down is told with this copy: it begins three, and isn't passed over.
     pub fn is_new(&self, message: &Down) -> bool
         ensures { result ≡ is_new self.now message.now }
     {
