@@ -4,6 +4,10 @@ use Rattle.std.specs.Prelude.{◌≡◌, ℕ, ◌<◌, ◌^◌, ◌==◌, Bool, 
 use Rattle.gp_machine.specs.declared.event.Event.{Event}
 use Rattle.gp_lines.specs.Spelling.{SpellsNumber, SpellsEvent}
 
+-- the digit zero
+abbrev pub is_zero : ℕ → Bool
+is_zero octet = octet == 48
+
 -- an octet that isn't the digit zero
 abbrev pub is_other_than_zero : ℕ → Bool
 is_other_than_zero octet = not (octet == 48)
