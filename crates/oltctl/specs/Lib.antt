@@ -1,4 +1,5 @@
 pub mod Joined
+pub mod Opened
 pub mod Replays
 pub mod Statuses
 pub mod Tested

@@ -15,7 +15,7 @@
 //! - `objects.rt`: one code, or the words of one message, as an object.
 //! - `testing.rt`: scripts of folders, several at once, and what is told of them. `scripts.rt`: which files of a folder
 //!   are scripts, and what stands beside them; `judging.rt`: one of them, from its files to what became of it.
-//!   `replacing.rt`: JUnit's file.
+//!   `replacing.rt`: JUnit's file; `opened.rt`: names that stand for what the program has open.
 //! - `observed.rt`: an input, and what is remembered of it. `joined.rt`: words as one text, as they are decoded or
 //!   encoded. `descriptors.rt`: what is held where a standard stream is closed.
 //! - `reporting.rt`: what goes to standard error, with the exit status. `unjudged.rt`: what an audit did not judge.
@@ -41,6 +41,7 @@ mod joined;
 mod judging;
 mod objects;
 mod observed;
+mod opened;
 mod picturing;
 mod progress;
 mod replacing;

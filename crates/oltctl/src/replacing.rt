@@ -1,4 +1,9 @@
-//! JUnit's file: a regular file gets its new octets whole or stays as it was, and nothing but XML is written over.
+//! JUnit's file: a regular file gets its new octets whole or stays as it was, and nothing but XML is written over; what
+//! the program has open goes on from where it stands.
+ghost use Rattle.std.specs.Prelude.{◌≡◌, IfOk, false};
+ghost use Rattle.oltctl.specs.Opened.{opened_by};
+
+use crate::opened::{Opened, opened_at};
 use std::alloc::AllocError;
 use std::fs::{File, OpenFile, OpenOptions, Permissions};
 use std::io::{ErrorKind, Read, Write};
@@ -52,10 +57,10 @@ fn linked_file<R: AllocGlobal + Files>(rt: &R, path: &str) -> Result<Option<Stri
 }
 
 /// Gives the file that is replaced where this one is to be written: it, if it is a regular one or isn't there yet, or
-/// that to which it leads. None where it is anything else, as a pipe, and in /dev and /proc, where a name stands for
-/// what somebody has opened: there it is written to as it is.
+/// that to which it leads. None where it is anything else, as a pipe, and in /dev, which may take no other file: there
+/// it is written to as it is.
 fn replaced_file<R: AllocGlobal + Files>(rt: &R, path: &str) -> Result<Option<String>, AllocError> {
-    if path.starts_with("/dev/") || path.starts_with("/proc/") {
+    if path.starts_with("/dev/") {
         return Ok(None);
     }
     match fs::symlink_metadata(rt, path) {
@@ -137,19 +142,39 @@ fn replace<R: AllocGlobal + Files>(rt: &R, path: &str, octets: &[u8]) -> io::Res
     replaced
 }
 
-/// Writes octets to a file, unless it has something that isn't XML, and tells whether it was written. Where that fails,
-/// a regular file stays as it was.
-pub(crate) fn write_over<R: AllocGlobal + Files>(
-    rt: &R,
-    path: &str,
-    octets: &[u8],
-) -> io::Result<bool> {
+/// Writes octets to a file of its own, unless it has something that isn't XML, and tells whether it was written.
+fn write_file<R: AllocGlobal + Files>(rt: &R, path: &str, octets: &[u8]) -> io::Result<bool> {
     if would_lose(rt, path)? {
         return Ok(false);
     }
     match replaced_file(rt, path)? {
         Some(file) => replace(rt, file.as_str(), octets)?,
         None => fill(fs::create(rt, path)?, octets)?,
+    }
+    Ok(true)
+}
+
+/// Writes octets behind what a file has.
+fn append<R: Files>(rt: &R, path: &str, octets: &[u8]) -> io::Result<()> {
+    fill(OpenOptions::new().append(true).open(rt, path)?, octets)
+}
+
+/// Writes octets to a file, unless it has something that isn't XML, and tells whether it was written. Where that fails,
+/// a regular file stays as it was. What the program has open is written to from where it stands, whatever it has;
+/// `host` is the same runtime, whose standard error takes octets.
+pub(crate) fn write_over<R: AllocGlobal + Files + Print>(
+    rt: &R,
+    host: &HostRuntime,
+    path: &str,
+    octets: &[u8],
+) -> io::Result<bool>
+    ensures { IfOk result (λ is_written. is_written ≡ false → opened_by path.now ≡ Opened.Nothing) }
+{
+    match opened_at(rt, path)? {
+        Opened::Output => Print::write_all(rt, octets)?,
+        Opened::Error => Print::write_all(&host.stderr(), octets)?,
+        Opened::Other => append(rt, path, octets)?,
+        Opened::Nothing => return write_file(rt, path, octets),
     }
     Ok(true)
 }

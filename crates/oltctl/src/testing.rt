@@ -202,8 +202,9 @@ fn junit_of(
 }
 
 /// Writes JUnit's XML; where it was not written, it says so, and answers the exit status.
-fn write_junit<R: AllocGlobal + Files + Eprint>(
+fn write_junit<R: AllocGlobal + Files + Print + Eprint>(
     rt: &R,
+    host: &HostRuntime,
     path: &str,
     judged: Judged,
     folders: &[&str],
@@ -214,7 +215,7 @@ fn write_junit<R: AllocGlobal + Files + Eprint>(
     let Ok(octets) = junit_of(rt.alloc(), judged, folders, tally) else {
         return Err(report(rt, memory_report()));
     };
-    match write_over(rt, path, octets.as_slice()) {
+    match write_over(rt, host, path, octets.as_slice()) {
         Ok(true) => Ok(()),
         Ok(false) => {
             let _ = eprintln!(rt; "oltctl: {path}: has something that is no XML, and stays");
@@ -302,6 +303,7 @@ fn tell_output<R: AllocGlobal + Print>(
 #[tactic(auto, using(crate::proofs::TestedLemmas::any_of))]
 fn tell_judged<R: AllocGlobal + Files + Print + Eprint>(
     rt: &R,
+    host: &HostRuntime,
     judged: Judged,
     wanted: &Testing<'_, '_>,
 ) -> u8
@@ -315,7 +317,7 @@ fn tell_judged<R: AllocGlobal + Files + Print + Eprint>(
     let Some(path) = wanted.junit else {
         return status;
     };
-    match write_junit(rt, path, judged, wanted.folders, &tally) {
+    match write_junit(rt, host, path, judged, wanted.folders, &tally) {
         Ok(()) => status,
         Err(status) => status,
     }
@@ -330,7 +332,7 @@ pub(crate) fn test<R: AllocGlobal + Files + Print + Eprint + Threads + Wait + Sy
     ensures { IsTested result }
 {
     match judged_in(rt, host, wanted) {
-        Ok(judged) => tell_judged(rt, judged, wanted),
+        Ok(judged) => tell_judged(rt, host, judged, wanted),
         Err(AllocError) => report(rt, memory_report()),
     }
 }
