@@ -218,10 +218,11 @@ Lines of LOG, which may be mixed with those of a trace:
   [PORT] TIME up CODE [DELAY]   one of a unit; DELAY in bit times, without the
                                 unit's equalization delay
   [PORT] TIME grant search      a window; or: grant range N, grant poll N
-TIME is a number of frames, or has a unit: 12.125ms, us or s. Codes may have colons,
-hyphens, spaces and 0x, fields spaces, tabs, commas and semicolons between them; so a
-comma is no decimal point: 12,125ms down .. is port 12 at 125 ms. Empty lines and those
-that begin with # are passed over.
+TIME is a number of frames, or has a unit: 12.125ms, s, us or ns; what is finer than a
+nanosecond is cut off. For down also ds, d, downstream, for up us, u, upstream, in any
+case. Codes may have colons, hyphens, dots, spaces, 0x and quotation marks; fields are
+parted by spaces, tabs, commas and semicolons, so a comma is no decimal point: 12,125ms
+down .. is port 12 at 125 ms. Empty lines and those that begin with # are passed over.
 
 Any other line, as the heading of a table, is answered by: error N KIND, N its number,
 KIND word, number, code, time or long; so is one whose time is before that of its port

@@ -1,16 +1,15 @@
 -- A line of a log that is written is read back.
-use Rattle.std.proofs.Common.{◌≡◌, ℕ, ◌*◌, ◌<◌, ◌≤◌, ◌^◌, true, false, List, [], ◌∷◌, ◌++◌, length, Option, None, Some, Ok, codes, refl, sym, ap, subst, ◌∙◌, inl, inr, arith, append_assoc}
+use Rattle.std.proofs.Common.{◌≡◌, ℕ, ◌*◌, ◌<◌, ◌≤◌, ◌^◌, ◌==◌, true, false, List, [], ◌∷◌, ◌++◌, length, Option, None, Some, Ok, codes, refl, ap, ◌∙◌, arith, append_assoc}
 use Rattle.std.specs.Prelude.{decimal}
-use Rattle.std.proofs.lemmas.Bool.{false≢true}
+use Rattle.std.proofs.lemmas.Bool.Decides.{nat_tests}
 use Rattle.std.proofs.lemmas.Fmt.{decimal_is_IsNumeral}
 use Rattle.std.proofs.lemmas.List.Elements.{All-head}
-use Rattle.std.specs.Char.{is_ascii_digit}
+use Rattle.std.specs.Char.{is_ascii_digit, to_ascii_lowercase}
 use Rattle.std.specs.List.{All}
 use Rattle.std.specs.Str.Parse.{IsNumeral}
 use Rattle.hex.specs.Hex.{encode_lower}
 use Rattle.gp_ranging.specs.declared.grant.Grant.{Grant}
 use Rattle.gp_ranging.specs.declared.grant.Grant.TheVariants as grants
-use Rattle.gp_lines.proofs.NumberLemmas.{word_told}
 use Rattle.gp_log.specs.declared.fault.LogFault.TheVariants as fault
 use Rattle.gp_log.specs.declared.line.LogLine.TheVariants as line
 use Rattle.gp_log.specs.declared.said.Said.{Said}
@@ -153,27 +152,16 @@ said_told (said.Grant grant) can = grant_told grant can
 
 -- ---- the line
 
-other_letter : (text word : List ℕ) (letter : ℕ) → IsNumeral 10 text → is_ascii_digit letter ≡ false → text ≡ letter ∷ word → ⊥
-other_letter text word letter is other same =
-    let all = subst (λ (t : List ℕ). All (λ o. is_ascii_digit o ≡ true) t) same (numeral_digits text is) in
-    false≢true (sym other ∙ All-head (λ (o : ℕ). is_ascii_digit o ≡ true) letter word all)
+digit_no_letter : (octet letter : ℕ) → is_ascii_digit octet ≡ true → is_ascii_digit letter ≡ false → (to_ascii_lowercase octet == letter) ≡ false
+digit_no_letter octet letter digit other = grind (arith, nat_tests, digit, other)
 
 -- a number is none of the words
 pub numeral_no_kind : (text : List ℕ) → IsNumeral 10 text → kind_of text ≡ None
 unfolding kind_of
-numeral_no_kind text is =
-    elim (word_told text (codes "down")) [
-      | inl down ↦ absurd (other_letter text (codes "own") 100 is refl down)
-      | inr other ↦
-          elim (word_told text (codes "up")) [
-            | inl up ↦ absurd (other_letter text (codes "p") 117 is refl up)
-            | inr neither ↦
-                elim (word_told text (codes "grant")) [
-                  | inl grant ↦ absurd (other_letter text (codes "rant") 103 is refl grant)
-                  | inr none ↦ rw (other.0, neither.0, none.0) refl
-                ]
-          ]
-    ]
+numeral_no_kind [] is = absurd (omega (arith, is.0))
+numeral_no_kind (octet ∷ text) is =
+    let digit = All-head (λ (o : ℕ). is_ascii_digit o ≡ true) octet text (numeral_digits (octet ∷ text) is) in
+    rw (digit_no_letter octet 100 digit refl, digit_no_letter octet 117 digit refl, digit_no_letter octet 103 digit refl) refl
 
 entry_told : (port frames : ℕ) (kind : Kind) (rest : List ℕ) (x : Said) → port ≤ 15 → frames < 2 ^ 64 → frames * frame_time < 2 ^ 64 → said_of kind rest ≡ Ok x
     → ported_entry (decimal port) (decimal frames) kind rest ≡ Ok (line.Log port (frames * frame_time) x)

@@ -1,5 +1,5 @@
 -- What is written is read back: numbers and codes.
-use Rattle.std.proofs.Common.{◌≡◌, ℕ, ◌+◌, ◌*◌, ◌/◌, ◌%◌, ◌<◌, ◌≤◌, ◌^◌, true, false, List, [], ◌∷◌, ◌++◌, length, slice_index, Some, Ok, refl, sym, ap, ◌∙◌, arith, append_assoc}
+use Rattle.std.proofs.Common.{◌≡◌, ◌==◌, ℕ, ◌+◌, ◌*◌, ◌/◌, ◌%◌, ◌<◌, ◌≤◌, ◌^◌, true, false, List, [], ◌∷◌, ◌++◌, length, slice_index, Some, Ok, refl, sym, ap, ◌∙◌, arith, append_assoc}
 use Rattle.std.specs.Prelude.{decimal}
 use Rattle.std.proofs.lemmas.Bool.Decides.{nat_tests}
 use Rattle.std.proofs.lemmas.Fmt.{decimal_is_IsNumeral}
@@ -15,7 +15,7 @@ use Rattle.gp_lines.proofs.FieldLemmas.{own}
 use Rattle.gp_lines.proofs.ReadLemmas.{number_back}
 use Rattle.gp_log.specs.declared.fault.LogFault.{LogFault}
 use Rattle.gp_log.specs.Fields.{before, «from», is_separator, trimmed, next, is_parted, is_nothing, number_or, number_in}
-use Rattle.gp_log.specs.Code.{octet_at, octets_at, code_at, next_code, is_mark, without_mark, without_prefix}
+use Rattle.gp_log.specs.Code.{octet_at, octets_at, code_at, any_code_at, next_code, is_mark, without_mark, without_prefix}
 
 -- ---- fields
 
@@ -101,6 +101,9 @@ number_something number small = numeral_something (decimal number) (decimal_is_I
 digit_is_of_field : (octet value : ℕ) → hex_digit_value octet ≡ Some value → is_separator octet ≡ false
 digit_is_of_field octet value h = grind (arith, nat_tests, h)
 
+digit_is_no_quote : (octet value : ℕ) → hex_digit_value octet ≡ Some value → (octet == 34) ≡ false
+digit_is_no_quote octet value h = grind (arith, nat_tests, h)
+
 digit_is_no_mark : (octet value : ℕ) → hex_digit_value octet ≡ Some value → is_mark octet ≡ false
 digit_is_no_mark octet value h = grind (arith, nat_tests, h)
 
@@ -163,7 +166,11 @@ code_begun octet octets rest small all long =
     ap (λ (n : ℕ). octets_at n (octet ∷ []) behind) (sym long) ∙ octets_read (octet ∷ []) octets rest all in
     rw one others
 
-code_ended : (text octets rest : List ℕ) → code_at (trimmed text) ≡ Some (octets, rest) → is_parted rest ≡ true → next_code text ≡ Ok (octets, rest)
+unquoted : (octet : ℕ) (text : List ℕ) → (octet == 34) ≡ false → any_code_at (octet ∷ text) ≡ code_at (octet ∷ text)
+unfolding any_code_at
+unquoted octet text h = rw h refl
+
+code_ended : (text octets rest : List ℕ) → any_code_at (trimmed text) ≡ Some (octets, rest) → is_parted rest ≡ true → next_code text ≡ Ok (octets, rest)
 code_ended text octets rest read h = rw (read, h) refl
 
 -- a code is read
@@ -176,8 +183,9 @@ code_next (octet ∷ octets) rest long all h =
     let behind = low_digit octet ∷ (encode_lower octets ++ rest) in
     let kept = trimmed_space (high_digit octet ∷ behind)
     ∙ trimmed_field (high_digit octet) behind (digit_is_of_field (high_digit octet) (octet / 16) (high_told octet small)) in
+    let plain = unquoted (high_digit octet) behind (digit_is_no_quote (high_digit octet) (octet / 16) (high_told octet small)) in
     code_ended (32 ∷ (high_digit octet ∷ behind)) (octet ∷ octets) rest
-    (ap code_at kept ∙ code_begun octet octets rest small (All-tail (λ (o : ℕ). o < 256) octet octets all) (omega (arith, long))) h
+    (ap any_code_at kept ∙ plain ∙ code_begun octet octets rest small (All-tail (λ (o : ℕ). o < 256) octet octets all) (omega (arith, long))) h
 
 pub code_last : (octets : List ℕ) → length octets ≡ 13 → AreSmall octets → next_code (32 ∷ encode_lower octets) ≡ Ok (octets, [])
 code_last octets long all = ap (λ (t : List ℕ). next_code (32 ∷ t)) (sym (append-nil (encode_lower octets))) ∙ code_next octets [] long all refl

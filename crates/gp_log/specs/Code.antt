@@ -18,9 +18,9 @@ without_prefix (octet ∷ []) = octet ∷ []
 without_prefix (octet ∷ other ∷ text) =
     if (octet == 48) && ((other == 120) || (other == 88)) then text else octet ∷ other ∷ text
 
--- what may stand between octets: a colon, a hyphen, a space
+-- what may stand between octets: a colon, a hyphen, a space, a dot
 abbrev pub is_mark : ℕ → Bool
-is_mark octet = (octet == 58) || (octet == 45) || (octet == 32)
+is_mark octet = (octet == 58) || (octet == 45) || (octet == 32) || (octet == 46)
 
 -- a text without one of these in front
 abbrev pub without_mark : List ℕ → List ℕ
@@ -49,6 +49,21 @@ code_at text = do
   read ← octet_at (without_prefix text)
   octets_at 12 (read.0 ∷ []) read.1
 
+-- a code in quotation marks ends with the second one
+abbrev pub closed : List ℕ → List ℕ → Option (List ℕ × List ℕ)
+closed octets [] = None
+closed octets (octet ∷ text) = if octet == 34 then Some (octets, text) else None
+
+abbrev pub quoted_at : List ℕ → Option (List ℕ × List ℕ)
+quoted_at text = do
+  read ← code_at text
+  closed read.0 read.1
+
+-- the code that a text begins with, in quotation marks or not
+unfoldable pub any_code_at : List ℕ → Option (List ℕ × List ℕ)
+any_code_at [] = None
+any_code_at (octet ∷ text) = if octet == 34 then quoted_at text else code_at (octet ∷ text)
+
 -- the code ends where a field may end
 abbrev pub whole_code : Option (List ℕ × List ℕ) → Result (List ℕ × List ℕ) LogFault
 whole_code None = Err fault.Code
@@ -56,4 +71,4 @@ whole_code (Some read) = if is_parted read.1 then Ok read else Err fault.Code
 
 -- the code that is next in a text, and what stands behind it
 abbrev pub next_code : List ℕ → Result (List ℕ × List ℕ) LogFault
-next_code text = whole_code (code_at (trimmed text))
+next_code text = whole_code (any_code_at (trimmed text))

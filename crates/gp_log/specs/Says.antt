@@ -1,5 +1,6 @@
 -- What is said on the fibre, as a line of a log tells it (this profile's own rule).
-use Rattle.std.specs.Prelude.{ℕ, List, Option, None, Some, Result, Ok, Err, if◌then◌else◌, codes}
+use Rattle.std.specs.Prelude.{ℕ, ◌||◌, Bool, List, Option, None, Some, Result, Ok, Err, if◌then◌else◌, codes, map}
+use Rattle.std.specs.Char.{to_ascii_lowercase}
 use Rattle.std.specs.Str.{bytes_eq}
 use Rattle.gp_ranging.specs.declared.grant.Grant.{Grant}
 use Rattle.gp_ranging.specs.declared.grant.Grant.TheVariants as grants
@@ -12,12 +13,28 @@ use Rattle.gp_log.specs.declared.word.Kind.TheVariants as kinds
 use Rattle.gp_log.specs.Fields.{◌>>=◌, Field, next, is_nothing, alone, number_in}
 use Rattle.gp_log.specs.Code.{next_code}
 
--- which of the three words
+-- a word, whatever the case of its letters
+abbrev pub is_spelled : List ℕ → List ℕ → Bool
+is_spelled word other = bytes_eq (map to_ascii_lowercase word) (map to_ascii_lowercase other)
+
+-- a message of the line terminal, as analysers name it
+abbrev pub is_down : List ℕ → Bool
+is_down word =
+    is_spelled word (codes "down") || is_spelled word (codes "ds") || is_spelled word (codes "d")
+    || is_spelled word (codes "downstream")
+
+-- a message of a unit
+abbrev pub is_up : List ℕ → Bool
+is_up word =
+    is_spelled word (codes "up") || is_spelled word (codes "us") || is_spelled word (codes "u")
+    || is_spelled word (codes "upstream")
+
+-- which of the three a word names
 unfoldable pub kind_of : List ℕ → Option Kind
 kind_of word =
-    if bytes_eq word (codes "down") then Some kinds.Down
-    else if bytes_eq word (codes "up") then Some kinds.Up
-    else if bytes_eq word (codes "grant") then Some kinds.Grant
+    if is_down word then Some kinds.Down
+    else if is_up word then Some kinds.Up
+    else if is_spelled word (codes "grant") then Some kinds.Grant
     else None
 
 -- the delay of a burst in a field, if there is one: bit times, below 2 ^ 32

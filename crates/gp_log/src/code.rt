@@ -1,4 +1,4 @@
-//! A code in a line: thirteen octets of two hexadecimal digits, with marks between them or not.
+//! A code in a line: thirteen octets of two hexadecimal digits, with marks between them or not, quoted or not.
 ghost use Rattle.std.specs.Prelude.{◌≡◌, MatchOption, MatchResult, Some, None, Ok, Err};
 ghost use Rattle.hex.specs.Hex.{hex_digit_value};
 ghost use Rattle.gp_log.specs.Code as spec;
@@ -29,12 +29,12 @@ fn without_prefix(text: &[u8]) -> &[u8]
     }
 }
 
-/// Gives a text without a colon, a hyphen or a space in front.
+/// Gives a text without a colon, a hyphen, a space or a dot in front.
 fn without_mark(text: &[u8]) -> &[u8]
     ensures { result.now ≡ spec.without_mark text.now }
 {
     match text {
-        [b':' | b'-' | b' ', rest @ ..] => rest,
+        [b':' | b'-' | b' ' | b'.', rest @ ..] => rest,
         _ => text,
     }
 }
@@ -72,13 +72,39 @@ fn code_at(text: &[u8]) -> Option<([u8; 13], &[u8])>
 
 /// Reads the code that a text begins with, as it may be spelled.
 #[inline(always)]
-fn any_code(text: &[u8]) -> Option<([u8; 13], &[u8])>
+fn spelled_code(text: &[u8]) -> Option<([u8; 13], &[u8])>
     ensures { MatchOption result (spec.code_at text.now ≡ None)
         (λ read. spec.code_at text.now ≡ Some (read.0, read.1.now)) }
 {
     match leading_code(text) {
         Some(read) => Some(read),
         None => code_at(text),
+    }
+}
+
+/// Reads the code behind a quotation mark, up to the next one.
+fn quoted_code(text: &[u8]) -> Option<([u8; 13], &[u8])>
+    ensures { MatchOption result (spec.quoted_at text.now ≡ None)
+        (λ read. spec.quoted_at text.now ≡ Some (read.0, read.1.now)) }
+{
+    let (octets, rest) = code_at(text)?;
+    match rest {
+        [b'"', rest @ ..] => Some((octets, rest)),
+        _ => None,
+    }
+}
+
+/// Reads the code that a text begins with, in quotation marks or not.
+#[inline(always)]
+#[tactic(auto, unfolding(crate::specs::Code::any_code_at))]
+fn any_code(text: &[u8]) -> Option<([u8; 13], &[u8])>
+    ensures { MatchOption result (spec.any_code_at text.now ≡ None)
+        (λ read. spec.any_code_at text.now ≡ Some (read.0, read.1.now)) }
+{
+    match text {
+        [] => None,
+        [b'"', rest @ ..] => quoted_code(rest),
+        _ => spelled_code(text),
     }
 }
 

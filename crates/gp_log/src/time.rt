@@ -1,8 +1,8 @@
-//! A time in a line, in frames or with a unit, read as whole nanoseconds: nothing is rounded.
-ghost use Rattle.std.specs.Prelude.{◌≡◌, ◌≤◌, ◌^◌, ◌+◌, ◌*◌, ◌<◌, Err, if◌then◌else◌, length, take, drop, position};
+//! A time in a line, in frames or with a unit, read as whole nanoseconds: what is finer is cut off.
+ghost use Rattle.std.specs.Prelude.{◌≡◌, ◌≤◌, ◌^◌, ◌+◌, ◌*◌, ◌<◌, length, position};
+ghost use Rattle.std.specs.Char.{is_ascii_digit};
 ghost use Rattle.std.specs.List.{list_all};
 ghost use Rattle.std.specs.Option.{SomeIff};
-ghost use Rattle.gp_log.specs.declared.fault.LogFault.TheVariants as faults;
 ghost use Rattle.gp_log.specs.Time as spec;
 
 use crate::fault::LogFault;
@@ -18,9 +18,17 @@ pub const LAST_FRAME: u64 = u64::MAX / FRAME_NANOSECONDS;
 #[derive(Clone, Copy)]
 pub(crate) enum TimeUnit {
     Frames,
+    Nanoseconds,
     Microseconds,
     Milliseconds,
     Seconds,
+}
+
+/// Tells whether a text is `us`, or the same with the sign U+00B5 or U+03BC.
+fn is_microseconds(text: &[u8]) -> bool
+    ensures { result ≡ spec.is_microseconds text.now }
+{
+    matches!(text, b"us" | b"\xc2\xb5s" | b"\xce\xbcs")
 }
 
 impl TimeUnit {
@@ -31,7 +39,9 @@ impl TimeUnit {
     {
         if is_word(text, "") {
             Some(TimeUnit::Frames)
-        } else if is_word(text, "us") {
+        } else if is_word(text, "ns") {
+            Some(TimeUnit::Nanoseconds)
+        } else if is_microseconds(text) {
             Some(TimeUnit::Microseconds)
         } else if is_word(text, "ms") {
             Some(TimeUnit::Milliseconds)
@@ -48,19 +58,20 @@ impl TimeUnit {
     {
         match self {
             TimeUnit::Frames => FRAME_NANOSECONDS,
+            TimeUnit::Nanoseconds => 1,
             TimeUnit::Microseconds => 1_000,
             TimeUnit::Milliseconds => 1_000_000,
             TimeUnit::Seconds => 1_000_000_000,
         }
     }
 
-    /// Gives how many decimals may stand behind the point.
+    /// Gives how many decimals behind the point count.
     fn decimals(self) -> usize
         ensures value { result ≡ spec.decimals_of self }
         ensures within { result ≤ 9 }
     {
         match self {
-            TimeUnit::Frames => 0,
+            TimeUnit::Frames | TimeUnit::Nanoseconds => 0,
             TimeUnit::Microseconds => 3,
             TimeUnit::Milliseconds => 6,
             TimeUnit::Seconds => 9,
@@ -109,34 +120,56 @@ fn decimals_in(decimals: usize, digits: &[u8]) -> Result<u64, LogFault>
     Ok(number * power_of_ten(decimals - digits.len()))
 }
 
-/// Tells whether each octet is the digit zero.
-fn are_zeros(digits: &[u8]) -> bool
-    ensures { result ≡ list_all spec.is_zero digits.now }
+/// Tells whether each octet is a digit.
+fn are_digits(text: &[u8]) -> bool
+    ensures { result ≡ list_all is_ascii_digit text.now }
 {
-    digits.iter().all(|digit| *digit == b'0')
+    text.iter().all(|octet| octet.is_ascii_digit())
 }
 
 /// Reads decimals, of which so many count.
 fn counted_in(decimals: usize, digits: &[u8]) -> Result<u64, LogFault>
     requires { decimals ≤ 9 }
-    ensures { result ≡ (if list_all spec.is_zero (drop decimals digits.now)
-        then spec.decimals_in decimals (take decimals digits.now) else Err faults.Time) }
+    ensures { result ≡ spec.counted_in decimals digits.now }
 {
     match digits.split_at_checked(decimals) {
         None => decimals_in(decimals, digits),
-        Some((counted, finer)) if are_zeros(finer) => decimals_in(decimals, counted),
+        Some((counted, finer)) if are_digits(finer) => decimals_in(decimals, counted),
         Some(_) => Err(LogFault::Time),
     }
 }
 
+/// Reads decimals of which none counts.
+fn uncounted_in(digits: &[u8]) -> Result<u64, LogFault>
+    ensures { result ≡ spec.uncounted_in digits.now }
+{
+    if digits.is_empty() || !are_digits(digits) {
+        Err(LogFault::Time)
+    } else {
+        Ok(0)
+    }
+}
+
+/// Reads the decimals behind a point.
+fn decimals_behind(unit: TimeUnit, digits: &[u8]) -> Result<u64, LogFault>
+    ensures { result ≡ spec.decimals_behind unit digits.now }
+{
+    match unit {
+        TimeUnit::Frames => Err(LogFault::Time),
+        TimeUnit::Nanoseconds => uncounted_in(digits),
+        TimeUnit::Microseconds | TimeUnit::Milliseconds | TimeUnit::Seconds => {
+            counted_in(unit.decimals(), digits)
+        }
+    }
+}
+
 /// Reads what stands behind a whole number: nothing, or a point and decimals.
-fn fraction_in(decimals: usize, text: &[u8]) -> Result<u64, LogFault>
-    requires { decimals ≤ 9 }
-    ensures { result ≡ spec.fraction_of decimals text.now }
+fn fraction_in(unit: TimeUnit, text: &[u8]) -> Result<u64, LogFault>
+    ensures { result ≡ spec.fraction_of unit text.now }
 {
     match text {
         [] => Ok(0),
-        [_, digits @ ..] => counted_in(decimals, digits),
+        [_, digits @ ..] => decimals_behind(unit, digits),
     }
 }
 
@@ -161,11 +194,11 @@ fn time_in(unit: TimeUnit, text: &[u8]) -> Result<u64, LogFault>
 {
     let (whole, fraction) = cut(text, first_point(text));
     let whole = number_in(LogFault::Time, u64::MAX, whole)?;
-    let fraction = fraction_in(unit.decimals(), fraction)?;
+    let fraction = fraction_in(unit, fraction)?;
     fitting(whole, unit.nanoseconds(), fraction)
 }
 
-/// Reads a time: frames, or a number with a decimal point or not and one of the units `us`, `ms` and `s`.
+/// Reads a time: frames, or a number with a decimal point or not and one of the units `ns`, `us`, `µs`, `ms` and `s`.
 pub(crate) fn time_of(text: &[u8]) -> Result<u64, LogFault>
     ensures { result ≡ spec.time_of text.now }
 {

@@ -22,7 +22,7 @@ const REMARKS: [&'static str; 6] = [
 ];
 
 /// Lines of a message down, with the port and the time of each, in nanoseconds.
-const DOWN: [(&'static str, u8, u64); 27] = [
+const DOWN: [(&'static str, u8, u64); 41] = [
     ("12 down ff03004142434400000001001b", 0, 1_500_000),
     ("0 12 down ff03004142434400000001001b", 0, 1_500_000),
     ("15 0 down FF03004142434400000001001B\r", 15, 0),
@@ -86,10 +86,40 @@ const DOWN: [(&'static str, u8, u64); 27] = [
         0,
         125_000,
     ),
+    ("1ns down ff03004142434400000001001b", 0, 1),
+    ("125000.75ns down ff03004142434400000001001b", 0, 125_000),
+    ("0.1255us down ff03004142434400000001001b", 0, 125),
+    ("2.5\u{B5}s down ff03004142434400000001001b", 0, 2_500),
+    ("2.5\u{3BC}s down ff03004142434400000001001b", 0, 2_500),
+    ("0.0000001ms down ff03004142434400000001001b", 0, 0),
+    (
+        "1.9999999999s down ff03004142434400000001001b",
+        0,
+        1_999_999_999,
+    ),
+    ("12 Down ff03004142434400000001001b", 0, 1_500_000),
+    ("12 ds ff03004142434400000001001b", 0, 1_500_000),
+    ("3,12,DS,ff03004142434400000001001b", 3, 1_500_000),
+    ("12 D ff03004142434400000001001b", 0, 1_500_000),
+    (
+        "12 DownStream ff.03.00.41.42.43.44.00.00.00.01.00.1b",
+        0,
+        1_500_000,
+    ),
+    (
+        "12 down \"FF 03 00 41 42 43 44 00 00 00 01 00 1B\"",
+        0,
+        1_500_000,
+    ),
+    (
+        "12;down;\"0xff03004142434400000001001b\";",
+        0,
+        1_500_000,
+    ),
 ];
 
 /// Lines of a message up, with the delay of each.
-const UP: [(&'static str, Option<u32>); 9] = [
+const UP: [(&'static str, Option<u32>); 12] = [
     ("6 up ff01414243440000000100002c", None),
     ("6 up ff01414243440000000100002c 100000", Some(100_000)),
     ("6,up,FF01414243440000000100002C,100000", Some(100_000)),
@@ -105,25 +135,28 @@ const UP: [(&'static str, Option<u32>); 9] = [
         Some(u32::MAX),
     ),
     ("6 up ff01414243440000000100002c ,", None),
+    ("6 us ff01414243440000000100002c 7", Some(7)),
+    ("6 U ff01414243440000000100002c", None),
+    ("6,UpStream,\"ff01414243440000000100002c\",100000", Some(100_000)),
 ];
 
 /// Lines of a grant.
-const GRANTS: [(&'static str, Grant); 5] = [
+const GRANTS: [(&'static str, Grant); 6] = [
     ("6 grant search", Grant::Search),
     ("0,6,grant,search,", Grant::Search),
     ("6 grant range 0", Grant::Range(0)),
     ("0 6 grant range 0253", Grant::Range(253)),
     ("6;grant;poll;255", Grant::Poll(255)),
+    ("6 GRANT poll 3", Grant::Poll(3)),
 ];
 
 /// Lines that say nothing, and the first fault of each.
-const FAULTS: [(&'static str, LogFault); 67] = [
+const FAULTS: [(&'static str, LogFault); 71] = [
     (" ", LogFault::Word),
     (" # 12", LogFault::Word),
     ("12", LogFault::Word),
     ("down ff03004142434400000001001b", LogFault::Word),
     ("12 ff03004142434400000001001b", LogFault::Word),
-    ("12 Down ff03004142434400000001001b", LogFault::Word),
     ("12 sent ff03004142434400000001001b", LogFault::Word),
     ("1 2 3 down ff03004142434400000001001b", LogFault::Word),
     ("12\rdown ff03004142434400000001001b", LogFault::Word),
@@ -161,26 +194,25 @@ const FAULTS: [(&'static str, LogFault); 67] = [
     ("down down ff03004142434400000001001b", LogFault::Time),
     ("-1 down ff03004142434400000001001b", LogFault::Time),
     ("1.0 down ff03004142434400000001001b", LogFault::Time),
+    ("1.ns down ff03004142434400000001001b", LogFault::Time),
+    ("1.5xns down ff03004142434400000001001b", LogFault::Time),
+    ("0.0000001xms down ff03004142434400000001001b", LogFault::Time),
+    ("12 dow ff03004142434400000001001b", LogFault::Word),
+    ("12 downs ff03004142434400000001001b", LogFault::Word),
+    ("12 down \"ff03004142434400000001001b", LogFault::Code),
+    ("12 down ff03004142434400000001001b\"", LogFault::Code),
+    ("12 down \"ff03004142434400000001001b\"x", LogFault::Code),
+    ("12 down \"\"ff03004142434400000001001b\"\"", LogFault::Code),
     ("1. down ff03004142434400000001001b", LogFault::Time),
     ("us down ff03004142434400000001001b", LogFault::Time),
     (".5us down ff03004142434400000001001b", LogFault::Time),
     ("5.us down ff03004142434400000001001b", LogFault::Time),
     ("1.5.5us down ff03004142434400000001001b", LogFault::Time),
-    ("1ns down ff03004142434400000001001b", LogFault::Time),
     ("1US down ff03004142434400000001001b", LogFault::Time),
     ("1mss down ff03004142434400000001001b", LogFault::Time),
     ("1 ms down ff03004142434400000001001b", LogFault::Time),
-    ("0.1255us down ff03004142434400000001001b", LogFault::Time),
     ("0.125x0us down ff03004142434400000001001b", LogFault::Time),
     ("1.0.0us down ff03004142434400000001001b", LogFault::Time),
-    (
-        "0.0000001ms down ff03004142434400000001001b",
-        LogFault::Time,
-    ),
-    (
-        "0.0000000001s down ff03004142434400000001001b",
-        LogFault::Time,
-    ),
     (
         "147573952589677 down ff03004142434400000001001b",
         LogFault::Time,
