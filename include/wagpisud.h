@@ -30,9 +30,9 @@ extern "C" {
 #endif
 
 /* The version of the library, as `oltctl --version` has it: CHANGELOG.md says what came with which. */
-#define WP_VERSION "1.10.0"
+#define WP_VERSION "1.11.0"
 #define WP_VERSION_MAJOR 1
-#define WP_VERSION_MINOR 10
+#define WP_VERSION_MINOR 11
 #define WP_VERSION_PATCH 0
 
 /* What a call answers. */

@@ -27,7 +27,7 @@ static MASKS: [&str; 3] = ["0", "85", "0x55"];
 static SIDES: [&str; 2] = ["terminal", "units"];
 
 /// The version of the program, and of all crates of this repository.
-pub const VERSION: &str = "1.10.0";
+pub const VERSION: &str = "1.11.0";
 
 fn replay<'a>(alloc: Global, formats: &'a [&'a str]) -> Result<Command<'a>, AllocError>
     ensures { IfOk result (ReadsAs (spec_command (codes "replay") (replay_rules formats.entry))) }
