@@ -1,0 +1,16 @@
+pub mod ActivePorts
+pub mod AllUnits
+pub mod LinkedUnits
+pub mod Ports
+pub mod Frames
+pub mod Hearing
+pub mod Settling
+pub mod Reading
+pub mod Links
+pub mod Counting
+pub mod Searching
+pub mod Landing
+pub mod Turning
+pub mod Measuring
+pub mod Everybody
+pub mod EverybodyServed
