@@ -1,3 +1,5 @@
 pub mod Joined
 pub mod PortLines
+pub mod LightLines
+pub mod ToldCounts
 pub mod Sums

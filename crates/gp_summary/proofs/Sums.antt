@@ -38,10 +38,10 @@ use Rattle.gp_replay.proofs.ToldLemmas.{plain_script, plain_text}
 use Rattle.gp_replay.proofs.WorldRunLemmas.{world_runs}
 use Rattle.gp_tally.specs.Counting.{CountingState}
 use Rattle.gp_tally.specs.Text.{AreTallies}
-use Rattle.gp_tally.proofs.LineLemmas.{entries_counted}
 use Rattle.gp_summary.specs.declared.form.SummaryForm.{SummaryForm}
 use Rattle.gp_summary.specs.Summary.{IsFresh, IsSummaryOf, PlaysSummed, SaysCounted, free_after}
 use Rattle.gp_summary.specs.Told.{IsSummaryOfTold, TellsSummed}
+use Rattle.gp_summary.proofs.ToldCounts.{told_counted}
 
 -- ---- plays
 
@@ -132,15 +132,20 @@ summary_told lights form script T P start end ports free x y z (Ok v) (Ok u) tex
     let w = p.ok in
     let all = leaves.all w.receipts w.text end w.told in
     let left = all.1 in
+    let taken = whole_taken T start end x y z u z.writer.counter.taken fresh w e.0 is in
+    let said : SaysCounted form script.mask z.writer.counter.taken (ends_of script w.receipts left.0) (length script.ports) (free_after script w.receipts left.0)
+    script.licences text = subst (λ (n : ℕ). SaysCounted form script.mask z.writer.counter.taken (ends_of script w.receipts left.0) (length script.ports) n script.licences text) (sym left.3)
+    (subst (λ (s : List PortState). SaysCounted form script.mask z.writer.counter.taken s (length script.ports) (free end) script.licences text) (sym left.2) says) in
     record {
       receipts = w.receipts;
       said = w.text;
       told = all.0;
       plays = left.0;
       runs = left.1;
-      taken = whole_taken T start end x y z u z.writer.counter.taken fresh w e.0 is;
-      says = subst (λ (n : ℕ). SaysCounted form script.mask z.writer.counter.taken (ends_of script w.receipts left.0) (length script.ports) n script.licences text) (sym left.3)
-          (subst (λ (s : List PortState). SaysCounted form script.mask z.writer.counter.taken s (length script.ports) (free end) script.licences text) (sym left.2) says);
+      taken = taken;
+      says = said;
+      entries = λ limits. told_counted lights script w.receipts w.text said.tallies all.0 limits
+          (subst (λ (t : List ℕ). AreTallies script.mask t said.tallies) taken said.counted);
     }
 summary_told lights form script T P start end ports free x y z (Ok v) (Err fault) text leaves fresh p e done is says = cc done
 summary_told lights form script T P start end ports free x y z (Err faults.OutOfMemory) ended text leaves fresh p e done is says = cc (sym e.0 ∙ done)
@@ -169,7 +174,7 @@ plain_summary form script z text s =
       runs = s.runs;
       trace = trace;
       says = s.says;
-      entries = λ limits. entries_counted script.mask s.receipts s.says.tallies limits (subst (λ (t : List ℕ). AreTallies script.mask t s.says.tallies) trace s.says.counted);
+      entries = s.entries;
     }
 
 plain_answer : {W : Type 0} (form : SummaryForm) (script : ScriptView) (z : SinkState (CountingState W)) (r : Result (Vec ℕ Global) AllocError)

@@ -1,6 +1,6 @@
 -- What a summary tells of a play that is told with the light that comes and goes between the lines of its trace (this
 -- profile's own rule).
-use Rattle.std.specs.Prelude.{◌≡◌, ℕ, Bool, List, Some, Result, Ok, Err, IfOk, length}
+use Rattle.std.specs.Prelude.{◌≡◌, All, ℕ, Bool, List, Some, Result, Ok, Err, IfOk, length}
 use Rattle.std.specs.declared.alloc.AllocError.{AllocError}
 use Rattle.std.specs.declared.alloc.Global.{Global}
 use Rattle.std.specs.declared.vec.Vec.{Vec}
@@ -17,11 +17,13 @@ use Rattle.gp_replay.specs.Runs.{PortsRun}
 use Rattle.gp_replay.specs.ScriptPlay.{Plays, ends_of}
 use Rattle.gp_replay.specs.Writing.{EndsPlay}
 use Rattle.gp_tally.specs.Counting.{CountingState}
+use Rattle.gp_tally.specs.Entries.{AreCountsOf, IsWithinLimits}
 use Rattle.gp_summary.specs.declared.form.SummaryForm.{SummaryForm}
 use Rattle.gp_summary.specs.Summary.{IsFresh, SaysCounted, free_after}
 
 -- the script was played and told, the writer took all that is told and nothing else, and the text tells what was
--- counted of that, how each port and its units stand at the end, and the licences
+-- counted of that, how each port and its units stand at the end, and the licences. What was counted is what is counted
+-- of the entries of the play, whatever light is told between them
 pub record IsSummaryOfTold {W : Type 0} (lights : Bool) (form : SummaryForm) (script : ScriptView)
     (after : SinkState (CountingState W)) (text : List ℕ) : Type 0 where
   pub receipts : List Receipt
@@ -32,6 +34,7 @@ pub record IsSummaryOfTold {W : Type 0} (lights : Bool) (form : SummaryForm) (sc
   pub taken : after.writer.counter.taken ≡ said
   pub says : SaysCounted form script.mask after.writer.counter.taken (ends_of script receipts plays)
       (length script.ports) (free_after script receipts plays) script.licences text
+  pub entries : All IsWithinLimits receipts → AreCountsOf script.mask receipts says.tallies
 
 -- events are told on a player, and what it has handed in is written out; where that ends early is told
 -- Inside: no public contract cites this.
