@@ -111,11 +111,7 @@ const DOWN: [(&'static str, u8, u64); 41] = [
         0,
         1_500_000,
     ),
-    (
-        "12;down;\"0xff03004142434400000001001b\";",
-        0,
-        1_500_000,
-    ),
+    ("12;down;\"0xff03004142434400000001001b\";", 0, 1_500_000),
 ];
 
 /// Lines of a message up, with the delay of each.
@@ -137,7 +133,10 @@ const UP: [(&'static str, Option<u32>); 12] = [
     ("6 up ff01414243440000000100002c ,", None),
     ("6 us ff01414243440000000100002c 7", Some(7)),
     ("6 U ff01414243440000000100002c", None),
-    ("6,UpStream,\"ff01414243440000000100002c\",100000", Some(100_000)),
+    (
+        "6,UpStream,\"ff01414243440000000100002c\",100000",
+        Some(100_000),
+    ),
 ];
 
 /// Lines of a grant.
@@ -196,7 +195,10 @@ const FAULTS: [(&'static str, LogFault); 71] = [
     ("1.0 down ff03004142434400000001001b", LogFault::Time),
     ("1.ns down ff03004142434400000001001b", LogFault::Time),
     ("1.5xns down ff03004142434400000001001b", LogFault::Time),
-    ("0.0000001xms down ff03004142434400000001001b", LogFault::Time),
+    (
+        "0.0000001xms down ff03004142434400000001001b",
+        LogFault::Time,
+    ),
     ("12 dow ff03004142434400000001001b", LogFault::Word),
     ("12 downs ff03004142434400000001001b", LogFault::Word),
     ("12 down \"ff03004142434400000001001b", LogFault::Code),
