@@ -1,0 +1,53 @@
+-- Which messages change nothing that is known, and so no verdict after them (this profile's own rule; that a message is
+-- sent three times is G.984.3, clause 9).
+use Rattle.std.specs.Prelude.{◌≡◌, ℕ, ◌==◌, false, List, ◌∷◌, ◌++◌, Some}
+use Rattle.std.specs.List.{list_any}
+use Rattle.gp_ploam.specs.declared.message.Down.{Down}
+use Rattle.gp_ploam.specs.declared.message.Down.TheVariants.{Other}
+use Rattle.gp_observer.specs.Heard.{Heard, HeardDown}
+use Rattle.hear_rules.specs.declared.rule.Rule.{Rule}
+use Rattle.hear_rules.specs.Known.{Known, after_message}
+use Rattle.hear_rules.specs.Rules.{Settings, directed}
+use Rattle.hear_rules.specs.Findings.{breaks, findings}
+
+-- a message with an identifier of no table breaks nothing, and the findings of a log are the same with it and without
+abbrev pub OutsideSaysNothing : Type 0
+OutsideSaysNothing =
+    (settings : Settings) (known : Known) (before later : List Heard) (id octet1 : ℕ) (body : List ℕ)
+    → list_any (λ other. other == id) directed ≡ false
+    → findings settings known (before ++ HeardDown (Some (Other id octet1 body)) ∷ later)
+    ≡ findings settings known (before ++ later)
+
+-- a message that is said again changes nothing that is known
+abbrev pub CopiesSayNothing : Type 0
+CopiesSayNothing =
+    (known : Known) (message : Down)
+    → after_message (after_message known message) message ≡ after_message known message
+
+-- what is found in all that follows one copy is found in what follows another one
+abbrev pub CopiesFindNothing : Type 0
+CopiesFindNothing =
+    (settings : Settings) (known : Known) (message : Down) (later : List Heard)
+    → findings settings known (HeardDown (Some message) ∷ HeardDown (Some message) ∷ later)
+    ≡ breaks settings known (HeardDown (Some message))
+    ++ (breaks settings (after_message known message) (HeardDown (Some message))
+    ++ findings settings (after_message known message) later)
+
+-- a repetition: what is known stays
+abbrev pub IsRepetition : Known → Down → Type 0
+IsRepetition known message = after_message known message ≡ known
+
+-- what a message down breaks
+abbrev pub breaks_down : Settings → Known → Down → List Rule
+breaks_down settings known message = breaks settings known (HeardDown (Some message))
+
+-- two neighbouring repetitions may change places: each breaks what it broke, and what follows is found as before
+abbrev pub RepetitionsChangePlaces : Type 0
+RepetitionsChangePlaces =
+    (settings : Settings) (known : Known) (one other : Down) (later : List Heard)
+    → IsRepetition known one
+    → IsRepetition known other
+    → (breaks_down settings (after_message known one) other ≡ breaks_down settings known other)
+    × (breaks_down settings (after_message known other) one ≡ breaks_down settings known one)
+    × (findings settings (after_message (after_message known one) other) later
+    ≡ findings settings (after_message (after_message known other) one) later)

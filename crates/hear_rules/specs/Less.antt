@@ -1,0 +1,121 @@
+-- Less is known where less was heard: an order of what is known, and that less never finds more (this profile's own
+-- rule).
+use Rattle.std.specs.Prelude.{◌≡◌, ℕ, true, List, [], ◌∷◌, Option, None, Some}
+use Rattle.gp_ploam.specs.declared.message.Serial.{Serial}
+use Rattle.gp_observer.specs.Heard.{Heard}
+use Rattle.hear_rules.specs.declared.rule.Rule.{Rule}
+use Rattle.hear_rules.specs.declared.rule.Verdict.TheVariants.{Broken}
+use Rattle.hear_rules.specs.Facts.{Fact, Unknown, Nothing, Is, Sure, Yes, No, Unsure}
+use Rattle.hear_rules.specs.Known.{Number, Unheard, Never, Nobodys, Of, Owner, Unclear, Free, Has, Known, known_midway, known_after}
+use Rattle.hear_rules.specs.Rules.{Settings, judge}
+use Rattle.hear_rules.specs.Copies.{Subject, Sending, Cut, Silent, Once, Twice, Said, Sendings, sendings_after, sendings_at, copies, copies_overdue}
+use Rattle.gp_ploam.specs.declared.message.Down.{Down}
+
+-- ---- facts: what isn't known is less than anything, and what is known is the same
+
+abbrev pub LessFact : {X : Type 0} → Fact X → Fact X → Type 0
+LessFact Unknown more = Unit {0}
+LessFact Nothing more = more ≡ Nothing
+LessFact (Is value) more = more ≡ Is value
+
+abbrev pub LessSure : Sure → Sure → Type 0
+LessSure Unsure more = Unit {0}
+LessSure Yes more = more ≡ Yes
+LessSure No more = more ≡ No
+
+abbrev pub LessAsks : Option ℕ → Option ℕ → Type 0
+LessAsks None more = Unit {0}
+LessAsks (Some asks) more = more ≡ Some asks
+
+-- nobody holds it, and perhaps nobody ever held it
+abbrev pub IsNobodys : Number → Type 0
+IsNobodys Unheard = ⊥
+IsNobodys Never = Unit {0}
+IsNobodys Nobodys = Unit {0}
+IsNobodys (Of holder delay answers) = ⊥
+
+abbrev pub LessNumber : Number → Number → Type 0
+LessNumber Unheard more = Unit {0}
+LessNumber Never more = more ≡ Never
+LessNumber Nobodys more = IsNobodys more
+LessNumber (Of holder delay answers) (Of its told heard) = (its ≡ holder) × LessFact delay told × LessFact answers heard
+LessNumber (Of holder delay answers) Unheard = ⊥
+LessNumber (Of holder delay answers) Never = ⊥
+LessNumber (Of holder delay answers) Nobodys = ⊥
+
+abbrev pub LessOwner : Owner → Owner → Type 0
+LessOwner Unclear more = Unit {0}
+LessOwner (Free last) (Free its) = LessFact last its
+LessOwner (Free last) Unclear = ⊥
+LessOwner (Free last) (Has onu its) = ⊥
+LessOwner (Has onu last) (Has other its) = (other ≡ onu) × LessFact last its
+LessOwner (Has onu last) Unclear = ⊥
+LessOwner (Has onu last) (Free its) = ⊥
+
+-- all that is known by the first is known by the second
+pub record Less (less more : Known) : Type 0 where
+  pub numbers : (onu : ℕ) → LessNumber (less.numbers onu) (more.numbers onu)
+  pub holds : (serial : Serial) → LessFact (less.holds serial) (more.holds serial)
+  pub disabled : (serial : Serial) → LessSure (less.disabled serial) (more.disabled serial)
+  pub asks : (serial : Serial) → LessAsks (less.asks serial) (more.asks serial)
+  pub owners : (alloc : ℕ) → LessOwner (less.owners alloc) (more.owners alloc)
+  pub overhead : LessSure less.overhead more.overhead
+  pub up : less.up ≡ true → more.up ≡ true
+
+-- ---- the laws
+
+-- what is heard keeps the order
+abbrev pub HearingKeepsLess : Type 0
+HearingKeepsLess =
+    (less more : Known) (heard : Heard) → Less less more → Less (known_after less heard) (known_after more heard)
+
+-- what is broken by less is broken by more
+abbrev pub LessBreaksNoMore : Type 0
+LessBreaksNoMore =
+    (settings : Settings) (less more : Known) (heard : Heard) (rule : Rule)
+    → Less less more
+    → judge settings less heard rule ≡ Broken
+    → judge settings more heard rule ≡ Broken
+
+-- of each thing that is heard: what is broken by what the first knows is broken by what the second knows
+abbrev pub FindsNoMore : Settings → Known → Known → List Heard → Type 0
+FindsNoMore settings less more [] = Unit {0}
+FindsNoMore settings less more (heard ∷ others) =
+    ((rule : Rule) → judge settings less heard rule ≡ Broken → judge settings more heard rule ≡ Broken)
+    × FindsNoMore settings (known_after less heard) (known_after more heard) others
+
+-- who begins in the middle, wherever that is, finds nothing that who heard what was before doesn't find there
+abbrev pub LaterFindsNoMore : Type 0
+LaterFindsNoMore =
+    (settings : Settings) (known : Known) (later : List Heard) → FindsNoMore settings known_midway known later
+
+-- ---- copies
+
+-- what was sent last about a subject: where it isn't known how often, that is less
+abbrev pub IsOfMessage : Sending → Down → Type 0
+IsOfMessage Cut message = ⊥
+IsOfMessage Silent message = ⊥
+IsOfMessage (Once last at) message = last ≡ message
+IsOfMessage (Twice last at) message = last ≡ message
+IsOfMessage (Said last) message = last ≡ message
+
+abbrev pub LessSending : Sending → Sending → Type 0
+LessSending Cut more = Unit {0}
+LessSending Silent more = more ≡ Silent
+LessSending (Once last at) more = more ≡ Once last at
+LessSending (Twice last at) more = more ≡ Twice last at
+LessSending (Said last) more = IsOfMessage more last
+
+abbrev pub LessSendings : Sendings → Sendings → Type 0
+LessSendings less more = (subject : Subject) → LessSending (less subject) (more subject)
+
+-- a message that is sent, and time that goes by, keep the order, and what is cut short or overdue by less is so by more
+pub record LessCutsNoMore : Type 0 where
+  pub sent : (less more : Sendings) (at : ℕ) (message : Down) → LessSendings less more
+      → LessSendings (sendings_after less at message) (sendings_after more at message)
+  pub waited : (less more : Sendings) (now : ℕ) → LessSendings less more
+      → LessSendings (sendings_at less now) (sendings_at more now)
+  pub cut : (less more : Sendings) (message : Down) → LessSendings less more
+      → copies less message ≡ Broken → copies more message ≡ Broken
+  pub overdue : (less more : Sendings) (now : ℕ) (subject : Subject) → LessSendings less more
+      → copies_overdue (less subject) now ≡ Broken → copies_overdue (more subject) now ≡ Broken
