@@ -37,6 +37,12 @@ given Yes verdict = verdict
 given No verdict = NotJudged
 given Unsure verdict = NotJudged
 
+-- it is judged only where this is sure not to be so
+abbrev pub unless : Sure → Verdict → Verdict
+unless Yes verdict = NotJudged
+unless No verdict = verdict
+unless Unsure verdict = NotJudged
+
 -- broken where there is known to be none
 abbrev pub broken_without : {X : Type 0} → Fact X → Verdict
 broken_without Unknown = NotJudged

@@ -24,8 +24,6 @@ pub data Span : Type 0 where
 pub data Number : Type 0 where
   -- it isn't known who holds it
   Unheard : Number
-  -- nobody ever held it
-  Never : Number
   -- nobody holds it
   Nobodys : Number
   -- this unit holds it: the equalization delay that it was told, and what it said since it was assigned
@@ -49,6 +47,8 @@ pub record Known : Type 0 where
   pub disabled : Serial → Sure
   -- how often it asked without being assigned one, or None where that isn't known
   pub asks : Serial → Option ℕ
+  -- whether it was heard asking since it was assigned an ONU-ID, and didn't answer with one since
+  pub asked : Serial → Sure
   -- whose each Alloc-ID is
   pub owners : ℕ → Owner
   -- whether Upstream_Overhead was sent
@@ -60,10 +60,11 @@ pub record Known : Type 0 where
 abbrev pub known_whole : Known
 known_whole =
     record {
-      numbers = λ onu. Never;
+      numbers = λ onu. Nobodys;
       holds = λ serial. Nothing;
       disabled = λ serial. No;
       asks = λ serial. Some 0;
+      asked = λ serial. No;
       owners = λ alloc. Free Nothing;
       overhead = No;
       up = false;
@@ -77,6 +78,7 @@ known_midway =
       holds = λ serial. Unknown;
       disabled = λ serial. Unsure;
       asks = λ serial. None;
+      asked = λ serial. Unsure;
       owners = λ alloc. Unclear;
       overhead = Unsure;
       up = false;
@@ -91,7 +93,6 @@ fresh serial = Of serial Nothing Nothing
 -- the ONU-ID that is assigned: where it isn't known who held it this may be a copy
 abbrev pub assigned : Number → Serial → Number
 assigned Unheard serial = Of serial Unknown Unknown
-assigned Never serial = fresh serial
 assigned Nobodys serial = fresh serial
 assigned (Of holder delay answers) serial =
     if same_serial serial holder then Of holder delay answers else fresh serial
@@ -99,7 +100,6 @@ assigned (Of holder delay answers) serial =
 -- an ONU-ID, where a unit gets another one, or is disabled
 abbrev pub left_by : Number → Serial → Number
 left_by Unheard serial = Unheard
-left_by Never serial = Never
 left_by Nobodys serial = Nobodys
 left_by (Of holder delay answers) serial =
     if same_serial serial holder then Nobodys else Of holder delay answers
@@ -126,14 +126,12 @@ given_up (Is held) onu = if held == onu then Nothing else Is held
 -- whether the Alloc-IDs of an ONU-ID are lost, where a unit gets it: who held it already may have restarted
 abbrev pub lost_of : Number → Serial → Sure
 lost_of Unheard serial = Unsure
-lost_of Never serial = Yes
 lost_of Nobodys serial = Yes
 lost_of (Of holder delay answers) serial = if same_serial serial holder then Unsure else Yes
 
 -- or those of another ONU-ID, where a unit gets this one, or is disabled
 abbrev pub lost_by : Number → Serial → Sure
 lost_by Unheard serial = Unsure
-lost_by Never serial = No
 lost_by Nobodys serial = No
 lost_by (Of holder delay answers) serial = if same_serial serial holder then Yes else No
 
@@ -156,7 +154,6 @@ owner_given (Has other last) onu = if other == onu then Has onu last else Has on
 
 abbrev pub owner_kept : Number → Owner → ℕ → Owner
 owner_kept Unheard owner onu = Unclear
-owner_kept Never owner onu = owner
 owner_kept Nobodys owner onu = owner
 owner_kept (Of holder delay answers) owner onu = owner_given owner onu
 
@@ -174,24 +171,24 @@ owner_told number owner onu false = owner_back owner onu
 
 -- Deactivate_ONU-ID
 abbrev pub dropped : Number → Number
-dropped Never = Never
-dropped _ = Nobodys
+dropped Unheard = Nobodys
+dropped Nobodys = Nobodys
+dropped (Of holder delay answers) = Nobodys
 
 -- Ranging_Time: it is kept of a unit alone
 abbrev pub ranged : Number → ℕ → Number
 ranged Unheard eqd = Unheard
-ranged Never eqd = Never
 ranged Nobodys eqd = Nobodys
 ranged (Of holder delay answers) eqd = Of holder (Is eqd) answers
 
--- POPUP of all: only a unit in O6 loses its delay, and nobody but the unit knows
+-- POPUP of all: only a unit in O6 loses its delay, and nobody but the unit knows. Ranging_Adjustment changes it by what
+-- isn't read here
 abbrev pub delay_unsure : Fact ℕ → Fact ℕ
 delay_unsure Nothing = Nothing
 delay_unsure _ = Unknown
 
 abbrev pub popped_up : Number → Number
 popped_up Unheard = Unheard
-popped_up Never = Never
 popped_up Nobodys = Nobodys
 popped_up (Of holder delay answers) = Of holder (delay_unsure delay) answers
 
@@ -212,6 +209,7 @@ after_assign known onu serial =
           if same_serial other serial
           then asks_less (is_news known onu serial) (known.asks other)
           else known.asks other;
+      asked = λ other. if same_serial other serial then No else known.asked other;
       owners = λ alloc. owner_after (lost_with known onu serial) (known.owners alloc);
     }
 
@@ -258,6 +256,20 @@ after_alloc known onu alloc keep =
 abbrev pub after_pop_up_all : Known → Known
 after_pop_up_all known = record known { numbers = λ onu. popped_up (known.numbers onu) }
 
+abbrev pub after_adjust : Known → ℕ → Known
+after_adjust known onu =
+    record known { numbers = λ other. if other == onu then popped_up (known.numbers other) else known.numbers other }
+
+-- Ranging_Adjustment, to one unit or to all
+abbrev pub adjustment : ℕ
+adjustment = 23
+
+abbrev pub after_other : Known → ℕ → ℕ → Known
+after_other known id onu =
+    if id == adjustment
+    then (if onu == broadcast_onu then after_pop_up_all known else after_adjust known onu)
+    else known
+
 -- 254 and 255 are given to nobody
 abbrev pub after_message : Known → Down → Known
 after_message known (UpstreamOverhead burst) = record known { overhead = Yes }
@@ -270,7 +282,7 @@ after_message known EnableAll = record known { disabled = λ serial. No }
 after_message known (AssignAlloc onu alloc keep) = after_alloc known onu alloc keep
 after_message known (Popup onu) = if onu == broadcast_onu then after_pop_up_all known else known
 after_message known NoMessage = known
-after_message known (Other id octet1 body) = known
+after_message known (Other id octet1 body) = after_other known id octet1
 
 -- ---- what a unit says
 
@@ -297,7 +309,6 @@ is_by holder _ = true
 
 abbrev pub spoken : Number → Up → Option ℕ → Number
 spoken Unheard message delay = Unheard
-spoken Never message delay = Never
 spoken Nobodys message delay = Nobodys
 spoken (Of holder eqd answers) message delay =
     if is_by holder message then Of holder eqd (answers_with answers delay) else Of holder eqd answers
@@ -311,11 +322,23 @@ abbrev pub asks_more : Option ℕ → Option ℕ
 asks_more None = None
 asks_more (Some asks) = Some (suc asks)
 
+-- whether a unit asked since it was assigned: one that answers with an ONU-ID was assigned since, it isn't known when
+abbrev pub was_assigned : Sure → Sure
+was_assigned Yes = Unsure
+was_assigned No = No
+was_assigned Unsure = Unsure
+
+abbrev pub asked_with : Up → Serial → Sure → Sure
+asked_with (SerialNumber onu serial random flags) other asked =
+    if same_serial other serial then (if onu == broadcast_onu then Yes else was_assigned asked) else asked
+asked_with _ other asked = asked
+
 abbrev pub after_answer : Known → Up → Option ℕ → Known
 after_answer known message delay =
     record known {
       numbers = λ onu. if onu == octet1_of message then spoken (known.numbers onu) message delay else known.numbers onu;
       asks = λ serial. if asked_by message serial then asks_more (known.asks serial) else known.asks serial;
+      asked = λ serial. asked_with message serial (known.asked serial);
       up = true;
     }
 

@@ -6,7 +6,7 @@ use Rattle.gp_ploam.specs.declared.message.Down.{Down}
 use Rattle.gp_ploam.specs.declared.message.Down.TheVariants.{Other}
 use Rattle.gp_observer.specs.Heard.{Heard, HeardDown}
 use Rattle.hear_rules.specs.declared.rule.Rule.{Rule}
-use Rattle.hear_rules.specs.Known.{Known, after_message}
+use Rattle.hear_rules.specs.Known.{Known, adjustment, after_message}
 use Rattle.hear_rules.specs.Rules.{Settings, directed}
 use Rattle.hear_rules.specs.Findings.{breaks, findings}
 
@@ -14,7 +14,7 @@ use Rattle.hear_rules.specs.Findings.{breaks, findings}
 abbrev pub OutsideSaysNothing : Type 0
 OutsideSaysNothing =
     (settings : Settings) (known : Known) (before later : List Heard) (id octet1 : ℕ) (body : List ℕ)
-    → list_any (λ other. other == id) directed ≡ false
+    → list_any (λ other. other == id) (adjustment ∷ directed) ≡ false
     → findings settings known (before ++ HeardDown (Some (Other id octet1 body)) ∷ later)
     ≡ findings settings known (before ++ later)
 

@@ -11,7 +11,7 @@ use Rattle.gp_machine.specs.Run.{Run}
 use Rattle.gp_observer.specs.Heard.{Heard, HeardDown, HeardUp, HeardGrant}
 use Rattle.gp_observer.specs.Fibre.{RunSays}
 use Rattle.hear_rules.specs.Facts.{Fact, Unknown, Nothing, Is, Sure, Yes, No, Unsure, is_other}
-use Rattle.hear_rules.specs.Known.{Span, Bare, Between, Number, Unheard, Never, Nobodys, Of, Known, known_midway, known_after}
+use Rattle.hear_rules.specs.Known.{Span, Bare, Between, Number, Unheard, Nobodys, Of, Known, known_midway, known_after}
 
 -- where it is known that the unit had another delay, or none
 abbrev pub where_news : Sure → Option ℕ → Option ℕ
@@ -27,7 +27,6 @@ learned_by (Is (Between least greatest)) eqd = if least == greatest then Some (e
 
 abbrev pub learned_of : Number → ℕ → Option ℕ
 learned_of Unheard eqd = None
-learned_of Never eqd = None
 learned_of Nobodys eqd = None
 learned_of (Of holder delay answers) eqd = where_news (is_other delay eqd) (learned_by answers eqd)
 

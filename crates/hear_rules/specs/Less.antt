@@ -6,7 +6,7 @@ use Rattle.gp_observer.specs.Heard.{Heard}
 use Rattle.hear_rules.specs.declared.rule.Rule.{Rule}
 use Rattle.hear_rules.specs.declared.rule.Verdict.TheVariants.{Broken}
 use Rattle.hear_rules.specs.Facts.{Fact, Unknown, Nothing, Is, Sure, Yes, No, Unsure}
-use Rattle.hear_rules.specs.Known.{Number, Unheard, Never, Nobodys, Of, Owner, Unclear, Free, Has, Known, known_midway, known_after}
+use Rattle.hear_rules.specs.Known.{Number, Unheard, Nobodys, Of, Owner, Unclear, Free, Has, Known, known_midway, known_after}
 use Rattle.hear_rules.specs.Rules.{Settings, judge}
 use Rattle.hear_rules.specs.Copies.{Subject, Sending, Cut, Silent, Once, Twice, Said, Sendings, sendings_after, sendings_at, copies, copies_overdue}
 use Rattle.gp_ploam.specs.declared.message.Down.{Down}
@@ -27,20 +27,17 @@ abbrev pub LessAsks : Option ℕ → Option ℕ → Type 0
 LessAsks None more = Unit {0}
 LessAsks (Some asks) more = more ≡ Some asks
 
--- nobody holds it, and perhaps nobody ever held it
+-- nobody holds it
 abbrev pub IsNobodys : Number → Type 0
 IsNobodys Unheard = ⊥
-IsNobodys Never = Unit {0}
 IsNobodys Nobodys = Unit {0}
 IsNobodys (Of holder delay answers) = ⊥
 
 abbrev pub LessNumber : Number → Number → Type 0
 LessNumber Unheard more = Unit {0}
-LessNumber Never more = more ≡ Never
 LessNumber Nobodys more = IsNobodys more
 LessNumber (Of holder delay answers) (Of its told heard) = (its ≡ holder) × LessFact delay told × LessFact answers heard
 LessNumber (Of holder delay answers) Unheard = ⊥
-LessNumber (Of holder delay answers) Never = ⊥
 LessNumber (Of holder delay answers) Nobodys = ⊥
 
 abbrev pub LessOwner : Owner → Owner → Type 0
@@ -58,6 +55,7 @@ pub record Less (less more : Known) : Type 0 where
   pub holds : (serial : Serial) → LessFact (less.holds serial) (more.holds serial)
   pub disabled : (serial : Serial) → LessSure (less.disabled serial) (more.disabled serial)
   pub asks : (serial : Serial) → LessAsks (less.asks serial) (more.asks serial)
+  pub asked : (serial : Serial) → LessSure (less.asked serial) (more.asked serial)
   pub owners : (alloc : ℕ) → LessOwner (less.owners alloc) (more.owners alloc)
   pub overhead : LessSure less.overhead more.overhead
   pub up : less.up ≡ true → more.up ≡ true

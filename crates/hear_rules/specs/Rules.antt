@@ -4,7 +4,7 @@ use Rattle.std.specs.Prelude.{ℕ, zero, suc, ◌+◌, ◌==◌, ◌&&◌, ◌||
 use Rattle.std.specs.List.{list_any}
 use Rattle.gp_ploam.specs.declared.message.Serial.{Serial}
 use Rattle.gp_ploam.specs.declared.message.Down.{Down}
-use Rattle.gp_ploam.specs.declared.message.Down.TheVariants.{AssignOnu, RangingTime, Deactivate, AssignAlloc, Popup, Other}
+use Rattle.gp_ploam.specs.declared.message.Down.TheVariants.{AssignOnu, RangingTime, AssignAlloc, Popup, Other}
 use Rattle.gp_ploam.specs.OnuIds.{broadcast_onu}
 use Rattle.gp_ploam.specs.Serials.{same_serial}
 use Rattle.gp_ranging.specs.declared.grant.Grant.{Grant}
@@ -16,8 +16,8 @@ use Rattle.hear_rules.specs.declared.rule.Rule.{Rule}
 use Rattle.hear_rules.specs.declared.rule.Rule.TheVariants as rule
 use Rattle.hear_rules.specs.declared.rule.Verdict.{Verdict}
 use Rattle.hear_rules.specs.declared.rule.Verdict.TheVariants.{Kept, Broken, NotJudged}
-use Rattle.hear_rules.specs.Facts.{Fact, Unknown, Nothing, Is, Sure, Yes, No, Unsure, sure, broken_if, broken_where, given, broken_without, broken_unless, is_other}
-use Rattle.hear_rules.specs.Known.{Span, Bare, Between, Number, Unheard, Never, Nobodys, Of, Owner, Unclear, Free, Has, Known, is_news}
+use Rattle.hear_rules.specs.Facts.{Fact, Unknown, Nothing, Is, Sure, Yes, No, Unsure, broken_if, broken_where, given, unless, broken_without, broken_unless, is_other}
+use Rattle.hear_rules.specs.Known.{Span, Bare, Between, Number, Unheard, Nobodys, Of, Owner, Unclear, Free, Has, Known, is_news}
 
 -- the equalized delay, and by how many bit times an equalization delay may miss what the delays leave of it
 pub record Settings : Type 0 where
@@ -32,9 +32,18 @@ range (AssignOnu onu serial) = broken_if (not (is_unit_number onu))
 range (AssignAlloc onu alloc true) = broken_if (nat_lt alloc first_alloc_id && not (alloc == onu))
 range _ = NotJudged
 
+abbrev pub judged_if : Bool → Verdict → Verdict
+judged_if true verdict = verdict
+judged_if false verdict = NotJudged
+
+-- of 254 and 255 `range` alone is told
+abbrev pub assigning : ℕ → Verdict → Verdict
+assigning onu verdict = judged_if (is_unit_number onu) verdict
+
 -- `barred`: to a disabled serial number
 abbrev pub barred : Known → Down → Verdict
-barred known (AssignOnu onu serial) = given (is_news known onu serial) (broken_where (known.disabled serial))
+barred known (AssignOnu onu serial) =
+    assigning onu (given (is_news known onu serial) (broken_where (known.disabled serial)))
 barred known _ = NotJudged
 
 -- `unasked`: to one that has no ask left
@@ -43,34 +52,33 @@ broken_unasked None = NotJudged
 broken_unasked (Some zero) = Broken
 broken_unasked (Some (suc more)) = Kept
 
-abbrev pub judged_if : Bool → Verdict → Verdict
-judged_if true verdict = verdict
-judged_if false verdict = NotJudged
-
 abbrev pub unasked : Known → Down → Verdict
 unasked known (AssignOnu onu serial) =
-    judged_if known.up (given (is_news known onu serial) (broken_unasked (known.asks serial)))
+    assigning onu (judged_if known.up (given (is_news known onu serial) (broken_unasked (known.asks serial))))
 unasked known _ = NotJudged
 
--- `taken`: of one that another unit holds
-abbrev pub taken_of : Number → Serial → Verdict
-taken_of Unheard serial = NotJudged
-taken_of Never serial = Kept
-taken_of Nobodys serial = Kept
-taken_of (Of holder delay answers) serial = if same_serial serial holder then NotJudged else Broken
+-- `taken`: of one that another unit holds, which didn't ask since: if it did it restarted, and its ONU-ID may be
+-- another's
+abbrev pub taken_of : (Serial → Sure) → Number → Serial → Verdict
+taken_of asked Unheard serial = NotJudged
+taken_of asked Nobodys serial = Kept
+taken_of asked (Of holder delay answers) serial =
+    if same_serial serial holder then NotJudged else unless (asked holder) Broken
 
 abbrev pub taken : Known → Down → Verdict
-taken known (AssignOnu onu serial) = taken_of (known.numbers onu) serial
+taken known (AssignOnu onu serial) =
+    assigning onu (judged_if known.up (taken_of known.asked (known.numbers onu) serial))
 taken known _ = NotJudged
 
--- `renumbered`: to a unit that holds another
-abbrev pub renumbered_from : Fact ℕ → ℕ → Verdict
-renumbered_from Unknown onu = NotJudged
-renumbered_from Nothing onu = Kept
-renumbered_from (Is held) onu = if held == onu then NotJudged else Broken
+-- `renumbered`: to a unit that holds another, and didn't ask since
+abbrev pub renumbered_from : Sure → Fact ℕ → ℕ → Verdict
+renumbered_from asked Unknown onu = NotJudged
+renumbered_from asked Nothing onu = Kept
+renumbered_from asked (Is held) onu = if held == onu then NotJudged else unless asked Broken
 
 abbrev pub renumbered : Known → Down → Verdict
-renumbered known (AssignOnu onu serial) = renumbered_from (known.holds serial) onu
+renumbered known (AssignOnu onu serial) =
+    assigning onu (judged_if known.up (renumbered_from (known.asked serial) (known.holds serial) onu))
 renumbered known _ = NotJudged
 
 -- ---- a message to one ONU-ID
@@ -79,50 +87,41 @@ renumbered known _ = NotJudged
 abbrev pub directed : List ℕ
 directed = 4 ∷ 8 ∷ 9 ∷ 10 ∷ 12 ∷ 13 ∷ 14 ∷ 16 ∷ 18 ∷ 19 ∷ []
 
--- whom a message is to that nobody should get who never held it, or where nobody holds it
-pub data To : Type 0 where
-  ToAll : To
-  ToHolder : (onu : ℕ) → To
-  ToFormer : (onu : ℕ) → To
+-- the ONU-ID that somebody has to hold where the message is sent: Deactivate_ONU-ID of one that nobody holds is harmless
+abbrev pub to_one : ℕ → Option ℕ
+to_one onu = if onu == broadcast_onu then None else Some onu
 
-abbrev pub to_one : ℕ → To
-to_one onu = if onu == broadcast_onu then ToAll else ToHolder onu
-
-abbrev pub told : Down → To
-told (RangingTime onu eqd) = ToHolder onu
-told (Deactivate onu) = if onu == broadcast_onu then ToAll else ToFormer onu
-told (AssignAlloc onu alloc keep) = ToHolder onu
+abbrev pub told : Down → Option ℕ
+told (RangingTime onu eqd) = Some onu
+told (AssignAlloc onu alloc keep) = Some onu
 told (Popup onu) = to_one onu
-told (Other id octet1 body) = if list_any (λ other. other == id) directed then to_one octet1 else ToAll
-told _ = ToAll
+told (Other id octet1 body) = if list_any (λ other. other == id) directed then to_one octet1 else None
+told _ = None
 
--- `nobody`: to one that nobody holds; Deactivate_ONU-ID only of one that nobody ever held. Judged of each copy
+-- `nobody`: to one that nobody holds; judged of each copy
 abbrev pub held_by_none : Number → Verdict
 held_by_none Unheard = NotJudged
-held_by_none Never = Broken
 held_by_none Nobodys = Broken
 held_by_none (Of holder delay answers) = Kept
 
-abbrev pub never_held : Number → Verdict
-never_held Unheard = NotJudged
-never_held Never = Broken
-never_held Nobodys = Kept
-never_held (Of holder delay answers) = Kept
-
-abbrev pub nobody_to : Known → To → Verdict
-nobody_to known ToAll = NotJudged
-nobody_to known (ToHolder onu) = held_by_none (known.numbers onu)
-nobody_to known (ToFormer onu) = never_held (known.numbers onu)
+abbrev pub nobody_to : Known → Option ℕ → Verdict
+nobody_to known None = NotJudged
+nobody_to known (Some onu) = held_by_none (known.numbers onu)
 
 abbrev pub nobody : Known → Down → Verdict
 nobody known message = nobody_to known (told message)
+
+-- of a message to an ONU-ID that nobody holds the rules below aren't judged
+abbrev pub to_holder : Number → Verdict → Verdict
+to_holder Unheard verdict = NotJudged
+to_holder Nobodys verdict = NotJudged
+to_holder (Of holder delay answers) verdict = verdict
 
 -- ---- Ranging_Time
 
 -- `unranged`: nothing was heard of the unit since it was assigned
 abbrev pub unranged_of : Number → ℕ → Verdict
 unranged_of Unheard eqd = NotJudged
-unranged_of Never eqd = NotJudged
 unranged_of Nobodys eqd = NotJudged
 unranged_of (Of holder delay answers) eqd = given (is_other delay eqd) (broken_without answers)
 
@@ -144,7 +143,6 @@ misses settings eqd (Is (Between least greatest)) = broken_if (is_outside settin
 
 abbrev pub delay_of : Settings → Number → ℕ → Verdict
 delay_of settings Unheard eqd = NotJudged
-delay_of settings Never eqd = NotJudged
 delay_of settings Nobodys eqd = NotJudged
 delay_of settings (Of holder delay answers) eqd = given (is_other delay eqd) (misses settings eqd answers)
 
@@ -156,43 +154,33 @@ delay settings known _ = NotJudged
 
 -- ---- Alloc-IDs and POPUP
 
--- it is known whether Assign_Alloc-ID changes whose it is
-abbrev pub gives_news : Owner → ℕ → Sure
-gives_news Unclear onu = Unsure
-gives_news (Free last) onu = Yes
-gives_news (Has other last) onu = sure (not (other == onu))
-
-abbrev pub takes_news : Owner → ℕ → Sure
-takes_news Unclear onu = Unsure
-takes_news (Free last) onu = No
-takes_news (Has other last) onu = sure (other == onu)
-
-abbrev pub alloc_news : Owner → ℕ → Bool → Sure
-alloc_news owner onu true = gives_news owner onu
-alloc_news owner onu false = takes_news owner onu
-
 -- the unit has no delay
 abbrev pub early_of : Number → Verdict
 early_of Unheard = NotJudged
-early_of Never = NotJudged
 early_of Nobodys = NotJudged
 early_of (Of holder delay answers) = broken_without delay
 
--- `early`: Assign_Alloc-ID, or POPUP of one (judged of each copy), to a unit that has no delay
+-- `early`: Assign_Alloc-ID, or POPUP of one, to a unit that has no delay; judged of each copy
 abbrev pub early : Known → Down → Verdict
-early known (AssignAlloc onu alloc keep) =
-    given (alloc_news (known.owners alloc) onu keep) (early_of (known.numbers onu))
+early known (AssignAlloc onu alloc keep) = early_of (known.numbers onu)
 early known (Popup onu) = if onu == broadcast_onu then NotJudged else early_of (known.numbers onu)
 early known _ = NotJudged
 
--- `shared`: one is given that another unit has
-abbrev pub shared_of : Owner → ℕ → Verdict
-shared_of Unclear onu = NotJudged
-shared_of (Free last) onu = Kept
-shared_of (Has other last) onu = if other == onu then NotJudged else Broken
+-- `shared`: one is given that another unit has, which didn't ask since it was assigned
+abbrev pub shared_with : (Serial → Sure) → Number → Verdict
+shared_with asked Unheard = NotJudged
+shared_with asked Nobodys = NotJudged
+shared_with asked (Of holder delay answers) = unless (asked holder) Broken
+
+abbrev pub shared_of : Known → Owner → ℕ → Verdict
+shared_of known Unclear onu = NotJudged
+shared_of known (Free last) onu = Kept
+shared_of known (Has other last) onu =
+    if other == onu then NotJudged else shared_with known.asked (known.numbers other)
 
 abbrev pub shared : Known → Down → Verdict
-shared known (AssignAlloc onu alloc true) = shared_of (known.owners alloc) onu
+shared known (AssignAlloc onu alloc true) =
+    to_holder (known.numbers onu) (judged_if known.up (shared_of known (known.owners alloc) onu))
 shared known _ = NotJudged
 
 -- `not-held`: one is taken back that the unit neither has nor had last; judged of each copy
@@ -202,7 +190,8 @@ not_held_of (Free last) onu = broken_unless last onu
 not_held_of (Has other last) onu = if other == onu then Kept else broken_unless last onu
 
 abbrev pub not_held : Known → Down → Verdict
-not_held known (AssignAlloc onu alloc false) = not_held_of (known.owners alloc) onu
+not_held known (AssignAlloc onu alloc false) =
+    to_holder (known.numbers onu) (not_held_of (known.owners alloc) onu)
 not_held known _ = NotJudged
 
 -- ---- grants
@@ -210,7 +199,6 @@ not_held known _ = NotJudged
 -- `grant`: a window of an ONU-ID that nobody holds, or a poll of a unit that has no delay
 abbrev pub polled : Number → Verdict
 polled Unheard = NotJudged
-polled Never = Broken
 polled Nobodys = Broken
 polled (Of holder delay answers) = broken_without delay
 

@@ -14,7 +14,7 @@ use Rattle.gp_observer.specs.UnitRules.{distance}
 use Rattle.hear_rules.specs.declared.rule.Verdict.{Verdict}
 use Rattle.hear_rules.specs.declared.rule.Verdict.TheVariants.{Kept, Broken, NotJudged}
 use Rattle.hear_rules.specs.Facts.{sure, Fact, Unknown, Nothing, Is, Sure, Yes, No, Unsure, broken_if, broken_where}
-use Rattle.hear_rules.specs.Known.{Number, Unheard, Never, Nobodys, Of, Known, lost_by}
+use Rattle.hear_rules.specs.Known.{Number, Unheard, Nobodys, Of, Known, lost_by}
 
 -- how many frames after a message a unit may still do as before; by how many bit times it may drift
 pub record UnitSettings : Type 0 where
@@ -46,7 +46,6 @@ told_at Unsure at (Some last) = Some (max last at)
 -- the unit of this serial number holds the ONU-ID
 abbrev pub held_by : Number → Serial → Sure
 held_by Unheard serial = Unsure
-held_by Never serial = No
 held_by Nobodys serial = No
 held_by (Of holder delay answers) serial = if same_serial serial holder then Yes else No
 
@@ -112,7 +111,6 @@ speaks_as message holder = Kept
 
 abbrev pub number_of : Number → Up → Verdict
 number_of Unheard message = NotJudged
-number_of Never message = Broken
 number_of Nobodys message = Broken
 number_of (Of holder delay answers) message = speaks_as message holder
 
@@ -182,7 +180,6 @@ unless_lost Unsure sent = Unsure
 -- who holds it already may still acknowledge what it was sent
 abbrev pub lost_again : Number → Serial → Sure
 lost_again Unheard serial = Unsure
-lost_again Never serial = Yes
 lost_again Nobodys serial = Yes
 lost_again (Of holder delay answers) serial = if same_serial serial holder then No else Yes
 
@@ -238,7 +235,6 @@ if_own NotJudged verdict = NotJudged
 
 abbrev pub drift_of : UnitSettings → ℕ → Number → Up → Verdict
 drift_of settings delay Unheard message = NotJudged
-drift_of settings delay Never message = NotJudged
 drift_of settings delay Nobodys message = NotJudged
 drift_of settings delay (Of holder eqd answers) message = if_own (speaks_as message holder) (drifts settings delay eqd)
 
