@@ -90,11 +90,18 @@ known_midway =
 abbrev pub fresh : Serial → Number
 fresh serial = Of serial Nothing Nothing
 
--- the ONU-ID that is assigned: where it isn't known who held it this may be a copy
-abbrev pub assigned : Number → Serial → Number
-assigned Unheard serial = Of serial Unknown Unknown
-assigned Nobodys serial = fresh serial
-assigned (Of holder delay answers) serial =
+-- where it isn't known who held the ONU-ID this may be the third copy, but of a unit that was heard asking it is the
+-- beginning
+abbrev pub begun : Sure → Serial → Number
+begun Yes serial = fresh serial
+begun No serial = Of serial Unknown Unknown
+begun Unsure serial = Of serial Unknown Unknown
+
+-- the ONU-ID that is assigned, to a unit that was heard asking or not
+abbrev pub assigned : Sure → Number → Serial → Number
+assigned asked Unheard serial = begun asked serial
+assigned asked Nobodys serial = fresh serial
+assigned asked (Of holder delay answers) serial =
     if same_serial serial holder then Of holder delay answers else fresh serial
 
 -- an ONU-ID, where a unit gets another one, or is disabled
@@ -203,7 +210,9 @@ abbrev pub after_assign : Known → ℕ → Serial → Known
 after_assign known onu serial =
     record known {
       numbers = λ other.
-          if other == onu then assigned (known.numbers other) serial else left_by (known.numbers other) serial;
+          if other == onu
+          then assigned (known.asked serial) (known.numbers other) serial
+          else left_by (known.numbers other) serial;
       holds = λ other. if same_serial other serial then Is onu else given_up (known.holds other) onu;
       asks = λ other.
           if same_serial other serial

@@ -1,12 +1,12 @@
 -- Less is known where less was heard: an order of what is known, and that less never finds more (this profile's own
 -- rule).
-use Rattle.std.specs.Prelude.{◌≡◌, ℕ, true, List, [], ◌∷◌, Option, None, Some}
+use Rattle.std.specs.Prelude.{◌≡◌, ◌⊎◌, ℕ, true, List, [], ◌∷◌, Option, None, Some}
 use Rattle.gp_ploam.specs.declared.message.Serial.{Serial}
-use Rattle.gp_observer.specs.Heard.{Heard}
+use Rattle.gp_observer.specs.Heard.{Heard, HeardUp}
 use Rattle.hear_rules.specs.declared.rule.Rule.{Rule}
 use Rattle.hear_rules.specs.declared.rule.Verdict.TheVariants.{Broken}
 use Rattle.hear_rules.specs.Facts.{Fact, Unknown, Nothing, Is, Sure, Yes, No, Unsure}
-use Rattle.hear_rules.specs.Known.{Number, Unheard, Nobodys, Of, Owner, Unclear, Free, Has, Known, known_midway, known_after}
+use Rattle.hear_rules.specs.Known.{Number, Unheard, Nobodys, Of, Owner, Unclear, Free, Has, Known, known_whole, known_midway, asked_by, known_after, known_after_all}
 use Rattle.hear_rules.specs.Rules.{Settings, judge}
 use Rattle.hear_rules.specs.Copies.{Subject, Sending, Cut, Silent, Once, Twice, Said, Sendings, sendings_after, sendings_at, copies, copies_overdue}
 use Rattle.gp_ploam.specs.declared.message.Down.{Down}
@@ -60,12 +60,41 @@ pub record Less (less more : Known) : Type 0 where
   pub overhead : LessSure less.overhead more.overhead
   pub up : less.up ≡ true → more.up ≡ true
 
+-- ---- who begins later
+
+-- who holds the ONU-ID is known to hold it
+abbrev pub HoldsIt : Known → ℕ → Number → Type 0
+HoldsIt known onu Unheard = Unit {0}
+HoldsIt known onu Nobodys = Unit {0}
+HoldsIt known onu (Of holder delay answers) = known.holds holder ≡ Is onu
+
+-- all that is known by the first, who began later, is known by the second; and no unit that the first heard asking has
+-- an ONU-ID of which it knows nothing
+pub record Later (later known : Known) : Type 0 where
+  pub less : Less later known
+  pub agrees : (onu : ℕ) → HoldsIt known onu (known.numbers onu)
+  pub asked : (serial : Serial) (onu : ℕ) → later.asked serial ≡ Yes → known.holds serial ≡ Is onu
+      → later.numbers onu ≡ Unheard → ⊥
+
+-- no unit asks that was there before, and of whose ONU-ID the first knows nothing: none of them restarts
+abbrev pub NoneRestarts : Known → Known → Heard → Type 0
+NoneRestarts later known (HeardUp (Some message) delay) =
+    (serial : Serial) (onu : ℕ) → asked_by message serial ≡ true → known.holds serial ≡ Is onu
+    → later.numbers onu ≡ Unheard → ⊥
+NoneRestarts later known heard = Unit {0}
+
+abbrev pub NoneEverRestarts : Known → Known → List Heard → Type 0
+NoneEverRestarts later known [] = Unit {0}
+NoneEverRestarts later known (heard ∷ others) =
+    NoneRestarts later known heard × NoneEverRestarts (known_after later heard) (known_after known heard) others
+
 -- ---- the laws
 
 -- what is heard keeps the order
 abbrev pub HearingKeepsLess : Type 0
 HearingKeepsLess =
-    (less more : Known) (heard : Heard) → Less less more → Less (known_after less heard) (known_after more heard)
+    (later known : Known) (heard : Heard) → Later later known → NoneRestarts later known heard
+    → Later (known_after later heard) (known_after known heard)
 
 -- what is broken by less is broken by more
 abbrev pub LessBreaksNoMore : Type 0
@@ -82,10 +111,17 @@ FindsNoMore settings less more (heard ∷ others) =
     ((rule : Rule) → judge settings less heard rule ≡ Broken → judge settings more heard rule ≡ Broken)
     × FindsNoMore settings (known_after less heard) (known_after more heard) others
 
--- who begins in the middle, wherever that is, finds nothing that who heard what was before doesn't find there
+-- a log is known from its beginning, or begins in the middle itself
+abbrev pub IsBeginning : Known → Type 0
+IsBeginning known = (known ≡ known_whole) ⊎ (known ≡ known_midway)
+
+-- who begins later, wherever that is, finds nothing that who heard what was before doesn't find there
 abbrev pub LaterFindsNoMore : Type 0
 LaterFindsNoMore =
-    (settings : Settings) (known : Known) (later : List Heard) → FindsNoMore settings known_midway known later
+    (settings : Settings) (known : Known) (before later : List Heard)
+    → IsBeginning known
+    → NoneEverRestarts known_midway (known_after_all known before) later
+    → FindsNoMore settings known_midway (known_after_all known before) later
 
 -- ---- copies
 

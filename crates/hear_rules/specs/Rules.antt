@@ -87,7 +87,7 @@ renumbered known _ = NotJudged
 abbrev pub directed : List ℕ
 directed = 4 ∷ 8 ∷ 9 ∷ 10 ∷ 12 ∷ 13 ∷ 14 ∷ 16 ∷ 18 ∷ 19 ∷ []
 
--- the ONU-ID that somebody has to hold where the message is sent: Deactivate_ONU-ID of one that nobody holds is harmless
+-- the ONU-ID that somebody has to hold where the message is sent: Deactivate_ONU-ID of one that nobody has is harmless
 abbrev pub to_one : ℕ → Option ℕ
 to_one onu = if onu == broadcast_onu then None else Some onu
 
