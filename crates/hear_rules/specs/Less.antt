@@ -8,7 +8,7 @@ use Rattle.hear_rules.specs.declared.rule.Verdict.TheVariants.{Broken}
 use Rattle.hear_rules.specs.Facts.{Fact, Unknown, Nothing, Is, Sure, Yes, No, Unsure}
 use Rattle.hear_rules.specs.Known.{Number, Unheard, Nobodys, Of, Owner, Unclear, Free, Has, Known, known_whole, known_midway, asked_by, known_after, known_after_all}
 use Rattle.hear_rules.specs.Rules.{Settings, judge}
-use Rattle.hear_rules.specs.Copies.{Subject, Sending, Cut, Silent, Once, Twice, Said, Sendings, sendings_after, sendings_at, copies, copies_overdue}
+use Rattle.hear_rules.specs.Copies.{Subject, Sending, Cut, Silent, Once, Twice, Said, Sendings, sendings_heard, copies}
 use Rattle.gp_ploam.specs.declared.message.Down.{Down}
 
 -- ---- facts: what isn't known is less than anything, and what is known is the same
@@ -143,13 +143,9 @@ LessSending (Said last) more = IsOfMessage more last
 abbrev pub LessSendings : Sendings → Sendings → Type 0
 LessSendings less more = (subject : Subject) → LessSending (less subject) (more subject)
 
--- a message that is sent, and time that goes by, keep the order, and what is cut short or overdue by less is so by more
+-- what is heard keeps the order, and what breaks `copies` by less does so by more
 pub record LessCutsNoMore : Type 0 where
-  pub sent : (less more : Sendings) (at : ℕ) (message : Down) → LessSendings less more
-      → LessSendings (sendings_after less at message) (sendings_after more at message)
-  pub waited : (less more : Sendings) (now : ℕ) → LessSendings less more
-      → LessSendings (sendings_at less now) (sendings_at more now)
-  pub cut : (less more : Sendings) (message : Down) → LessSendings less more
-      → copies less message ≡ Broken → copies more message ≡ Broken
-  pub overdue : (less more : Sendings) (now : ℕ) (subject : Subject) → LessSendings less more
-      → copies_overdue (less subject) now ≡ Broken → copies_overdue (more subject) now ≡ Broken
+  pub keeps : (less more : Sendings) (now : ℕ) (heard : Heard) → LessSendings less more
+      → LessSendings (sendings_heard less now heard) (sendings_heard more now heard)
+  pub breaks : (less more : Sendings) (now : ℕ) (heard : Heard) (subject : Subject) → LessSendings less more
+      → copies less now heard subject ≡ Broken → copies more now heard subject ≡ Broken
