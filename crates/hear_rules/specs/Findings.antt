@@ -7,7 +7,7 @@ use Rattle.hear_rules.specs.declared.rule.Rule.TheVariants as rule
 use Rattle.hear_rules.specs.declared.rule.Verdict.{Verdict}
 use Rattle.hear_rules.specs.declared.rule.Verdict.TheVariants.{Kept, Broken, NotJudged}
 use Rattle.hear_rules.specs.Known.{Known, known_after}
-use Rattle.hear_rules.specs.Rules.{Settings, judge}
+use Rattle.hear_rules.specs.Rules.{Settings, judge_known}
 
 -- in the order in which they are told
 abbrev pub all_rules : List Rule
@@ -24,7 +24,7 @@ told_if NotJudged rule rules = rules
 abbrev pub broken_of : Settings → Known → Heard → List Rule → List Rule
 broken_of settings known heard [] = []
 broken_of settings known heard (rule ∷ rules) =
-    told_if (judge settings known heard rule) rule (broken_of settings known heard rules)
+    told_if (judge_known settings known heard rule) rule (broken_of settings known heard rules)
 
 abbrev pub breaks : Settings → Known → Heard → List Rule
 breaks settings known heard = broken_of settings known heard all_rules

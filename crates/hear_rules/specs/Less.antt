@@ -7,7 +7,7 @@ use Rattle.hear_rules.specs.declared.rule.Rule.{Rule}
 use Rattle.hear_rules.specs.declared.rule.Verdict.TheVariants.{Broken}
 use Rattle.hear_rules.specs.Facts.{Fact, Unknown, Nothing, Is, Sure, Yes, No, Unsure}
 use Rattle.hear_rules.specs.Known.{Number, Unheard, Nobodys, Of, Owner, Unclear, Free, Has, Known, known_whole, known_midway, asked_by, known_after, known_after_all}
-use Rattle.hear_rules.specs.Rules.{Settings, judge}
+use Rattle.hear_rules.specs.Rules.{Settings, judge_known}
 use Rattle.hear_rules.specs.Copies.{Subject, Sending, Cut, Silent, Once, Twice, Said, Sendings, sendings_heard, copies}
 use Rattle.gp_ploam.specs.declared.message.Down.{Down}
 
@@ -101,14 +101,14 @@ abbrev pub LessBreaksNoMore : Type 0
 LessBreaksNoMore =
     (settings : Settings) (less more : Known) (heard : Heard) (rule : Rule)
     → Less less more
-    → judge settings less heard rule ≡ Broken
-    → judge settings more heard rule ≡ Broken
+    → judge_known settings less heard rule ≡ Broken
+    → judge_known settings more heard rule ≡ Broken
 
 -- of each thing that is heard: what is broken by what the first knows is broken by what the second knows
 abbrev pub FindsNoMore : Settings → Known → Known → List Heard → Type 0
 FindsNoMore settings less more [] = Unit {0}
 FindsNoMore settings less more (heard ∷ others) =
-    ((rule : Rule) → judge settings less heard rule ≡ Broken → judge settings more heard rule ≡ Broken)
+    ((rule : Rule) → judge_known settings less heard rule ≡ Broken → judge_known settings more heard rule ≡ Broken)
     × FindsNoMore settings (known_after less heard) (known_after more heard) others
 
 -- a log is known from its beginning, or begins in the middle itself

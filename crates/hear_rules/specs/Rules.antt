@@ -19,10 +19,13 @@ use Rattle.hear_rules.specs.declared.rule.Verdict.TheVariants.{Kept, Broken, Not
 use Rattle.hear_rules.specs.Facts.{Fact, Unknown, Nothing, Is, Sure, Yes, No, Unsure, broken_if, broken_where, given, unless, broken_without, broken_unless, is_other}
 use Rattle.hear_rules.specs.Known.{Span, Bare, Between, Number, Unheard, Nobodys, Of, Owner, Unclear, Free, Has, Known, is_news}
 
--- the equalized delay, and by how many bit times an equalization delay may miss what the delays leave of it
+-- the equalized delay, by how many bit times an equalization delay may miss what the delays leave of it, by how many a
+-- unit may drift, and for how many frames behind a message it may still do as before
 pub record Settings : Type 0 where
   pub teqd : ℕ
   pub tolerance : ℕ
+  pub drift : ℕ
+  pub grace : ℕ
 
 -- ---- Assign_ONU-ID
 
@@ -217,12 +220,11 @@ abbrev pub overhead : Known → Grant → Verdict
 overhead known Search = no_overhead known.overhead
 overhead known _ = NotJudged
 
--- ---- each rule, of what is known and what is said
+-- ---- the rules of the terminal, of what is known and what is said
 
 abbrev pub judge_message : Settings → Known → Down → Rule → Verdict
 judge_message settings known _ rule.Garbled = Kept
 judge_message settings known message rule.Range = range message
-judge_message settings known _ rule.Overhead = NotJudged
 judge_message settings known message rule.Barred = barred known message
 judge_message settings known message rule.Unasked = unasked known message
 judge_message settings known message rule.Taken = taken known message
@@ -233,7 +235,7 @@ judge_message settings known message rule.Delay = delay settings known message
 judge_message settings known message rule.Early = early known message
 judge_message settings known message rule.Shared = shared known message
 judge_message settings known message rule.NotHeld = not_held known message
-judge_message settings known _ rule.Grant = NotJudged
+judge_message settings known message _ = NotJudged
 
 abbrev pub judge_grant : Known → Grant → Rule → Verdict
 judge_grant known grant rule.Overhead = overhead known grant
@@ -245,8 +247,8 @@ abbrev pub judge_garbled : Rule → Verdict
 judge_garbled rule.Garbled = Broken
 judge_garbled _ = NotJudged
 
-abbrev pub judge : Settings → Known → Heard → Rule → Verdict
-judge settings known (HeardDown None) rule = judge_garbled rule
-judge settings known (HeardDown (Some message)) rule = judge_message settings known message rule
-judge settings known (HeardUp message delay) rule = NotJudged
-judge settings known (HeardGrant grant) rule = judge_grant known grant rule
+abbrev pub judge_known : Settings → Known → Heard → Rule → Verdict
+judge_known settings known (HeardDown None) rule = judge_garbled rule
+judge_known settings known (HeardDown (Some message)) rule = judge_message settings known message rule
+judge_known settings known (HeardUp message delay) rule = NotJudged
+judge_known settings known (HeardGrant grant) rule = judge_grant known grant rule
