@@ -1,6 +1,6 @@
 -- Which messages change nothing that is known, and so no verdict after them (this profile's own rule; that a message is
 -- sent three times is G.984.3, clause 9).
-use Rattle.std.specs.Prelude.{◌≡◌, ℕ, ◌==◌, false, List, ◌∷◌, ◌++◌, Some}
+use Rattle.std.specs.Prelude.{◌≡◌, ◌⊎◌, ◌↔◌, ◌≤◌, ℕ, ◌==◌, false, List, ◌∷◌, ◌++◌, Some}
 use Rattle.std.specs.List.{list_any}
 use Rattle.gp_ploam.specs.declared.message.Down.{Down}
 use Rattle.gp_ploam.specs.declared.message.Down.TheVariants.{Other}
@@ -8,6 +8,8 @@ use Rattle.gp_observer.specs.Heard.{Heard, HeardDown}
 use Rattle.hear_rules.specs.declared.rule.Rule.{Rule}
 use Rattle.hear_rules.specs.Known.{Known, adjustment, after_message}
 use Rattle.hear_rules.specs.Rules.{Settings, directed}
+use Rattle.hear_rules.specs.declared.rule.Verdict.TheVariants.{Broken}
+use Rattle.hear_rules.specs.Copies.{Subject, OfNothing, subject_of, Sendings, sendings_heard, copies}
 use Rattle.hear_rules.specs.Findings.{breaks, findings}
 
 -- a message with an identifier of no table breaks nothing, and the findings of a log are the same with it and without
@@ -17,6 +19,24 @@ OutsideSaysNothing =
     → list_any (λ other. other == id) (adjustment ∷ directed) ≡ false
     → findings settings known (before ++ HeardDown (Some (Other id octet1 body)) ∷ later)
     ≡ findings settings known (before ++ later)
+
+-- a message that needn't be said three times, put in before something that is heard no earlier: the copies are kept as
+-- without it, and what either of the two finds cut short or overdue is found without it too, and nothing else
+pub record SaysNothingOf
+    (sendings : Sendings) (now later : ℕ) (message : Down) (heard : Heard) : Type 0 where
+  pub same : sendings_heard (sendings_heard sendings now (HeardDown (Some message))) later heard
+      ≡ sendings_heard sendings later heard
+  pub found : (subject : Subject)
+      → ((copies sendings now (HeardDown (Some message)) subject ≡ Broken)
+      ⊎ (copies (sendings_heard sendings now (HeardDown (Some message))) later heard subject ≡ Broken))
+      ↔ (copies sendings later heard subject ≡ Broken)
+
+abbrev pub OutsideCutsNothing : Type 0
+OutsideCutsNothing =
+    (sendings : Sendings) (now later : ℕ) (message : Down) (heard : Heard)
+    → subject_of message ≡ OfNothing
+    → now ≤ later
+    → SaysNothingOf sendings now later message heard
 
 -- a message that is said again changes nothing that is known
 abbrev pub CopiesSayNothing : Type 0

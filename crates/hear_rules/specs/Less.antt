@@ -149,3 +149,15 @@ pub record LessCutsNoMore : Type 0 where
       → LessSendings (sendings_heard less now heard) (sendings_heard more now heard)
   pub breaks : (less more : Sendings) (now : ℕ) (heard : Heard) (subject : Subject) → LessSendings less more
       → copies less now heard subject ≡ Broken → copies more now heard subject ≡ Broken
+
+-- of each thing that is heard in its frame
+abbrev pub CutsNoMore : Sendings → Sendings → List (ℕ × Heard) → Type 0
+CutsNoMore less more [] = Unit {0}
+CutsNoMore less more ((now, heard) ∷ others) =
+    ((subject : Subject) → copies less now heard subject ≡ Broken → copies more now heard subject ≡ Broken)
+    × CutsNoMore (sendings_heard less now heard) (sendings_heard more now heard) others
+
+-- who begins later, wherever that is, finds no copies cut short that who heard what was before doesn't find there
+abbrev pub LaterCutsNoMore : Type 0
+LaterCutsNoMore =
+    (sendings : Sendings) (later : List (ℕ × Heard)) → CutsNoMore (λ subject. Cut) sendings later
