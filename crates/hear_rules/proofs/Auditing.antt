@@ -19,7 +19,7 @@ use Rattle.hear_rules.specs.Known.{known_whole}
 use Rattle.hear_rules.specs.Notes.{Notes, notes_whole, notes_midway, notes_after}
 use Rattle.hear_rules.specs.Rules.{Settings, judge_known}
 use Rattle.hear_rules.specs.Sending.{NoneCutShort}
-use Rattle.hear_rules.specs.Audit.{worst, judge_copies, judge_granted, judge, other_rules, is_broken, cut_of, broken_by, Last, told_before, news_of, last_after, terminal_tells, terminal_from, TerminalIsInnocent, TerminalIsInnocentAnywhere}
+use Rattle.hear_rules.specs.Audit.{worst, judge_copies, judge_granted, judge, other_rules, is_broken, cut_of, broken_by, Last, told_before, news_of, last_after, terminal_tells, terminal_from, TerminalIsNotBlamed, TerminalIsNotBlamedAnywhere}
 use Rattle.hear_rules.proofs.Verdicts.{NotBroken, judged_not}
 use Rattle.hear_rules.proofs.Following.{NoneBroken}
 use Rattle.hear_rules.proofs.FollowingRuns.{run_goes, opening_follows}
@@ -114,21 +114,21 @@ module _ (settings : Settings) (notes : Notes) (now : ℕ) where
 
 -- ---- a log
 
-innocent : (settings : Settings) (notes : Notes) (last : Last) (timed : List (ℕ × Heard)) → NoneBroken settings notes.known (said_of timed) → NoneCutShort notes.sendings timed → terminal_from settings notes last timed ≡ []
-innocent settings notes last [] none uncut = refl
-innocent settings notes last ((now, x) ∷ timed) none uncut =
+not_blamed : (settings : Settings) (notes : Notes) (last : Last) (timed : List (ℕ × Heard)) → NoneBroken settings notes.known (said_of timed) → NoneCutShort notes.sendings timed → terminal_from settings notes last timed ≡ []
+not_blamed settings notes last [] none uncut = refl
+not_blamed settings notes last ((now, x) ∷ timed) none uncut =
     ap (λ (rs : List Rule). rs ++ terminal_from settings (notes_after settings notes now x) (last_after last x (broken_by settings notes now x other_rules)) timed) (tells_none settings notes now last x none.0 uncut.0)
-    ∙ innocent settings (notes_after settings notes now x) (last_after last x (broken_by settings notes now x other_rules)) timed none.1 uncut.1
+    ∙ not_blamed settings (notes_after settings notes now x) (last_after last x (broken_by settings notes now x other_rules)) timed none.1 uncut.1
 
-pub terminal_is_innocent : HearsOneThing → TerminalIsInnocent
-terminal_is_innocent one c q es now timed settings last run says teqd =
-    innocent settings notes_whole last timed
+pub terminal_is_not_blamed : HearsOneThing → TerminalIsNotBlamed
+terminal_is_not_blamed one c q es now timed settings last run says teqd =
+    not_blamed settings notes_whole last timed
     (run_goes one settings (opening_of c) q es (said_of timed) known_whole nothing_observed [] (sound_opening c) teqd (opening_follows settings c) run (run_says (mask_value c.mask) now es timed says)).none
     (sends_copies c q es now timed run says)
 
-pub terminal_is_innocent_anywhere : HearsOneThing → TerminalIsInnocentAnywhere
-terminal_is_innocent_anywhere one c q es now begun before later settings last run says teqd =
-    innocent settings (notes_midway begun) last later
+pub terminal_is_not_blamed_anywhere : HearsOneThing → TerminalIsNotBlamedAnywhere
+terminal_is_not_blamed_anywhere one c q es now begun before later settings last run says teqd =
+    not_blamed settings (notes_midway begun) last later
     (none_anywhere one settings c q es (said_of before) (said_of later) run
     (subst (λ (xs : List Heard). RunSays (mask_value c.mask) es xs) (said_parts before later) (run_says (mask_value c.mask) now es (before ++ later) says)) teqd)
     (sends_copies_anywhere c q es now before later run says)

@@ -97,7 +97,7 @@ broken_by settings notes now heard (rule ∷ rules) =
     then rule ∷ broken_by settings notes now heard rules
     else broken_by settings notes now heard rules
 
--- ---- that copies break a rule is told of the first
+-- ---- what copies break is told once
 
 -- the message that was sent last to each ONU-ID, and what it broke
 abbrev pub Last : Type 0
@@ -120,22 +120,14 @@ to_onu NoMessage = None
 to_onu (Popup onu) = Some onu
 to_onu (Other id octet1 body) = if list_any (λ other. other == id) directed then Some octet1 else None
 
--- these are told once of a message and its copies
-abbrev pub is_told_once : Rule → Bool
-is_told_once rule.Range = true
-is_told_once rule.Nobody = true
-is_told_once rule.NotHeld = true
-is_told_once rule.Early = true
-is_told_once rule.Delay = true
-is_told_once _ = false
-
-abbrev pub same_rule : Rule → Rule → Bool
-same_rule rule.Range rule.Range = true
-same_rule rule.Nobody rule.Nobody = true
-same_rule rule.NotHeld rule.NotHeld = true
-same_rule rule.Early rule.Early = true
-same_rule rule.Delay rule.Delay = true
-same_rule _ _ = false
+-- they are the same, and one of those that are told once of a message and its copies
+abbrev pub same_told_once : Rule → Rule → Bool
+same_told_once rule.Range rule.Range = true
+same_told_once rule.Nobody rule.Nobody = true
+same_told_once rule.NotHeld rule.NotHeld = true
+same_told_once rule.Early rule.Early = true
+same_told_once rule.Delay rule.Delay = true
+same_told_once _ _ = false
 
 -- the rules that this message broke when it was the last one to its ONU-ID
 abbrev pub broken_before : Option (Down × List Rule) → Down → List Rule
@@ -152,10 +144,11 @@ told_before last (HeardDown (Some message)) = before_at last (to_onu message) me
 told_before last (HeardUp message delay) = []
 told_before last (HeardGrant grant) = []
 
+-- what wasn't told before
 abbrev pub news_of : List Rule → List Rule → List Rule
 news_of before [] = []
 news_of before (rule ∷ rules) =
-    if list_any (λ other. same_rule other rule) before then news_of before rules else rule ∷ news_of before rules
+    if list_any (λ other. same_told_once other rule) before then news_of before rules else rule ∷ news_of before rules
 
 abbrev pub last_at : Last → Option ℕ → Down → List Rule → Last
 last_at last None message rules = last
@@ -202,9 +195,9 @@ terminal_from settings notes last ((now, heard) ∷ others) =
     ++ terminal_from settings (notes_after settings notes now heard)
     (last_after last heard (broken_by settings notes now heard other_rules)) others
 
--- in no run from an opening the terminal is told of, whatever bursts came, and in whatever frame it begins
-abbrev pub TerminalIsInnocent : Type 0
-TerminalIsInnocent =
+-- of no run from an opening anything is told of the terminal, whatever bursts came, and in whatever frame it begins
+abbrev pub TerminalIsNotBlamed : Type 0
+TerminalIsNotBlamed =
     (config : PortConfig) (final : PortState) (entries : List Entry) (now : ℕ) (timed : List (ℕ × Heard))
     (settings : Settings) (last : Last)
     → Run (opening_of config) entries final
@@ -212,9 +205,9 @@ TerminalIsInnocent =
     → settings.teqd ≡ config.teqd
     → terminal_from settings notes_whole last timed ≡ []
 
--- nor is it to who hears what is said from any point on
-abbrev pub TerminalIsInnocentAnywhere : Type 0
-TerminalIsInnocentAnywhere =
+-- nor to who hears what is said from any point on
+abbrev pub TerminalIsNotBlamedAnywhere : Type 0
+TerminalIsNotBlamedAnywhere =
     (config : PortConfig) (final : PortState) (entries : List Entry) (now begun : ℕ)
     (before later : List (ℕ × Heard)) (settings : Settings) (last : Last)
     → Run (opening_of config) entries final

@@ -39,7 +39,7 @@ abbrev pub judged_if : Bool → Verdict → Verdict
 judged_if true verdict = verdict
 judged_if false verdict = NotJudged
 
--- of 254 and 255 `range` alone is told
+-- of 254 and 255 `range` alone is needs_holder
 abbrev pub assigning : ℕ → Verdict → Verdict
 assigning onu verdict = judged_if (is_unit_number onu) verdict
 
@@ -94,12 +94,12 @@ directed = 4 ∷ 8 ∷ 9 ∷ 10 ∷ 12 ∷ 13 ∷ 14 ∷ 16 ∷ 18 ∷ 19 ∷ []
 abbrev pub to_one : ℕ → Option ℕ
 to_one onu = if onu == broadcast_onu then None else Some onu
 
-abbrev pub told : Down → Option ℕ
-told (RangingTime onu eqd) = Some onu
-told (AssignAlloc onu alloc keep) = Some onu
-told (Popup onu) = to_one onu
-told (Other id octet1 body) = if list_any (λ other. other == id) directed then to_one octet1 else None
-told _ = None
+abbrev pub needs_holder : Down → Option ℕ
+needs_holder (RangingTime onu eqd) = Some onu
+needs_holder (AssignAlloc onu alloc keep) = Some onu
+needs_holder (Popup onu) = to_one onu
+needs_holder (Other id octet1 body) = if list_any (λ other. other == id) directed then to_one octet1 else None
+needs_holder _ = None
 
 -- `nobody`: to one that nobody holds; judged of each copy
 abbrev pub held_by_none : Number → Verdict
@@ -112,7 +112,7 @@ nobody_to known None = NotJudged
 nobody_to known (Some onu) = held_by_none (known.numbers onu)
 
 abbrev pub nobody : Known → Down → Verdict
-nobody known message = nobody_to known (told message)
+nobody known message = nobody_to known (needs_holder message)
 
 -- of a message to an ONU-ID that nobody holds the rules below aren't judged
 abbrev pub to_holder : Number → Verdict → Verdict

@@ -24,47 +24,47 @@ use Rattle.hear_rules.specs.Rules.{Settings, judged_if}
 
 -- ---- by which message a unit goes
 
--- how often it was sent, and in which frame last
-pub data Told : Type 0 where
+-- the message, how often it was sent, and in which frame last
+pub data Notice : Type 0 where
   -- it isn't known which one it is
-  Untold : Told
+  NoticeUnknown : Notice
   -- none was sent since the beginning
-  ToldNone : Told
-  ToldBy : (message : Down) (times : ℕ) (last : ℕ) → Told
+  NoNotice : Notice
+  NoticeOf : (message : Down) (times : ℕ) (last : ℕ) → Notice
 
 -- the message that gave or took an ONU-ID, or its Ranging_Time; and the one by which a serial number got or lost its
 -- ONU-ID, or was disabled or enabled
 pub record Notices : Type 0 where
-  pub onu : ℕ → Told
-  pub delay : ℕ → Told
-  pub serial : Serial → Told
+  pub onu : ℕ → Notice
+  pub delay : ℕ → Notice
+  pub serial : Serial → Notice
 
 -- from the first message on, and from the middle on
 abbrev pub notices_whole : Notices
-notices_whole = record { onu = λ onu. ToldNone; delay = λ onu. ToldNone; serial = λ serial. ToldNone }
+notices_whole = record { onu = λ onu. NoNotice; delay = λ onu. NoNotice; serial = λ serial. NoNotice }
 
 abbrev pub notices_midway : Notices
-notices_midway = record { onu = λ onu. Untold; delay = λ onu. Untold; serial = λ serial. Untold }
+notices_midway = record { onu = λ onu. NoticeUnknown; delay = λ onu. NoticeUnknown; serial = λ serial. NoticeUnknown }
 
 -- the message is said in this frame: it is a copy, or another one
-abbrev pub told_again : Told → ℕ → Down → Told
-told_again Untold now message = ToldBy message 1 now
-told_again ToldNone now message = ToldBy message 1 now
-told_again (ToldBy told times last) now message =
-    if same_message told message then ToldBy told (suc times) now else ToldBy message 1 now
+abbrev pub notice_again : Notice → ℕ → Down → Notice
+notice_again NoticeUnknown now message = NoticeOf message 1 now
+notice_again NoNotice now message = NoticeOf message 1 now
+notice_again (NoticeOf said times last) now message =
+    if same_message said message then NoticeOf said (suc times) now else NoticeOf message 1 now
 
 -- it may be a copy
-abbrev pub told_copy : Told → ℕ → Down → Told
-told_copy Untold now message = Untold
-told_copy ToldNone now message = ToldNone
-told_copy (ToldBy told times last) now message =
-    if same_message told message then ToldBy told (suc times) now else ToldBy told times last
+abbrev pub notice_copy : Notice → ℕ → Down → Notice
+notice_copy NoticeUnknown now message = NoticeUnknown
+notice_copy NoNotice now message = NoNotice
+notice_copy (NoticeOf said times last) now message =
+    if same_message said message then NoticeOf said (suc times) now else NoticeOf said times last
 
--- where it is known whether it is told by it
-abbrev pub told_where : Sure → ℕ → Down → Told → Told
-told_where Yes now message told = told_again told now message
-told_where No now message told = told_copy told now message
-told_where Unsure now message told = Untold
+-- where it is known whether it goes by it
+abbrev pub notice_where : Sure → ℕ → Down → Notice → Notice
+notice_where Yes now message notice = notice_again notice now message
+notice_where No now message notice = notice_copy notice now message
+notice_where Unsure now message notice = NoticeUnknown
 
 -- the unit of this serial number holds the ONU-ID
 abbrev pub held_by : Number → Serial → Sure
@@ -95,19 +95,19 @@ tells_serial known _ other = No
 abbrev pub notices_after : Known → Notices → ℕ → Down → Notices
 notices_after known notices now message =
     record {
-      onu = λ onu. told_where (tells_onu known message onu) now message (notices.onu onu);
-      delay = λ onu. told_where (tells_delay message onu) now message (notices.delay onu);
-      serial = λ serial. told_where (tells_serial known message serial) now message (notices.serial serial);
+      onu = λ onu. notice_where (tells_onu known message onu) now message (notices.onu onu);
+      delay = λ onu. notice_where (tells_delay message onu) now message (notices.delay onu);
+      serial = λ serial. notice_where (tells_serial known message serial) now message (notices.serial serial);
     }
 
 -- it was sent three times, and its unit had the time to act
-abbrev pub is_settled : ℕ → ℕ → Told → Bool
-is_settled grace now Untold = false
-is_settled grace now ToldNone = true
-is_settled grace now (ToldBy message times last) = nat_le 3 times && nat_lt (last + grace) now
+abbrev pub is_settled : ℕ → ℕ → Notice → Bool
+is_settled grace now NoticeUnknown = false
+is_settled grace now NoNotice = true
+is_settled grace now (NoticeOf message times last) = nat_le 3 times && nat_lt (last + grace) now
 
-abbrev pub after_grace : Settings → ℕ → Told → Verdict → Verdict
-after_grace settings now told verdict = judged_if (is_settled settings.grace now told) verdict
+abbrev pub after_grace : Settings → ℕ → Notice → Verdict → Verdict
+after_grace settings now notice verdict = judged_if (is_settled settings.grace now notice) verdict
 
 -- ---- `disabled`, `anew`: it asks though it is disabled, or holds an ONU-ID
 
@@ -303,10 +303,10 @@ pub data Owing : Type 0 where
   -- it acknowledged it
   Acknowledged : (message : Down) → Owing
 
-abbrev pub is_third : Told → Bool
-is_third Untold = false
-is_third ToldNone = false
-is_third (ToldBy message times last) = nat_le 3 times
+abbrev pub is_third : Notice → Bool
+is_third NoticeUnknown = false
+is_third NoNotice = false
+is_third (NoticeOf message times last) = nat_le 3 times
 
 abbrev pub owes_first : Bool → ℕ → Down → Owing
 owes_first true now message = Owes message 1 now 0
