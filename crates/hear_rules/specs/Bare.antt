@@ -1,11 +1,13 @@
 -- A log without delays: the same is found in it, but for the rule of delays (this profile's own rule).
-use Rattle.std.specs.Prelude.{◌≡◌, List, [], ◌∷◌, ◌++◌, map, None}
+use Rattle.std.specs.Prelude.{◌≡◌, ℕ, Bool, true, false, List, [], ◌∷◌, ◌++◌, map, None}
 use Rattle.gp_observer.specs.Heard.{Heard, HeardDown, HeardUp, HeardGrant}
 use Rattle.hear_rules.specs.declared.rule.Rule.{Rule}
 use Rattle.hear_rules.specs.declared.rule.Rule.TheVariants as rule
 use Rattle.hear_rules.specs.Known.{Known, known_whole, known_midway, known_after}
 use Rattle.hear_rules.specs.Rules.{Settings}
 use Rattle.hear_rules.specs.Findings.{broken_of}
+use Rattle.hear_rules.specs.Notes.{Notes, notes_whole, notes_midway, notes_after}
+use Rattle.hear_rules.specs.Audit.{judge}
 
 -- the delay is left out
 abbrev pub without_delay : Heard → Heard
@@ -34,3 +36,26 @@ abbrev pub DelaysFindNoOther : Type 0
 DelaysFindNoOther =
     (settings : Settings) (said : List Heard)
     → FindsTheSame settings known_whole said × FindsTheSame settings known_midway said
+
+-- ---- along the frames, of all rules
+
+abbrev pub goes_by_delay : Rule → Bool
+goes_by_delay rule.Delay = true
+goes_by_delay rule.Drift = true
+goes_by_delay _ = false
+
+-- each rule but these answers of each thing that is heard without its delay what it answers of it with it
+abbrev pub JudgesTheSame : Settings → Notes → Notes → List (ℕ × Heard) → Type 0
+JudgesTheSame settings bare notes [] = Unit {0}
+JudgesTheSame settings bare notes ((now, heard) ∷ others) =
+    ((rule : Rule) → goes_by_delay rule ≡ false
+    → judge settings bare now (without_delay heard) rule ≡ judge settings notes now heard rule)
+    × JudgesTheSame settings (notes_after settings bare now (without_delay heard))
+    (notes_after settings notes now heard) others
+
+-- from the beginning of a log, or from the middle
+abbrev pub DelaysJudgeNoOther : Type 0
+DelaysJudgeNoOther =
+    (settings : Settings) (begun : ℕ) (timed : List (ℕ × Heard))
+    → JudgesTheSame settings notes_whole notes_whole timed
+    × JudgesTheSame settings (notes_midway begun) (notes_midway begun) timed
