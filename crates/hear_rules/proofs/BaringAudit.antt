@@ -13,8 +13,7 @@ use Rattle.gp_ploam.specs.Serials.{same_serial}
 use Rattle.gp_observer.specs.Heard.{Heard, HeardDown, HeardUp, HeardGrant}
 use Rattle.hear_rules.specs.declared.rule.Rule.{Rule}
 use Rattle.hear_rules.specs.declared.rule.Rule.TheVariants as rule
-use Rattle.hear_rules.specs.declared.rule.Verdict.{Verdict}
-use Rattle.hear_rules.specs.Facts.{Sure, Yes}
+use Rattle.hear_rules.specs.Facts.{Yes}
 use Rattle.hear_rules.specs.Known.{Number, Unheard, Nobodys, Of, Known, after_message}
 use Rattle.hear_rules.specs.Rules.{Settings, judged_if}
 use Rattle.hear_rules.specs.Copies.{Subject, OfNothing, OfHolder, OfDelay, OfAlloc, OfSerial, OfAllOnus, OfAllSerials, Sendings, copies}

@@ -1,6 +1,6 @@
 -- Which messages change nothing that is known, and so no verdict after them (this profile's own rule; that a message is
 -- sent three times is G.984.3, clause 9).
-use Rattle.std.specs.Prelude.{◌≡◌, ◌⊎◌, ◌↔◌, ◌≤◌, ℕ, ◌==◌, false, List, ◌∷◌, ◌++◌, Some}
+use Rattle.std.specs.Prelude.{◌≡◌, ◌⊎◌, ◌↔◌, ◌≤◌, ℕ, ◌==◌, true, false, List, ◌∷◌, ◌++◌, Some}
 use Rattle.std.specs.List.{list_any}
 use Rattle.gp_ploam.specs.declared.message.Down.{Down}
 use Rattle.gp_ploam.specs.declared.message.Down.TheVariants.{Other}
@@ -9,7 +9,7 @@ use Rattle.hear_rules.specs.declared.rule.Rule.{Rule}
 use Rattle.hear_rules.specs.Known.{Known, adjustment, after_message}
 use Rattle.hear_rules.specs.Rules.{Settings, directed}
 use Rattle.hear_rules.specs.declared.rule.Verdict.TheVariants.{Broken}
-use Rattle.hear_rules.specs.Copies.{Subject, OfNothing, subject_of, Sendings, sendings_heard, copies}
+use Rattle.hear_rules.specs.Copies.{Subject, OfNothing, subject_of, same_subject, ends, Silent, Twice, Said, Sendings, sendings_after, sendings_at, sendings_heard, copies_heard, copies}
 use Rattle.hear_rules.specs.Findings.{breaks, findings}
 
 -- a message with an identifier of no table breaks nothing, and the findings of a log are the same with it and without
@@ -37,6 +37,33 @@ OutsideCutsNothing =
     → subject_of message ≡ OfNothing
     → now ≤ later
     → SaysNothingOf sendings now later message heard
+
+-- its third copy came, and nothing is kept of what it ended
+pub record IsOver (sendings : Sendings) (message : Down) : Type 0 where
+  pub said : sendings (subject_of message) ≡ Said message
+  pub ended : (subject : Subject) → ends (subject_of message) subject ≡ true → sendings subject ≡ Silent
+
+-- neither message is about what the other is about, or ends it
+pub record IsApart (message other : Down) : Type 0 where
+  pub differs : same_subject (subject_of message) (subject_of other) ≡ false
+  pub stays : ends (subject_of other) (subject_of message) ≡ false
+  pub leaves : ends (subject_of message) (subject_of other) ≡ false
+
+-- so it is with the third copy, and stays so while messages are sent that are apart from it, and time goes by; and a
+-- further copy changes nothing of the copies, and breaks nothing
+pub record FurtherCutsNothing : Type 0 where
+  pub third : (sendings : Sendings) (now at : ℕ) (message : Down)
+      → same_subject (subject_of message) OfNothing ≡ false
+      → sendings (subject_of message) ≡ Twice message at
+      → IsOver (sendings_after sendings now message) message
+  pub stays : (sendings : Sendings) (now : ℕ) (message other : Down) → IsApart message other → IsOver sendings message
+      → IsOver (sendings_after sendings now other) message
+  pub waits : (sendings : Sendings) (now : ℕ) (message : Down) → IsOver sendings message
+      → IsOver (sendings_at sendings now) message
+  pub same : (sendings : Sendings) (now : ℕ) (message : Down) → IsOver sendings message
+      → sendings_after sendings now message ≡ sendings
+  pub none : (sendings : Sendings) (message : Down) (subject : Subject) → IsOver sendings message
+      → copies_heard (sendings subject) (HeardDown (Some message)) subject ≡ Broken → ⊥
 
 -- a message that is said again changes nothing that is known
 abbrev pub CopiesSayNothing : Type 0
