@@ -131,11 +131,11 @@ same_told_once _ _ = false
 
 -- the rules that this message broke when it was the last one to its ONU-ID
 abbrev pub broken_before : Option (Down × List Rule) → Down → List Rule
-broken_before None message = []
+broken_before None _ = []
 broken_before (Some (last, rules)) message = if same_message last message then rules else []
 
 abbrev pub before_at : Last → Option ℕ → Down → List Rule
-before_at last None message = []
+before_at last None _ = []
 before_at last (Some onu) message = broken_before (last onu) message
 
 abbrev pub told_before : Last → Heard → List Rule
@@ -151,7 +151,7 @@ news_of before (rule ∷ rules) =
     if list_any (λ other. same_told_once other rule) before then news_of before rules else rule ∷ news_of before rules
 
 abbrev pub last_at : Last → Option ℕ → Down → List Rule → Last
-last_at last None message rules = last
+last_at last None _ rules = last
 last_at last (Some onu) message rules = λ other. if other == onu then Some (message, rules) else last other
 
 abbrev pub last_after : Last → Heard → List Rule → Last

@@ -133,11 +133,11 @@ sendings_heard sendings now heard = sendings_with (sendings_at sendings now) now
 -- ---- the rule, of a subject: kept with the third copy, broken once another message comes before, or it is overdue
 
 abbrev pub cut_short : Sending → Down → Verdict
-cut_short Cut message = NotJudged
-cut_short Silent message = NotJudged
+cut_short Cut _ = NotJudged
+cut_short Silent _ = NotJudged
 cut_short (Once last at) message = if same_message last message then NotJudged else Broken
 cut_short (Twice last at) message = if same_message last message then Kept else Broken
-cut_short (Said last) message = NotJudged
+cut_short (Said last) _ = NotJudged
 
 abbrev pub ended : Sending → Verdict
 ended Cut = NotJudged

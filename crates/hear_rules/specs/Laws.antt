@@ -1,9 +1,12 @@
 -- Which messages change nothing that is known, and so no verdict after them (this profile's own rule; that a message is
 -- sent three times is G.984.3, clause 9).
-use Rattle.std.specs.Prelude.{◌≡◌, ◌⊎◌, ◌↔◌, ◌≤◌, ℕ, ◌==◌, true, false, List, ◌∷◌, ◌++◌, Some}
+use Rattle.std.specs.Prelude.{◌≡◌, ◌⊎◌, ◌↔◌, ◌≤◌, ℕ, ◌==◌, ◌&&◌, ◌||◌, Bool, true, false, List, ◌∷◌, ◌++◌, Some}
 use Rattle.std.specs.List.{list_any}
 use Rattle.gp_ploam.specs.declared.message.Down.{Down}
-use Rattle.gp_ploam.specs.declared.message.Down.TheVariants.{Other}
+use Rattle.gp_ploam.specs.declared.message.Serial.{Serial}
+use Rattle.gp_ploam.specs.declared.message.Down.TheVariants.{AssignOnu, RangingTime, Deactivate, DisableSerial, EnableSerial, EnableAll, AssignAlloc, Popup, Other}
+use Rattle.gp_ploam.specs.OnuIds.{broadcast_onu}
+use Rattle.gp_ploam.specs.Serials.{same_serial}
 use Rattle.gp_observer.specs.Heard.{Heard, HeardDown}
 use Rattle.hear_rules.specs.declared.rule.Rule.{Rule}
 use Rattle.hear_rules.specs.Known.{Known, adjustment, after_message}
@@ -98,3 +101,33 @@ RepetitionsChangePlaces =
     × (breaks_down settings (after_message known other) one ≡ breaks_down settings known one)
     × (findings settings (after_message (after_message known one) other) later
     ≡ findings settings (after_message (after_message known other) one) later)
+
+-- ---- a message that is said once more, behind others
+
+-- the message says something of this ONU-ID, or of all
+abbrev pub names_onu : Down → ℕ → Bool
+names_onu (AssignOnu onu serial) other = onu == other
+names_onu (RangingTime onu eqd) other = onu == other
+names_onu (Deactivate onu) other = onu == broadcast_onu || onu == other
+names_onu (AssignAlloc onu alloc keep) other = onu == other
+names_onu (Popup onu) other = onu == broadcast_onu || onu == other
+names_onu (Other id onu body) other = id == adjustment && (onu == broadcast_onu || onu == other)
+names_onu _ other = false
+
+-- of this serial number, or of all
+abbrev pub names_serial : Down → Serial → Bool
+names_serial (AssignOnu onu serial) other = same_serial other serial
+names_serial (DisableSerial serial) other = same_serial other serial
+names_serial (EnableSerial serial) other = same_serial other serial
+names_serial EnableAll other = true
+names_serial _ other = false
+
+-- a repetition stays one behind a message that says nothing of what it is about
+pub record StaysRepetition : Type 0 where
+  pub range : (known : Known) (message : Down) (onu eqd : ℕ) → names_onu message onu ≡ false
+      → IsRepetition known (RangingTime onu eqd) → IsRepetition (after_message known message) (RangingTime onu eqd)
+  pub drop : (known : Known) (message : Down) (onu : ℕ) → names_onu message onu ≡ false
+      → (onu == broadcast_onu) ≡ false
+      → IsRepetition known (Deactivate onu) → IsRepetition (after_message known message) (Deactivate onu)
+  pub enable : (known : Known) (message : Down) (serial : Serial) → names_serial message serial ≡ false
+      → IsRepetition known (EnableSerial serial) → IsRepetition (after_message known message) (EnableSerial serial)

@@ -127,8 +127,8 @@ LaterFindsNoMore =
 
 -- what was sent last about a subject: where it isn't known how often, that is less
 abbrev pub IsOfMessage : Sending → Down → Type 0
-IsOfMessage Cut message = ⊥
-IsOfMessage Silent message = ⊥
+IsOfMessage Cut _ = ⊥
+IsOfMessage Silent _ = ⊥
 IsOfMessage (Once last at) message = last ≡ message
 IsOfMessage (Twice last at) message = last ≡ message
 IsOfMessage (Said last) message = last ≡ message

@@ -57,9 +57,9 @@ notes_midway begun =
 abbrev pub is_open : Sending → Bool
 is_open Cut = false
 is_open Silent = false
-is_open (Once message at) = true
-is_open (Twice message at) = true
-is_open (Said message) = false
+is_open (Once _ at) = true
+is_open (Twice _ at) = true
+is_open (Said _) = false
 
 -- those that are still open, without this one
 abbrev pub still_open : Sendings → Subject → List Subject → List Subject
@@ -112,7 +112,7 @@ grants_heard settings notes now (HeardGrant grant) = grants_after settings.grace
 
 abbrev pub down_heard : Bool → Heard → Bool
 down_heard down (HeardDown None) = down
-down_heard down (HeardDown (Some message)) = true
+down_heard down (HeardDown (Some _)) = true
 down_heard down (HeardUp message delay) = down
 down_heard down (HeardGrant grant) = down
 

@@ -235,7 +235,7 @@ judge_message settings known message rule.Delay = delay settings known message
 judge_message settings known message rule.Early = early known message
 judge_message settings known message rule.Shared = shared known message
 judge_message settings known message rule.NotHeld = not_held known message
-judge_message settings known message _ = NotJudged
+judge_message settings known _ _ = NotJudged
 
 abbrev pub judge_grant : Known → Grant → Rule → Verdict
 judge_grant known grant rule.Overhead = overhead known grant

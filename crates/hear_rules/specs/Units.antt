@@ -55,8 +55,8 @@ notice_again (NoticeOf said times last) now message =
 
 -- it may be a copy
 abbrev pub notice_copy : Notice → ℕ → Down → Notice
-notice_copy NoticeUnknown now message = NoticeUnknown
-notice_copy NoNotice now message = NoNotice
+notice_copy NoticeUnknown now _ = NoticeUnknown
+notice_copy NoNotice now _ = NoNotice
 notice_copy (NoticeOf said times last) now message =
     if same_message said message then NoticeOf said (suc times) now else NoticeOf said times last
 
@@ -64,7 +64,7 @@ notice_copy (NoticeOf said times last) now message =
 abbrev pub notice_where : Sure → ℕ → Down → Notice → Notice
 notice_where Yes now message notice = notice_again notice now message
 notice_where No now message notice = notice_copy notice now message
-notice_where Unsure now message notice = NoticeUnknown
+notice_where Unsure now _ _ = NoticeUnknown
 
 -- the unit of this serial number holds the ONU-ID
 abbrev pub held_by : Number → Serial → Sure
@@ -104,7 +104,7 @@ notices_after known notices now message =
 abbrev pub is_settled : ℕ → ℕ → Notice → Bool
 is_settled grace now NoticeUnknown = false
 is_settled grace now NoNotice = true
-is_settled grace now (NoticeOf message times last) = nat_le 3 times && nat_lt (last + grace) now
+is_settled grace now (NoticeOf _ times last) = nat_le 3 times && nat_lt (last + grace) now
 
 abbrev pub after_grace : Settings → ℕ → Notice → Verdict → Verdict
 after_grace settings now notice verdict = judged_if (is_settled settings.grace now notice) verdict
@@ -306,11 +306,11 @@ pub data Owing : Type 0 where
 abbrev pub is_third : Notice → Bool
 is_third NoticeUnknown = false
 is_third NoNotice = false
-is_third (NoticeOf message times last) = nat_le 3 times
+is_third (NoticeOf _ times last) = nat_le 3 times
 
 abbrev pub owes_first : Bool → ℕ → Down → Owing
 owes_first true now message = Owes message 1 now 0
-owes_first false now message = OwesNone
+owes_first false now _ = OwesNone
 
 abbrev pub owing_sent : Bool → Owing → ℕ → Down → Owing
 owing_sent ranged OwesNone now message = owes_first ranged now message
@@ -341,8 +341,8 @@ owing_after known notices owing now _ other = owing other
 -- it had the time to acknowledge
 abbrev pub is_due : ℕ → ℕ → Owing → Bool
 is_due grace now OwesNone = false
-is_due grace now (Owes message times last silent) = nat_le 3 times && nat_lt (last + grace) now
-is_due grace now (Acknowledged message) = false
+is_due grace now (Owes _ times last silent) = nat_le 3 times && nat_lt (last + grace) now
+is_due grace now (Acknowledged _) = false
 
 abbrev pub silent_once : Owing → Owing
 silent_once OwesNone = OwesNone
@@ -364,13 +364,13 @@ owing_with grace owing now _ other = owing other
 -- told with the third one
 abbrev pub silent_of : Owing → Verdict
 silent_of OwesNone = NotJudged
-silent_of (Owes message times last silent) = if silent == 2 then Broken else NotJudged
-silent_of (Acknowledged message) = NotJudged
+silent_of (Owes _ times last silent) = if silent == 2 then Broken else NotJudged
+silent_of (Acknowledged _) = NotJudged
 
 abbrev pub kept_of : Owing → Verdict
 kept_of OwesNone = NotJudged
-kept_of (Owes message times last silent) = Kept
-kept_of (Acknowledged message) = NotJudged
+kept_of (Owes _ times last silent) = Kept
+kept_of (Acknowledged _) = NotJudged
 
 abbrev pub unacknowledged : Settings → (ℕ → Owing) → ℕ → Up → Verdict
 unacknowledged settings owing now (up.NoMessage onu) =
