@@ -1,0 +1,207 @@
+-- Without delays each rule that doesn't go by them answers the same, along the frames of a log.
+use Rattle.std.proofs.Common.{◌≡◌, ℕ, ◌==◌, Bool, true, false, cond, List, [], ◌∷◌, Option, None, Some, refl, sym, ap, subst, ◌∙◌}
+use mathlib.Core.Path.{fun_ext}
+use Rattle.std.proofs.lemmas.Bool.{false≢true}
+use Rattle.gp_ploam.specs.declared.message.Serial.{Serial}
+use Rattle.gp_ploam.specs.declared.message.Down.{Down}
+use Rattle.gp_ploam.specs.declared.message.Down.TheVariants.{UpstreamOverhead, AssignOnu, RangingTime, Deactivate, DisableSerial, EnableSerial, EnableAll, AssignAlloc, NoMessage, Popup, Other}
+use Rattle.gp_ploam.specs.declared.message.Up.{Up}
+use Rattle.gp_ploam.specs.declared.message.Up.TheVariants.{SerialNumber}
+use Rattle.gp_ploam.specs.declared.message.Up.TheVariants as up
+use Rattle.gp_ploam.specs.Up.{octet1_of}
+use Rattle.gp_ploam.specs.Serials.{same_serial}
+use Rattle.gp_observer.specs.Heard.{Heard, HeardDown, HeardUp, HeardGrant}
+use Rattle.hear_rules.specs.declared.rule.Rule.{Rule}
+use Rattle.hear_rules.specs.declared.rule.Rule.TheVariants as rule
+use Rattle.hear_rules.specs.Facts.{Yes}
+use Rattle.hear_rules.specs.Known.{Number, Unheard, Nobodys, Of, Known, after_message}
+use Rattle.hear_rules.specs.Rules.{Settings, judged_if}
+use Rattle.hear_rules.specs.Copies.{Subject, OfNothing, OfHolder, OfDelay, OfAlloc, OfSerial, OfAllOnus, OfAllSerials, Sendings, copies}
+use Rattle.hear_rules.specs.Units.{Notices, held_by, tells_onu, tells_delay, tells_serial, notice_where, notices_after, Sent, unless_lost, lost_again, lost_anew, sent_after, Owing, unless_gone, owing_after, after_grace, disabled, anew, number_of, with_none, number}
+use Rattle.hear_rules.specs.Notes.{Notes, notes_whole, notes_midway, notes_after}
+use Rattle.hear_rules.specs.Audit.{worst, judge_copies, judge_answer, judge_granted, judge}
+use Rattle.hear_rules.specs.Bare.{without_delay, goes_by_delay, JudgesTheSame, DelaysJudgeNoOther}
+use Rattle.hear_rules.proofs.Baring.{bared_number, bared, lost_by_bared, message_bared, heard_bared, IsOther, judged_same}
+
+-- ---- what is kept
+
+held_bared : (x : Number) (s : Serial) → held_by (bared_number x) s ≡ held_by x s
+held_bared Unheard s = refl
+held_bared Nobodys s = refl
+held_bared (Of t d a) s = refl
+
+again_bared : (x : Number) (s : Serial) → lost_again (bared_number x) s ≡ lost_again x s
+again_bared Unheard s = refl
+again_bared Nobodys s = refl
+again_bared (Of t d a) s = refl
+
+module _ (k : Known) where
+  onu_same : (m : Down) (j : ℕ) → tells_onu (bared k) m j ≡ tells_onu k m j
+  onu_same (AssignOnu n s) j = ap (cond (j == n) Yes) (lost_by_bared (k.numbers j) s)
+  onu_same (DisableSerial s) j = lost_by_bared (k.numbers j) s
+  onu_same (UpstreamOverhead burst) j = refl
+  onu_same (RangingTime n e) j = refl
+  onu_same (Deactivate n) j = refl
+  onu_same (EnableSerial s) j = refl
+  onu_same EnableAll j = refl
+  onu_same (AssignAlloc n a keep) j = refl
+  onu_same NoMessage j = refl
+  onu_same (Popup n) j = refl
+  onu_same (Other id octet1 body) j = refl
+
+  serial_same : (m : Down) (t : Serial) → tells_serial (bared k) m t ≡ tells_serial k m t
+  serial_same (AssignOnu n s) t = ap (cond (same_serial t s) Yes) (held_bared (k.numbers n) t)
+  serial_same (Deactivate n) t = ap (cond (n == 255) Yes) (held_bared (k.numbers n) t)
+  serial_same (UpstreamOverhead burst) t = refl
+  serial_same (RangingTime n e) t = refl
+  serial_same (DisableSerial s) t = refl
+  serial_same (EnableSerial s) t = refl
+  serial_same EnableAll t = refl
+  serial_same (AssignAlloc n a keep) t = refl
+  serial_same NoMessage t = refl
+  serial_same (Popup n) t = refl
+  serial_same (Other id octet1 body) t = refl
+
+  notices_same : (notices : Notices) (now : ℕ) (m : Down) → notices_after (bared k) notices now m ≡ notices_after k notices now m
+  notices_same notices now m =
+      λ i. record {
+        onu = fun_ext (λ j. ap (λ x. notice_where x now m (notices.onu j)) (onu_same m j)) i;
+        delay = λ j. notice_where (tells_delay m j) now m (notices.delay j);
+        serial = fun_ext (λ t. ap (λ x. notice_where x now m (notices.serial t)) (serial_same m t)) i;
+      }
+
+  anew_same : (n : ℕ) (s : Serial) (j : ℕ) → lost_anew (bared k) n s j ≡ lost_anew k n s j
+  anew_same n s j = by_own (j == n)
+    where
+      by_own : (b : Bool) → cond b (lost_again ((bared k).numbers j) s) (Rattle.hear_rules.specs.Known.lost_by ((bared k).numbers j) s) ≡ cond b (lost_again (k.numbers j) s) (Rattle.hear_rules.specs.Known.lost_by (k.numbers j) s)
+      by_own true = again_bared (k.numbers j) s
+      by_own false = lost_by_bared (k.numbers j) s
+
+  sent_same : (sent : Sent) (m : Down) → sent_after (bared k) sent m ≡ sent_after k sent m
+  sent_same sent (AssignOnu n s) =
+      λ i. record {
+        any = fun_ext (λ j. ap (λ x. unless_lost x (sent.any j)) (anew_same n s j)) i;
+        alloc = fun_ext (λ j. fun_ext (λ a. ap (λ x. unless_lost x (sent.alloc j a)) (anew_same n s j))) i;
+      }
+  sent_same sent (UpstreamOverhead burst) = refl
+  sent_same sent (RangingTime n e) = refl
+  sent_same sent (Deactivate n) = refl
+  sent_same sent (DisableSerial s) = refl
+  sent_same sent (EnableSerial s) = refl
+  sent_same sent EnableAll = refl
+  sent_same sent (AssignAlloc n a keep) = refl
+  sent_same sent NoMessage = refl
+  sent_same sent (Popup n) = refl
+  sent_same sent (Other id octet1 body) = refl
+
+  owing_same : (notices : Notices) (owing : ℕ → Owing) (now : ℕ) (m : Down) (j : ℕ) → owing_after (bared k) notices owing now m j ≡ owing_after k notices owing now m j
+  owing_same notices owing now (AssignOnu n s) j = ap (λ x. unless_gone x (owing j)) (anew_same n s j)
+  owing_same notices owing now (DisableSerial s) j = ap (λ x. unless_gone x (owing j)) (lost_by_bared (k.numbers j) s)
+  owing_same notices owing now (UpstreamOverhead burst) j = refl
+  owing_same notices owing now (RangingTime n e) j = refl
+  owing_same notices owing now (Deactivate n) j = refl
+  owing_same notices owing now (EnableSerial s) j = refl
+  owing_same notices owing now EnableAll j = refl
+  owing_same notices owing now (AssignAlloc n a keep) j = refl
+  owing_same notices owing now NoMessage j = refl
+  owing_same notices owing now (Popup n) j = refl
+  owing_same notices owing now (Other id octet1 body) j = refl
+
+abbrev bared_notes : Notes → Notes
+bared_notes notes = record notes { known = bared notes.known }
+
+notes_bared : (settings : Settings) (notes : Notes) (now : ℕ) (x : Heard) → notes_after settings (bared_notes notes) now (without_delay x) ≡ bared_notes (notes_after settings notes now x)
+notes_bared settings notes now (HeardDown None) = refl
+notes_bared settings notes now (HeardDown (Some m)) =
+    λ i. record (bared_notes (notes_after settings notes now (HeardDown (Some m)))) {
+      known = message_bared notes.known m i;
+      notices = notices_same notes.known notes.notices now m i;
+      sent = sent_same notes.known notes.sent m i;
+      owing = fun_ext (λ j. owing_same notes.known notes.notices notes.owing now m j) i;
+    }
+notes_bared settings notes now (HeardUp None delay) = refl
+notes_bared settings notes now (HeardUp (Some m) delay) =
+    λ i. record (bared_notes (notes_after settings notes now (HeardUp (Some m) delay))) { known = heard_bared notes.known (HeardUp (Some m) delay) i }
+notes_bared settings notes now (HeardGrant g) = refl
+
+-- ---- each rule
+
+other_of : (r : Rule) → goes_by_delay r ≡ false → (k : Known) (settings : Settings) → IsOther k settings r
+other_of rule.Delay h k settings = absurd (false≢true (sym h))
+other_of r h k settings = tt
+
+up_same : (s : Sendings) (now : ℕ) (m : Option Up) (delay : Option ℕ) (v : Subject) → copies s now (HeardUp m None) v ≡ copies s now (HeardUp m delay) v
+up_same s now m delay OfNothing = refl
+up_same s now m delay (OfHolder n) = refl
+up_same s now m delay (OfDelay n) = refl
+up_same s now m delay (OfAlloc n a) = refl
+up_same s now m delay (OfSerial t) = refl
+up_same s now m delay OfAllOnus = refl
+up_same s now m delay OfAllSerials = refl
+
+module _ (settings : Settings) (notes : Notes) (now : ℕ) where
+  copies_same : (x : Heard) (vs : List Subject) → judge_copies (bared_notes notes) now (without_delay x) vs ≡ judge_copies notes now x vs
+  copies_same x [] = refl
+  copies_same (HeardDown m) (v ∷ vs) = ap (worst (copies notes.sendings now (HeardDown m) v)) (copies_same (HeardDown m) vs)
+  copies_same (HeardUp m delay) (v ∷ vs) =
+      ap (λ w. worst w (judge_copies (bared_notes notes) now (HeardUp m None) vs)) (up_same notes.sendings now m delay v)
+      ∙ ap (worst (copies notes.sendings now (HeardUp m delay) v)) (copies_same (HeardUp m delay) vs)
+  copies_same (HeardGrant g) (v ∷ vs) = ap (worst (copies notes.sendings now (HeardGrant g) v)) (copies_same (HeardGrant g) vs)
+
+  disabled_same : (m : Up) → disabled settings (bared notes.known) notes.notices now m ≡ disabled settings notes.known notes.notices now m
+  disabled_same (SerialNumber n s random flags) = refl
+  disabled_same (up.DyingGasp n) = refl
+  disabled_same (up.NoMessage n) = refl
+  disabled_same (up.Acknowledge n id copy) = refl
+  disabled_same (up.Other id octet1 body) = refl
+
+  asks_same : (m : Up) → anew settings (bared notes.known) notes.notices now m ≡ anew settings notes.known notes.notices now m
+  asks_same (SerialNumber n s random flags) = refl
+  asks_same (up.DyingGasp n) = refl
+  asks_same (up.NoMessage n) = refl
+  asks_same (up.Acknowledge n id copy) = refl
+  asks_same (up.Other id octet1 body) = refl
+
+  of_same : (x : Number) (m : Up) → number_of (bared_number x) m ≡ number_of x m
+  of_same Unheard m = refl
+  of_same Nobodys m = refl
+  of_same (Of t d a) m = refl
+
+  number_same : (m : Up) → number settings (bared notes.known) notes.notices notes.down now m ≡ number settings notes.known notes.notices notes.down now m
+  number_same m =
+      ap (λ v. cond (octet1_of m == 255) (with_none m) (judged_if notes.down (after_grace settings now (notes.notices.onu (octet1_of m)) v)))
+      (of_same (notes.known.numbers (octet1_of m)) m)
+
+  answer_same : (m : Up) (delay : Option ℕ) (r : Rule) → goes_by_delay r ≡ false → judge_answer settings (bared_notes notes) now m None r ≡ judge_answer settings notes now m delay r
+  answer_same m delay rule.Garbled h = refl
+  answer_same m delay rule.Disabled h = disabled_same m
+  answer_same m delay rule.Anew h = asks_same m
+  answer_same m delay rule.Number h = number_same m
+  answer_same m delay rule.Twice h = refl
+  answer_same m delay rule.Acknowledge h = refl
+  answer_same m delay rule.Unacknowledged h = refl
+  answer_same m delay rule.Drift h = absurd (false≢true (sym h))
+  answer_same m delay r h = refl
+
+  granted_same : (g : _) (r : Rule) → goes_by_delay r ≡ false → judge_granted settings (bared_notes notes) (HeardGrant g) r ≡ judge_granted settings notes (HeardGrant g) r
+  granted_same g rule.Grant h = ap (judged_if notes.down) (judged_same notes.known settings (HeardGrant g) rule.Grant tt)
+  granted_same g r h = judged_same notes.known settings (HeardGrant g) r (other_of r h notes.known settings)
+
+  judge_same : (x : Heard) (r : Rule) → goes_by_delay r ≡ false → judge settings (bared_notes notes) now (without_delay x) r ≡ judge settings notes now x r
+  judge_same x rule.Copies h = copies_same x notes.waiting
+  judge_same (HeardDown m) r h = judged_same notes.known settings (HeardDown m) r (other_of r h notes.known settings)
+  judge_same (HeardUp None delay) r h = refl
+  judge_same (HeardUp (Some m) delay) r h = answer_same m delay r h
+  judge_same (HeardGrant g) r h = granted_same g r h
+
+-- ---- a log
+
+log_same : (settings : Settings) (notes : Notes) (timed : List (ℕ × Heard)) → JudgesTheSame settings (bared_notes notes) notes timed
+log_same settings notes [] = tt
+log_same settings notes ((now, x) ∷ timed) = (
+  judge_same settings notes now x,
+  subst (λ (bare : Notes). JudgesTheSame settings bare (notes_after settings notes now x) timed) (sym (notes_bared settings notes now x)) (log_same settings (notes_after settings notes now x) timed),
+)
+
+pub delays_judge_no_other : DelaysJudgeNoOther
+delays_judge_no_other settings begun timed = (log_same settings notes_whole timed, log_same settings (notes_midway begun) timed)
