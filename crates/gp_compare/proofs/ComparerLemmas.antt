@@ -1,5 +1,5 @@
 -- What a comparer knows when more comes.
-use Rattle.std.proofs.Common.{◌≡◌, ◌<◌, ℕ, List, [], ◌∷◌, ◌++◌, Option, None, Some, IfOk, IfSome, Result, Ok, Err, refl, sym, ap, subst, ◌∙◌, take, length, arith, append_assoc, append-nil}
+use Rattle.std.proofs.Common.{◌≡◌, ◌<◌, ℕ, List, [], ◌∷◌, ◌++◌, Option, None, Some, IfSome, refl, sym, ap, subst, ◌∙◌, take, length, arith, append_assoc, append-nil}
 use Rattle.std.specs.Io.KnownBytes.{Consumes}
 use Rattle.std.proofs.KnownBytes.{Consumes-nil, Consumes-trans}
 use Rattle.gp_compare.specs.declared.difference.Difference.{Difference}
@@ -120,7 +120,7 @@ pub known_steps : {R : Type 0} (fault : Option CompareFault) (difference : Optio
     → Knows fault difference known noted b q
 known_steps None None known taken noted octets a b p q count none unfound h more note = same_more known taken noted octets a b p q count h more note
 known_steps None (Some d) known taken noted octets a b p q count none unfound h more note = absurd (cc)
-known_steps (Some fault) difference known taken noted octets a b p q count none unfound h more note = tt
+known_steps (Some fault) difference known taken noted octets a b p q count none unfound h more note = absurd (cc)
 
 -- octets were taken of which the first isn't
 pub known_differs : {R : Type 0} (fault : Option CompareFault) (difference : Option Difference) (known : Option (List ℕ)) (taken noted octets : List ℕ) (a b : AheadState R) (p q : PlaceState) (d : Difference)
@@ -128,7 +128,7 @@ pub known_differs : {R : Type 0} (fault : Option CompareFault) (difference : Opt
     → Knows fault (Some d) known noted b q
 known_differs None None known taken noted octets a b p q d none unfound h other note some = differs_within known taken noted octets a b p d h other note some
 known_differs None (Some e) known taken noted octets a b p q d none unfound h other note some = absurd (cc)
-known_differs (Some fault) difference known taken noted octets a b p q d none unfound h other note some = tt
+known_differs (Some fault) difference known taken noted octets a b p q d none unfound h other note some = absurd (cc)
 
 -- octets were taken behind a difference
 pub known_more : {R : Type 0} (fault : Option CompareFault) (difference : Option Difference) (known : Option (List ℕ)) (taken noted octets : List ℕ) (a : AheadState R) (p : PlaceState) (d e : Difference)
@@ -136,7 +136,7 @@ pub known_more : {R : Type 0} (fault : Option CompareFault) (difference : Option
     → Knows fault (Some e) known noted a p
 known_more None difference known taken noted octets a p d e none some h more note =
     differs_more known taken noted octets d e (known_within None difference d known taken a p refl some h) more note
-known_more (Some fault) difference known taken noted octets a p d e none some h more note = tt
+known_more (Some fault) difference known taken noted octets a p d e none some h more note = absurd (cc)
 
 -- the text ends
 pub known_ends : {R : Type 0} (fault : Option CompareFault) (difference : Option Difference) (known : Option (List ℕ)) (taken : List ℕ) (a b : AheadState R) (p : PlaceState) (end : Option Difference)
@@ -145,11 +145,6 @@ known_ends None None known taken a b p None none unfound h ends = all_taken know
 known_ends None None known taken a b p (Some d) none unfound h ends = differs_first known taken taken [] a b p d h ends (sym (append-nil taken))
 known_ends None (Some e) known taken a b p end none unfound h ends = absurd (cc)
 known_ends (Some fault) difference known taken a b p end none unfound h ends = absurd (cc)
-
-pub ends_ok : {R E : Type 0} (fault : Option CompareFault) (difference : Option Difference) (known : Option (List ℕ)) (taken : List ℕ) (a b : AheadState R) (p : PlaceState) (r : Result (Option Difference) E)
-    → fault ≡ None → difference ≡ None → Knows fault difference known taken a p → IfOk r (EndsAs a b p) → IfOk r (ComparesAs known taken)
-ends_ok fault difference known taken a b p (Ok end) none unfound h ends = known_ends fault difference known taken a b p end none unfound h ends
-ends_ok fault difference known taken a b p (Err e) none unfound h ends = tt
 
 -- it was stopped
 pub known_stops : {R : Type 0} (fault : Option CompareFault) (difference : Option Difference) (known : Option (List ℕ)) (taken : List ℕ) (a : AheadState R) (p : PlaceState) → fault ≡ None

@@ -1,8 +1,11 @@
 -- A source of which a block is read ahead (this profile's own rule).
 -- Inside: no public contract cites this.
-use Rattle.std.specs.Prelude.{◌≡◌, ◌⊎◌, ℕ, List, [], ◌++◌, false, true, Result, OnOk}
+use Rattle.std.specs.Prelude.{◌≡◌, ℕ, List, [], ◌++◌, false, Result, OnOk}
 use Rattle.std.specs.Io.KnownBytes.{Consumes, IsAtEnd}
 use Rattle.gp_stream.specs.Source.{SourceState}
+use Rattle.gp_compare.specs.declared.fault.CompareFault.{CompareFault}
+use Rattle.gp_compare.specs.declared.fault.CompareFault.TheVariants as faults
+use Rattle.gp_compare.specs.Fault.{IsStopped}
 
 -- a source, and what was read of it and is not passed
 pub record AheadState (R : Type 0) : Type 0 where
@@ -20,9 +23,10 @@ pub record IsOver {R : Type 0} (ahead : AheadState R) : Type 0 where
   pub unfailed : ahead.source.failed ≡ false
   pub end : IsAtEnd ahead.source.remaining
 
--- a read failed, or none is left
-abbrev pub IsStopped : {R : Type 0} → SourceState R → Type 0
-IsStopped source = (source.failed ≡ true) ⊎ (source.left ≡ 0)
+-- nothing more is read for this fault: of a read, where one failed or none is left
+abbrev pub StopsBy : {R : Type 0} → AheadState R → CompareFault → Type 0
+StopsBy ahead faults.Read = IsStopped ahead.source
+StopsBy ahead faults.OutOfMemory = Unit {0}
 
 -- a block was read where there was no rest, with this answer: if there is none then, the source is at its end
 pub record Fills {R T E : Type 0} (old new : AheadState R) (answer : Result T E) : Type 0 where

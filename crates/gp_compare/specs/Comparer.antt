@@ -3,7 +3,7 @@ use Rattle.std.specs.Prelude.{◌≡◌, ℕ, ◌<◌, ◌≤◌, Bool, true, fa
 use Rattle.std.specs.Io.KnownBytes.{Consumes, IsAtEnd}
 use Rattle.gp_compare.specs.declared.difference.Difference.{Difference}
 use Rattle.gp_compare.specs.declared.fault.CompareFault.{CompareFault}
-use Rattle.gp_compare.specs.Ahead.{AheadState}
+use Rattle.gp_compare.specs.Ahead.{AheadState, StopsBy}
 use Rattle.gp_compare.specs.Difference.{Differs}
 use Rattle.gp_compare.specs.Place.{PlaceState, behind, front}
 use Rattle.gp_compare.specs.Shown.{show, shown_view}
@@ -65,6 +65,6 @@ pub record IsSame {R : Type 0} (expected : Option (List ℕ)) (taken : List ℕ)
 
 abbrev pub Knows : {R : Type 0} → Option CompareFault → Option Difference → Option (List ℕ) → List ℕ → AheadState R
     → PlaceState → Type 0
-Knows (Some fault) difference expected taken ahead place = Unit {0}
+Knows (Some fault) difference expected taken ahead place = StopsBy ahead fault
 Knows None None expected taken ahead place = IsSame expected taken ahead place
 Knows None (Some difference) expected taken ahead place = DiffersWithin expected taken difference

@@ -1,6 +1,7 @@
 pub mod Ahead
 pub mod Comparer
 pub mod Difference
+pub mod Fault
 pub mod Place
 pub mod Reading
 pub mod Shown

@@ -1,6 +1,7 @@
 //! A source of which a block is read ahead.
 ghost use Rattle.std.specs.Prelude.{◌≡◌, ◌<◌, ◌≤◌, ◌+◌, [], IfErr, IfOk, OnOk, drop, length};
-ghost use Rattle.gp_compare.specs.Ahead.{Fills, IsStopped};
+ghost use Rattle.gp_compare.specs.Ahead.{Fills};
+ghost use Rattle.gp_compare.specs.Fault.{IsStopped};
 ghost use Rattle.gp_stream.specs.Source.{Reads};
 
 use crate::fault::CompareFault;
@@ -56,6 +57,14 @@ impl<R: Read> Ahead<R> {
             from: 0,
             until: 0,
         })
+    }
+
+    /// Gives the source back.
+    pub fn into_source(self) -> Source<R>
+        ensures { result ≡ self.source }
+    {
+        let Ahead { source, .. } = self;
+        source
     }
 
     /// Gives the octets that were read and are not passed.

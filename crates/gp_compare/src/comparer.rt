@@ -1,12 +1,13 @@
 //! The writer that compares.
 ghost use Rattle.std.specs.Prelude.{◌≡◌, ◌≢◌, ◌<◌, [], IfErr, IfOk, IfSome, OnOk, None, Some, length};
 ghost use Rattle.gp_compare.specs.Comparer.{ComparesAs, DiffersWithin, TakesBehind, TakesCount};
+ghost use Rattle.gp_compare.specs.Fault.{HasFailed, fault_of};
 ghost use Rattle.gp_compare.specs.Place.{behind, front};
 
 use crate::ahead::Ahead;
 use crate::difference::Difference;
 use crate::expects::Expects;
-use crate::fault::CompareFault;
+use crate::fault::{CompareError, CompareFault};
 use crate::place::Place;
 use crate::step::{Step, make_end, make_step};
 use gp_stream::{Source, Taken};
@@ -139,11 +140,12 @@ impl<E: Expects, R: Read> Comparer<E, R> {
 
     /// Ends the text, and tells where it is the first time not as expected, if it isn't: if it is, all that is expected
     /// was read. Fails where it was not compared to its end.
-    pub fn end(self) -> Result<Option<Difference>, CompareFault>
+    pub fn end(self) -> Result<Option<Difference>, CompareError<R>>
     where
         R: Drop,
         ensures compares { IfOk result (ComparesAs E.expected self.taken) }
         ensures same { IfOk result (λ end. end ≡ None → (self.difference ≡ None) × (self.fault ≡ None)) }
+        ensures err { IfErr result HasFailed }
     {
         let Comparer {
             alloc,
@@ -154,31 +156,35 @@ impl<E: Expects, R: Read> Comparer<E, R> {
             ..
         } = self;
         if let Some(fault) = fault {
-            return Err(fault);
+            return Err(CompareError::of(fault, ahead));
         }
-        match difference {
-            None => make_end(alloc, &mut ahead, &place),
-            Some(difference) => Ok(Some(difference)),
+        if difference.is_some() {
+            return Ok(difference);
+        }
+        match make_end(alloc, &mut ahead, &place) {
+            Ok(end) => Ok(end),
+            Err(fault) => Err(CompareError::of(fault, ahead)),
         }
     }
 
     /// Tells of a text that was not handed in to its end where it is not as expected; None where all of it that was
     /// taken is. Fails where that is not known.
-    pub fn stop(self) -> Result<Option<Difference>, CompareFault>
+    pub fn stop(self) -> Result<Option<Difference>, CompareError<R>>
     where
         R: Drop,
         ensures found { IfOk result (λ end. end ≡ self.difference) }
         ensures differs { IfOk result (λ end. IfSome end (DiffersWithin E.expected self.taken)) }
         ensures fault { OnOk result (self.fault ≡ None) }
-        ensures err { IfErr result (λ fault. self.fault ≡ Some fault) }
+        ensures err { IfErr result (λ error. HasFailed error × (self.fault ≡ Some (fault_of error))) }
     {
         let Comparer {
+            ahead,
             difference,
             fault,
             ..
         } = self;
         match fault {
-            Some(fault) => Err(fault),
+            Some(fault) => Err(CompareError::of(fault, ahead)),
             None => Ok(difference),
         }
     }

@@ -1,6 +1,6 @@
 //! The first octet that differs.
-ghost use Rattle.std.specs.Prelude.{◌≡◌, [], IfOk, OnOk};
-ghost use Rattle.gp_compare.specs.Ahead.{IsOver};
+ghost use Rattle.std.specs.Prelude.{◌≡◌, [], IfErr, IfOk, OnOk};
+ghost use Rattle.gp_compare.specs.Ahead.{IsOver, StopsBy};
 ghost use Rattle.gp_compare.specs.Reading.{ShowsHere, ShowsRest};
 ghost use Rattle.gp_compare.specs.Shown.{end_behind, shown_at, shown_view};
 
@@ -47,7 +47,8 @@ fn shown_at(alloc: Global, place: &Place) -> Result<ShownLine, AllocError>
 /// Reads what is expected, to the end of the line or as far as it is shown.
 fn take_expected<R: Read>(line: &mut ShownLine, ahead: &mut Ahead<R>) -> Result<(), CompareFault>
     requires { ahead.old.rest ≡ [] → IsOver ahead.old }
-    ensures { OnOk result (ShowsRest ahead.old ahead.new (shown_view line.old) (shown_view line.new)) }
+    ensures shows { OnOk result (ShowsRest ahead.old ahead.new (shown_view line.old) (shown_view line.new)) }
+    ensures err { IfErr result (StopsBy ahead.new) }
 {
     'reads: while !ahead.rest().is_empty() {
         if line.is_whole() {
@@ -70,7 +71,8 @@ pub(crate) fn difference_at<R: Read>(
     came: &[u8],
 ) -> Result<Difference, CompareFault>
     requires { ahead.old.rest ≡ [] → IsOver ahead.old }
-    ensures { IfOk result (ShowsHere place.now ahead.old ahead.new came.now) }
+    ensures shows { IfOk result (ShowsHere place.now ahead.old ahead.new came.now) }
+    ensures err { IfErr result (StopsBy ahead.new) }
 {
     let mut expected = shown_at(alloc, place)?;
     let mut got = shown_at(alloc, place)?;

@@ -9,7 +9,8 @@
 //! - `step.rt`: how much of what comes is as expected, or the first octet that isn't.
 //! - `ahead.rt`: `Ahead`, a source of which a block is read ahead. `place.rt`: how far two texts are the same, by line
 //!   and octet. `shown.rt`: what is shown of a line. `difference.rt`: the first octet that differs.
-//! - `expects.rt`: what a writer is to take, in contracts alone. `fault.rt`: why nothing was compared to its end.
+//! - `expects.rt`: what a writer is to take, in contracts alone. `fault.rt`: why they were not compared to their end, with the
+//!   source that can't be read.
 //!
 //! Where to make which change: how much of a line is shown is a number in `shown.rt` and in `specs/Shown.antt`; what a
 //! difference is stands in `specs/Difference.antt`, what a writer knows in `specs/Comparer.antt`.
@@ -28,6 +29,6 @@ mod texts;
 pub use comparer::Comparer;
 pub use difference::Difference;
 pub use expects::Expects;
-pub use fault::CompareFault;
+pub use fault::{CompareError, CompareFault};
 pub use shown::{LineEnd, MAX_SHOWN, ShownLine};
 pub use texts::compare_text;

@@ -1,5 +1,6 @@
 //! A step of a comparison: octets that are as expected, or the first that isn't.
-ghost use Rattle.std.specs.Prelude.{◌<◌, IfOk, length};
+ghost use Rattle.std.specs.Prelude.{◌<◌, IfErr, IfOk, length};
+ghost use Rattle.gp_compare.specs.Ahead.{StopsBy};
 ghost use Rattle.gp_compare.specs.Reading.{EndsAs, IsCommon, Steps, TakesSame};
 
 use crate::ahead::Ahead;
@@ -41,7 +42,8 @@ fn take_same<R: Read>(
     place: &mut Place,
     octets: &[u8],
 ) -> Result<usize, CompareFault>
-    ensures { IfOk result (TakesSame ahead.old ahead.new place.old place.new octets.now) }
+    ensures takes { IfOk result (TakesSame ahead.old ahead.new place.old place.new octets.now) }
+    ensures err { IfErr result (StopsBy ahead.new) }
 {
     ahead.fill()?;
     let count = common(octets, ahead.rest());
@@ -66,7 +68,8 @@ pub(crate) fn make_step<R: Read>(
     octets: &[u8],
 ) -> Result<Step, CompareFault>
     requires { 0 < length octets.now }
-    ensures { IfOk result (Steps ahead.old ahead.new place.old place.new octets.now) }
+    ensures steps { IfOk result (Steps ahead.old ahead.new place.old place.new octets.now) }
+    ensures err { IfErr result (StopsBy ahead.new) }
 {
     let count = take_same(ahead, place, octets)?;
     if count > 0 {
@@ -83,7 +86,8 @@ pub(crate) fn make_end<R: Read>(
     ahead: &mut Ahead<R>,
     place: &Place,
 ) -> Result<Option<Difference>, CompareFault>
-    ensures { IfOk result (EndsAs ahead.old ahead.new place.now) }
+    ensures ends { IfOk result (EndsAs ahead.old ahead.new place.now) }
+    ensures err { IfErr result (StopsBy ahead.new) }
 {
     ahead.fill()?;
     if ahead.rest().is_empty() {

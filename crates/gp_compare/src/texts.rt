@@ -1,12 +1,13 @@
 //! A text is compared with what is expected.
-ghost use Rattle.std.specs.Prelude.{◌≡◌, IfOk, false};
+ghost use Rattle.std.specs.Prelude.{◌≡◌, IfErr, IfOk, false};
 ghost use Rattle.gp_compare.specs.Comparer.{Refuses};
+ghost use Rattle.gp_compare.specs.Fault.{HasFailed};
 ghost use Rattle.gp_compare.specs.Texts.{ComparesText, HandsIn};
 
 use crate::comparer::Comparer;
 use crate::difference::Difference;
 use crate::expects::Expects;
-use crate::fault::CompareFault;
+use crate::fault::CompareError;
 use gp_stream::Source;
 use std::alloc::Global;
 use std::io::Read;
@@ -34,9 +35,10 @@ fn compare_by<E: Expects, R: Read + Drop>(
     alloc: Global,
     text: &[u8],
     expected: Source<R>,
-) -> Result<Option<Difference>, CompareFault>
+) -> Result<Option<Difference>, CompareError<R>>
     requires { expected.remaining ≡ E.expected }
-    ensures { IfOk result (ComparesText E.expected text.now) }
+    ensures compares { IfOk result (ComparesText E.expected text.now) }
+    ensures err { IfErr result HasFailed }
 {
     let mut comparer = Comparer::<E, R>::new(alloc, expected)?;
     if hand_in(&mut comparer, text) {
@@ -51,8 +53,9 @@ pub fn compare_text<R: Read + Drop>(
     alloc: Global,
     text: &[u8],
     expected: Source<R>,
-) -> Result<Option<Difference>, CompareFault>
-    ensures { IfOk result (ComparesText expected.remaining text.now) }
+) -> Result<Option<Difference>, CompareError<R>>
+    ensures compares { IfOk result (ComparesText expected.remaining text.now) }
+    ensures err { IfErr result HasFailed }
 {
     compare_by::<Brand, R>(alloc, text, expected)
 }

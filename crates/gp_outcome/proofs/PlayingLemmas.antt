@@ -12,7 +12,7 @@ use Rattle.gp_compare.specs.Comparer.{ComparerState, DiffersWithin, IsAll}
 use Rattle.gp_compare.specs.Difference.{Differs as DiffersFrom}
 use Rattle.gp_compare.specs.Place.{behind, front}
 use Rattle.gp_outcome.specs.declared.playing.Compared.{Compared}
-use Rattle.gp_outcome.specs.declared.playing.Compared.TheVariants.{Same, Differs, Stopped}
+use Rattle.gp_outcome.specs.declared.playing.Compared.TheVariants.{Same, Differs}
 use Rattle.gp_outcome.specs.Playing.{BeginsTraceOf, ComparesPlayed, DiffersPlayed, IsFresh, IsTraceOf, IsWrittenOf, PlaysCompared}
 
 -- ---- what the writer below the sink of a play took
@@ -71,10 +71,6 @@ played_compared script known before after comparer answer end fresh holds is pla
       written = written_of script before after answer fresh held h.remembered plays;
       differs = h.differs;
       ended = h.ended;
-    }
-    by_end held Stopped h = record {
-      trace = after.writer.taken;
-      written = written_of script before after (Err faults.Write) fresh held (λ is. cc is) (subst (λ (a : Result (Unit {0}) PlayFault). PlaysScript script before after a) h.0 plays);
     }
 
 -- ---- what a writer took, where the play ended so

@@ -1,24 +1,16 @@
 -- When a script passes (this profile's own rule).
-use Rattle.std.specs.Prelude.{◌≡◌, ◌≢◌, ℕ, List, [], ◌∷◌, ◌++◌, Option, Some, Ok, codes, string_bytes}
+use Rattle.std.specs.Prelude.{◌≡◌, ◌≢◌, ℕ, List, [], ◌∷◌, ◌++◌, Option, Some, Ok, string_bytes}
 use Rattle.gp_script.specs.Script.{ScriptView}
 use Rattle.gp_check.specs.Check.{Places, said_by}
 use Rattle.gp_check.specs.declared.checking.Purpose.TheVariants as purposes
 use Rattle.gp_compare.specs.Comparer.{IsAll}
 use Rattle.gp_compare.specs.Texts.{TextDiffers}
-use Rattle.gp_folder.specs.declared.part.Part.{Part}
-use Rattle.gp_folder.specs.declared.part.Part.TheVariants as parts
 use Rattle.gp_outcome.specs.declared.judging.Expected.{Expected}
 use Rattle.gp_outcome.specs.declared.judging.Expected.TheVariants as expects
 use Rattle.gp_outcome.specs.declared.outcome.Failure.TheVariants as failures
 use Rattle.gp_outcome.specs.declared.outcome.Outcome.{Outcome}
 use Rattle.gp_outcome.specs.declared.outcome.Outcome.TheVariants as outcomes
-use Rattle.gp_outcome.specs.Playing.{PlaysAs, PlaysOther, PlaysStopped}
-
--- this file beside the script can't be read
-abbrev pub IsUnread : Part → Outcome → Type 0
-IsUnread part (outcomes.Failed (failures.Unread unread cause)) =
-    (unread ≡ part) × (string_bytes cause ≡ codes "can't be read")
-IsUnread part outcome = ⊥
+use Rattle.gp_outcome.specs.Playing.{PlaysAs, PlaysOther}
 
 -- what becomes of a script that is played beside this trace: it passes only where what it wrote is all of the trace, to
 -- the last octet, and has a line; of one whose play writes no line nothing was compared
@@ -26,8 +18,7 @@ abbrev pub IsJudgedPlay : ScriptView → Option (List ℕ) → Outcome → Type 
 IsJudgedPlay script trace (outcomes.Passed lines) = PlaysAs script trace lines × (lines ≢ 0)
 IsJudgedPlay script trace (outcomes.Failed failures.NothingPlayed) = PlaysAs script trace 0
 IsJudgedPlay script trace (outcomes.Failed (failures.OtherTrace difference)) = PlaysOther script trace difference
-IsJudgedPlay script trace (outcomes.Failed failures.Stopped) = PlaysStopped script
-IsJudgedPlay script trace outcome = IsUnread parts.Trace outcome
+IsJudgedPlay script trace outcome = ⊥
 
 -- what becomes of one that is wrong, of which this is told: it passes only where that, with a line feed behind it, is
 -- all of what is expected, to the last octet
@@ -35,7 +26,7 @@ abbrev pub IsJudgedTold : List ℕ → Option (List ℕ) → Outcome → Type 0
 IsJudgedTold told faults outcomes.Refused = IsAll faults (told ++ 10 ∷ [])
 IsJudgedTold told faults (outcomes.Failed (failures.OtherFault difference)) =
     TextDiffers faults (told ++ 10 ∷ []) difference
-IsJudgedTold told faults outcome = IsUnread parts.Faults outcome
+IsJudgedTold told faults outcome = ⊥
 
 -- what becomes of a script that is right
 abbrev pub IsJudgedRight : {R : Type 0} → ScriptView → Expected R → Outcome → Type 0

@@ -55,16 +55,10 @@ pub record PlaysOther (script : ScriptView) (expected : Option (List ℕ)) (diff
   pub differs : Differs expected trace difference
   pub ended : differs.right ≡ [] → answer ≡ Ok (tt {0})
 
--- the script was not played to its end, though nothing that was written of its trace is known to differ
-pub record PlaysStopped (script : ScriptView) : Type 0 where
-  pub trace : List ℕ
-  pub written : BeginsTraceOf script trace
-
 -- how the trace of a play compares
 abbrev pub PlaysCompared : ScriptView → Option (List ℕ) → Compared → Type 0
 PlaysCompared script expected (compared.Same lines) = PlaysAs script expected lines
 PlaysCompared script expected (compared.Differs difference) = PlaysOther script expected difference
-PlaysCompared script expected compared.Stopped = PlaysStopped script
 
 -- ---- what stands inside
 
@@ -88,5 +82,3 @@ ComparesPlayed expected comparer played (compared.Same lines) =
     (played ≡ Ok (tt {0})) × IsAll expected comparer.taken × (lines ≡ (behind front comparer.taken).feeds)
 ComparesPlayed expected comparer played (compared.Differs difference) =
     DiffersPlayed expected comparer played difference
-ComparesPlayed expected comparer played compared.Stopped =
-    (played ≡ Err faults.Write) × (comparer.difference ≡ None) × (comparer.fault ≡ None)

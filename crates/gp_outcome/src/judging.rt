@@ -1,17 +1,17 @@
 //! A script is judged by what stands beside it.
-ghost use Rattle.std.specs.Prelude.{◌≡◌, IfOk, IsErr, string_bytes};
+ghost use Rattle.std.specs.Prelude.{IfErr, IfOk, string_bytes};
+ghost use Rattle.gp_compare.specs.Fault.{HasFailed};
 ghost use Rattle.gp_script.specs.Playable.{IsPlayable};
 ghost use Rattle.gp_script.specs.View.{script_view};
-ghost use Rattle.gp_outcome.specs.Judging.{IsJudged, IsJudgedPlay, IsJudgedRight, IsJudgedTold, IsJudgedWrong, IsUnread};
+ghost use Rattle.gp_outcome.specs.Judging.{IsJudged, IsJudgedPlay, IsJudgedRight, IsJudgedTold, IsJudgedWrong};
 
 use crate::outcome::{Failure, Outcome};
 use crate::playing::{Compared, compare_play};
 use gp_check::{Purpose, placed_line};
-use gp_compare::{CompareFault, compare_text};
-use gp_folder::Part;
+use gp_compare::{CompareError, compare_text};
 use gp_script::{PlacedError, Script, read_script_at};
 use gp_stream::Source;
-use std::alloc::{AllocError, Global};
+use std::alloc::Global;
 use std::io::Read;
 
 /// What a script is judged by.
@@ -25,42 +25,20 @@ pub enum Expected<R: Read> {
     Faults(Source<R>),
 }
 
-/// What became of a script beside which this file can't be read to its end.
-fn judge_unread(alloc: Global, part: Part) -> Result<Outcome, AllocError>
-    ensures { IfOk result (IsUnread part) }
-{
-    let cause = String::from_str(alloc, "can't be read")?;
-    Ok(Outcome::Failed(Failure::Unread { part, cause }))
-}
-
-/// What became of a script where it was not compared with this file to its end.
-fn judge_fault(alloc: Global, part: Part, fault: CompareFault) -> Result<Outcome, AllocError>
-    ensures read { IfOk result (IsUnread part) }
-    ensures memory { fault ≡ CompareFault.OutOfMemory → IsErr result }
-{
-    match fault {
-        CompareFault::Read => judge_unread(alloc, part),
-        CompareFault::OutOfMemory => Err(AllocError),
-    }
-}
-
 /// Plays a script beside the trace that it has to write.
 fn judge_play<R: Read + Drop>(
     alloc: Global,
     script: Script,
     trace: Source<R>,
-) -> Result<Outcome, AllocError>
+) -> Result<Outcome, CompareError<R>>
     requires { IsPlayable (script_view script) }
-    ensures { IfOk result (IsJudgedPlay (script_view script) trace.remaining) }
+    ensures judged { IfOk result (IsJudgedPlay (script_view script) trace.remaining) }
+    ensures err { IfErr result HasFailed }
 {
-    match compare_play(alloc, script, trace) {
-        Ok(Compared::Same { lines: 0 }) => Ok(Outcome::Failed(Failure::NothingPlayed)),
-        Ok(Compared::Same { lines }) => Ok(Outcome::Passed { lines }),
-        Ok(Compared::Differs(difference)) => {
-            Ok(Outcome::Failed(Failure::OtherTrace(difference)))
-        }
-        Ok(Compared::Stopped) => Ok(Outcome::Failed(Failure::Stopped)),
-        Err(fault) => judge_fault(alloc, Part::Trace, fault),
+    match compare_play(alloc, script, trace)? {
+        Compared::Same { lines: 0 } => Ok(Outcome::Failed(Failure::NothingPlayed)),
+        Compared::Same { lines } => Ok(Outcome::Passed { lines }),
+        Compared::Differs(difference) => Ok(Outcome::Failed(Failure::OtherTrace(difference))),
     }
 }
 
@@ -69,9 +47,10 @@ fn judge_script<R: Read + Drop>(
     alloc: Global,
     script: Script,
     expected: Expected<R>,
-) -> Result<Outcome, AllocError>
+) -> Result<Outcome, CompareError<R>>
     requires { IsPlayable (script_view script) }
-    ensures { IfOk result (IsJudgedRight (script_view script) expected) }
+    ensures judged { IfOk result (IsJudgedRight (script_view script) expected) }
+    ensures err { IfErr result HasFailed }
 {
     match expected {
         Expected::Trace(trace) => judge_play(alloc, script, trace),
@@ -85,14 +64,14 @@ fn judge_told<R: Read + Drop>(
     alloc: Global,
     told: &str,
     faults: Source<R>,
-) -> Result<Outcome, AllocError>
-    ensures { IfOk result (IsJudgedTold told.now faults.remaining) }
+) -> Result<Outcome, CompareError<R>>
+    ensures judged { IfOk result (IsJudgedTold told.now faults.remaining) }
+    ensures err { IfErr result HasFailed }
 {
     let line = format!(in alloc; "{told}\n")?;
-    match compare_text(alloc, line.as_bytes(), faults) {
-        Ok(None) => Ok(Outcome::Refused),
-        Ok(Some(difference)) => Ok(Outcome::Failed(Failure::OtherFault(difference))),
-        Err(fault) => judge_fault(alloc, Part::Faults, fault),
+    match compare_text(alloc, line.as_bytes(), faults)? {
+        None => Ok(Outcome::Refused),
+        Some(difference) => Ok(Outcome::Failed(Failure::OtherFault(difference))),
     }
 }
 
@@ -101,8 +80,9 @@ fn judge_wrong<R: Read + Drop>(
     alloc: Global,
     told: String,
     expected: Expected<R>,
-) -> Result<Outcome, AllocError>
-    ensures { IfOk result (IsJudgedWrong (string_bytes told) expected) }
+) -> Result<Outcome, CompareError<R>>
+    ensures judged { IfOk result (IsJudgedWrong (string_bytes told) expected) }
+    ensures err { IfErr result HasFailed }
 {
     match expected {
         Expected::Trace(_) | Expected::Nothing => Ok(Outcome::Failed(Failure::Wrong { told })),
@@ -114,18 +94,19 @@ fn judge_wrong<R: Read + Drop>(
 /// to the last octet, or where it is wrong, and what is told of that, as `oltctl check` tells it behind the file's
 /// name, is what is expected, with a line feed behind it.
 ///
-/// Fails where memory was refused.
+/// Fails where memory was refused, or where what is expected can't be read to its end, and gives that back then.
 #[tactic(auto, using(crate::proofs::JudgingLemmas::right_judged, crate::proofs::JudgingLemmas::wrong_judged, crate::proofs::JudgingLemmas::mistake_told))]
 pub fn judge<R: Read + Drop>(
     alloc: Global,
     octets: &[u8],
     expected: Expected<R>,
-) -> Result<Outcome, AllocError>
-    ensures { IfOk result (IsJudged octets.now expected) }
+) -> Result<Outcome, CompareError<R>>
+    ensures judged { IfOk result (IsJudged octets.now expected) }
+    ensures err { IfErr result HasFailed }
 {
     match read_script_at(alloc, octets) {
         Ok(script) => judge_script(alloc, script, expected),
-        Err(PlacedError::OutOfMemory) => Err(AllocError),
+        Err(PlacedError::OutOfMemory) => Err(CompareError::OutOfMemory),
         Err(PlacedError::Wrong(_)) => match placed_line(alloc, Purpose::Replay, octets)? {
             Some(told) => judge_wrong(alloc, told, expected),
             None => unreachable!(),

@@ -1,10 +1,11 @@
 //! A script is played beside the trace that it has to write.
-ghost use Rattle.std.specs.Prelude.{◌≡◌, IfOk};
+ghost use Rattle.std.specs.Prelude.{◌≡◌, IfErr, IfOk};
+ghost use Rattle.gp_compare.specs.Fault.{HasFailed};
 ghost use Rattle.gp_script.specs.Playable.{IsPlayable};
 ghost use Rattle.gp_script.specs.View.{script_view};
 ghost use Rattle.gp_outcome.specs.Playing.{ComparesPlayed, PlaysCompared};
 
-use gp_compare::{CompareFault, Comparer, Difference, Expects};
+use gp_compare::{CompareError, Comparer, Difference, Expects};
 use gp_replay::{PlayFault, play_script};
 use gp_script::Script;
 use gp_stream::{Sink, Source};
@@ -19,23 +20,25 @@ pub(crate) enum Compared {
     Same { lines: u64 },
     /// It isn't, from there on.
     Differs(Difference),
-    /// It was not written to its end, and is as expected as far as it was.
-    Stopped,
 }
 
 /// Tells how what a comparer took compares, where the play ended so.
+///
+/// A comparer's writes fail only behind a difference or a fault. No clause of a writer can say so: a play that stopped
+/// without either, which doesn't happen, is told as out of memory.
 #[tactic(auto, using(crate::proofs::PlayingLemmas::stopped_compared, crate::proofs::PlayingLemmas::same_compared, crate::proofs::PlayingLemmas::other_compared))]
 fn compare_taken<E: Expects, R: Read + Drop>(
     comparer: Comparer<E, R>,
     played: Result<(), PlayFault>,
-) -> Result<Compared, CompareFault>
-    ensures { IfOk result (ComparesPlayed E.expected comparer played) }
+) -> Result<Compared, CompareError<R>>
+    ensures compares { IfOk result (ComparesPlayed E.expected comparer played) }
+    ensures err { IfErr result HasFailed }
 {
     let lines = comparer.lines();
     match played {
-        Err(PlayFault::OutOfMemory) => Err(CompareFault::OutOfMemory),
+        Err(PlayFault::OutOfMemory) => Err(CompareError::OutOfMemory),
         Err(PlayFault::Write) => match comparer.stop()? {
-            None => Ok(Compared::Stopped),
+            None => Err(CompareError::OutOfMemory),
             Some(difference) => Ok(Compared::Differs(difference)),
         },
         Ok(()) => match comparer.end()? {
@@ -51,10 +54,11 @@ fn compare_by<E: Expects, R: Read + Drop>(
     alloc: Global,
     script: Script,
     expected: Source<R>,
-) -> Result<Compared, CompareFault>
+) -> Result<Compared, CompareError<R>>
     requires expected { expected.remaining ≡ E.expected }
     requires playable { IsPlayable (script_view script) }
-    ensures { IfOk result (PlaysCompared (script_view script) E.expected) }
+    ensures compares { IfOk result (PlaysCompared (script_view script) E.expected) }
+    ensures err { IfErr result HasFailed }
 {
     let comparer = Comparer::<E, R>::new(alloc, expected)?;
     let mut sink = Sink::new(alloc, comparer)?;
@@ -70,9 +74,10 @@ pub(crate) fn compare_play<R: Read + Drop>(
     alloc: Global,
     script: Script,
     expected: Source<R>,
-) -> Result<Compared, CompareFault>
+) -> Result<Compared, CompareError<R>>
     requires { IsPlayable (script_view script) }
-    ensures { IfOk result (PlaysCompared (script_view script) expected.remaining) }
+    ensures compares { IfOk result (PlaysCompared (script_view script) expected.remaining) }
+    ensures err { IfErr result HasFailed }
 {
     compare_by::<Brand, R>(alloc, script, expected)
 }

@@ -1,5 +1,5 @@
 //! Where two texts differ, and what is shown of that.
-use gp_compare::{CompareFault, Difference, LineEnd, MAX_SHOWN, ShownLine, compare_text};
+use gp_compare::{CompareError, Difference, LineEnd, MAX_SHOWN, ShownLine, compare_text};
 use gp_stream::Source;
 use std::alloc::{AllocError, Global};
 
@@ -70,10 +70,18 @@ const CASES: [Case; 17] = [
     Case("x\ny\nz\n", "x\ny\nz\nz\n", "4:1 !|z$"),
 ];
 
+/// Where a text differs from one at hand.
+fn compare(alloc: Global, came: &[u8], expected: &[u8]) -> Result<Option<Difference>, AllocError> {
+    match compare_text(alloc, came, Source::new(expected)) {
+        Ok(difference) => Ok(difference),
+        Err(CompareError::Read(_) | CompareError::OutOfMemory) => Err(AllocError),
+    }
+}
+
 /// Tells whether a case is told so.
-fn is_case(alloc: Global, case: &Case) -> Result<bool, CompareFault> {
+fn is_case(alloc: Global, case: &Case) -> Result<bool, AllocError> {
     let Case(expected, came, wanted) = *case;
-    let difference = compare_text(alloc, came.as_bytes(), Source::new(expected.as_bytes()))?;
+    let difference = compare(alloc, came.as_bytes(), expected.as_bytes())?;
     Ok(is_told(alloc, &difference, wanted))
 }
 
@@ -96,9 +104,9 @@ fn long_line(alloc: Global, octets: usize) -> Result<Vec<u8>, AllocError> {
 }
 
 /// Where a text differs from a line of so many octets.
-fn differs(alloc: Global, octets: usize, came: &[u8]) -> Result<Option<Difference>, CompareFault> {
+fn differs(alloc: Global, octets: usize, came: &[u8]) -> Result<Option<Difference>, AllocError> {
     let expected = long_line(alloc, octets)?;
-    compare_text(alloc, came, Source::new(expected.as_slice()))
+    compare(alloc, came, expected.as_slice())
 }
 
 /// Tells whether a line is shown as far as there is room, with this behind it, beside `xxx`.
@@ -115,7 +123,7 @@ fn is_shown(difference: &Option<Difference>, end: LineEnd) -> bool {
 }
 
 /// Tells whether that is so of a line of so many octets.
-fn is_line_shown(alloc: Global, octets: usize, end: LineEnd) -> Result<bool, CompareFault> {
+fn is_line_shown(alloc: Global, octets: usize, end: LineEnd) -> Result<bool, AllocError> {
     let difference = differs(alloc, octets, b"xxx\n")?;
     Ok(is_shown(&difference, end))
 }
@@ -142,7 +150,7 @@ fn altered_line(alloc: Global, octets: usize, place: usize) -> Result<Vec<u8>, A
 }
 
 /// Where two long lines differ that differ in one octet.
-fn differs_far_behind(alloc: Global) -> Result<Option<Difference>, CompareFault> {
+fn differs_far_behind(alloc: Global) -> Result<Option<Difference>, AllocError> {
     let came = altered_line(alloc, 200_000, 150_000)?;
     differs(alloc, 200_000, &came)
 }
@@ -161,7 +169,7 @@ fn is_far(difference: &Option<Difference>) -> bool {
 }
 
 /// Tells whether that is so of the two lines.
-fn is_told_far_behind(alloc: Global) -> Result<bool, CompareFault> {
+fn is_told_far_behind(alloc: Global) -> Result<bool, AllocError> {
     let difference = differs_far_behind(alloc)?;
     Ok(is_far(&difference))
 }

@@ -1,4 +1,5 @@
 //! Scripts beside what they have to write; what is told of each, in each form.
+use gp_compare::CompareError;
 use gp_outcome::{
     Expected, Failure, Outcome, Tally, Verdict, judge, path_of, push_suite, push_suites_begin,
     push_suites_end, verdict_line, verdict_object,
@@ -130,9 +131,22 @@ fn verdict_of(alloc: Global, file: &str, outcome: Outcome) -> Result<Verdict, Al
     })
 }
 
+/// Judges octets by what is at hand. Where that can't be read, which it always can, they were not played to their end.
+fn judge_by(
+    alloc: Global,
+    octets: &[u8],
+    expected: Expected<&'static [u8]>,
+) -> Result<Outcome, AllocError> {
+    match judge(alloc, octets, expected) {
+        Ok(outcome) => Ok(outcome),
+        Err(CompareError::Read(_)) => Ok(Outcome::Failed(Failure::Stopped)),
+        Err(CompareError::OutOfMemory) => Err(AllocError),
+    }
+}
+
 /// Judges a case.
 fn verdict_on(alloc: Global, case: &Case) -> Result<Verdict, AllocError> {
-    let outcome = judge(alloc, case.script.as_bytes(), expected_of(case))?;
+    let outcome = judge_by(alloc, case.script.as_bytes(), expected_of(case))?;
     verdict_of(alloc, "x.toml", outcome)
 }
 
@@ -176,7 +190,7 @@ fn memory_short_or_ample(rt: HostRuntime) {
 
 /// Judges a script by a trace.
 fn judged(alloc: Global, trace: &'static str) -> Result<Outcome, AllocError> {
-    judge(
+    judge_by(
         alloc,
         SCRIPT.as_bytes(),
         Expected::Trace(Source::new(trace.as_bytes())),

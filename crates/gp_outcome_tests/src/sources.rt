@@ -1,5 +1,6 @@
 //! Sources that give an octet at a time, or fail in the middle.
-use gp_compare::{CompareFault, Difference, compare_text};
+use gp_compare::{CompareError, Difference, compare_text};
+use gp_outcome::{Expected, judge};
 use gp_stream::Source;
 use std::alloc::Global;
 use std::io;
@@ -58,27 +59,47 @@ fn is_second(difference: &Option<Difference>) -> bool {
 }
 
 /// Tells whether that is so of a text.
-fn differs_second(alloc: Global, came: &[u8], octets: &'static [u8]) -> Result<bool, CompareFault> {
-    let difference = compare_text(alloc, came, source_of(octets, 100))?;
-    Ok(is_second(&difference))
+fn differs_second(alloc: Global, came: &[u8], octets: &'static [u8]) -> bool {
+    match compare_text(alloc, came, source_of(octets, 100)) {
+        Ok(difference) => is_second(&difference),
+        Err(_) => false,
+    }
 }
 
 #[test]
 fn octets_may_come_one_by_one(rt: HostRuntime) {
     assert!(rt; are_same(rt.alloc(), b"ab\ncd\n", b"ab\ncd\n"));
-    let differs = differs_second(rt.alloc(), b"ab\nxd\n", b"ab\ncd\nef\n");
-    assert!(rt; differs == Ok(true));
+    assert!(rt; differs_second(rt.alloc(), b"ab\nxd\n", b"ab\ncd\nef\n"));
 }
 
-/// The fault of a source that fails behind so many octets.
-fn fault_at(alloc: Global, fails_at: usize) -> Option<CompareFault> {
-    compare_text(alloc, b"ab\ncd\n", source_of(b"ab\ncd\n", fails_at)).err()
+/// Tells whether a source that fails behind so many octets comes back, and no read of it is left.
+fn comes_back(alloc: Global, fails_at: usize) -> bool {
+    match compare_text(alloc, b"ab\ncd\n", source_of(b"ab\ncd\n", fails_at)) {
+        Err(CompareError::Read(source)) => !source.can_read(),
+        Ok(_) | Err(CompareError::OutOfMemory) => false,
+    }
 }
 
 #[test]
 fn a_read_that_fails_is_told_wherever_it_does(rt: HostRuntime) {
     for fails_at in 0..7 {
-        let fault = fault_at(rt.alloc(), fails_at);
-        assert!(rt; fault == Some(CompareFault::Read), "{fails_at}");
+        assert!(rt; comes_back(rt.alloc(), fails_at), "{fails_at}");
     }
+}
+
+/// Tells whether what stands beside octets, and can't be read, comes back.
+fn judging_gives_back(alloc: Global, octets: &[u8], beside: Expected<Slow>) -> bool {
+    match judge(alloc, octets, beside) {
+        Err(CompareError::Read(source)) => !source.can_read(),
+        Ok(_) | Err(CompareError::OutOfMemory) => false,
+    }
+}
+
+#[test]
+fn what_stands_beside_a_script_comes_back_where_it_can_t_be_read(rt: HostRuntime) {
+    let script = b"licences = 1\n[[port]]\nadmit = []\n[[event]]\nport = 0\nframes = 3\n";
+    let trace = Expected::Trace(source_of(b"0 0 frame = ok\n", 15));
+    assert!(rt; judging_gives_back(rt.alloc(), script, trace));
+    let faults = Expected::Faults(source_of(b"", 0));
+    assert!(rt; judging_gives_back(rt.alloc(), b"licences = 0\n", faults));
 }

@@ -6,6 +6,7 @@ ghost use Rattle.oltctl.specs.Tested.{PassesBy, is_passed};
 
 use crate::observed::{Observed, Seen, same_error};
 use crate::reporting::cause_text;
+use gp_compare::CompareError;
 use gp_folder::{Beside, Case, Part};
 use gp_outcome::{Expected, Failure, Outcome, judge, path_of};
 use gp_replay::{PlayFault, play_script};
@@ -152,12 +153,14 @@ fn judge_by<R: AllocGlobal + Files>(
         Part::Faults => Expected::Faults(source),
         Part::Trace | Part::Script => Expected::Trace(source),
     };
-    match judge(alloc, octets, expected)? {
-        Outcome::Failed(Failure::Unread { .. }) => {
+    match judge(alloc, octets, expected) {
+        Ok(outcome) => Ok(outcome),
+        Err(CompareError::Read(source)) => {
+            drop(source);
             let failure = unread(alloc, part, "can't be read", &seen)?;
             Ok(Outcome::Failed(failure))
         }
-        outcome => Ok(outcome),
+        Err(CompareError::OutOfMemory) => Err(AllocError),
     }
 }
 
@@ -252,10 +255,10 @@ fn bless<R: AllocGlobal + Files>(rt: &R, octets: &[u8], path: &str) -> Result<Ou
     ensures { IfOk result (λ outcome. is_passed outcome ≡ false) }
 {
     let empty: &[u8] = &[];
-    let outcome = judge(rt.alloc(), octets, Expected::Trace(Source::endless(empty)))?;
-    match outcome {
-        Outcome::Failed(Failure::NothingPlayed) => Ok(outcome),
-        _ => write_trace(rt, octets, path),
+    match judge(rt.alloc(), octets, Expected::Trace(Source::endless(empty))) {
+        Ok(Outcome::Failed(Failure::NothingPlayed)) => Ok(Outcome::Failed(Failure::NothingPlayed)),
+        Ok(_) | Err(CompareError::Read(_)) => write_trace(rt, octets, path),
+        Err(CompareError::OutOfMemory) => Err(AllocError),
     }
 }
 
@@ -269,7 +272,10 @@ fn judge_alone<R: AllocGlobal + Files>(
 ) -> Result<Outcome, AllocError>
     ensures { IfOk result (λ outcome. is_passed outcome ≡ false) }
 {
-    match judge::<&[u8]>(rt.alloc(), octets, Expected::Nothing)? {
+    let Ok(outcome) = judge::<&[u8]>(rt.alloc(), octets, Expected::Nothing) else {
+        return Err(AllocError);
+    };
+    match outcome {
         Outcome::Failed(Failure::NothingBeside) if is_blessed => bless(rt, octets, path),
         outcome => Ok(outcome),
     }

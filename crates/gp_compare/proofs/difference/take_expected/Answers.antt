@@ -7,8 +7,8 @@ use Rattle.gp_compare.proofs.difference.take_expected.Goals as goal
 pub reads-init : goal.reads-init
 reads-init g c = showing_none _ _ c.requires
 
-pub returns-then-is_whole : goal.returns-then-is_whole
-returns-then-is_whole g c =
+pub returns-then-is_whole-clause-shows : goal.returns-then-is_whole-clause-shows
+returns-then-is_whole-clause-shows g c =
     let whole : c.reads.line.end ≡ Text → ⊥ = search rules in
     showing_ends _ _ _ _ c.reads.invariant (inl whole)
 

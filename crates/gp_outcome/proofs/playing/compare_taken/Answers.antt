@@ -6,4 +6,4 @@ use Rattle.gp_outcome.proofs.playing.compare_taken.Goals as goal
 pub returns-in-Some : goal.returns-in-Some
 returns-in-Some g c =
     let stopped : c.args.played ≡ Err faults.Write = search rules in
-    stopped_other _ _ _ _ _ stopped c.in-Some.is c.in_ok-stop-in-Err-Write.ensures.differs
+    record { compares = stopped_other _ _ _ _ _ stopped c.in-Some.is c.in_ok-stop-in-Err-Write.ensures.differs; err = tt }

@@ -1,10 +1,11 @@
-use Rattle.std.proofs.Common.{◌≡◌, IfOk, None, ap, rules, subst}
+use Rattle.std.proofs.Common.{◌≡◌, None, ap, rules, subst}
 use Rattle.gp_compare.specs.Comparer.{ComparesAs}
-use Rattle.gp_compare.proofs.ComparerLemmas.{ends_ok}
+use Rattle.gp_compare.proofs.ComparerLemmas.{known_ends}
 use Rattle.gp_compare.proofs.comparer.Comparer.end.Goals as goal
 
-pub returns-in-None-clause-compares : goal.returns-in-None-clause-compares
-returns-in-None-clause-compares g c =
+pub returns-in-Ok-clause-compares : goal.returns-in-Ok-clause-compares
+returns-in-Ok-clause-compares g c =
     let none : c.self.inside.fault ≡ None = search rules in
-    subst (λ taken. IfOk c.make_end.result (ComparesAs g.E.Expects.expected taken)) (ap (λ s. s.taken) c.self.view_is)
-    (ends_ok _ _ _ _ _ _ _ _ none c.in-None.is c.self.invariant c.make_end.ensures)
+    let unfound : c.self.inside.difference ≡ None = search rules in
+    subst (λ taken. ComparesAs g.E.Expects.expected taken c.in-Ok.end) (ap (λ s. s.taken) c.self.view_is)
+    (known_ends _ _ _ _ _ _ _ _ none unfound c.self.invariant c.in-Ok.ensures.ends)
