@@ -162,6 +162,11 @@ class Log:
         """Whether nothing is owed about these: a new message would cut its copies short."""
         return not any(job.subjects & set(subjects) for job in self.jobs)
 
+    def is_begun(self, held):
+        """Whether its number was told to a unit, once at least: a terminal may range between the copies."""
+        about = [job for job in self.jobs if ("onu", held.onu) in job.subjects]
+        return not about or all(job.octets[1] == 3 and job.sent > 0 for job in about)
+
     def send_one(self):
         if not self.jobs:
             return
@@ -343,10 +348,11 @@ class Log:
             self.chatter()
         if chance.random() < 0.05:
             self.search()
-        ready = [held for held in self.held.values() if self.is_free([("onu", held.onu)])]
+        ready = [held for held in self.held.values() if self.is_begun(held)]
         if ready and chance.random() < 0.7:
             held = chance.choice(ready)
-            self.ask(held, "poll" if held.eqd is not None and self.is_free([("ranging", held.onu)]) and chance.random() < 0.9 else "range")
+            is_settled = held.eqd is not None and self.is_free([("onu", held.onu), ("ranging", held.onu)])
+            self.ask(held, "poll" if is_settled and chance.random() < 0.9 else "range")
         self.land()
         self.frame += 1
 

@@ -142,11 +142,17 @@ class Auditor:
             self.end_subject(other)
         if subject is None:
             return
-        ends = [subject]
-        if subject[0] == "unit":
+        is_another = subject not in self.open or self.open[subject][0] != bytes(octets)
+        ends = [subject] if is_another and subject in self.open else []
+        if is_another and subject[0] == "unit":
             ends += [it for it in self.open if it[0] in ("range", "alloc") and it[1] == subject[1]]
+        may_be_copy = not self.is_whole and subject not in self.subjects
         for other in ends:
-            if other in self.open and self.open[other][0] != bytes(octets):
+            if may_be_copy:
+                # it isn't known whether this message was said before: whether it ends the others isn't either
+                del self.open[other]
+                self.subjects.discard(other)
+            else:
                 self.end_subject(other)
         if subject in self.open:
             kept = self.open[subject]
