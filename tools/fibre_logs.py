@@ -250,7 +250,9 @@ class Log:
         if unit.owed and chance.random() < 0.5:
             return [onu, chance.choice([2, 5, 7, 8]), *(chance.randrange(256) for _ in range(10))]
         unit.quiet += bool(unit.owed)
-        return [onu, 4] if chance.random() < 0.9 or unit.owed else [onu, chance.choice([2, 5, 7, 8]), *(chance.randrange(256) for _ in range(10))]
+        if chance.random() < 0.9 or unit.owed:
+            return [onu, 4]
+        return [onu, chance.choice([2, 5, 7, 8]), *(chance.randrange(256) for _ in range(10))]
 
     # ---- a frame
 
@@ -404,10 +406,11 @@ class Log:
         ranged = self.ranged()
         if not ranged:
             return None
-        held, first = self.chance.choice(ranged), None
-        for _ in range(self.chance.randint(1, 2)):
-            first = self.down(ranging_time(held.onu, held.eqd + 1)) if first is None else (self.down(ranging_time(held.onu, held.eqd + 1)), first)[1]
-            self.frame += 1
+        held = self.chance.choice(ranged)
+        first = self.down(ranging_time(held.onu, held.eqd + 1))
+        self.frame += 1
+        if self.chance.random() < 0.5:
+            self.down(ranging_time(held.onu, held.eqd + 1))
         self.thrice(ranging_time(held.onu, held.eqd + 2))
         return first
 
@@ -447,7 +450,9 @@ class Log:
 
     def break_unranged(self):
         ready = [held for held in self.fresh() if not held.delays]
-        return self.thrice(ranging_time(self.chance.choice(ready).onu, 1_000)) if ready and any(line[1] == "up" for line in self.lines) else None
+        if not ready or all(line[1] != "up" for line in self.lines):
+            return None
+        return self.thrice(ranging_time(self.chance.choice(ready).onu, 1_000))
 
     def break_delay(self):
         ready = [held for held in self.held.values() if held.delays and (held.eqd is None or not self.is_total)]
