@@ -72,11 +72,20 @@ fn octets_may_come_one_by_one(rt: HostRuntime) {
     assert!(rt; differs_second(rt.alloc(), b"ab\nxd\n", b"ab\ncd\nef\n"));
 }
 
+/// Tells whether nothing more can be read of a source that came back.
+fn is_spent(source: Source<Slow>) -> bool {
+    !source.can_read()
+}
+
 /// Tells whether a source that fails behind so many octets comes back, and no read of it is left.
 fn comes_back(alloc: Global, fails_at: usize) -> bool {
     match compare_text(alloc, b"ab\ncd\n", source_of(b"ab\ncd\n", fails_at)) {
-        Err(CompareError::Read(source)) => !source.can_read(),
-        Ok(_) | Err(CompareError::OutOfMemory) => false,
+        Ok(found) => {
+            drop(found);
+            false
+        }
+        Err(CompareError::Read(source)) => is_spent(source),
+        Err(CompareError::OutOfMemory) => false,
     }
 }
 
@@ -90,8 +99,12 @@ fn a_read_that_fails_is_told_wherever_it_does(rt: HostRuntime) {
 /// Tells whether what stands beside octets, and can't be read, comes back.
 fn judging_gives_back(alloc: Global, octets: &[u8], beside: Expected<Slow>) -> bool {
     match judge(alloc, octets, beside) {
-        Err(CompareError::Read(source)) => !source.can_read(),
-        Ok(_) | Err(CompareError::OutOfMemory) => false,
+        Ok(found) => {
+            drop(found);
+            false
+        }
+        Err(CompareError::Read(source)) => is_spent(source),
+        Err(CompareError::OutOfMemory) => false,
     }
 }
 
