@@ -1,13 +1,12 @@
 -- What has to be declared for the changes that are held back (this profile's own rule).
 -- Inside: no public contract cites this.
-use Rattle.std.specs.Prelude.{◌≡◌, ◌≤◌, ℕ, true, List, Option, None, Some, replicate, ⊤, ⊥}
-use Rattle.gp_machine.specs.Config.{max_ports}
+use Rattle.std.specs.Prelude.{◌≡◌, ◌≤◌, ℕ, true, List, Option, None, Some, ⊤}
 use Rattle.gp_dump.specs.declared.change.Change.{Change}
 use Rattle.gp_dump.specs.declared.change.Change.TheVariants as change
 use Rattle.gp_dump.specs.Dump.{is_declared}
 use Rattle.gp_waves.specs.declared.held.What.{What}
 use Rattle.gp_waves.specs.declared.held.What.TheVariants as what
-use Rattle.gp_waves.specs.Queue.{most_lanes, fits}
+pub use Rattle.gp_waves.specs.Queue.{most_lanes, fits}
 use Rattle.gp_waves.specs.Writing.{all_ports}
 
 -- a port of the second has the lanes of the first
@@ -18,8 +17,8 @@ IsWithin (Some lanes) (Some others) = lanes ≤ others
 
 -- what changes, as a change of a port
 abbrev pub change_of : ℕ → What → Change
-change_of port (what.OfPort change) = change.Port port change
-change_of port (what.OfUnit lane change) = change.Unit port lane change
+change_of port (what.OfPort to) = change.Port port to
+change_of port (what.OfUnit lane to) = change.Unit port lane to
 
 -- the variable of a change is among those of these ports, and of all that there can be
 abbrev pub HasVariable : List (Option ℕ) → Change → Type 0

@@ -13,8 +13,8 @@ most_lanes = 256
 
 -- a change has its variable at a port of so many lanes, if that is declared
 abbrev pub fits : Option ℕ → What → Type 0
-fits lanes (what.OfPort change) = is_some lanes ≡ true
-fits lanes (what.OfUnit lane change) = has_lane lane lanes ≡ true
+fits lanes (what.OfPort to) = is_some lanes ≡ true
+fits lanes (what.OfUnit lane to) = has_lane lane lanes ≡ true
 
 -- each of these changes has its variable at a port of so many lanes, and there are no more than a port may have
 abbrev pub AreHeld : Option ℕ → List HeldChange → Type 0
