@@ -106,12 +106,12 @@ fn read_text(text: &[u8], line: &mut LogLine) -> Result<(), LogFault>
 /// more. The port is 0 where one field stands in front of the word; where two do, they are port and time. Numbers are
 /// decimal, and zeros may stand in front. A delay is below 2 ^ 32.
 ///
-/// A time is a whole number of frames, or a number with the unit `us`, `ms` or `s` right behind it, perhaps with a
-/// decimal point between digits. It is kept as nanoseconds, of which a frame has 125,000: so frames and the times of a
-/// clock can be compared, and nothing is rounded. A finer time is a fault.
+/// A time is a whole number of frames, or a number with the unit `s`, `ms`, `us`, `µs` or `ns` right behind it, perhaps
+/// with a decimal point between digits. It is kept as nanoseconds, of which a frame has 125,000: so frames and the
+/// times of a clock can be compared. What is finer is cut off. For `down` and `up` other words may stand (`word.rt`).
 ///
-/// A code is 26 hexadecimal digits in either case, perhaps with `0x` in front, and perhaps with a colon, a hyphen or a
-/// space between two octets. It ends with its thirteenth octet: a number behind that is the delay.
+/// A code is 26 hexadecimal digits in either case, perhaps quoted, with `0x` in front, and with a colon, a hyphen, a
+/// dot or a space between two octets. It ends with its thirteenth octet: a number behind that is the delay.
 ///
 /// Any line that `gp_lines::split_line` cuts is one of a trace. Of its answer only that to a frame is looked at: `ok`,
 /// what was sent, what was granted, and perhaps an alarm, its fields as those of a log.
