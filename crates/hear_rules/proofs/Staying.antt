@@ -9,7 +9,7 @@ use Rattle.gp_ploam.specs.Serials.{same_serial}
 use Rattle.gp_ploam.proofs.Serials.{same_serial-true, same_serial-itself}
 use Rattle.gp_observer.specs.Observer.{is_unit_number}
 use Rattle.hear_rules.specs.Facts.{Fact, Unknown, Nothing, Is, Sure, Yes, No, Unsure}
-use Rattle.hear_rules.specs.Known.{Number, Unheard, Nobodys, Of, Owner, Unclear, Free, Has, Known, left_by, lost_by, lost_with, given_up, freed, owner_after, owner_given, owner_told, dropped, ranged, after_assign, after_drop, after_drop_all, after_pop_up_all, after_adjust, after_message}
+use Rattle.hear_rules.specs.Known.{Number, Unheard, Nobodys, Of, Owner, Unclear, Free, Has, Known, left_by, lost_by, lost_with, given_up, freed, still_free, owner_after, owner_given, owner_told, dropped, ranged, after_assign, after_drop, after_drop_all, after_pop_up_all, after_adjust, after_message}
 use Rattle.hear_rules.specs.Laws.{IsRepetition, names_onu, names_serial, StaysRepetition}
 use Rattle.hear_rules.proofs.Repeating.{pick, skip}
 
@@ -153,12 +153,25 @@ module _ (k : Known) (n : ℕ) where
 
   its_same : (o : Owner) → NotIts o → owner_after (λ j. cond (j == n) Yes No) o ≡ o
   its_same Unclear h = refl
-  its_same (Free l) h = refl
+  its_same (Free Unknown) h = refl
+  its_same (Free Nothing) h = refl
+  its_same (Free (Is j)) h = by_own (j == n)
+    where
+      by_own : (b : Bool) → still_free (cond b Yes No) j ≡ Free (Is j)
+      by_own true = refl
+      by_own false = refl
   its_same (Has j l) h = ap (λ b. freed (cond b Yes No) j l) h
 
   after_not : (lost : ℕ → Sure) (o : Owner) → NotIts o → NotIts (owner_after lost o)
   after_not lost Unclear h = tt
-  after_not lost (Free l) h = tt
+  after_not lost (Free Unknown) h = tt
+  after_not lost (Free Nothing) h = tt
+  after_not lost (Free (Is j)) h = by_lost (lost j)
+    where
+      by_lost : (x : Sure) → NotIts (still_free x j)
+      by_lost Yes = tt
+      by_lost No = tt
+      by_lost Unsure = tt
   after_not lost (Has j l) h = by_lost (lost j)
     where
       by_lost : (x : Sure) → NotIts (freed x j l)

@@ -130,11 +130,18 @@ given_up (Is held) onu = if held == onu then Nothing else Is held
 
 -- ---- Alloc-IDs
 
--- whether the Alloc-IDs of an ONU-ID are lost, where a unit gets it: who held it already may have restarted
+-- whether who holds an ONU-ID loses its Alloc-IDs, where it gets it again: it may have restarted, but without a delay it
+-- has none
+abbrev pub may_lose : Fact ℕ → Sure
+may_lose Unknown = Unsure
+may_lose Nothing = No
+may_lose (Is eqd) = Unsure
+
+-- whether the Alloc-IDs of an ONU-ID are lost, where a unit gets it
 abbrev pub lost_of : Number → Serial → Sure
 lost_of Unheard serial = Unsure
 lost_of Nobodys serial = Yes
-lost_of (Of holder delay answers) serial = if same_serial serial holder then Unsure else Yes
+lost_of (Of holder delay answers) serial = if same_serial serial holder then may_lose delay else Yes
 
 -- or those of another ONU-ID, where a unit gets this one, or is disabled
 abbrev pub lost_by : Number → Serial → Sure
@@ -148,9 +155,20 @@ freed Yes onu last = Free (Is onu)
 freed No onu last = Has onu last
 freed Unsure onu last = Unclear
 
+-- one that nobody has: where it isn't known whether a unit lost its Alloc-IDs, nothing is known of those that it had last
+abbrev pub still_free : Sure → ℕ → Owner
+still_free Yes onu = Free (Is onu)
+still_free No onu = Free (Is onu)
+still_free Unsure onu = Unclear
+
+abbrev pub free_after : (ℕ → Sure) → Fact ℕ → Owner
+free_after lost Unknown = Free Unknown
+free_after lost Nothing = Free Nothing
+free_after lost (Is onu) = still_free (lost onu) onu
+
 abbrev pub owner_after : (ℕ → Sure) → Owner → Owner
 owner_after lost Unclear = Unclear
-owner_after lost (Free last) = Free last
+owner_after lost (Free last) = free_after lost last
 owner_after lost (Has onu last) = freed (lost onu) onu last
 
 -- it is given to an ONU-ID

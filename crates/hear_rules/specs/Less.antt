@@ -42,7 +42,7 @@ LessNumber (Of holder delay answers) Nobodys = ⊥
 
 abbrev pub LessOwner : Owner → Owner → Type 0
 LessOwner Unclear more = Unit {0}
-LessOwner (Free last) (Free its) = LessFact last its
+LessOwner (Free last) (Free its) = its ≡ last
 LessOwner (Free last) Unclear = ⊥
 LessOwner (Free last) (Has onu its) = ⊥
 LessOwner (Has onu last) (Has other its) = (other ≡ onu) × LessFact last its
