@@ -1,0 +1,5 @@
+pub mod Rowed
+pub mod Ranks
+pub mod Followeds
+pub mod Indexed
+pub mod Reading

@@ -1,0 +1,10 @@
+use Rattle.std.proofs.Common.{◌≡◌, ℕ, ◌<◌, map, get_or}
+use Rattle.hear_state.specs.Index.{blank_place, enabled_place}
+use Rattle.hear_state.proofs.index.enable_each.Given as goal
+
+-- once all are enabled it comes to the same, and those so far are
+abbrev pub invariant-loop-place : goal.invariant-loop-place
+invariant-loop-place l = record {
+  same : map enabled_place l.places ≡ map enabled_place l.initial.places;
+  done : (i : ℕ) → i < l.place-index → enabled_place (get_or l.places i blank_place) ≡ get_or l.places i blank_place;
+}

@@ -1,0 +1,10 @@
+use Rattle.std.proofs.Common.{◌≡◌, ℕ, ◌<◌, map, get_or}
+use Rattle.hear_state.specs.Rows.{popped_up_row, unheard_row}
+use Rattle.hear_state.proofs.rows.pop_up_each.Given as goal
+
+-- once all are changed it comes to the same, and those so far are
+abbrev pub invariant-loop-row : goal.invariant-loop-row
+invariant-loop-row l = record {
+  same : map popped_up_row l.rows ≡ map popped_up_row l.initial.rows;
+  done : (i : ℕ) → i < l.row-index → popped_up_row (get_or l.rows i unheard_row) ≡ get_or l.rows i unheard_row;
+}

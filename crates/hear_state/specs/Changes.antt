@@ -1,0 +1,79 @@
+-- What becomes of what is kept, where the code says it in steps (this profile's own rule).
+-- Inside: no public contract cites this.
+use Rattle.std.specs.Prelude.{◌≡◌, ℕ, ◌==◌, Bool, true, false, List, map, if◌then◌else◌, set}
+use Rattle.std.specs.FinMap.{insert}
+use Rattle.gp_ploam.specs.declared.message.Serial.{Serial}
+use Rattle.gp_ploam.specs.Serials.{same_serial}
+use Rattle.gp_table.specs.Values.{map_values}
+use Rattle.hear_state.specs.declared.facts.Fact.{Fact}
+use Rattle.hear_state.specs.declared.facts.Fact.TheVariants as fact
+use Rattle.hear_state.specs.declared.rows.Row.{Row}
+use Rattle.hear_state.specs.declared.rows.Row.TheVariants as row
+use Rattle.hear_state.specs.declared.index.Followed.{Followed}
+use Rattle.hear_state.specs.Index.{Followeds, changed, released, enabled}
+use Rattle.hear_state.specs.Rows.{dropped_row, popped_up_row}
+use Rattle.hear_state.specs.Kept.{Kept, row_at, followed_at}
+
+-- a serial number holds this row's ONU-ID
+abbrev pub is_held_by : Row → Serial → Bool
+is_held_by row.Unheard serial = false
+is_held_by row.Nobodys serial = false
+is_held_by (row.Of holder delay answers) serial = same_serial serial holder
+
+-- the ONU-ID that a unit held is nobody's
+abbrev pub rows_without : List Row → Fact ℕ → List Row
+rows_without rows fact.Unknown = rows
+rows_without rows fact.Nothing = rows
+rows_without rows (fact.Is onu) = set rows onu row.Nobodys
+
+-- who held the ONU-ID of this row holds none
+abbrev pub index_without : Followeds → Row → Followeds
+index_without index row.Unheard = index
+index_without index row.Nobodys = index
+index_without index (row.Of holder delay answers) = changed index holder released
+
+-- an ONU-ID is a unit's, and is not who held it before
+abbrev pub kept_assigned : Kept → ℕ → Serial → Row → Followed → Kept
+kept_assigned kept onu serial row followed =
+    record kept {
+      rows = set (rows_without kept.rows (followed_at kept serial).holds) onu row;
+      followed =
+          if is_held_by (row_at kept onu) serial
+          then insert kept.followed serial followed
+          else index_without (insert kept.followed serial followed) (row_at kept onu);
+    }
+
+abbrev pub kept_with_row : Kept → ℕ → Row → Kept
+kept_with_row kept onu row = record kept { rows = set kept.rows onu row }
+
+abbrev pub kept_following : Kept → Serial → Followed → Kept
+kept_following kept serial followed = record kept { followed = insert kept.followed serial followed }
+
+abbrev pub kept_dropped : Kept → ℕ → Kept
+kept_dropped kept onu =
+    record kept {
+      rows = set kept.rows onu row.Nobodys;
+      followed = index_without kept.followed (row_at kept onu);
+    }
+
+abbrev pub kept_all_dropped : Kept → Kept
+kept_all_dropped kept =
+    record kept {
+      rows = map dropped_row kept.rows;
+      followed = map_values released kept.followed;
+      others = released kept.others;
+    }
+
+abbrev pub kept_disabled : Kept → Serial → Followed → Kept
+kept_disabled kept serial followed =
+    record kept {
+      rows = rows_without kept.rows (followed_at kept serial).holds;
+      followed = insert kept.followed serial followed;
+    }
+
+abbrev pub kept_all_enabled : Kept → Kept
+kept_all_enabled kept =
+    record kept { followed = map_values enabled kept.followed; others = enabled kept.others }
+
+abbrev pub kept_popped_up : Kept → Kept
+kept_popped_up kept = record kept { rows = map popped_up_row kept.rows }

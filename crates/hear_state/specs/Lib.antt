@@ -1,0 +1,6 @@
+pub mod Facts
+pub mod Rows
+pub mod Index
+pub mod Kept
+pub mod Changes
+pub mod Heard
