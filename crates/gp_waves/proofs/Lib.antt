@@ -1,3 +1,4 @@
+pub mod HeldLemmas
 pub mod WritingLemmas
 pub mod ServingLemmas
 pub mod CourseLemmas

@@ -10,7 +10,7 @@ use Rattle.gp_flow.specs.declared.lines.LinesEnd.{LinesEnd}
 use Rattle.gp_flow.specs.declared.lines.LinesEnd.TheVariants.{Whole, Open, Over}
 use Rattle.gp_flow.specs.declared.fault.LinesFault.{LinesFault}
 use Rattle.gp_flow.specs.declared.fault.LinesFault.TheVariants as faults
-use Rattle.gp_flow.specs.Lines.{DoesAll, GetsAll, GetsPrefix, Leaves, Serves, ServesTo, ended_lines, handed, lines_of, longest_line}
+use Rattle.gp_flow.specs.Lines.{DoesAll, GetsAll, GetsPrefix, Leaves, Serves, ServesFull, ServesTo, ended_lines, handed, lines_of, longest_line}
 use Rattle.gp_flow.proofs.AnswerLemmas.{all_of_some}
 use Rattle.gp_flow.proofs.LineLemmas.{ended_first, handed_none, handed_whole}
 use Rattle.gp_stream.specs.declared.sink.WriteStopped.{WriteStopped}
@@ -22,7 +22,7 @@ use Rattle.gp_explain.specs.declared.fault.ExplainFault.TheVariants.{Refused, Li
 use Rattle.gp_explain.specs.declared.fault.NoLine.{NoLine}
 use Rattle.gp_dump.specs.Dump.{DumpState}
 use Rattle.gp_dump.specs.Head.{head_text}
-use Rattle.gp_dump.proofs.PartLemmas.{continues_none}
+use Rattle.gp_dump.proofs.PartLemmas.{continues_more, continues_none}
 use Rattle.gp_ploam.specs.declared.check.Mask.{Mask}
 use Rattle.gp_finding.specs.declared.codes.Codes.{Codes}
 use Rattle.gp_finding.specs.Codes.{CodesLead, no_codes}
@@ -30,11 +30,10 @@ use Rattle.gp_waves.specs.declared.running.WavesSum.{WavesSum}
 use Rattle.gp_times.specs.declared.frames.Frames.{Frames}
 use Rattle.gp_times.specs.Lines.{AreRead, IsUnread, Lead}
 use Rattle.gp_times.specs.Times.{TimesState, outside_of, times_begun}
-use Rattle.gp_waves.specs.Dumping.{Dumping, IsFull, Says, WavesState, has_ended}
-use Rattle.gp_waves.specs.Writing.{Grows, GrowsAs, Written}
-use Rattle.gp_waves.specs.Outcome.{DumpsWaves, GetsDump, IsBegun, IsDump, IsFound, IsFoundBy, IsNone, IsRefused, IsRest, IsUnfinished, WritesRest}
+use Rattle.gp_waves.specs.Dumping.{Dumping, IsFull, Says, WavesState, has_ended, opened}
+use Rattle.gp_waves.specs.Writing.{Ends, EndsAs, Grows, GrowsAs, IsDump, Written, all_ports}
+use Rattle.gp_waves.specs.Outcome.{DumpsWaves, GetsDump, IsBegun, IsFound, IsFoundBy, IsNone, IsRefused, IsRest, IsUnfinished, WritesRest}
 use Rattle.gp_waves.proofs.CourseLemmas.{Course, Fails, Halts, course, wholes}
-use Rattle.gp_waves.proofs.WritingLemmas.{grows_more}
 
 -- ---- lines that were handed on
 
@@ -88,13 +87,34 @@ none_of why (Some text) raw is fails =
 -- ---- a dump
 
 dump_as : (begun : Bool) (a b : DumpState) (text : List ℕ) → begun ≡ true → GrowsAs false begun a text b → IsDump text
-dump_as true a b text begun p = (b.ports, b.last, record { behind = p.0; head = p.1; continues = p.2 })
+dump_as true a b text begun p = (b.ports, b.last, record { behind = p.1; head = p.2; continues = p.3 })
 dump_as false a b text begun p = absurd (never begun)
 
+whole_dump_as : (begun : Bool) (a b : DumpState) (said text : List ℕ) → GrowsAs false begun a said b → EndsAs begun b text → IsDump (said ++ text)
+whole_dump_as false a b said text p q = subst (λ (l : List ℕ). IsDump (l ++ text)) (sym p) q
+whole_dump_as true a b said text p q = (
+  b.ports,
+  q.0,
+  record {
+    behind = p.1 ++ text;
+    head = ap (λ (l : List ℕ). l ++ text) p.2 ∙ append_assoc (head_text b.ports) p.1 text;
+    continues = continues_more b.ports None b.last q.0 p.1 text p.3 q.1;
+  },
+)
+
 -- what was written from the beginning on
-whole_dump : (old new : Written) (text : List ℕ) → old.begun ≡ false → new.begun ≡ true → Grows old text new → IsDump text
-whole_dump old new text shut begun p =
-    dump_as new.begun old.dump new.dump text begun (subst (λ (t : Bool). GrowsAs t new.begun old.dump text new.dump) shut p)
+whole_dump : (old mid : Written) (said text : List ℕ) → old.begun ≡ false → Grows old said mid → Ends mid text → IsDump (said ++ text)
+whole_dump old mid said text shut p q =
+    whole_dump_as mid.begun old.dump mid.dump said text (subst (λ (t : Bool). GrowsAs t mid.begun old.dump said mid.dump) shut p) q
+
+all_of_as : (begun : Bool) (a b : DumpState) (said : List ℕ) → begun ≡ true → GrowsAs false begun a said b → b.ports ≡ all_ports
+all_of_as true a b said begun p = p.0
+all_of_as false a b said begun p = absurd (never begun)
+
+-- all ports are declared by then
+all_of : (old mid : Written) (said : List ℕ) → old.begun ≡ false → Grows old said mid → mid.begun ≡ true → mid.dump.ports ≡ all_ports
+all_of old mid said shut p begun =
+    all_of_as mid.begun old.dump mid.dump said begun (subst (λ (t : Bool). GrowsAs t mid.begun old.dump said mid.dump) shut p)
 
 -- a dump of nothing
 empty_dump : IsDump (head_text [])
@@ -113,6 +133,7 @@ some_dump old new text shut p =
 
 -- what is known where it begins
 pub record IsOpened (mask : Mask) (state : WavesState) : Type 0 where
+  pub is : state ≡ opened mask
   pub lines : state.lines ≡ 0
   pub heard : state.heard ≡ false
   pub ended : state.ended ≡ None
@@ -120,6 +141,18 @@ pub record IsOpened (mask : Mask) (state : WavesState) : Type 0 where
   pub mask_is : state.mask ≡ mask
   pub codes : state.codes ≡ no_codes
   pub begun : state.written.begun ≡ false
+
+pub opens : (mask : Mask) (state : WavesState) → state ≡ opened mask → IsOpened mask state
+opens mask state is = record {
+  is = is;
+  lines = ap (λ (s : WavesState). s.lines) is;
+  heard = ap (λ (s : WavesState). s.heard) is;
+  ended = ap (λ (s : WavesState). s.ended) is;
+  times = ap (λ (s : WavesState). s.times) is;
+  mask_is = ap (λ (s : WavesState). s.mask) is;
+  codes = ap (λ (s : WavesState). s.codes) is;
+  begun = ap (λ (s : WavesState). s.written.begun) is;
+}
 
 started : (mask : Mask) (old new : WavesState) (ls : List (Option (List ℕ))) (said : List ℕ) → IsOpened mask old → DoesAll Dumping old ls said new
     → Course new.ended ls said old new
@@ -142,7 +175,7 @@ module _ {R W : Type 0} (frames : Frames) (mask : Mask) (from to : SourceState R
       let both = Appends-trans before.held mid.held after.held all text written (takes_whole mid after text w.gives.ok kept.0 w.empty) in
       record {
         dump = said ++ text;
-        whole = whole_dump old.written last.written (said ++ text) o.begun rest.begun (grows_more old.written state.written last.written said text grown rest.grown);
+        whole = whole_dump old.written state.written said text o.begun grown rest.ends;
         written = subst (λ (l : List ℕ). Appends before.held after.held l) (append_assoc before.gathered said text) both;
         kept = (w.empty, w.gives.flushed kept.1);
       }
@@ -159,7 +192,7 @@ module _ {R W : Type 0} (frames : Frames) (mask : Mask) (from to : SourceState R
         bytes = bytes;
         came = came;
         dump = said ++ text;
-        whole = whole_dump old.written last.written (said ++ text) o.begun rest.begun (grows_more old.written state.written last.written said text grown rest.grown);
+        whole = whole_dump old.written state.written said text o.begun grown rest.ends;
         written = all ++ p.written;
         unwritten = p.unwritten;
         all = append_assoc all p.written p.unwritten ∙ ap (λ (l : List ℕ). all ++ l) (sym parts) ∙ append_assoc before.gathered said text;
@@ -188,10 +221,10 @@ module _ {R W : Type 0} (frames : Frames) (mask : Mask) (from to : SourceState R
       → WritesRest state last mid after (Err fault) → DumpsWaves frames mask from to before after (Err fault)
   unwritten old state last bytes said (Refused line why) o grown came written kept w = absurd w
   unwritten old state last bytes said (Lines faults.Read) o grown came written kept w = absurd w
-  unwritten old state last bytes said (Lines (faults.Line fault)) o grown came written kept (inl same) =
-      inl (begun_none old state bytes said o grown came written same)
-  unwritten old state last bytes said (Lines (faults.Line fault)) o grown came written kept (inr (text, stopped, rest, w)) =
-      inl (begun_rest old state last bytes said text stopped o grown rest came written kept w)
+  unwritten old state last bytes said (Lines (faults.Line fault)) o grown came written kept (room, inl same) =
+      (inl (begun_none old state bytes said o grown came written same), λ is. absurd (room is))
+  unwritten old state last bytes said (Lines (faults.Line fault)) o grown came written kept (room, inr (text, stopped, rest, w)) =
+      (inl (begun_rest old state last bytes said text stopped o grown rest came written kept w), λ is. absurd (room is))
 
   refused : (why : NoLine) (old state : WavesState) (bytes : List ℕ) (ls others : List (List ℕ)) (said : List ℕ) → Consumes from.remaining to.remaining bytes
       → lines_of bytes ≡ ls ++ others → old.lines ≡ 0 → Halts why (map (handed longest_line) ls) said old state → GetsDump before after
@@ -309,6 +342,26 @@ module _ {R W : Type 0} (frames : Frames) (mask : Mask) (from to : SourceState R
   unwritten_as end old state last fault (Err e) o s w told =
       subst (λ (x : ExplainFault). DumpsWaves frames mask from to before after (Err x)) (sym told) (unwritten_to end old state last fault o s w)
 
+  -- behind the lines that were served all ports are declared, if something is written
+  pub all_to : (end : LinesEnd) (old state : WavesState) → IsOpened mask old → ServesTo Dumping has_ended longest_line end from to old state before mid
+      → state.written.begun ≡ true → state.written.dump.ports ≡ all_ports
+  all_to Whole old state o s begun =
+      let c = started mask old state (map (handed longest_line) (lines_of s.bytes)) s.said o s.spoken in
+      all_of old.written state.written s.said o.begun (course_grows state.ended _ s.said old state c) begun
+  all_to Open old state o s begun =
+      let c = started mask old state (map (handed longest_line) (lines_of s.bytes)) s.said o s.spoken in
+      all_of old.written state.written s.said o.begun (course_grows state.ended _ s.said old state c) begun
+  all_to Over old state o s begun =
+      let c = started mask old state (map (handed longest_line) (ended_lines s.0.bytes)) s.0.said o s.0.spoken in
+      all_of old.written state.written s.0.said o.begun (course_grows state.ended _ s.0.said old state c) begun
+
+  pub all_read : (served : LinesFault) (old state : WavesState) → served ≡ faults.Read → IsOpened mask old
+      → Serves Dumping has_ended longest_line from to old state before mid (Err served) → state.written.begun ≡ true → state.written.dump.ports ≡ all_ports
+  all_read served old state is o s begun =
+      let e = s.read (ap (λ (f : LinesFault). let r : Result LinesEnd LinesFault = Err f in r) is) in
+      let c = started mask old state (map (handed longest_line) (ended_lines e.bytes)) e.said o e.spoken in
+      all_of old.written state.written e.said o.begun (course_grows state.ended _ e.said old state c) begun
+
   -- ---- where the input could not be read
 
   pub unread : (old state last : WavesState) → IsOpened mask old → Serves Dumping has_ended longest_line from to old state before mid (Err faults.Read)
@@ -383,17 +436,23 @@ module _ {R W : Type 0} (frames : Frames) (mask : Mask) (from to : SourceState R
   line_fault fault old state o s =
       let e = s.fault fault refl in
       let whole = all_of_some IsFull Says old e.begun e.said e.spoken in
-      let c = started mask old whole.0 e.begun e.said o whole.1 in
-      inl (leaves_begun fault old whole.0 e.bytes e.said o (course_grows whole.0.ended e.begun e.said old whole.0 c) e.read e.written)
+      let c = started mask old whole.0 e.begun e.said o whole.1 in (
+        inl (leaves_begun fault old whole.0 e.bytes e.said o (course_grows whole.0.ended e.begun e.said old whole.0 c) e.read e.written),
+        λ is. subst (λ (first : WavesState). ServesFull Dumping longest_line from to first) o.is
+            (s.full (ap (λ (f : Unanswered). let r : Result LinesEnd LinesFault = Err (faults.Line f) in r) is)),
+      )
 
   pub line_fault_at : (told : LinesFault) (fault : Unanswered) (old state : WavesState) → told ≡ faults.Line fault → IsOpened mask old
       → Serves Dumping has_ended longest_line from to old state before after (Err told) → DumpsWaves frames mask from to before after (Err (Lines (faults.Line fault)))
   line_fault_at told fault old state is o s =
       line_fault fault old state o (subst (λ (f : LinesFault). Serves Dumping has_ended longest_line from to old state before after (Err f)) is s)
 
+memory_room : OutOfMemory ≡ Full → ⊥
+memory_room h = cc
+
 -- nothing was read, for want of memory
 pub unbegun : {R W : Type 0} (frames : Frames) (mask : Mask) (from : SourceState R) (before : SinkState W) (answer : Result WavesSum ExplainFault)
     → IsErrAnd answer (λ told. told ≡ Lines (faults.Line OutOfMemory)) → DumpsWaves frames mask from from before before answer
 unbegun frames mask from before (Ok sum) told = absurd told
 unbegun frames mask from before (Err e) told =
-    subst (λ (x : ExplainFault). DumpsWaves frames mask from from before before (Err x)) (sym told) (inr (refl, refl, refl))
+    subst (λ (x : ExplainFault). DumpsWaves frames mask from from before before (Err x)) (sym told) (inr (refl, refl, refl), λ is. absurd (memory_room is))

@@ -1,5 +1,5 @@
 -- How far an input was read, and what was written meanwhile (this profile's own rule).
-use Rattle.std.specs.Prelude.{◌≡◌, ℕ, ◌+◌, ◌⊎◌, ◌||◌, not, Bool, List, [], Option, None, Some, is_some, Ok}
+use Rattle.std.specs.Prelude.{◌≡◌, ℕ, ◌+◌, ◌⊎◌, ◌||◌, not, Bool, false, List, [], Option, None, Some, is_some, Ok}
 use Rattle.gp_flow.specs.Lines.{Speech, WholeLines, most_lines}
 use Rattle.gp_explain.specs.declared.fault.NoLine.{NoLine}
 use Rattle.gp_explain.specs.declared.fault.NoLine.TheVariants.{NotALine, TooLong}
@@ -7,10 +7,10 @@ use Rattle.gp_ploam.specs.declared.check.Mask.{Mask}
 use Rattle.gp_log.specs.declared.line.LogLine.{LogLine}
 use Rattle.gp_log.specs.Line.{Reads, says_nothing}
 use Rattle.gp_finding.specs.declared.codes.Codes.{Codes}
-use Rattle.gp_finding.specs.Codes.{codes_after}
-use Rattle.gp_times.specs.Times.{TimesState, times_after}
+use Rattle.gp_finding.specs.Codes.{codes_after, no_codes}
+use Rattle.gp_times.specs.Times.{TimesState, times_after, times_begun}
 use Rattle.gp_times.specs.Lines.{IsRead, IsUnread}
-use Rattle.gp_waves.specs.Writing.{Grows, Written}
+use Rattle.gp_waves.specs.Writing.{Grows, Written, unwritten}
 
 -- how many lines came, whether one of them says anything, why the last of them ended it, if it did, the times of the
 -- ports, with how many lines fell, the mask of the codes, how many codes came, with how many of them are garbled, and
@@ -23,6 +23,18 @@ pub record WavesState : Type 0 where
   pub mask : Mask
   pub codes : Codes
   pub written : Written
+
+-- no line came, and nothing is written
+abbrev pub opened : Mask → WavesState
+opened mask = record {
+  lines = 0;
+  heard = false;
+  ended = None;
+  times = times_begun;
+  mask = mask;
+  codes = no_codes;
+  written = unwritten;
+}
 
 -- one line more came, which says this, and this is written by now
 abbrev pub counted : LogLine → Written → WavesState → WavesState

@@ -1,10 +1,10 @@
 -- How dumping a trace or a log may end (this profile's own rule).
-use Rattle.std.specs.Prelude.{◌≡◌, ◌<◌, ◌⊎◌, ℕ, ◌+◌, true, List, ◌∷◌, ◌++◌, length, Option, Some, None, Result, Ok, Err}
+use Rattle.std.specs.Prelude.{◌≡◌, ◌≢◌, ◌<◌, ◌⊎◌, ℕ, ◌+◌, true, List, ◌∷◌, ◌++◌, length, Option, Some, None, Result, Ok, Err}
 use Rattle.std.specs.Io.KnownBytes.{Appends, Consumes}
 use Rattle.std.specs.List.{All}
-use Rattle.gp_flow.specs.declared.fault.Unanswered.TheVariants.{OutOfMemory}
+use Rattle.gp_flow.specs.declared.fault.Unanswered.TheVariants.{OutOfMemory, Full}
 use Rattle.gp_flow.specs.declared.fault.LinesFault.TheVariants as faults
-use Rattle.gp_flow.specs.Lines.{lines_of, longest_line}
+use Rattle.gp_flow.specs.Lines.{ServesFull, lines_of, longest_line}
 use Rattle.gp_stream.specs.declared.sink.WriteStopped.{WriteStopped}
 use Rattle.gp_stream.specs.Sink.{SinkState, KeepsNothing, WritesWhole}
 use Rattle.gp_stream.specs.Source.{SourceState, ReadsWhole}
@@ -12,19 +12,14 @@ use Rattle.gp_explain.specs.declared.fault.ExplainFault.{ExplainFault}
 use Rattle.gp_explain.specs.declared.fault.ExplainFault.TheVariants.{Refused, Lines}
 use Rattle.gp_explain.specs.declared.fault.NoLine.{NoLine}
 use Rattle.gp_explain.specs.declared.fault.NoLine.TheVariants.{NotALine, TooLong}
-use Rattle.gp_dump.specs.Dump.{IsDumpTo}
 use Rattle.gp_ploam.specs.declared.check.Mask.{Mask}
 use Rattle.gp_finding.specs.Codes.{HaveCodes}
 use Rattle.gp_waves.specs.declared.running.WavesSum.{WavesSum}
 use Rattle.gp_times.specs.declared.frames.Frames.{Frames}
 use Rattle.gp_times.specs.Lines.{AreRead, HaveFallen, IsRead, IsUnread, IsWhere}
 use Rattle.gp_times.specs.Times.{outside_of}
-use Rattle.gp_waves.specs.Dumping.{WavesState}
-use Rattle.gp_waves.specs.Writing.{Grows}
-
--- a whole dump, of some ports and up to some time
-abbrev pub IsDump : List ℕ → Type 0
-IsDump text = (ports : List (Option ℕ)) × (to : Option ℕ) × IsDumpTo ports text to
+use Rattle.gp_waves.specs.Dumping.{Dumping, WavesState, opened}
+use Rattle.gp_waves.specs.Writing.{Ends, IsDump}
 
 -- the writer got all of one dump, and keeps nothing back
 pub record GetsDump {W : Type 0} (before after : SinkState W) : Type 0 where
@@ -85,18 +80,19 @@ pub record IsBegun {R W : Type 0} (from to : SourceState R) (before after : Sink
   pub appended : Appends before.held after.held written
 
 -- how it may end; a failed read, and the bound of reads, are told as such. Memory may run out before anything was read.
+-- That no more lines can be taken is told only where one of the lines is why.
 abbrev pub DumpsWaves : {R W : Type 0} → Frames → Mask → SourceState R → SourceState R → SinkState W → SinkState W
     → Result WavesSum ExplainFault → Type 0
 DumpsWaves frames mask from to before after (Ok sum) = IsDumped frames mask from to before after sum
 DumpsWaves frames mask from to before after (Err (Refused line why)) = IsRefused from to before after line why
 DumpsWaves frames mask from to before after (Err (Lines faults.Read)) = IsUnfinished from to before after
 DumpsWaves frames mask from to before after (Err (Lines (faults.Line fault))) =
-    IsBegun from to before after ⊎ ((fault ≡ OutOfMemory) × (to ≡ from) × (after ≡ before))
+    (IsBegun from to before after ⊎ ((fault ≡ OutOfMemory) × (to ≡ from) × (after ≡ before)))
+    × (fault ≡ Full → ServesFull Dumping longest_line from to (opened mask))
 
 -- the rest of a dump behind what is written
 pub record IsRest (old new : WavesState) (text : List ℕ) : Type 0 where
-  pub grown : Grows old.written text new.written
-  pub begun : new.written.begun ≡ true
+  pub ends : Ends old.written text
   pub lines : new.lines ≡ old.lines
   pub heard : new.heard ≡ old.heard
   pub ended : new.ended ≡ old.ended
@@ -111,9 +107,10 @@ WritesRest old new before after (Ok done) =
 WritesRest old new before after (Err (Refused line why)) = ⊥
 WritesRest old new before after (Err (Lines faults.Read)) = ⊥
 WritesRest old new before after (Err (Lines (faults.Line fault))) =
-    (after ≡ before)
+    (fault ≢ Full)
+    × ((after ≡ before)
     ⊎ ((text : List ℕ) × (stopped : WriteStopped) × IsRest old new text
-    × WritesWhole {T = Unit {0}} before after text (Err stopped))
+    × WritesWhole {T = Unit {0}} before after text (Err stopped)))
 
 -- what was found, by what ended it
 abbrev pub IsFoundBy : Frames → Option NoLine → WavesState → Result WavesSum ExplainFault → Type 0

@@ -1,7 +1,6 @@
 //! The lines of a trace or a log, one after another.
-ghost use Rattle.std.specs.Prelude.{◌≡◌, IfOk, None, false};
-ghost use Rattle.gp_finding.specs.Codes.{no_codes};
-ghost use Rattle.gp_times.specs.Times.{times_begun};
+ghost use Rattle.std.specs.Prelude.{◌≡◌, IfOk};
+ghost use Rattle.gp_waves.specs.Dumping.{opened};
 
 use crate::hearing::Waves;
 use crate::options::WavesOptions;
@@ -48,13 +47,7 @@ impl Model for Dumper {
 impl Dumper {
     /// Makes one to which no line came. Fails only where there is no memory.
     pub fn begin(alloc: Global, options: &WavesOptions) -> Result<Dumper, AllocError>
-        ensures lines { IfOk result (λ dumper. dumper.lines ≡ 0) }
-        ensures heard { IfOk result (λ dumper. dumper.heard ≡ false) }
-        ensures ended { IfOk result (λ dumper. dumper.ended ≡ None) }
-        ensures times { IfOk result (λ dumper. dumper.times ≡ times_begun) }
-        ensures mask { IfOk result (λ dumper. dumper.mask ≡ options.now.mask) }
-        ensures codes { IfOk result (λ dumper. dumper.codes ≡ no_codes) }
-        ensures written { IfOk result (λ dumper. dumper.written.begun ≡ false) }
+        ensures { IfOk result (λ dumper. dumper ≡ opened options.now.mask) }
     {
         Ok(Dumper {
             waves: Waves::begin(alloc, options)?,

@@ -1,7 +1,9 @@
 //! What is heard of all ports, and the changes that are held back.
+ghost use Rattle.std.specs.Prelude.{◌≡◌, IfSome};
+ghost use Rattle.gp_waves.specs.Held as spec;
 
 use crate::fault::WavesFault;
-use crate::held::{Due, Held};
+use crate::held::{Due, Held, wider};
 use crate::options::WavesOptions;
 use crate::port::{Port, Scope};
 use gp_dump::PORTS;
@@ -108,15 +110,19 @@ impl Waves {
         Ok(())
     }
 
-    /// Gives the ports of which lines told, each with how many lanes it has.
-    pub(crate) fn declared(&self) -> [Option<u16>; PORTS] {
+    /// Gives how many lanes a port has, if a line told of it.
+    fn told_of(&self, number: usize) -> Option<u16> {
+        self.ports.get(number)?.declared()
+    }
+
+    /// Gives the ports of which lines told, each with how many lanes it has: each change that is held back has its
+    /// variable among them.
+    pub(crate) fn declared(&self) -> [Option<u16>; PORTS]
+        ensures { spec.AreDeclared self.now.held.queues.items result }
+    {
         let mut declared = [None; PORTS];
-        let mut number = 0usize;
-        for port in self.ports.as_slice() {
-            if let Some(lanes) = declared.get_mut(number) {
-                *lanes = port.declared();
-            }
-            number = number.saturating_add(1);
+        'ports: for number in 0..PORTS {
+            declared[number] = wider(self.held.lanes_of(number), self.told_of(number));
         }
         declared
     }
@@ -127,7 +133,10 @@ impl Waves {
     }
 
     /// Takes the change that is due first, if there is one.
-    pub(crate) fn take_first(&mut self) -> Option<Due> {
+    pub(crate) fn take_first(&mut self) -> Option<Due>
+        ensures declared { IfSome result (λ due. spec.HasVariable self.old.held.queues.items due.change) }
+        ensures same { self.new.held.queues.items ≡ self.old.held.queues.items }
+    {
         self.held.take_first()
     }
 }

@@ -1,8 +1,14 @@
 //! The changes that are held back: those of each port in the order of their times.
+ghost use Rattle.std.specs.Prelude.{◌≡◌, ◌<◌, IfSome, None, Some, slice_index_or};
+ghost use Rattle.gp_machine.specs.Config.{max_ports};
+ghost use Rattle.gp_waves.specs.Held as spec;
 
+use crate::fault::WavesFault;
+use crate::lanes::MOST_LANES;
 use gp_dump::{Change, PORTS, PortChange, UnitChange};
 use std::alloc::{AllocError, Global};
 use std::collections::VecDeque;
+use std::marker::Model;
 
 /// How many changes are held back at most. The changes of a port that is further behind the others than these stand
 /// at a later time than theirs.
@@ -29,18 +35,100 @@ pub(crate) struct Due {
     pub(crate) change: Change,
 }
 
+/// The changes of a port that are held back. Contracts see how many lanes have to be declared for all that were ever
+/// held back, if any was.
+#[derive(Drop)]
+pub(crate) struct Queue {
+    changes: VecDeque<HeldChange>,
+    lanes: Option<u16>,
+}
+
+impl Model for Queue {
+    ghost use Rattle.std.specs.Prelude.{Option, ℕ};
+    ghost use Rattle.gp_waves.specs.Queue.{AreHeld};
+
+    ghost Value = { Option ℕ };
+
+    ghost view = { λ q. q.lanes };
+
+    ghost invariant = { λ q. AreHeld q.lanes q.changes.items };
+}
+
 /// The changes that are held back.
 #[derive(Drop)]
 pub(crate) struct Held {
     /// Those of each port.
-    queues: Vec<VecDeque<HeldChange>>,
+    queues: Vec<Queue>,
     /// How many they are.
     count: usize,
 }
 
+impl What {
+    /// Gives how many lanes its port has at least.
+    fn lanes(&self) -> u16
+        requires { spec.fits (Some spec.most_lanes) self.now }
+        ensures { spec.fits (Some result) self.now }
+    {
+        match self {
+            What::OfPort(_) => 0,
+            What::OfUnit { lane, .. } => *lane + 1,
+        }
+    }
+}
+
+/// Gives the lanes of a port that has those of both.
+pub(crate) fn wider(first: Option<u16>, second: Option<u16>) -> Option<u16>
+    ensures first { spec.IsWithin first result }
+    ensures second { spec.IsWithin second result }
+{
+    match (first, second) {
+        (Some(first), Some(second)) => Some(first.max(second)),
+        (Some(first), None) => Some(first),
+        (None, second) => second,
+    }
+}
+
+impl Queue {
+    /// None is held back.
+    fn begin(alloc: Global) -> Queue
+        ensures { result ≡ None }
+    {
+        Queue {
+            changes: VecDeque::new(alloc),
+            lanes: None,
+        }
+    }
+
+    /// Holds a change back, behind the others.
+    fn keep(&mut self, held: HeldChange) -> Result<(), AllocError>
+        requires { spec.fits (Some spec.most_lanes) held.what }
+    {
+        self.lanes = wider(self.lanes, Some(held.what.lanes()));
+        self.changes.push_back(held)?;
+        Ok(())
+    }
+
+    /// Takes the first change, if there is one.
+    fn take(&mut self) -> Option<HeldChange>
+        ensures fits { IfSome result (λ held. spec.fits self.old held.what) }
+        ensures most { IfSome result (λ held. spec.fits (Some spec.most_lanes) held.what) }
+        ensures same { self.new ≡ self.old }
+    {
+        self.changes.pop_front()
+    }
+
+    /// Gives when the first change is due, if there is one.
+    fn first_time(&self) -> Option<u64> {
+        let first = self.changes.front()?;
+        Some(first.time)
+    }
+}
+
 impl HeldChange {
     /// Gives it as one of a port.
-    fn of(self, port: u8) -> Change {
+    fn of(self, port: u8) -> Change
+        ensures { result ≡ spec.change_of port self.what }
+    {
         match self.what {
             What::OfPort(what) => Change::Port { number: port, what },
             What::OfUnit { lane, what } => Change::Unit {
@@ -53,7 +141,11 @@ impl HeldChange {
 }
 
 /// Gives the change that is due first, the first of several: one of another port, or that of this port.
-fn earlier(first: Option<(u64, u8)>, time: Option<u64>, port: u8) -> Option<(u64, u8)> {
+fn earlier(first: Option<(u64, u8)>, time: Option<u64>, port: u8) -> Option<(u64, u8)>
+    requires first { IfSome first (λ due. due.1 < max_ports) }
+    requires port { port < max_ports }
+    ensures { IfSome result (λ due. due.1 < max_ports) }
+{
     let Some(time) = time else {
         return first;
     };
@@ -68,15 +160,17 @@ impl Held {
     pub(crate) fn begin(alloc: Global) -> Result<Held, AllocError> {
         let mut queues = Vec::with_capacity(alloc, PORTS)?;
         for _ in 0..PORTS {
-            queues.push(VecDeque::new(alloc))?;
+            queues.push(Queue::begin(alloc))?;
         }
         Ok(Held { queues, count: 0 })
     }
 
     /// Holds a change back, behind those of its port.
-    fn keep(&mut self, port: u8, held: HeldChange) -> Result<(), AllocError> {
+    fn keep(&mut self, port: u8, held: HeldChange) -> Result<(), AllocError>
+        requires { spec.fits (Some spec.most_lanes) held.what }
+    {
         match self.queues.get_mut(usize::from(port)) {
-            Some(queue) => queue.push_back(held)?,
+            Some(queue) => queue.keep(held)?,
             None => return Ok(()),
         }
         self.count = self.count.saturating_add(1);
@@ -94,16 +188,30 @@ impl Held {
         self.keep(port, HeldChange { time, what })
     }
 
-    /// Holds back a change of a variable of a unit's lane.
+    /// Holds back a change of a variable of a unit's lane. Full where no port has that lane.
     pub(crate) fn keep_unit(
         &mut self,
         port: u8,
         time: u64,
         lane: u16,
         what: UnitChange,
-    ) -> Result<(), AllocError> {
+    ) -> Result<(), WavesFault> {
+        if lane >= MOST_LANES {
+            return Err(WavesFault::Full);
+        }
         let what = What::OfUnit { lane, what };
-        self.keep(port, HeldChange { time, what })
+        self.keep(port, HeldChange { time, what })?;
+        Ok(())
+    }
+
+    /// Gives how many lanes of a port have to be declared for its changes, if it has to be.
+    pub(crate) fn lanes_of(&self, port: usize) -> Option<u16>
+        ensures { result ≡ slice_index_or self.now.queues.items port None }
+    {
+        match self.queues.get(port) {
+            Some(queue) => queue.lanes,
+            None => None,
+        }
     }
 
     /// Tells whether more are held back than may be.
@@ -113,15 +221,15 @@ impl Held {
 
     /// Gives when the first change of a port is due.
     fn first_of(&self, port: u8) -> Option<u64> {
-        let queue = self.queues.get(usize::from(port))?;
-        let first = queue.front()?;
-        Some(first.time)
+        self.queues.get(usize::from(port))?.first_time()
     }
 
     /// Gives the port whose first change is due first, the first of several.
-    fn first_port(&self) -> Option<u8> {
+    fn first_port(&self) -> Option<u8>
+        ensures { IfSome result (λ port. port < max_ports) }
+    {
         let mut first: Option<(u64, u8)> = None;
-        for port in 0..PORTS as u8 {
+        'ports: for port in 0..PORTS as u8 {
             first = earlier(first, self.first_of(port), port);
         }
         let (_, port) = first?;
@@ -129,10 +237,13 @@ impl Held {
     }
 
     /// Takes the change that is due first, if there is one.
-    pub(crate) fn take_first(&mut self) -> Option<Due> {
+    pub(crate) fn take_first(&mut self) -> Option<Due>
+        ensures declared { IfSome result (λ due. spec.HasVariable self.old.queues.items due.change) }
+        ensures same { self.new.queues.items ≡ self.old.queues.items }
+    {
         let port = self.first_port()?;
         let queue = self.queues.get_mut(usize::from(port))?;
-        let held = queue.pop_front()?;
+        let held = queue.take()?;
         self.count = self.count.saturating_sub(1);
         Some(Due {
             time: held.time,

@@ -70,7 +70,7 @@ impl Scope {
         time: u64,
         lane: u16,
         what: Option<UnitChange>,
-    ) -> Result<(), AllocError> {
+    ) -> Result<(), WavesFault> {
         match what {
             Some(what) if self.frames.hold(time) => held.keep_unit(self.port, time, lane, what),
             _ => Ok(()),
@@ -83,7 +83,7 @@ impl Scope {
         held: &mut Held,
         time: u64,
         changes: Option<LaneChanges>,
-    ) -> Result<(), AllocError> {
+    ) -> Result<(), WavesFault> {
         let Some(changes) = changes else {
             return Ok(());
         };
@@ -136,7 +136,7 @@ impl Port {
     }
 
     /// Tells what is known of its units where the frames begin that are dumped, if they do by now.
-    fn show_lanes(&mut self, held: &mut Held, scope: &Scope) -> Result<(), AllocError> {
+    fn show_lanes(&mut self, held: &mut Held, scope: &Scope) -> Result<(), WavesFault> {
         if self.are_shown || !scope.frames.have_begun(self.time) {
             return Ok(());
         }
@@ -160,11 +160,12 @@ impl Port {
     }
 
     /// Comes to the time of a line that tells of it.
-    fn advance(&mut self, held: &mut Held, scope: &Scope, time: u64) -> Result<(), AllocError> {
+    fn advance(&mut self, held: &mut Held, scope: &Scope, time: u64) -> Result<(), WavesFault> {
         self.is_told = true;
         self.time = time;
         self.show_lanes(held, scope)?;
-        self.end_pulses(held, scope, self.time)
+        self.end_pulses(held, scope, self.time)?;
+        Ok(())
     }
 
     /// Tells a code that is sent.

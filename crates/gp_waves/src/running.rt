@@ -1,5 +1,6 @@
 //! From the bytes of a trace or a log to its value change dump, and what was dumped of it. Memory is flat.
 ghost use Rattle.std.specs.Prelude.{◌≡◌, true};
+ghost use Rattle.gp_waves.specs.Writing.{all_ports};
 ghost use Rattle.gp_waves.specs.Outcome as spec;
 
 use crate::dumper::Dumper;
@@ -67,13 +68,12 @@ fn write_rest<W: Write>(
     dumper: &mut Dumper,
     sink: &mut Sink<W>,
 ) -> Result<(), ExplainFault>
+    requires { dumper.old.written.begun ≡ true → dumper.old.written.dump.ports ≡ all_ports }
     ensures { spec.WritesRest dumper.old dumper.new sink.old sink.new result }
 {
     let text = match dumper.writing.rest(alloc, &mut dumper.waves) {
         Ok(text) => text,
-        Err(fault) => {
-            return Err(ExplainFault::Lines(LinesFault::Line(Unanswered::from(fault))));
-        }
+        Err(error) => return Err(ExplainFault::from(error)),
     };
     match sink.write_whole(text.as_slice()) {
         Ok(()) => Ok(()),
@@ -95,7 +95,7 @@ fn finding(options: &WavesOptions, dumper: &Dumper) -> Result<WavesSum, ExplainF
             heard: dumper.heard,
             fallen: dumper.times.fallen(),
             codes: dumper.codes,
-            late: dumper.writing.late,
+            late: dumper.writing.late.count,
             outside: dumper.times.outside(&options.frames),
         }),
     }
