@@ -18,7 +18,7 @@ use Rattle.hear_rules.specs.Known.{Number, Unheard, Nobodys, Of, Known, after_me
 use Rattle.hear_rules.specs.Rules.{Settings, judged_if}
 use Rattle.hear_rules.specs.Copies.{Subject, OfNothing, OfHolder, OfDelay, OfAlloc, OfSerial, OfAllOnus, OfAllSerials, Sendings, copies}
 use Rattle.hear_rules.specs.Units.{Notices, held_by, tells_onu, tells_delay, tells_serial, notice_where, notices_after, Sent, unless_lost, lost_again, lost_anew, sent_after, Owing, unless_gone, owing_after, after_grace, disabled, anew, number_of, with_none, number}
-use Rattle.hear_rules.specs.Notes.{Notes, notes_whole, notes_midway, notes_after}
+use Rattle.hear_rules.specs.Notes.{Notes, notes_whole, notes_midway, judged_subjects, notes_after}
 use Rattle.hear_rules.specs.Audit.{worst, judge_copies, judge_answer, judge_granted, judge}
 use Rattle.hear_rules.specs.Bare.{without_delay, goes_by_delay, JudgesTheSame, DelaysJudgeNoOther}
 use Rattle.hear_rules.proofs.Baring.{bared_number, bared, lost_by_bared, message_bared, heard_bared, IsOther, judged_same}
@@ -188,7 +188,9 @@ module _ (settings : Settings) (notes : Notes) (now : ℕ) where
   granted_same g r h = judged_same notes.known settings (HeardGrant g) r (other_of r h notes.known settings)
 
   judge_same : (x : Heard) (r : Rule) → goes_by_delay r ≡ false → judge settings (bared_notes notes) now (without_delay x) r ≡ judge settings notes now x r
-  judge_same x rule.Copies h = copies_same x notes.waiting
+  judge_same (HeardDown m) rule.Copies h = copies_same (HeardDown m) (judged_subjects notes.sendings notes.waiting now (HeardDown m))
+  judge_same (HeardUp m delay) rule.Copies h = copies_same (HeardUp m delay) (judged_subjects notes.sendings notes.waiting now (HeardUp m delay))
+  judge_same (HeardGrant g) rule.Copies h = copies_same (HeardGrant g) (judged_subjects notes.sendings notes.waiting now (HeardGrant g))
   judge_same (HeardDown m) r h = judged_same notes.known settings (HeardDown m) r (other_of r h notes.known settings)
   judge_same (HeardUp None delay) r h = refl
   judge_same (HeardUp (Some m) delay) r h = answer_same m delay r h

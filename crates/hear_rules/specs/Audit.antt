@@ -17,14 +17,14 @@ use Rattle.hear_rules.specs.declared.rule.Rule.TheVariants as rule
 use Rattle.hear_rules.specs.declared.rule.Verdict.{Verdict}
 use Rattle.hear_rules.specs.declared.rule.Verdict.TheVariants.{Kept, Broken, NotJudged}
 use Rattle.hear_rules.specs.Rules.{Settings, directed, judged_if, judge_garbled, judge_known}
-use Rattle.hear_rules.specs.Copies.{Subject, copies}
+use Rattle.hear_rules.specs.Copies.{Subject, overdue, copies}
 use Rattle.hear_rules.specs.Units.{disabled, anew, number, twice, acknowledge, unacknowledged, drift}
-use Rattle.hear_rules.specs.Notes.{Notes, notes_whole, notes_midway, notes_after}
+use Rattle.hear_rules.specs.Notes.{Notes, notes_whole, notes_midway, judged_subjects, notes_after}
 use Rattle.hear_rules.specs.Clock.{TimedSays}
 
 -- ---- each rule
 
--- of the subjects of which a copy is still to come: broken where one is, else kept where one is
+-- of these subjects: broken where one is, else kept where one is
 abbrev pub worst : Verdict → Verdict → Verdict
 worst Broken other = Broken
 worst Kept Broken = Broken
@@ -65,7 +65,8 @@ judge_heard settings notes now (HeardGrant grant) rule = judge_granted settings 
 
 -- the rule, of what is heard in this frame, by what was heard before
 abbrev pub judge : Settings → Notes → ℕ → Heard → Rule → Verdict
-judge settings notes now heard rule.Copies = judge_copies notes now heard notes.waiting
+judge settings notes now heard rule.Copies =
+    judge_copies notes now heard (judged_subjects notes.sendings notes.waiting now heard)
 judge settings notes now heard rule = judge_heard settings notes now heard rule
 
 -- ---- what is told
@@ -164,36 +165,44 @@ last_after last (HeardGrant grant) rules = last
 
 abbrev pub tells : Settings → Notes → Last → ℕ → Heard → List Rule
 tells settings notes last now heard =
-    cut_of notes now heard notes.waiting
+    cut_of notes now heard (judged_subjects notes.sendings notes.waiting now heard)
     ++ news_of (told_before last heard) (broken_by settings notes now heard other_rules)
 
-abbrev pub audit_from : Settings → Notes → Last → List (ℕ × Heard) → List (List Rule)
-audit_from settings notes last [] = []
-audit_from settings notes last ((now, heard) ∷ others) =
+-- at the end of the log: those that are overdue in its last frame
+abbrev pub late_of : Notes → ℕ → List Subject → List Rule
+late_of notes now [] = []
+late_of notes now (subject ∷ subjects) =
+    if overdue notes.sendings now subject
+    then rule.Copies ∷ late_of notes now subjects
+    else late_of notes now subjects
+
+abbrev pub audit_from : Settings → Notes → Last → ℕ → List (ℕ × Heard) → List (List Rule)
+audit_from settings notes last before [] = late_of notes before notes.waiting ∷ []
+audit_from settings notes last before ((now, heard) ∷ others) =
     tells settings notes last now heard
     ∷ audit_from settings (notes_after settings notes now heard)
-    (last_after last heard (broken_by settings notes now heard other_rules)) others
+    (last_after last heard (broken_by settings notes now heard other_rules)) now others
 
--- of each thing that is heard
+-- of each thing that is heard, and at the end
 abbrev pub audit : Settings → Notes → List (ℕ × Heard) → List (List Rule)
-audit settings notes timed = audit_from settings notes no_last timed
+audit settings notes timed = audit_from settings notes no_last 0 timed
 
 -- ---- the terminal's side
 
 -- `copies`, whatever is heard when it is known, and what the terminal's own messages and grants break
 abbrev pub terminal_tells : Settings → Notes → Last → ℕ → Heard → List Rule
 terminal_tells settings notes last now heard =
-    cut_of notes now heard notes.waiting
+    cut_of notes now heard (judged_subjects notes.sendings notes.waiting now heard)
     ++ (if is_terminals heard
     then news_of (told_before last heard) (broken_by settings notes now heard other_rules)
     else [])
 
-abbrev pub terminal_from : Settings → Notes → Last → List (ℕ × Heard) → List Rule
-terminal_from settings notes last [] = []
-terminal_from settings notes last ((now, heard) ∷ others) =
+abbrev pub terminal_from : Settings → Notes → Last → ℕ → List (ℕ × Heard) → List Rule
+terminal_from settings notes last before [] = late_of notes before notes.waiting
+terminal_from settings notes last before ((now, heard) ∷ others) =
     terminal_tells settings notes last now heard
     ++ terminal_from settings (notes_after settings notes now heard)
-    (last_after last heard (broken_by settings notes now heard other_rules)) others
+    (last_after last heard (broken_by settings notes now heard other_rules)) now others
 
 -- of no run from an opening anything is told of the terminal, whatever bursts came, and in whatever frame it begins
 abbrev pub TerminalIsNotBlamed : Type 0
@@ -203,7 +212,7 @@ TerminalIsNotBlamed =
     → Run (opening_of config) entries final
     → TimedSays (mask_value config.mask) now entries timed
     → settings.teqd ≡ config.teqd
-    → terminal_from settings notes_whole last timed ≡ []
+    → terminal_from settings notes_whole last 0 timed ≡ []
 
 -- nor to who hears what is said from any point on
 abbrev pub TerminalIsNotBlamedAnywhere : Type 0
@@ -213,4 +222,4 @@ TerminalIsNotBlamedAnywhere =
     → Run (opening_of config) entries final
     → TimedSays (mask_value config.mask) now entries (before ++ later)
     → settings.teqd ≡ config.teqd
-    → terminal_from settings (notes_midway begun) last later ≡ []
+    → terminal_from settings (notes_midway begun) last 0 later ≡ []

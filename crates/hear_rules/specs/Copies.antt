@@ -1,6 +1,6 @@
 -- `copies`: each of these messages is sent three times (G.984.3, clause 9), its copies in any order among those of
 -- others. That none comes more than 800 frames behind the one before it is this profile's own rule.
-use Rattle.std.specs.Prelude.{ℕ, ◌+◌, ◌==◌, ◌&&◌, nat_lt, Bool, true, false, if◌then◌else◌, None, Some}
+use Rattle.std.specs.Prelude.{ℕ, ◌+◌, ◌==◌, ◌&&◌, nat_lt, Bool, true, false, not, if◌then◌else◌, None, Some}
 use Rattle.gp_ploam.specs.declared.message.Serial.{Serial}
 use Rattle.gp_ploam.specs.declared.message.Down.{Down}
 use Rattle.gp_ploam.specs.declared.message.Down.TheVariants.{UpstreamOverhead, AssignOnu, RangingTime, Deactivate, DisableSerial, EnableSerial, EnableAll, AssignAlloc, NoMessage, Popup, Other}
@@ -10,10 +10,11 @@ use Rattle.gp_observer.specs.Heard.{Heard, HeardDown, HeardUp, HeardGrant}
 use Rattle.gp_observer.specs.Watch.{same_message}
 use Rattle.hear_rules.specs.declared.rule.Verdict.{Verdict}
 use Rattle.hear_rules.specs.declared.rule.Verdict.TheVariants.{Kept, Broken, NotJudged}
+use Rattle.hear_rules.specs.Facts.{Sure, Yes, No, Unsure, sure}
 
 -- ---- what is kept
 
--- what a message is about: two messages about one thing undo each other
+-- what a message is about: another message about one thing is told in the place of the one before
 pub data Subject : Type 0 where
   -- nothing that has to be said three times
   OfNothing : Subject
@@ -52,12 +53,10 @@ same_subject OfAllOnus OfAllOnus = true
 same_subject OfAllSerials OfAllSerials = true
 same_subject _ _ = false
 
--- who gets or loses an ONU-ID ends what was said to it, and what is said to it ends that
+-- who gets or loses an ONU-ID ends what was said to it, if it wasn't said before
 abbrev pub ends : Subject → Subject → Bool
 ends (OfHolder onu) (OfDelay other) = onu == other
 ends (OfHolder onu) (OfAlloc other alloc) = onu == other
-ends (OfDelay onu) (OfHolder other) = onu == other
-ends (OfAlloc onu alloc) (OfHolder other) = onu == other
 ends _ _ = false
 
 -- what was sent last about a subject, and in which frame its last copy came
@@ -68,7 +67,7 @@ pub data Sending : Type 0 where
   Silent : Sending
   Once : (message : Down) (at : ℕ) → Sending
   Twice : (message : Down) (at : ℕ) → Sending
-  -- three times or more, or it isn't known how often, or it was told that it wasn't
+  -- three times or more, or it isn't known how often, or a copy came too late
   Said : (message : Down) → Sending
 
 abbrev pub Sendings : Type 0
@@ -76,61 +75,79 @@ Sendings = Subject → Sending
 
 -- ---- what changes it
 
-abbrev pub sending_after : Sending → ℕ → Down → Sending
-sending_after Cut now message = Said message
-sending_after Silent now message = Once message now
-sending_after (Once last at) now message = if same_message last message then Twice last now else Once message now
-sending_after (Twice last at) now message = if same_message last message then Said last else Once message now
-sending_after (Said last) now message = if same_message last message then Said last else Once message now
-
-abbrev pub ended_by : Subject → Subject → Sending → Sending
-ended_by subject other sending = if ends subject other then Silent else sending
-
-abbrev pub sendings_put : Sendings → Subject → Sending → Sendings
-sendings_put sendings OfNothing sending = sendings
-sendings_put sendings subject sending =
-    λ other. if same_subject other subject then sending else ended_by subject other (sendings other)
-
--- a message is sent
-abbrev pub sendings_after : Sendings → ℕ → Down → Sendings
-sendings_after sendings now message =
-    sendings_put sendings (subject_of message) (sending_after (sendings (subject_of message)) now message)
-
 -- for how many frames the next copy may come
 abbrev pub copies_within : ℕ
 copies_within = 800
 
--- a copy that may still come has come too late
+abbrev pub is_late : ℕ → ℕ → Bool
+is_late at now = nat_lt (at + copies_within) now
+
+abbrev pub sending_after : Sending → ℕ → Down → Sending
+sending_after Cut now message = Said message
+sending_after Silent now message = Once message now
+sending_after (Once last at) now message =
+    if same_message last message
+    then (if is_late at now then Said last else Twice last now)
+    else Once message now
+sending_after (Twice last at) now message = if same_message last message then Said last else Once message now
+sending_after (Said last) now message = if same_message last message then Said last else Once message now
+
+-- the message isn't a copy of what was sent last: where that isn't known it may be one
+abbrev pub is_another : Sending → Down → Sure
+is_another Cut _ = Unsure
+is_another Silent _ = Yes
+is_another (Once last at) message = sure (not (same_message last message))
+is_another (Twice last at) message = sure (not (same_message last message))
+is_another (Said last) message = sure (not (same_message last message))
+
+-- what another message ends; where it may be a copy it isn't known any more
+abbrev pub ended_where : Sure → Sending → Sending
+ended_where Yes sending = Silent
+ended_where No sending = sending
+ended_where Unsure sending = Cut
+
+abbrev pub ended_by : Sure → Subject → Subject → Sending → Sending
+ended_by another subject other sending = if ends subject other then ended_where another sending else sending
+
+abbrev pub sendings_put : Sendings → Sure → Subject → Sending → Sendings
+sendings_put sendings another OfNothing sending = sendings
+sendings_put sendings another subject sending =
+    λ other. if same_subject other subject then sending else ended_by another subject other (sendings other)
+
+-- a message is sent
+abbrev pub sendings_after : Sendings → ℕ → Down → Sendings
+sendings_after sendings now message =
+    sendings_put sendings (is_another (sendings (subject_of message)) message) (subject_of message)
+    (sending_after (sendings (subject_of message)) now message)
+
+-- something is heard in this frame
+abbrev pub sendings_heard : Sendings → ℕ → Heard → Sendings
+sendings_heard sendings now (HeardDown None) = sendings
+sendings_heard sendings now (HeardDown (Some message)) = sendings_after sendings now message
+sendings_heard sendings now (HeardUp message delay) = sendings
+sendings_heard sendings now (HeardGrant grant) = sendings
+
+-- ---- the rule, of a subject: kept with the third copy, broken once another message comes before, or it is overdue
+
+-- a copy is still to come
+abbrev pub is_open : Sending → Bool
+is_open Cut = false
+is_open Silent = false
+is_open (Once _ at) = true
+is_open (Twice _ at) = true
+is_open (Said _) = false
+
+-- it has come too late, or not come yet
 abbrev pub is_overdue : Sending → ℕ → Bool
 is_overdue Cut now = false
 is_overdue Silent now = false
-is_overdue (Once last at) now = nat_lt (at + copies_within) now
-is_overdue (Twice last at) now = nat_lt (at + copies_within) now
+is_overdue (Once last at) now = is_late at now
+is_overdue (Twice last at) now = is_late at now
 is_overdue (Said last) now = false
 
-abbrev pub settled : Sending → Sending
-settled Cut = Cut
-settled Silent = Silent
-settled (Once last at) = Said last
-settled (Twice last at) = Said last
-settled (Said last) = Said last
-
--- so it is as time goes by: what is overdue is told, and then over
-abbrev pub sendings_at : Sendings → ℕ → Sendings
-sendings_at sendings now =
-    λ subject. if is_overdue (sendings subject) now then settled (sendings subject) else sendings subject
-
--- something is heard in this frame
-abbrev pub sendings_with : Sendings → ℕ → Heard → Sendings
-sendings_with sendings now (HeardDown None) = sendings
-sendings_with sendings now (HeardDown (Some message)) = sendings_after sendings now message
-sendings_with sendings now (HeardUp message delay) = sendings
-sendings_with sendings now (HeardGrant grant) = sendings
-
-abbrev pub sendings_heard : Sendings → ℕ → Heard → Sendings
-sendings_heard sendings now heard = sendings_with (sendings_at sendings now) now heard
-
--- ---- the rule, of a subject: kept with the third copy, broken once another message comes before, or it is overdue
+abbrev pub overdue : Sendings → ℕ → Subject → Bool
+overdue sendings now OfNothing = false
+overdue sendings now subject = is_overdue (sendings subject) now
 
 abbrev pub cut_short : Sending → Down → Verdict
 cut_short Cut _ = NotJudged
@@ -139,26 +156,27 @@ cut_short (Once last at) message = if same_message last message then NotJudged e
 cut_short (Twice last at) message = if same_message last message then Kept else Broken
 cut_short (Said last) _ = NotJudged
 
-abbrev pub ended : Sending → Verdict
-ended Cut = NotJudged
-ended Silent = NotJudged
-ended (Once last at) = Broken
-ended (Twice last at) = Broken
-ended (Said last) = NotJudged
+abbrev pub ended : Sure → Sending → Verdict
+ended Yes (Once last at) = Broken
+ended Yes (Twice last at) = Broken
+ended _ _ = NotJudged
 
-abbrev pub copies_with : Sending → Down → Subject → Verdict
-copies_with sending message subject =
+abbrev pub copies_with : Sendings → Down → Subject → Verdict
+copies_with sendings message subject =
     if same_subject subject (subject_of message)
-    then cut_short sending message
-    else (if ends (subject_of message) subject then ended sending else NotJudged)
+    then cut_short (sendings subject) message
+    else (if ends (subject_of message) subject
+    then ended (is_another (sendings (subject_of message)) message) (sendings subject)
+    else NotJudged)
 
-abbrev pub copies_heard : Sending → Heard → Subject → Verdict
-copies_heard sending (HeardDown None) subject = NotJudged
-copies_heard sending (HeardDown (Some message)) subject = copies_with sending message subject
-copies_heard sending (HeardUp message delay) subject = NotJudged
-copies_heard sending (HeardGrant grant) subject = NotJudged
+abbrev pub copies_heard : Sendings → Heard → Subject → Verdict
+copies_heard sendings (HeardDown None) subject = NotJudged
+copies_heard sendings (HeardDown (Some message)) subject = copies_with sendings message subject
+copies_heard sendings (HeardUp message delay) subject = NotJudged
+copies_heard sendings (HeardGrant grant) subject = NotJudged
 
+-- what is overdue is broken in each frame, until the next message about it: `Notes.antt` says when it is told, once
 abbrev pub copies : Sendings → ℕ → Heard → Subject → Verdict
 copies sendings now heard OfNothing = NotJudged
 copies sendings now heard subject =
-    if is_overdue (sendings subject) now then Broken else copies_heard (sendings subject) heard subject
+    if is_overdue (sendings subject) now then Broken else copies_heard sendings heard subject

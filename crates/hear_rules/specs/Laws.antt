@@ -12,7 +12,7 @@ use Rattle.hear_rules.specs.declared.rule.Rule.{Rule}
 use Rattle.hear_rules.specs.Known.{Known, adjustment, after_message}
 use Rattle.hear_rules.specs.Rules.{Settings, directed}
 use Rattle.hear_rules.specs.declared.rule.Verdict.TheVariants.{Broken}
-use Rattle.hear_rules.specs.Copies.{Subject, OfNothing, subject_of, same_subject, ends, Silent, Twice, Said, Sendings, sendings_after, sendings_at, sendings_heard, copies_heard, copies}
+use Rattle.hear_rules.specs.Copies.{Subject, OfNothing, subject_of, same_subject, ends, Twice, Said, Sendings, sendings_after, sendings_heard, copies_heard, copies}
 use Rattle.hear_rules.specs.Findings.{breaks, findings}
 
 -- a message with an identifier of no table breaks nothing, and the findings of a log are the same with it and without
@@ -41,19 +41,17 @@ OutsideCutsNothing =
     → now ≤ later
     → SaysNothingOf sendings now later message heard
 
--- its third copy came, and nothing is kept of what it ended
-pub record IsOver (sendings : Sendings) (message : Down) : Type 0 where
-  pub said : sendings (subject_of message) ≡ Said message
-  pub ended : (subject : Subject) → ends (subject_of message) subject ≡ true → sendings subject ≡ Silent
+-- its third copy came
+abbrev pub IsOver : Sendings → Down → Type 0
+IsOver sendings message = sendings (subject_of message) ≡ Said message
 
--- neither message is about what the other is about, or ends it
+-- the other message isn't about what this one is about, and doesn't end it
 pub record IsApart (message other : Down) : Type 0 where
   pub differs : same_subject (subject_of message) (subject_of other) ≡ false
   pub stays : ends (subject_of other) (subject_of message) ≡ false
-  pub leaves : ends (subject_of message) (subject_of other) ≡ false
 
--- so it is with the third copy, and stays so while messages are sent that are apart from it, and time goes by; and a
--- further copy changes nothing of the copies, and breaks nothing
+-- so it is with the third copy, and stays so while messages are sent that are apart from it; and a further copy changes
+-- nothing of the copies, and breaks nothing
 pub record FurtherCutsNothing : Type 0 where
   pub third : (sendings : Sendings) (now at : ℕ) (message : Down)
       → same_subject (subject_of message) OfNothing ≡ false
@@ -61,12 +59,10 @@ pub record FurtherCutsNothing : Type 0 where
       → IsOver (sendings_after sendings now message) message
   pub stays : (sendings : Sendings) (now : ℕ) (message other : Down) → IsApart message other → IsOver sendings message
       → IsOver (sendings_after sendings now other) message
-  pub waits : (sendings : Sendings) (now : ℕ) (message : Down) → IsOver sendings message
-      → IsOver (sendings_at sendings now) message
   pub same : (sendings : Sendings) (now : ℕ) (message : Down) → IsOver sendings message
       → sendings_after sendings now message ≡ sendings
   pub none : (sendings : Sendings) (message : Down) (subject : Subject) → IsOver sendings message
-      → copies_heard (sendings subject) (HeardDown (Some message)) subject ≡ Broken → ⊥
+      → copies_heard sendings (HeardDown (Some message)) subject ≡ Broken → ⊥
 
 -- a message that is said again changes nothing that is known
 abbrev pub CopiesSayNothing : Type 0

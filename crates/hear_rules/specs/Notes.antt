@@ -1,14 +1,15 @@
 -- What is kept of a port's log, and what is heard changes of it (this profile's own rule).
-use Rattle.std.specs.Prelude.{ℕ, Bool, true, false, not, ◌&&◌, if◌then◌else◌, List, [], ◌∷◌, ◌++◌, Option, None, Some}
+use Rattle.std.specs.Prelude.{ℕ, ◌==◌, nat_le, Bool, true, false, not, ◌&&◌, ◌||◌, if◌then◌else◌, List, [], ◌∷◌, ◌++◌, map, Option, None, Some}
+use Rattle.std.specs.List.{list_any}
 use Rattle.gp_observer.specs.Heard.{Heard, HeardDown, HeardUp, HeardGrant}
 use Rattle.hear_rules.specs.Known.{Known, known_whole, known_midway, known_after}
 use Rattle.hear_rules.specs.Rules.{Settings}
-use Rattle.hear_rules.specs.Copies.{Subject, OfNothing, subject_of, same_subject, Sending, Cut, Silent, Once, Twice, Said, Sendings, sendings_heard}
+use Rattle.hear_rules.specs.Copies.{Subject, OfNothing, OfHolder, OfDelay, OfAlloc, subject_of, same_subject, Cut, Silent, Sendings, sendings_heard, is_open, overdue}
 use Rattle.hear_rules.specs.Units.{Notices, notices_whole, notices_midway, notices_after, Sent, sent_whole, sent_midway, sent_after, Owing, OwesNone, owing_after, owing_with, Granted, grants_with, grants_after}
 
 pub record Notes : Type 0 where
   pub known : Known
-  -- what was sent last about each subject, and those of which a copy is still to come, in the order of their last ones
+  -- what was sent last about each subject, and those that wait for a copy; one that is overdue and doesn't wait was told
   pub sendings : Sendings
   pub waiting : List Subject
   -- by which messages units go, and what they owe
@@ -52,34 +53,70 @@ notes_midway begun =
       begun = Some begun;
     }
 
--- ---- the subjects of which a copy is still to come
+-- ---- who waits for a copy: a queue, each subject in it once at most, of which the first alone is looked at
 
-abbrev pub is_open : Sending → Bool
-is_open Cut = false
-is_open Silent = false
-is_open (Once _ at) = true
-is_open (Twice _ at) = true
-is_open (Said _) = false
+-- the first goes where no copy of it is to come any more, or one is overdue
+abbrev pub leaves : Sendings → ℕ → Subject → Bool
+leaves sendings now subject = not (is_open (sendings subject)) || overdue sendings now subject
 
--- those that are still open, without this one
-abbrev pub still_open : Sendings → Subject → List Subject → List Subject
-still_open sendings subject [] = []
-still_open sendings subject (other ∷ others) =
-    if is_open (sendings other) && not (same_subject other subject)
-    then other ∷ still_open sendings subject others
-    else still_open sendings subject others
+abbrev pub still_waiting : Sendings → ℕ → List Subject → List Subject
+still_waiting sendings now [] = []
+still_waiting sendings now (first ∷ others) = if leaves sendings now first then others else first ∷ others
 
--- and this one behind them, if it is
-abbrev pub open_with : Sendings → List Subject → Subject → List Subject
-open_with sendings waiting OfNothing = still_open sendings OfNothing waiting
-open_with sendings waiting subject =
-    still_open sendings subject waiting ++ (if is_open (sendings subject) then subject ∷ [] else [])
+abbrev pub waits : List Subject → Subject → Bool
+waits waiting subject = list_any (λ other. same_subject other subject) waiting
 
-abbrev pub open_after : Sendings → List Subject → Heard → List Subject
-open_after sendings waiting (HeardDown None) = open_with sendings waiting OfNothing
-open_after sendings waiting (HeardDown (Some message)) = open_with sendings waiting (subject_of message)
-open_after sendings waiting (HeardUp message delay) = open_with sendings waiting OfNothing
-open_after sendings waiting (HeardGrant grant) = open_with sendings waiting OfNothing
+-- a message is sent: its subject goes to the end, where a copy of it is to come and it isn't there already
+abbrev pub waiting_with : Sendings → List Subject → Subject → List Subject
+waiting_with sendings waiting OfNothing = waiting
+waiting_with sendings waiting subject =
+    waiting ++ (if is_open (sendings subject) && not (waits waiting subject) then subject ∷ [] else [])
+
+-- behind what is heard, of those that wait before it
+abbrev pub waiting_after : Sendings → List Subject → Heard → List Subject
+waiting_after sendings waiting (HeardDown None) = waiting
+waiting_after sendings waiting (HeardDown (Some message)) = waiting_with sendings waiting (subject_of message)
+waiting_after sendings waiting (HeardUp message delay) = waiting
+waiting_after sendings waiting (HeardGrant grant) = waiting
+
+-- ---- the subjects of which `copies` is judged: the first, where it is overdue; then that of the message, and those that
+-- it may end, of those that wait behind the first
+
+abbrev pub late_first : Sendings → ℕ → List Subject → List Subject
+late_first sendings now [] = []
+late_first sendings now (first ∷ others) = if overdue sendings now first then first ∷ [] else []
+
+-- among these in ascending order
+abbrev pub with_alloc : ℕ → List ℕ → List ℕ
+with_alloc alloc [] = alloc ∷ []
+with_alloc alloc (other ∷ others) =
+    if nat_le alloc other then alloc ∷ other ∷ others else other ∷ with_alloc alloc others
+
+-- the Alloc-IDs of an ONU-ID that wait
+abbrev pub allocs_of : ℕ → List Subject → List ℕ
+allocs_of onu [] = []
+allocs_of onu (OfAlloc other alloc ∷ others) =
+    if onu == other then with_alloc alloc (allocs_of onu others) else allocs_of onu others
+allocs_of onu (_ ∷ others) = allocs_of onu others
+
+abbrev pub if_waits : List Subject → Subject → List Subject
+if_waits waiting subject = if waits waiting subject then subject ∷ [] else []
+
+abbrev pub ended_of : List Subject → Subject → List Subject
+ended_of waiting (OfHolder onu) =
+    if_waits waiting (OfDelay onu) ++ map (λ alloc. OfAlloc onu alloc) (allocs_of onu waiting)
+ended_of waiting _ = []
+
+abbrev pub judged_with : List Subject → Heard → List Subject
+judged_with waiting (HeardDown None) = []
+judged_with waiting (HeardDown (Some message)) =
+    if_waits waiting (subject_of message) ++ ended_of waiting (subject_of message)
+judged_with waiting (HeardUp message delay) = []
+judged_with waiting (HeardGrant grant) = []
+
+abbrev pub judged_subjects : Sendings → List Subject → ℕ → Heard → List Subject
+judged_subjects sendings waiting now heard =
+    late_first sendings now waiting ++ judged_with (still_waiting sendings now waiting) heard
 
 -- ---- what else is kept
 
@@ -123,7 +160,8 @@ notes_after settings notes now heard =
     record {
       known = known_after notes.known heard;
       sendings = sendings_heard notes.sendings now heard;
-      waiting = open_after (sendings_heard notes.sendings now heard) notes.waiting heard;
+      waiting =
+          waiting_after (sendings_heard notes.sendings now heard) (still_waiting notes.sendings now notes.waiting) heard;
       notices = notices_heard notes now heard;
       sent = sent_heard notes heard;
       owing = owing_heard settings notes now heard;
