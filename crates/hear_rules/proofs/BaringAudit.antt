@@ -1,5 +1,5 @@
 -- Without delays each rule that doesn't go by them answers the same, along the frames of a log.
-use Rattle.std.proofs.Common.{◌≡◌, ℕ, ◌==◌, Bool, true, false, cond, List, [], ◌∷◌, Option, None, Some, refl, sym, ap, subst, ◌∙◌}
+use Rattle.std.proofs.Common.{◌≡◌, ℕ, ◌==◌, false, cond, not, ◌&&◌, ◌||◌, List, [], ◌∷◌, Option, None, Some, refl, sym, ap, subst, ◌∙◌}
 use mathlib.Core.Path.{fun_ext}
 use Rattle.std.proofs.lemmas.Bool.{false≢true}
 use Rattle.gp_ploam.specs.declared.message.Serial.{Serial}
@@ -9,26 +9,46 @@ use Rattle.gp_ploam.specs.declared.message.Up.{Up}
 use Rattle.gp_ploam.specs.declared.message.Up.TheVariants.{SerialNumber}
 use Rattle.gp_ploam.specs.declared.message.Up.TheVariants as up
 use Rattle.gp_ploam.specs.Up.{octet1_of}
-use Rattle.gp_ploam.specs.Serials.{same_serial}
 use Rattle.gp_observer.specs.Heard.{Heard, HeardDown, HeardUp, HeardGrant}
 use Rattle.hear_rules.specs.declared.rule.Rule.{Rule}
 use Rattle.hear_rules.specs.declared.rule.Rule.TheVariants as rule
-use Rattle.hear_rules.specs.Facts.{Yes}
-use Rattle.hear_rules.specs.Known.{Number, Unheard, Nobodys, Of, Known, after_message}
+use Rattle.hear_rules.specs.Facts.{Sure, Yes}
+use Rattle.hear_rules.specs.Known.{Number, Unheard, Nobodys, Of, Known}
 use Rattle.hear_rules.specs.Rules.{Settings, judged_if}
-use Rattle.hear_rules.specs.Copies.{Subject, OfNothing, OfHolder, OfDelay, OfAlloc, OfSerial, OfAllOnus, OfAllSerials, Sendings, copies}
-use Rattle.hear_rules.specs.Units.{Notices, held_by, tells_onu, tells_delay, tells_serial, notice_where, notices_after, Sent, unless_lost, lost_again, lost_anew, sent_after, Owing, unless_gone, owing_after, after_grace, disabled, anew, number_of, with_none, number}
+use Rattle.gp_observer.specs.Observer.{is_unit_number}
+use Rattle.hear_rules.specs.Copies.{Subject, subject_of, OfNothing, OfHolder, OfDelay, OfAlloc, OfSerial, OfAllOnus, OfAllSerials, Sendings, copies}
+use Rattle.hear_rules.specs.Units.{Tallies, total, is_third, By, Notices, is_of, is_nobodys, changes_hands, changes_holder, gets_delay, changes_delay, changes_disabled, notices_after, Sent, unless_lost, lost_again, is_unheard, sent_after, Owing, owing_sent, is_ranged, unless_gone, owing_after, after_grace, disabled, anew, number_of, with_none, number, copied_of, broken_unsent, is_held, acknowledge}
 use Rattle.hear_rules.specs.Notes.{Notes, notes_whole, notes_midway, judged_subjects, notes_after}
 use Rattle.hear_rules.specs.Audit.{worst, judge_copies, judge_answer, judge_granted, judge}
 use Rattle.hear_rules.specs.Bare.{without_delay, goes_by_delay, JudgesTheSame, DelaysJudgeNoOther}
-use Rattle.hear_rules.proofs.Baring.{bared_number, bared, lost_by_bared, message_bared, heard_bared, IsOther, judged_same}
+use Rattle.hear_rules.proofs.Baring.{bared_number, bared, message_bared, heard_bared, IsOther, judged_same}
 
 -- ---- what is kept
 
-held_bared : (x : Number) (s : Serial) → held_by (bared_number x) s ≡ held_by x s
-held_bared Unheard s = refl
-held_bared Nobodys s = refl
-held_bared (Of t d a) s = refl
+of_bared : (x : Number) (s : Serial) → is_of (bared_number x) s ≡ is_of x s
+of_bared Unheard s = refl
+of_bared Nobodys s = refl
+of_bared (Of t d a) s = refl
+
+nobodys_bared : (x : Number) → is_nobodys (bared_number x) ≡ is_nobodys x
+nobodys_bared Unheard = refl
+nobodys_bared Nobodys = refl
+nobodys_bared (Of t d a) = refl
+
+unheard_bared : (x : Number) → is_unheard (bared_number x) ≡ is_unheard x
+unheard_bared Unheard = refl
+unheard_bared Nobodys = refl
+unheard_bared (Of t d a) = refl
+
+ranged_bared : (x : Number) → is_ranged (bared_number x) ≡ is_ranged x
+ranged_bared Unheard = refl
+ranged_bared Nobodys = refl
+ranged_bared (Of t d a) = refl
+
+delay_bared : (x : Number) (e : ℕ) → gets_delay (bared_number x) e ≡ gets_delay x e
+delay_bared Unheard e = refl
+delay_bared Nobodys e = refl
+delay_bared (Of t d a) e = refl
 
 again_bared : (x : Number) (s : Serial) → lost_again (bared_number x) s ≡ lost_again x s
 again_bared Unheard s = refl
@@ -36,25 +56,41 @@ again_bared Nobodys s = refl
 again_bared (Of t d a) s = refl
 
 module _ (k : Known) where
-  onu_same : (m : Down) (j : ℕ) → tells_onu (bared k) m j ≡ tells_onu k m j
-  onu_same (AssignOnu n s) j = ap (cond (j == n) Yes) (lost_by_bared (k.numbers j) s)
-  onu_same (DisableSerial s) j = lost_by_bared (k.numbers j) s
-  onu_same (UpstreamOverhead burst) j = refl
-  onu_same (RangingTime n e) j = refl
-  onu_same (Deactivate n) j = refl
-  onu_same (EnableSerial s) j = refl
-  onu_same EnableAll j = refl
-  onu_same (AssignAlloc n a keep) j = refl
-  onu_same NoMessage j = refl
-  onu_same (Popup n) j = refl
-  onu_same (Other id octet1 body) j = refl
+  hands_same : (n : ℕ) (s : Serial) (j : ℕ) → changes_hands (bared k) n s j ≡ changes_hands k n s j
+  hands_same n s j = ap (λ b. cond (j == n) (not b) b) (of_bared (k.numbers j) s)
 
-  serial_same : (m : Down) (t : Serial) → tells_serial (bared k) m t ≡ tells_serial k m t
-  serial_same (AssignOnu n s) t = ap (cond (same_serial t s) Yes) (held_bared (k.numbers n) t)
-  serial_same (Deactivate n) t = ap (cond (n == 255) Yes) (held_bared (k.numbers n) t)
-  serial_same (UpstreamOverhead burst) t = refl
-  serial_same (RangingTime n e) t = refl
+  holder_same : (m : Down) (j : ℕ) → changes_holder (bared k) m j ≡ changes_holder k m j
+  holder_same (AssignOnu n s) j = ap (λ b. is_unit_number n && b) (hands_same n s j)
+  holder_same (Deactivate n) j = ap (λ b. (n == 255 || j == n) && not b) (nobodys_bared (k.numbers j))
+  holder_same (DisableSerial s) j = of_bared (k.numbers j) s
+  holder_same (UpstreamOverhead burst) j = refl
+  holder_same (RangingTime n e) j = refl
+  holder_same (EnableSerial s) j = refl
+  holder_same EnableAll j = refl
+  holder_same (AssignAlloc n a keep) j = refl
+  holder_same NoMessage j = refl
+  holder_same (Popup n) j = refl
+  holder_same (Other id octet1 body) j = refl
+
+  delay_same : (m : Down) (j : ℕ) → changes_delay (bared k) m j ≡ changes_delay k m j
+  delay_same (RangingTime n e) j = ap (λ b. j == n && b) (delay_bared (k.numbers j) e)
+  delay_same (UpstreamOverhead burst) j = refl
+  delay_same (AssignOnu n s) j = refl
+  delay_same (Deactivate n) j = refl
+  delay_same (DisableSerial s) j = refl
+  delay_same (EnableSerial s) j = refl
+  delay_same EnableAll j = refl
+  delay_same (AssignAlloc n a keep) j = refl
+  delay_same NoMessage j = refl
+  delay_same (Popup n) j = refl
+  delay_same (Other id octet1 body) j = refl
+
+  serial_same : (m : Down) (t : Serial) → changes_disabled (bared k) m t ≡ changes_disabled k m t
   serial_same (DisableSerial s) t = refl
+  serial_same (UpstreamOverhead burst) t = refl
+  serial_same (AssignOnu n s) t = refl
+  serial_same (RangingTime n e) t = refl
+  serial_same (Deactivate n) t = refl
   serial_same (EnableSerial s) t = refl
   serial_same EnableAll t = refl
   serial_same (AssignAlloc n a keep) t = refl
@@ -62,50 +98,48 @@ module _ (k : Known) where
   serial_same (Popup n) t = refl
   serial_same (Other id octet1 body) t = refl
 
-  notices_same : (notices : Notices) (now : ℕ) (m : Down) → notices_after (bared k) notices now m ≡ notices_after k notices now m
-  notices_same notices now m =
+  notices_same : (tallies : Tallies) (notices : Notices) (m : Down) → notices_after (bared k) tallies notices m ≡ notices_after k tallies notices m
+  notices_same tallies notices m =
       λ i. record {
-        onu = fun_ext (λ j. ap (λ x. notice_where x now m (notices.onu j)) (onu_same m j)) i;
-        delay = λ j. notice_where (tells_delay m j) now m (notices.delay j);
-        serial = fun_ext (λ t. ap (λ x. notice_where x now m (notices.serial t)) (serial_same m t)) i;
+        onu = fun_ext (λ j. ap (λ b. cond b (By (subject_of m) (total (tallies (subject_of m)))) (notices.onu j)) (holder_same m j)) i;
+        delay = fun_ext (λ j. ap (λ b. cond b (total (tallies (OfDelay j))) (notices.delay j)) (delay_same m j)) i;
+        disabled = fun_ext (λ t. ap (λ b. cond b (total (tallies (OfSerial t))) (notices.disabled t)) (serial_same m t)) i;
       }
-
-  anew_same : (n : ℕ) (s : Serial) (j : ℕ) → lost_anew (bared k) n s j ≡ lost_anew k n s j
-  anew_same n s j = by_own (j == n)
-    where
-      by_own : (b : Bool) → cond b (lost_again ((bared k).numbers j) s) (Rattle.hear_rules.specs.Known.lost_by ((bared k).numbers j) s) ≡ cond b (lost_again (k.numbers j) s) (Rattle.hear_rules.specs.Known.lost_by (k.numbers j) s)
-      by_own true = again_bared (k.numbers j) s
-      by_own false = lost_by_bared (k.numbers j) s
 
   sent_same : (sent : Sent) (m : Down) → sent_after (bared k) sent m ≡ sent_after k sent m
   sent_same sent (AssignOnu n s) =
-      λ i. record {
-        any = fun_ext (λ j. ap (λ x. unless_lost x (sent.any j)) (anew_same n s j)) i;
-        alloc = fun_ext (λ j. fun_ext (λ a. ap (λ x. unless_lost x (sent.alloc j a)) (anew_same n s j))) i;
-      }
+      ap (λ (x : Sure). record {
+        any = λ other. cond (other == n) (unless_lost x (sent.any other)) (sent.any other);
+        alloc = λ other its. cond (other == n) (unless_lost x (sent.alloc other its)) (sent.alloc other its);
+      }) (again_bared (k.numbers n) s)
   sent_same sent (UpstreamOverhead burst) = refl
   sent_same sent (RangingTime n e) = refl
   sent_same sent (Deactivate n) = refl
   sent_same sent (DisableSerial s) = refl
   sent_same sent (EnableSerial s) = refl
   sent_same sent EnableAll = refl
-  sent_same sent (AssignAlloc n a keep) = refl
+  sent_same sent (AssignAlloc n a keep) =
+      ap (λ b. cond b sent (record {
+        any = λ other. cond (other == n) Yes (sent.any other);
+        alloc = λ other its. cond (other == n && its == a) Yes (sent.alloc other its);
+      })) (unheard_bared (k.numbers n))
   sent_same sent NoMessage = refl
   sent_same sent (Popup n) = refl
   sent_same sent (Other id octet1 body) = refl
 
-  owing_same : (notices : Notices) (owing : ℕ → Owing) (now : ℕ) (m : Down) (j : ℕ) → owing_after (bared k) notices owing now m j ≡ owing_after k notices owing now m j
-  owing_same notices owing now (AssignOnu n s) j = ap (λ x. unless_gone x (owing j)) (anew_same n s j)
-  owing_same notices owing now (DisableSerial s) j = ap (λ x. unless_gone x (owing j)) (lost_by_bared (k.numbers j) s)
-  owing_same notices owing now (UpstreamOverhead burst) j = refl
-  owing_same notices owing now (RangingTime n e) j = refl
-  owing_same notices owing now (Deactivate n) j = refl
-  owing_same notices owing now (EnableSerial s) j = refl
-  owing_same notices owing now EnableAll j = refl
-  owing_same notices owing now (AssignAlloc n a keep) j = refl
-  owing_same notices owing now NoMessage j = refl
-  owing_same notices owing now (Popup n) j = refl
-  owing_same notices owing now (Other id octet1 body) j = refl
+  owing_same : (tallies : Tallies) (notices : Notices) (owing : ℕ → Owing) (now : ℕ) (m : Down) (j : ℕ) → owing_after (bared k) tallies notices owing now m j ≡ owing_after k tallies notices owing now m j
+  owing_same tallies notices owing now (AssignOnu n s) j = ap (λ b. unless_gone (is_unit_number n && b) (owing j)) (hands_same n s j)
+  owing_same tallies notices owing now (DisableSerial s) j = ap (λ b. unless_gone b (owing j)) (of_bared (k.numbers j) s)
+  owing_same tallies notices owing now (AssignAlloc n a keep) j =
+      ap (λ b. cond (j == n) (owing_sent (b && is_third (notices.delay n) (tallies (OfDelay n))) (owing n) now (AssignAlloc n a keep)) (owing j)) (ranged_bared (k.numbers n))
+  owing_same tallies notices owing now (UpstreamOverhead burst) j = refl
+  owing_same tallies notices owing now (RangingTime n e) j = refl
+  owing_same tallies notices owing now (Deactivate n) j = refl
+  owing_same tallies notices owing now (EnableSerial s) j = refl
+  owing_same tallies notices owing now EnableAll j = refl
+  owing_same tallies notices owing now NoMessage j = refl
+  owing_same tallies notices owing now (Popup n) j = refl
+  owing_same tallies notices owing now (Other id octet1 body) j = refl
 
 abbrev bared_notes : Notes → Notes
 bared_notes notes = record notes { known = bared notes.known }
@@ -115,9 +149,9 @@ notes_bared settings notes now (HeardDown None) = refl
 notes_bared settings notes now (HeardDown (Some m)) =
     λ i. record (bared_notes (notes_after settings notes now (HeardDown (Some m)))) {
       known = message_bared notes.known m i;
-      notices = notices_same notes.known notes.notices now m i;
+      notices = notices_same notes.known notes.tallies notes.notices m i;
       sent = sent_same notes.known notes.sent m i;
-      owing = fun_ext (λ j. owing_same notes.known notes.notices notes.owing now m j) i;
+      owing = fun_ext (λ j. owing_same notes.known notes.tallies notes.notices notes.owing now m j) i;
     }
 notes_bared settings notes now (HeardUp None delay) = refl
 notes_bared settings notes now (HeardUp (Some m) delay) =
@@ -148,14 +182,14 @@ module _ (settings : Settings) (notes : Notes) (now : ℕ) where
       ∙ ap (worst (copies notes.sendings now (HeardUp m delay) v)) (copies_same (HeardUp m delay) vs)
   copies_same (HeardGrant g) (v ∷ vs) = ap (worst (copies notes.sendings now (HeardGrant g) v)) (copies_same (HeardGrant g) vs)
 
-  disabled_same : (m : Up) → disabled settings (bared notes.known) notes.notices now m ≡ disabled settings notes.known notes.notices now m
+  disabled_same : (m : Up) → disabled settings (bared notes.known) notes.tallies notes.notices now m ≡ disabled settings notes.known notes.tallies notes.notices now m
   disabled_same (SerialNumber n s random flags) = refl
   disabled_same (up.DyingGasp n) = refl
   disabled_same (up.NoMessage n) = refl
   disabled_same (up.Acknowledge n id copy) = refl
   disabled_same (up.Other id octet1 body) = refl
 
-  asks_same : (m : Up) → anew settings (bared notes.known) notes.notices now m ≡ anew settings notes.known notes.notices now m
+  asks_same : (m : Up) → anew settings (bared notes.known) notes.tallies notes.notices now m ≡ anew settings notes.known notes.tallies notes.notices now m
   asks_same (SerialNumber n s random flags) = refl
   asks_same (up.DyingGasp n) = refl
   asks_same (up.NoMessage n) = refl
@@ -167,10 +201,23 @@ module _ (settings : Settings) (notes : Notes) (now : ℕ) where
   of_same Nobodys m = refl
   of_same (Of t d a) m = refl
 
-  number_same : (m : Up) → number settings (bared notes.known) notes.notices notes.down now m ≡ number settings notes.known notes.notices notes.down now m
+  number_same : (m : Up) → number settings (bared notes.known) notes.tallies notes.notices notes.down now m ≡ number settings notes.known notes.tallies notes.notices notes.down now m
   number_same m =
-      ap (λ v. cond (octet1_of m == 255) (with_none m) (judged_if notes.down (after_grace settings now (notes.notices.onu (octet1_of m)) v)))
+      ap (λ v. cond (octet1_of m == 255) (with_none m) (judged_if notes.down (after_grace settings notes.tallies now (notes.notices.onu (octet1_of m)) v)))
       (of_same (notes.known.numbers (octet1_of m)) m)
+
+  held_same : (x : Number) → is_held (bared_number x) ≡ is_held x
+  held_same Unheard = refl
+  held_same Nobodys = refl
+  held_same (Of t d a) = refl
+
+  acknowledge_same : (m : Up) → acknowledge settings (bared notes.known) notes.tallies notes.notices notes.sent now m ≡ acknowledge settings notes.known notes.tallies notes.notices notes.sent now m
+  acknowledge_same (up.Acknowledge n id copy) =
+      ap (λ b. judged_if (id == 10 && b) (after_grace settings notes.tallies now (notes.notices.onu n) (broken_unsent (copied_of notes.sent n copy)))) (held_same (notes.known.numbers n))
+  acknowledge_same (SerialNumber n s random flags) = refl
+  acknowledge_same (up.DyingGasp n) = refl
+  acknowledge_same (up.NoMessage n) = refl
+  acknowledge_same (up.Other id octet1 body) = refl
 
   answer_same : (m : Up) (delay : Option ℕ) (r : Rule) → goes_by_delay r ≡ false → judge_answer settings (bared_notes notes) now m None r ≡ judge_answer settings notes now m delay r
   answer_same m delay rule.Garbled h = refl
@@ -178,7 +225,7 @@ module _ (settings : Settings) (notes : Notes) (now : ℕ) where
   answer_same m delay rule.Anew h = asks_same m
   answer_same m delay rule.Number h = number_same m
   answer_same m delay rule.Twice h = refl
-  answer_same m delay rule.Acknowledge h = refl
+  answer_same m delay rule.Acknowledge h = acknowledge_same m
   answer_same m delay rule.Unacknowledged h = refl
   answer_same m delay rule.Drift h = absurd (false≢true (sym h))
   answer_same m delay r h = refl

@@ -40,15 +40,18 @@ judge_copies notes now heard (subject ∷ subjects) =
 -- what a unit says
 abbrev pub judge_answer : Settings → Notes → ℕ → Up → Option ℕ → Rule → Verdict
 judge_answer settings notes now message delay rule.Garbled = Kept
-judge_answer settings notes now message delay rule.Disabled = disabled settings notes.known notes.notices now message
-judge_answer settings notes now message delay rule.Anew = anew settings notes.known notes.notices now message
+judge_answer settings notes now message delay rule.Disabled =
+    disabled settings notes.known notes.tallies notes.notices now message
+judge_answer settings notes now message delay rule.Anew =
+    anew settings notes.known notes.tallies notes.notices now message
 judge_answer settings notes now message delay rule.Number =
-    number settings notes.known notes.notices notes.down now message
+    number settings notes.known notes.tallies notes.notices notes.down now message
 judge_answer settings notes now message delay rule.Twice = twice settings notes.grants notes.begun now message
 judge_answer settings notes now message delay rule.Acknowledge =
-    acknowledge settings notes.notices notes.sent now message
+    acknowledge settings notes.known notes.tallies notes.notices notes.sent now message
 judge_answer settings notes now message delay rule.Unacknowledged = unacknowledged settings notes.owing now message
-judge_answer settings notes now message delay rule.Drift = drift settings notes.known notes.notices now message delay
+judge_answer settings notes now message delay rule.Drift =
+    drift settings notes.known notes.tallies notes.notices now message delay
 judge_answer settings notes now message delay _ = NotJudged
 
 -- of a port without a code down it isn't known that nobody holds an ONU-ID

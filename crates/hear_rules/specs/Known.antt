@@ -130,8 +130,8 @@ given_up (Is held) onu = if held == onu then Nothing else Is held
 
 -- ---- Alloc-IDs
 
--- whether who holds an ONU-ID loses its Alloc-IDs, where it gets it again: it may have restarted, but without a delay it
--- has none
+-- whether who holds an ONU-ID loses its Alloc-IDs, where it gets it again: it may have restarted, but without a delay
+-- it has none
 abbrev pub may_lose : Fact ℕ → Sure
 may_lose Unknown = Unsure
 may_lose Nothing = No
@@ -155,7 +155,8 @@ freed Yes onu last = Free (Is onu)
 freed No onu last = Has onu last
 freed Unsure onu last = Unclear
 
--- one that nobody has: where it isn't known whether a unit lost its Alloc-IDs, nothing is known of those that it had last
+-- one that nobody has: where it isn't known whether a unit lost its Alloc-IDs, nothing is known of those that it had
+-- last
 abbrev pub still_free : Sure → ℕ → Owner
 still_free Yes onu = Free (Is onu)
 still_free No onu = Free (Is onu)

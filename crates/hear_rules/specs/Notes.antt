@@ -5,19 +5,20 @@ use Rattle.gp_observer.specs.Heard.{Heard, HeardDown, HeardUp, HeardGrant}
 use Rattle.hear_rules.specs.Known.{Known, known_whole, known_midway, known_after}
 use Rattle.hear_rules.specs.Rules.{Settings}
 use Rattle.hear_rules.specs.Copies.{Subject, OfNothing, OfHolder, OfDelay, OfAlloc, subject_of, same_subject, Cut, Silent, Sendings, sendings_heard, is_open, overdue}
-use Rattle.hear_rules.specs.Units.{Notices, notices_whole, notices_midway, notices_after, Sent, sent_whole, sent_midway, sent_after, Owing, OwesNone, owing_after, owing_with, Granted, grants_with, grants_after}
+use Rattle.hear_rules.specs.Units.{Tallies, Untold, tallies_after, Notices, notices_whole, notices_midway, notices_after, Sent, sent_whole, sent_midway, sent_after, Owing, OwesNone, owing_after, owing_with, Grants, no_grants, grants_with, grants_after}
 
 pub record Notes : Type 0 where
   pub known : Known
-  -- what was sent last about each subject, and those that wait for a copy; one that is overdue and doesn't wait was told
+  -- what was sent last about each subject, and those that wait for a copy: who is overdue and doesn't wait was told
   pub sendings : Sendings
   pub waiting : List Subject
-  -- by which messages units go, and what they owe
+  -- how often it was, by which messages units go, and what they owe
+  pub tallies : Tallies
   pub notices : Notices
   pub sent : Sent
   pub owing : ℕ → Owing
   -- the last grants
-  pub grants : List Granted
+  pub grants : Grants
   -- whether the port has had a code down
   pub down : Bool
   -- where the log may begin in the middle, the frame of the port's first line
@@ -30,10 +31,11 @@ notes_whole =
       known = known_whole;
       sendings = λ subject. Silent;
       waiting = [];
+      tallies = λ subject. Untold;
       notices = notices_whole;
       sent = sent_whole;
       owing = λ onu. OwesNone;
-      grants = [];
+      grants = no_grants;
       down = false;
       begun = None;
     }
@@ -45,10 +47,11 @@ notes_midway begun =
       known = known_midway;
       sendings = λ subject. Cut;
       waiting = [];
+      tallies = λ subject. Untold;
       notices = notices_midway;
       sent = sent_midway;
       owing = λ onu. OwesNone;
-      grants = [];
+      grants = no_grants;
       down = false;
       begun = Some begun;
     }
@@ -79,8 +82,8 @@ waiting_after sendings waiting (HeardDown (Some message)) = waiting_with sending
 waiting_after sendings waiting (HeardUp message delay) = waiting
 waiting_after sendings waiting (HeardGrant grant) = waiting
 
--- ---- the subjects of which `copies` is judged: the first, where it is overdue; then that of the message, and those that
--- it may end, of those that wait behind the first
+-- ---- the subjects of which `copies` is judged: the first, where it is overdue; then that of the message, and those
+-- that it may end, of those that wait behind the first
 
 abbrev pub late_first : Sendings → ℕ → List Subject → List Subject
 late_first sendings now [] = []
@@ -120,11 +123,17 @@ judged_subjects sendings waiting now heard =
 
 -- ---- what else is kept
 
-abbrev pub notices_heard : Notes → ℕ → Heard → Notices
-notices_heard notes now (HeardDown None) = notes.notices
-notices_heard notes now (HeardDown (Some message)) = notices_after notes.known notes.notices now message
-notices_heard notes now (HeardUp message delay) = notes.notices
-notices_heard notes now (HeardGrant grant) = notes.notices
+abbrev pub tallies_heard : Tallies → ℕ → Heard → Tallies
+tallies_heard tallies now (HeardDown None) = tallies
+tallies_heard tallies now (HeardDown (Some message)) = tallies_after tallies now message
+tallies_heard tallies now (HeardUp message delay) = tallies
+tallies_heard tallies now (HeardGrant grant) = tallies
+
+abbrev pub notices_heard : Notes → Heard → Notices
+notices_heard notes (HeardDown None) = notes.notices
+notices_heard notes (HeardDown (Some message)) = notices_after notes.known notes.tallies notes.notices message
+notices_heard notes (HeardUp message delay) = notes.notices
+notices_heard notes (HeardGrant grant) = notes.notices
 
 abbrev pub sent_heard : Notes → Heard → Sent
 sent_heard notes (HeardDown None) = notes.sent
@@ -135,17 +144,17 @@ sent_heard notes (HeardGrant grant) = notes.sent
 abbrev pub owing_heard : Settings → Notes → ℕ → Heard → ℕ → Owing
 owing_heard settings notes now (HeardDown None) = notes.owing
 owing_heard settings notes now (HeardDown (Some message)) =
-    owing_after notes.known notes.notices notes.owing now message
+    owing_after notes.known notes.tallies notes.notices notes.owing now message
 owing_heard settings notes now (HeardUp None delay) = notes.owing
 owing_heard settings notes now (HeardUp (Some message) delay) = owing_with settings.grace notes.owing now message
 owing_heard settings notes now (HeardGrant grant) = notes.owing
 
-abbrev pub grants_heard : Settings → Notes → ℕ → Heard → List Granted
+abbrev pub grants_heard : Settings → Notes → ℕ → Heard → Grants
 grants_heard settings notes now (HeardDown message) = notes.grants
 grants_heard settings notes now (HeardUp None delay) = notes.grants
 grants_heard settings notes now (HeardUp (Some message) delay) =
     grants_with settings.grace now notes.grants message
-grants_heard settings notes now (HeardGrant grant) = grants_after settings.grace now notes.grants grant
+grants_heard settings notes now (HeardGrant grant) = grants_after now notes.grants grant
 
 abbrev pub down_heard : Bool → Heard → Bool
 down_heard down (HeardDown None) = down
@@ -161,8 +170,10 @@ notes_after settings notes now heard =
       known = known_after notes.known heard;
       sendings = sendings_heard notes.sendings now heard;
       waiting =
-          waiting_after (sendings_heard notes.sendings now heard) (still_waiting notes.sendings now notes.waiting) heard;
-      notices = notices_heard notes now heard;
+          waiting_after (sendings_heard notes.sendings now heard)
+          (still_waiting notes.sendings now notes.waiting) heard;
+      tallies = tallies_heard notes.tallies now heard;
+      notices = notices_heard notes heard;
       sent = sent_heard notes heard;
       owing = owing_heard settings notes now heard;
       grants = grants_heard settings notes now heard;

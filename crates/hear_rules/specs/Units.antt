@@ -1,11 +1,11 @@
 -- The rules of units (G.984.3, clauses 9 and 10): one function a rule, with three answers. A unit hears a message after
 -- it was sent, may miss a copy, and may take some frames to act: so most are judged by messages that were sent three
 -- times, the last one some frames ago. How many is this profile's own rule.
-use Rattle.std.specs.Prelude.{ℕ, suc, ◌+◌, ◌*◌, ◌/◌, ◌==◌, ◌&&◌, ◌||◌, nat_lt, nat_le, Bool, true, false, not, if◌then◌else◌, List, [], ◌∷◌, ◌++◌, Option, None, Some, slice_index}
+use Rattle.std.specs.Prelude.{ℕ, suc, ◌+◌, ◌*◌, ◌/◌, ◌==◌, ◌&&◌, ◌||◌, nat_lt, nat_le, Bool, true, false, not, if◌then◌else◌, List, [], ◌∷◌, ◌++◌, map, length, Option, None, Some, slice_index}
 use Rattle.std.specs.List.{list_all, list_any}
 use Rattle.gp_ploam.specs.declared.message.Serial.{Serial}
 use Rattle.gp_ploam.specs.declared.message.Down.{Down}
-use Rattle.gp_ploam.specs.declared.message.Down.TheVariants.{AssignOnu, RangingTime, Deactivate, DisableSerial, EnableSerial, EnableAll, AssignAlloc}
+use Rattle.gp_ploam.specs.declared.message.Down.TheVariants.{AssignOnu, RangingTime, Deactivate, DisableSerial, AssignAlloc}
 use Rattle.gp_ploam.specs.declared.message.Up.{Up}
 use Rattle.gp_ploam.specs.declared.message.Up.TheVariants.{SerialNumber, Acknowledge}
 use Rattle.gp_ploam.specs.declared.message.Up.TheVariants as up
@@ -14,119 +14,174 @@ use Rattle.gp_ploam.specs.Serials.{same_serial}
 use Rattle.gp_ploam.specs.Up.{octet1_of}
 use Rattle.gp_ranging.specs.declared.grant.Grant.{Grant}
 use Rattle.gp_ranging.specs.declared.grant.Grant.TheVariants.{Search, Range, Poll}
+use Rattle.gp_observer.specs.Observer.{is_unit_number}
 use Rattle.gp_observer.specs.Watch.{same_message}
 use Rattle.gp_observer.specs.UnitRules.{distance}
 use Rattle.hear_rules.specs.declared.rule.Verdict.{Verdict}
 use Rattle.hear_rules.specs.declared.rule.Verdict.TheVariants.{Kept, Broken, NotJudged}
-use Rattle.hear_rules.specs.Facts.{sure, Fact, Unknown, Nothing, Is, Sure, Yes, No, Unsure, broken_if, broken_where}
-use Rattle.hear_rules.specs.Known.{Number, Unheard, Nobodys, Of, Known, lost_by}
+use Rattle.hear_rules.specs.Facts.{Fact, Unknown, Nothing, Is, Sure, Yes, No, Unsure, broken_if, is_other}
+use Rattle.hear_rules.specs.Known.{Number, Unheard, Nobodys, Of, Known}
 use Rattle.hear_rules.specs.Rules.{Settings, judged_if}
+use Rattle.hear_rules.specs.Copies.{Subject, OfNothing, OfDelay, OfSerial, subject_of, same_subject}
+
+-- ---- how often something was said of a subject
+
+pub data Tally : Type 0 where
+  -- nothing was
+  Untold : Tally
+  -- the last message, how often others were said before it, how often it was, and in which frame last
+  Told : (message : Down) (before : ℕ) (times : ℕ) (last : ℕ) → Tally
+
+abbrev pub Tallies : Type 0
+Tallies = Subject → Tally
+
+abbrev pub tally_after : Tally → ℕ → Down → Tally
+tally_after Untold now message = Told message 0 1 now
+tally_after (Told said before times last) now message =
+    if same_message said message then Told said before (suc times) now else Told message (before + times) 1 now
+
+abbrev pub tallies_put : Tallies → Subject → Tally → Tallies
+tallies_put tallies OfNothing tally = tallies
+tallies_put tallies subject tally = λ other. if same_subject other subject then tally else tallies other
+
+abbrev pub tallies_after : Tallies → ℕ → Down → Tallies
+tallies_after tallies now message =
+    tallies_put tallies (subject_of message) (tally_after (tallies (subject_of message)) now message)
+
+-- of all messages
+abbrev pub total : Tally → ℕ
+total Untold = 0
+total (Told _ before times last) = before + times
+
+-- since it was so many, one message alone was said, three times or more
+abbrev pub is_third : ℕ → Tally → Bool
+is_third base Untold = false
+is_third base (Told _ before times last) = nat_le before base && nat_le (base + 3) (before + times)
+
+-- and its unit had the time to act
+abbrev pub is_settled : ℕ → ℕ → ℕ → Tally → Bool
+is_settled grace now base Untold = false
+is_settled grace now base (Told message before times last) =
+    is_third base (Told message before times last) && nat_lt (last + grace) now
 
 -- ---- by which message a unit goes
 
--- the message, how often it was sent, and in which frame last
 pub data Notice : Type 0 where
   -- it isn't known which one it is
   NoticeUnknown : Notice
   -- none was sent since the beginning
   NoNotice : Notice
-  NoticeOf : (message : Down) (times : ℕ) (last : ℕ) → Notice
+  -- by what was said of this subject since it was so many
+  By : (subject : Subject) (base : ℕ) → Notice
 
--- the message that gave or took an ONU-ID, or its Ranging_Time; and the one by which a serial number got or lost its
--- ONU-ID, or was disabled or enabled
+-- by what an ONU-ID got its holder, or lost it; and how many messages there were before a unit got its delay, or was
+-- disabled
 pub record Notices : Type 0 where
   pub onu : ℕ → Notice
-  pub delay : ℕ → Notice
-  pub serial : Serial → Notice
+  pub delay : ℕ → ℕ
+  pub disabled : Serial → ℕ
 
 -- from the first message on, and from the middle on
 abbrev pub notices_whole : Notices
-notices_whole = record { onu = λ onu. NoNotice; delay = λ onu. NoNotice; serial = λ serial. NoNotice }
+notices_whole = record { onu = λ onu. NoNotice; delay = λ onu. 0; disabled = λ serial. 0 }
 
 abbrev pub notices_midway : Notices
-notices_midway = record { onu = λ onu. NoticeUnknown; delay = λ onu. NoticeUnknown; serial = λ serial. NoticeUnknown }
+notices_midway = record { onu = λ onu. NoticeUnknown; delay = λ onu. 0; disabled = λ serial. 0 }
 
--- the message is said in this frame: it is a copy, or another one
-abbrev pub notice_again : Notice → ℕ → Down → Notice
-notice_again NoticeUnknown now message = NoticeOf message 1 now
-notice_again NoNotice now message = NoticeOf message 1 now
-notice_again (NoticeOf said times last) now message =
-    if same_message said message then NoticeOf said (suc times) now else NoticeOf message 1 now
+-- this unit holds the ONU-ID, or nobody does
+abbrev pub is_of : Number → Serial → Bool
+is_of Unheard serial = false
+is_of Nobodys serial = false
+is_of (Of holder delay answers) serial = same_serial serial holder
 
--- it may be a copy
-abbrev pub notice_copy : Notice → ℕ → Down → Notice
-notice_copy NoticeUnknown now _ = NoticeUnknown
-notice_copy NoNotice now _ = NoNotice
-notice_copy (NoticeOf said times last) now message =
-    if same_message said message then NoticeOf said (suc times) now else NoticeOf said times last
+abbrev pub is_nobodys : Number → Bool
+is_nobodys Unheard = false
+is_nobodys Nobodys = true
+is_nobodys (Of holder delay answers) = false
 
--- where it is known whether it goes by it
-abbrev pub notice_where : Sure → ℕ → Down → Notice → Notice
-notice_where Yes now message notice = notice_again notice now message
-notice_where No now message notice = notice_copy notice now message
-notice_where Unsure now _ _ = NoticeUnknown
+-- where a unit gets this ONU-ID: it or another one gets another holder, or loses its own
+abbrev pub changes_hands : Known → ℕ → Serial → ℕ → Bool
+changes_hands known onu serial other =
+    if other == onu then not (is_of (known.numbers other) serial) else is_of (known.numbers other) serial
 
--- the unit of this serial number holds the ONU-ID
-abbrev pub held_by : Number → Serial → Sure
-held_by Unheard serial = Unsure
-held_by Nobodys serial = No
-held_by (Of holder delay answers) serial = if same_serial serial holder then Yes else No
+-- by this message the ONU-ID gets another holder, or loses its own, or it is known now that nobody holds it
+abbrev pub changes_holder : Known → Down → ℕ → Bool
+changes_holder known (AssignOnu onu serial) other =
+    is_unit_number onu && changes_hands known onu serial other
+changes_holder known (Deactivate onu) other =
+    (onu == broadcast_onu || other == onu) && not (is_nobodys (known.numbers other))
+changes_holder known (DisableSerial serial) other = is_of (known.numbers other) serial
+changes_holder known _ other = false
 
--- whom a message tells something
-abbrev pub tells_onu : Known → Down → ℕ → Sure
-tells_onu known (AssignOnu onu serial) other = if other == onu then Yes else lost_by (known.numbers other) serial
-tells_onu known (Deactivate onu) other = sure (onu == broadcast_onu || other == onu)
-tells_onu known (DisableSerial serial) other = lost_by (known.numbers other) serial
-tells_onu known _ other = No
+-- its unit gets another delay, or one that may be another
+abbrev pub is_other_delay : Sure → Bool
+is_other_delay Yes = true
+is_other_delay No = false
+is_other_delay Unsure = true
 
-abbrev pub tells_delay : Down → ℕ → Sure
-tells_delay (RangingTime onu eqd) other = sure (other == onu)
-tells_delay _ other = No
+abbrev pub gets_delay : Number → ℕ → Bool
+gets_delay Unheard eqd = false
+gets_delay Nobodys eqd = false
+gets_delay (Of holder delay answers) eqd = is_other_delay (is_other delay eqd)
 
-abbrev pub tells_serial : Known → Down → Serial → Sure
-tells_serial known (AssignOnu onu serial) other =
-    if same_serial other serial then Yes else held_by (known.numbers onu) other
-tells_serial known (Deactivate onu) other = if onu == broadcast_onu then Yes else held_by (known.numbers onu) other
-tells_serial known (DisableSerial serial) other = sure (same_serial other serial)
-tells_serial known (EnableSerial serial) other = sure (same_serial other serial)
-tells_serial known EnableAll other = Yes
-tells_serial known _ other = No
+abbrev pub changes_delay : Known → Down → ℕ → Bool
+changes_delay known (RangingTime onu eqd) other = other == onu && gets_delay (known.numbers other) eqd
+changes_delay known _ other = false
 
-abbrev pub notices_after : Known → Notices → ℕ → Down → Notices
-notices_after known notices now message =
+-- it is disabled now
+abbrev pub is_enabled : Sure → Bool
+is_enabled Yes = false
+is_enabled No = true
+is_enabled Unsure = true
+
+abbrev pub changes_disabled : Known → Down → Serial → Bool
+changes_disabled known (DisableSerial serial) other = same_serial other serial && is_enabled (known.disabled other)
+changes_disabled known _ other = false
+
+-- by what is known and was said before the message
+abbrev pub notices_after : Known → Tallies → Notices → Down → Notices
+notices_after known tallies notices message =
     record {
-      onu = λ onu. notice_where (tells_onu known message onu) now message (notices.onu onu);
-      delay = λ onu. notice_where (tells_delay message onu) now message (notices.delay onu);
-      serial = λ serial. notice_where (tells_serial known message serial) now message (notices.serial serial);
+      onu = λ onu.
+          if changes_holder known message onu
+          then By (subject_of message) (total (tallies (subject_of message)))
+          else notices.onu onu;
+      delay = λ onu. if changes_delay known message onu then total (tallies (OfDelay onu)) else notices.delay onu;
+      disabled = λ serial.
+          if changes_disabled known message serial then total (tallies (OfSerial serial)) else notices.disabled serial;
     }
 
--- it was sent three times, and its unit had the time to act
-abbrev pub is_settled : ℕ → ℕ → Notice → Bool
-is_settled grace now NoticeUnknown = false
-is_settled grace now NoNotice = true
-is_settled grace now (NoticeOf _ times last) = nat_le 3 times && nat_lt (last + grace) now
+abbrev pub has_heard : Settings → Tallies → ℕ → Notice → Bool
+has_heard settings tallies now NoticeUnknown = false
+has_heard settings tallies now NoNotice = true
+has_heard settings tallies now (By subject base) = is_settled settings.grace now base (tallies subject)
 
-abbrev pub after_grace : Settings → ℕ → Notice → Verdict → Verdict
-after_grace settings now notice verdict = judged_if (is_settled settings.grace now notice) verdict
+abbrev pub after_grace : Settings → Tallies → ℕ → Notice → Verdict → Verdict
+after_grace settings tallies now notice verdict = judged_if (has_heard settings tallies now notice) verdict
 
 -- ---- `disabled`, `anew`: it asks though it is disabled, or holds an ONU-ID
 
-abbrev pub broken_with : Fact ℕ → Verdict
-broken_with Unknown = NotJudged
-broken_with Nothing = Kept
-broken_with (Is onu) = Broken
+abbrev pub disabled_of : Bool → Sure → Verdict
+disabled_of heard Yes = judged_if heard Broken
+disabled_of heard No = Kept
+disabled_of heard Unsure = NotJudged
 
-abbrev pub disabled : Settings → Known → Notices → ℕ → Up → Verdict
-disabled settings known notices now (SerialNumber onu serial random flags) =
+abbrev pub disabled : Settings → Known → Tallies → Notices → ℕ → Up → Verdict
+disabled settings known tallies notices now (SerialNumber onu serial random flags) =
     judged_if (onu == broadcast_onu)
-    (after_grace settings now (notices.serial serial) (broken_where (known.disabled serial)))
-disabled settings known notices now _ = NotJudged
+    (disabled_of (is_settled settings.grace now (notices.disabled serial) (tallies (OfSerial serial)))
+    (known.disabled serial))
+disabled settings known tallies notices now _ = NotJudged
 
-abbrev pub anew : Settings → Known → Notices → ℕ → Up → Verdict
-anew settings known notices now (SerialNumber onu serial random flags) =
-    judged_if (onu == broadcast_onu)
-    (after_grace settings now (notices.serial serial) (broken_with (known.holds serial)))
-anew settings known notices now _ = NotJudged
+abbrev pub anew_of : Settings → Tallies → Notices → ℕ → Fact ℕ → Verdict
+anew_of settings tallies notices now Unknown = NotJudged
+anew_of settings tallies notices now Nothing = Kept
+anew_of settings tallies notices now (Is onu) = after_grace settings tallies now (notices.onu onu) Broken
+
+abbrev pub anew : Settings → Known → Tallies → Notices → ℕ → Up → Verdict
+anew settings known tallies notices now (SerialNumber onu serial random flags) =
+    judged_if (onu == broadcast_onu) (anew_of settings tallies notices now (known.holds serial))
+anew settings known tallies notices now _ = NotJudged
 
 -- ---- `number`: it speaks with an ONU-ID that nobody holds, or gives its serial number with another unit's
 
@@ -145,23 +200,56 @@ with_none (SerialNumber onu serial random flags) = Kept
 with_none _ = Broken
 
 -- whom nobody told anything that was captured may have an ONU-ID
-abbrev pub number : Settings → Known → Notices → Bool → ℕ → Up → Verdict
-number settings known notices down now message =
+abbrev pub number : Settings → Known → Tallies → Notices → Bool → ℕ → Up → Verdict
+number settings known tallies notices down now message =
     if octet1_of message == broadcast_onu then with_none message
     else judged_if down
-    (after_grace settings now (notices.onu (octet1_of message)) (number_of (known.numbers (octet1_of message)) message))
+    (after_grace settings tallies now (notices.onu (octet1_of message))
+    (number_of (known.numbers (octet1_of message)) message))
 
 -- ---- `twice`: it answers, and all grants of the last frames that ask it were answered
 
--- a grant, its frame, who answered a search, and whether another one was answered
+-- a grant, its frame, the how manieth it is, and whether it was answered, unless it is a search
 pub record Granted : Type 0 where
   pub grant : Grant
   pub at : ℕ
-  pub askers : List Serial
+  pub number : ℕ
   pub answered : Bool
 
-abbrev pub granted_now : Grant → ℕ → Granted
-granted_now grant now = record { grant = grant; at = now; askers = []; answered = false }
+pub record Grants : Type 0 where
+  -- the last ones, how many there were, and the frame of the last one that isn't kept any more
+  pub kept : List Granted
+  pub count : ℕ
+  pub lost : Option ℕ
+  -- the last search that a serial number answered
+  pub searched : Serial → Option ℕ
+
+abbrev pub no_grants : Grants
+no_grants = record { kept = []; count = 0; lost = None; searched = λ serial. None }
+
+-- so many are kept
+abbrev pub grants_kept : ℕ
+grants_kept = 64
+
+abbrev pub granted_now : ℕ → Grant → ℕ → Granted
+granted_now number grant now = record { grant = grant; at = now; number = number; answered = false }
+
+-- the first goes where there is one too many
+abbrev pub kept_of_all : ℕ → List Granted → List Granted
+kept_of_all many [] = []
+kept_of_all many (first ∷ others) = if nat_lt grants_kept many then others else first ∷ others
+
+abbrev pub lost_of_all : ℕ → Option ℕ → List Granted → Option ℕ
+lost_of_all many lost [] = lost
+lost_of_all many lost (first ∷ others) = if nat_lt grants_kept many then Some first.at else lost
+
+abbrev pub grants_after : ℕ → Grants → Grant → Grants
+grants_after now grants grant =
+    record grants {
+      kept = kept_of_all (suc (length grants.kept)) (grants.kept ++ granted_now grants.count grant now ∷ []);
+      count = suc grants.count;
+      lost = lost_of_all (suc (length grants.kept)) grants.lost grants.kept;
+    }
 
 -- the grant asks for this message
 abbrev pub asks_for : Grant → Up → Bool
@@ -171,38 +259,51 @@ asks_for (Poll given) (SerialNumber onu serial random flags) = false
 asks_for (Poll given) message = octet1_of message == given
 asks_for _ message = false
 
--- it has had this answer
-abbrev pub has_had : Granted → Up → Bool
-has_had granted (SerialNumber onu serial random flags) =
-    if onu == broadcast_onu then list_any (λ asker. same_serial asker serial) granted.askers else granted.answered
-has_had granted message = granted.answered
-
 -- it is one of the last frames, and asks for the message
 abbrev pub may_answer : ℕ → ℕ → Granted → Up → Bool
 may_answer grace now granted message = nat_le now (granted.at + grace) && asks_for granted.grant message
 
+-- it has had this answer: who answers one search answered those before it
+abbrev pub is_searched : Option ℕ → ℕ → Bool
+is_searched None number = false
+is_searched (Some last) number = nat_le number last
+
+abbrev pub has_had : Grants → Granted → Up → Bool
+has_had grants granted (SerialNumber onu serial random flags) =
+    if onu == broadcast_onu then is_searched (grants.searched serial) granted.number else granted.answered
+has_had grants granted message = granted.answered
+
+abbrev pub waits_for : ℕ → ℕ → Grants → Granted → Up → Bool
+waits_for grace now grants granted message =
+    may_answer grace now granted message && not (has_had grants granted message)
+
 -- the first that waits for the answer has it
-abbrev pub answered_with : Granted → Up → Granted
-answered_with granted (SerialNumber onu serial random flags) =
+abbrev pub first_waiting : ℕ → ℕ → Grants → List Granted → Up → Option ℕ
+first_waiting grace now grants [] message = None
+first_waiting grace now grants (granted ∷ others) message =
+    if waits_for grace now grants granted message
+    then Some granted.number
+    else first_waiting grace now grants others message
+
+abbrev pub marked : ℕ → Granted → Granted
+marked number granted = if granted.number == number then record granted { answered = true } else granted
+
+abbrev pub answered_by : Grants → ℕ → Up → Grants
+answered_by grants number (SerialNumber onu serial random flags) =
     if onu == broadcast_onu
-    then record granted { askers = serial ∷ granted.askers }
-    else record granted { answered = true }
-answered_with granted message = record granted { answered = true }
+    then record grants {
+      searched = λ other. if same_serial other serial then Some number else grants.searched other;
+    }
+    else record grants { kept = map (marked number) grants.kept }
+answered_by grants number message = record grants { kept = map (marked number) grants.kept }
 
-abbrev pub grants_with : ℕ → ℕ → List Granted → Up → List Granted
-grants_with grace now [] message = []
-grants_with grace now (granted ∷ others) message =
-    if may_answer grace now granted message && not (has_had granted message)
-    then answered_with granted message ∷ others
-    else granted ∷ grants_with grace now others message
+abbrev pub answered_first : Grants → Option ℕ → Up → Grants
+answered_first grants None message = grants
+answered_first grants (Some number) message = answered_by grants number message
 
-abbrev pub recent : ℕ → ℕ → List Granted → List Granted
-recent grace now [] = []
-recent grace now (granted ∷ others) =
-    if nat_le now (granted.at + grace) then granted ∷ recent grace now others else recent grace now others
-
-abbrev pub grants_after : ℕ → ℕ → List Granted → Grant → List Granted
-grants_after grace now grants grant = recent grace now grants ++ granted_now grant now ∷ []
+abbrev pub grants_with : ℕ → ℕ → Grants → Up → Grants
+grants_with grace now grants message =
+    answered_first grants (first_waiting grace now grants grants.kept message) message
 
 abbrev pub twice_of : Bool → Bool → Verdict
 twice_of false waits = NotJudged
@@ -213,11 +314,16 @@ abbrev pub is_first : ℕ → ℕ → Option ℕ → Bool
 is_first grace now None = false
 is_first grace now (Some begun) = nat_le now (begun + grace)
 
-abbrev pub twice : Settings → List Granted → Option ℕ → ℕ → Up → Verdict
+-- nor where one of the last frames isn't kept any more
+abbrev pub is_lost : ℕ → ℕ → Option ℕ → Bool
+is_lost grace now None = false
+is_lost grace now (Some at) = nat_le now (at + grace)
+
+abbrev pub twice : Settings → Grants → Option ℕ → ℕ → Up → Verdict
 twice settings grants begun now message =
-    judged_if (not (is_first settings.grace now begun))
-    (twice_of (list_any (λ granted. may_answer settings.grace now granted message) grants)
-    (list_any (λ granted. may_answer settings.grace now granted message && not (has_had granted message)) grants))
+    judged_if (not (is_first settings.grace now begun) && not (is_lost settings.grace now grants.lost))
+    (twice_of (list_any (λ granted. may_answer settings.grace now granted message) grants.kept)
+    (list_any (λ granted. waits_for settings.grace now grants granted message) grants.kept))
 
 -- ---- `acknowledge`: it acknowledges an Assign_Alloc-ID though none was sent to it since it was assigned, or its copy
 -- is of one that was not
@@ -239,25 +345,31 @@ unless_lost Yes sent = No
 unless_lost No sent = sent
 unless_lost Unsure sent = Unsure
 
--- who holds it already may still acknowledge what it was sent
+-- who holds an ONU-ID already may still acknowledge what it was sent
 abbrev pub lost_again : Number → Serial → Sure
 lost_again Unheard serial = Unsure
 lost_again Nobodys serial = Yes
 lost_again (Of holder delay answers) serial = if same_serial serial holder then No else Yes
 
--- or another one, where this one is assigned
-abbrev pub lost_anew : Known → ℕ → Serial → ℕ → Sure
-lost_anew known onu serial other =
-    if other == onu then lost_again (known.numbers other) serial else lost_by (known.numbers other) serial
+abbrev pub is_unheard : Number → Bool
+is_unheard Unheard = true
+is_unheard Nobodys = false
+is_unheard (Of holder delay answers) = false
 
+-- an ONU-ID is assigned, or is sent an Assign_Alloc-ID: nothing is kept of one of which nobody knows who holds it
 abbrev pub sent_after : Known → Sent → Down → Sent
 sent_after known sent (AssignOnu onu serial) =
     record {
-      any = λ other. unless_lost (lost_anew known onu serial other) (sent.any other);
-      alloc = λ other alloc. unless_lost (lost_anew known onu serial other) (sent.alloc other alloc);
+      any = λ other.
+          if other == onu then unless_lost (lost_again (known.numbers onu) serial) (sent.any other) else sent.any other;
+      alloc = λ other alloc.
+          if other == onu
+          then unless_lost (lost_again (known.numbers onu) serial) (sent.alloc other alloc)
+          else sent.alloc other alloc;
     }
 sent_after known sent (AssignAlloc onu alloc keep) =
-    record {
+    if is_unheard (known.numbers onu) then sent
+    else record {
       any = λ other. if other == onu then Yes else sent.any other;
       alloc = λ other its. if other == onu && its == alloc then Yes else sent.alloc other its;
     }
@@ -287,10 +399,17 @@ copied_of sent onu copy =
     if is_zeros copy then sent.any onu
     else either_sent (sent.alloc onu (alloc_at copy 2)) (sent.alloc onu (alloc_at copy 0))
 
-abbrev pub acknowledge : Settings → Notices → Sent → ℕ → Up → Verdict
-acknowledge settings notices sent now (Acknowledge onu id copy) =
-    judged_if (id == 10) (after_grace settings now (notices.onu onu) (broken_unsent (copied_of sent onu copy)))
-acknowledge settings notices sent now _ = NotJudged
+-- of an ONU-ID that nobody holds `number` is told
+abbrev pub is_held : Number → Bool
+is_held Unheard = false
+is_held Nobodys = false
+is_held (Of holder delay answers) = true
+
+abbrev pub acknowledge : Settings → Known → Tallies → Notices → Sent → ℕ → Up → Verdict
+acknowledge settings known tallies notices sent now (Acknowledge onu id copy) =
+    judged_if (id == 10 && is_held (known.numbers onu))
+    (after_grace settings tallies now (notices.onu onu) (broken_unsent (copied_of sent onu copy)))
+acknowledge settings known tallies notices sent now _ = NotJudged
 
 -- ---- `unacknowledged`: of the last Assign_Alloc-ID that was sent to it, three times behind its third Ranging_Time, it
 -- has said No_message three times since
@@ -303,10 +422,16 @@ pub data Owing : Type 0 where
   -- it acknowledged it
   Acknowledged : (message : Down) → Owing
 
-abbrev pub is_third : Notice → Bool
-is_third NoticeUnknown = false
-is_third NoNotice = false
-is_third (NoticeOf _ times last) = nat_le 3 times
+-- the unit has a delay, of which it was told three times
+abbrev pub has_delay : Fact ℕ → Bool
+has_delay Unknown = false
+has_delay Nothing = false
+has_delay (Is eqd) = true
+
+abbrev pub is_ranged : Number → Bool
+is_ranged Unheard = false
+is_ranged Nobodys = false
+is_ranged (Of holder delay answers) = has_delay delay
 
 abbrev pub owes_first : Bool → ℕ → Down → Owing
 owes_first true now message = Owes message 1 now 0
@@ -319,24 +444,24 @@ owing_sent ranged (Owes last times at silent) now message =
 owing_sent ranged (Acknowledged last) now message =
     if same_message last message then Acknowledged last else owes_first ranged now message
 
-abbrev pub unless_gone : Sure → Owing → Owing
-unless_gone Yes owing = OwesNone
-unless_gone No owing = owing
-unless_gone Unsure owing = OwesNone
+abbrev pub unless_gone : Bool → Owing → Owing
+unless_gone true owing = OwesNone
+unless_gone false owing = owing
 
--- by what is known and was told before the message
-abbrev pub owing_after : Known → Notices → (ℕ → Owing) → ℕ → Down → ℕ → Owing
-owing_after known notices owing now (AssignOnu onu serial) other =
-    unless_gone (lost_anew known onu serial other) (owing other)
-owing_after known notices owing now (Deactivate onu) other =
-    unless_gone (sure (onu == broadcast_onu || other == onu)) (owing other)
-owing_after known notices owing now (DisableSerial serial) other =
-    unless_gone (lost_by (known.numbers other) serial) (owing other)
-owing_after known notices owing now (AssignAlloc onu alloc keep) other =
+-- by what is known and was said before the message
+abbrev pub owing_after : Known → Tallies → Notices → (ℕ → Owing) → ℕ → Down → ℕ → Owing
+owing_after known tallies notices owing now (AssignOnu onu serial) other =
+    unless_gone (is_unit_number onu && changes_hands known onu serial other) (owing other)
+owing_after known tallies notices owing now (Deactivate onu) other =
+    unless_gone (onu == broadcast_onu || other == onu) (owing other)
+owing_after known tallies notices owing now (DisableSerial serial) other =
+    unless_gone (is_of (known.numbers other) serial) (owing other)
+owing_after known tallies notices owing now (AssignAlloc onu alloc keep) other =
     if other == onu
-    then owing_sent (is_third (notices.delay onu)) (owing onu) now (AssignAlloc onu alloc keep)
+    then owing_sent (is_ranged (known.numbers onu) && is_third (notices.delay onu) (tallies (OfDelay onu)))
+    (owing onu) now (AssignAlloc onu alloc keep)
     else owing other
-owing_after known notices owing now _ other = owing other
+owing_after known tallies notices owing now _ other = owing other
 
 -- it had the time to acknowledge
 abbrev pub is_due : ℕ → ℕ → Owing → Bool
@@ -396,9 +521,10 @@ drift_of settings delay Unheard message = NotJudged
 drift_of settings delay Nobodys message = NotJudged
 drift_of settings delay (Of holder eqd answers) message = if_own (speaks_as message holder) (drifts settings delay eqd)
 
-abbrev pub drift : Settings → Known → Notices → ℕ → Up → Option ℕ → Verdict
-drift settings known notices now message None = NotJudged
-drift settings known notices now message (Some delay) =
+abbrev pub drift : Settings → Known → Tallies → Notices → ℕ → Up → Option ℕ → Verdict
+drift settings known tallies notices now message None = NotJudged
+drift settings known tallies notices now message (Some delay) =
     judged_if (not (octet1_of message == broadcast_onu))
-    (after_grace settings now (notices.delay (octet1_of message))
+    (judged_if
+    (is_settled settings.grace now (notices.delay (octet1_of message)) (tallies (OfDelay (octet1_of message))))
     (drift_of settings delay (known.numbers (octet1_of message)) message))
