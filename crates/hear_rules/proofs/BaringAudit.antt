@@ -17,7 +17,7 @@ use Rattle.hear_rules.specs.Known.{Number, Unheard, Nobodys, Of, Known}
 use Rattle.hear_rules.specs.Rules.{Settings, judged_if}
 use Rattle.gp_observer.specs.Observer.{is_unit_number}
 use Rattle.hear_rules.specs.Copies.{Subject, subject_of, OfNothing, OfHolder, OfDelay, OfAlloc, OfSerial, OfAllOnus, OfAllSerials, Sendings, copies}
-use Rattle.hear_rules.specs.Units.{Tallies, total, is_third, By, Notices, is_of, is_nobodys, changes_hands, changes_holder, gets_delay, changes_delay, changes_disabled, notices_after, Sent, unless_lost, lost_again, is_unheard, sent_after, Owing, owing_sent, is_ranged, unless_gone, owing_after, after_grace, disabled, anew, number_of, with_none, number, copied_of, broken_unsent, is_held, acknowledge}
+use Rattle.hear_rules.specs.Units.{Tallies, total, is_third, By, Notices, is_of, is_nobodys, changes_hands, changes_holder, gets_delay, changes_delay, changes_disabled, notices_after, Sent, unless_lost, lost_again, is_unheard, sent_after, Owing, owing_sent, unless_gone, owing_after, after_grace, disabled, anew, number_of, with_none, number, copied_of, broken_unsent, is_held, acknowledge}
 use Rattle.hear_rules.specs.Notes.{Notes, notes_whole, notes_midway, judged_subjects, notes_after}
 use Rattle.hear_rules.specs.Audit.{worst, judge_copies, judge_answer, judge_granted, judge}
 use Rattle.hear_rules.specs.Bare.{without_delay, goes_by_delay, JudgesTheSame, DelaysJudgeNoOther}
@@ -40,10 +40,10 @@ unheard_bared Unheard = refl
 unheard_bared Nobodys = refl
 unheard_bared (Of t d a) = refl
 
-ranged_bared : (x : Number) → is_ranged (bared_number x) ≡ is_ranged x
-ranged_bared Unheard = refl
-ranged_bared Nobodys = refl
-ranged_bared (Of t d a) = refl
+held_bared : (x : Number) → is_held (bared_number x) ≡ is_held x
+held_bared Unheard = refl
+held_bared Nobodys = refl
+held_bared (Of t d a) = refl
 
 delay_bared : (x : Number) (e : ℕ) → gets_delay (bared_number x) e ≡ gets_delay x e
 delay_bared Unheard e = refl
@@ -75,7 +75,7 @@ module _ (k : Known) where
   delay_same : (m : Down) (j : ℕ) → changes_delay (bared k) m j ≡ changes_delay k m j
   delay_same (RangingTime n e) j = ap (λ b. j == n && b) (delay_bared (k.numbers j) e)
   delay_same (UpstreamOverhead burst) j = refl
-  delay_same (AssignOnu n s) j = refl
+  delay_same (AssignOnu n s) j = ap (λ b. is_unit_number n && j == n && not b) (of_bared (k.numbers j) s)
   delay_same (Deactivate n) j = refl
   delay_same (DisableSerial s) j = refl
   delay_same (EnableSerial s) j = refl
@@ -131,7 +131,7 @@ module _ (k : Known) where
   owing_same tallies notices owing now (AssignOnu n s) j = ap (λ b. unless_gone (is_unit_number n && b) (owing j)) (hands_same n s j)
   owing_same tallies notices owing now (DisableSerial s) j = ap (λ b. unless_gone b (owing j)) (of_bared (k.numbers j) s)
   owing_same tallies notices owing now (AssignAlloc n a keep) j =
-      ap (λ b. cond (j == n) (owing_sent (b && is_third (notices.delay n) (tallies (OfDelay n))) (owing n) now (AssignAlloc n a keep)) (owing j)) (ranged_bared (k.numbers n))
+      ap (λ b. cond (j == n) (owing_sent (b && is_third (notices.delay n) (tallies (OfDelay n))) (owing n) now (AssignAlloc n a keep)) (owing j)) (held_bared (k.numbers n))
   owing_same tallies notices owing now (UpstreamOverhead burst) j = refl
   owing_same tallies notices owing now (RangingTime n e) j = refl
   owing_same tallies notices owing now (Deactivate n) j = refl
@@ -206,14 +206,9 @@ module _ (settings : Settings) (notes : Notes) (now : ℕ) where
       ap (λ v. cond (octet1_of m == 255) (with_none m) (judged_if notes.down (after_grace settings notes.tallies now (notes.notices.onu (octet1_of m)) v)))
       (of_same (notes.known.numbers (octet1_of m)) m)
 
-  held_same : (x : Number) → is_held (bared_number x) ≡ is_held x
-  held_same Unheard = refl
-  held_same Nobodys = refl
-  held_same (Of t d a) = refl
-
   acknowledge_same : (m : Up) → acknowledge settings (bared notes.known) notes.tallies notes.notices notes.sent now m ≡ acknowledge settings notes.known notes.tallies notes.notices notes.sent now m
   acknowledge_same (up.Acknowledge n id copy) =
-      ap (λ b. judged_if (id == 10 && b) (after_grace settings notes.tallies now (notes.notices.onu n) (broken_unsent (copied_of notes.sent n copy)))) (held_same (notes.known.numbers n))
+      ap (λ b. judged_if (id == 10 && b) (after_grace settings notes.tallies now (notes.notices.onu n) (broken_unsent (copied_of notes.sent n copy)))) (held_bared (notes.known.numbers n))
   acknowledge_same (SerialNumber n s random flags) = refl
   acknowledge_same (up.DyingGasp n) = refl
   acknowledge_same (up.NoMessage n) = refl

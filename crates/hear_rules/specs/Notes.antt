@@ -5,7 +5,7 @@ use Rattle.gp_observer.specs.Heard.{Heard, HeardDown, HeardUp, HeardGrant}
 use Rattle.hear_rules.specs.Known.{Known, known_whole, known_midway, known_after}
 use Rattle.hear_rules.specs.Rules.{Settings}
 use Rattle.hear_rules.specs.Copies.{Subject, OfNothing, OfHolder, OfDelay, OfAlloc, subject_of, same_subject, Cut, Silent, Sendings, sendings_heard, is_open, overdue}
-use Rattle.hear_rules.specs.Units.{Tallies, Untold, tallies_after, Notices, notices_whole, notices_midway, notices_after, Sent, sent_whole, sent_midway, sent_after, Owing, OwesNone, owing_after, owing_with, Grants, no_grants, grants_with, grants_after}
+use Rattle.hear_rules.specs.Units.{Tallies, Untold, tallies_after, Notices, notices_whole, notices_midway, notices_after, Sent, sent_whole, sent_midway, sent_after, Owing, OwesNone, owing_after, owing_with, Grants, no_grants, is_first, grants_with, grants_after}
 
 pub record Notes : Type 0 where
   pub known : Known
@@ -149,11 +149,13 @@ owing_heard settings notes now (HeardUp None delay) = notes.owing
 owing_heard settings notes now (HeardUp (Some message) delay) = owing_with settings.grace notes.owing now message
 owing_heard settings notes now (HeardGrant grant) = notes.owing
 
+-- where a log may begin in the middle, an answer in its first frames may be one to a grant before
 abbrev pub grants_heard : Settings → Notes → ℕ → Heard → Grants
 grants_heard settings notes now (HeardDown message) = notes.grants
 grants_heard settings notes now (HeardUp None delay) = notes.grants
 grants_heard settings notes now (HeardUp (Some message) delay) =
-    grants_with settings.grace now notes.grants message
+    if is_first settings.grace now notes.begun then notes.grants
+    else grants_with settings.grace now notes.grants message
 grants_heard settings notes now (HeardGrant grant) = grants_after now notes.grants grant
 
 abbrev pub down_heard : Bool → Heard → Bool

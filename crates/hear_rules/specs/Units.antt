@@ -74,8 +74,8 @@ pub data Notice : Type 0 where
   -- by what was said of this subject since it was so many
   By : (subject : Subject) (base : ℕ) → Notice
 
--- by what an ONU-ID got its holder, or lost it; and how many messages there were before a unit got its delay, or was
--- disabled
+-- by what an ONU-ID got its holder, or lost it; and how many messages there were before a unit got its delay or its
+-- ONU-ID, or was disabled
 pub record Notices : Type 0 where
   pub onu : ℕ → Notice
   pub delay : ℕ → ℕ
@@ -124,7 +124,10 @@ gets_delay Unheard eqd = false
 gets_delay Nobodys eqd = false
 gets_delay (Of holder delay answers) eqd = is_other_delay (is_other delay eqd)
 
+-- or the ONU-ID gets another unit, which has none
 abbrev pub changes_delay : Known → Down → ℕ → Bool
+changes_delay known (AssignOnu onu serial) other =
+    is_unit_number onu && other == onu && not (is_of (known.numbers other) serial)
 changes_delay known (RangingTime onu eqd) other = other == onu && gets_delay (known.numbers other) eqd
 changes_delay known _ other = false
 
@@ -422,17 +425,6 @@ pub data Owing : Type 0 where
   -- it acknowledged it
   Acknowledged : (message : Down) → Owing
 
--- the unit has a delay, of which it was told three times
-abbrev pub has_delay : Fact ℕ → Bool
-has_delay Unknown = false
-has_delay Nothing = false
-has_delay (Is eqd) = true
-
-abbrev pub is_ranged : Number → Bool
-is_ranged Unheard = false
-is_ranged Nobodys = false
-is_ranged (Of holder delay answers) = has_delay delay
-
 abbrev pub owes_first : Bool → ℕ → Down → Owing
 owes_first true now message = Owes message 1 now 0
 owes_first false now _ = OwesNone
@@ -458,7 +450,7 @@ owing_after known tallies notices owing now (DisableSerial serial) other =
     unless_gone (is_of (known.numbers other) serial) (owing other)
 owing_after known tallies notices owing now (AssignAlloc onu alloc keep) other =
     if other == onu
-    then owing_sent (is_ranged (known.numbers onu) && is_third (notices.delay onu) (tallies (OfDelay onu)))
+    then owing_sent (is_held (known.numbers onu) && is_third (notices.delay onu) (tallies (OfDelay onu)))
     (owing onu) now (AssignAlloc onu alloc keep)
     else owing other
 owing_after known tallies notices owing now _ other = owing other
