@@ -3,3 +3,5 @@ pub mod Ranks
 pub mod Followeds
 pub mod Indexed
 pub mod Reading
+pub mod Keeping
+pub mod Beginning

@@ -1,15 +1,22 @@
 -- What becomes of what is kept, where the code says it in steps (this profile's own rule).
 -- Inside: no public contract cites this.
-use Rattle.std.specs.Prelude.{◌≡◌, ℕ, ◌==◌, Bool, true, false, List, map, if◌then◌else◌, set}
+use Rattle.std.specs.Prelude.{◌≡◌, ℕ, ◌==◌, ◌&&◌, Bool, true, false, List, map, if◌then◌else◌, set}
 use Rattle.std.specs.FinMap.{insert}
 use Rattle.gp_ploam.specs.declared.message.Serial.{Serial}
+use Rattle.gp_ploam.specs.declared.message.Up.{Up}
+use Rattle.gp_ploam.specs.declared.message.Up.TheVariants.{SerialNumber}
+use Rattle.gp_ploam.specs.OnuIds.{broadcast_onu}
 use Rattle.gp_ploam.specs.Serials.{same_serial}
 use Rattle.gp_table.specs.Values.{map_values}
+use Rattle.hear_rules.specs.Facts as facts
+use Rattle.hear_rules.specs.Known as spec
 use Rattle.hear_state.specs.declared.facts.Fact.{Fact}
 use Rattle.hear_state.specs.declared.facts.Fact.TheVariants as fact
+use Rattle.hear_state.specs.declared.facts.Sure.TheVariants as sure
 use Rattle.hear_state.specs.declared.rows.Row.{Row}
 use Rattle.hear_state.specs.declared.rows.Row.TheVariants as row
 use Rattle.hear_state.specs.declared.index.Followed.{Followed}
+use Rattle.hear_state.specs.Facts.{fact_of}
 use Rattle.hear_state.specs.Index.{Followeds, changed, released, enabled}
 use Rattle.hear_state.specs.Rows.{dropped_row, popped_up_row}
 use Rattle.hear_state.specs.Kept.{Kept, row_at, followed_at}
@@ -77,3 +84,39 @@ kept_all_enabled kept =
 
 abbrev pub kept_popped_up : Kept → Kept
 kept_popped_up kept = record kept { rows = map popped_up_row kept.rows }
+
+-- ---- a serial number, once it is assigned an ONU-ID, disabled, enabled, or asks
+
+pub record IsAssigned (onu : ℕ) (before after : Followed) : Type 0 where
+  pub holds : after.holds ≡ fact.Is onu
+  pub disabled : after.disabled ≡ before.disabled
+  pub asks : after.asks ≡ spec.asks_less (facts.is_other (fact_of before.holds) onu) before.asks
+  pub asked : after.asked ≡ sure.No
+
+abbrev pub disabled_serial : Followed → Followed
+disabled_serial followed = record followed { holds = fact.Nothing; disabled = sure.Yes }
+
+abbrev pub asking_serial : Followed → Followed
+asking_serial followed = record followed { asks = spec.asks_more followed.asks; asked = sure.Yes }
+
+-- ---- a unit's message: what it says of its serial number, and the rest
+
+abbrev pub after_serial : spec.Known → ℕ → Serial → spec.Known
+after_serial known onu serial =
+    record known {
+      asks = λ other.
+          if onu == broadcast_onu && same_serial other serial
+          then spec.asks_more (known.asks other)
+          else known.asks other;
+      asked = λ other.
+          if same_serial other serial
+          then (if onu == broadcast_onu then facts.Yes else spec.was_assigned (known.asked other))
+          else known.asked other;
+    }
+
+abbrev pub serial_told : spec.Known → Up → spec.Known
+serial_told known (SerialNumber onu serial random flags) = after_serial known onu serial
+serial_told known _ = known
+
+abbrev pub kept_spoken : Kept → ℕ → Row → Kept
+kept_spoken kept onu row = record kept { rows = set kept.rows onu row; up = true }

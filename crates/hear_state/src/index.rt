@@ -1,11 +1,13 @@
 //! The serial numbers that are followed, in their order, and what is known of each.
-ghost use Rattle.std.specs.Prelude.{◌≡◌, ◌^◌, ◌<◌, IfOk, IfErr, OnOk, OnErr, None, Some, false, map as list_map};
+ghost use Rattle.std.specs.Prelude.{◌≡◌, ◌^◌, if◌then◌else◌, ◌<◌, IfOk, IfErr, OnOk, OnErr, None, Some, false, map as list_map};
 ghost use Rattle.std.specs.FinMap as map;
 ghost use Rattle.gp_ploam.specs.Serials.{serial_cmp};
 ghost use Rattle.gp_table.specs.Values.{map_values};
+ghost use Rattle.hear_state.specs.Changes.{IsAssigned, asking_serial, disabled_serial};
+ghost use Rattle.hear_state.specs.Heard.{is_most};
 ghost use Rattle.hear_state.specs.Index.{FailsFor, IsGapFor, IsPlaceOf, IsRising, answered, changed, enabled, enabled_place, is_full, released, released_place};
 
-use crate::facts::{Fact, Sure};
+use crate::facts::{Fact, Sure, is_other};
 use crate::fault::HearFault;
 use gp_ploam::Serial;
 use std::alloc::{AllocError, Global};
@@ -45,6 +47,8 @@ impl Model for Index {
     ghost use Rattle.std.specs.FinMap as map;
     ghost use Rattle.gp_ploam.specs.Serials.{coded_serial};
     ghost use Rattle.hear_state.specs.contracts.index.Followed as followed;
+    ghost use Rattle.hear_state.specs.Changes.{IsAssigned, asking_serial, disabled_serial};
+    ghost use Rattle.hear_state.specs.Heard.{is_most};
     ghost use Rattle.hear_state.specs.Index.{Followeds, IsRising, index_of};
 
     ghost Value = { Followeds };
@@ -102,6 +106,60 @@ fn release_each(places: &mut [IndexPlace])
 }
 
 impl Followed {
+    /// What is known of it once it is assigned this ONU-ID: one that didn't hold it has asked once less.
+    pub(crate) fn assigned(self, onu: u8) -> Followed
+        ensures { IsAssigned onu self result }
+    {
+        let asks = match (is_other(self.holds, onu), self.asks) {
+            (Sure::Yes, Some(asks)) => Some(asks.saturating_sub(1)),
+            (Sure::No, asks) => asks,
+            _ => None,
+        };
+        Followed {
+            holds: Fact::Is(onu),
+            asks,
+            asked: Sure::No,
+            ..self
+        }
+    }
+
+    /// What is known of it once it is disabled.
+    pub(crate) fn disabled(self) -> Followed
+        ensures { result ≡ disabled_serial self }
+    {
+        Followed {
+            holds: Fact::Nothing,
+            disabled: Sure::Yes,
+            ..self
+        }
+    }
+
+    /// What is known of it once it is enabled.
+    pub(crate) fn enabled(self) -> Followed
+        ensures { result ≡ enabled self }
+    {
+        Followed {
+            disabled: Sure::No,
+            ..self
+        }
+    }
+
+    /// What is known of it once it asks; None where its asks can't be counted further.
+    pub(crate) fn asking(self) -> Option<Followed>
+        ensures { result ≡ (if is_most self.asks then None else Some (asking_serial self)) }
+    {
+        let asks = match self.asks {
+            None => None,
+            Some(u64::MAX) => return None,
+            Some(asks) => Some(asks + 1),
+        };
+        Some(Followed {
+            asks,
+            asked: Sure::Yes,
+            ..self
+        })
+    }
+
     /// What is known of it once it answers with an ONU-ID: it was assigned one, it isn't known when.
     fn answered(self) -> Followed
         ensures { result ≡ answered self }

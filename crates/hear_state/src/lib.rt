@@ -3,5 +3,10 @@
 
 mod facts;
 mod fault;
+mod hear;
 mod index;
+mod knowledge;
 mod rows;
+
+pub use fault::HearFault;
+pub use knowledge::Knowledge;

@@ -1,6 +1,7 @@
 //! What is known of each ONU-ID: who holds it, the equalization delay that it was told, and what its unit said.
 ghost use Rattle.std.specs.Prelude.{◌≡◌, List, map as list_map, slice_index_or, replicate, set, IfOk};
 ghost use Rattle.hear_rules.specs.Known as spec;
+ghost use Rattle.hear_state.specs.Changes.{is_held_by};
 ghost use Rattle.hear_state.specs.Facts.{sure_of};
 ghost use Rattle.hear_state.specs.Rows.{answers_of, dropped_row, number_of, popped_up_row, span_of, unheard_row};
 
@@ -107,6 +108,16 @@ fn is_by(holder: &Serial, message: &Up) -> bool
 }
 
 impl Row {
+    /// Tells whether this unit holds the ONU-ID.
+    pub(crate) fn is_held_by(&self, serial: &Serial) -> bool
+        ensures { result ≡ is_held_by self.now serial.now }
+    {
+        match self {
+            Row::Of { serial: holder, .. } => serial == holder,
+            Row::Unheard | Row::Nobodys => false,
+        }
+    }
+
     /// A unit that was assigned just now has no delay, and said nothing.
     fn fresh(serial: &Serial) -> Row
         ensures { number_of result ≡ spec.fresh serial.now }

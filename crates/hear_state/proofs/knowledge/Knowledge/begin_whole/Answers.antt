@@ -1,0 +1,9 @@
+use Rattle.hear_state.specs.declared.facts.Sure.TheVariants as sure
+use Rattle.hear_state.proofs.Beginning.{kept_first, units_whole, whole_others}
+use Rattle.hear_state.proofs.knowledge.Knowledge.begin_whole.Goals as goal
+
+pub invariant_of-result : goal.invariant_of-result
+invariant_of-result c = rw (c.in_ok-begin.ensures, c.new.ensures) (kept_first whole_others sure.No tt tt)
+
+pub returns : goal.returns
+returns c = rw (c.in_ok-begin.ensures, c.new.ensures) units_whole

@@ -1,0 +1,20 @@
+use Rattle.std.proofs.Common.{◌≡◌, ◌∙◌, sym, ap}
+use Rattle.hear_state.specs.Changes.{IsAssigned}
+use Rattle.hear_state.proofs.Keeping.{kept-assigned, units_assigned}
+use Rattle.hear_state.proofs.knowledge.Knowledge.note_assign.Goals as goal
+
+pub invariant_of-self-2 : goal.invariant_of-self-2
+invariant_of-self-2 c =
+    let q = c.self.inside in
+    let to = rw (c.followed-followed.ensures, ← c.self.view_is) at c.assigned.ensures in
+    let new = rw (c.followed-followed.ensures, c.row-row.ensures, ← c.self.view_is) at c.assigned-2.ensures in
+    rw (c.set.ensures, c.free.ensures, c.release_other.ensures, c.in_ok-put.ensures.put, c.row-row.ensures, c.followed-followed.ensures, ← c.self.view_is)
+    (kept-assigned (record { rows = q.rows; followed = q.index; others = q.others; overhead = q.overhead; up = q.up }) c.self.invariant c.args.onu c.ranges.onu.fits c.args.serial.now c.assigned-2.result c.assigned.result new to)
+
+pub returns-clause-knows : goal.returns-clause-knows
+returns-clause-knows c =
+    let q = c.self.inside in
+    let to = rw (c.followed-followed.ensures, ← c.self.view_is) at c.assigned.ensures in
+    let new = rw (c.followed-followed.ensures, c.row-row.ensures, ← c.self.view_is) at c.assigned-2.ensures in
+    rw (c.set.ensures, c.free.ensures, c.release_other.ensures, c.in_ok-put.ensures.put, c.row-row.ensures, c.followed-followed.ensures, ← c.self.view_is)
+    (units_assigned (record { rows = q.rows; followed = q.index; others = q.others; overhead = q.overhead; up = q.up }) c.self.invariant c.args.onu c.ranges.onu.fits c.args.serial.now c.assigned-2.result c.assigned.result new to)
