@@ -4,3 +4,4 @@ pub mod Index
 pub mod Kept
 pub mod Changes
 pub mod Heard
+pub mod Judged

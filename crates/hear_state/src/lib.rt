@@ -1,12 +1,17 @@
 //! What is known of one port's units, kept in tables, and the rules of the terminal as functions of it.
 #![tactic(auto)]
 
+mod assigning;
 mod facts;
 mod fault;
+mod grants;
 mod hear;
 mod index;
 mod knowledge;
+mod ranging;
 mod rows;
+mod settings;
 
 pub use fault::HearFault;
 pub use knowledge::Knowledge;
+pub use settings::Settings;
