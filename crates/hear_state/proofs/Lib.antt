@@ -5,3 +5,4 @@ pub mod Indexed
 pub mod Reading
 pub mod Keeping
 pub mod Beginning
+pub mod Tenures

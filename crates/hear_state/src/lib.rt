@@ -8,6 +8,7 @@ mod grants;
 mod hear;
 mod index;
 mod knowledge;
+mod owners;
 mod ranging;
 mod rows;
 mod settings;
