@@ -20,7 +20,7 @@ unjudged e = cc
 
 module _ (now later : ℕ) (low : now ≤ later) where
   -- what is overdue stays so
-  still : (at : ℕ) → nat_lt (at + 800) now ≡ true → nat_lt (at + 800) later ≡ true
+  pub still : (at : ℕ) → nat_lt (at + 800) now ≡ true → nat_lt (at + 800) later ≡ true
   still at e = let past = ltb-true (at + 800) now e in lt-ltb (at + 800) later (omega (arith, past, low))
 
   -- broken by the time that has gone by, or later
@@ -90,7 +90,7 @@ module _ (s : Sendings) (another : Sure) (x : Sending) where
   put_own OfAllOnus other = refl
   put_own OfAllSerials other = refl
 
-  put_other : (u v : Subject) → same_subject v u ≡ false → sendings_put s another u x v ≡ ended_by another u v (s v)
+  pub put_other : (u v : Subject) → same_subject v u ≡ false → sendings_put s another u x v ≡ ended_by another u v (s v)
   put_other OfNothing v other = refl
   put_other (OfHolder n) v other = skip (same_subject v (OfHolder n)) _ _ other
   put_other (OfDelay n) v other = skip (same_subject v (OfDelay n)) _ _ other
