@@ -1,5 +1,6 @@
 -- Without delays each rule that doesn't go by them answers the same, along the frames of a log.
-use Rattle.std.proofs.Common.{◌≡◌, ℕ, ◌==◌, false, cond, not, ◌&&◌, ◌||◌, List, [], ◌∷◌, Option, None, Some, refl, sym, ap, subst, ◌∙◌}
+use Rattle.std.specs.Prelude.{nat_le}
+use Rattle.std.proofs.Common.{◌≡◌, ℕ, ◌+◌, ◌==◌, false, cond, not, ◌&&◌, ◌||◌, List, [], ◌∷◌, Option, None, Some, refl, sym, ap, subst, ◌∙◌}
 use mathlib.Core.Path.{fun_ext}
 use Rattle.std.proofs.lemmas.Bool.{false≢true}
 use Rattle.gp_ploam.specs.declared.message.Serial.{Serial}
@@ -17,7 +18,7 @@ use Rattle.hear_rules.specs.Known.{Number, Unheard, Nobodys, Of, Known}
 use Rattle.hear_rules.specs.Rules.{Settings, judged_if}
 use Rattle.gp_observer.specs.Observer.{is_unit_number}
 use Rattle.hear_rules.specs.Copies.{Subject, subject_of, OfNothing, OfHolder, OfDelay, OfAlloc, OfSerial, OfAllOnus, OfAllSerials, Sendings, copies}
-use Rattle.hear_rules.specs.Units.{Tallies, total, is_third, By, Notices, is_of, is_nobodys, changes_hands, changes_holder, gets_delay, changes_delay, changes_disabled, notices_after, Sent, unless_lost, lost_again, is_unheard, sent_after, Owing, owing_sent, unless_gone, owing_after, after_grace, disabled, anew, number_of, with_none, number, copied_of, broken_unsent, is_held, acknowledge}
+use Rattle.hear_rules.specs.Units.{Tallies, total, By, Notices, is_of, is_nobodys, changes_hands, changes_holder, gets_delay, changes_delay, changes_unit, changes_disabled, notices_after, Sent, unless_lost, lost_again, is_unheard, sent_after, Owing, owing_sent, unless_gone, owing_after, after_grace, disabled, anew, number_of, with_none, number, copied_of, broken_unsent, is_held, acknowledge}
 use Rattle.hear_rules.specs.Notes.{Notes, notes_whole, notes_midway, judged_subjects, notes_after}
 use Rattle.hear_rules.specs.Audit.{worst, judge_copies, judge_answer, judge_granted, judge}
 use Rattle.hear_rules.specs.Bare.{without_delay, goes_by_delay, JudgesTheSame, DelaysJudgeNoOther}
@@ -75,7 +76,7 @@ module _ (k : Known) where
   delay_same : (m : Down) (j : ℕ) → changes_delay (bared k) m j ≡ changes_delay k m j
   delay_same (RangingTime n e) j = ap (λ b. j == n && b) (delay_bared (k.numbers j) e)
   delay_same (UpstreamOverhead burst) j = refl
-  delay_same (AssignOnu n s) j = ap (λ b. is_unit_number n && j == n && not b) (of_bared (k.numbers j) s)
+  delay_same (AssignOnu n s) j = refl
   delay_same (Deactivate n) j = refl
   delay_same (DisableSerial s) j = refl
   delay_same (EnableSerial s) j = refl
@@ -84,6 +85,19 @@ module _ (k : Known) where
   delay_same NoMessage j = refl
   delay_same (Popup n) j = refl
   delay_same (Other id octet1 body) j = refl
+
+  unit_same : (m : Down) (j : ℕ) → changes_unit (bared k) m j ≡ changes_unit k m j
+  unit_same (AssignOnu n s) j = ap (λ b. is_unit_number n && j == n && not b) (of_bared (k.numbers j) s)
+  unit_same (RangingTime n e) j = refl
+  unit_same (UpstreamOverhead burst) j = refl
+  unit_same (Deactivate n) j = refl
+  unit_same (DisableSerial s) j = refl
+  unit_same (EnableSerial s) j = refl
+  unit_same EnableAll j = refl
+  unit_same (AssignAlloc n a keep) j = refl
+  unit_same NoMessage j = refl
+  unit_same (Popup n) j = refl
+  unit_same (Other id octet1 body) j = refl
 
   serial_same : (m : Down) (t : Serial) → changes_disabled (bared k) m t ≡ changes_disabled k m t
   serial_same (DisableSerial s) t = refl
@@ -103,6 +117,7 @@ module _ (k : Known) where
       λ i. record {
         onu = fun_ext (λ j. ap (λ b. cond b (By (subject_of m) (total (tallies (subject_of m)))) (notices.onu j)) (holder_same m j)) i;
         delay = fun_ext (λ j. ap (λ b. cond b (total (tallies (OfDelay j))) (notices.delay j)) (delay_same m j)) i;
+        unit = fun_ext (λ j. ap (λ b. cond b (total (tallies (OfDelay j))) (notices.unit j)) (unit_same m j)) i;
         disabled = fun_ext (λ t. ap (λ b. cond b (total (tallies (OfSerial t))) (notices.disabled t)) (serial_same m t)) i;
       }
 
@@ -131,7 +146,7 @@ module _ (k : Known) where
   owing_same tallies notices owing now (AssignOnu n s) j = ap (λ b. unless_gone (is_unit_number n && b) (owing j)) (hands_same n s j)
   owing_same tallies notices owing now (DisableSerial s) j = ap (λ b. unless_gone b (owing j)) (of_bared (k.numbers j) s)
   owing_same tallies notices owing now (AssignAlloc n a keep) j =
-      ap (λ b. cond (j == n) (owing_sent (b && is_third (notices.delay n) (tallies (OfDelay n))) (owing n) now (AssignAlloc n a keep)) (owing j)) (held_bared (k.numbers n))
+      ap (λ b. cond (j == n) (owing_sent (b && nat_le (notices.unit n + 3) (total (tallies (OfDelay n)))) (owing n) now (AssignAlloc n a keep)) (owing j)) (held_bared (k.numbers n))
   owing_same tallies notices owing now (UpstreamOverhead burst) j = refl
   owing_same tallies notices owing now (RangingTime n e) j = refl
   owing_same tallies notices owing now (Deactivate n) j = refl

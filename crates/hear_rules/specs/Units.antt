@@ -74,19 +74,21 @@ pub data Notice : Type 0 where
   -- by what was said of this subject since it was so many
   By : (subject : Subject) (base : ℕ) → Notice
 
--- by what an ONU-ID got its holder, or lost it; and how many messages there were before a unit got its delay or its
--- ONU-ID, or was disabled
 pub record Notices : Type 0 where
+  -- by what an ONU-ID got its holder, or lost it
   pub onu : ℕ → Notice
+  -- how many Ranging_Time there were before its unit got this delay, and before the ONU-ID got this unit
   pub delay : ℕ → ℕ
+  pub unit : ℕ → ℕ
+  -- how many messages there were before a serial number was disabled
   pub disabled : Serial → ℕ
 
 -- from the first message on, and from the middle on
 abbrev pub notices_whole : Notices
-notices_whole = record { onu = λ onu. NoNotice; delay = λ onu. 0; disabled = λ serial. 0 }
+notices_whole = record { onu = λ onu. NoNotice; delay = λ onu. 0; unit = λ onu. 0; disabled = λ serial. 0 }
 
 abbrev pub notices_midway : Notices
-notices_midway = record { onu = λ onu. NoticeUnknown; delay = λ onu. 0; disabled = λ serial. 0 }
+notices_midway = record { onu = λ onu. NoticeUnknown; delay = λ onu. 0; unit = λ onu. 0; disabled = λ serial. 0 }
 
 -- this unit holds the ONU-ID, or nobody does
 abbrev pub is_of : Number → Serial → Bool
@@ -124,12 +126,15 @@ gets_delay Unheard eqd = false
 gets_delay Nobodys eqd = false
 gets_delay (Of holder delay answers) eqd = is_other_delay (is_other delay eqd)
 
--- or the ONU-ID gets another unit, which has none
 abbrev pub changes_delay : Known → Down → ℕ → Bool
-changes_delay known (AssignOnu onu serial) other =
-    is_unit_number onu && other == onu && not (is_of (known.numbers other) serial)
 changes_delay known (RangingTime onu eqd) other = other == onu && gets_delay (known.numbers other) eqd
 changes_delay known _ other = false
+
+-- the ONU-ID gets another unit
+abbrev pub changes_unit : Known → Down → ℕ → Bool
+changes_unit known (AssignOnu onu serial) other =
+    is_unit_number onu && other == onu && not (is_of (known.numbers other) serial)
+changes_unit known _ other = false
 
 -- it is disabled now
 abbrev pub is_enabled : Sure → Bool
@@ -150,6 +155,7 @@ notices_after known tallies notices message =
           then By (subject_of message) (total (tallies (subject_of message)))
           else notices.onu onu;
       delay = λ onu. if changes_delay known message onu then total (tallies (OfDelay onu)) else notices.delay onu;
+      unit = λ onu. if changes_unit known message onu then total (tallies (OfDelay onu)) else notices.unit onu;
       disabled = λ serial.
           if changes_disabled known message serial then total (tallies (OfSerial serial)) else notices.disabled serial;
     }
@@ -450,7 +456,7 @@ owing_after known tallies notices owing now (DisableSerial serial) other =
     unless_gone (is_of (known.numbers other) serial) (owing other)
 owing_after known tallies notices owing now (AssignAlloc onu alloc keep) other =
     if other == onu
-    then owing_sent (is_held (known.numbers onu) && is_third (notices.delay onu) (tallies (OfDelay onu)))
+    then owing_sent (is_held (known.numbers onu) && nat_le (notices.unit onu + 3) (total (tallies (OfDelay onu))))
     (owing onu) now (AssignAlloc onu alloc keep)
     else owing other
 owing_after known tallies notices owing now _ other = owing other
