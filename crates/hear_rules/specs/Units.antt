@@ -403,10 +403,17 @@ either_sent Unsure Yes = Yes
 either_sent Unsure No = Unsure
 either_sent Unsure Unsure = Unsure
 
+-- of a copy that isn't one of such a message there was none
+abbrev pub if_copy : Bool → Sure → Sure
+if_copy true sent = sent
+if_copy false sent = No
+
 abbrev pub copied_of : Sent → ℕ → List ℕ → Sure
 copied_of sent onu copy =
     if is_zeros copy then sent.any onu
-    else either_sent (sent.alloc onu (alloc_at copy 2)) (sent.alloc onu (alloc_at copy 0))
+    else either_sent
+    (if_copy (slice_index copy 0 == onu && slice_index copy 1 == 10) (sent.alloc onu (alloc_at copy 2)))
+    (if_copy (slice_index copy 2 == 1 || slice_index copy 2 == 255) (sent.alloc onu (alloc_at copy 0)))
 
 -- of an ONU-ID that nobody holds `number` is told
 abbrev pub is_held : Number → Bool
