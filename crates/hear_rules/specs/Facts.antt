@@ -37,6 +37,12 @@ given Yes verdict = verdict
 given No verdict = NotJudged
 given Unsure verdict = NotJudged
 
+-- it is judged but where this is sure not to be so
+abbrev pub but_not : Sure → Verdict → Verdict
+but_not Yes verdict = verdict
+but_not No verdict = NotJudged
+but_not Unsure verdict = verdict
+
 -- it is judged only where this is sure not to be so
 abbrev pub unless : Sure → Verdict → Verdict
 unless Yes verdict = NotJudged

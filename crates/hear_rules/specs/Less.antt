@@ -6,7 +6,7 @@ use Rattle.gp_observer.specs.Heard.{Heard, HeardUp}
 use Rattle.hear_rules.specs.declared.rule.Rule.{Rule}
 use Rattle.hear_rules.specs.declared.rule.Verdict.TheVariants.{Broken}
 use Rattle.hear_rules.specs.Facts.{Fact, Unknown, Nothing, Is, Sure, Yes, No, Unsure}
-use Rattle.hear_rules.specs.Known.{Number, Unheard, Nobodys, Of, Owner, Unclear, Free, Has, Known, known_whole, known_midway, asked_by, known_after, known_after_all}
+use Rattle.hear_rules.specs.Known.{Span, Number, Unheard, Nobodys, Of, Owner, Unclear, Free, Has, Known, known_whole, known_midway, asked_by, known_after, known_after_all}
 use Rattle.hear_rules.specs.Rules.{Settings, judge_known}
 use Rattle.hear_rules.specs.Copies.{Subject, Sending, Cut, Silent, Once, Twice, Said, Sendings, sendings_heard, copies}
 use Rattle.gp_ploam.specs.declared.message.Down.{Down}
@@ -33,10 +33,17 @@ IsNobodys Unheard = ⊥
 IsNobodys Nobodys = Unit {0}
 IsNobodys (Of holder delay answers) = ⊥
 
+-- where it is known what a unit said, its delay is the same to both
+abbrev pub AsWell : Fact Span → Fact ℕ → Fact ℕ → Type 0
+AsWell Unknown delay told = Unit {0}
+AsWell Nothing delay told = told ≡ delay
+AsWell (Is span) delay told = told ≡ delay
+
 abbrev pub LessNumber : Number → Number → Type 0
 LessNumber Unheard more = Unit {0}
 LessNumber Nobodys more = IsNobodys more
-LessNumber (Of holder delay answers) (Of its told heard) = (its ≡ holder) × LessFact delay told × LessFact answers heard
+LessNumber (Of holder delay answers) (Of its told heard) =
+    (its ≡ holder) × LessFact delay told × LessFact answers heard × AsWell answers delay told
 LessNumber (Of holder delay answers) Unheard = ⊥
 LessNumber (Of holder delay answers) Nobodys = ⊥
 

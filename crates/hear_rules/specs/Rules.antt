@@ -16,7 +16,7 @@ use Rattle.hear_rules.specs.declared.rule.Rule.{Rule}
 use Rattle.hear_rules.specs.declared.rule.Rule.TheVariants as rule
 use Rattle.hear_rules.specs.declared.rule.Verdict.{Verdict}
 use Rattle.hear_rules.specs.declared.rule.Verdict.TheVariants.{Kept, Broken, NotJudged}
-use Rattle.hear_rules.specs.Facts.{Fact, Unknown, Nothing, Is, Sure, Yes, No, Unsure, broken_if, broken_where, given, unless, broken_without, broken_unless, is_other}
+use Rattle.hear_rules.specs.Facts.{Fact, Unknown, Nothing, Is, Sure, Yes, No, Unsure, broken_if, broken_where, given, but_not, unless, broken_without, broken_unless, is_other}
 use Rattle.hear_rules.specs.Known.{Span, Bare, Between, Number, Unheard, Nobodys, Of, Owner, Unclear, Free, Has, Known, is_news}
 
 -- the equalized delay, by how many bit times an equalization delay may miss what the delays leave of it, by how many a
@@ -120,13 +120,13 @@ to_holder Unheard verdict = NotJudged
 to_holder Nobodys verdict = NotJudged
 to_holder (Of holder delay answers) verdict = verdict
 
--- ---- Ranging_Time
+-- ---- Ranging_Time: news unless the unit is known to have this delay
 
 -- `unranged`: nothing was heard of the unit since it was assigned
 abbrev pub unranged_of : Number → ℕ → Verdict
 unranged_of Unheard eqd = NotJudged
 unranged_of Nobodys eqd = NotJudged
-unranged_of (Of holder delay answers) eqd = given (is_other delay eqd) (broken_without answers)
+unranged_of (Of holder delay answers) eqd = but_not (is_other delay eqd) (broken_without answers)
 
 abbrev pub unranged : Known → Down → Verdict
 unranged known (RangingTime onu eqd) = judged_if known.up (unranged_of (known.numbers onu) eqd)
@@ -147,7 +147,7 @@ misses settings eqd (Is (Between least greatest)) = broken_if (is_outside settin
 abbrev pub delay_of : Settings → Number → ℕ → Verdict
 delay_of settings Unheard eqd = NotJudged
 delay_of settings Nobodys eqd = NotJudged
-delay_of settings (Of holder delay answers) eqd = given (is_other delay eqd) (misses settings eqd answers)
+delay_of settings (Of holder delay answers) eqd = but_not (is_other delay eqd) (misses settings eqd answers)
 
 -- `delay`: it is above the equalized one (judged of each copy), or not what the delays of its unit leave of that
 abbrev pub delay : Settings → Known → Down → Verdict
