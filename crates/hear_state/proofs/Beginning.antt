@@ -1,11 +1,12 @@
 -- What is known at first.
-use Rattle.std.proofs.Common.{◌≡◌, ℕ, zero, suc, true, false, List, [], ◌∷◌, length, get_or, replicate, Option, None, Some, refl, sym, ap, ◌∙◌}
+use Rattle.std.proofs.Common.{◌≡◌, ℕ, zero, suc, true, false, List, [], ◌∷◌, length, get_or, replicate, Option, None, Some, refl, sym, ap, subst, ◌∙◌}
 use Rattle.std.proofs.lemmas.List.{length-replicate}
 use Rattle.std.specs.FinMap as fin
 use Rattle.gp_ploam.specs.declared.message.Serial.{Serial}
 use Rattle.gp_ploam.specs.Serials.{serial_cmp}
 use Rattle.hear_rules.specs.Facts as facts
 use Rattle.hear_rules.specs.Known as spec
+use Rattle.hear_rules.specs.Known.{Owner}
 use Rattle.hear_state.specs.declared.facts.Fact.{Fact}
 use Rattle.hear_state.specs.declared.facts.Fact.TheVariants as fact
 use Rattle.hear_state.specs.declared.facts.Sure.{Sure}
@@ -16,7 +17,7 @@ use Rattle.hear_state.specs.declared.index.Followed.{Followed}
 use Rattle.hear_state.specs.Facts.{fact_of, sure_of}
 use Rattle.hear_state.specs.Rows.{number_of}
 use Rattle.hear_state.specs.Index.{unknown_serial}
-use Rattle.hear_state.specs.Kept.{Kept, known_of, row_at, row_beyond, followed_at, followed_or, holder_of, SameUnits, IsKept, IsNot, IsNotYes}
+use Rattle.hear_state.specs.Kept.{Kept, known_of, row_at, row_beyond, followed_at, followed_or, holder_of, owner_at, owner_beyond, SameUnits, SameKnown, AreIndexed, IsKept, OwnerIsHeard, IsNot, IsNotYes}
 
 get_or-same : {X : Type 0} (n : ℕ) (x : X) (q : ℕ) → get_or (replicate n x) q x ≡ x
 get_or-same zero x q = refl
@@ -24,7 +25,7 @@ get_or-same (suc n) x zero = refl
 get_or-same (suc n) x (suc q) = get_or-same n x q
 
 abbrev pub begun : Followed → Sure → Kept
-begun others overhead = record { rows = replicate 256 (row_beyond others.holds); followed = fin.empty; others = others; overhead = overhead; up = false }
+begun others overhead = record { rows = replicate 256 (row_beyond others.holds); followed = fin.empty; others = others; owners = replicate 4096 (owner_beyond others.asks); overhead = overhead; up = false }
 
 module _ (others : Followed) (overhead : Sure) where
   row_first : (q : ℕ) → row_at (begun others overhead) q ≡ row_beyond others.holds
@@ -46,7 +47,7 @@ module _ (others : Followed) (overhead : Sure) where
     up = up;
   }
 
-  pub kept_first : IsNot others.holds → IsNotYes others.asked → IsKept (begun others overhead)
+  pub kept_first : IsNot others.holds → IsNotYes others.asked → AreIndexed (begun others overhead)
   kept_first unheld unasked = record {
     long = length-replicate {A = Row} 256 (row_beyond others.holds);
     unheld = unheld;
@@ -73,8 +74,29 @@ module _ (others : Followed) (overhead : Sure) where
 abbrev pub whole_others : Followed
 whole_others = record { holds = fact.Nothing; disabled = sure.No; asks = Some 0; asked = sure.No }
 
-pub units_whole : SameUnits (known_of (begun whole_others sure.No)) spec.known_whole
+module _ (others : Followed) (overhead : Sure) where
+  owner_first : (q : ℕ) → owner_at (begun others overhead) q ≡ owner_beyond others.asks
+  owner_first q = get_or-same 4096 (owner_beyond others.asks) q
+
+  pub whole_first : IsNot others.holds → IsNotYes others.asked → IsKept (begun others overhead)
+  whole_first unheld unasked = record {
+    units = kept_first others overhead unheld unasked;
+    allocs = length-replicate {A = Owner} 4096 (owner_beyond others.asks);
+    owned = λ q. subst (OwnerIsHeard (λ n. number_of (row_at (begun others overhead) n))) (sym (owner_first q)) (by_asks others.asks);
+  }
+    where
+      by_asks : (asks : Option ℕ) → OwnerIsHeard (λ n. number_of (row_at (begun others overhead) n)) (owner_beyond asks)
+      by_asks None = tt
+      by_asks (Some n) = tt
+
+units_whole : SameUnits (known_of (begun whole_others sure.No)) spec.known_whole
 units_whole = units_first whole_others sure.No spec.known_whole (λ q. refl) (λ s. refl) (λ s. refl) (λ s. refl) (λ s. refl) refl refl
 
-pub units_midway : SameUnits (known_of (begun unknown_serial sure.Unsure)) spec.known_midway
+units_midway : SameUnits (known_of (begun unknown_serial sure.Unsure)) spec.known_midway
 units_midway = units_first unknown_serial sure.Unsure spec.known_midway (λ q. refl) (λ s. refl) (λ s. refl) (λ s. refl) (λ s. refl) refl refl
+
+pub same_whole : SameKnown (known_of (begun whole_others sure.No)) spec.known_whole
+same_whole = record { units = units_whole; owners = owner_first whole_others sure.No }
+
+pub same_midway : SameKnown (known_of (begun unknown_serial sure.Unsure)) spec.known_midway
+same_midway = record { units = units_midway; owners = owner_first unknown_serial sure.Unsure }

@@ -25,18 +25,12 @@ use Rattle.hear_state.specs.declared.index.Followed.{Followed}
 use Rattle.hear_state.specs.Facts.{fact_of, sure_of}
 use Rattle.hear_state.specs.Rows.{number_of, dropped_row, popped_up_row}
 use Rattle.hear_state.specs.Index.{Followeds, changed, released, enabled, answered, asked_answered}
-use Rattle.hear_state.specs.Kept.{Kept, known_of, row_at, row_beyond, followed_at, followed_or, holder_of, SameUnits, IsIndexed, IsNot, IsNotYes, IsKept}
-use Rattle.hear_state.specs.Changes.{is_held_by, rows_without, index_without, kept_assigned, kept_with_row, kept_following, kept_dropped, kept_all_dropped, kept_disabled, kept_all_enabled, kept_popped_up, kept_spoken, IsAssigned, disabled_serial, asking_serial, after_serial, serial_told}
+use Rattle.hear_state.specs.Kept.{Kept, known_of, row_at, row_beyond, followed_at, followed_or, holder_of, SameUnits, IsIndexed, IsNot, IsNotYes, AreIndexed}
+use Rattle.hear_state.specs.Changes.{is_at, is_held_by, rows_without, index_without, kept_assigned, kept_with_row, kept_following, kept_dropped, kept_all_dropped, kept_disabled, kept_all_enabled, kept_popped_up, kept_spoken, IsAssigned, disabled_serial, asking_serial, after_serial, serial_told}
 use Rattle.hear_state.proofs.Indexed.{left_own, left_other, gave_up_own, gave_up_other, indexed-assign, indexed-drop, indexed-drop_all, indexed-disable, indexed_same, indexed_as}
 use Rattle.hear_state.proofs.Reading.{get-set, get-map, read-put, read-changed, read-changed_any, read-each}
 
 -- ---- who is held, by the rows
-
--- the number of a fact is this one
-abbrev is_at : Fact ℕ → ℕ → Bool
-is_at fact.Unknown q = false
-is_at fact.Nothing q = false
-is_at (fact.Is n) q = q == n
 
 -- the ONU-ID that a unit leaves
 left_is : (known : spec.Known) → IsIndexed known → (s : Serial) (f : Fact ℕ) → known.holds s ≡ fact_of f → (q : ℕ)
@@ -88,7 +82,7 @@ gave_up_is known is n r e s = by_row r e
 
 -- ---- rows
 
-module _ (kept : Kept) (is : IsKept kept) where
+module _ (kept : Kept) (is : AreIndexed kept) where
   abbrev known : spec.Known
   known = known_of kept
 
@@ -262,7 +256,7 @@ module _ (kept : Kept) (is : IsKept kept) where
                   ∙ sym (ap (λ b. cond b (spec.assigned (known.asked serial) (known.numbers q) serial) (spec.left_by (known.numbers q) serial)) (ne_eqb q onu other))
             ]
 
-    pub kept-assigned : IsKept given
+    pub kept-assigned : AreIndexed given
     kept-assigned = record {
       long = length-set (rows_without kept.rows (followed_at kept serial).holds) onu r ∙ long-without (followed_at kept serial).holds;
       unheld = is.unheld;
@@ -306,10 +300,10 @@ module _ (kept : Kept) (is : IsKept kept) where
 
   -- where no ONU-ID changes its unit
   kept_as : (new : Kept) → length new.rows ≡ 256 → IsNot new.others.holds → IsNotYes new.others.asked
-      → ((n : ℕ) → holder_of (number_of (row_at new n)) ≡ holder_of (known.numbers n)) → ((s : Serial) → fact_of (let f = followed_at new s in f.holds) ≡ known.holds s) → IsKept new
+      → ((n : ℕ) → holder_of (number_of (row_at new n)) ≡ holder_of (known.numbers n)) → ((s : Serial) → fact_of (let f = followed_at new s in f.holds) ≡ known.holds s) → AreIndexed new
   kept_as new long unheld unasked numbers holds = record { long = long; unheld = unheld; unasked = unasked; indexed = indexed_as known (known_of new) numbers holds is.indexed }
 
-  pub kept-following : (serial : Serial) (f : Followed) → f.holds ≡ (followed_at kept serial).holds → IsKept (kept_following kept serial f)
+  pub kept-following : (serial : Serial) (f : Followed) → f.holds ≡ (followed_at kept serial).holds → AreIndexed (kept_following kept serial f)
   kept-following serial f same = kept_as (kept_following kept serial f) is.long is.unheld is.unasked (λ n. refl) (λ s. same_about serial f (λ (x : Followed). fact_of x.holds) (ap fact_of same) s)
 
   -- ---- Disable_Serial_Number
@@ -328,7 +322,7 @@ module _ (kept : Kept) (is : IsKept kept) where
       f : Followed
       f = disabled_serial (followed_at kept serial)
 
-  pub kept-disabled : (serial : Serial) → IsKept (kept_disabled kept serial (disabled_serial (followed_at kept serial)))
+  pub kept-disabled : (serial : Serial) → AreIndexed (kept_disabled kept serial (disabled_serial (followed_at kept serial)))
   kept-disabled serial = record {
     long = long-without (followed_at kept serial).holds;
     unheld = is.unheld;
@@ -362,7 +356,7 @@ module _ (kept : Kept) (is : IsKept kept) where
         by_test q true = is_dropped (known.numbers q)
         by_test q false = refl
 
-    pub kept-dropped : IsKept (kept_dropped kept onu)
+    pub kept-dropped : AreIndexed (kept_dropped kept onu)
     kept-dropped = record {
       long = length-set kept.rows onu row.Nobodys ∙ is.long;
       unheld = is.unheld;
@@ -384,7 +378,7 @@ module _ (kept : Kept) (is : IsKept kept) where
     up = refl;
   }
 
-  pub kept-all_dropped : IsKept (kept_all_dropped kept)
+  pub kept-all_dropped : AreIndexed (kept_all_dropped kept)
   kept-all_dropped = record {
     long = length-map kept.rows dropped_row ∙ is.long;
     unheld = tt;
@@ -408,7 +402,7 @@ module _ (kept : Kept) (is : IsKept kept) where
     up = refl;
   }
 
-  pub kept-all_enabled : IsKept (kept_all_enabled kept)
+  pub kept-all_enabled : AreIndexed (kept_all_enabled kept)
   kept-all_enabled = kept_as (kept_all_enabled kept) is.long is.unheld is.unasked (λ n. refl) (λ s. ap (λ (x : Followed). fact_of x.holds) (read-all_enabled s))
 
   -- ---- a row is written, its unit stays
@@ -432,7 +426,7 @@ module _ (kept : Kept) (is : IsKept kept) where
     up = refl;
   }
 
-  pub kept-with_row : (n : ℕ) (r : Row) → n < 256 → holder_of (number_of r) ≡ holder_of (known.numbers n) → IsKept (kept_with_row kept n r)
+  pub kept-with_row : (n : ℕ) (r : Row) → n < 256 → holder_of (number_of r) ≡ holder_of (known.numbers n) → AreIndexed (kept_with_row kept n r)
   kept-with_row n r low same = kept_as (kept_with_row kept n r) (length-set kept.rows n r ∙ is.long) is.unheld is.unasked
       (λ q. ap (λ x. holder_of (number_of x)) (read-row n r q low) ∙ elim (cases_eq q n) [
         | inl here ↦ ap (λ b. holder_of (number_of (cond b r (row_at kept q)))) (eq-eqb q n here) ∙ same ∙ ap (λ k. holder_of (known.numbers k)) (sym here)
@@ -442,7 +436,7 @@ module _ (kept : Kept) (is : IsKept kept) where
 
   -- ---- POPUP of all
 
-  popped_up_is : (r : Row) → number_of (popped_up_row r) ≡ spec.popped_up (number_of r)
+  pub popped_up_is : (r : Row) → number_of (popped_up_row r) ≡ spec.popped_up (number_of r)
   popped_up_is row.Unheard = refl
   popped_up_is row.Nobodys = refl
   popped_up_is (row.Of holder fact.Unknown answers) = refl
@@ -470,7 +464,7 @@ module _ (kept : Kept) (is : IsKept kept) where
     up = refl;
   }
 
-  pub kept-popped_up : IsKept (kept_popped_up kept)
+  pub kept-popped_up : AreIndexed (kept_popped_up kept)
   kept-popped_up = kept_as (kept_popped_up kept) (length-map kept.rows popped_up_row ∙ is.long) is.unheld is.unasked
       (λ n. ap holder_of (read-popped_up n) ∙ same_holder (known.numbers n)) (λ s. refl)
     where
@@ -503,7 +497,7 @@ asked_is false x y h = one x y h
 
 -- ---- a unit gives its serial number
 
-module _ (kept : Kept) (is : IsKept kept) (serial : Serial) where
+module _ (kept : Kept) (is : AreIndexed kept) (serial : Serial) where
   abbrev now : spec.Known
   now = known_of kept
 
@@ -569,12 +563,12 @@ module _ (kept : Kept) (is : IsKept kept) (serial : Serial) where
       by_test q true = was (let g = followed_at kept q in g.asked)
       by_test q false = refl
 
-  pub kept-answering : IsKept answering
+  pub kept-answering : AreIndexed answering
   kept-answering = kept_as kept is answering is.long is.unheld is.unasked (λ n. refl) (λ s. same_answering (λ (x : Followed). fact_of x.holds) (λ x. refl) s)
 
 -- ---- and what it says with its ONU-ID
 
-spoken_holder : (n : spec.Number) (message : Up) (delay : Option ℕ) → holder_of (spec.spoken n message delay) ≡ holder_of n
+pub spoken_holder : (n : spec.Number) (message : Up) (delay : Option ℕ) → holder_of (spec.spoken n message delay) ≡ holder_of n
 spoken_holder spec.Unheard message delay = refl
 spoken_holder spec.Nobodys message delay = refl
 spoken_holder (spec.Of holder eqd answers) message delay = by_test (spec.is_by holder message)
@@ -583,9 +577,9 @@ spoken_holder (spec.Of holder eqd answers) message delay = by_test (spec.is_by h
     by_test true = refl
     by_test false = refl
 
-module _ (kept : Kept) (is : IsKept kept) (onu : ℕ) (low : onu < 256) (r : Row) (message : Up) (delay : Option ℕ) (known : spec.Known)
+module _ (kept : Kept) (is : AreIndexed kept) (onu : ℕ) (low : onu < 256) (r : Row) (message : Up) (delay : Option ℕ) (known : spec.Known)
     (to : number_of r ≡ spec.spoken (number_of (row_at kept onu)) message delay) where
-  pub kept-spoken : IsKept (kept_spoken kept onu r)
+  pub kept-spoken : AreIndexed (kept_spoken kept onu r)
   kept-spoken =
       let new = kept-with_row kept is onu r low (ap holder_of to ∙ spoken_holder (number_of (row_at kept onu)) message delay) in
       record { long = new.long; unheld = new.unheld; unasked = new.unasked; indexed = indexed_as (known_of (kept_with_row kept onu r)) (known_of (kept_spoken kept onu r)) (λ n. refl) (λ s. refl) new.indexed }

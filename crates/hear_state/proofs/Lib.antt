@@ -6,3 +6,5 @@ pub mod Reading
 pub mod Keeping
 pub mod Beginning
 pub mod Tenures
+pub mod Owning
+pub mod Knowing

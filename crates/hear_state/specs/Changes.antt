@@ -39,6 +39,22 @@ index_without index row.Unheard = index
 index_without index row.Nobodys = index
 index_without index (row.Of holder delay answers) = changed index holder released
 
+-- this is the ONU-ID of a fact
+abbrev pub is_at : Fact ℕ → ℕ → Bool
+is_at fact.Unknown onu = false
+is_at fact.Nothing onu = false
+is_at (fact.Is held) onu = onu == held
+
+-- who loses its Alloc-IDs, where a unit leaves the ONU-ID that it held
+abbrev pub lost_at : Fact ℕ → ℕ → facts.Sure
+lost_at held onu = if is_at held onu then facts.Yes else facts.No
+
+-- the ONU-ID that a unit held, if it is another than this one
+abbrev pub other_than : Fact ℕ → ℕ → Fact ℕ
+other_than fact.Unknown onu = fact.Unknown
+other_than fact.Nothing onu = fact.Nothing
+other_than (fact.Is held) onu = if held == onu then fact.Nothing else fact.Is held
+
 -- an ONU-ID is a unit's, and is not who held it before
 abbrev pub kept_assigned : Kept → ℕ → Serial → Row → Followed → Kept
 kept_assigned kept onu serial row followed =

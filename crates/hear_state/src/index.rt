@@ -3,7 +3,7 @@ ghost use Rattle.std.specs.Prelude.{◌≡◌, ◌^◌, if◌then◌else◌, ◌
 ghost use Rattle.std.specs.FinMap as map;
 ghost use Rattle.gp_ploam.specs.Serials.{serial_cmp};
 ghost use Rattle.gp_table.specs.Values.{map_values};
-ghost use Rattle.hear_state.specs.Changes.{IsAssigned, asking_serial, disabled_serial};
+ghost use Rattle.hear_state.specs.Changes.{IsAssigned, asking_serial, disabled_serial, other_than};
 ghost use Rattle.hear_state.specs.Heard.{is_most};
 ghost use Rattle.hear_state.specs.Index.{FailsFor, IsGapFor, IsPlaceOf, IsRising, answered, changed, enabled, enabled_place, is_full, released, released_place};
 
@@ -47,7 +47,7 @@ impl Model for Index {
     ghost use Rattle.std.specs.FinMap as map;
     ghost use Rattle.gp_ploam.specs.Serials.{coded_serial};
     ghost use Rattle.hear_state.specs.contracts.index.Followed as followed;
-    ghost use Rattle.hear_state.specs.Changes.{IsAssigned, asking_serial, disabled_serial};
+    ghost use Rattle.hear_state.specs.Changes.{IsAssigned, asking_serial, disabled_serial, other_than};
     ghost use Rattle.hear_state.specs.Heard.{is_most};
     ghost use Rattle.hear_state.specs.Index.{Followeds, IsRising, index_of};
 
@@ -120,6 +120,16 @@ impl Followed {
             asks,
             asked: Sure::No,
             ..self
+        }
+    }
+
+    /// The ONU-ID that it holds, if that is another than this one.
+    pub(crate) fn other_than(&self, onu: u8) -> Fact<u8>
+        ensures { result ≡ (let followed = self.now in other_than followed.holds onu) }
+    {
+        match self.holds {
+            Fact::Is(held) if held == onu => Fact::Nothing,
+            held => held,
         }
     }
 

@@ -1,10 +1,11 @@
 //! What is known of one port's units: `Knowledge`, and what is asked of it.
 ghost use Rattle.std.specs.Prelude.{◌≡◌, IfOk, replicate};
 ghost use Rattle.hear_rules.specs.Known.{known_midway, known_whole};
-ghost use Rattle.hear_state.specs.Kept.{SameUnits, followed_at, known_of, row_at};
+ghost use Rattle.hear_state.specs.Kept.{SameKnown, followed_at, known_of, row_at};
 
 use crate::facts::{Fact, Sure};
 use crate::index::{Followed, Index};
+use crate::owners::Owners;
 use crate::rows::{Row, Rows};
 use gp_ploam::Serial;
 use std::alloc::{AllocError, Global};
@@ -18,6 +19,8 @@ pub struct Knowledge {
     pub(crate) index: Index,
     /// What is known of each serial number that isn't followed.
     pub(crate) others: Followed,
+    /// Whose each Alloc-ID is.
+    pub(crate) owners: Owners,
     /// Whether Upstream_Overhead was sent.
     pub(crate) overhead: Sure,
     /// Whether the port has had a code up.
@@ -35,6 +38,7 @@ impl Model for Knowledge {
       rows = k.rows;
       followed = k.index;
       others = k.others;
+      owners = k.owners;
       overhead = k.overhead;
       up = k.up;
     } };
@@ -43,6 +47,7 @@ impl Model for Knowledge {
       rows = k.rows;
       followed = k.index;
       others = k.others;
+      owners = k.owners;
       overhead = k.overhead;
       up = k.up;
     }) };
@@ -52,7 +57,7 @@ impl Knowledge {
     /// From the first message on: nobody holds anything, nobody asked, nobody is disabled. Fails only where there is no
     /// memory.
     pub fn begin_whole(alloc: Global) -> Result<Knowledge, AllocError>
-        ensures { IfOk result (λ knowledge. SameUnits (known_of knowledge) known_whole) }
+        ensures { IfOk result (λ knowledge. SameKnown (known_of knowledge) known_whole) }
     {
         Ok(Knowledge {
             rows: Rows::begin(alloc, Row::Nobodys)?,
@@ -63,6 +68,7 @@ impl Knowledge {
                 asks: Some(0),
                 asked: Sure::No,
             },
+            owners: Owners::begin_whole(alloc)?,
             overhead: Sure::No,
             up: false,
         })
@@ -70,7 +76,7 @@ impl Knowledge {
 
     /// From the middle on: nothing is known. Fails only where there is no memory.
     pub fn begin_midway(alloc: Global) -> Result<Knowledge, AllocError>
-        ensures { IfOk result (λ knowledge. SameUnits (known_of knowledge) known_midway) }
+        ensures { IfOk result (λ knowledge. SameKnown (known_of knowledge) known_midway) }
     {
         Ok(Knowledge {
             rows: Rows::begin(alloc, Row::Unheard)?,
@@ -81,6 +87,7 @@ impl Knowledge {
                 asks: None,
                 asked: Sure::Unsure,
             },
+            owners: Owners::begin_midway(alloc)?,
             overhead: Sure::Unsure,
             up: false,
         })

@@ -118,6 +118,22 @@ impl Row {
         }
     }
 
+    /// Whether the Alloc-IDs of the ONU-ID are lost, where this unit gets it.
+    pub(crate) fn lost_to(&self, serial: &Serial) -> Sure
+        ensures { sure_of result ≡ spec.lost_of (number_of self.now) serial.now }
+    {
+        match self {
+            Row::Unheard => Sure::Unsure,
+            Row::Of {
+                serial: holder,
+                delay: Fact::Nothing,
+                ..
+            } if serial == holder => Sure::No,
+            Row::Of { serial: holder, .. } if serial == holder => Sure::Unsure,
+            Row::Nobodys | Row::Of { .. } => Sure::Yes,
+        }
+    }
+
     /// A unit that was assigned just now has no delay, and said nothing.
     fn fresh(serial: &Serial) -> Row
         ensures { number_of result ≡ spec.fresh serial.now }
