@@ -1,12 +1,14 @@
 //! What is known of one port's units, kept in tables, and the rules of the terminal as functions of it.
 #![tactic(auto)]
 
+mod allocs;
 mod assigning;
 mod facts;
 mod fault;
 mod grants;
 mod hear;
 mod index;
+mod judge;
 mod knowledge;
 mod owners;
 mod ranging;
