@@ -8,3 +8,4 @@ pub mod Beginning
 pub mod Tenures
 pub mod Owning
 pub mod Knowing
+pub mod Sameness

@@ -6,3 +6,4 @@ pub mod Kept
 pub mod Changes
 pub mod Heard
 pub mod Judged
+pub mod Laws

@@ -10,6 +10,7 @@ mod hear;
 mod index;
 mod judge;
 mod knowledge;
+mod laws;
 mod owners;
 mod ranging;
 mod rows;
@@ -17,4 +18,5 @@ mod settings;
 
 pub use fault::HearFault;
 pub use knowledge::Knowledge;
+pub use laws::same_is_judged_same;
 pub use settings::Settings;
