@@ -1,5 +1,5 @@
 -- What is known at first.
-use Rattle.std.proofs.Common.{◌≡◌, ℕ, zero, suc, true, false, List, [], ◌∷◌, length, get_or, replicate, Option, None, Some, refl, sym, ap, subst, ◌∙◌}
+use Rattle.std.proofs.Common.{◌≡◌, ℕ, zero, suc, false, get_or, replicate, Option, None, Some, refl, sym, ap, subst, ◌∙◌}
 use Rattle.std.proofs.lemmas.List.{length-replicate}
 use Rattle.std.specs.FinMap as fin
 use Rattle.gp_ploam.specs.declared.message.Serial.{Serial}
@@ -12,7 +12,6 @@ use Rattle.hear_state.specs.declared.facts.Fact.TheVariants as fact
 use Rattle.hear_state.specs.declared.facts.Sure.{Sure}
 use Rattle.hear_state.specs.declared.facts.Sure.TheVariants as sure
 use Rattle.hear_state.specs.declared.rows.Row.{Row}
-use Rattle.hear_state.specs.declared.rows.Row.TheVariants as row
 use Rattle.hear_state.specs.declared.index.Followed.{Followed}
 use Rattle.hear_state.specs.Facts.{fact_of, sure_of}
 use Rattle.hear_state.specs.Rows.{number_of}

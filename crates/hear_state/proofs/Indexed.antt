@@ -1,12 +1,12 @@
 -- Who holds which ONU-ID, before and after each change.
-use Rattle.std.proofs.Common.{◌≡◌, ℕ, ◌==◌, Bool, true, false, cond, Option, None, Some, inl, inr, refl, sym, ap, subst, ◌∙◌, eq-eqb}
+use Rattle.std.proofs.Common.{◌≡◌, ℕ, ◌==◌, Bool, true, false, cond, None, Some, inl, inr, refl, sym, ap, subst, ◌∙◌, eq-eqb}
 use Rattle.std.specs.Prelude.{if◌then◌else◌}
 use Rattle.std.proofs.lemmas.Bool.{cases_Bool, cases_eq, ne_eqb}
 use Rattle.gp_ploam.specs.declared.message.Serial.{Serial}
 use Rattle.gp_ploam.specs.Serials.{same_serial}
 use Rattle.gp_ploam.proofs.Serials.{same_serial-true, same_serial-itself}
 use Rattle.hear_rules.specs.Facts.{Fact, Unknown, Nothing, Is, Sure, Yes, No, Unsure}
-use Rattle.hear_rules.specs.Known.{Known, Number, Unheard, Nobodys, Of, left_by, given_up, assigned, begun, after_assign, after_disable, after_drop, after_drop_all, dropped}
+use Rattle.hear_rules.specs.Known.{Known, Number, Unheard, Nobodys, Of, left_by, given_up, assigned, after_assign, after_disable, after_drop, after_drop_all, dropped}
 use Rattle.hear_state.specs.Kept.{holder_of, IsIndexed, SameUnits}
 
 none_some : {X : Type 0} (x : X) → None ≡ Some x → ⊥

@@ -1,5 +1,5 @@
 -- What is known once a row or a serial number is written.
-use Rattle.std.proofs.Common.{◌≡◌, ℕ, ◌==◌, ◌<◌, ◌≤◌, Bool, true, false, cond, List, length, map, get_or, Option, None, Some, inl, inr, refl, sym, ap, subst, ◌∙◌, eq-eqb, arith}
+use Rattle.std.proofs.Common.{◌≡◌, ℕ, ◌==◌, ◌<◌, Bool, true, false, cond, length, get_or, Option, None, Some, inl, inr, refl, sym, ap, subst, ◌∙◌, eq-eqb, arith}
 use Rattle.std.specs.Prelude.{◌&&◌, if◌then◌else◌}
 use Rattle.std.proofs.Math.ListN.{set, length-set}
 use Rattle.std.proofs.lemmas.Bool.{cases_Bool, cases_eq, cases_lt, ne_eqb}
@@ -12,7 +12,6 @@ use Rattle.gp_ploam.specs.OnuIds.{broadcast_onu}
 use Rattle.gp_ploam.specs.Serials.{same_serial}
 use Rattle.gp_ploam.specs.Up.{octet1_of}
 use Rattle.gp_ploam.proofs.Serials.{serials_total, by_cmp-same, same_serial-true, same_serial-itself}
-use Rattle.gp_table.specs.Values.{map_values}
 use Rattle.hear_rules.specs.Facts as facts
 use Rattle.hear_rules.specs.Known as spec
 use Rattle.hear_state.specs.declared.facts.Fact.{Fact}

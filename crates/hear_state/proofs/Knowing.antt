@@ -1,5 +1,5 @@
 -- What is kept after each change, and what is known by it.
-use Rattle.std.proofs.Common.{◌≡◌, ℕ, ◌==◌, ◌<◌, ◌≤◌, Bool, true, false, cond, List, length, map, get_or, Option, None, Some, inl, inr, refl, sym, ap, subst, ◌∙◌, eq-eqb, arith}
+use Rattle.std.proofs.Common.{◌≡◌, ℕ, ◌==◌, ◌<◌, Bool, true, false, cond, length, map, get_or, Option, inl, inr, refl, sym, ap, ◌∙◌, arith}
 use Rattle.std.specs.Prelude.{if◌then◌else◌}
 use Rattle.std.proofs.Math.ListN.{set, length-set}
 use Rattle.std.proofs.lemmas.Bool.{cases_eq, ne_eqb}
@@ -15,10 +15,9 @@ use Rattle.hear_rules.specs.Known.{Known, Owner, Unclear, owner_after, owner_tol
 use Rattle.hear_state.specs.declared.facts.Sure.TheVariants as sure
 use Rattle.hear_state.specs.declared.rows.Row.{Row}
 use Rattle.hear_state.specs.declared.index.Followed.{Followed}
-use Rattle.hear_state.specs.Facts.{fact_of, sure_of}
 use Rattle.hear_state.specs.Rows.{number_of, popped_up_row}
 use Rattle.hear_state.specs.Index.{enabled}
-use Rattle.hear_state.specs.Kept.{Kept, known_of, row_at, followed_at, owner_beyond, holder_of, IsHeard, SameUnits, SameKnown, IsKept}
+use Rattle.hear_state.specs.Kept.{Kept, known_of, row_at, followed_at, owner_beyond, holder_of, IsHeard, SameKnown, IsKept}
 use Rattle.hear_state.specs.Owners.{lost_only}
 use Rattle.hear_state.specs.Changes.{lost_at, other_than, kept_assigned, kept_with_row, kept_following, kept_dropped, kept_all_dropped, kept_disabled, kept_all_enabled, kept_popped_up, kept_spoken, IsAssigned, disabled_serial, asking_serial, after_serial, serial_told}
 use Rattle.hear_state.proofs.Indexed.{assigned_holder}

@@ -1,13 +1,10 @@
 -- What becomes of the owners of Alloc-IDs, and that all of what is known is kept.
-use Rattle.std.proofs.Common.{◌≡◌, ℕ, zero, suc, ◌==◌, ◌<◌, ◌⊎◌, Bool, true, false, cond, List, [], ◌∷◌, length, map, get_or, Option, None, Some, inl, inr, refl, sym, ap, subst, ◌∙◌, eq-eqb, arith}
+use Rattle.std.proofs.Common.{◌≡◌, ℕ, ◌==◌, ◌⊎◌, Bool, true, false, cond, List, length, map, get_or, Option, None, Some, inl, inr, refl, sym, ap, subst, ◌∙◌, eq-eqb}
 use Rattle.std.specs.Prelude.{if◌then◌else◌}
-use Rattle.std.proofs.Math.ListN.{set, length-set}
 use Rattle.std.proofs.lemmas.Bool.{cases_Bool, cases_eq, ne_eqb}
-use Rattle.std.proofs.lemmas.List.{length-map}
 use Rattle.gp_ploam.specs.declared.message.Serial.{Serial}
 use Rattle.gp_ploam.specs.declared.message.Up.{Up}
 use Rattle.gp_ploam.specs.Serials.{same_serial}
-use Rattle.gp_ploam.specs.Up.{octet1_of}
 use Rattle.gp_ploam.proofs.Serials.{same_serial-true, same_serial-itself}
 use Rattle.hear_rules.specs.Facts as facts
 use Rattle.hear_rules.specs.Facts.{Sure, Yes, No, Unsure}
@@ -16,10 +13,10 @@ use Rattle.hear_rules.specs.Known.{Known, Number, Unheard, Nobodys, Of, Owner, U
 use Rattle.hear_state.specs.declared.facts.Fact.{Fact}
 use Rattle.hear_state.specs.declared.facts.Fact.TheVariants as fact
 use Rattle.hear_state.specs.Facts.{fact_of}
-use Rattle.hear_state.specs.Kept.{Kept, known_of, owner_beyond, holder_of, SameUnits, SameKnown, IsIndexed, AreIndexed, IsHeard, WasHeard, OwnerIsHeard, IsOwned, IsKept}
+use Rattle.hear_state.specs.Kept.{Kept, known_of, owner_beyond, holder_of, SameUnits, SameKnown, IsIndexed, AreIndexed, IsHeard, OwnerIsHeard, IsOwned, IsKept}
 use Rattle.hear_state.specs.Owners.{lost_only}
-use Rattle.hear_state.specs.Changes.{is_at, lost_at, other_than}
-use Rattle.hear_state.proofs.Reading.{get-set, get-map}
+use Rattle.hear_state.specs.Changes.{lost_at, other_than}
+use Rattle.hear_state.proofs.Reading.{get-map}
 use Rattle.hear_state.proofs.Tenures.{map_itself}
 
 -- ---- an ONU-ID that is heard of stays so

@@ -1,5 +1,5 @@
 -- Rows, each changed by a function.
-use Rattle.std.proofs.Common.{◌≡◌, ℕ, zero, suc, ◌<◌, List, [], ◌∷◌, length, map, get_or, refl, ap, ◌∙◌, arith}
+use Rattle.std.proofs.Common.{◌≡◌, ℕ, suc, ◌<◌, List, [], ◌∷◌, length, map, get_or, refl, ap, ◌∙◌, arith}
 use Rattle.hear_state.specs.declared.facts.Fact.TheVariants as fact
 use Rattle.hear_state.specs.declared.rows.Row.{Row}
 use Rattle.hear_state.specs.declared.rows.Row.TheVariants as row

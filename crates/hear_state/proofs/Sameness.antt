@@ -1,5 +1,5 @@
 -- Where the same is known it stays so, and the same is judged.
-use Rattle.std.proofs.Common.{◌≡◌, ℕ, ◌==◌, Bool, true, false, List, [], ◌∷◌, Option, None, Some, refl, ap, ◌∙◌}
+use Rattle.std.proofs.Common.{◌≡◌, ℕ, ◌==◌, Bool, true, false, [], ◌∷◌, Option, None, Some, refl, ap, ◌∙◌}
 use Rattle.std.specs.Prelude.{if◌then◌else◌, nat_lt}
 use Rattle.gp_ploam.specs.declared.message.Serial.{Serial}
 use Rattle.gp_ploam.specs.declared.message.Down.{Down}
@@ -20,7 +20,7 @@ use Rattle.hear_rules.specs.Known as spec
 use Rattle.hear_rules.specs.Known.{Known, Number, Unheard, Nobodys, Of, Owner, Unclear, Free, Has, owner_after, known_after, known_after_all}
 use Rattle.hear_rules.specs.Rules as rules
 use Rattle.hear_rules.specs.Rules.{Settings}
-use Rattle.hear_state.specs.Kept.{SameUnits, SameKnown}
+use Rattle.hear_state.specs.Kept.{SameKnown}
 use Rattle.hear_state.specs.Laws.{SameStaysSame, SameStaysSameInRuns, SameIsJudgedSame}
 
 -- Alloc-IDs that are lost in the same way

@@ -1,11 +1,11 @@
 -- Whose each Alloc-ID is, by the tenures of the ONU-IDs.
-use Rattle.std.proofs.Common.{◌≡◌, ℕ, zero, suc, ◌+◌, ◌==◌, ◌<◌, ◌≤◌, ◌||◌, Bool, true, false, cond, List, [], ◌∷◌, length, map, get_or, replicate, Option, None, Some, inl, inr, refl, sym, ap, subst, ◌∙◌, eq-eqb, arith}
+use Rattle.std.proofs.Common.{◌≡◌, ℕ, zero, suc, ◌+◌, ◌==◌, ◌<◌, ◌≤◌, ◌||◌, Bool, true, false, cond, List, [], ◌∷◌, length, map, get_or, replicate, inl, inr, refl, sym, ap, subst, ◌∙◌, eq-eqb, arith}
 use Rattle.std.specs.Prelude.{if◌then◌else◌, nat_lt}
 use Rattle.std.proofs.Math.ListN.{set, length-set}
-use Rattle.std.proofs.lemmas.Bool.{cases_Bool, cases_eq, cases_lt, ne_eqb, lt-ltb, le-ltb}
-use Rattle.std.proofs.lemmas.List.{map-set, length-map, length-replicate, get_or-replicate, get_or_past}
-use Rattle.hear_rules.specs.Facts.{Fact, Unknown, Nothing, Is, Sure, Yes, No, Unsure}
-use Rattle.hear_rules.specs.Known.{Owner, Unclear, Free, Has, freed, still_free, free_after, owner_after, owner_given, owner_back}
+use Rattle.std.proofs.lemmas.Bool.{cases_eq, ne_eqb, lt-ltb, le-ltb}
+use Rattle.std.proofs.lemmas.List.{map-set, length-map, length-replicate}
+use Rattle.hear_rules.specs.Facts.{Fact, Unknown, Nothing, Is, Sure, Yes, No}
+use Rattle.hear_rules.specs.Known.{Owner, Unclear, Free, Has, freed, still_free, owner_after, owner_back}
 use Rattle.hear_state.specs.declared.owners.Place.{Place}
 use Rattle.hear_state.specs.declared.owners.Place.TheVariants as place
 use Rattle.hear_state.specs.declared.owners.Tenure.{Tenure}

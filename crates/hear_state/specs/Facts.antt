@@ -1,5 +1,4 @@
 -- What may be unknown, as the code has it (this profile's own rule).
-use Rattle.std.specs.Prelude.{ℕ}
 use Rattle.hear_rules.specs.Facts as spec
 use Rattle.hear_state.specs.declared.facts.Fact.{Fact}
 use Rattle.hear_state.specs.declared.facts.Fact.TheVariants as fact

@@ -12,7 +12,7 @@ use Rattle.gp_observer.specs.Observer.{is_unit_number}
 use Rattle.gp_observer.specs.Heard.{Heard, HeardDown, HeardUp, HeardGrant}
 use Rattle.hear_state.specs.declared.fault.HearFault.{HearFault}
 use Rattle.hear_state.specs.declared.fault.HearFault.TheVariants.{OutOfMemory, Full}
-use Rattle.hear_state.specs.Index.{FailsFor, is_full}
+use Rattle.hear_state.specs.Index.{is_full}
 use Rattle.hear_state.specs.Kept.{Kept, followed_at}
 
 -- the serial number that a message down has followed, if it has one

@@ -1,5 +1,4 @@
 -- An index over the serial numbers that are followed, kept in their order (this profile's own rule).
--- Inside: no public contract cites this.
 use Rattle.std.specs.Prelude.{◌≡◌, ℕ, ◌^◌, ◌<◌, ◌≤◌, ◌&&◌, nat_le, Bool, true, false, List, length, map, Option, None, Some, is_none, slice_index_or}
 use Rattle.std.specs.FinMap.{FinMap, from_entries, get, insert, len}
 use Rattle.gp_ploam.specs.declared.message.Serial.{Serial}

@@ -21,7 +21,7 @@ use Rattle.hear_state.specs.contracts.index.Followed as followeds
 use Rattle.hear_state.specs.Facts.{fact_of, sure_of}
 use Rattle.hear_state.specs.Owners.{owner_code}
 use Rattle.hear_state.specs.Rows.{number_of}
-use Rattle.hear_state.specs.Index.{Followeds, unknown_serial}
+use Rattle.hear_state.specs.Index.{Followeds}
 
 pub record Kept : Type 0 where
   -- the rows of the ONU-IDs

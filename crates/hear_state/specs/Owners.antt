@@ -1,7 +1,7 @@
 -- How it is kept whose each Alloc-ID is: with whom it was given to, and the tenure that the ONU-ID had then. An ONU-ID
 -- that loses its Alloc-IDs, or may have lost them, begins a tenure, so no Alloc-ID has to be looked at (this profile's
 -- own rule).
--- Inside: no public contract cites this but by `known_of`.
+-- Inside: no public contract cites this.
 use Rattle.std.specs.Prelude.{◌≡◌, ℕ, ◌+◌, ◌<◌, ◌≤◌, ◌==◌, ◌||◌, nat_lt, Bool, true, false, if◌then◌else◌, List, length, map, Option, None, Some, refl, slice_index_or}
 use Rattle.std.specs.Coded.{Coded, code_by, coded×, coded_option, coded_ℕ}
 use Rattle.hear_rules.specs.Facts.{Fact, Unknown, Nothing, Is, Sure, Yes, No, Unsure}

@@ -1,5 +1,4 @@
 -- What is known of an ONU-ID, as the code has it (this profile's own rule).
--- Inside: no public contract cites this but by `known_of`.
 use Rattle.hear_rules.specs.Facts as facts
 use Rattle.hear_rules.specs.Known as known
 use Rattle.hear_state.specs.declared.facts.Fact.{Fact}

@@ -6,7 +6,7 @@ ghost use Rattle.hear_state.specs.Facts.{sure_of};
 ghost use Rattle.hear_state.specs.Rows.{answers_of, dropped_row, number_of, popped_up_row, span_of, unheard_row};
 
 use crate::facts::{Fact, Sure};
-use gp_ploam::{BROADCAST_ONU, Serial, Up};
+use gp_ploam::{Serial, Up};
 use std::alloc::{AllocError, Global};
 use std::marker::Model;
 

@@ -1,9 +1,9 @@
-use Rattle.std.proofs.Common.{◌≡◌, ◌<◌, ◌≤◌, false, None, length, ap, ◌∙◌, arith, sym}
+use Rattle.std.proofs.Common.{◌≡◌, ◌<◌, false, None, length, ap, ◌∙◌, arith}
 use Rattle.std.specs.FinMap as map
 use Rattle.std.proofs.lemmas.List.{get_or_default}
 use Rattle.gp_ploam.specs.Serials.{serial_of}
 use Rattle.hear_state.specs.declared.index.IndexPlace.{IndexPlace}
-use Rattle.hear_state.specs.Index.{Followeds, IsPlaceOf, IsGapFor, is_full, blank_place, index_of}
+use Rattle.hear_state.specs.Index.{IsPlaceOf, IsGapFor, is_full, blank_place, index_of}
 use Rattle.hear_state.proofs.Followeds.{full_new, room_new, room_there}
 use Rattle.hear_state.proofs.Ranks.{found_none, index_of-insert, index_of-set, rising-insert}
 use Rattle.hear_state.proofs.index.Index.put.Goals as goal

@@ -1,9 +1,9 @@
-use Rattle.std.proofs.Common.{◌<◌, ◌≤◌, arith, ◌∙◌, ap, sym}
+use Rattle.std.proofs.Common.{◌∙◌, ap}
 use Rattle.hear_rules.specs.Known.{Owner, owner_given}
 use Rattle.hear_state.specs.declared.owners.Place.TheVariants as place
 use Rattle.hear_state.specs.Facts.{fact_of}
 use Rattle.hear_state.specs.Owners.{tenure_at}
-use Rattle.hear_state.proofs.Tenures.{owners_set, past_set, given_now}
+use Rattle.hear_state.proofs.Tenures.{owners_set, given_now}
 use Rattle.hear_state.proofs.owners.Owners.give.Goals as goal
 
 pub returns : goal.returns

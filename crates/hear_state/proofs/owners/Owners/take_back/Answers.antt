@@ -1,5 +1,4 @@
-use Rattle.std.proofs.Common.{◌<◌, ◌≤◌, arith, ◌∙◌, ap, sym}
-use Rattle.hear_rules.specs.Known.{Unclear}
+use Rattle.std.proofs.Common.{◌∙◌, ap, sym}
 use Rattle.hear_state.specs.declared.owners.Place.TheVariants as place
 use Rattle.hear_state.specs.Facts.{fact_of}
 use Rattle.hear_state.specs.Owners.{tenure_at, owner_of}
