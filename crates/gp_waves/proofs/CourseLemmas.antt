@@ -1,5 +1,5 @@
 -- Where the lines of an input lead.
-use Rattle.std.proofs.Common.{◌≡◌, ℕ, ◌+◌, ◌||◌, not, Bool, false, List, [], ◌∷◌, ◌++◌, Option, None, Some, length, map, Ok, refl, sym, ap, subst, ◌∙◌, arith, inl, inr}
+use Rattle.std.proofs.Common.{◌≡◌, ℕ, ◌+◌, ◌||◌, not, Bool, false, List, [], ◌∷◌, ◌++◌, Option, None, Some, length, Ok, refl, sym, ap, subst, ◌∙◌, arith, inl, inr}
 use Rattle.std.proofs.Math.Bool.{or_assoc, or-false}
 use Rattle.std.proofs.lemmas.List.Elements.{All-cons, All-nil}
 use Rattle.std.specs.List.{All}
@@ -8,18 +8,18 @@ use Rattle.gp_explain.specs.declared.fault.NoLine.{NoLine}
 use Rattle.gp_explain.specs.declared.fault.NoLine.TheVariants.{NotALine, TooLong}
 use Rattle.gp_log.specs.Line.{Reads, says_nothing}
 use Rattle.gp_log.specs.declared.line.LogLine.{LogLine}
-use Rattle.gp_waves.specs.Writing.{Grows, Written}
+use Rattle.gp_waves.specs.Writing.{Written}
 use Rattle.gp_ploam.specs.declared.check.Mask.{Mask}
 use Rattle.gp_finding.specs.declared.codes.Codes.{Codes}
 use Rattle.gp_finding.specs.Codes.{CodesLead, codes_after}
 use Rattle.gp_times.specs.Lines.{AreRead, IsRead, IsUnread, Lead}
 use Rattle.gp_times.specs.Times.{TimesState, times_after}
-use Rattle.gp_waves.specs.Dumping.{Dumping, SaysFrom, SaysToText, WavesState, ended_by}
-use Rattle.gp_waves.proofs.WritingLemmas.{grows_more, grows_none}
+use Rattle.gp_waves.specs.Dumping.{Dumping, Says, SaysFrom, SaysToText, WavesState, ended_by, whole_lines}
+use Rattle.gp_waves.proofs.WritingLemmas.{Grows, grows_more, grows_none, spills_grow}
 
 -- lines that are handed on whole
 abbrev pub wholes : List (List ℕ) → List (Option (List ℕ))
-wholes texts = map (λ (text : List ℕ). let line : Option (List ℕ) = Some text in line) texts
+wholes texts = whole_lines texts
 
 -- all of them are read
 pub record Runs (all : List (Option (List ℕ))) (said : List ℕ) (from to : WavesState) : Type 0 where
@@ -48,6 +48,10 @@ pub record Halts (why : NoLine) (all : List (Option (List ℕ))) (said : List �
   pub grown : Grows from.written said to.written
   pub lines : to.lines ≡ from.lines + (length before + 1)
   pub fails : Fails why line
+  pub heard : WavesState
+  pub lead : DoesAll Dumping from (wholes before) said heard
+  pub held : to.held ≡ heard.held
+  pub written : to.written ≡ heard.written
 
 abbrev pub Course : Option NoLine → List (Option (List ℕ)) → List ℕ → WavesState → WavesState → Type 0
 Course None all said from to = Runs all said from to
@@ -73,8 +77,22 @@ halted line ls state next new said first rest why nothing is fails parts h =
     let same : new.written ≡ state.written = ap (λ (s : WavesState). s.written) end.1 ∙ ap (λ (s : WavesState). s.written) is in
     let grown : Grows state.written said new.written =
     subst (λ (l : List ℕ). Grows state.written l new.written) (sym silent) (subst (λ (w : Written). Grows state.written [] w) (sym same) (grows_none state.written)) in
+    let held : new.held ≡ state.held = ap (λ (s : WavesState). s.held) end.1 ∙ ap (λ (s : WavesState). s.held) is in
     let there : Course (Some why) (line ∷ ls) said state new =
-    record { before = []; line = line; rest = ls; all_is = refl; read = All-nil IsRead; grown = grown; lines = many; fails = fails } in
+    record {
+      before = [];
+      line = line;
+      rest = ls;
+      all_is = refl;
+      read = All-nil IsRead;
+      grown = grown;
+      lines = many;
+      fails = fails;
+      heard = state;
+      lead = (silent, refl);
+      held = held;
+      written = same;
+    } in
     subst (λ (e : Option NoLine). Course e (line ∷ ls) said state new) (sym (ap (λ (s : WavesState). s.ended) end.1 ∙ ended)) there
 
 parted : (a b c : Written) (said first rest : List ℕ) → Grows a first b → said ≡ first ++ rest → Grows b rest c → Grows a said c
@@ -84,8 +102,9 @@ parted a b c said first rest p parts q = subst (λ (l : List ℕ). Grows a l c) 
 onto : (ended : Option NoLine) (a b c : WavesState) (text : List ℕ) (ls : List (Option (List ℕ))) (said first rest : List ℕ) (line : LogLine)
     → Reads text (Ok line) → b.lines ≡ a.lines + 1 → b.heard ≡ (a.heard || not (says_nothing line))
     → b.times ≡ times_after line a.times → b.mask ≡ a.mask → b.codes ≡ codes_after a.mask line a.codes
-    → Grows a.written first b.written → said ≡ first ++ rest → Course ended ls rest b c → Course ended (Some text ∷ ls) said a c
-onto None a b c text ls said first rest line reads one heard timed masked coded grows parts h = record {
+    → Grows a.written first b.written → Says a (Some text) first b → said ≡ first ++ rest → Course ended ls rest b c
+    → Course ended (Some text ∷ ls) said a c
+onto None a b c text ls said first rest line reads one heard timed masked coded grows says parts h = record {
   texts = text ∷ h.texts;
   told = not (says_nothing line) || h.told;
   all_is = ap (λ (l : List (Option (List ℕ))). Some text ∷ l) h.all_is;
@@ -101,7 +120,7 @@ onto None a b c text ls said first rest line reads one heard timed masked coded 
         (subst (λ (s : Codes). CodesLead b.mask h.texts s c.codes) coded h.codes),
   );
 }
-onto (Some why) a b c text ls said first rest line reads one heard timed masked coded grows parts h = record {
+onto (Some why) a b c text ls said first rest line reads one heard timed masked coded grows says parts h = record {
   before = text ∷ h.before;
   line = h.line;
   rest = h.rest;
@@ -110,6 +129,10 @@ onto (Some why) a b c text ls said first rest line reads one heard timed masked 
   grown = parted a.written b.written c.written said first rest grows parts h.grown;
   lines = let many = h.lines in omega (arith, many, one);
   fails = h.fails;
+  heard = h.heard;
+  lead = (first, rest, b, says, h.lead, parts);
+  held = h.held;
+  written = h.written;
 }
 
 none_done : (n : ℕ) → n ≡ n + 0
@@ -119,10 +142,13 @@ text_course : (text : List ℕ) (ls : List (Option (List ℕ))) (old next new : 
     → SaysToText old text first next → said ≡ first ++ rest → DoesAll Dumping next ls rest new
     → (next.ended ≡ None → Course new.ended ls rest next new) → Course new.ended (Some text ∷ ls) said old new
 text_course text ls old next new said first rest none (inl told) parts h more =
-    let is = told.3 in
+    let is = told.4 in
+    let says : Says old (Some text) first next =
+    subst (λ (e : Option NoLine). SaysFrom e old (Some text) first next) (sym none) (inl told) in
     let before : Course new.ended ls rest next new = more (ap (λ (s : WavesState). s.ended) is ∙ none) in
     onto new.ended old next new text ls said first rest told.0 told.1 (ap (λ (s : WavesState). s.lines) is) (ap (λ (s : WavesState). s.heard) is)
-    (ap (λ (s : WavesState). s.times) is) (ap (λ (s : WavesState). s.mask) is) (ap (λ (s : WavesState). s.codes) is) told.2 parts before
+    (ap (λ (s : WavesState). s.times) is) (ap (λ (s : WavesState). s.mask) is) (ap (λ (s : WavesState). s.codes) is)
+    (spills_grow told.2 old.written first next.held next.written told.3) says parts before
 text_course text ls old next new said first rest none (inr none_of) parts h more =
     halted (Some text) ls old next new said first rest NotALine none_of.1 none_of.2 (refl, none_of.0) parts h
 

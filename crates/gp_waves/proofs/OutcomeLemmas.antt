@@ -31,7 +31,8 @@ use Rattle.gp_times.specs.declared.frames.Frames.{Frames}
 use Rattle.gp_times.specs.Lines.{AreRead, IsUnread, Lead}
 use Rattle.gp_times.specs.Times.{TimesState, outside_of, times_begun}
 use Rattle.gp_waves.specs.Dumping.{Dumping, IsFull, Says, WavesState, has_ended, opened}
-use Rattle.gp_waves.specs.Writing.{Ends, EndsAs, Grows, GrowsAs, IsDump, Written, all_ports}
+use Rattle.gp_waves.specs.Writing.{IsDump, Rests, Written, all_ports}
+use Rattle.gp_waves.proofs.WritingLemmas.{Ends, EndsAs, Grows, GrowsAs, rests_end}
 use Rattle.gp_waves.specs.Outcome.{DumpsWaves, GetsDump, IsBegun, IsFound, IsFoundBy, IsNone, IsRefused, IsRest, IsUnfinished, WritesRest}
 use Rattle.gp_waves.proofs.CourseLemmas.{Course, Fails, Halts, course, wholes}
 
@@ -165,17 +166,33 @@ course_grows (Some why) ls said from to c = c.grown
 
 -- ---- behind the last line
 
+-- the writer got the dump of some lines, wherever what was said to them led
+abbrev Gets : {W : Type 0} → Mask → SinkState W → SinkState W → ℕ → WavesState → List ℕ → WavesState → Type 0
+Gets mask before after late old said state =
+    (heard : WavesState) (lines : List (Option (List ℕ))) → DoesAll Dumping old lines said heard → state.held ≡ heard.held → state.written ≡ heard.written
+    → GetsDump mask lines before after late
+
 module _ {R W : Type 0} (frames : Frames) (mask : Mask) (from to : SourceState R) (before mid after : SinkState W) where
   -- the rest was written behind what was said to lines
   dumped : (old state last : WavesState) (said text : List ℕ) → IsOpened mask old → Grows old.written said state.written → IsRest state last text
       → Appends before.held mid.held (before.gathered ++ said) → KeepsNothing mid → WritesWhole {T = Unit {0}} {E = WriteStopped} mid after text (Ok (tt {0}))
-      → GetsDump before after
-  dumped old state last said text o grown rest written kept w =
+      → Gets mask before after last.written.late old said state
+  dumped old state last said text o grown rest written kept w heard lines lead held same =
       let all = before.gathered ++ said in
       let both = Appends-trans before.held mid.held after.held all text written (takes_whole mid after text w.gives.ok kept.0 w.empty) in
       record {
         dump = said ++ text;
-        whole = whole_dump old.written state.written said text o.begun grown rest.ends;
+        whole = record {
+          whole = whole_dump old.written state.written said text o.begun grown (rests_end state.written text last.written rest.rests);
+          first = said;
+          heard = heard;
+          lead = subst (λ (s : WavesState). DoesAll Dumping s lines said heard) o.is lead;
+          rest = text;
+          end = last.written;
+          rests = subst (λ (v : Written). Rests v text last.written) same rest.rests;
+          text = refl;
+          count = refl;
+        };
         written = subst (λ (l : List ℕ). Appends before.held after.held l) (append_assoc before.gathered said text) both;
         kept = (w.empty, w.gives.flushed kept.1);
       }
@@ -192,7 +209,7 @@ module _ {R W : Type 0} (frames : Frames) (mask : Mask) (from to : SourceState R
         bytes = bytes;
         came = came;
         dump = said ++ text;
-        whole = whole_dump old.written state.written said text o.begun grown rest.ends;
+        whole = whole_dump old.written state.written said text o.begun grown (rests_end state.written text last.written rest.rests);
         written = all ++ p.written;
         unwritten = p.unwritten;
         all = append_assoc all p.written p.unwritten ∙ ap (λ (l : List ℕ). all ++ l) (sym parts) ∙ append_assoc before.gathered said text;
@@ -226,10 +243,10 @@ module _ {R W : Type 0} (frames : Frames) (mask : Mask) (from to : SourceState R
   unwritten old state last bytes said (Lines (faults.Line fault)) o grown came written kept (room, inr (text, stopped, rest, w)) =
       (inl (begun_rest old state last bytes said text stopped o grown rest came written kept w), λ is. absurd (room is))
 
-  refused : (why : NoLine) (old state : WavesState) (bytes : List ℕ) (ls others : List (List ℕ)) (said : List ℕ) → Consumes from.remaining to.remaining bytes
-      → lines_of bytes ≡ ls ++ others → old.lines ≡ 0 → Halts why (map (handed longest_line) ls) said old state → GetsDump before after
-      → IsRefused from to before after state.lines why
-  refused why old state bytes ls others said came is zero halts gets =
+  refused : (why : NoLine) (old state : WavesState) (bytes : List ℕ) (ls others : List (List ℕ)) (said : List ℕ) (late : ℕ) → Consumes from.remaining to.remaining bytes
+      → lines_of bytes ≡ ls ++ others → old.lines ≡ 0 → Halts why (map (handed longest_line) ls) said old state → Gets mask before after late old said state
+      → IsRefused mask from to before after state.lines why
+  refused why old state bytes ls others said late came is zero halts gets =
       let p = parted longest_line ls halts.before halts.line halts.rest halts.all_is in
       let many = halts.lines in
       record {
@@ -242,14 +259,16 @@ module _ {R W : Type 0} (frames : Frames) (mask : Mask) (from to : SourceState R
         all = halts.read;
         number = omega (arith, many, zero);
         none = none_of why halts.line p.raw p.is halts.fails;
-        dumped = gets;
+        late = late;
+        dumped = gets halts.heard (wholes halts.before) halts.lead halts.held halts.written;
       }
 
   -- what was found where an input was read to its end
-  found_whole : (ended : Option NoLine) (old state : WavesState) (text said : List ℕ) (answer : Result WavesSum ExplainFault) → IsOpened mask old → ReadsWhole from to text
-      → Course ended (map (handed longest_line) (lines_of text)) said old state → GetsDump before after
-      → IsFoundBy frames ended state answer → DumpsWaves frames mask from to before after answer
-  found_whole None old state text said (Ok sum) o read c gets found =
+  found_whole : (ended : Option NoLine) (old state : WavesState) (text said : List ℕ) (late : ℕ) (answer : Result WavesSum ExplainFault) → IsOpened mask old
+      → ReadsWhole from to text → DoesAll Dumping old (map (handed longest_line) (lines_of text)) said state
+      → Course ended (map (handed longest_line) (lines_of text)) said old state → Gets mask before after late old said state
+      → IsFoundBy frames late ended state answer → DumpsWaves frames mask from to before after answer
+  found_whole None old state text said late (Ok sum) o read spoken c gets found =
       let same : lines_of text ≡ c.texts = handed_all longest_line (lines_of text) c.texts c.all_is in
       let many = c.lines in
       let zero = o.lines in
@@ -269,38 +288,40 @@ module _ {R W : Type 0} (frames : Frames) (mask : Mask) (from to : SourceState R
             (subst (λ (m : Mask). CodesLead m (lines_of text) no_codes state.codes) o.mask_is
             (subst (λ (s : Codes). CodesLead old.mask (lines_of text) s state.codes) o.codes
             (subst (λ (ls : List (List ℕ)). CodesLead old.mask ls old.codes state.codes) (sym same) c.codes)));
-        dumped = gets;
+        dumped = subst (λ (n : ℕ). GetsDump mask (map (handed longest_line) (lines_of text)) before after n) (sym found.5)
+            (gets state (map (handed longest_line) (lines_of text)) spoken refl refl);
       }
-  found_whole None old state text said (Err fault) o read c gets found = absurd found
-  found_whole (Some why) old state text said answer o read c gets found =
+  found_whole None old state text said late (Err fault) o read spoken c gets found = absurd found
+  found_whole (Some why) old state text said late answer o read spoken c gets found =
       subst (λ (a : Result WavesSum ExplainFault). DumpsWaves frames mask from to before after a) (sym found)
-      (refused why old state text (lines_of text) [] said read.consumed (sym (append-nil (lines_of text))) o.lines c gets)
+      (refused why old state text (lines_of text) [] said late read.consumed (sym (append-nil (lines_of text))) o.lines c gets)
 
   -- or until a line ended it
-  found_over : (ended : Option NoLine) (old state : WavesState) (bytes said : List ℕ) (answer : Result WavesSum ExplainFault) → is_some ended ≡ true → IsOpened mask old
-      → Consumes from.remaining to.remaining bytes → Course ended (map (handed longest_line) (ended_lines bytes)) said old state
-      → GetsDump before after → IsFoundBy frames ended state answer → DumpsWaves frames mask from to before after answer
-  found_over None old state bytes said answer some o came c gets found = absurd (never some)
-  found_over (Some why) old state bytes said answer some o came c gets found =
+  found_over : (ended : Option NoLine) (old state : WavesState) (bytes said : List ℕ) (late : ℕ) (answer : Result WavesSum ExplainFault) → is_some ended ≡ true
+      → IsOpened mask old → Consumes from.remaining to.remaining bytes → Course ended (map (handed longest_line) (ended_lines bytes)) said old state
+      → Gets mask before after late old said state → IsFoundBy frames late ended state answer → DumpsWaves frames mask from to before after answer
+  found_over None old state bytes said late answer some o came c gets found = absurd (never some)
+  found_over (Some why) old state bytes said late answer some o came c gets found =
       let e = ended_first bytes [] in
       subst (λ (a : Result WavesSum ExplainFault). DumpsWaves frames mask from to before after a) (sym found)
-      (refused why old state bytes (ended_lines bytes) e.0 said came (ap lines_of (sym (append-nil bytes)) ∙ e.1) o.lines c gets)
+      (refused why old state bytes (ended_lines bytes) e.0 said late came (ap lines_of (sym (append-nil bytes)) ∙ e.1) o.lines c gets)
 
   -- what was found is found of the state before the rest was written, too
-  found_before : (ended same : Option NoLine) (state last : WavesState) (answer : Result WavesSum ExplainFault) → ended ≡ same → last.lines ≡ state.lines
-      → last.heard ≡ state.heard → last.times ≡ state.times → last.codes ≡ state.codes → IsFoundBy frames ended last answer
-      → IsFoundBy frames same state answer
-  found_before ended (Some why) state last answer is many heard times codes found =
-      subst (λ (n : ℕ). answer ≡ Err (Refused n why)) many (subst (λ (e : Option NoLine). IsFoundBy frames e last answer) is found)
-  found_before ended None state last (Ok sum) is many heard times codes found =
-      let there : IsFoundBy frames None last (Ok sum) = subst (λ (e : Option NoLine). IsFoundBy frames e last (Ok sum)) is found in (
+  found_before : (ended same : Option NoLine) (state last : WavesState) (late : ℕ) (answer : Result WavesSum ExplainFault) → ended ≡ same → last.lines ≡ state.lines
+      → last.heard ≡ state.heard → last.times ≡ state.times → last.codes ≡ state.codes → IsFoundBy frames late ended last answer
+      → IsFoundBy frames late same state answer
+  found_before ended (Some why) state last late answer is many heard times codes found =
+      subst (λ (n : ℕ). answer ≡ Err (Refused n why)) many (subst (λ (e : Option NoLine). IsFoundBy frames late e last answer) is found)
+  found_before ended None state last late (Ok sum) is many heard times codes found =
+      let there : IsFoundBy frames late None last (Ok sum) = subst (λ (e : Option NoLine). IsFoundBy frames late e last (Ok sum)) is found in (
         there.0 ∙ many,
         there.1 ∙ heard,
         there.2 ∙ ap (λ (t : TimesState). outside_of frames t) times,
         there.3 ∙ ap (λ (t : TimesState). t.fallen) times,
         there.4 ∙ codes,
+        there.5,
       )
-  found_before ended None state last (Err fault) is many heard times codes found = subst (λ (e : Option NoLine). IsFoundBy frames e last (Err fault)) is found
+  found_before ended None state last late (Err fault) is many heard times codes found = subst (λ (e : Option NoLine). IsFoundBy frames late e last (Err fault)) is found
 
   pub dumped_as : (end : LinesEnd) (old state last : WavesState) (answer : Result WavesSum ExplainFault) → IsOpened mask old
       → ServesTo Dumping has_ended longest_line end from to old state before mid → WritesRest state last mid after (Ok (tt {0})) → IsFound frames last answer
@@ -308,18 +329,18 @@ module _ {R W : Type 0} (frames : Frames) (mask : Mask) (from to : SourceState R
   dumped_as Whole old state last answer o s w found =
       let c = started mask old state (map (handed longest_line) (lines_of s.bytes)) s.said o s.spoken in
       let grown = course_grows state.ended _ s.said old state c in
-      found_whole state.ended old state s.bytes s.said answer o s.read c (dumped old state last s.said w.0 o grown w.1 s.written s.kept w.2)
-      (found_before last.ended state.ended state last answer w.1.ended w.1.lines w.1.heard w.1.times w.1.codes found)
+      found_whole state.ended old state s.bytes s.said last.written.late answer o s.read s.spoken c (dumped old state last s.said w.0 o grown w.1 s.written s.kept w.2)
+      (found_before last.ended state.ended state last last.written.late answer w.1.ended w.1.lines w.1.heard w.1.times w.1.codes found)
   dumped_as Open old state last answer o s w found =
       let c = started mask old state (map (handed longest_line) (lines_of s.bytes)) s.said o s.spoken in
       let grown = course_grows state.ended _ s.said old state c in
-      found_whole state.ended old state s.bytes s.said answer o s.read c (dumped old state last s.said w.0 o grown w.1 s.written s.kept w.2)
-      (found_before last.ended state.ended state last answer w.1.ended w.1.lines w.1.heard w.1.times w.1.codes found)
+      found_whole state.ended old state s.bytes s.said last.written.late answer o s.read s.spoken c (dumped old state last s.said w.0 o grown w.1 s.written s.kept w.2)
+      (found_before last.ended state.ended state last last.written.late answer w.1.ended w.1.lines w.1.heard w.1.times w.1.codes found)
   dumped_as Over old state last answer o s w found =
       let c = started mask old state (map (handed longest_line) (ended_lines s.0.bytes)) s.0.said o s.0.spoken in
       let grown = course_grows state.ended _ s.0.said old state c in
-      found_over state.ended old state s.0.bytes s.0.said answer s.1 o s.0.read c (dumped old state last s.0.said w.0 o grown w.1 s.0.written s.0.kept w.2)
-      (found_before last.ended state.ended state last answer w.1.ended w.1.lines w.1.heard w.1.times w.1.codes found)
+      found_over state.ended old state s.0.bytes s.0.said last.written.late answer s.1 o s.0.read c (dumped old state last s.0.said w.0 o grown w.1 s.0.written s.0.kept w.2)
+      (found_before last.ended state.ended state last last.written.late answer w.1.ended w.1.lines w.1.heard w.1.times w.1.codes found)
 
   -- the rest could not be written where the input was read
   unwritten_to : (end : LinesEnd) (old state last : WavesState) (fault : ExplainFault) → IsOpened mask old
@@ -373,7 +394,8 @@ module _ {R W : Type 0} (frames : Frames) (mask : Mask) (from to : SourceState R
       record {
         bytes = e.bytes;
         came = e.read;
-        dumped = dumped old state last e.said w.0 o grown w.1 e.written e.kept w.2;
+        late = last.written.late;
+        dumped = dumped old state last e.said w.0 o grown w.1 e.written e.kept w.2 state (map (handed longest_line) (ended_lines e.bytes)) e.spoken refl refl;
         failed = s.failed refl;
       }
 
@@ -389,7 +411,7 @@ module _ {R W : Type 0} (frames : Frames) (mask : Mask) (from to : SourceState R
 
   pub unread_at : (fault : LinesFault) (old state last : WavesState) → fault ≡ faults.Read → IsOpened mask old
       → Serves Dumping has_ended longest_line from to old state before mid (Err fault) → WritesRest state last mid after (Ok (tt {0}))
-      → IsUnfinished from to before after
+      → IsUnfinished mask from to before after
   unread_at fault old state last is o s w =
       unread old state last o (subst (λ (f : LinesFault). Serves Dumping has_ended longest_line from to old state before mid (Err f)) is s) w
 

@@ -14,7 +14,8 @@ use Rattle.gp_log.specs.Line.{Reads}
 use Rattle.gp_waves.specs.declared.fault.WavesFault.{WavesFault}
 use Rattle.gp_waves.specs.declared.fault.WavesFault.TheVariants as waves
 use Rattle.gp_waves.specs.Faults.{undumped}
-use Rattle.gp_waves.specs.Writing.{Grows, Written}
+use Rattle.gp_waves.specs.Held.{HeldState}
+use Rattle.gp_waves.specs.Writing.{Spills, Written}
 use Rattle.gp_times.specs.Lines.{IsUnread}
 use Rattle.gp_waves.specs.Dumping.{Dumping, IsFull, Says, SaysFrom, WavesState, counted, ended_by}
 
@@ -26,12 +27,12 @@ refused_line old new text before none unread same =
     (subst (λ (e : Option NoLine). SaysFrom e old (Some text) [] new) (sym none) (inr (unread, refl, same)))
 
 -- what is said to a line that is read
-pub read_line_says : (old new : WavesState) (text said : List ℕ) (line : LogLine) (written : Written) → old.ended ≡ None → Reads text (Ok line)
-    → Grows old.written said written → new ≡ counted line written old → Says old (Some text) said new
-read_line_says old new text said line written none reads grows same =
-    let there : Grows old.written said new.written = subst (λ (s : WavesState). Grows old.written said s.written) (sym same) grows in
-    let is : new ≡ counted line new.written old = same ∙ ap (λ (s : WavesState). counted line s.written old) (sym same) in
-    subst (λ (e : Option NoLine). SaysFrom e old (Some text) said new) (sym none) (inl (line, reads, there, is))
+pub read_line_says : (old new : WavesState) (text said : List ℕ) (line : LogLine) (heard held : HeldState) (written : Written) → old.ended ≡ None
+    → Reads text (Ok line) → Spills heard old.written said held written → new ≡ counted line held written old → Says old (Some text) said new
+read_line_says old new text said line heard held written none reads spills same =
+    let there : Spills heard old.written said new.held new.written = subst (λ (s : WavesState). Spills heard old.written said s.held s.written) (sym same) spills in
+    let is : new ≡ counted line new.held new.written old = same ∙ ap (λ (s : WavesState). counted line s.held s.written old) (sym same) in
+    subst (λ (e : Option NoLine). SaysFrom e old (Some text) said new) (sym none) (inl (line, reads, heard, there, is))
 
 -- a line that can't be dumped
 pub undumped_line : {W : Type 0} (line : Option (List ℕ)) (old new : WavesState) (before : SinkState W) (fault : WavesFault) (r : Result (Unit {0}) Unanswered)
@@ -43,14 +44,14 @@ undumped_line line old new before waves.Full (Err f) told why =
     subst (λ (e : Unanswered). Answers {T = Unit {0}} Dumping line old new before before (Err e)) (sym told) (no_room Dumping line old new before why)
 
 -- a line with which the writer stopped
-pub stopped_line : {W T : Type 0} (old new : WavesState) (text said : List ℕ) (line : LogLine) (written : Written) (before after : SinkState W) (e : WriteStopped)
-    (r : Result (Unit {0}) Unanswered) → old.ended ≡ None → Reads text (Ok line) → Grows old.written said written → Puts {T = T} before after said (Err e)
+pub stopped_line : {W T : Type 0} (old new : WavesState) (text said : List ℕ) (line : LogLine) (heard held : HeldState) (written : Written) (before after : SinkState W)
+    (e : WriteStopped) (r : Result (Unit {0}) Unanswered) → old.ended ≡ None → Reads text (Ok line) → Spills heard old.written said held written → Puts {T = T} before after said (Err e)
     → IsErrAnd r (λ f. f ≡ Write) → Answers Dumping (Some text) old new before after r
-stopped_line old new text said line written before after e (Ok x) none reads grows puts told = absurd told
-stopped_line old new text said line written before after e (Err f) none reads grows puts told =
-    let next : WavesState = counted line written old in
+stopped_line old new text said line heard held written before after e (Ok x) none reads spills puts told = absurd told
+stopped_line old new text said line heard held written before after e (Err f) none reads spills puts told =
+    let next : WavesState = counted line held written old in
     subst (λ (fault : Unanswered). Answers {T = Unit {0}} Dumping (Some text) old new before after (Err fault)) (sym told)
-    (put_stopped Dumping (Some text) old new next before after said e (read_line_says old next text said line written none reads grows refl) puts)
+    (put_stopped Dumping (Some text) old new next before after said e (read_line_says old next text said line heard held written none reads spills refl) puts)
 
 -- by the result of reading it, a line is read
 pub read_as : (text : List ℕ) (read : Result LogLine LogFault) (line : LogLine) → read ≡ Ok line → Reads text read → Reads text (Ok line)
@@ -61,11 +62,11 @@ pub unread_as : (text : List ℕ) (read : Result LogLine LogFault) (fault : LogF
 unread_as text read fault is reads = (fault, subst (λ (r : Result LogLine LogFault). Reads text r) is reads)
 
 -- a line that is read, with what is said to it
-pub written_line : {W T : Type 0} (old new : WavesState) (text said : List ℕ) (line : LogLine) (written : Written) (before after : SinkState W) (x : T)
-    → old.ended ≡ None → Reads text (Ok line) → Grows old.written said written → new ≡ counted line written old
+pub written_line : {W T : Type 0} (old new : WavesState) (text said : List ℕ) (line : LogLine) (heard held : HeldState) (written : Written) (before after : SinkState W)
+    (x : T) → old.ended ≡ None → Reads text (Ok line) → Spills heard old.written said held written → new ≡ counted line held written old
     → Puts {T = T} {E = WriteStopped} before after said (Ok x) → Answers {T = Unit {0}} Dumping (Some text) old new before after (Ok tt)
-written_line old new text said line written before after x none reads grows same puts =
-    put_answers Dumping (Some text) old new before after said x (tt {0}) (read_line_says old new text said line written none reads grows same) puts
+written_line old new text said line heard held written before after x none reads spills same puts =
+    put_answers Dumping (Some text) old new before after said x (tt {0}) (read_line_says old new text said line heard held written none reads spills same) puts
 
 -- with a line that is read a count may not go on
 pub may_fill : (old : WavesState) (text : List ℕ) (read : Result LogLine LogFault) (line : LogLine) → old.ended ≡ None → read ≡ Ok line → Reads text read → IsFull old (Some text)

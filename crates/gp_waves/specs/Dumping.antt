@@ -1,5 +1,5 @@
 -- How far an input was read, and what was written meanwhile (this profile's own rule).
-use Rattle.std.specs.Prelude.{◌≡◌, ℕ, ◌+◌, ◌⊎◌, ◌||◌, not, Bool, false, List, [], Option, None, Some, is_some, Ok}
+use Rattle.std.specs.Prelude.{◌≡◌, ℕ, ◌+◌, ◌⊎◌, ◌||◌, not, Bool, false, List, [], Option, None, Some, is_some, map, Ok}
 use Rattle.gp_flow.specs.Lines.{Speech, WholeLines, most_lines}
 use Rattle.gp_explain.specs.declared.fault.NoLine.{NoLine}
 use Rattle.gp_explain.specs.declared.fault.NoLine.TheVariants.{NotALine, TooLong}
@@ -10,11 +10,12 @@ use Rattle.gp_finding.specs.declared.codes.Codes.{Codes}
 use Rattle.gp_finding.specs.Codes.{codes_after, no_codes}
 use Rattle.gp_times.specs.Times.{TimesState, times_after, times_begun}
 use Rattle.gp_times.specs.Lines.{IsRead, IsUnread}
-use Rattle.gp_waves.specs.Writing.{Grows, Written, unwritten}
+use Rattle.gp_waves.specs.Held.{HeldState, nothing_held}
+use Rattle.gp_waves.specs.Writing.{Spills, Written, unwritten}
 
 -- how many lines came, whether one of them says anything, why the last of them ended it, if it did, the times of the
--- ports, with how many lines fell, the mask of the codes, how many codes came, with how many of them are garbled, and
--- what is written
+-- ports, with how many lines fell, the mask of the codes, how many codes came, with how many of them are garbled, the
+-- changes that are held back, and what is written
 pub record WavesState : Type 0 where
   pub lines : ℕ
   pub heard : Bool
@@ -22,6 +23,7 @@ pub record WavesState : Type 0 where
   pub times : TimesState
   pub mask : Mask
   pub codes : Codes
+  pub held : HeldState
   pub written : Written
 
 -- no line came, and nothing is written
@@ -33,17 +35,19 @@ opened mask = record {
   times = times_begun;
   mask = mask;
   codes = no_codes;
+  held = nothing_held;
   written = unwritten;
 }
 
--- one line more came, which says this, and this is written by now
-abbrev pub counted : LogLine → Written → WavesState → WavesState
-counted line written state =
+-- one line more came, which says this, and these changes are held back and this is written by now
+abbrev pub counted : LogLine → HeldState → Written → WavesState → WavesState
+counted line held written state =
     record state {
       lines = state.lines + 1;
       heard = state.heard || not (says_nothing line);
       times = times_after line state.times;
       codes = codes_after state.mask line state.codes;
+      held = held;
       written = written;
     }
 
@@ -51,11 +55,12 @@ counted line written state =
 abbrev pub ended_by : NoLine → WavesState → WavesState
 ended_by why state = record state { lines = state.lines + 1; ended = Some why }
 
--- with a line that is read more of the dump may be written; any other ends it
+-- with a line that is read changes may be held back, and of those that are too many the first are written; any other
+-- line ends it
 abbrev pub SaysToText : WavesState → List ℕ → List ℕ → WavesState → Type 0
 SaysToText old text said new =
-    ((line : LogLine) × Reads text (Ok line) × Grows old.written said new.written
-    × (new ≡ counted line new.written old))
+    ((line : LogLine) × Reads text (Ok line) × (heard : HeldState)
+    × Spills heard old.written said new.held new.written × (new ≡ counted line new.held new.written old))
     ⊎ (IsUnread text × (said ≡ []) × (new ≡ ended_by NotALine old))
 
 -- by what ended it before: nothing is looked at any more; a line that is too long ends it
@@ -78,6 +83,10 @@ IsFull state line = (state.ended ≡ None) × ((state.lines ≡ most_lines) ⊎ 
 
 abbrev pub Dumping : Speech WavesState
 Dumping = WholeLines IsFull Says
+
+-- lines that are handed on whole
+abbrev pub whole_lines : List (List ℕ) → List (Option (List ℕ))
+whole_lines texts = map (λ (text : List ℕ). let line : Option (List ℕ) = Some text in line) texts
 
 -- it has ended
 abbrev pub has_ended : WavesState → Bool

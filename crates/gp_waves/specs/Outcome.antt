@@ -1,10 +1,10 @@
 -- How dumping a trace or a log may end (this profile's own rule).
-use Rattle.std.specs.Prelude.{◌≡◌, ◌≢◌, ◌<◌, ◌⊎◌, ℕ, ◌+◌, true, List, ◌∷◌, ◌++◌, length, Option, Some, None, Result, Ok, Err}
+use Rattle.std.specs.Prelude.{◌≡◌, ◌≢◌, ◌<◌, ◌⊎◌, ℕ, ◌+◌, true, List, ◌∷◌, ◌++◌, length, map, Option, Some, None, Result, Ok, Err}
 use Rattle.std.specs.Io.KnownBytes.{Appends, Consumes}
 use Rattle.std.specs.List.{All}
 use Rattle.gp_flow.specs.declared.fault.Unanswered.TheVariants.{OutOfMemory, Full}
 use Rattle.gp_flow.specs.declared.fault.LinesFault.TheVariants as faults
-use Rattle.gp_flow.specs.Lines.{ServesFull, lines_of, longest_line}
+use Rattle.gp_flow.specs.Lines.{DoesAll, ServesFull, ended_lines, handed, lines_of, longest_line}
 use Rattle.gp_stream.specs.declared.sink.WriteStopped.{WriteStopped}
 use Rattle.gp_stream.specs.Sink.{SinkState, KeepsNothing, WritesWhole}
 use Rattle.gp_stream.specs.Source.{SourceState, ReadsWhole}
@@ -18,13 +18,28 @@ use Rattle.gp_waves.specs.declared.running.WavesSum.{WavesSum}
 use Rattle.gp_times.specs.declared.frames.Frames.{Frames}
 use Rattle.gp_times.specs.Lines.{AreRead, HaveFallen, IsRead, IsUnread, IsWhere}
 use Rattle.gp_times.specs.Times.{outside_of}
-use Rattle.gp_waves.specs.Dumping.{Dumping, WavesState, opened}
-use Rattle.gp_waves.specs.Writing.{Ends, IsDump}
+use Rattle.gp_waves.specs.Dumping.{Dumping, WavesState, opened, whole_lines}
+use Rattle.gp_waves.specs.Writing.{IsDump, Rests, Written}
 
--- the writer got all of one dump, and keeps nothing back
-pub record GetsDump {W : Type 0} (before after : SinkState W) : Type 0 where
-  pub dump : List ℕ
+-- the dump of some lines, in which so many changes stand at a later time than theirs
+pub record IsDumpOf (mask : Mask) (lines : List (Option (List ℕ))) (dump : List ℕ) (late : ℕ) : Type 0 where
   pub whole : IsDump dump
+  -- what is written while lines come
+  pub first : List ℕ
+  pub heard : WavesState
+  pub lead : DoesAll Dumping (opened mask) lines first heard
+  -- what is written behind them
+  pub rest : List ℕ
+  pub end : Written
+  pub rests : Rests heard.written rest end
+  pub text : dump ≡ first ++ rest
+  pub count : late ≡ end.late
+
+-- the writer got all of the dump of these lines, and keeps nothing back
+pub record GetsDump {W : Type 0} (mask : Mask) (lines : List (Option (List ℕ))) (before after : SinkState W)
+    (late : ℕ) : Type 0 where
+  pub dump : List ℕ
+  pub whole : IsDumpOf mask lines dump late
   pub written : Appends before.held after.held (before.gathered ++ dump)
   pub kept : KeepsNothing after
 
@@ -38,15 +53,15 @@ pub record IsDumped {R W : Type 0} (frames : Frames) (mask : Mask) (from to : So
   pub outside : IsWhere frames (lines_of text) sum.outside
   pub fallen : HaveFallen (lines_of text) sum.fallen
   pub codes : HaveCodes mask (lines_of text) sum.codes
-  pub dumped : GetsDump before after
+  pub dumped : GetsDump mask (map (handed longest_line) (lines_of text)) before after sum.late
 
 -- why a text is no line of a trace or a log
 abbrev pub IsNone : NoLine → List ℕ → Type 0
 IsNone NotALine text = IsUnread text
 IsNone TooLong text = longest_line < length text
 
--- the lines before this one are read, this one is not, and the writer got one dump
-pub record IsRefused {R W : Type 0} (from to : SourceState R) (before after : SinkState W) (line : ℕ) (why : NoLine)
+-- the lines before this one are read, this one is not, and the writer got the dump of the lines before it
+pub record IsRefused {R W : Type 0} (mask : Mask) (from to : SourceState R) (before after : SinkState W) (line : ℕ) (why : NoLine)
     : Type 0 where
   -- what was read
   pub bytes : List ℕ
@@ -59,13 +74,16 @@ pub record IsRefused {R W : Type 0} (from to : SourceState R) (before after : Si
   pub all : All IsRead first
   pub number : length first + 1 ≡ line
   pub none : IsNone why text
-  pub dumped : GetsDump before after
+  pub late : ℕ
+  pub dumped : GetsDump mask (whole_lines first) before after late
 
--- the input was not read to its end, and the writer got one dump
-pub record IsUnfinished {R W : Type 0} (from to : SourceState R) (before after : SinkState W) : Type 0 where
+-- the input was not read to its end, and the writer got the dump of the lines that came
+pub record IsUnfinished {R W : Type 0} (mask : Mask) (from to : SourceState R) (before after : SinkState W)
+    : Type 0 where
   pub bytes : List ℕ
   pub came : Consumes from.remaining to.remaining bytes
-  pub dumped : GetsDump before after
+  pub late : ℕ
+  pub dumped : GetsDump mask (map (handed longest_line) (ended_lines bytes)) before after late
   pub failed : (to.failed ≡ true) ⊎ (to.left ≡ 0)
 
 -- of what was handed in before, and of a dump, the writer got a prefix, and nothing else
@@ -84,15 +102,15 @@ pub record IsBegun {R W : Type 0} (from to : SourceState R) (before after : Sink
 abbrev pub DumpsWaves : {R W : Type 0} → Frames → Mask → SourceState R → SourceState R → SinkState W → SinkState W
     → Result WavesSum ExplainFault → Type 0
 DumpsWaves frames mask from to before after (Ok sum) = IsDumped frames mask from to before after sum
-DumpsWaves frames mask from to before after (Err (Refused line why)) = IsRefused from to before after line why
-DumpsWaves frames mask from to before after (Err (Lines faults.Read)) = IsUnfinished from to before after
+DumpsWaves frames mask from to before after (Err (Refused line why)) = IsRefused mask from to before after line why
+DumpsWaves frames mask from to before after (Err (Lines faults.Read)) = IsUnfinished mask from to before after
 DumpsWaves frames mask from to before after (Err (Lines (faults.Line fault))) =
     (IsBegun from to before after ⊎ ((fault ≡ OutOfMemory) × (to ≡ from) × (after ≡ before)))
     × (fault ≡ Full → ServesFull Dumping longest_line from to (opened mask))
 
 -- the rest of a dump behind what is written
 pub record IsRest (old new : WavesState) (text : List ℕ) : Type 0 where
-  pub ends : Ends old.written text
+  pub rests : Rests old.written text new.written
   pub lines : new.lines ≡ old.lines
   pub heard : new.heard ≡ old.heard
   pub ended : new.ended ≡ old.ended
@@ -112,13 +130,13 @@ WritesRest old new before after (Err (Lines (faults.Line fault))) =
     ⊎ ((text : List ℕ) × (stopped : WriteStopped) × IsRest old new text
     × WritesWhole {T = Unit {0}} before after text (Err stopped)))
 
--- what was found, by what ended it
-abbrev pub IsFoundBy : Frames → Option NoLine → WavesState → Result WavesSum ExplainFault → Type 0
-IsFoundBy frames (Some why) state answer = answer ≡ Err (Refused state.lines why)
-IsFoundBy frames None state (Ok sum) =
+-- what was found, by how many changes are late, and what ended it
+abbrev pub IsFoundBy : Frames → ℕ → Option NoLine → WavesState → Result WavesSum ExplainFault → Type 0
+IsFoundBy frames late (Some why) state answer = answer ≡ Err (Refused state.lines why)
+IsFoundBy frames late None state (Ok sum) =
     (sum.lines ≡ state.lines) × (sum.heard ≡ state.heard) × (sum.outside ≡ outside_of frames state.times)
-    × (sum.fallen ≡ state.times.fallen) × (sum.codes ≡ state.codes)
-IsFoundBy frames None state (Err fault) = ⊥
+    × (sum.fallen ≡ state.times.fallen) × (sum.codes ≡ state.codes) × (sum.late ≡ late)
+IsFoundBy frames late None state (Err fault) = ⊥
 
 abbrev pub IsFound : Frames → WavesState → Result WavesSum ExplainFault → Type 0
-IsFound frames state answer = IsFoundBy frames state.ended state answer
+IsFound frames state answer = IsFoundBy frames state.written.late state.ended state answer

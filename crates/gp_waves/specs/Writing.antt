@@ -1,52 +1,99 @@
--- What is written of a dump, piece by piece (this profile's own rule).
-use Rattle.std.specs.Prelude.{◌≡◌, ℕ, Bool, true, false, List, [], ◌++◌, Option, None, Some, replicate}
-use Rattle.gp_machine.specs.Config.{max_ports}
-use Rattle.gp_dump.specs.Dump.{Continues, DumpState, IsDumpTo}
+-- What is written of a dump (this profile's own rule).
+use Rattle.std.specs.Prelude.{◌≡◌, ◌⊎◌, ℕ, Bool, true, false, List, [], ◌∷◌, ◌++◌, Option, None, Some, if◌then◌else◌, nat_lt, length, max}
+use Rattle.std.specs.List.{All}
+use Rattle.gp_dump.specs.Dump.{DumpState, IsDumpTo, is_declared, time_behind, time_text}
 use Rattle.gp_dump.specs.Head.{head_text}
+use Rattle.gp_dump.specs.Text.{change_text}
+use Rattle.gp_waves.specs.declared.held.Due.{Due}
+pub use Rattle.gp_waves.specs.Ports.{all_ports}
+use Rattle.gp_waves.specs.Held.{HeldState, TakesEach, first_port, is_full, most_counted, one_more}
 
--- all ports, with all lanes that there can be
-abbrev pub all_ports : List (Option ℕ)
-all_ports = replicate max_ports (Some 256)
-
--- whether the declarations are written, and what stands behind them
+-- whether the declarations are written, what stands behind them, the latest time of a change, and how many changes stand
+-- at a later time than theirs
 pub record Written : Type 0 where
   pub begun : Bool
   pub dump : DumpState
+  pub latest : ℕ
+  pub late : ℕ
 
 -- nothing is written
 abbrev pub unwritten : Written
-unwritten = record { begun = false; dump = record { ports = all_ports; last = None } }
+unwritten = record { begun = false; dump = record { ports = all_ports; last = None }; latest = 0; late = 0 }
 
--- this text was written while lines come: nothing, the declarations of all ports and what stands behind them, or more
--- behind that
-abbrev pub GrowsAs : Bool → Bool → DumpState → List ℕ → DumpState → Type 0
-GrowsAs false false old said new = said ≡ []
-GrowsAs false true old said new =
-    (new.ports ≡ all_ports) × (behind : List ℕ) × (said ≡ head_text new.ports ++ behind)
-    × Continues new.ports None behind new.last
-GrowsAs true true old said new = (new.ports ≡ old.ports) × Continues old.ports old.last said new.last
-GrowsAs true false old said new = ⊥
+-- the declarations of these ports, unless some are written
+abbrev pub head_if_none : List (Option ℕ) → Written → List ℕ
+head_if_none ports written = if written.begun then [] else head_text ports
 
-abbrev pub Grows : Written → List ℕ → Written → Type 0
-Grows old said new = GrowsAs old.begun new.begun old.dump said new.dump
+abbrev pub opened_at : List (Option ℕ) → Written → Written
+opened_at ports written =
+    if written.begun
+    then written
+    else record written { begun = true; dump = record { ports = ports; last = None } }
 
--- the same, appended to a buffer
-abbrev pub Grown : Written → List ℕ → Written → List ℕ → Type 0
-Grown old out new next = (said : List ℕ) × (next ≡ out ++ said) × Grows old said new
+-- a change, at its time or where that is before the last one at the last one
+abbrev pub due_text : Written → Due → List ℕ
+due_text written due = time_text written.dump.last due.time ++ change_text due.change
 
--- changes were put behind what a dump had, and appended to a buffer
-abbrev pub Extends : DumpState → List ℕ → DumpState → List ℕ → Type 0
-Extends old out new next =
-    (said : List ℕ) × (next ≡ out ++ said) × (new.ports ≡ old.ports) × Continues old.ports old.last said new.last
+-- the same is written: a change whose time is before the latest one is late
+abbrev pub put_due : Written → Due → Written
+put_due written due =
+    record written {
+      dump = record written.dump { last = Some (time_behind written.dump.last due.time) };
+      latest = max written.latest due.time;
+      late = if nat_lt due.time written.latest then one_more written.late else written.late;
+    }
+
+-- changes, behind the declarations of all that there can be
+abbrev pub dues_text : Written → List Due → List ℕ
+dues_text written [] = []
+dues_text written (due ∷ dues) =
+    head_if_none all_ports written
+    ++ (due_text (opened_at all_ports written) due ++ dues_text (put_due (opened_at all_ports written) due) dues)
+
+abbrev pub put_dues : Written → List Due → Written
+put_dues written [] = written
+put_dues written (due ∷ dues) = put_dues (put_due (opened_at all_ports written) due) dues
+
+-- the variable of each of these changes is declared
+abbrev pub AllDeclared : List (Option ℕ) → List Due → Type 0
+AllDeclared ports dues = All (λ (due : Due). is_declared ports due.change ≡ true) dues
+
+-- the ports that are declared, or that are to be
+abbrev pub ports_written : Written → List (Option ℕ)
+ports_written written = (opened_at all_ports written).dump.ports
+
+-- no more is taken: there is none, or so many were as can be counted
+abbrev pub IsLast : HeldState → List Due → Type 0
+IsLast held dues = (first_port held.queues ≡ None) ⊎ (length dues ≡ most_counted)
+
+-- while more changes are held back than may be, the first is taken and written
+pub record Spills (old : HeldState) (from : Written) (said : List ℕ) (new : HeldState) (to : Written) : Type 0 where
+  pub dues : List Due
+  pub taken : TakesEach is_full old dues new
+  pub last : (is_full new ≡ false) ⊎ IsLast new dues
+  pub declared : AllDeclared (ports_written from) dues
+  pub text : said ≡ dues_text from dues
+  pub put : to ≡ put_dues from dues
+
+-- all changes are taken and written
+pub record SpillsAll (old : HeldState) (from : Written) (said : List ℕ) (to : Written) : Type 0 where
+  pub dues : List Due
+  pub left : HeldState
+  pub taken : TakesEach (λ _. true) old dues left
+  pub last : IsLast left dues
+  pub declared : AllDeclared (ports_written from) dues
+  pub text : said ≡ dues_text from dues
+  pub put : to ≡ put_dues from dues
+
+-- the rest of a dump: where nothing was written the declarations of these ports, and all changes, with those of what
+-- ends behind the last line
+pub record Rests (from : Written) (said : List ℕ) (to : Written) : Type 0 where
+  pub ports : List (Option ℕ)
+  pub held : HeldState
+  pub behind : List ℕ
+  pub all : SpillsAll held (opened_at ports from) behind to
+  pub text : said ≡ head_if_none ports from ++ behind
 
 -- a whole dump, of some ports and up to some time
 abbrev pub IsDump : List ℕ → Type 0
 IsDump text = (ports : List (Option ℕ)) × (to : Option ℕ) × IsDumpTo ports text to
-
--- this text ends a dump: a whole one where nothing was written, or what stands behind what was
-abbrev pub EndsAs : Bool → DumpState → List ℕ → Type 0
-EndsAs false old said = IsDump said
-EndsAs true old said = (to : Option ℕ) × Continues old.ports old.last said to
-
-abbrev pub Ends : Written → List ℕ → Type 0
-Ends old said = EndsAs old.begun old.dump said

@@ -14,7 +14,8 @@ use std::marker::Model;
 
 /// Is given the lines of a trace or a log, one after another. The first line that is none ends it. Contracts see how
 /// many lines came, whether one of them says anything, what ended it, the times of the ports, with how many lines fell,
-/// the mask of the codes, how many codes came, with how many of them are garbled, and what is written of the dump.
+/// the mask of the codes, how many codes came, with how many of them are garbled, the changes that are held back, and
+/// what is written of the dump.
 #[derive(Drop)]
 pub struct Dumper {
     pub(crate) waves: Waves,
@@ -40,6 +41,7 @@ impl Model for Dumper {
       times = s.times;
       mask = s.mask;
       codes = s.codes;
+      held = s.waves.held;
       written = s.writing;
     } };
 }

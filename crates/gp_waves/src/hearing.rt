@@ -1,5 +1,5 @@
 //! What is heard of all ports, and the changes that are held back.
-ghost use Rattle.std.specs.Prelude.{◌≡◌, IfSome};
+ghost use Rattle.std.specs.Prelude.{◌≡◌, IfOk, IfNone, IfSome, None};
 ghost use Rattle.gp_waves.specs.Held as spec;
 
 use crate::fault::WavesFault;
@@ -40,7 +40,9 @@ fn scope_of(options: &WavesOptions, port: u8) -> Scope {
 
 impl Waves {
     /// Nothing was heard.
-    pub(crate) fn begin(alloc: Global, options: &WavesOptions) -> Result<Waves, AllocError> {
+    pub(crate) fn begin(alloc: Global, options: &WavesOptions) -> Result<Waves, AllocError>
+        ensures { IfOk result (λ waves. waves.held ≡ spec.nothing_held) }
+    {
         Ok(Waves {
             options: *options,
             ports: open(alloc, options)?,
@@ -118,7 +120,7 @@ impl Waves {
     /// Gives the ports of which lines told, each with how many lanes it has: each change that is held back has its
     /// variable among them.
     pub(crate) fn declared(&self) -> [Option<u16>; PORTS]
-        ensures { spec.AreDeclared self.now.held.queues.items result }
+        ensures { spec.AreDeclared (spec.held_lanes self.now.held) result }
     {
         let mut declared = [None; PORTS];
         'ports: for number in 0..PORTS {
@@ -128,14 +130,19 @@ impl Waves {
     }
 
     /// Tells whether more changes are held back than may be.
-    pub(crate) fn is_full(&self) -> bool {
+    pub(crate) fn is_full(&self) -> bool
+        ensures { result ≡ spec.is_full self.now.held }
+    {
         self.held.is_full()
     }
 
     /// Takes the change that is due first, if there is one.
     pub(crate) fn take_first(&mut self) -> Option<Due>
-        ensures declared { IfSome result (λ due. spec.HasVariable self.old.held.queues.items due.change) }
-        ensures same { self.new.held.queues.items ≡ self.old.held.queues.items }
+        ensures declared { IfSome result (λ due. spec.HasVariable (spec.held_lanes self.old.held) due.change) }
+        ensures same { spec.held_lanes self.new.held ≡ spec.held_lanes self.old.held }
+        ensures taken { IfSome result (λ due. spec.Takes self.old.held due self.new.held) }
+        ensures none { IfNone result (spec.first_port self.old.held.queues ≡ None) }
+        ensures still { IfNone result (self.new.held ≡ self.old.held) }
     {
         self.held.take_first()
     }

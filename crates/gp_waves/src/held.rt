@@ -1,5 +1,5 @@
 //! The changes that are held back: those of each port in the order of their times.
-ghost use Rattle.std.specs.Prelude.{◌≡◌, ◌<◌, IfSome, None, Some, slice_index_or};
+ghost use Rattle.std.specs.Prelude.{◌≡◌, ◌<◌, ◌∷◌, [], IfOk, IfSome, IfNone, OnOk, None, Some, slice_index_or};
 ghost use Rattle.gp_machine.specs.Config.{max_ports};
 ghost use Rattle.gp_waves.specs.Held as spec;
 
@@ -35,8 +35,8 @@ pub(crate) struct Due {
     pub(crate) change: Change,
 }
 
-/// The changes of a port that are held back. Contracts see how many lanes have to be declared for all that were ever
-/// held back, if any was.
+/// The changes of a port that are held back, and how many lanes have to be declared for all that were ever held back, if
+/// any was.
 #[derive(Drop)]
 pub(crate) struct Queue {
     changes: VecDeque<HeldChange>,
@@ -44,12 +44,11 @@ pub(crate) struct Queue {
 }
 
 impl Model for Queue {
-    ghost use Rattle.std.specs.Prelude.{Option, ℕ};
-    ghost use Rattle.gp_waves.specs.Queue.{AreHeld};
+    ghost use Rattle.gp_waves.specs.Queue.{AreHeld, QueueState};
 
-    ghost Value = { Option ℕ };
+    ghost Value = { QueueState };
 
-    ghost view = { λ q. q.lanes };
+    ghost view = { λ q. record { changes = q.changes.items; lanes = q.lanes } };
 
     ghost invariant = { λ q. AreHeld q.lanes q.changes.items };
 }
@@ -63,11 +62,20 @@ pub(crate) struct Held {
     count: usize,
 }
 
+impl Model for Held {
+    ghost use Rattle.gp_waves.specs.Held.{HeldState};
+
+    ghost Value = { HeldState };
+
+    ghost view = { λ h. record { queues = h.queues.items; count = h.count } };
+}
+
 impl What {
     /// Gives how many lanes its port has at least.
     fn lanes(&self) -> u16
         requires { spec.fits (Some spec.most_lanes) self.now }
-        ensures { spec.fits (Some result) self.now }
+        ensures fits { spec.fits (Some result) self.now }
+        ensures value { result ≡ spec.lanes_for self.now }
     {
         match self {
             What::OfPort(_) => 0,
@@ -80,6 +88,7 @@ impl What {
 pub(crate) fn wider(first: Option<u16>, second: Option<u16>) -> Option<u16>
     ensures first { spec.IsWithin first result }
     ensures second { spec.IsWithin second result }
+    ensures value { result ≡ spec.wider first second }
 {
     match (first, second) {
         (Some(first), Some(second)) => Some(first.max(second)),
@@ -91,7 +100,7 @@ pub(crate) fn wider(first: Option<u16>, second: Option<u16>) -> Option<u16>
 impl Queue {
     /// None is held back.
     fn begin(alloc: Global) -> Queue
-        ensures { result ≡ None }
+        ensures { result ≡ spec.no_queue }
     {
         Queue {
             changes: VecDeque::new(alloc),
@@ -102,6 +111,7 @@ impl Queue {
     /// Holds a change back, behind the others.
     fn keep(&mut self, held: HeldChange) -> Result<(), AllocError>
         requires { spec.fits (Some spec.most_lanes) held.what }
+        ensures { OnOk result (self.new ≡ spec.queued held self.old) }
     {
         self.lanes = wider(self.lanes, Some(held.what.lanes()));
         self.changes.push_back(held)?;
@@ -110,15 +120,19 @@ impl Queue {
 
     /// Takes the first change, if there is one.
     fn take(&mut self) -> Option<HeldChange>
-        ensures fits { IfSome result (λ held. spec.fits self.old held.what) }
+        ensures fits { IfSome result (λ held. spec.fits self.old.lanes held.what) }
         ensures most { IfSome result (λ held. spec.fits (Some spec.most_lanes) held.what) }
-        ensures same { self.new ≡ self.old }
+        ensures first { IfSome result (λ held. self.old.changes ≡ held ∷ self.new.changes) }
+        ensures none { IfNone result (self.old.changes ≡ []) }
+        ensures lanes { self.new.lanes ≡ self.old.lanes }
     {
         self.changes.pop_front()
     }
 
     /// Gives when the first change is due, if there is one.
-    fn first_time(&self) -> Option<u64> {
+    fn first_time(&self) -> Option<u64>
+        ensures { result ≡ spec.time_of_first self.now.changes }
+    {
         let first = self.changes.front()?;
         Some(first.time)
     }
@@ -144,7 +158,8 @@ impl HeldChange {
 fn earlier(first: Option<(u64, u8)>, time: Option<u64>, port: u8) -> Option<(u64, u8)>
     requires first { IfSome first (λ due. due.1 < max_ports) }
     requires port { port < max_ports }
-    ensures { IfSome result (λ due. due.1 < max_ports) }
+    ensures low { IfSome result (λ due. due.1 < max_ports) }
+    ensures value { result ≡ spec.earlier first time port }
 {
     let Some(time) = time else {
         return first;
@@ -157,9 +172,11 @@ fn earlier(first: Option<(u64, u8)>, time: Option<u64>, port: u8) -> Option<(u64
 
 impl Held {
     /// None is held back.
-    pub(crate) fn begin(alloc: Global) -> Result<Held, AllocError> {
+    pub(crate) fn begin(alloc: Global) -> Result<Held, AllocError>
+        ensures { IfOk result (λ held. held ≡ spec.nothing_held) }
+    {
         let mut queues = Vec::with_capacity(alloc, PORTS)?;
-        for _ in 0..PORTS {
+        'queues: for _count in 0..PORTS {
             queues.push(Queue::begin(alloc))?;
         }
         Ok(Held { queues, count: 0 })
@@ -168,6 +185,7 @@ impl Held {
     /// Holds a change back, behind those of its port.
     fn keep(&mut self, port: u8, held: HeldChange) -> Result<(), AllocError>
         requires { spec.fits (Some spec.most_lanes) held.what }
+        ensures { OnOk result (self.new ≡ spec.kept port held self.old) }
     {
         match self.queues.get_mut(usize::from(port)) {
             Some(queue) => queue.keep(held)?,
@@ -206,7 +224,7 @@ impl Held {
 
     /// Gives how many lanes of a port have to be declared for its changes, if it has to be.
     pub(crate) fn lanes_of(&self, port: usize) -> Option<u16>
-        ensures { result ≡ slice_index_or self.now.queues.items port None }
+        ensures { result ≡ slice_index_or (spec.held_lanes self.now) port None }
     {
         match self.queues.get(port) {
             Some(queue) => queue.lanes,
@@ -215,18 +233,23 @@ impl Held {
     }
 
     /// Tells whether more are held back than may be.
-    pub(crate) fn is_full(&self) -> bool {
+    pub(crate) fn is_full(&self) -> bool
+        ensures { result ≡ spec.is_full self.now }
+    {
         self.count > MOST_HELD
     }
 
     /// Gives when the first change of a port is due.
-    fn first_of(&self, port: u8) -> Option<u64> {
+    fn first_of(&self, port: u8) -> Option<u64>
+        ensures { result ≡ spec.time_of_first (spec.queue_at self.now.queues port).changes }
+    {
         self.queues.get(usize::from(port))?.first_time()
     }
 
     /// Gives the port whose first change is due first, the first of several.
     fn first_port(&self) -> Option<u8>
-        ensures { IfSome result (λ port. port < max_ports) }
+        ensures low { IfSome result (λ port. port < max_ports) }
+        ensures value { result ≡ spec.first_port self.now.queues }
     {
         let mut first: Option<(u64, u8)> = None;
         'ports: for port in 0..PORTS as u8 {
@@ -238,8 +261,11 @@ impl Held {
 
     /// Takes the change that is due first, if there is one.
     pub(crate) fn take_first(&mut self) -> Option<Due>
-        ensures declared { IfSome result (λ due. spec.HasVariable self.old.queues.items due.change) }
-        ensures same { self.new.queues.items ≡ self.old.queues.items }
+        ensures declared { IfSome result (λ due. spec.HasVariable (spec.held_lanes self.old) due.change) }
+        ensures same { spec.held_lanes self.new ≡ spec.held_lanes self.old }
+        ensures taken { IfSome result (λ due. spec.Takes self.old due self.new) }
+        ensures none { IfNone result (spec.first_port self.old.queues ≡ None) }
+        ensures still { IfNone result (self.new ≡ self.old) }
     {
         let port = self.first_port()?;
         let queue = self.queues.get_mut(usize::from(port))?;

@@ -95,7 +95,7 @@ fn finding(options: &WavesOptions, dumper: &Dumper) -> Result<WavesSum, ExplainF
             heard: dumper.heard,
             fallen: dumper.times.fallen(),
             codes: dumper.codes,
-            late: dumper.writing.late.count,
+            late: dumper.writing.late,
             outside: dumper.times.outside(&options.frames),
         }),
     }

@@ -1,9 +1,10 @@
 //! What is written of a dump: the declarations once, then changes in the order of their times. One that comes too late
 //! stands at a later time than its own, and is counted.
-ghost use Rattle.std.specs.Prelude.{◌≡◌, IfOk, OnOk, None, true};
+ghost use Rattle.std.specs.Prelude.{◌≡◌, ◌++◌, IfOk, OnOk, if◌then◌else◌, nat_lt, max, true};
 ghost use Rattle.gp_dump.specs.Dump.{is_declared};
-ghost use Rattle.gp_waves.specs.Held.{AreDeclared};
-ghost use Rattle.gp_waves.specs.Writing.{Ends, Extends, Grown, Grows, all_ports, unwritten};
+ghost use Rattle.gp_waves.specs.Held.{AreDeclared, held_lanes, is_full, one_more};
+ghost use Rattle.gp_waves.specs.Drained.{Drains, DrainsAll};
+ghost use Rattle.gp_waves.specs.Writing as spec;
 
 use crate::fault::WavesFault;
 use crate::hearing::Waves;
@@ -16,20 +17,15 @@ use std::marker::Model;
 /// All ports, with all lanes that there can be.
 const ALL_PORTS: [Option<u16>; PORTS] = [Some(MOST_LANES); PORTS];
 
-/// How many changes stand at a later time than theirs.
-#[derive(Drop)]
-pub(crate) struct Late {
-    /// The time of the change that came last, in nanoseconds.
-    last: u64,
-    pub(crate) count: u64,
-}
-
 /// Whether the declarations are written, and what stands behind them.
 #[derive(Drop)]
 pub(crate) struct Writing {
     begun: bool,
     dump: Dump,
-    pub(crate) late: Late,
+    /// The latest time of a change, in nanoseconds.
+    latest: u64,
+    /// How many changes stand at a later time than theirs.
+    pub(crate) late: u64,
 }
 
 impl Model for Writing {
@@ -37,65 +33,26 @@ impl Model for Writing {
 
     ghost Value = { Written };
 
-    ghost view = { λ w. record { begun = w.begun; dump = w.dump } };
-}
-
-impl Late {
-    /// Counts a change that stands at a later time than its own.
-    fn count(&mut self, time: u64) {
-        if time < self.last {
-            self.count = self.count.saturating_add(1);
-        }
-        self.last = self.last.max(time);
-    }
-
-    /// Writes a change whose variable is declared.
-    fn put(&mut self, dump: &mut Dump, out: &mut Vec<u8>, due: &Due) -> Result<(), AllocError>
-        requires { is_declared dump.old.ports due.now.change ≡ true }
-        ensures { OnOk result (Extends dump.old out.old.items dump.new out.new.items) }
-    {
-        self.count(due.time);
-        dump.put(out, due.time, &due.change)?;
-        Ok(())
-    }
-
-    /// Writes all changes.
-    fn put_all(
-        &mut self,
-        dump: &mut Dump,
-        out: &mut Vec<u8>,
-        waves: &mut Waves,
-    ) -> Result<(), AllocError>
-        requires { AreDeclared waves.old.held.queues.items dump.old.ports }
-        ensures { OnOk result (Extends dump.old out.old.items dump.new out.new.items) }
-    {
-        'changes: for _count in 0..u64::MAX {
-            let Some(due) = waves.take_first() else {
-                return Ok(());
-            };
-            self.put(dump, out, &due)?;
-        }
-        Ok(())
-    }
+    ghost view = { λ w. record { begun = w.begun; dump = w.dump; latest = w.latest; late = w.late } };
 }
 
 impl Writing {
     /// Nothing is written.
     pub(crate) fn new() -> Writing
-        ensures { result ≡ unwritten }
+        ensures { result ≡ spec.unwritten }
     {
         Writing {
             begun: false,
             dump: Dump::begin(ALL_PORTS),
-            late: Late { last: 0, count: 0 },
+            latest: 0,
+            late: 0,
         }
     }
 
-    /// Writes the declarations of all that there can be, unless they are written.
+    /// Writes the declarations of these ports, unless some are written.
     fn open(&mut self, out: &mut Vec<u8>, ports: [Option<u16>; PORTS]) -> Result<(), AllocError>
-        requires { ports ≡ all_ports }
-        ensures grown { OnOk result (Grown self.old out.old.items self.new out.new.items) }
-        ensures begun { OnOk result (self.new.begun ≡ true) }
+        ensures text { OnOk result (out.new.items ≡ out.old.items ++ spec.head_if_none ports self.old) }
+        ensures opened { OnOk result (self.new ≡ spec.opened_at ports self.old) }
     {
         if self.begun {
             return Ok(());
@@ -106,29 +63,60 @@ impl Writing {
         Ok(())
     }
 
-    /// Writes a change. Full where its variable is not declared.
-    fn put(&mut self, out: &mut Vec<u8>, due: &Due) -> Result<(), WavesFault>
-        requires { self.old.begun ≡ true }
-        ensures grown { OnOk result (Grown self.old out.old.items self.new out.new.items) }
-        ensures begun { OnOk result (self.new.begun ≡ true) }
+    /// Counts a change that stands at a later time than its own.
+    fn count_late(&mut self, time: u64)
+        ensures { self.new ≡ record self.old {
+          latest = max self.old.latest time;
+          late = if nat_lt time self.old.latest then one_more self.old.late else self.old.late;
+        } }
     {
-        self.late.count(due.time);
-        if !self.dump.put(out, due.time, &due.change)? {
-            return Err(WavesFault::Full);
+        if time < self.latest {
+            self.late = self.late.saturating_add(1);
         }
-        Ok(())
+        self.latest = self.latest.max(time);
     }
 
-    /// Writes the changes that are due first, until no more are held back than may be.
+    /// Writes a change behind the declarations. Tells whether its variable is declared: else nothing is written.
+    fn put(&mut self, out: &mut Vec<u8>, due: &Due) -> Result<bool, AllocError>
+        ensures declared { IfOk result (λ declared. declared ≡ is_declared self.old.dump.ports due.now.change) }
+        ensures text { IfOk result (λ declared. declared ≡ true
+            → out.new.items ≡ out.old.items ++ spec.due_text self.old due.now) }
+        ensures put { IfOk result (λ declared. declared ≡ true → self.new ≡ spec.put_due self.old due.now) }
+    {
+        if !self.dump.put(out, due.time, &due.change)? {
+            return Ok(false);
+        }
+        self.count_late(due.time);
+        Ok(true)
+    }
+
+    /// Writes the changes that are due first, until no more are held back than may be, behind the declarations of all
+    /// that there can be. Full where the variable of one is not declared.
     fn drain(&mut self, out: &mut Vec<u8>, waves: &mut Waves) -> Result<(), WavesFault>
-        requires { self.old.begun ≡ true }
-        ensures grown { OnOk result (Grown self.old out.old.items self.new out.new.items) }
-        ensures begun { OnOk result (self.new.begun ≡ true) }
+        ensures { OnOk result (Drains waves.old.held self.old out.old.items waves.new.held self.new out.new.items) }
     {
         'changes: for _count in 0..u64::MAX {
             if !waves.is_full() {
                 return Ok(());
             }
+            let Some(due) = waves.take_first() else {
+                return Ok(());
+            };
+            self.open(out, ALL_PORTS)?;
+            if !self.put(out, &due)? {
+                return Err(WavesFault::Full);
+            }
+        }
+        Ok(())
+    }
+
+    /// Writes all changes.
+    fn drain_all(&mut self, out: &mut Vec<u8>, waves: &mut Waves) -> Result<(), AllocError>
+        requires begun { self.old.begun ≡ true }
+        requires declared { AreDeclared (held_lanes waves.old.held) self.old.dump.ports }
+        ensures { OnOk result (DrainsAll waves.old.held self.old out.old.items self.new out.new.items) }
+    {
+        'changes: for _count in 0..u64::MAX {
             let Some(due) = waves.take_first() else {
                 return Ok(());
             };
@@ -140,32 +128,22 @@ impl Writing {
     /// Writes the changes that can't be held back any more into the buffer, in the place of what it held. Since it
     /// isn't known what comes, all that there can be is declared then.
     pub(crate) fn spill(&mut self, out: &mut Vec<u8>, waves: &mut Waves) -> Result<(), WavesFault>
-        ensures { OnOk result (Grows self.old out.new.items self.new) }
+        ensures { OnOk result (spec.Spills waves.old.held self.old out.new.items waves.new.held self.new) }
     {
         out.clear();
-        if !waves.is_full() {
-            return Ok(());
-        }
-        self.open(out, ALL_PORTS)?;
         self.drain(out, waves)
     }
 
     /// Gives all that is still to be written: where nothing was written before, what is declared are the ports of which
     /// lines told, each with as many lanes as it has. Fails only where there is no memory.
     pub(crate) fn rest(&mut self, alloc: Global, waves: &mut Waves) -> Result<Vec<u8>, AllocError>
-        requires { self.old.begun ≡ true → self.old.dump.ports ≡ all_ports }
-        ensures { IfOk result (λ text. Ends self.old text.items) }
+        requires { self.old.begun ≡ true → self.old.dump.ports ≡ spec.all_ports }
+        ensures { IfOk result (λ text. spec.Rests self.old text.items self.new) }
     {
         let mut out = Vec::new(alloc);
         waves.finish()?;
-        if self.begun {
-            self.late.put_all(&mut self.dump, &mut out, waves)?;
-        } else {
-            let ports = waves.declared();
-            let mut dump = Dump::begin(ports);
-            push_head(&mut out, &ports)?;
-            self.late.put_all(&mut dump, &mut out, waves)?;
-        }
+        self.open(&mut out, waves.declared())?;
+        self.drain_all(&mut out, waves)?;
         Ok(out)
     }
 }

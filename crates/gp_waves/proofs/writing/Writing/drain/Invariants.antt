@@ -1,9 +1,12 @@
-use Rattle.std.proofs.Common.{◌≡◌, true}
-use Rattle.gp_waves.specs.Writing.{Grown}
+use Rattle.std.proofs.Common.{◌≡◌, List, length}
+use Rattle.gp_waves.specs.declared.held.Due.{Due}
+use Rattle.gp_waves.specs.Held.{is_full}
+use Rattle.gp_waves.specs.Drained.{Drained}
 use Rattle.gp_waves.proofs.writing.Writing.drain.Given as goal
 
 abbrev pub invariant-changes : goal.invariant-changes
 invariant-changes l = record {
-  grown : Grown l.fn.self l.fn.out.items l.self l.out.items;
-  begun : l.self.begun ≡ true;
+  dues : List Due;
+  drained : Drained is_full l.fn.waves.held l.fn.self l.fn.out.items dues l.waves.held l.self l.out.items;
+  many : length dues ≡ l._count;
 }
