@@ -22,7 +22,7 @@ use Rattle.hear_rules.specs.declared.rule.Verdict.TheVariants.{Kept, Broken, Not
 use Rattle.hear_rules.specs.Facts.{Fact, Unknown, Nothing, Is, Sure, Yes, No, Unsure, broken_if, is_other}
 use Rattle.hear_rules.specs.Known.{Number, Unheard, Nobodys, Of, Known}
 use Rattle.hear_rules.specs.Rules.{Settings, judged_if}
-use Rattle.hear_rules.specs.Copies.{Subject, OfNothing, OfDelay, OfSerial, subject_of, same_subject}
+use Rattle.hear_rules.specs.Copies.{Subject, OfNothing, OfDelay, OfAlloc, OfSerial, OfAllSerials, subject_of, same_subject}
 
 -- ---- how often something was said of a subject
 
@@ -40,8 +40,11 @@ tally_after Untold now message = Told message 0 1 now
 tally_after (Told said before times last) now message =
     if same_message said message then Told said before (suc times) now else Told message (before + times) 1 now
 
+-- by what is said of an Alloc-ID, or of all serial numbers, no rule of units goes
 abbrev pub tallies_put : Tallies → Subject → Tally → Tallies
 tallies_put tallies OfNothing tally = tallies
+tallies_put tallies (OfAlloc onu alloc) tally = tallies
+tallies_put tallies OfAllSerials tally = tallies
 tallies_put tallies subject tally = λ other. if same_subject other subject then tally else tallies other
 
 abbrev pub tallies_after : Tallies → ℕ → Down → Tallies
