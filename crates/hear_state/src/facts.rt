@@ -44,6 +44,16 @@ impl Sure {
         }
     }
 
+    /// A verdict that is judged but where this is sure not to be so.
+    pub(crate) fn but_not(self, verdict: Verdict) -> Verdict
+        ensures { result ≡ spec.but_not (sure_of self) verdict }
+    {
+        match self {
+            Sure::No => Verdict::NotJudged,
+            Sure::Yes | Sure::Unsure => verdict,
+        }
+    }
+
     /// A verdict that is judged only where this is sure not to be so.
     pub(crate) fn unless(self, verdict: Verdict) -> Verdict
         ensures { result ≡ spec.unless (sure_of self) verdict }

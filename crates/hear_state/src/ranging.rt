@@ -58,7 +58,7 @@ fn unranged_of(row: &Row, eqd: u32) -> Verdict
     match *row {
         Row::Unheard | Row::Nobodys => Verdict::NotJudged,
         Row::Of { delay, answers, .. } => {
-            is_other_delay(delay, eqd).given(broken_unanswered(answers))
+            is_other_delay(delay, eqd).but_not(broken_unanswered(answers))
         }
     }
 }
@@ -103,7 +103,7 @@ fn delay_of(settings: &Settings, row: &Row, eqd: u32) -> Verdict
     match *row {
         Row::Unheard | Row::Nobodys => Verdict::NotJudged,
         Row::Of { delay, answers, .. } => {
-            is_other_delay(delay, eqd).given(misses(settings, eqd, answers))
+            is_other_delay(delay, eqd).but_not(misses(settings, eqd, answers))
         }
     }
 }
