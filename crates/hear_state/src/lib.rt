@@ -13,7 +13,7 @@
 //!   `grants.rt`: one function a rule. `settings.rt`: what delays are judged by.
 //! - `rows.rt`: what is known of each ONU-ID. `index.rt`: the serial numbers that are followed. `owners.rt`: whose each
 //!   Alloc-ID is. `facts.rt`: what may be unknown.
-//! - `laws.rt`: that contracts by what is known compose.
+//! - `laws.rt`: that contracts by what is known compose. `tests.rt`: worked cases.
 //! - `specs/Kept.antt`: what is kept, and `known_of`. `specs/Heard.antt`: why something can't be noted.
 //!
 //! Where to make which change: what is known and which rules there are stands in `hear_rules`; a new rule is a function
@@ -35,6 +35,8 @@ mod owners;
 mod ranging;
 mod rows;
 mod settings;
+#[cfg(test)]
+mod tests;
 
 pub use fault::HearFault;
 pub use index::MOST_FOLLOWED;
