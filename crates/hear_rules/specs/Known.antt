@@ -47,7 +47,7 @@ pub record Known : Type 0 where
   pub disabled : Serial → Sure
   -- how often it asked without being assigned one, or None where that isn't known
   pub asks : Serial → Option ℕ
-  -- whether it was heard asking since it was assigned an ONU-ID, and didn't answer with one since
+  -- whether it was heard asking since it was assigned an ONU-ID, and gave none behind that
   pub asked : Serial → Sure
   -- whose each Alloc-ID is
   pub owners : ℕ → Owner
@@ -350,9 +350,9 @@ abbrev pub asks_more : Option ℕ → Option ℕ
 asks_more None = None
 asks_more (Some asks) = Some (suc asks)
 
--- whether a unit asked since it was assigned: one that answers with an ONU-ID was assigned since, it isn't known when
+-- whether a unit asked since it was assigned: one that gives an ONU-ID behind its ask was assigned that since
 abbrev pub was_assigned : Sure → Sure
-was_assigned Yes = Unsure
+was_assigned Yes = No
 was_assigned No = No
 was_assigned Unsure = Unsure
 
