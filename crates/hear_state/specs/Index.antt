@@ -33,9 +33,9 @@ released followed = record followed { holds = fact.Nothing }
 abbrev pub enabled : Followed → Followed
 enabled followed = record followed { disabled = sure.No }
 
--- one that answered with an ONU-ID
+-- one that answered with an ONU-ID: if it asked before, it didn't restart
 abbrev pub asked_answered : Sure → Sure
-asked_answered sure.Yes = sure.Unsure
+asked_answered sure.Yes = sure.No
 asked_answered sure.No = sure.No
 asked_answered sure.Unsure = sure.Unsure
 

@@ -170,13 +170,13 @@ impl Followed {
         })
     }
 
-    /// What is known of it once it answers with an ONU-ID: it was assigned one, it isn't known when.
+    /// What is known of it once it answers with an ONU-ID: its ask was on its way when it was assigned that.
     fn answered(self) -> Followed
         ensures { result ≡ answered self }
     {
         match self.asked {
             Sure::Yes => Followed {
-                asked: Sure::Unsure,
+                asked: Sure::No,
                 ..self
             },
             Sure::No | Sure::Unsure => self,
