@@ -1,7 +1,8 @@
 //! What is known of one port's units: `Knowledge`, and what is asked of it.
 ghost use Rattle.std.specs.Prelude.{◌≡◌, IfOk, replicate};
+ghost use Rattle.std.specs.FinMap as map;
 ghost use Rattle.hear_rules.specs.Known.{known_midway, known_whole};
-ghost use Rattle.hear_state.specs.Kept.{SameKnown, followed_at, known_of, row_at};
+ghost use Rattle.hear_state.specs.Kept.{Kept, SameKnown, followed_at, known_of, row_at};
 
 use crate::facts::{Fact, Sure};
 use crate::index::{Followed, Index};
@@ -57,7 +58,8 @@ impl Knowledge {
     /// From the first message on: nobody holds anything, nobody asked, nobody is disabled. Fails only where there is no
     /// memory.
     pub fn begin_whole(alloc: Global) -> Result<Knowledge, AllocError>
-        ensures { IfOk result (λ knowledge. SameKnown (known_of knowledge) known_whole) }
+        ensures knows { IfOk result (λ knowledge. SameKnown (known_of knowledge) known_whole) }
+        ensures none { IfOk result (λ knowledge. let kept : Kept = knowledge in kept.followed ≡ map.empty) }
     {
         Ok(Knowledge {
             rows: Rows::begin(alloc, Row::Nobodys)?,
@@ -76,7 +78,8 @@ impl Knowledge {
 
     /// From the middle on: nothing is known. Fails only where there is no memory.
     pub fn begin_midway(alloc: Global) -> Result<Knowledge, AllocError>
-        ensures { IfOk result (λ knowledge. SameKnown (known_of knowledge) known_midway) }
+        ensures knows { IfOk result (λ knowledge. SameKnown (known_of knowledge) known_midway) }
+        ensures none { IfOk result (λ knowledge. let kept : Kept = knowledge in kept.followed ≡ map.empty) }
     {
         Ok(Knowledge {
             rows: Rows::begin(alloc, Row::Unheard)?,

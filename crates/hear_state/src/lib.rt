@@ -2,8 +2,8 @@
 //! functions of it. Nothing of the program uses it yet.
 //!
 //! Promise: what is known after what is heard is exactly what `hear_rules` defines (`Knowledge::hear`), and what each
-//! rule of the terminal says of it is exactly its answer there (`Knowledge::judge`); contracts say so of `known_of`, the
-//! reading of what is kept, and compose along a run (`same_is_judged_same`). Where something can't be noted nothing
+//! rule of the terminal says of it is exactly its answer there (`Knowledge::judge`). Contracts say so of `known_of`,
+//! the reading of what is kept, and compose along a run (`same_is_judged_same`). Where something can't be noted nothing
 //! changes. An assignment writes a constant number of rows, and looks its serial numbers up by halves; no Alloc-ID is
 //! looked at when a unit loses its own. Only messages to all units go through the tables.
 //!

@@ -6,5 +6,5 @@ use Rattle.hear_state.proofs.knowledge.Knowledge.begin_midway.Goals as goal
 pub invariant_of-result : goal.invariant_of-result
 invariant_of-result c = rw (c.in_ok-begin.ensures, c.new.ensures, c.in_ok-begin_midway.ensures) (whole_first unknown_serial sure.Unsure tt tt)
 
-pub returns : goal.returns
-returns c = rw (c.in_ok-begin.ensures, c.new.ensures, c.in_ok-begin_midway.ensures) same_midway
+pub returns-clause-knows : goal.returns-clause-knows
+returns-clause-knows c = rw (c.in_ok-begin.ensures, c.new.ensures, c.in_ok-begin_midway.ensures) same_midway

@@ -5,5 +5,5 @@ use Rattle.hear_state.proofs.knowledge.Knowledge.begin_whole.Goals as goal
 pub invariant_of-result : goal.invariant_of-result
 invariant_of-result c = rw (c.in_ok-begin.ensures, c.new.ensures, c.in_ok-begin_whole.ensures) (whole_first whole_others sure.No tt tt)
 
-pub returns : goal.returns
-returns c = rw (c.in_ok-begin.ensures, c.new.ensures, c.in_ok-begin_whole.ensures) same_whole
+pub returns-clause-knows : goal.returns-clause-knows
+returns-clause-knows c = rw (c.in_ok-begin.ensures, c.new.ensures, c.in_ok-begin_whole.ensures) same_whole
