@@ -1,4 +1,5 @@
 pub mod HeldLemmas
+pub mod PortLemmas
 pub mod WritingLemmas
 pub mod ServingLemmas
 pub mod CourseLemmas

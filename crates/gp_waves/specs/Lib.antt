@@ -4,5 +4,7 @@ pub mod Queue
 pub mod Held
 pub mod Writing
 pub mod Drained
+pub mod Pulses
+pub mod Port
 pub mod Dumping
 pub mod Outcome

@@ -1,6 +1,7 @@
 //! The changes that are held back: those of each port in the order of their times.
 ghost use Rattle.std.specs.Prelude.{◌≡◌, ◌<◌, ◌∷◌, [], IfOk, IfSome, IfNone, OnOk, None, Some, slice_index_or};
 ghost use Rattle.gp_machine.specs.Config.{max_ports};
+ghost use Rattle.gp_waves.specs.declared.held.What.TheVariants as kinds;
 ghost use Rattle.gp_waves.specs.Held as spec;
 
 use crate::fault::WavesFault;
@@ -201,7 +202,9 @@ impl Held {
         port: u8,
         time: u64,
         what: PortChange,
-    ) -> Result<(), AllocError> {
+    ) -> Result<(), AllocError>
+        ensures { OnOk result (self.new ≡ spec.kept port (record { time = time; what = kinds.OfPort what }) self.old) }
+    {
         let what = What::OfPort(what);
         self.keep(port, HeldChange { time, what })
     }
@@ -213,7 +216,10 @@ impl Held {
         time: u64,
         lane: u16,
         what: UnitChange,
-    ) -> Result<(), WavesFault> {
+    ) -> Result<(), WavesFault>
+        ensures { OnOk result (self.new
+            ≡ spec.kept port (record { time = time; what = kinds.OfUnit lane what }) self.old) }
+    {
         if lane >= MOST_LANES {
             return Err(WavesFault::Full);
         }

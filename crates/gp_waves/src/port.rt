@@ -1,5 +1,11 @@
 //! What is kept of one port, and which changes something that is heard there makes.
 
+ghost use Rattle.std.specs.Prelude.{◌≡◌, OnOk};
+ghost use Rattle.gp_watch.specs.Heard.{heard_of};
+ghost use Rattle.gp_tally.specs.Told.{kind_told};
+ghost use Rattle.gp_lines.specs.Parts.{parts_of};
+ghost use Rattle.gp_waves.specs.Port as spec;
+
 use crate::fault::WavesFault;
 use crate::held::Held;
 use crate::lanes::{LaneChanges, Lanes};
@@ -45,7 +51,10 @@ pub(crate) struct Port {
 }
 
 /// Gives what a grant asks for, and whom.
-fn kind_of(grant: Grant) -> (WindowKind, Option<u8>) {
+fn kind_of(grant: Grant) -> (WindowKind, Option<u8>)
+    ensures kind { result.0 ≡ spec.kind_of grant }
+    ensures asked { result.1 ≡ spec.asked_of grant }
+{
     match grant {
         Grant::Search => (WindowKind::Search, None),
         Grant::Range(onu) => (WindowKind::Range, Some(onu)),
@@ -55,7 +64,9 @@ fn kind_of(grant: Grant) -> (WindowKind, Option<u8>) {
 
 impl Scope {
     /// Tells a change of a variable of the port, if its frame is dumped.
-    fn tell(&self, held: &mut Held, time: u64, what: PortChange) -> Result<(), AllocError> {
+    fn tell(&self, held: &mut Held, time: u64, what: PortChange) -> Result<(), AllocError>
+        ensures { OnOk result (held.new ≡ spec.told self.now time what held.old) }
+    {
         if self.frames.hold(time) {
             held.keep_port(self.port, time, what)
         } else {
@@ -70,7 +81,9 @@ impl Scope {
         time: u64,
         lane: u16,
         what: Option<UnitChange>,
-    ) -> Result<(), WavesFault> {
+    ) -> Result<(), WavesFault>
+        ensures { OnOk result (spec.KeepsUnits self.now.port held.old held.new) }
+    {
         match what {
             Some(what) if self.frames.hold(time) => held.keep_unit(self.port, time, lane, what),
             _ => Ok(()),
@@ -83,7 +96,9 @@ impl Scope {
         held: &mut Held,
         time: u64,
         changes: Option<LaneChanges>,
-    ) -> Result<(), WavesFault> {
+    ) -> Result<(), WavesFault>
+        ensures { OnOk result (spec.KeepsUnits self.now.port held.old held.new) }
+    {
         let Some(changes) = changes else {
             return Ok(());
         };
@@ -94,7 +109,9 @@ impl Scope {
     }
 
     /// Tells that a pulse ends.
-    fn tell_end(&self, held: &mut Held, time: u64, pulse: Pulse) -> Result<(), AllocError> {
+    fn tell_end(&self, held: &mut Held, time: u64, pulse: Pulse) -> Result<(), AllocError>
+        ensures { OnOk result (held.new ≡ spec.end_told self.now time pulse held.old) }
+    {
         match pulse {
             Pulse::Sent => self.tell(held, time, PortChange::Sent(None)),
             Pulse::Grant => {
@@ -136,21 +153,26 @@ impl Port {
     }
 
     /// Tells what is known of its units where the frames begin that are dumped, if they do by now.
-    fn show_lanes(&mut self, held: &mut Held, scope: &Scope) -> Result<(), WavesFault> {
+    fn show_lanes(&mut self, held: &mut Held, scope: &Scope) -> Result<(), WavesFault>
+        ensures units { OnOk result (spec.KeepsUnits scope.now.port held.old held.new) }
+        ensures same { OnOk result (spec.vars_of self.new ≡ spec.vars_of self.old) }
+    {
         if self.are_shown || !scope.frames.have_begun(self.time) {
             return Ok(());
         }
         self.are_shown = true;
         let begin = scope.frames.begin();
-        for place in 0..self.lanes.count() {
+        'places: for place in 0..self.lanes.count() {
             scope.tell_lane(held, begin, self.lanes.all_of(place))?;
         }
         Ok(())
     }
 
     /// Ends the pulses that end before this time.
-    fn end_pulses(&mut self, held: &mut Held, scope: &Scope, time: u64) -> Result<(), AllocError> {
-        for _ in 0..MOST_ENDS {
+    fn end_pulses(&mut self, held: &mut Held, scope: &Scope, time: u64) -> Result<(), AllocError>
+        ensures ends { OnOk result (spec.both self.new held.new ≡ spec.ended scope.now time (spec.both self.old held.old)) }
+    {
+        'ends: for _count in 0..MOST_ENDS {
             let Some((pulse, end)) = self.pulses.take_past(time) else {
                 return Ok(());
             };
@@ -160,7 +182,9 @@ impl Port {
     }
 
     /// Comes to the time of a line that tells of it.
-    fn advance(&mut self, held: &mut Held, scope: &Scope, time: u64) -> Result<(), WavesFault> {
+    fn advance(&mut self, held: &mut Held, scope: &Scope, time: u64) -> Result<(), WavesFault>
+        ensures { OnOk result (spec.Advances scope.now time (spec.both self.old held.old) (spec.both self.new held.new)) }
+    {
         self.is_told = true;
         self.time = time;
         self.show_lanes(held, scope)?;
@@ -174,7 +198,9 @@ impl Port {
         held: &mut Held,
         scope: &Scope,
         code: &[u8; 13],
-    ) -> Result<(), AllocError> {
+    ) -> Result<(), AllocError>
+        ensures { OnOk result (spec.both self.new held.new ≡ spec.sent_told scope.now code.now (spec.both self.old held.old)) }
+    {
         self.pulses.begin(Pulse::Sent, self.time);
         scope.tell(held, self.time, PortChange::Sent(Some(*code)))
     }
@@ -186,19 +212,18 @@ impl Port {
         scope: &Scope,
         code: &[u8; 13],
         delay: Option<u32>,
-    ) -> Result<(), AllocError> {
+    ) -> Result<(), AllocError>
+        ensures { OnOk result (spec.both self.new held.new ≡ spec.burst_told scope.now code.now delay (spec.both self.old held.old)) }
+    {
         self.pulses.begin(Pulse::Burst, self.time);
         scope.tell(held, self.time, PortChange::Burst(Some(*code)))?;
         scope.tell(held, self.time, PortChange::Delay(delay))
     }
 
     /// Tells a grant, and the window that opens.
-    fn tell_grant(
-        &mut self,
-        held: &mut Held,
-        scope: &Scope,
-        grant: Grant,
-    ) -> Result<(), AllocError> {
+    fn tell_grant(&mut self, held: &mut Held, scope: &Scope, grant: Grant) -> Result<(), AllocError>
+        ensures { OnOk result (spec.both self.new held.new ≡ spec.grant_told scope.now grant (spec.both self.old held.old)) }
+    {
         let (kind, asked) = kind_of(grant);
         self.asked = asked;
         self.pulses.begin(Pulse::Grant, self.time);
@@ -209,7 +234,9 @@ impl Port {
     }
 
     /// Tells what is said.
-    fn tell_said(&mut self, held: &mut Held, scope: &Scope, said: &Said) -> Result<(), AllocError> {
+    fn tell_said(&mut self, held: &mut Held, scope: &Scope, said: &Said) -> Result<(), AllocError>
+        ensures { OnOk result (spec.both self.new held.new ≡ spec.said_told scope.now said.now (spec.both self.old held.old)) }
+    {
         match said {
             Said::Down(code) => self.tell_sent(held, scope, code),
             Said::Up { code, delay } => self.tell_burst(held, scope, code, *delay),
@@ -218,7 +245,9 @@ impl Port {
     }
 
     /// Has the window that asks one unit end with the frame in which its answer is heard.
-    fn close_window(&mut self, heard: &Heard) {
+    fn close_window(&mut self, heard: &Heard)
+        ensures { spec.vars_of self.new ≡ spec.window_closed (heard_of heard.now) (spec.vars_of self.old) }
+    {
         let Some(asked) = self.asked else {
             return;
         };
@@ -239,7 +268,10 @@ impl Port {
         held: &mut Held,
         scope: &Scope,
         serial: Serial,
-    ) -> Result<(), WavesFault> {
+    ) -> Result<(), WavesFault>
+        ensures units { OnOk result (spec.KeepsUnits scope.now.port held.old held.new) }
+        ensures same { OnOk result (spec.vars_of self.new ≡ spec.vars_of self.old) }
+    {
         let Some(place) = self.lanes.take(serial)? else {
             return Err(WavesFault::Full);
         };
@@ -249,7 +281,9 @@ impl Port {
     }
 
     /// Gives the lane of a unit that a message touched. One that holds an ONU-ID takes one where it has none.
-    fn place_touched(&mut self, serial: Serial) -> Result<Option<u16>, WavesFault> {
+    fn place_touched(&mut self, serial: Serial) -> Result<Option<u16>, WavesFault>
+        ensures { OnOk result (spec.vars_of self.new ≡ spec.vars_of self.old) }
+    {
         if self.watch.onu_of(&serial).is_none() {
             return Ok(self.lanes.place_of(&serial));
         }
@@ -266,7 +300,10 @@ impl Port {
         scope: &Scope,
         serial: Serial,
         disables: bool,
-    ) -> Result<(), WavesFault> {
+    ) -> Result<(), WavesFault>
+        ensures units { OnOk result (spec.KeepsUnits scope.now.port held.old held.new) }
+        ensures same { OnOk result (spec.vars_of self.new ≡ spec.vars_of self.old) }
+    {
         if let Some(place) = self.place_touched(serial)? {
             let changes = self.lanes.touch(&self.watch, place, disables);
             scope.tell_lane(held, self.time, changes)?;
@@ -275,8 +312,11 @@ impl Port {
     }
 
     /// Tells what all units do behind a message that touched all.
-    fn tell_all(&mut self, held: &mut Held, scope: &Scope) -> Result<(), WavesFault> {
-        for place in 0..self.lanes.count() {
+    fn tell_all(&mut self, held: &mut Held, scope: &Scope) -> Result<(), WavesFault>
+        ensures units { OnOk result (spec.KeepsUnits scope.now.port held.old held.new) }
+        ensures same { OnOk result (spec.vars_of self.new ≡ spec.vars_of self.old) }
+    {
+        'places: for place in 0..self.lanes.count() {
             let changes = self.lanes.touch(&self.watch, place, false);
             scope.tell_lane(held, self.time, changes)?;
         }
@@ -289,7 +329,10 @@ impl Port {
         held: &mut Held,
         scope: &Scope,
         touched: Touched,
-    ) -> Result<(), WavesFault> {
+    ) -> Result<(), WavesFault>
+        ensures units { OnOk result (spec.KeepsUnits scope.now.port held.old held.new) }
+        ensures same { OnOk result (spec.vars_of self.new ≡ spec.vars_of self.old) }
+    {
         match touched {
             Touched::Nobody => Ok(()),
             Touched::Asks(serial) => self.tell_asking(held, scope, serial),
@@ -304,7 +347,9 @@ impl Port {
     }
 
     /// Hears what is said by what is known before it, and tells it.
-    fn hear(&mut self, held: &mut Held, scope: &Scope, said: &Said) -> Result<(), WavesFault> {
+    fn hear(&mut self, held: &mut Held, scope: &Scope, said: &Said) -> Result<(), WavesFault>
+        ensures { OnOk result (spec.Hears scope.now said.now (spec.both self.old held.old) (spec.both self.new held.new)) }
+    {
         let heard = heard_in(scope.mask, said);
         self.tell_said(held, scope, said)?;
         self.close_window(&heard);
@@ -319,7 +364,9 @@ impl Port {
         held: &mut Held,
         scope: &Scope,
         said: &Option<Said>,
-    ) -> Result<(), WavesFault> {
+    ) -> Result<(), WavesFault>
+        ensures { OnOk result (spec.HearsMaybe scope.now said.now (spec.both self.old held.old) (spec.both self.new held.new)) }
+    {
         match said {
             Some(said) => self.hear(held, scope, said),
             None => Ok(()),
@@ -334,28 +381,38 @@ impl Port {
         scope: &Scope,
         time: u64,
         said: &Said,
-    ) -> Result<(), WavesFault> {
+    ) -> Result<(), WavesFault>
+        ensures { OnOk result (spec.HearsLog scope.now time said.now (spec.both self.old held.old) (spec.both self.new held.new)) }
+    {
         self.advance(held, scope, time)?;
-        if !scope.frames.are_past(self.time) {
-            self.hear(held, scope, said)?;
+        if scope.frames.are_past(time) {
+            return Ok(());
         }
-        Ok(())
+        self.hear(held, scope, said)
     }
 
-    /// Tells that a frame begins.
-    fn tell_frame(&mut self, held: &mut Held, scope: &Scope) -> Result<(), AllocError> {
+    /// Tells that a frame begins, if one does.
+    fn tell_frame(
+        &mut self,
+        held: &mut Held,
+        scope: &Scope,
+        is_frame: bool,
+    ) -> Result<(), AllocError>
+        ensures { OnOk result (spec.both self.new held.new
+            ≡ spec.frame_told is_frame scope.now (spec.both self.old held.old)) }
+    {
+        if !is_frame {
+            return Ok(());
+        }
         self.level = !self.level;
         scope.tell(held, self.time, PortChange::Frame(self.level))
     }
 
     /// Tells the alarm that a line of a trace tells, a frame's or a burst's, if it tells one: it stands to the end of
     /// that frame, or until another one comes.
-    fn tell_alarm(
-        &mut self,
-        held: &mut Held,
-        scope: &Scope,
-        text: &[u8],
-    ) -> Result<(), AllocError> {
+    fn tell_alarm(&mut self, held: &mut Held, scope: &Scope, text: &[u8]) -> Result<(), AllocError>
+        ensures { OnOk result (spec.both self.new held.new ≡ spec.alarm_told (kind_told (parts_of text.now)) scope.now (spec.both self.old held.old)) }
+    {
         match kind_told(text) {
             Some(kind) => {
                 self.pulses.begin(Pulse::Alarm, self.time);
@@ -376,21 +433,23 @@ impl Port {
         is_frame: bool,
         first: &Option<Said>,
         second: &Option<Said>,
-    ) -> Result<(), WavesFault> {
+    ) -> Result<(), WavesFault>
+        ensures { OnOk result (spec.HearsTrace scope.now time text.now is_frame first.now second.now (spec.both self.old held.old) (spec.both self.new held.new)) }
+    {
         self.advance(held, scope, time)?;
-        if scope.frames.are_past(self.time) {
+        if scope.frames.are_past(time) {
             return Ok(());
         }
-        if is_frame {
-            self.tell_frame(held, scope)?;
-        }
+        self.tell_frame(held, scope, is_frame)?;
         self.tell_alarm(held, scope, text)?;
         self.hear_maybe(held, scope, first)?;
         self.hear_maybe(held, scope, second)
     }
 
     /// Ends what still stands, each at its time.
-    pub(crate) fn finish(&mut self, held: &mut Held, scope: &Scope) -> Result<(), AllocError> {
+    pub(crate) fn finish(&mut self, held: &mut Held, scope: &Scope) -> Result<(), AllocError>
+        ensures { OnOk result (spec.both self.new held.new ≡ spec.ended scope.now spec.last_time (spec.both self.old held.old)) }
+    {
         self.end_pulses(held, scope, u64::MAX)
     }
 }

@@ -1,5 +1,8 @@
 //! What stands on a port for a frame, or while a window is open.
 
+ghost use Rattle.std.specs.Prelude.{◌≡◌, None};
+ghost use Rattle.gp_waves.specs.Pulses as spec;
+
 use gp_log::FRAME_NANOSECONDS;
 
 /// For how long a window is open, in nanoseconds: three frames.
@@ -30,18 +33,11 @@ pub(crate) struct Pulses {
     alarm: Option<u64>,
 }
 
-/// All of them.
-const PULSES: [Pulse; 5] = [
-    Pulse::Sent,
-    Pulse::Grant,
-    Pulse::Window,
-    Pulse::Burst,
-    Pulse::Alarm,
-];
-
 impl Pulses {
     /// Nothing stands.
-    pub(crate) fn none() -> Pulses {
+    pub(crate) fn none() -> Pulses
+        ensures { result ≡ spec.no_pulses }
+    {
         Pulses {
             sent: None,
             grant: None,
@@ -52,7 +48,9 @@ impl Pulses {
     }
 
     /// Gives when one ends.
-    fn end(&self, pulse: Pulse) -> Option<u64> {
+    fn end(&self, pulse: Pulse) -> Option<u64>
+        ensures { result ≡ spec.end_of self.now pulse }
+    {
         match pulse {
             Pulse::Sent => self.sent,
             Pulse::Grant => self.grant,
@@ -63,7 +61,9 @@ impl Pulses {
     }
 
     /// Notes when one ends.
-    fn set_end(&mut self, pulse: Pulse, end: Option<u64>) {
+    fn set_end(&mut self, pulse: Pulse, end: Option<u64>)
+        ensures { self.new ≡ spec.with_end pulse end self.old }
+    {
         match pulse {
             Pulse::Sent => self.sent = end,
             Pulse::Grant => self.grant = end,
@@ -74,7 +74,9 @@ impl Pulses {
     }
 
     /// Begins one at this time: a window for three frames, any other for one.
-    pub(crate) fn begin(&mut self, pulse: Pulse, time: u64) {
+    pub(crate) fn begin(&mut self, pulse: Pulse, time: u64)
+        ensures { self.new ≡ spec.pulse_begun pulse time self.old }
+    {
         let length = match pulse {
             Pulse::Window => WINDOW_NANOSECONDS,
             Pulse::Sent | Pulse::Grant | Pulse::Burst | Pulse::Alarm => FRAME_NANOSECONDS,
@@ -83,7 +85,9 @@ impl Pulses {
     }
 
     /// Has a window that is open at this time end a frame later, unless it ends before that.
-    pub(crate) fn shorten_window(&mut self, time: u64) {
+    pub(crate) fn shorten_window(&mut self, time: u64)
+        ensures { self.new ≡ spec.window_shortened time self.old }
+    {
         let last = time.saturating_add(FRAME_NANOSECONDS);
         self.window = match self.window {
             Some(end) => Some(end.min(last)),
@@ -91,21 +95,40 @@ impl Pulses {
         };
     }
 
-    /// Takes the one that ends first, if it does so before this time, and gives when.
-    pub(crate) fn take_past(&mut self, time: u64) -> Option<(Pulse, u64)> {
-        let mut first: Option<(Pulse, u64)> = None;
-        for pulse in PULSES {
-            let limit = match first {
-                Some((_, end)) => end,
-                None => time,
-            };
-            first = match self.end(pulse) {
-                Some(end) if end < limit => Some((pulse, end)),
-                _ => first,
-            };
+    /// Gives the first of some and this one to end, if it does so before this time.
+    fn sooner(&self, first: Option<(Pulse, u64)>, pulse: Pulse, time: u64) -> Option<(Pulse, u64)>
+        ensures { result ≡ spec.sooner self.now first pulse time }
+    {
+        let limit = match first {
+            Some((_, end)) => end,
+            None => time,
+        };
+        match self.end(pulse) {
+            Some(end) if end < limit => Some((pulse, end)),
+            _ => first,
         }
-        let (pulse, end) = first?;
-        self.set_end(pulse, None);
-        Some((pulse, end))
+    }
+
+    /// Gives the one that ends first, if it does so before this time, and when.
+    fn first_past(&self, time: u64) -> Option<(Pulse, u64)>
+        ensures { result ≡ spec.first_past self.now time }
+    {
+        let first = self.sooner(None, Pulse::Sent, time);
+        let first = self.sooner(first, Pulse::Grant, time);
+        let first = self.sooner(first, Pulse::Window, time);
+        let first = self.sooner(first, Pulse::Burst, time);
+        self.sooner(first, Pulse::Alarm, time)
+    }
+
+    /// Takes the one that ends first, if it does so before this time, and gives when.
+    pub(crate) fn take_past(&mut self, time: u64) -> Option<(Pulse, u64)>
+        ensures first { result ≡ spec.first_past self.old time }
+        ensures left { self.new ≡ spec.left_behind (spec.first_past self.old time) self.old }
+    {
+        let first = self.first_past(time);
+        if let Some((pulse, _)) = first {
+            self.set_end(pulse, None);
+        }
+        first
     }
 }
