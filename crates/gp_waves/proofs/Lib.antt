@@ -1,5 +1,6 @@
 pub mod HeldLemmas
 pub mod PortLemmas
+pub mod HearingLemmas
 pub mod WritingLemmas
 pub mod ServingLemmas
 pub mod CourseLemmas

@@ -6,5 +6,6 @@ pub mod Writing
 pub mod Drained
 pub mod Pulses
 pub mod Port
+pub mod Hearing
 pub mod Dumping
 pub mod Outcome

@@ -1,5 +1,7 @@
 //! What is heard of all ports, and the changes that are held back.
-ghost use Rattle.std.specs.Prelude.{◌≡◌, IfOk, IfNone, IfSome, None};
+ghost use Rattle.std.specs.Prelude.{◌≡◌, IfOk, IfNone, IfSome, None, OnOk};
+ghost use Rattle.gp_waves.specs.Port as ports;
+ghost use Rattle.gp_waves.specs.Hearing as heard;
 ghost use Rattle.gp_waves.specs.Held as spec;
 
 use crate::fault::WavesFault;
@@ -30,7 +32,9 @@ fn open(alloc: Global, options: &WavesOptions) -> Result<Vec<Port>, AllocError> 
 }
 
 /// Gives what of a port is dumped.
-fn scope_of(options: &WavesOptions, port: u8) -> Scope {
+fn scope_of(options: &WavesOptions, port: u8) -> Scope
+    ensures { result ≡ heard.scope_of options.now port }
+{
     Scope {
         port,
         frames: options.frames,
@@ -57,13 +61,40 @@ impl Waves {
         time: u64,
         falls: bool,
         said: &Said,
-    ) -> Result<(), WavesFault> {
+    ) -> Result<(), WavesFault>
+        ensures { OnOk result (heard.LogsUnless falls number
+            (ports.HearsLog (heard.scope_of self.old.options number) time said.now)
+            (heard.fibre_of self.old) (heard.fibre_of self.new)) }
+    {
         if falls {
             return Ok(());
         }
         let scope = scope_of(&self.options, number);
         match self.ports.get_mut(usize::from(number)) {
             Some(port) => port.hear_log(&mut self.held, &scope, time, said),
+            None => Ok(()),
+        }
+    }
+
+    /// Hears a line of a trace at its port, which comes to this time with it.
+    fn hear_trace(
+        &mut self,
+        number: u8,
+        time: u64,
+        text: &[u8],
+        is_frame: bool,
+        first: &Option<Said>,
+        second: &Option<Said>,
+    ) -> Result<(), WavesFault>
+        ensures { OnOk result (heard.AtPort number
+            (ports.HearsTrace (heard.scope_of self.old.options number) time text.now is_frame first.now second.now)
+            (heard.fibre_of self.old) (heard.fibre_of self.new)) }
+    {
+        let scope = scope_of(&self.options, number);
+        match self.ports.get_mut(usize::from(number)) {
+            Some(port) => {
+                port.hear_trace(&mut self.held, &scope, time, text, is_frame, first, second)
+            }
             None => Ok(()),
         }
     }
@@ -76,7 +107,10 @@ impl Waves {
         read: &LogLine,
         times: &PortTimes,
         falls: bool,
-    ) -> Result<(), WavesFault> {
+    ) -> Result<(), WavesFault>
+        ensures { OnOk result (heard.HearsLine self.old.options text.now read.now times.now falls
+            (heard.fibre_of self.old) (heard.fibre_of self.new)) }
+    {
         match read {
             LogLine::Remark => Ok(()),
             LogLine::Log { port, said, .. } => {
@@ -87,17 +121,7 @@ impl Waves {
                 is_frame,
                 first,
                 second,
-            } => {
-                let scope = scope_of(&self.options, *port);
-                let time = times.of(*port).time;
-                let held = &mut self.held;
-                match self.ports.get_mut(usize::from(*port)) {
-                    Some(port) => {
-                        port.hear_trace(held, &scope, time, text, *is_frame, first, second)
-                    }
-                    None => Ok(()),
-                }
-            }
+            } => self.hear_trace(*port, times.of(*port).time, text, *is_frame, first, second),
         }
     }
 

@@ -1,0 +1,47 @@
+-- What is heard of all ports (this profile's own rule).
+use Rattle.std.specs.Prelude.{◌≡◌, ℕ, Bool, true, false, List, None, nat_lt, length, map, slice_index_or, slice_set}
+use Rattle.gp_log.specs.declared.line.LogLine.{LogLine}
+use Rattle.gp_log.specs.declared.line.LogLine.TheVariants as line
+use Rattle.gp_times.specs.Times.{TimesState, time_of}
+use Rattle.gp_waves.specs.declared.hearing.Waves.{Waves}
+use Rattle.gp_waves.specs.declared.options.WavesOptions.{WavesOptions}
+use Rattle.gp_waves.specs.declared.port.Scope.{Scope}
+use Rattle.gp_waves.specs.Held.{HeldState}
+use Rattle.gp_waves.specs.Pulses.{no_pulses}
+use Rattle.gp_waves.specs.Port.{HearsLog, HearsTrace, PortHeld, PortVars, vars_of}
+
+-- what is kept of each port, and the changes that are held back
+pub record FibreState : Type 0 where
+  pub ports : List PortVars
+  pub held : HeldState
+
+abbrev pub fibre_of : Waves → FibreState
+fibre_of waves = record { ports = map vars_of waves.ports.items; held = waves.held }
+
+-- nothing was heard of a port
+abbrev pub no_vars : PortVars
+no_vars = record { pulses = no_pulses; time = 0; level = false; asked = None }
+
+-- what of a port is dumped
+abbrev pub scope_of : WavesOptions → ℕ → Scope
+scope_of options number = record { port = number; frames = options.frames; mask = options.mask }
+
+-- something is heard at this port, if there is one
+pub record AtPort (number : ℕ) (does : PortHeld → PortHeld → Type 0) (old new : FibreState) : Type 0 where
+  pub at : nat_lt number (length old.ports) ≡ true
+      → (next : PortHeld) × does (record { vars = slice_index_or old.ports number no_vars; held = old.held }) next
+      × (new ≡ record { ports = slice_set old.ports number next.vars; held = next.held })
+  pub none : nat_lt number (length old.ports) ≡ false → new ≡ old
+
+-- a line of a log is heard at its port, unless it falls behind that
+abbrev pub LogsUnless : Bool → ℕ → (PortHeld → PortHeld → Type 0) → FibreState → FibreState → Type 0
+LogsUnless true number does old new = new ≡ old
+LogsUnless false number does old new = AtPort number does old new
+
+-- a line is heard, which these times have heard
+abbrev pub HearsLine : WavesOptions → List ℕ → LogLine → TimesState → Bool → FibreState → FibreState → Type 0
+HearsLine options text line.Remark times falls old new = new ≡ old
+HearsLine options text (line.Log number time said) times falls old new =
+    LogsUnless falls number (HearsLog (scope_of options number) (time_of times number).time said) old new
+HearsLine options text (line.Trace number is_frame first second) times falls old new =
+    AtPort number (HearsTrace (scope_of options number) (time_of times number).time text is_frame first second) old new
